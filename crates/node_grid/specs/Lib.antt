@@ -1,0 +1,4 @@
+pub mod Capacity
+pub mod NodeSet
+pub mod NodeSetLaws
+pub mod Matrix

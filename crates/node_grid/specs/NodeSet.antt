@@ -1,0 +1,39 @@
+-- Sets of small numbers, seen as the list of their members in ascending order.
+use Rattle.std.specs.Prelude.{◌≡◌, ℕ, ◌^◌, Bool, ◌==◌, ◌||◌, ◌&&◌, nat_lt, not, List}
+use Rattle.std.specs.List.{filter, list_any, range_with_len, sum_by}
+use Rattle.std.specs.Int.{bit_at}
+
+-- the numbers below n
+abbrev pub ids_below : ℕ → List ℕ
+ids_below n = range_with_len 0 n
+
+-- whether the set has x
+abbrev pub has_id : List ℕ → ℕ → Bool
+has_id s x = list_any (λ y. y == x) s
+
+-- the set with x, of the numbers below n
+abbrev pub with_id : ℕ → List ℕ → ℕ → List ℕ
+with_id n s x = filter (λ k. (k == x) || has_id s k) (ids_below n)
+
+-- the set without x
+abbrev pub without_id : List ℕ → ℕ → List ℕ
+without_id s x = filter (λ k. not (k == x)) s
+
+-- the places below n of the bits of a mask that are set
+abbrev pub bits_set : ℕ → ℕ → List ℕ
+bits_set n mask = filter (λ k. bit_at mask k == 1) (ids_below n)
+
+-- the mask whose bits these are
+abbrev pub mask_of : List ℕ → ℕ
+mask_of s = sum_by (λ k. 2 ^ k) s
+
+-- s is a set of numbers below n: it is the list of those of them that it has
+abbrev pub IsIdSet : ℕ → List ℕ → Type 0
+IsIdSet n s = s ≡ filter (λ k. has_id s k) (ids_below n)
+
+-- the numbers below n that pass a test, and those of them below i, as a loop up to i has found them
+abbrev pub ids_where : (ℕ → Bool) → ℕ → List ℕ
+ids_where p n = filter p (ids_below n)
+
+abbrev pub ids_where_below : (ℕ → Bool) → ℕ → ℕ → List ℕ
+ids_where_below p n i = filter (λ k. nat_lt k i && p k) (ids_below n)

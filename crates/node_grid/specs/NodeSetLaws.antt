@@ -1,0 +1,341 @@
+-- Sets of small numbers as filters of a range, and as the bits of a mask.
+use Rattle.std.proofs.Common.{◌≡◌, ◌≢◌, ℕ, zero, suc, ◌+◌, ◌-◌, ◌*◌, ◌/◌, ◌%◌, ◌^◌, ◌<◌, ◌≤◌, Bool, true, false, cond, not, ◌&&◌, ◌||◌, List, [], ◌∷◌, length, refl, sym, ap, ◌∙◌, arith, eq-eqb, bit_and, bit_or, inl, inr, subst}
+use Rattle.std.specs.Prelude.{◌==◌, nat_lt}
+use Rattle.std.specs.Int.RustNames.{count_ones}
+use Rattle.std.specs.List.{filter, range_with_len, sum_by, count_by, All}
+use Rattle.std.specs.Int.{bit_at, bit_not, w16, trailing_zeros}
+use Rattle.std.specs.Int.Count.{ones_step}
+use Rattle.std.proofs.lemmas.Bool.{cases_lt}
+use Rattle.std.proofs.lemmas.List.Sums.{sum_by-cons, length-filter, count_by-le-length}
+use Rattle.std.proofs.lemmas.List.FromFn.{length-range_with_len}
+use Rattle.std.proofs.lemmas.List.Elements.{All-filter, All-same, All-nil, All-cons}
+use Rattle.std.proofs.lemmas.Map.Views.{any-filter_same}
+use Rattle.std.proofs.lemmas.Nat.Bits.{bit_at_above, bit_at_ones, bit_at_ones_above, bit_at_set_same, bit_at_set_other, bit_at_clear_same, bit_at_clear_other, bit_at-trailing_zeros, bit_at-zero, shr_and_one}
+use Rattle.std.proofs.Math.Nat.{div-div-eq-div-mul, div-eq_of_lt, pow-suc}
+use Rattle.std.proofs.Math.Pow.{pow_mono, pow-lt, ones_lt}
+use Rattle.std.proofs.lemmas.Nat.{or_lt}
+use Rattle.std.specs.Cmp.Lexicographic.{pointwise}
+use Rattle.std.proofs.lemmas.Slice.Eq.{bytes_eq-Decides}
+use Rattle.node_grid.specs.NodeSet.{ids_below, has_id, with_id, without_id, bits_set, mask_of, IsIdSet, ids_where, ids_where_below}
+
+eqb_same : (x : ℕ) → (x == x) ≡ true
+eqb_same x = eq-eqb x x refl
+
+eqb_other : (x y : ℕ) → x ≢ y → (x == y) ≡ false
+eqb_other x y h = grind arith
+
+from_eqb : (x y : ℕ) → (x == y) ≡ true → x ≡ y
+from_eqb x y h = grind arith
+
+by_le : {P : Type 0} (a b : ℕ) → (a ≤ b → P) → (b < a → P) → P
+by_le {P} a b f g = elim (cases_lt b a) as (λ _. P) [ inl h ↦ g h | inr h ↦ f h ]
+
+by_equal : {P : Type 0} (a b : ℕ) → (a ≡ b → P) → (a ≢ b → P) → P
+by_equal {P} a b f g = elim (a == b) as (λ x. (a == b) ≡ x → P) [
+  | true ↦ λ e. f (from_eqb a b e)
+  | false ↦ λ e. g (λ s. let t : (a == b) ≡ true = eq-eqb a b s in cc)
+] refl
+
+All-range : (a n m : ℕ) → a + n ≤ m → All (λ k. k < m) (range_with_len a n)
+All-range a zero m h = All-nil (λ k. k < m)
+All-range a (suc n) m h = All-cons (λ k. k < m) a (range_with_len (a + 1) n) (omega arith) (All-range (a + 1) n m (omega arith))
+
+-- two tests that agree on a range keep the same numbers
+pub filter_range : (p q : ℕ → Bool) (a n : ℕ) → ((k : ℕ) → a ≤ k → k < a + n → p k ≡ q k) → filter p (range_with_len a n) ≡ filter q (range_with_len a n)
+filter_range p q a zero h = refl
+filter_range p q a (suc n) h =
+    let e : p a ≡ q a = h a (omega arith) (omega arith) in
+    let r : filter p (range_with_len (a + 1) n) ≡ filter q (range_with_len (a + 1) n) = filter_range p q (a + 1) n (λ k l u. h k (omega arith) (omega arith)) in
+    rw (e, r) refl
+
+pub filter_none : (p : ℕ → Bool) (a n : ℕ) → ((k : ℕ) → a ≤ k → k < a + n → p k ≡ false) → filter p (range_with_len a n) ≡ []
+filter_none p a zero h = refl
+filter_none p a (suc n) h =
+    let e : p a ≡ false = h a (omega arith) (omega arith) in
+    rw e (filter_none p (a + 1) n (λ k l u. h k (omega arith) (omega arith)))
+
+pub filter_every : (p : ℕ → Bool) (a n : ℕ) → ((k : ℕ) → a ≤ k → k < a + n → p k ≡ true) → filter p (range_with_len a n) ≡ range_with_len a n
+filter_every p a zero h = refl
+filter_every p a (suc n) h =
+    let e : p a ≡ true = h a (omega arith) (omega arith) in
+    rw e (ap (λ xs. a ∷ xs) (filter_every p (a + 1) n (λ k l u. h k (omega arith) (omega arith))))
+
+-- a test that passes below a + m alone
+pub filter_front : (p : ℕ → Bool) (a m n : ℕ) → m ≤ n → ((k : ℕ) → a ≤ k → k < a + m → p k ≡ true) → ((k : ℕ) → a + m ≤ k → k < a + n → p k ≡ false)
+    → filter p (range_with_len a n) ≡ range_with_len a m
+filter_front p a zero n h inside outside = filter_none p a n (λ k l u. outside k (omega arith) u)
+filter_front p a (suc m) zero h inside outside = absurd (omega arith)
+filter_front p a (suc m) (suc n) h inside outside =
+    let e : p a ≡ true = inside a (omega arith) (omega arith) in
+    rw e (ap (λ xs. a ∷ xs) (filter_front p (a + 1) m n (omega arith) (λ k l u. inside k (omega arith) (omega arith)) (λ k l u. outside k (omega arith) (omega arith))))
+
+pub filter_filter : (p q : ℕ → Bool) (xs : List ℕ) → filter q (filter p xs) ≡ filter (λ x. p x && q x) xs
+filter_filter p q [] = refl
+filter_filter p q (x ∷ xs) =
+    elim (p x) as (λ b. filter q (cond b (x ∷ filter p xs) (filter p xs)) ≡ cond (b && q x) (x ∷ filter (λ y. p y && q y) xs) (filter (λ y. p y && q y) xs)) [
+      | true ↦ rw (filter_filter p q xs) refl
+      | false ↦ filter_filter p q xs
+    ]
+
+-- a range has the numbers in it
+has-range : (a n x : ℕ) → a ≤ x → x < a + n → has_id (range_with_len a n) x ≡ true
+has-range a zero x l u = absurd (omega arith)
+has-range a (suc n) x l u =
+    elim (a == x) as (λ b. (a == x) ≡ b → (b || has_id (range_with_len (a + 1) n) x) ≡ true) [
+      | true ↦ λ e. refl
+      | false ↦ λ e. let ne : a ≢ x = λ s. let t : (a == x) ≡ true = eq-eqb a x s in cc in has-range (a + 1) n x (omega arith) (omega arith)
+    ] refl
+
+hasnt-range : (a n x : ℕ) → a + n ≤ x → has_id (range_with_len a n) x ≡ false
+hasnt-range a zero x l = refl
+hasnt-range a (suc n) x l = rw (eqb_other a x (λ s. omega arith)) (hasnt-range (a + 1) n x (omega arith))
+
+and-true : (b : Bool) → (b && true) ≡ b
+and-true true = refl
+and-true false = refl
+
+and-false : (b : Bool) → (b && false) ≡ false
+and-false true = refl
+and-false false = refl
+
+has_filtered : (p : ℕ → Bool) (xs : List ℕ) (x : ℕ) → has_id (filter p xs) x ≡ (p x && has_id xs x)
+has_filtered p xs x = any-filter_same (λ y. y == x) p (p x) (λ k e. ap p (from_eqb k x e)) xs
+
+pub has-filter : (p : ℕ → Bool) (n x : ℕ) → x < n → has_id (filter p (ids_below n)) x ≡ p x
+has-filter p n x h = has_filtered p (ids_below n) x ∙ rw (has-range 0 n x (omega arith) (omega arith)) (and-true (p x))
+
+pub hasnt-filter : (p : ℕ → Bool) (n x : ℕ) → n ≤ x → has_id (filter p (ids_below n)) x ≡ false
+hasnt-filter p n x h = has_filtered p (ids_below n) x ∙ rw (hasnt-range 0 n x (omega arith)) (and-false (p x))
+
+-- the least number that passes comes first, and the others follow
+pub filter_first : (p : ℕ → Bool) (a n t : ℕ) → a ≤ t → t < a + n → p t ≡ true → ((k : ℕ) → a ≤ k → k < t → p k ≡ false)
+    → filter p (range_with_len a n) ≡ t ∷ filter (λ k. p k && not (k == t)) (range_with_len a n)
+filter_first p a zero t l u y h = absurd (omega arith)
+filter_first p a (suc n) t l u y h =
+    elim (a == t) as (λ b. (a == t) ≡ b → cond (p a) (a ∷ filter p (range_with_len (a + 1) n)) (filter p (range_with_len (a + 1) n))
+    ≡ t ∷ cond (p a && not b) (a ∷ filter (λ k. p k && not (k == t)) (range_with_len (a + 1) n)) (filter (λ k. p k && not (k == t)) (range_with_len (a + 1) n))) [
+      | true ↦ λ e.
+          let s : a ≡ t = from_eqb a t e in
+          let pa : p a ≡ true = ap p s ∙ y in
+          let rest : filter p (range_with_len (a + 1) n) ≡ filter (λ k. p k && not (k == t)) (range_with_len (a + 1) n) =
+          filter_range p (λ k. p k && not (k == t)) (a + 1) n (λ k l' u'. rw (eqb_other k t (λ q. omega arith)) (sym (and-true (p k)))) in
+          rw (pa, rest, s) refl
+      | false ↦ λ e.
+          let ne : a ≢ t = λ s. let v : (a == t) ≡ true = eq-eqb a t s in cc in
+          let pa : p a ≡ false = h a (omega arith) (omega arith) in
+          rw pa (filter_first p (a + 1) n t (omega arith) (omega arith) y (λ k l' u'. h k (omega arith) u'))
+    ] refl
+
+-- ---- masks
+
+odd_step : (q w : ℕ) → (q % 2 ≡ 1) → w + q / 2 * (w * 2) ≡ q * w
+odd_step q w h = let e : q ≡ q / 2 * 2 + 1 = omega arith in omega (arith, ap (λ z. z * w) e)
+
+even_step : (q w : ℕ) → (q % 2 ≢ 1) → q / 2 * (w * 2) ≡ q * w
+even_step q w h = let e : q ≡ q / 2 * 2 = omega arith in omega (arith, ap (λ z. z * w) e)
+
+next_power : (i : ℕ) → 2 ^ (i + 1) ≡ 2 ^ i * 2
+next_power i = let e : i + 1 ≡ suc i = omega arith in rw e (pow-suc 2 i)
+
+next_quotient : (mask i : ℕ) → mask / 2 ^ (i + 1) ≡ mask / 2 ^ i / 2
+next_quotient mask i = rw (next_power i) (sym (div-div-eq-div-mul mask (2 ^ i) 2))
+
+further : (mask i n : ℕ) → mask < 2 ^ (i + suc n) → mask < 2 ^ (i + 1 + n)
+further mask i n h = let e : i + suc n ≡ i + 1 + n = omega arith in rw e at h
+
+-- what the bits from i on are worth
+above : (i n mask : ℕ) → mask < 2 ^ (i + n) → sum_by (λ k. 2 ^ k) (filter (λ k. bit_at mask k == 1) (range_with_len i n)) ≡ mask / 2 ^ i * 2 ^ i
+above i zero mask h = let e : i + 0 ≡ i = omega arith in let l : mask < 2 ^ i = rw e at h in rw (div-eq_of_lt l) (omega arith)
+above i (suc n) mask h =
+    let q : ℕ = mask / 2 ^ i in
+    let rest : List ℕ = filter (λ k. bit_at mask k == 1) (range_with_len (i + 1) n) in
+    let r : sum_by (λ k. 2 ^ k) rest ≡ q / 2 * (2 ^ i * 2) =
+    above (i + 1) n mask (further mask i n h) ∙ rw (next_quotient mask i, next_power i) refl in
+    elim (q % 2 == 1) as (λ b. (q % 2 == 1) ≡ b → sum_by (λ k. 2 ^ k) (cond b (i ∷ rest) rest) ≡ q * 2 ^ i) [
+      | true ↦ λ e. let o : q % 2 ≡ 1 = from_eqb (q % 2) 1 e in
+          sum_by-cons (λ k. 2 ^ k) i rest ∙ rw r (odd_step q (2 ^ i) o)
+      | false ↦ λ e. let o : q % 2 ≢ 1 = λ s. let t : (q % 2 == 1) ≡ true = eq-eqb (q % 2) 1 s in cc in
+          r ∙ even_step q (2 ^ i) o
+    ] refl
+
+pub mask_of-bits_set : (n mask : ℕ) → mask < 2 ^ n → mask_of (bits_set n mask) ≡ mask
+mask_of-bits_set n mask h = above 0 n mask (let e : 0 + n ≡ n = omega arith in rw e h) ∙ omega arith
+
+bit_count : (b c : ℕ) → b < 2 → cond (b == 1) 1 0 + c ≡ b + c
+bit_count b c h = grind arith
+
+ones_above : (i n mask : ℕ) → mask < 2 ^ (i + n) → count_by (λ k. bit_at mask k == 1) (range_with_len i n) ≡ count_ones (mask / 2 ^ i)
+unfolding count_ones
+ones_above i zero mask h = let e : i + 0 ≡ i = omega arith in let l : mask < 2 ^ i = rw e at h in rw (div-eq_of_lt l) refl
+ones_above i (suc n) mask h =
+    let q : ℕ = mask / 2 ^ i in
+    let r : count_by (λ k. bit_at mask k == 1) (range_with_len (i + 1) n) ≡ count_ones (q / 2) =
+    ones_above (i + 1) n mask (further mask i n h) ∙ rw (next_quotient mask i) refl in
+    sum_by-cons (λ k. cond (bit_at mask k == 1) 1 0) i (range_with_len (i + 1) n)
+    ∙ rw r (bit_count (q % 2) (count_ones (q / 2)) (omega arith)) ∙ sym (ones_step q)
+
+pub length-bits_set : (n mask : ℕ) → mask < 2 ^ n → length (bits_set n mask) ≡ count_ones mask
+length-bits_set n mask h =
+    length-filter (λ k. bit_at mask k == 1) (ids_below n)
+    ∙ ones_above 0 n mask (let e : 0 + n ≡ n = omega arith in rw e h)
+    ∙ ap count_ones (omega arith)
+
+pub has-bits_set : (n mask x : ℕ) → x < n → has_id (bits_set n mask) x ≡ (bit_at mask x == 1)
+has-bits_set n mask x h = has-filter (λ k. bit_at mask k == 1) n x h
+
+pub hasnt-bits_set : (n mask x : ℕ) → n ≤ x → has_id (bits_set n mask) x ≡ false
+hasnt-bits_set n mask x h = hasnt-filter (λ k. bit_at mask k == 1) n x h
+
+pub bits_set-zero : (n : ℕ) → bits_set n 0 ≡ []
+bits_set-zero n = filter_none (λ k. bit_at 0 k == 1) 0 n (λ k l u. rw (bit_at-zero k) refl)
+
+pub bits_set-full : (n m : ℕ) → m ≤ n → bits_set n (2 ^ m - 1) ≡ ids_below m
+bits_set-full n m h = filter_front (λ k. bit_at (2 ^ m - 1) k == 1) 0 m n h
+    (λ k l u. rw (bit_at_ones m k (omega arith)) refl)
+    (λ k l u. rw (bit_at_ones_above m k (omega arith)) refl)
+
+pub bits_set-put : (n mask x : ℕ) → n ≤ 16 → x < n → bits_set n (bit_or mask (1 * 2 ^ x % 2 ^ 16)) ≡ with_id n (bits_set n mask) x
+bits_set-put n mask x few h = filter_range _ _ 0 n (λ k l u.
+    elim (k == x) as (λ b. (k == x) ≡ b → (bit_at (bit_or mask (1 * 2 ^ x % 2 ^ 16)) k == 1) ≡ (b || has_id (bits_set n mask) k)) [
+      | true ↦ λ e. let s : k ≡ x = from_eqb k x e in rw (s, bit_at_set_same w16 mask x (omega arith)) refl
+      | false ↦ λ e. let ne : k ≢ x = λ s. let v : (k == x) ≡ true = eq-eqb k x s in cc in
+          rw (bit_at_set_other w16 mask x (omega arith) k ne, has-bits_set n mask k (omega arith)) refl
+    ] refl)
+
+pub bits_set-cut : (n mask x : ℕ) → n ≤ 16 → x < n → bits_set n (bit_and mask (bit_not w16 (1 * 2 ^ x % 2 ^ 16))) ≡ without_id (bits_set n mask) x
+bits_set-cut n mask x few h =
+    filter_range _ (λ k. (bit_at mask k == 1) && not (k == x)) 0 n (λ k l u.
+    elim (k == x) as (λ b. (k == x) ≡ b → (bit_at (bit_and mask (bit_not w16 (1 * 2 ^ x % 2 ^ 16))) k == 1) ≡ ((bit_at mask k == 1) && not b)) [
+      | true ↦ λ e. let s : k ≡ x = from_eqb k x e in rw (s, bit_at_clear_same w16 mask x (omega arith)) (sym (and-false (bit_at mask x == 1)))
+      | false ↦ λ e. let ne : k ≢ x = λ s. let v : (k == x) ≡ true = eq-eqb k x s in cc in
+          rw (bit_at_clear_other w16 mask x (omega arith) k (omega arith) ne) (sym (and-true (bit_at mask k == 1)))
+    ] refl)
+    ∙ sym (filter_filter (λ k. bit_at mask k == 1) (λ k. not (k == x)) (ids_below n))
+
+-- the lowest bit that is set is the least member
+pub bits_set-first : (n mask : ℕ) → n ≤ 16 → mask < 2 ^ n → mask ≢ 0
+    → bits_set n mask ≡ trailing_zeros w16 mask ∷ without_id (bits_set n mask) (trailing_zeros w16 mask)
+bits_set-first n mask few h some =
+    let t : ℕ = trailing_zeros w16 mask in
+    let wide : mask < 2 ^ 16 = omega (arith, pow_mono few) in
+    let f = bit_at-trailing_zeros w16 mask (omega arith) wide in
+    let one : bit_at mask t ≡ 1 = f.1 in
+    let within : t < n = by_le n t (λ l. absurd (let z : bit_at mask t ≡ 0 = bit_at_above mask n t h l in omega arith)) (λ l. l) in
+    filter_first (λ k. bit_at mask k == 1) 0 n t (omega arith) (omega arith) (rw one refl) (λ k l u. let z : bit_at mask k ≡ 0 = f.2 k u in rw z refl)
+    ∙ ap (λ xs. t ∷ xs) (sym (filter_filter (λ k. bit_at mask k == 1) (λ k. not (k == t)) (ids_below n)))
+
+pub has_bit : (n mask x : ℕ) → mask < 2 ^ n → has_id (bits_set n mask) x ≡ (bit_and (mask / 2 ^ x) 1 == 1)
+has_bit n mask x h = by_le n x
+    (λ l. hasnt-bits_set n mask x l ∙ rw (shr_and_one mask x, bit_at_above mask n x h l) refl)
+    (λ l. has-bits_set n mask x l ∙ rw (shr_and_one mask x) refl)
+
+-- what the code of `full` computes
+pub shifted_one : (n : ℕ) → n ≤ 16 → 1 * 2 ^ n % 2 ^ 32 ≡ 2 ^ n
+shifted_one n h = omega (arith, pow_mono h)
+
+pub full_fits : (n m : ℕ) → m ≤ n → 2 ^ m - 1 < 2 ^ n
+full_fits n m h = omega (arith, pow_mono h, ones_lt m)
+
+pub put_fits : (n mask x : ℕ) → n ≤ 16 → x < n → mask < 2 ^ n → bit_or mask (1 * 2 ^ x % 2 ^ 16) < 2 ^ n
+put_fits n mask x few l h = or_lt n mask (1 * 2 ^ x % 2 ^ 16) h
+    (let e : 1 * 2 ^ x % 2 ^ 16 ≤ 2 ^ x = mod_le_one (2 ^ x) in omega (arith, pow-lt l))
+  where
+    mod_le_one : (p : ℕ) → 1 * p % 2 ^ 16 ≤ p
+    mod_le_one p = omega arith
+
+-- ---- what callers need
+
+pub IsIdSet-filter : (p : ℕ → Bool) (n : ℕ) → IsIdSet n (filter p (ids_below n))
+IsIdSet-filter p n = filter_range p (λ k. has_id (filter p (ids_below n)) k) 0 n (λ k l u. sym (has-filter p n k (omega arith)))
+
+pub IsIdSet-bits_set : (n mask : ℕ) → IsIdSet n (bits_set n mask)
+IsIdSet-bits_set n mask = IsIdSet-filter (λ k. bit_at mask k == 1) n
+
+-- two sets with the same members are equal
+pub same_ids : (n : ℕ) (s t : List ℕ) → IsIdSet n s → IsIdSet n t → ((k : ℕ) → k < n → has_id s k ≡ has_id t k) → s ≡ t
+same_ids n s t hs ht h = hs ∙ filter_range (λ k. has_id s k) (λ k. has_id t k) 0 n (λ k l u. h k (omega arith)) ∙ sym ht
+
+pub has-with_id : (n : ℕ) (s : List ℕ) (x k : ℕ) → k < n → has_id (with_id n s x) k ≡ ((k == x) || has_id s k)
+has-with_id n s x k h = has-filter (λ j. (j == x) || has_id s j) n k h
+
+pub has-without_id : (s : List ℕ) (x k : ℕ) → has_id (without_id s x) k ≡ (not (k == x) && has_id s k)
+has-without_id s x k = has_filtered (λ j. not (j == x)) s k
+
+pub hasnt-above : (n : ℕ) (s : List ℕ) (k : ℕ) → IsIdSet n s → n ≤ k → has_id s k ≡ false
+hasnt-above n s k hs l = ap (λ t. has_id t k) hs ∙ hasnt-filter (λ j. has_id s j) n k l
+
+-- the least member is below n, and a set without it has the others in order
+pub first_below : (n : ℕ) (x : ℕ) (rest : List ℕ) → IsIdSet n (x ∷ rest) → x < n
+first_below n x rest hs = by_le n x
+    (λ l. absurd (let e : has_id (x ∷ rest) x ≡ false = hasnt-above n (x ∷ rest) x hs l in let f : (x == x) ≡ true = eqb_same x in let g : true ≡ false = rw f at e in cc))
+    (λ l. l)
+
+-- what a mask's view says, in the form of the clauses
+pub first_of : (n mask : ℕ) (s : List ℕ) → n ≤ 16 → mask < 2 ^ n → mask ≢ 0 → bits_set n mask ≡ s → s ≡ trailing_zeros w16 mask ∷ without_id s (trailing_zeros w16 mask)
+first_of n mask s few h some e = rw (← e) (bits_set-first n mask few h some)
+
+pub first_within : (n mask : ℕ) → n ≤ 16 → mask < 2 ^ n → mask ≢ 0 → trailing_zeros w16 mask < n
+first_within n mask few h some =
+    first_below n (trailing_zeros w16 mask) (without_id (bits_set n mask) (trailing_zeros w16 mask))
+    (let P : List ℕ → Type 0 = λ s. IsIdSet n s in subst P (bits_set-first n mask few h some) (IsIdSet-bits_set n mask))
+
+pub IsIdSet-view : (n mask : ℕ) (s : List ℕ) → bits_set n mask ≡ s → IsIdSet n s
+IsIdSet-view n mask s e = rw (← e) (IsIdSet-bits_set n mask)
+
+-- two masks are equal where the sets are
+pub same_sets : (n a b : ℕ) (s t : List ℕ) → a < 2 ^ n → b < 2 ^ n → bits_set n a ≡ s → bits_set n b ≡ t → (a == b) ≡ pointwise ◌==◌ s t
+same_sets n a b s t ha hb ea eb = by_test (a == b) refl (pointwise ◌==◌ s t) refl
+  where
+    back : s ≡ t → a ≡ b
+    back e =
+        let x : mask_of (bits_set n a) ≡ a = mask_of-bits_set n a ha in
+        let y : mask_of (bits_set n b) ≡ b = mask_of-bits_set n b hb in
+        sym x ∙ ap mask_of (ea ∙ e ∙ sym eb) ∙ y
+
+    forth : a ≡ b → s ≡ t
+    forth e = sym ea ∙ ap (λ m. bits_set n m) e ∙ eb
+
+    by_test : (x : Bool) → (a == b) ≡ x → (y : Bool) → pointwise ◌==◌ s t ≡ y → x ≡ y
+    by_test true p true q = refl
+    by_test false p false q = refl
+    by_test true p false q = let r : pointwise ◌==◌ s t ≡ true = (bytes_eq-Decides s t).1 (forth (from_eqb a b p)) in cc
+    by_test false p true q = let r : (a == b) ≡ true = eq-eqb a b (back ((bytes_eq-Decides s t).0 q)) in cc
+
+-- ---- a loop that builds a set
+
+lt_test : (k i : ℕ) → k < i → nat_lt k i ≡ true
+lt_test k i h = grind arith
+
+not_lt_test : (k i : ℕ) → i ≤ k → nat_lt k i ≡ false
+not_lt_test k i h = grind arith
+
+pub ids_where_none : (p : ℕ → Bool) (n : ℕ) → ids_where_below p n 0 ≡ []
+ids_where_none p n = filter_none (λ k. nat_lt k 0 && p k) 0 n (λ k l u. rw (not_lt_test k 0 (omega arith)) refl)
+
+pub ids_where_all : (p : ℕ → Bool) (n i : ℕ) → n ≤ i → ids_where_below p n i ≡ ids_where p n
+ids_where_all p n i h = filter_range (λ k. nat_lt k i && p k) p 0 n (λ k l u. rw (lt_test k i (omega arith)) refl)
+
+next_test : (k i : ℕ) → i ≢ k → nat_lt k (i + 1) ≡ nat_lt k i
+next_test k i h = grind arith
+
+pub ids_where_more_no : (p : ℕ → Bool) (n i : ℕ) → p i ≡ false → ids_where_below p n (i + 1) ≡ ids_where_below p n i
+ids_where_more_no p n i e = filter_range (λ k. nat_lt k (i + 1) && p k) (λ k. nat_lt k i && p k) 0 n (λ k l u. by_equal i k
+    (λ s. let f : p k ≡ false = ap p (sym s) ∙ e in rw (f, and-false (nat_lt k (i + 1)), and-false (nat_lt k i)) refl)
+    (λ ne. rw (next_test k i ne) refl))
+
+pub ids_where_more_yes : (p : ℕ → Bool) (n i : ℕ) → p i ≡ true → ids_where_below p n (i + 1) ≡ with_id n (ids_where_below p n i) i
+ids_where_more_yes p n i e = filter_range (λ k. nat_lt k (i + 1) && p k) (λ k. (k == i) || has_id (ids_where_below p n i) k) 0 n (λ k l u. by_equal i k
+    (λ s. let f : p k ≡ true = ap p (sym s) ∙ e in let t : (k == i) ≡ true = eq-eqb k i (sym s) in rw (f, t, lt_test k (i + 1) (omega arith)) refl)
+    (λ ne. let t : (k == i) ≡ false = eqb_other k i (λ q. ne (sym q)) in
+    rw (next_test k i ne, t) (sym (has-filter (λ j. nat_lt j i && p j) n k (omega arith)))))
+
+-- ---- a loop over the members
+
+pub All-ids : (n : ℕ) (s : List ℕ) → IsIdSet n s → All (λ k. k < n) s
+All-ids n s h = All-same (λ k. k < n) s (ids_where (λ k. has_id s k) n) h (All-filter (λ k. has_id s k) (λ k. k < n) (ids_below n) (All-range 0 n n (omega arith)))
+
+pub length-ids : (n : ℕ) (s : List ℕ) → IsIdSet n s → length s ≤ n
+length-ids n s h = omega (arith, ap length h, length-filter (λ k. has_id s k) (ids_below n), count_by-le-length (λ k. has_id s k) (ids_below n), length-range_with_len 0 n)
+
+-- for a loop that builds a set, and for what its result has
+pub ruleset id_loops = (ids_where_none, ids_where_all, ids_where_more_no, ids_where_more_yes)

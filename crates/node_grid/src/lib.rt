@@ -1,0 +1,52 @@
+//! Sets of nodes, rows of accusations, and matrices of such rows.
+//!
+//! Nodes are numbers below a capacity `N`, which is 8 or 16. Nothing here takes memory or refuses anything.
+#![tactic(auto)]
+
+mod matrix;
+mod node_set;
+
+pub use matrix::{Matrix, Row};
+pub use node_set::{Ids, NodeSet};
+
+/// The answer of a call that could not have the memory that it needs.
+#[derive(Clone, Copy, Debug, PartialEq, Eq)]
+pub struct NoMemory;
+
+#[cfg(test)]
+mod tests {
+    use super::{Matrix, NoMemory, NodeSet, Row};
+
+    #[test]
+    fn sets(rt: HostRuntime) {
+        let mut set: NodeSet<8> = NodeSet::full(3);
+        set.put(7);
+        set.cut(1);
+        assert!(rt; set.has(0) && !set.has(1) && set.has(7) && !set.has(200));
+        assert!(rt; set.len() == 3);
+        assert!(rt; set.least() == Some(0));
+        let mut ids = set.iter();
+        assert!(rt; ids.next() == Some(0));
+        assert!(rt; ids.next() == Some(2));
+        assert!(rt; ids.next() == Some(7));
+        assert!(rt; ids.next() == None);
+        let wide: NodeSet<16> = NodeSet::full(16);
+        assert!(rt; wide.len() == 16 && wide.has(15));
+        let none: NodeSet<16> = NodeSet::empty();
+        assert!(rt; none.least() == None && none.is_empty() && !wide.is_empty());
+        assert_eq!(rt; none, NodeSet::full(0));
+    }
+
+    #[test]
+    fn rows_of_a_matrix(rt: HostRuntime) {
+        let mut row: Row<8> = Row::zero();
+        row.masks[2] = 128;
+        let mut matrix: Matrix<8> = Matrix::empty();
+        assert!(rt; matrix.get(5).is_none());
+        matrix.set(5, row);
+        assert_eq!(rt; matrix.get(5).copied(), Some(row));
+        assert!(rt; matrix.get(4).is_none());
+        assert!(rt; matrix != Matrix::empty());
+        assert_eq!(rt; NoMemory, NoMemory);
+    }
+}
