@@ -2,3 +2,5 @@ pub mod Capacity
 pub mod NodeSet
 pub mod NodeSetLaws
 pub mod Matrix
+pub mod Count
+pub mod Class

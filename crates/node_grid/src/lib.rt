@@ -1,11 +1,13 @@
-//! Sets of nodes, rows of accusations, and matrices of such rows.
+//! Sets of nodes, classes of nodes, rows of accusations, and matrices of such rows.
 //!
 //! Nodes are numbers below a capacity `N`, which is 8 or 16. Nothing here takes memory or refuses anything.
 #![tactic(auto)]
 
+mod class;
 mod matrix;
 mod node_set;
 
+pub use class::Class;
 pub use matrix::{Matrix, Row};
 pub use node_set::{Ids, NodeSet};
 
