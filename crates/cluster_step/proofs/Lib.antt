@@ -1,0 +1,4 @@
+pub mod Counts
+pub mod Advancing
+pub mod Filling
+pub mod Stepping

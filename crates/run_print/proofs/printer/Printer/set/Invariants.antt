@@ -1,0 +1,16 @@
+use Rattle.std.proofs.Common.{◌≡◌, ◌++◌, ◌≤◌, length, map}
+use Rattle.std.specs.Prelude.{codes, decimal}
+use Rattle.run_print.specs.Printing.{Prints}
+use Rattle.run_print.specs.Text.{joined}
+use Rattle.run_print.proofs.printer.Printer.set.Given as goal
+
+abbrev pub invariant-loop-node : goal.invariant-loop-node
+invariant-loop-node g l = record {
+  can : (goal.iterator-loop-node g).can_next l.node-iterator;
+  ends : (goal.iterator-loop-node g).is_finite l.node-iterator;
+  split : l.set ≡ l.yielded ++ l.node-iterator;
+  few : length l.set ≤ 16;
+  place : l.printed ≡ length l.yielded;
+  prints : Prints l.initial.self (g.K.Sink.written l.initial.sink) (g.K.Sink.faults l.initial.sink) l.self (g.K.Sink.written l.sink) (g.K.Sink.faults l.sink)
+      (joined (codes ",") (map decimal l.yielded));
+}

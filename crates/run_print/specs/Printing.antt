@@ -1,0 +1,34 @@
+-- What a printer and its sink have of a text.
+use Rattle.std.specs.Prelude.{◌≡◌, ℕ, ◌≤◌, Bool, true, false, List, ◌++◌, Option, Result}
+use Rattle.std.specs.Io.KnownBytes.{Appends}
+use Rattle.span_io.specs.Causes.{Rose, AppendsPrefix, Writes}
+use Rattle.run_print.specs.declared.printer.Printer.{Printer}
+
+-- the front of the text was written, and the rest is gathered
+pub record Gathers (old now : Option (List ℕ)) (before count : ℕ) (gathered text : List ℕ) : Type 0 where
+  pub front : List ℕ
+  pub splits : front ++ gathered ≡ text
+  pub written : Appends old now front
+  pub later : before ≤ count
+
+-- a prefix of the text was written, and the count of faults rose
+pub record Fails (old now : Option (List ℕ)) (before count : ℕ) (text : List ℕ) : Type 0 where
+  pub prefix : AppendsPrefix old now text
+  pub rose : Rose before count
+  pub later : before ≤ count
+
+abbrev pub PrintedIf : Bool → Option (List ℕ) → Option (List ℕ) → ℕ → ℕ → List ℕ → List ℕ → Type 0
+PrintedIf false old now before count gathered text = Gathers old now before count gathered text
+PrintedIf true old now before count gathered text = Fails old now before count text
+
+-- since the sink had `old` written and `before` faults, the text was printed
+abbrev pub Printed : Option (List ℕ) → ℕ → List ℕ → Printer → Option (List ℕ) → ℕ → Type 0
+Printed old before text printer now count = PrintedIf printer.failed old now before count printer.gathered.items text
+
+-- whatever was printed before, the text is printed after it
+pub record Prints (p : Printer) (w : Option (List ℕ)) (f : ℕ) (p' : Printer) (w' : Option (List ℕ)) (f' : ℕ) (text : List ℕ) : Type 0 where
+  pub goes_on : (old : Option (List ℕ)) (before : ℕ) (done : List ℕ) → Printed old before done p w f → Printed old before (done ++ text) p' w' f'
+
+-- all that was printed is written, or a prefix of it where the count of faults rose
+abbrev pub Finishes : {T E : Type 0} → Printer → Option (List ℕ) → ℕ → Option (List ℕ) → ℕ → Result T E → Type 0
+Finishes p w f w' f' result = (old : Option (List ℕ)) (before : ℕ) (done : List ℕ) → Printed old before done p w f → Writes old w' before f' done result

@@ -1,0 +1,56 @@
+-- Texts of the values that are printed.
+use Rattle.std.specs.Prelude.{ℕ, zero, suc, ◌==◌, Bool, true, false, List, [], ◌∷◌, ◌++◌, map, take, Option, None, Some, codes, decimal, if◌then◌else◌, slice_index_or}
+use Rattle.std.specs.List.{flat_map}
+use Rattle.node_grid.specs.declared.class.Class.{Class}
+use Rattle.node_grid.specs.declared.class.Class.TheVariants.{N, J, B, S, A}
+use Rattle.omh_paths.specs.declared.wrapped.Wrapped.{Wrapped}
+use Rattle.omh_paths.specs.declared.wrapped.Wrapped.TheVariants.{Plain, Fault}
+use Rattle.node_grid.specs.Matrix.{row_at}
+
+-- texts one after the other, with a separator between them
+abbrev pub joined : List ℕ → List (List ℕ) → List ℕ
+joined separator [] = []
+joined separator (x ∷ xs) = x ++ flat_map (λ y. separator ++ y) xs
+
+-- numbers, joined by commas
+abbrev pub numbers_text : List ℕ → List ℕ
+numbers_text xs = joined (codes ",") (map decimal xs)
+
+-- a set of nodes; an empty one is `-`
+abbrev pub set_text : List ℕ → List ℕ
+set_text [] = codes "-"
+set_text (x ∷ xs) = numbers_text (x ∷ xs)
+
+abbrev pub yes_no : Bool → List ℕ
+yes_no true = codes "yes"
+yes_no false = codes "no"
+
+abbrev pub class_text : Class → List ℕ
+class_text N = codes "N"
+class_text J = codes "J"
+class_text B = codes "B"
+class_text S = codes "S"
+class_text A = codes "A"
+
+-- a settled claim: a task, nothing, or an error
+abbrev pub claim_text : Wrapped ℕ → List ℕ
+claim_text (Plain claim) = if claim == 255 then codes "-" else decimal claim
+claim_text (Fault k) = codes "E"
+
+-- a settled row: the masks of the nodes in use, or an error
+abbrev pub row_text : ℕ → Option (List ℕ) → List ℕ
+row_text nodes None = codes "E"
+row_text nodes (Some masks) = numbers_text (take nodes masks)
+
+-- what member q claimed, as settled
+abbrev pub done_item : List (Wrapped ℕ) → ℕ → List ℕ
+done_item done q = decimal q ++ codes "=" ++ claim_text (slice_index_or done q (Fault 0))
+
+-- the row of member q, as settled
+abbrev pub rows_item : ℕ → List (Option (List ℕ)) → ℕ → List ℕ
+rows_item nodes rows q = decimal q ++ codes "=" ++ row_text nodes (row_at rows q)
+
+-- the separator before the item at place k
+abbrev pub separator_at : List ℕ → ℕ → List ℕ
+separator_at separator zero = []
+separator_at separator (suc k) = separator

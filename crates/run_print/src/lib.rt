@@ -1,0 +1,7 @@
+//! The printed texts of a run.
+#![tactic(auto)]
+
+mod printer;
+mod texts;
+
+pub use printer::Printer;

@@ -1,0 +1,81 @@
+ghost use Rattle.std.specs.Prelude.{◌≡◌, false, [], decimal};
+ghost use Rattle.run_print.specs.Printing.{Prints, Finishes};
+
+use arrayvec::ArrayVec;
+use itoa::Buffer;
+use span_io::{Failed, Sink, write_all};
+
+/// Gathers the small pieces of a text before they go to a sink.
+///
+/// After a fault of the sink it drops what comes, and tells of the fault in the end. It takes no memory.
+#[derive(Drop)]
+pub struct Printer {
+    /// What isn't written yet.
+    pub gathered: ArrayVec<u8, 4096>,
+    /// Whether the sink failed.
+    pub failed: bool,
+}
+
+impl Printer {
+    /// A printer that has gathered nothing.
+    pub fn new() -> Self
+        ensures gathered { result.gathered.items ≡ [] }
+        ensures failed { result.failed ≡ false }
+    {
+        Printer {
+            gathered: ArrayVec::new(),
+            failed: false,
+        }
+    }
+
+    /// Prints a piece of text.
+    pub fn text<K: Sink>(&mut self, sink: &mut K, bytes: &[u8])
+        ensures { Prints self.old (K.written sink.old) (K.faults sink.old) self.new (K.written sink.new) (K.faults sink.new) bytes.now }
+    {
+        if self.gathered.try_extend_from_slice(bytes).is_err() {
+            self.flush(sink);
+            self.text_first(sink, bytes);
+        }
+    }
+
+    /// Prints a number in decimal.
+    pub fn number<K: Sink>(&mut self, sink: &mut K, n: u64)
+        ensures { Prints self.old (K.written sink.old) (K.faults sink.old) self.new (K.written sink.new) (K.faults sink.new) (decimal n) }
+    {
+        let mut buffer = Buffer::new();
+        self.text(sink, buffer.format(n).as_bytes());
+    }
+
+    /// Writes what is gathered, and tells whether the whole text reached the sink.
+    pub fn finish<K: Sink>(self, sink: &mut K) -> Result<(), Failed>
+        ensures { Finishes self (K.written sink.old) (K.faults sink.old) (K.written sink.new) (K.faults sink.new) result }
+    {
+        let mut printer = self;
+        printer.flush(sink);
+        if printer.failed { Err(Failed) } else { Ok(()) }
+    }
+
+    /// Writes what is gathered.
+    fn flush<K: Sink>(&mut self, sink: &mut K)
+        ensures prints { Prints self.old (K.written sink.old) (K.faults sink.old) self.new (K.written sink.new) (K.faults sink.new) [] }
+        ensures empty { self.new.gathered.items ≡ [] }
+    {
+        if !self.failed {
+            self.failed = write_all(sink, self.gathered.as_slice()).is_err();
+        }
+        self.gathered.clear();
+    }
+
+    /// Prints a piece where nothing is gathered.
+    fn text_first<K: Sink>(&mut self, sink: &mut K, bytes: &[u8])
+        requires { self.old.gathered.items ≡ [] }
+        ensures { Prints self.old (K.written sink.old) (K.faults sink.old) self.new (K.written sink.new) (K.faults sink.new) bytes.now }
+    {
+        let Err(_) = self.gathered.try_extend_from_slice(bytes) else {
+            return;
+        };
+        if !self.failed {
+            self.failed = write_all(sink, bytes).is_err();
+        }
+    }
+}
