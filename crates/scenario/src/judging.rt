@@ -1,0 +1,1 @@
+//! The rules that a scenario has to meet.

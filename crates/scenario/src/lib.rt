@@ -1,0 +1,13 @@
+//! Scenarios: which cluster is run, for how long, and who fails how. They are read from JSON, and judged by rules.
+#![tactic(auto)]
+
+mod content;
+mod judging;
+mod numbers;
+mod parts;
+mod reading;
+
+pub use content::Silence;
+
+
+
