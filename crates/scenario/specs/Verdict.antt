@@ -8,7 +8,7 @@ use Rattle.serde_json.specs.Data.{Data}
 use Rattle.scenario.specs.declared.content.Silence.{Silence}
 use Rattle.scenario.specs.Parts.{Numbers, PolicyParts, FaultParts, ScenarioParts, parts_of}
 use Rattle.scenario.specs.Numbers.{within, all_of, are_below, is_listed, names}
-use Rattle.scenario.specs.Content.{Content}
+use Rattle.scenario.specs.Scenario.{Content}
 
 -- the content, or the number of the rule that refuses and its place
 abbrev pub Verdict : Type 0
@@ -33,7 +33,13 @@ policy_of p =
     option_and_then (λ readmit.
     option_and_then (λ credit.
     option_map (λ streak. record {
-        weights = weights; exclude = exclude; readmit = readmit; credit = credit; streak = streak; cap = cap })
+      weights = weights;
+      exclude = exclude;
+      readmit = readmit;
+      credit = credit;
+      streak = streak;
+      cap = cap;
+    })
     (within 1 60000 p.streak))
     (within 0 60000 p.credit))
     (within 0 (exclude - 1) p.readmit))
@@ -75,8 +81,12 @@ given_lines (Ok silences) next = next silences
 abbrev pub silences_all : ℕ → ℕ → FaultParts → Bool
 silences_all nodes slots p = list_all (λ k. int_eq p.from (pos k) || names p.to k) (ids_below nodes) && list_all (names p.slots) (ids_below slots) && p.drops
 
+-- whether there are no relays, channels, tasks and restarts
+abbrev pub uses_no_others : ℕ → ScenarioParts → Bool
+uses_no_others m p = (m == 0) && (p.channels == 0) && (p.tasks == 0) && (p.restarts == 0)
+
 abbrev pub is_built : ℕ → ℕ → ScenarioParts → Bool
-is_built nodes m p = (m == 0) && (p.channels == 0) && (p.tasks == 0) && (p.restarts == 0) && list_all (silences_all nodes (2 * m + 4)) p.faults
+is_built nodes m p = uses_no_others m p && list_all (silences_all nodes (2 * m + 4)) p.faults
 
 -- ---- all rules
 

@@ -1,4 +1,5 @@
-//! Scenarios: which cluster is run, for how long, and who fails how. They are read from JSON, and judged by rules.
+//! Scenarios: which cluster is run, for how long, and which nodes fall silent. They are read from JSON and judged by
+//! rules.
 #![tactic(auto)]
 
 mod content;
@@ -7,7 +8,4 @@ mod numbers;
 mod parts;
 mod reading;
 
-pub use content::Silence;
-
-
-
+pub use content::{Scenario, ScenarioError, Silence};

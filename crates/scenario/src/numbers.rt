@@ -1,18 +1,28 @@
 //! Numbers of a scenario that have to lie in a range, and lists of them.
-ghost use Rattle.std.specs.Prelude.{◌≡◌, ◌^◌, ◌<◌, ◌≤◌};
-ghost use Rattle.scenario.specs.Numbers.{within, is_ascending, are_below, has_number, is_listed, names};
+ghost use Rattle.std.specs.Prelude.{◌≡◌, ◌-◌, ◌≤◌, IfSome};
+ghost use Rattle.std.specs.List.{list_all};
+ghost use Rattle.scenario.specs.Numbers.{is_within, within, is_ascending, are_below, has_number, is_listed, names};
 ghost use Rattle.scenario.specs.Seen.{numbers_view};
 
 use crate::parts::NumbersPart;
 
+/// Whether the number lies from `low` to `high`.
+fn is_number_within(number: i64, low: u16, high: u16) -> bool
+    ensures { result ≡ is_within low high number }
+{
+    i64::from(low) <= number && number <= i64::from(high)
+}
+
 /// The number, if it lies from `low` to `high`.
 pub(crate) fn number_within(number: i64, low: u16, high: u16) -> Option<u16>
-    ensures { result ≡ within low high number }
+    ensures value { result ≡ within low high number }
+    ensures range { IfSome result (λ n. (low ≤ n) × (n ≤ high)) }
 {
-    if number < i64::from(low) || number > i64::from(high) {
-        return None;
+    if is_number_within(number, low, high) {
+        Some(number as u16)
+    } else {
+        None
     }
-    Some(number as u16)
 }
 
 /// Whether each number is less than the next.
@@ -33,6 +43,13 @@ fn has(numbers: &[i64], number: u8) -> bool
     numbers.iter().any(|x| *x == i64::from(number))
 }
 
+fn all_below(numbers: &[i64], bound: u16) -> bool
+    ensures { result ≡ list_all (is_within 0 (bound - 1)) numbers.now }
+{
+    let last = bound.saturating_sub(1);
+    numbers.iter().all(|x| is_number_within(*x, 0, last))
+}
+
 impl NumbersPart {
     /// Whether they lie below `bound`; a list is neither empty nor out of order.
     pub(crate) fn is_below(&self, bound: u16) -> bool
@@ -41,11 +58,7 @@ impl NumbersPart {
         match self {
             NumbersPart::All => true,
             NumbersPart::These(numbers) => {
-                !numbers.is_empty()
-                    && are_ascending(numbers)
-                    && numbers
-                        .iter()
-                        .all(|x| number_within(*x, 0, bound.saturating_sub(1)).is_some())
+                !numbers.is_empty() && are_ascending(numbers) && all_below(numbers, bound)
             }
         }
     }

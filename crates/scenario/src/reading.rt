@@ -98,7 +98,11 @@ fn required_numbers(alloc: Global, value: &Value, key: &str) -> Result<Option<Ve
     }
 }
 
-fn required_choice(alloc: Global, value: &Value, key: &str) -> Result<Option<NumbersPart>, AllocError>
+fn required_choice(
+    alloc: Global,
+    value: &Value,
+    key: &str,
+) -> Result<Option<NumbersPart>, AllocError>
     ensures { IfOk result (λ o. option_map numbers_view o ≡ required key.now numbers_at (view value.now)) }
 {
     match value.get(key) {
@@ -126,10 +130,16 @@ fn is_policy_name(key: &str) -> bool
         || key == "cap"
 }
 
-fn has_policy_names(map: &Map<String, Value>) -> bool
+fn are_policy_names(map: &Map<String, Value>) -> bool
     ensures { result ≡ list_all (λ k. is_policy_key (string_bytes k)) (keys map.now) }
 {
     map.keys().all(|key| is_policy_name(key.as_str()))
+}
+
+fn has_policy_names(map: &Map<String, Value>) -> bool
+    ensures { result ≡ all_keys is_policy_key (members_view map.now.entries) }
+{
+    are_policy_names(map)
 }
 
 fn is_fault_name(key: &str) -> bool
@@ -138,10 +148,16 @@ fn is_fault_name(key: &str) -> bool
     key == "from" || key == "to" || key == "periods" || key == "slots" || key == "effect"
 }
 
-fn has_fault_names(map: &Map<String, Value>) -> bool
+fn are_fault_names(map: &Map<String, Value>) -> bool
     ensures { result ≡ list_all (λ k. is_fault_key (string_bytes k)) (keys map.now) }
 {
     map.keys().all(|key| is_fault_name(key.as_str()))
+}
+
+fn has_fault_names(map: &Map<String, Value>) -> bool
+    ensures { result ≡ all_keys is_fault_key (members_view map.now.entries) }
+{
+    are_fault_names(map)
 }
 
 fn is_scenario_name(key: &str) -> bool
@@ -159,10 +175,16 @@ fn is_scenario_name(key: &str) -> bool
         || key == "restarts"
 }
 
-fn has_scenario_names(map: &Map<String, Value>) -> bool
+fn are_scenario_names(map: &Map<String, Value>) -> bool
     ensures { result ≡ list_all (λ k. is_scenario_key (string_bytes k)) (keys map.now) }
 {
     map.keys().all(|key| is_scenario_name(key.as_str()))
+}
+
+fn has_scenario_names(map: &Map<String, Value>) -> bool
+    ensures { result ≡ all_keys is_scenario_key (members_view map.now.entries) }
+{
+    are_scenario_names(map)
 }
 
 fn policy_of_fields(alloc: Global, value: &Value) -> Result<Option<PolicyPart>, AllocError>
@@ -244,10 +266,8 @@ fn faults(alloc: Global, value: &Value) -> Result<Option<Vec<FaultPart>>, AllocE
 }
 
 fn optional_faults(alloc: Global, value: &Value) -> Result<Option<Vec<FaultPart>>, AllocError>
-    ensures {
-        IfOk result (λ o. option_map (λ v. map fault_view v.items) o
-            ≡ optional (codes "faults") [] (list_of fault_at) (view value.now))
-    }
+    ensures { IfOk result (λ o. option_map (λ v. map fault_view v.items) o
+        ≡ optional (codes "faults") [] (list_of fault_at) (view value.now)) }
 {
     match value.get("faults") {
         None => Ok(Some(Vec::new(alloc))),
