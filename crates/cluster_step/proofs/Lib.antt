@@ -1,4 +1,5 @@
 pub mod Counts
 pub mod Advancing
 pub mod Filling
+pub mod Opening
 pub mod Stepping

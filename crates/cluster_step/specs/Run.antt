@@ -1,5 +1,5 @@
 -- The run of an accepted scenario, period by period, with the classes of its nodes and the budgets of its periods.
-use Rattle.std.specs.Prelude.{ℕ, zero, suc, ◌+◌, ◌*◌, Bool, true, not, ◌&&◌, nat_lt, nat_le, List, [], ◌∷◌, length, map, Option, None, Some, if◌then◌else◌, slice_get}
+use Rattle.std.specs.Prelude.{ℕ, zero, suc, ◌+◌, ◌*◌, Bool, true, not, ◌&&◌, nat_lt, nat_le, List, [], ◌∷◌, length, map, replicate, Option, None, Some, if◌then◌else◌, slice_get}
 use Rattle.node_grid.specs.NodeSet.{ids_below, ids_where, has_id}
 use Rattle.node_grid.specs.Count.{bit, count}
 use Rattle.node_grid.specs.Class.{is_asymmetric, is_symmetric, is_silent}
@@ -95,7 +95,7 @@ records_by sc agreed now before = map (node_record sc.policy agreed (rows_by agr
 
 -- the agreed states of all nodes after p periods
 unfoldable pub agreed_before : (room : ℕ) → Content → ℕ → List (Agreed room)
-agreed_before room sc zero = map (λ i. first_agreed room sc.nodes) (ids_below sc.nodes)
+agreed_before room sc zero = replicate sc.nodes (first_agreed room sc.nodes)
 agreed_before room sc (suc p) = map (λ (r : NodeRecord room). r.agreed) (records_by sc (agreed_before room sc p) (silent_in sc p) (silent_before sc p))
 
 -- the least nonfaulty node

@@ -1,7 +1,7 @@
 -- What a cluster keeps between periods.
 use Rattle.std.specs.Prelude.{◌≡◌, ℕ, ◌+◌, ◌≤◌, Bool, List, length}
 use Rattle.penalty.specs.Policy.{IsPolicy}
-use Rattle.scenario.specs.Scenario.{Content}
+use Rattle.scenario.specs.Scenario.{Content, IsContent}
 use Rattle.cluster_step.specs.declared.agreed.Agreed.{Agreed}
 use Rattle.cluster_step.specs.declared.record.PeriodRecord.{PeriodRecord}
 use Rattle.cluster_step.specs.Beliefs.{AllCounted}
@@ -14,6 +14,7 @@ pub record ClusterState : Type 0 where
 
 -- the nodes are what the run of the scenario leaves after p periods
 pub record IsStepped (room : ℕ) (sc : Content) (p : ℕ) (clean last : List ℕ) (within : Bool) (states : List (Agreed room)) (rows : List (List ℕ)) (record_kept : PeriodRecord room) : Type 0 where
+  pub content : IsContent sc
   pub sound : clean ≡ sound_before sc p
   pub silent : last ≡ silent_before sc p
   pub claimed : within ≡ claimed_before room sc p

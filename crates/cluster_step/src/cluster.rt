@@ -5,8 +5,9 @@ ghost use Rattle.cluster_step.specs.Run.{members_by, period_of, run_period};
 
 use crate::beliefs::{believe_all, find_rows, take_over};
 use crate::classes::{classes, silent_nodes, still_sound};
-use crate::{Agreed, Budget, PeriodRecord};
-use node_grid::{NoMemory, NodeSet, Row};
+use crate::{Agreed, Budget, NodeRecord, PeriodRecord};
+use node_grid::{Class, NoMemory, NodeSet, Row};
+use penalty::Counts;
 use scenario::Scenario;
 use std::alloc::Global;
 use std::marker::Model;
@@ -56,6 +57,55 @@ fn members_of<const N: usize>(agreed: &[Agreed<N>], reference: Option<u8>) -> No
 impl<'s, const N: usize> Cluster<'s, N> {
     ghost use Rattle.cluster_step.specs.Lending.{RunsOn};
 
+    /// A cluster before its first period. All memory of the run is taken here.
+    ///
+    /// # Errors
+    /// `NoMemory` where there is none.
+    pub fn open(alloc: Global, scenario: &'s Scenario<N>) -> Result<Cluster<'s, N>, NoMemory>
+        requires { IsCapacity N }
+        ensures { IfOk result (λ c. c ≡ record { scenario = scenario.now; run = 0 }) }
+    {
+        let nodes = scenario.nodes();
+        let first = Agreed {
+            members: NodeSet::full(nodes),
+            counts: Counts::zero(),
+        };
+        let Ok(agreed) = vec![in alloc; first; nodes as usize] else {
+            return Err(NoMemory);
+        };
+        let Ok(rows) = vec![in alloc; Row::zero(); nodes as usize] else {
+            return Err(NoMemory);
+        };
+        let Ok(records) = vec![in alloc; NodeRecord::blank(); nodes as usize] else {
+            return Err(NoMemory);
+        };
+        Ok(Cluster {
+            scenario,
+            run: 0,
+            sound: NodeSet::full(nodes),
+            silent_before: NodeSet::empty(),
+            claimed: true,
+            agreed,
+            rows,
+            record: PeriodRecord {
+                period: 0,
+                nodes,
+                reference: None,
+                members: NodeSet::empty(),
+                budget: Budget {
+                    n: 0,
+                    a: 0,
+                    s: 0,
+                    b: 0,
+                },
+                within: false,
+                claim: false,
+                classes: [Class::N; N],
+                records,
+            },
+        })
+    }
+
     /// Steps all nodes through the next period.
     fn advance(&mut self)
         requires capacity { IsCapacity N }
@@ -91,6 +141,8 @@ impl<'s, const N: usize> Cluster<'s, N> {
         requires more { self.old.run < self.old.scenario.periods }
         ensures* after { sem 𝓛 (RunsOn N.row self.entry) }
         ensures shown { period_of result.now ≡ run_period N self.old.scenario self.old.run }
+        ensures nodes { result.now.nodes ≤ N }
+        ensures records { length result.now.records.items ≡ result.now.nodes }
     {
         self.advance();
         &self.record

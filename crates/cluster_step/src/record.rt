@@ -1,6 +1,10 @@
+ghost use Rattle.node_grid.specs.Capacity.{IsCapacity};
+ghost use Rattle.std.specs.Prelude.{◌≡◌, ◌<◌, length, slice_get, Some};
+
 use crate::Agreed;
 use node_grid::{Class, Matrix, NodeSet, Row};
 use omh_paths::Wrapped;
+use penalty::Counts;
 
 /// How many members a period has, and of which classes.
 #[derive(Clone, Copy, Debug, PartialEq, Eq)]
@@ -30,6 +34,24 @@ pub struct NodeRecord<const N: usize> {
     pub agreed: Agreed<N>,
 }
 
+impl<const N: usize> NodeRecord<N> {
+    /// A record of nothing, which takes the place of one until a period is run.
+    pub(crate) fn blank() -> Self
+        requires { IsCapacity N }
+    {
+        NodeRecord {
+            members: NodeSet::empty(),
+            done: [Wrapped::Fault(0); N],
+            rows: Matrix::empty(),
+            found: Row::zero(),
+            agreed: Agreed {
+                members: NodeSet::empty(),
+                counts: Counts::zero(),
+            },
+        }
+    }
+}
+
 /// A period of a cluster.
 #[derive(Drop)]
 pub struct PeriodRecord<const N: usize> {
@@ -51,4 +73,14 @@ pub struct PeriodRecord<const N: usize> {
     pub classes: [Class; N],
     /// What each node believes, node 0 first.
     pub records: Vec<NodeRecord<N>>,
+}
+
+impl<const N: usize> PeriodRecord<N> {
+    /// What node `i` believes.
+    pub fn node(&self, i: u8) -> &NodeRecord<N>
+        requires { i < length self.now.records.items }
+        ensures { slice_get self.now.records.items i ≡ Some result.now }
+    {
+        &self.records[i as usize]
+    }
 }

@@ -1,9 +1,10 @@
 -- Texts that are printed one after the other.
-use Rattle.std.proofs.Common.{◌≡◌, ℕ, zero, suc, ◌+◌, ◌<◌, ◌≤◌, List, [], ◌∷◌, ◌++◌, map, take, length, get_or, refl, sym, ap, subst, ◌∙◌, arith, append_assoc, append-nil, Option}
+use Rattle.std.proofs.Common.{◌≡◌, ℕ, zero, suc, ◌+◌, ◌<◌, ◌≤◌, List, [], ◌∷◌, ◌++◌, length, refl, sym, ap, subst, ◌∙◌, arith, append_assoc, append-nil, Option, Result, false}
 use Rattle.std.specs.List.{flat_map}
 use Rattle.std.proofs.lemmas.Grind.{flat_map-append}
-use Rattle.std.proofs.lemmas.List.{map-append, take_more, length-map}
-use Rattle.run_print.specs.Printing.{Printed, Prints}
+use Rattle.std.proofs.KnownBytes.{Appends-nil}
+use Rattle.span_io.specs.Causes.{Writes}
+use Rattle.run_print.specs.Printing.{Gathers, Printed, PrintedIf, Prints, Finishes}
 use Rattle.run_print.specs.declared.printer.Printer.{Printer}
 use Rattle.run_print.specs.Text.{joined, separator_at}
 
@@ -14,10 +15,11 @@ joined-push separator (y ∷ ys) x =
     ap (λ z. y ++ z) (flat_map-append f ys (x ∷ []) ∙ ap (λ z. flat_map f ys ++ z) (append-nil (separator ++ x)))
     ∙ sym (append_assoc y (flat_map f ys) (separator ++ x))
 
-pub then : (p p' p'' : Printer) (w w' w'' : Option (List ℕ)) (f f' f'' : ℕ) (x y : List ℕ) → Prints p w f p' w' f' x → Prints p' w' f' p'' w'' f'' y → Prints p w f p'' w'' f'' (x ++ y)
-then p p' p'' w w' w'' f f' f'' x y first second = record {
+-- one text after the other
+pub then : {a b c : Printer} {v w x : Option (List ℕ)} {k l m : ℕ} {s t : List ℕ} → Prints a v k b w l s → Prints b w l c x m t → Prints a v k c x m (s ++ t)
+then {a} {b} {c} {v} {w} {x} {k} {l} {m} {s} {t} first second = record {
   goes_on = λ old before done h.
-  subst (λ text. Printed old before text p'' w'' f'') (append_assoc done x y) (second.goes_on old before (done ++ x) (first.goes_on old before done h));
+  subst (λ text. Printed old before text c x m) (append_assoc done s t) (second.goes_on old before (done ++ s) (first.goes_on old before done h));
 }
 
 -- nothing is printed where nothing happens
@@ -25,10 +27,15 @@ pub nothing : (p : Printer) (w : Option (List ℕ)) (f : ℕ) → Prints p w f p
 nothing p w f = record { goes_on = λ old before done h. subst (λ text. Printed old before text p w f) (sym (append-nil done)) h }
 
 -- the text of a further item, behind a separator
-pub further : (p p' p'' p''' : Printer) (w w' w'' w''' : Option (List ℕ)) (f f' f'' f''' : ℕ) (separator : List ℕ) (xs : List (List ℕ)) (x : List ℕ)
-    → Prints p w f p' w' f' (joined separator xs) → Prints p' w' f' p'' w'' f'' (separator_at separator (length xs)) → Prints p'' w'' f'' p''' w''' f''' x
-    → Prints p w f p''' w''' f''' (joined separator (xs ++ x ∷ []))
-further p p' p'' p''' w w' w'' w''' f f' f'' f''' separator xs x before between item =
-    subst (λ text. Prints p w f p''' w''' f''' text) (sym (joined-push separator xs x))
-    (then p p' p''' w w' w''' f f' f''' (joined separator xs) (separator_at separator (length xs) ++ x) before
-    (then p' p'' p''' w' w'' w''' f' f'' f''' (separator_at separator (length xs)) x between item))
+pub further : {a b c d : Printer} {v w x y : Option (List ℕ)} {k l m n : ℕ} (separator : List ℕ) (items : List (List ℕ)) (item : List ℕ)
+    → Prints a v k b w l (joined separator items) → Prints b w l c x m (separator_at separator (length items)) → Prints c x m d y n item
+    → Prints a v k d y n (joined separator (items ++ item ∷ []))
+further {a} {b} {c} {d} {v} {w} {x} {y} {k} {l} {m} {n} separator items item before between last =
+    subst (λ text. Prints a v k d y n text) (sym (joined-push separator items item)) (then before (then between last))
+
+-- a text that is printed from the start, and then finished
+pub finished : {T E : Type 0} {a b : Printer} {v w x : Option (List ℕ)} {k l m : ℕ} {text : List ℕ} {r : Result T E} → a.gathered.items ≡ [] → a.failed ≡ false
+    → Prints a v k b w l text → Finishes b w l x m r → Writes v x k m text r
+finished {T} {E} {a} {b} {v} {w} {x} {k} {l} {m} {text} {r} empty going prints finishes =
+    let gathers : Gathers v v k k a.gathered.items [] = record { front = []; splits = empty; written = Appends-nil v; later = omega arith } in
+    finishes v k text (prints.goes_on v k [] (subst (λ b. PrintedIf b v v k k a.gathered.items []) (sym going) gathers))

@@ -1,2 +1,5 @@
 pub mod Printing
 pub mod Text
+pub mod PeriodText
+pub use Rattle.span_io.specs.Causes
+pub use Rattle.cluster_step.specs.Run

@@ -1,9 +1,10 @@
 ghost use Rattle.std.specs.Prelude.{◌≡◌, false, [], decimal};
 ghost use Rattle.run_print.specs.Printing.{Prints, Finishes};
 
+use crate::WriteFault;
 use arrayvec::ArrayVec;
 use itoa::Buffer;
-use span_io::{Failed, Sink, write_all};
+use span_io::{Sink, write_all};
 
 /// Gathers the small pieces of a text before they go to a sink.
 ///
@@ -47,12 +48,12 @@ impl Printer {
     }
 
     /// Writes what is gathered, and tells whether the whole text reached the sink.
-    pub fn finish<K: Sink>(self, sink: &mut K) -> Result<(), Failed>
+    pub fn finish<K: Sink>(self, sink: &mut K) -> Result<(), WriteFault>
         ensures { Finishes self (K.written sink.old) (K.faults sink.old) (K.written sink.new) (K.faults sink.new) result }
     {
         let mut printer = self;
         printer.flush(sink);
-        if printer.failed { Err(Failed) } else { Ok(()) }
+        if printer.failed { Err(WriteFault) } else { Ok(()) }
     }
 
     /// Writes what is gathered.

@@ -21,7 +21,7 @@ invariant_of-self g c =
     let states = c.self.inside.agreed.items in
     let quiet : c.silent_nodes-silent.result ≡ silent_in sc p = c.silent_nodes-silent.ensures in
     let sound : c.still_sound-nonfaulty.result ≡ nonfaulty_in sc p =
-    c.still_sound-nonfaulty.ensures ∙ ap (ids_where (λ (j : ℕ). has_id c.self.inside.sound j && not (has_id c.silent_nodes-silent.result j))) c.nodes.ensures.value
+    c.still_sound-nonfaulty.ensures ∙ ap (ids_where (λ (j : ℕ). has_id c.self.inside.sound j && not (has_id c.silent_nodes-silent.result j))) c.nodes.ensures.nodes
     ∙ still sc p c.self.inside.sound c.silent_nodes-silent.result was.sound quiet in
     let rows : c.find_rows.new.rows ≡ rows_by states c.silent_nodes-silent.result c.self.inside.silent_before =
     c.find_rows.ensures ∙ ap (λ s. rows_by s c.silent_nodes-silent.result c.self.inside.silent_before) c.as_slice.ensures.value in
@@ -29,7 +29,7 @@ invariant_of-self g c =
     ap length rows ∙ length-map-range_with_len _ 0 (length states) ∙ was.all_agreed in
     let all_rows = written c.self.inside.rows.len c.find_rows.new.rows c.self.inside.rows.items (many_rows ∙ sym was.all_rows ∙ sym (ap length c.as_mut_slice.ensures.value) ∙ c.as_mut_slice.ensures.len) in
     let made : c.believe_all.new.records ≡ map (node_record sc.policy states c.find_rows.new.rows c.silent_nodes-silent.result) (ids_below (length states)) =
-    c.believe_all.ensures.believed ∙ rw (c.policy.ensures, c.as_slice-2.ensures.value, c.as_slice-3.ensures.value, all_rows) refl in
+    c.believe_all.ensures.believed ∙ rw (c.policy.ensures.policy, c.as_slice-2.ensures.value, c.as_slice-3.ensures.value, all_rows) refl in
     let many_records : length c.believe_all.new.records ≡ sc.nodes =
     ap length made ∙ length-map-range_with_len _ 0 (length states) ∙ was.all_agreed in
     let all_records = written c.self.inside.record.records.len c.believe_all.new.records c.self.inside.record.records.items (many_records ∙ sym was.all_records ∙ sym (ap length c.as_mut_slice-2.ensures.value) ∙ c.as_mut_slice-2.ensures.len) in
@@ -52,7 +52,7 @@ invariant_of-self g c =
     let claim : c.if-self.self ≡ claimed_before g.row.N sc (suc p) =
     claims g.row.N sc p c.self.inside.claimed c.holds-within.result c.if-self.self was.claimed within both in
     let classes : c.classes-self-inside.result ≡ classes_by g.row.N sc.nodes (nonfaulty_in sc p) (silent_in sc p) =
-    c.classes-self-inside.ensures ∙ rw (c.nodes-2.ensures.value, sound, quiet) refl in
+    c.classes-self-inside.ensures ∙ rw (c.nodes-2.ensures.nodes, sound, quiet) refl in
     let kept : PeriodRecord g.row.N = record {
       period = p;
       nodes = c.self.inside.record.nodes;
@@ -65,11 +65,12 @@ invariant_of-self g c =
       records = with_items c.self.inside.record.records c.believe_all.new.records;
     } in
     rw (all_agreed, all_rows, add-one) (record {
+      content = was.content;
       sound = sound;
       silent = quiet;
       claimed = claim;
       agreed = over ∙ agreed sc p c.believe_all.new.records records;
-      counted = subst (λ xs. AllCounted sc.policy xs) (sym over) (rw c.policy.ensures at c.believe_all.ensures.counted);
+      counted = subst (λ xs. AllCounted sc.policy xs) (sym over) (rw c.policy.ensures.policy at c.believe_all.ensures.counted);
       all_agreed = many;
       all_rows = many_rows;
       all_records = ap length all_records ∙ many_records;

@@ -1,6 +1,7 @@
 use Rattle.std.proofs.Common.{◌≡◌, ◌+◌, refl, ap, sym, ◌∙◌}
 use Rattle.cluster_step.specs.Stepped.{ClusterState}
 use Rattle.cluster_step.specs.Run.{run_period}
+use Rattle.cluster_step.proofs.Opening.{roomy}
 use Rattle.cluster_step.proofs.cluster.Cluster.period.Goals as goal
 
 pub returns : goal.returns
@@ -11,4 +12,6 @@ returns g c =
     ((refl, (λ x. tt), left), record {
       after = tt;
       shown = c.self.invariant.shown c.args.self.now.run one_more ∙ ap (λ s. run_period g.row.N s c.args.self.now.run) same;
+      nodes = rw c.self.invariant.nodes (roomy c.requires.capacity c.self.invariant.content.nodes);
+      records = c.self.invariant.all_records ∙ sym c.self.invariant.nodes;
     })

@@ -1,0 +1,5 @@
+use Rattle.run_print.proofs.Joining.{then, finished}
+use Rattle.run_print.proofs.period.write_period.Goals as goal
+
+pub returns : goal.returns
+returns g c = finished c.new-printer.ensures.gathered c.new-printer.ensures.failed (then c.head.ensures c.nodes.ensures) c.finish.ensures

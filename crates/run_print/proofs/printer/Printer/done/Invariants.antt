@@ -1,0 +1,16 @@
+use Rattle.std.proofs.Common.{◌≡◌, ◌++◌, ◌≤◌, length, map}
+use Rattle.std.specs.Prelude.{codes}
+use Rattle.run_print.specs.Printing.{Prints}
+use Rattle.run_print.specs.Text.{joined, done_item}
+use Rattle.run_print.proofs.printer.Printer.done.Given as goal
+
+abbrev pub invariant-loop-member : goal.invariant-loop-member
+invariant-loop-member g l = record {
+  can : (goal.iterator-loop-member g).can_next l.member-iterator;
+  ends : (goal.iterator-loop-member g).is_finite l.member-iterator;
+  split : l.members ≡ l.yielded ++ l.member-iterator;
+  few : length l.members ≤ 16;
+  place : l.printed ≡ length l.yielded;
+  prints : Prints l.initial.self (g.K.Sink.written l.initial.sink) (g.K.Sink.faults l.initial.sink) l.self (g.K.Sink.written l.sink) (g.K.Sink.faults l.sink)
+      (joined (codes " ") (map (done_item l.done) l.yielded));
+}
