@@ -3,3 +3,4 @@ pub mod Advancing
 pub mod Filling
 pub mod Opening
 pub mod Stepping
+pub mod Within

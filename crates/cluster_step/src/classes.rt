@@ -8,7 +8,7 @@ use crate::Budget;
 use node_grid::{Class, NodeSet};
 use scenario::Scenario;
 
-#[tactic(auto, using(node_grid::specs::NodeSetLaws::id_loops))]
+#[tactic(auto, using(node_grid::specs::NodeSetLaws::id_loops, crate::proofs::Within::ids_where_within))]
 /// The nodes whose frames don't arrive in the period.
 pub fn silent_nodes<const N: usize>(scenario: &Scenario<N>, period: u32) -> NodeSet<N>
     requires capacity { IsCapacity N }
@@ -24,7 +24,7 @@ pub fn silent_nodes<const N: usize>(scenario: &Scenario<N>, period: u32) -> Node
     silent
 }
 
-#[tactic(auto, using(node_grid::specs::NodeSetLaws::id_loops))]
+#[tactic(auto, using(node_grid::specs::NodeSetLaws::id_loops, crate::proofs::Within::ids_where_within))]
 /// The nodes below `nodes` that were sound and aren't silent.
 pub fn still_sound<const N: usize>(nodes: u8, sound: &NodeSet<N>, silent: &NodeSet<N>) -> NodeSet<N>
     requires capacity { IsCapacity N }

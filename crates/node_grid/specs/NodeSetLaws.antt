@@ -329,17 +329,6 @@ ids_where_more_yes p n i e = filter_range (λ k. nat_lt k (i + 1) && p k) (λ k.
     (λ ne. let t : (k == i) ≡ false = eqb_other k i (λ q. ne (sym q)) in
     rw (next_test k i ne, t) (sym (has-filter (λ j. nat_lt j i && p j) n k (omega arith)))))
 
-filter_within : (p : ℕ → Bool) (a m n i : ℕ) → m ≤ n → a + m ≡ i → filter (λ k. nat_lt k i && p k) (range_with_len a n) ≡ filter p (range_with_len a m)
-filter_within p a zero n i h e = filter_none (λ k. nat_lt k i && p k) a n (λ k l u. rw (not_lt_test k i (omega arith)) refl)
-filter_within p a (suc m) zero i h e = absurd (omega arith)
-filter_within p a (suc m) (suc n) i h e =
-    let rest = filter_within p (a + 1) m n i (omega arith) (omega arith) in
-    rw (lt_test a i (omega arith), rest) refl
-
--- a loop that stops before the capacity has found the numbers below its end
-pub ids_where_within : (p : ℕ → Bool) (n i : ℕ) → i ≤ n → ids_where_below p n i ≡ ids_where p i
-ids_where_within p n i h = filter_within p 0 i n i h (omega arith)
-
 -- ---- a loop over the members
 
 pub All-ids : (n : ℕ) (s : List ℕ) → IsIdSet n s → All (λ k. k < n) s
@@ -349,4 +338,4 @@ pub length-ids : (n : ℕ) (s : List ℕ) → IsIdSet n s → length s ≤ n
 length-ids n s h = omega (arith, ap length h, length-filter (λ k. has_id s k) (ids_below n), count_by-le-length (λ k. has_id s k) (ids_below n), length-range_with_len 0 n)
 
 -- for a loop that builds a set, and for what its result has
-pub ruleset id_loops = (ids_where_none, ids_where_all, ids_where_within, ids_where_more_no, ids_where_more_yes)
+pub ruleset id_loops = (ids_where_none, ids_where_all, ids_where_more_no, ids_where_more_yes)

@@ -1,6 +1,6 @@
 use Rattle.std.proofs.Common.{◌≡◌, ◌≤◌, ℕ, arith, ap, ◌∙◌}
 use Rattle.node_grid.specs.NodeSet.{ids_where}
-use Rattle.node_grid.specs.NodeSetLaws.{ids_where_within}
+use Rattle.cluster_step.proofs.Within.{ids_where_within}
 use Rattle.scenario.specs.Scenario.{silent}
 use Rattle.cluster_step.proofs.classes.silent_nodes.Goals as goal
 
