@@ -1,0 +1,49 @@
+ghost use Rattle.std.specs.Prelude.{◌≡◌, ℕ, ◌<◌, IsTrue};
+ghost use Rattle.node_grid.specs.Capacity.{IsCapacity};
+ghost use Rattle.error_reports.specs.Charge.{charged, charged_mask};
+
+use node_grid::{Matrix, NodeSet};
+
+/// How many kinds a mask has room for.
+const KIND_ROOM: u8 = 16;
+
+/// The mask of the kinds that `node` is charged with, by the settled `rows` of the other `members`.
+///
+/// A row counts where it is there, stands for a member, and isn't the node's own. The node is charged with each
+/// kind that more than half of the rows that count give it; where no row counts, with nothing. Whether `node` is
+/// a member makes no difference.
+pub fn charged<const N: usize>(rows: &Matrix<N>, members: &NodeSet<N>, node: u8) -> u16
+    requires capacity { IsCapacity N }
+    requires in_range { node < N }
+    ensures { result ≡ charged_mask rows.now members.now node }
+{
+    let mut mask = 0;
+    for kind in 0..KIND_ROOM {
+        if is_charged(rows, members, node, kind) {
+            mask |= 1 << kind;
+        }
+    }
+    mask
+}
+
+/// Whether more than half of the rows that count give `node` this kind.
+fn is_charged<const N: usize>(rows: &Matrix<N>, members: &NodeSet<N>, node: u8, kind: u8) -> bool
+    requires capacity { IsCapacity N }
+    requires in_range { node < N }
+    requires kind { kind < 16 }
+    ensures { result ≡ charged rows.now members.now node kind }
+{
+    let mut voters: u8 = 0;
+    let mut accusers: u8 = 0;
+    for member in members.iter() {
+        if member != node {
+            if let Some(row) = rows.get(member) {
+                voters += 1;
+                if (row.masks[node as usize] >> kind) & 1 == 1 {
+                    accusers += 1;
+                }
+            }
+        }
+    }
+    2 * accusers > voters
+}

@@ -1,0 +1,64 @@
+//! Rows of accusations: how a node makes its own, and what the settled rows of all members charge a node with.
+//!
+//! An error kind is a bit of a mask. A node is charged with a kind where more than half of the rows that count
+//! accuse it of this kind: diagnosis from agreed local reports, in the manner of Walter, Lincoln and Suri (1997)
+//! and of Kieckhafer et al. (1988). Nothing here takes memory or refuses anything.
+#![tactic(auto)]
+
+mod charge;
+mod row_builder;
+
+pub use charge::charged;
+pub use row_builder::RowBuilder;
+
+#[cfg(test)]
+mod tests {
+    use super::{charged, RowBuilder};
+    use node_grid::{Matrix, NodeSet, Row};
+
+    fn accusing(node: usize, mask: u16) -> Row<8> {
+        let mut row = Row::zero();
+        row.masks[node] = mask;
+        row
+    }
+
+    #[test]
+    fn more_than_half_charges(rt: HostRuntime) {
+        let members: NodeSet<8> = NodeSet::full(4);
+        let mut rows: Matrix<8> = Matrix::empty();
+        rows.set(0, accusing(3, 5));
+        rows.set(1, accusing(3, 1));
+        rows.set(2, accusing(3, 0));
+        rows.set(3, accusing(3, 255));
+        assert!(rt; charged(&rows, &members, 3) == 1);
+        assert!(rt; charged(&rows, &members, 0) == 0);
+    }
+
+    #[test]
+    fn exactly_half_charges_nothing(rt: HostRuntime) {
+        let members: NodeSet<16> = NodeSet::full(5);
+        let mut rows: Matrix<16> = Matrix::empty();
+        let mut accuser: Row<16> = Row::zero();
+        accuser.masks[4] = 32769;
+        rows.set(0, accuser);
+        rows.set(1, accuser);
+        rows.set(2, Row::zero());
+        rows.set(3, Row::zero());
+        assert!(rt; charged(&rows, &members, 4) == 0);
+        rows.set(2, accuser);
+        assert!(rt; charged(&rows, &members, 4) == 32769);
+    }
+
+    #[test]
+    fn a_period_carries_over(rt: HostRuntime) {
+        let mut builder: RowBuilder<8> = RowBuilder::new();
+        builder.note(2, 0);
+        builder.note(2, 3);
+        builder.carry(1, 7);
+        assert!(rt; builder.row().masks[2] == 9 && builder.row().masks[1] == 0);
+        builder.next_period();
+        assert!(rt; builder.row() == accusing(1, 128));
+        builder.next_period();
+        assert!(rt; builder.row() == Row::zero());
+    }
+}

@@ -1,0 +1,3 @@
+pub mod Policy
+pub mod Step
+pub mod StepLaws

@@ -1,0 +1,54 @@
+//! Counts of penalties, and the policy that says how they rise and fall.
+//!
+//! A node that is charged with errors has a count that rises by their weights; periods without a charge let it fall
+//! again. Counts, exclusion and readmission follow Kieckhafer et al. (1988) in outline; weights, credit, streak and
+//! cap are this project's own. Nothing here takes memory or refuses anything.
+#![tactic(auto)]
+
+mod counts;
+
+pub use counts::Counts;
+
+/// How errors are weighed, and when a node leaves the members and joins them.
+#[derive(Clone, Copy, Debug, PartialEq, Eq)]
+pub struct Policy {
+    /// What an error of each kind adds to a count: 0 to 1000, and 0 for a kind that isn't in use.
+    pub weights: [u16; 16],
+    /// A member with a count of at least this leaves: 1 to `cap`.
+    pub exclude: u16,
+    /// A node with a count of at most this may join: below `exclude`.
+    pub readmit: u16,
+    /// What a full streak takes off a count: 0 to 60000.
+    pub credit: u16,
+    /// How many periods without a charge make a streak full: 1 to 60000.
+    pub streak: u16,
+    /// No count rises above this: 1 to 60000.
+    pub cap: u16,
+}
+
+#[cfg(test)]
+mod tests {
+    use super::{Counts, Policy};
+
+    #[test]
+    fn charged_and_spared(rt: HostRuntime) {
+        let mut weights = [0; 16];
+        weights[0] = 5;
+        weights[7] = 9;
+        let policy = Policy { weights, exclude: 10, readmit: 8, credit: 3, streak: 2, cap: 20 };
+        let mut counts: Counts<8> = Counts::zero();
+        let mut charged = [0; 8];
+        charged[1] = 129;
+        charged[2] = 1;
+        counts.step(&policy, 3, &charged);
+        assert!(rt; counts.counts[0] == 0 && counts.counts[1] == 14 && counts.counts[2] == 5);
+        assert!(rt; counts.streaks[0] == 1 && counts.streaks[1] == 0 && counts.streaks[3] == 0);
+        charged[2] = 0;
+        counts.step(&policy, 3, &charged);
+        assert!(rt; counts.counts[1] == 20 && counts.counts[2] == 5 && counts.streaks[2] == 1);
+        counts.step(&policy, 3, &charged);
+        assert!(rt; counts.counts[2] == 2 && counts.streaks[2] == 0);
+        let wide: Counts<16> = Counts::zero();
+        assert!(rt; wide.counts[15] == 0);
+    }
+}
