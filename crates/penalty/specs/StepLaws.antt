@@ -1,10 +1,11 @@
 -- What the lists of a step have at each node.
-use Rattle.std.proofs.Common.{◌≡◌, ◌≢◌, ℕ, ◌+◌, ◌<◌, ◌≤◌, Bool, true, false, List, length, set, get_or, refl, sym, ap, ◌∙◌, arith, inl, inr, get_or-set_same, get_or-set_other, length-set}
-use Rattle.std.specs.Prelude.{nat_lt}
+use Rattle.std.proofs.Common.{◌≡◌, ◌≢◌, ℕ, ◌+◌, ◌-◌, ◌<◌, ◌≤◌, Bool, true, false, cond, List, length, set, get_or, refl, sym, ap, ◌∙◌, arith, inl, inr, get_or-set_same, get_or-set_other, length-set}
+use Rattle.std.specs.Prelude.{◌==◌, nat_lt, min}
 use Rattle.std.proofs.lemmas.Bool.{cases_lt}
 use Rattle.std.proofs.lemmas.List.{ext_get_or, get_or_past}
 use Rattle.std.proofs.lemmas.List.FromFn.{length-map-range_with_len, get_or-map-range_with_len}
-use Rattle.penalty.specs.Step.{for_nodes}
+use Rattle.penalty.specs.declared.Policy.{Policy}
+use Rattle.penalty.specs.Step.{for_nodes, penalty, count_after, streak_after, counts_after, streaks_after, IsCounted}
 
 below : (k i : ℕ) → k < i → nat_lt k i ≡ true
 below k i h = grind arith
@@ -55,3 +56,36 @@ for_nodes-more i value xs within =
                 ∙ sym (get_or-set_same (for_nodes i value xs) i (value i) 0 room) ∙ ap (λ k. get_or (set (for_nodes i value xs) i (value i)) k 0) (sym same)
           ]
       ])
+
+-- ---- counts stay within the cap, and streaks below a full one
+
+least_capped : (a b : ℕ) → min a b ≤ a
+least_capped a b = omega arith
+
+pub count-capped : (policy : Policy) (mask count streak : ℕ) → count ≤ policy.cap → count_after policy mask count streak ≤ policy.cap
+count-capped policy mask count streak capped =
+    elim (mask == 0) as (λ b. cond b (cond (streak + 1 == policy.streak) (count - policy.credit) count) (min policy.cap (count + penalty policy.weights mask)) ≤ policy.cap) [
+      | true ↦ elim (streak + 1 == policy.streak) as (λ b. cond b (count - policy.credit) count ≤ policy.cap) [ true ↦ omega arith | false ↦ capped ]
+      | false ↦ least_capped policy.cap (count + penalty policy.weights mask)
+    ]
+
+pub streak-unfilled : (policy : Policy) (mask streak : ℕ) → streak < policy.streak → streak_after policy mask streak < policy.streak
+streak-unfilled policy mask streak unfilled =
+    elim (mask == 0) as (λ b. cond b (cond (streak + 1 == policy.streak) 0 (streak + 1)) 0 < policy.streak) [
+      | true ↦ elim (streak + 1 == policy.streak) as (λ b. (streak + 1 == policy.streak) ≡ b → cond b 0 (streak + 1) < policy.streak) [
+        | true ↦ λ e. omega arith
+        | false ↦ λ e. grind arith
+      ] refl
+      | false ↦ omega arith
+    ]
+
+pub counted-after : (policy : Policy) (nodes : ℕ) (charge : ℕ → ℕ) (counts streaks : List ℕ) → nodes ≤ length counts → nodes ≤ length streaks
+    → IsCounted policy nodes counts streaks → IsCounted policy nodes (counts_after policy nodes charge counts streaks) (streaks_after policy nodes charge streaks)
+counted-after policy nodes charge counts streaks counts_room streaks_room counted = record {
+  capped = λ j in_use.
+      let at = for_nodes-at nodes (λ k. count_after policy (charge k) (get_or counts k 0) (get_or streaks k 0)) counts j in_use (omega arith) in
+      omega (arith, at, count-capped policy (charge j) (get_or counts j 0) (get_or streaks j 0) (counted.capped j in_use));
+  unfilled = λ j in_use.
+      let at = for_nodes-at nodes (λ k. streak_after policy (charge k) (get_or streaks k 0)) streaks j in_use (omega arith) in
+      omega (arith, at, streak-unfilled policy (charge j) (get_or streaks j 0) (counted.unfilled j in_use));
+}
