@@ -1,2 +1,4 @@
 pub mod Charge
 pub mod Notes
+pub mod MaskLaws
+pub mod ChargeLaws

@@ -13,7 +13,7 @@ pub use row_builder::RowBuilder;
 
 #[cfg(test)]
 mod tests {
-    use super::{charged, RowBuilder};
+    use super::{RowBuilder, charged};
     use node_grid::{Matrix, NodeSet, Row};
 
     fn accusing(node: usize, mask: u16) -> Row<8> {

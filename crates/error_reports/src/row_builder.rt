@@ -32,7 +32,10 @@ impl<const N: usize> RowBuilder<N> {
         requires { IsCapacity N }
         ensures { result ≡ record { row = replicate N 0; carried = replicate N 0 } }
     {
-        RowBuilder { row: Row::zero(), carried: Row::zero() }
+        RowBuilder {
+            row: Row::zero(),
+            carried: Row::zero(),
+        }
     }
 
     /// Notes an error of this kind of `node`, in this period's row.

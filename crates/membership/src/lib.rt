@@ -4,7 +4,8 @@
 //! once is this project's own. Nothing here takes memory or refuses anything.
 #![tactic(auto)]
 
-ghost use Rattle.std.specs.Prelude.{◌≡◌, ℕ, ◌≤◌, slice_index};
+ghost use Rattle.std.specs.Prelude.{◌≡◌, ℕ, ◌≤◌, nat_le, slice_index};
+ghost use Rattle.std.specs.List.{list_all};
 ghost use Rattle.node_grid.specs.Capacity.{IsCapacity};
 ghost use Rattle.membership.specs.Members.{members_after};
 
@@ -15,12 +16,17 @@ use penalty::{Counts, Policy};
 ///
 /// A member with a count of at least `exclude` leaves, and another node with a count of at most `readmit` joins.
 /// Where all members would leave, none leaves.
-pub fn next<const N: usize>(members: &NodeSet<N>, nodes: u8, counts: &Counts<N>, policy: &Policy) -> NodeSet<N>
+pub fn next<const N: usize>(
+    members: &NodeSet<N>,
+    nodes: u8,
+    counts: &Counts<N>,
+    policy: &Policy,
+) -> NodeSet<N>
     requires capacity { IsCapacity N }
     requires nodes { nodes ≤ N }
     ensures { result ≡ members_after policy.now nodes members.now (λ j. slice_index counts.now.counts j) }
 {
-    let all_leave = members.iter().all(|q| counts.counts[q as usize] >= policy.exclude);
+    let all_leave = all_would_leave(members, counts, policy);
     let mut next = NodeSet::empty();
     for node in 0..nodes {
         let count = counts.counts[node as usize];
@@ -36,6 +42,23 @@ pub fn next<const N: usize>(members: &NodeSet<N>, nodes: u8, counts: &Counts<N>,
     next
 }
 
+/// Whether each member has a count of at least `exclude`.
+fn all_would_leave<const N: usize>(
+    members: &NodeSet<N>,
+    counts: &Counts<N>,
+    policy: &Policy,
+) -> bool
+    requires { IsCapacity N }
+    ensures { result ≡ list_all (λ j. nat_le policy.now.exclude (slice_index counts.now.counts j)) members.now }
+{
+    for member in members.iter() {
+        if counts.counts[member as usize] < policy.exclude {
+            return false;
+        }
+    }
+    true
+}
+
 #[cfg(test)]
 mod tests {
     use super::next;
@@ -44,7 +67,14 @@ mod tests {
 
     #[test]
     fn leave_and_join(rt: HostRuntime) {
-        let policy = Policy { weights: [0; 16], exclude: 10, readmit: 8, credit: 1, streak: 1, cap: 12 };
+        let policy = Policy {
+            weights: [0; 16],
+            exclude: 10,
+            readmit: 8,
+            credit: 1,
+            streak: 1,
+            cap: 12,
+        };
         let mut members: NodeSet<8> = NodeSet::full(4);
         let mut counts: Counts<8> = Counts::zero();
         counts.counts[3] = 10;
@@ -58,9 +88,19 @@ mod tests {
 
     #[test]
     fn not_all_leave(rt: HostRuntime) {
-        let policy = Policy { weights: [0; 16], exclude: 10, readmit: 8, credit: 1, streak: 1, cap: 12 };
+        let policy = Policy {
+            weights: [0; 16],
+            exclude: 10,
+            readmit: 8,
+            credit: 1,
+            streak: 1,
+            cap: 12,
+        };
         let members: NodeSet<16> = NodeSet::full(3);
-        let counts: Counts<16> = Counts { counts: [11; 16], streaks: [0; 16] };
+        let counts: Counts<16> = Counts {
+            counts: [11; 16],
+            streaks: [0; 16],
+        };
         assert!(rt; next(&members, 16, &counts, &policy) == members);
         let mut spared = counts;
         spared.counts[1] = 9;

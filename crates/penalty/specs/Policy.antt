@@ -1,5 +1,5 @@
 -- The policies that a cluster may run under.
-use Rattle.std.specs.Prelude.{ℕ, ◌<◌, ◌≤◌, All}
+use Rattle.std.specs.Prelude.{◌<◌, ◌≤◌, All}
 use Rattle.penalty.specs.declared.Policy.{Policy}
 
 pub record IsPolicy (policy : Policy) : Type 0 where

@@ -1,5 +1,5 @@
 -- What the lists of a step have at each node.
-use Rattle.std.proofs.Common.{◌≡◌, ◌≢◌, ℕ, ◌+◌, ◌-◌, ◌<◌, ◌≤◌, Bool, true, false, cond, List, length, set, get_or, refl, sym, ap, ◌∙◌, arith, inl, inr, get_or-set_same, get_or-set_other, length-set}
+use Rattle.std.proofs.Common.{◌≡◌, ◌≢◌, ℕ, ◌+◌, ◌-◌, ◌<◌, ◌≤◌, true, false, cond, List, length, set, get_or, refl, sym, ap, ◌∙◌, arith, inl, inr, get_or-set_same, get_or-set_other, length-set}
 use Rattle.std.specs.Prelude.{◌==◌, nat_lt, min}
 use Rattle.std.proofs.lemmas.Bool.{cases_lt}
 use Rattle.std.proofs.lemmas.List.{ext_get_or, get_or_past}
@@ -38,24 +38,24 @@ for_nodes-none value xs = ext_get_or 0 _ _ (length-for_nodes 0 value xs) (λ j h
 pub for_nodes-more : (i : ℕ) (value : ℕ → ℕ) (xs : List ℕ) → i < length xs → for_nodes (i + 1) value xs ≡ set (for_nodes i value xs) i (value i)
 for_nodes-more i value xs within =
     ext_get_or 0 _ _ (length-for_nodes (i + 1) value xs ∙ sym (length-set (for_nodes i value xs) i (value i) ∙ length-for_nodes i value xs)) (λ j h.
-      let inside : j < length xs = omega (arith, length-for_nodes (i + 1) value xs) in
-      let room : i < length (for_nodes i value xs) = omega (arith, length-for_nodes i value xs) in
-      elim (cases_lt j i) [
-        | inl before ↦
+    let inside : j < length xs = omega (arith, length-for_nodes (i + 1) value xs) in
+    let room : i < length (for_nodes i value xs) = omega (arith, length-for_nodes i value xs) in
+    elim (cases_lt j i) [
+      | inl before ↦
+          let other : j ≢ i = omega arith in
+          for_nodes-at (i + 1) value xs j (omega arith) inside ∙ sym (for_nodes-at i value xs j before inside)
+          ∙ sym (get_or-set_other (for_nodes i value xs) i j (value i) 0 other)
+      | inr not_before ↦ elim (cases_lt i j) [
+        | inl after ↦
             let other : j ≢ i = omega arith in
-            for_nodes-at (i + 1) value xs j (omega arith) inside ∙ sym (for_nodes-at i value xs j before inside)
+            for_nodes-past (i + 1) value xs j (omega arith) ∙ sym (for_nodes-past i value xs j (omega arith))
             ∙ sym (get_or-set_other (for_nodes i value xs) i j (value i) 0 other)
-        | inr not_before ↦ elim (cases_lt i j) [
-            | inl after ↦
-                let other : j ≢ i = omega arith in
-                for_nodes-past (i + 1) value xs j (omega arith) ∙ sym (for_nodes-past i value xs j (omega arith))
-                ∙ sym (get_or-set_other (for_nodes i value xs) i j (value i) 0 other)
-            | inr not_after ↦
-                let same : j ≡ i = omega arith in
-                for_nodes-at (i + 1) value xs j (omega arith) inside ∙ ap value same
-                ∙ sym (get_or-set_same (for_nodes i value xs) i (value i) 0 room) ∙ ap (λ k. get_or (set (for_nodes i value xs) i (value i)) k 0) (sym same)
-          ]
-      ])
+        | inr not_after ↦
+            let same : j ≡ i = omega arith in
+            for_nodes-at (i + 1) value xs j (omega arith) inside ∙ ap value same
+            ∙ sym (get_or-set_same (for_nodes i value xs) i (value i) 0 room) ∙ ap (λ k. get_or (set (for_nodes i value xs) i (value i)) k 0) (sym same)
+      ]
+    ])
 
 -- ---- counts stay within the cap, and streaks below a full one
 

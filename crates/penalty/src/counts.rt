@@ -22,7 +22,10 @@ impl<const N: usize> Counts<N> {
         ensures counts { result.counts ≡ replicate N 0 }
         ensures streaks { result.streaks ≡ replicate N 0 }
     {
-        Counts { counts: [0; N], streaks: [0; N] }
+        Counts {
+            counts: [0; N],
+            streaks: [0; N],
+        }
     }
 
     /// A period's step, in which each of the `nodes` nodes in use is charged with the kinds of its mask.

@@ -35,7 +35,14 @@ mod tests {
         let mut weights = [0; 16];
         weights[0] = 5;
         weights[7] = 9;
-        let policy = Policy { weights, exclude: 10, readmit: 8, credit: 3, streak: 2, cap: 20 };
+        let policy = Policy {
+            weights,
+            exclude: 10,
+            readmit: 8,
+            credit: 3,
+            streak: 2,
+            cap: 20,
+        };
         let mut counts: Counts<8> = Counts::zero();
         let mut charged = [0; 8];
         charged[1] = 129;

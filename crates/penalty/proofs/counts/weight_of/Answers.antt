@@ -1,4 +1,4 @@
-use Rattle.std.proofs.Common.{◌≡◌, ℕ, ◌+◌, ◌/◌, ◌^◌, true, false, cond, get_or, bit_and, sym, ap, ◌∙◌, arith, rules, eq-eqb, refl}
+use Rattle.std.proofs.Common.{◌≡◌, ℕ, true, false, cond, get_or, sym, ◌∙◌, arith, eq-eqb, refl}
 use Rattle.std.specs.Prelude.{◌==◌}
 use Rattle.std.specs.Int.{bit_at}
 use Rattle.std.proofs.lemmas.Nat.Bits.{shr_and_one}

@@ -1,5 +1,5 @@
-use Rattle.std.proofs.Common.{◌≡◌, ℕ, ◌<◌, ◌+◌, List, length, set, get_or, sym, ap, ◌∙◌, arith, rules, refl}
-use Rattle.penalty.specs.Step.{count_after, streak_after, counts_after, streaks_after, for_nodes}
+use Rattle.std.proofs.Common.{◌≡◌, ℕ, length, get_or, sym, ap, ◌∙◌, arith, rules, refl}
+use Rattle.penalty.specs.Step.{count_after, streak_after, counts_after, streaks_after}
 use Rattle.penalty.specs.StepLaws.{for_nodes-none, for_nodes-more, for_nodes-past, counted-after}
 use Rattle.penalty.proofs.counts.Counts.step.Goals as goal
 
@@ -10,14 +10,14 @@ pub next_count-requires-clause-streak : goal.next_count-requires-clause-streak
 next_count-requires-clause-streak g c =
     let i = c.loop-node.node in
     let same : get_or c.loop-node.self.streaks i 0 ≡ get_or c.args.self.now.streaks i 0 =
-      ap (λ xs. get_or xs i 0) c.loop-node.invariant.streaks ∙ for_nodes-past i _ c.args.self.now.streaks i (omega arith) in
+    ap (λ xs. get_or xs i 0) c.loop-node.invariant.streaks ∙ for_nodes-past i _ c.args.self.now.streaks i (omega arith) in
     omega (arith, same, c.requires.counted.unfilled i c.loop-node-test.true)
 
 pub next_streak-requires-clause-streak : goal.next_streak-requires-clause-streak
 next_streak-requires-clause-streak g c =
     let i = c.loop-node.node in
     let same : get_or c.loop-node.self.streaks i 0 ≡ get_or c.args.self.now.streaks i 0 =
-      ap (λ xs. get_or xs i 0) c.loop-node.invariant.streaks ∙ for_nodes-past i _ c.args.self.now.streaks i (omega arith) in
+    ap (λ xs. get_or xs i 0) c.loop-node.invariant.streaks ∙ for_nodes-past i _ c.args.self.now.streaks i (omega arith) in
     omega (arith, same, c.requires.counted.unfilled i c.loop-node-test.true)
 
 pub loop-node-preserved : goal.loop-node-preserved
@@ -32,7 +32,7 @@ loop-node-preserved g c =
     let count_at : get_or c.loop-node.self.counts i 0 ≡ get_or counts i 0 = ap (λ xs. get_or xs i 0) c.loop-node.invariant.counts ∙ for_nodes-past i _ counts i (omega arith) in
     let streak_at : get_or c.loop-node.self.streaks i 0 ≡ get_or streaks i 0 = ap (λ xs. get_or xs i 0) c.loop-node.invariant.streaks ∙ for_nodes-past i _ streaks i (omega arith) in
     let new_count : c.next_count.result ≡ count_after policy (charge i) (get_or counts i 0) (get_or streaks i 0) =
-      c.next_count.ensures ∙ rw (count_at, streak_at) refl in
+    c.next_count.ensures ∙ rw (count_at, streak_at) refl in
     let new_streak : c.next_streak.result ≡ streak_after policy (charge i) (get_or streaks i 0) = c.next_streak.ensures ∙ rw streak_at refl in
     record {
       counts = rw (c.loop-node.invariant.counts, new_count) (sym (for_nodes-more i _ counts (omega arith)));
