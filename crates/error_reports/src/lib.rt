@@ -16,9 +16,10 @@ mod tests {
     use super::{RowBuilder, charged};
     use node_grid::{Matrix, NodeSet, Row};
 
-    fn accusing(node: usize, mask: u16) -> Row<8> {
+    // The row that accuses node 3 alone.
+    fn accusing(mask: u16) -> Row<8> {
         let mut row = Row::zero();
-        row.masks[node] = mask;
+        row.masks[3] = mask;
         row
     }
 
@@ -26,10 +27,10 @@ mod tests {
     fn more_than_half_charges(rt: HostRuntime) {
         let members: NodeSet<8> = NodeSet::full(4);
         let mut rows: Matrix<8> = Matrix::empty();
-        rows.set(0, accusing(3, 5));
-        rows.set(1, accusing(3, 1));
-        rows.set(2, accusing(3, 0));
-        rows.set(3, accusing(3, 255));
+        rows.set(0, accusing(5));
+        rows.set(1, accusing(1));
+        rows.set(2, accusing(0));
+        rows.set(3, accusing(255));
         assert!(rt; charged(&rows, &members, 3) == 1);
         assert!(rt; charged(&rows, &members, 0) == 0);
     }
@@ -54,10 +55,10 @@ mod tests {
         let mut builder: RowBuilder<8> = RowBuilder::new();
         builder.note(2, 0);
         builder.note(2, 3);
-        builder.carry(1, 7);
-        assert!(rt; builder.row().masks[2] == 9 && builder.row().masks[1] == 0);
+        builder.carry(3, 7);
+        assert!(rt; builder.row().masks[2] == 9 && builder.row().masks[3] == 0);
         builder.next_period();
-        assert!(rt; builder.row() == accusing(1, 128));
+        assert!(rt; builder.row() == accusing(128));
         builder.next_period();
         assert!(rt; builder.row() == Row::zero());
     }
