@@ -25,6 +25,7 @@ given rule place (Some x) next = next x
 abbrev pub weights_of : List ℤ → Option (List ℕ)
 weights_of ws = if length ws == 8 then option_map (λ xs. xs ++ replicate 8 0) (all_of (within 0 1000) ws) else None
 
+-- the policy, if its numbers are in range
 abbrev pub policy_of : PolicyParts → Option Policy
 policy_of p =
     option_and_then (λ weights.
@@ -51,16 +52,23 @@ policy_of p =
 
 -- the first and the last of a line's periods, where there are two and they lie in order below the number of periods
 abbrev pub span_of : ℕ → List ℤ → Option (ℕ × ℕ)
-span_of periods (first ∷ last ∷ []) = option_and_then (λ l. option_map (λ f. (f, l)) (within 0 l first)) (within 0 (periods - 1) last)
+span_of periods (first ∷ last ∷ []) =
+    option_and_then (λ l. option_map (λ f. (f, l)) (within 0 l first)) (within 0 (periods - 1) last)
 span_of periods _ = None
 
+-- what a line silences whose periods are these, where its nodes and slots are in range
 abbrev pub silence_from : ℕ → ℕ → ℕ × ℕ → FaultParts → Option Silence
-silence_from nodes slots span p = option_and_then (λ node. if are_below nodes p.to && not (is_listed p.to node) && are_below slots p.slots then Some (record { node = node; first = span.0; last = span.1 }) else None) (within 0 (nodes - 1) p.from)
+silence_from nodes slots span p = option_and_then (λ node.
+    if are_below nodes p.to && not (is_listed p.to node) && are_below slots p.slots
+    then Some (record { node = node; first = span.0; last = span.1 })
+    else None)
+    (within 0 (nodes - 1) p.from)
 
 -- what a line silences, where rule 10 holds of it
 abbrev pub silence_of : ℕ → ℕ → ℕ → FaultParts → Option Silence
 silence_of nodes slots periods p = option_and_then (λ span. silence_from nodes slots span p) (span_of periods p.periods)
 
+-- what one line silences, and then what the rest do; where the line is out of range, its place
 abbrev pub and_more : Option Silence → ℕ → Result (List Silence) ℕ → Result (List Silence) ℕ
 and_more None place rest = Err place
 and_more (Some s) place (Ok more) = Ok (s ∷ more)
@@ -71,6 +79,7 @@ abbrev pub silences_from : (FaultParts → Option Silence) → ℕ → List Faul
 silences_from f k [] = Ok []
 silences_from f k (p ∷ ps) = and_more (f p) k (silences_from f (k + 1) ps)
 
+-- goes on with what the lines silence, and refuses with rule 10 and the place of the first that is out of range
 abbrev pub given_lines : Result (List Silence) ℕ → (List Silence → Verdict) → Verdict
 given_lines (Err place) next = Err (10, place)
 given_lines (Ok silences) next = next silences
@@ -79,12 +88,16 @@ given_lines (Ok silences) next = next silences
 
 -- whether the line silences its node to all others in all slots
 abbrev pub silences_all : ℕ → ℕ → FaultParts → Bool
-silences_all nodes slots p = list_all (λ k. int_eq p.from (pos k) || names p.to k) (ids_below nodes) && list_all (names p.slots) (ids_below slots) && p.drops
+silences_all nodes slots p =
+    list_all (λ k. int_eq p.from (pos k) || names p.to k) (ids_below nodes)
+    && list_all (names p.slots) (ids_below slots)
+    && p.drops
 
 -- whether there are no relays, channels, tasks and restarts
 abbrev pub uses_no_others : ℕ → ScenarioParts → Bool
 uses_no_others m p = (m == 0) && (p.channels == 0) && (p.tasks == 0) && (p.restarts == 0)
 
+-- whether the scenario uses nothing but what is built: each line silences a node whole
 abbrev pub is_built : ℕ → ℕ → ScenarioParts → Bool
 is_built nodes m p = uses_no_others m p && list_all (silences_all nodes (2 * m + 4)) p.faults
 

@@ -100,8 +100,10 @@ impl<const N: usize> Scenario<N> {
     /// - `NoMemory` may come at any time.
     pub fn read(alloc: Global, bytes: &[u8]) -> Result<Scenario<N>, ScenarioError>
         requires { IsCapacity N }
-        ensures accepted { IfOk result (λ scenario. (d : Data) × Reads bytes.now d × (verdict d ≡ Ok scenario)) }
-        ensures unreadable { IsErrOf result ScenarioError.Unreadable → (d : Data) → Reads bytes.now d → ⊥ }
+        ensures accepted { IfOk result (λ scenario.
+            (d : Data) × Reads bytes.now d × (verdict d ≡ Ok scenario)) }
+        ensures unreadable { IsErrOf result ScenarioError.Unreadable →
+            (d : Data) → Reads bytes.now d → ⊥ }
         ensures refused { (rule place : ℕ) → IsErrOf result (ScenarioError.Refused rule place) →
             (d : Data) × Reads bytes.now d × (verdict d ≡ Err (rule, place)) }
     {

@@ -102,11 +102,13 @@ fn silences(
 ) -> Result<Vec<Silence>, ScenarioError>
     requires nodes { 1 ≤ nodes }
     requires periods { 1 ≤ periods }
-    ensures found { IfOk result (λ found. silences_from (silence_of nodes slots periods) 0 (map fault_view faults.now) ≡ Ok found.items) }
+    ensures found { IfOk result (λ found.
+        silences_from (silence_of nodes slots periods) 0 (map fault_view faults.now) ≡ Ok found.items) }
     ensures silences { IfOk result (λ found. All (IsSilence nodes periods) found.items) }
     ensures readable { IsErrOf result ScenarioError.Unreadable → ⊥ }
     ensures refused { (rule place : ℕ) → IsErrOf result (ScenarioError.Refused rule place) →
-        (rule ≡ 10) × (silences_from (silence_of nodes slots periods) 0 (map fault_view faults.now) ≡ Err place) }
+        (rule ≡ 10)
+        × (silences_from (silence_of nodes slots periods) 0 (map fault_view faults.now) ≡ Err place) }
 {
     let mut found = Vec::new(alloc);
     for (place, part) in faults.iter().enumerate() {
@@ -125,7 +127,8 @@ fn silences(
 
 /// Whether the line is about all other nodes.
 fn reaches_all(part: &FaultPart, nodes: u8) -> bool
-    ensures { result ≡ list_all (λ k. int_eq part.now.from (pos k) || names (numbers_view part.now.to) k) (ids_below nodes) }
+    ensures { result ≡ list_all (λ k. int_eq part.now.from (pos k) || names (numbers_view part.now.to) k)
+        (ids_below nodes) }
 {
     (0..nodes).all(|node| part.from == i64::from(node) || part.to.names(node))
 }

@@ -9,3 +9,6 @@ mod parts;
 mod reading;
 
 pub use content::{Scenario, ScenarioError, Silence};
+
+#[cfg(test)]
+mod tests;

@@ -90,7 +90,8 @@ fn optional_length(value: &Value, key: &str) -> Option<usize>
 }
 
 fn required_numbers(alloc: Global, value: &Value, key: &str) -> Result<Option<Vec<i64>>, AllocError>
-    ensures { IfOk result (λ o. option_map (λ v. v.items) o ≡ required key.now (list_of whole) (view value.now)) }
+    ensures { IfOk result (λ o.
+        option_map (λ v. v.items) o ≡ required key.now (list_of whole) (view value.now)) }
 {
     match value.get(key) {
         None => Ok(None),
@@ -250,7 +251,8 @@ fn fault(alloc: Global, value: &Value) -> Result<Option<FaultPart>, AllocError>
 }
 
 fn faults(alloc: Global, value: &Value) -> Result<Option<Vec<FaultPart>>, AllocError>
-    ensures { IfOk result (λ o. option_map (λ v. map fault_view v.items) o ≡ list_of fault_at (view value.now)) }
+    ensures { IfOk result (λ o.
+        option_map (λ v. map fault_view v.items) o ≡ list_of fault_at (view value.now)) }
 {
     let Some(items) = value.as_array() else {
         return Ok(None);

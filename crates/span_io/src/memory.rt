@@ -83,7 +83,8 @@ impl Source for MemSource {
         // Which calls fail, and how much the others give.
         ensures fails { IsErr result ↔ Contains self.old.fails self.old.call }
         ensures faultless { OnOk result (self.new.faults ≡ self.old.faults) }
-        ensures amount { IfOk result (λ count. count ≡ min (length self.old.left) (min self.old.piece (length buf.old))) }
+        ensures amount { IfOk result (λ count.
+            count ≡ min (length self.old.left) (min self.old.piece (length buf.old))) }
         ensures call { self.new.call ≡ min (self.old.call + 1) (2 ^ 64 - 1) }
         ensures same_piece { self.new.piece ≡ self.old.piece }
         ensures same_fails { self.new.fails ≡ self.old.fails }
@@ -186,10 +187,12 @@ impl Sink for MemSink {
         ensures cause { HasCause self.old.faults self.new.faults result }
 
         // Which calls fail, and how much the others take.
-        ensures fails { IsErr result ↔ (Contains self.old.fails self.old.call ⊎ (self.old.room ≡ length self.old.written)) }
+        ensures fails { IsErr result ↔ (Contains self.old.fails self.old.call
+            ⊎ (self.old.room ≡ length self.old.written)) }
         ensures faultless { OnOk result (self.new.faults ≡ self.old.faults) }
         ensures amount { IfOk result (λ count.
-            count ≡ min (self.old.room - length self.old.written) (min self.old.piece (length bytes.now))) }
+            count ≡ min (self.old.room - length self.old.written)
+            (min self.old.piece (length bytes.now))) }
         ensures call { self.new.call ≡ min (self.old.call + 1) (2 ^ 64 - 1) }
         ensures same_room { self.new.room ≡ self.old.room }
         ensures same_piece { self.new.piece ≡ self.old.piece }

@@ -46,8 +46,10 @@ pub fn read_all<S: Source>(
     ensures later { S.faults source.old ≤ S.faults source.new }
 
     // Where the source tells what is left, it was too long; and every source gave more than the limit.
-    ensures too_long { IsErrOf result ReadError.TooLong → Takes (limit + 1) (S.left source.old) (S.left source.new) }
-    ensures too_long_given { IsErrOf result ReadError.TooLong → GivenPast limit (S.given source.old) (S.given source.new) }
+    ensures too_long { IsErrOf result ReadError.TooLong →
+        Takes (limit + 1) (S.left source.old) (S.left source.new) }
+    ensures too_long_given { IsErrOf result ReadError.TooLong →
+        GivenPast limit (S.given source.old) (S.given source.new) }
     ensures taken { TakesSome (S.left source.old) (S.left source.new) }
 {
     let mut bytes = Vec::new(alloc);

@@ -10,7 +10,8 @@ use itoa::Buffer;
 /// # Errors
 /// `Failed` comes only where the sink's count of faults rose. A prefix of the bytes was written then.
 pub fn write_all<K: Sink>(sink: &mut K, bytes: &[u8]) -> Result<(), Failed>
-    ensures { Writes (K.written sink.old) (K.written sink.new) (K.faults sink.old) (K.faults sink.new) bytes.now result }
+    ensures { Writes (K.written sink.old) (K.written sink.new) (K.faults sink.old) (K.faults sink.new)
+        bytes.now result }
 {
     let mut at = 0;
     while at < bytes.len() {
