@@ -24,7 +24,13 @@ const STATE: u16 = 16;
 const NO_CLAIM: u8 = 255;
 
 /// The mask that node `i` finds for node `j`.
-fn find_mask<const N: usize>(agreed: &[Agreed<N>], now: &NodeSet<N>, before: &NodeSet<N>, i: u8, j: u8) -> u16
+fn find_mask<const N: usize>(
+    agreed: &[Agreed<N>],
+    now: &NodeSet<N>,
+    before: &NodeSet<N>,
+    i: u8,
+    j: u8,
+) -> u16
     requires capacity { IsCapacity N }
     requires node { i < length agreed.now }
     ensures { result ≡ found_mask agreed.now now.now before.now i j }
@@ -32,13 +38,26 @@ fn find_mask<const N: usize>(agreed: &[Agreed<N>], now: &NodeSet<N>, before: &No
     if j == i || j as usize >= agreed.len() {
         return 0;
     }
-    let missing = if now.has(j) || before.has(j) { MISSING } else { 0 };
-    let other = if now.has(j) || agreed[i as usize] == agreed[j as usize] { 0 } else { STATE };
+    let missing = if now.has(j) || before.has(j) {
+        MISSING
+    } else {
+        0
+    };
+    let other = if now.has(j) || agreed[i as usize] == agreed[j as usize] {
+        0
+    } else {
+        STATE
+    };
     missing + other
 }
 
 /// The row that node `i` makes.
-pub fn find_row<const N: usize>(agreed: &[Agreed<N>], now: &NodeSet<N>, before: &NodeSet<N>, i: u8) -> Row<N>
+pub fn find_row<const N: usize>(
+    agreed: &[Agreed<N>],
+    now: &NodeSet<N>,
+    before: &NodeSet<N>,
+    i: u8,
+) -> Row<N>
     requires capacity { IsCapacity N }
     requires node { i < length agreed.now }
     ensures { result ≡ found_row agreed.now now.now before.now i }
@@ -92,7 +111,12 @@ fn row_of<const N: usize>(rows: &[Row<N>], q: u8) -> Row<N>
 }
 
 /// The rows that node `i` settles, of all nodes' rows.
-fn settle_rows<const N: usize>(rows: &[Row<N>], members: &NodeSet<N>, now: &NodeSet<N>, i: u8) -> Matrix<N>
+fn settle_rows<const N: usize>(
+    rows: &[Row<N>],
+    members: &NodeSet<N>,
+    now: &NodeSet<N>,
+    i: u8,
+) -> Matrix<N>
     requires capacity { IsCapacity N }
     ensures { result ≡ settled_rows N rows.now members.now now.now i }
 {
@@ -118,7 +142,12 @@ fn charges<const N: usize>(rows: &Matrix<N>, members: &NodeSet<N>) -> [u16; N]
 }
 
 /// The agreed state of `nodes` nodes after a period with these settled rows.
-fn agree<const N: usize>(policy: &Policy, nodes: u8, rows: &Matrix<N>, agreed: &Agreed<N>) -> Agreed<N>
+fn agree<const N: usize>(
+    policy: &Policy,
+    nodes: u8,
+    rows: &Matrix<N>,
+    agreed: &Agreed<N>,
+) -> Agreed<N>
     requires capacity { IsCapacity N }
     requires nodes { nodes ≤ N }
     requires policy { IsPolicy policy.now }
@@ -135,7 +164,13 @@ fn agree<const N: usize>(policy: &Policy, nodes: u8, rows: &Matrix<N>, agreed: &
 }
 
 /// What node `i` believes in a period, by all nodes' agreed states before it and their rows in it.
-fn believe<const N: usize>(policy: &Policy, agreed: &[Agreed<N>], rows: &[Row<N>], now: &NodeSet<N>, i: u8) -> NodeRecord<N>
+fn believe<const N: usize>(
+    policy: &Policy,
+    agreed: &[Agreed<N>],
+    rows: &[Row<N>],
+    now: &NodeSet<N>,
+    i: u8,
+) -> NodeRecord<N>
     requires capacity { IsCapacity N }
     requires nodes { length agreed.now ≤ N }
     requires node { i < length agreed.now }
@@ -156,7 +191,12 @@ fn believe<const N: usize>(policy: &Policy, agreed: &[Agreed<N>], rows: &[Row<N>
 }
 
 /// Makes the rows of all nodes.
-pub fn find_rows<const N: usize>(agreed: &[Agreed<N>], now: &NodeSet<N>, before: &NodeSet<N>, rows: &mut [Row<N>])
+pub fn find_rows<const N: usize>(
+    agreed: &[Agreed<N>],
+    now: &NodeSet<N>,
+    before: &NodeSet<N>,
+    rows: &mut [Row<N>],
+)
     requires capacity { IsCapacity N }
     requires nodes { length agreed.now ≤ N }
     requires room { length rows.old ≡ length agreed.now }
@@ -168,7 +208,13 @@ pub fn find_rows<const N: usize>(agreed: &[Agreed<N>], now: &NodeSet<N>, before:
 }
 
 /// Makes the records of all nodes.
-pub fn believe_all<const N: usize>(policy: &Policy, agreed: &[Agreed<N>], rows: &[Row<N>], now: &NodeSet<N>, records: &mut [NodeRecord<N>])
+pub fn believe_all<const N: usize>(
+    policy: &Policy,
+    agreed: &[Agreed<N>],
+    rows: &[Row<N>],
+    now: &NodeSet<N>,
+    records: &mut [NodeRecord<N>],
+)
     requires capacity { IsCapacity N }
     requires nodes { length agreed.now ≤ N }
     requires room { length records.old ≡ length agreed.now }

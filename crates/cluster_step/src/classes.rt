@@ -54,7 +54,12 @@ fn class_of<const N: usize>(nonfaulty: &NodeSet<N>, silent: &NodeSet<N>, node: u
 }
 
 /// The class of a node in use, and `N` for the others.
-fn class_or_first_of<const N: usize>(nodes: u8, nonfaulty: &NodeSet<N>, silent: &NodeSet<N>, node: u8) -> Class
+fn class_or_first_of<const N: usize>(
+    nodes: u8,
+    nonfaulty: &NodeSet<N>,
+    silent: &NodeSet<N>,
+    node: u8,
+) -> Class
     ensures { result ≡ class_or_first nodes nonfaulty.now silent.now node }
 {
     if node < nodes {
@@ -78,7 +83,11 @@ pub fn classes<const N: usize>(nodes: u8, nonfaulty: &NodeSet<N>, silent: &NodeS
 
 impl Budget {
     /// Counts the members by class.
-    pub fn of<const N: usize>(members: &NodeSet<N>, nonfaulty: &NodeSet<N>, silent: &NodeSet<N>) -> Budget
+    pub fn of<const N: usize>(
+        members: &NodeSet<N>,
+        nonfaulty: &NodeSet<N>,
+        silent: &NodeSet<N>,
+    ) -> Budget
         requires { IsCapacity N }
         ensures { result ≡ budget_of members.now (class_by nonfaulty.now silent.now) }
     {
@@ -113,7 +122,10 @@ impl Budget {
     pub fn holds(&self, m: u8) -> bool
         ensures { result ≡ is_within m self.now }
     {
-        let weight = 2 * u32::from(self.a) + 2 * u32::from(self.s) + u32::from(self.b) + u32::from(m);
+        let weight = 2 * u32::from(self.a)
+            + 2 * u32::from(self.s)
+            + u32::from(self.b)
+            + u32::from(m);
         self.a <= m && weight < u32::from(self.n)
     }
 }

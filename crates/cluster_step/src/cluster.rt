@@ -115,8 +115,19 @@ impl<'s, const N: usize> Cluster<'s, N> {
         let scenario = self.scenario;
         let silent = silent_nodes(scenario, self.run);
         let nonfaulty = still_sound(scenario.nodes(), &self.sound, &silent);
-        find_rows(self.agreed.as_slice(), &silent, &self.silent_before, self.rows.as_mut_slice());
-        believe_all(scenario.policy(), self.agreed.as_slice(), self.rows.as_slice(), &silent, self.record.records.as_mut_slice());
+        find_rows(
+            self.agreed.as_slice(),
+            &silent,
+            &self.silent_before,
+            self.rows.as_mut_slice(),
+        );
+        believe_all(
+            scenario.policy(),
+            self.agreed.as_slice(),
+            self.rows.as_slice(),
+            &silent,
+            self.record.records.as_mut_slice(),
+        );
         let reference = nonfaulty.least();
         let members = members_of(self.agreed.as_slice(), reference);
         let budget = Budget::of(&members, &nonfaulty, &silent);

@@ -1,5 +1,4 @@
 ghost use Rattle.node_grid.specs.Capacity.{IsCapacity};
-ghost use Rattle.std.specs.Prelude.{◌≡◌, ◌<◌, length, slice_get, Some};
 
 use crate::Agreed;
 use node_grid::{Class, Matrix, NodeSet, Row};
@@ -73,14 +72,4 @@ pub struct PeriodRecord<const N: usize> {
     pub classes: [Class; N],
     /// What each node believes, node 0 first.
     pub records: Vec<NodeRecord<N>>,
-}
-
-impl<const N: usize> PeriodRecord<N> {
-    /// What node `i` believes.
-    pub fn node(&self, i: u8) -> &NodeRecord<N>
-        requires { i < length self.now.records.items }
-        ensures { slice_get self.now.records.items i ≡ Some result.now }
-    {
-        &self.records[i as usize]
-    }
 }

@@ -36,7 +36,11 @@ fn write_next<K: Sink>(cluster: &mut Cluster<'_, 8>, sink: &mut K) -> Result<(),
 }
 
 /// Runs all periods of a cluster that is just opened, and writes their texts and the end.
-fn write_run<K: Sink>(cluster: &mut Cluster<'_, 8>, periods: u32, sink: &mut K) -> Result<(), WriteFault>
+fn write_run<K: Sink>(
+    cluster: &mut Cluster<'_, 8>,
+    periods: u32,
+    sink: &mut K,
+) -> Result<(), WriteFault>
     requires fresh { cluster.old.run ≡ 0 }
     requires periods { periods ≡ cluster.old.scenario.periods }
     ensures { Writes (K.written sink.old) (K.written sink.new) (K.faults sink.old) (K.faults sink.new) (run_text cluster.old.scenario) result }
@@ -80,7 +84,12 @@ fn answer<K: Sink>(alloc: Global, bytes: &[u8], sink: &mut K) -> Status
 /// The one form of words is `replay`: a scenario is read, its periods are run, and what every node believes is
 /// written. What each status says is told at `Status`; the first cause in the order Usage, ReadFault, TooLong,
 /// Unreadable, Refused, WriteFault decides. Want of memory is the one free answer, and nothing was written then.
-pub fn maft<S: Source, K: Sink>(alloc: Global, words: &[String], source: &mut S, sink: &mut K) -> Status
+pub fn maft<S: Source, K: Sink>(
+    alloc: Global,
+    words: &[String],
+    source: &mut S,
+    sink: &mut K,
+) -> Status
     ensures usage { (result ≡ Status.Usage) ↔ (¬ IsReplay (texts words.now)) }
     ensures usage_untouched { result ≡ Status.Usage → IsUntouched (S.left source.old) (S.left source.new)
         (S.given source.old) (S.given source.new) (K.written sink.old) (K.written sink.new) }

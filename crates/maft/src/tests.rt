@@ -5,16 +5,20 @@ use std::str;
 use std::test::Fail;
 
 /// A scenario without faults: three nodes, one period.
-const SMALLEST: &str = r#"{"nodes":3,"m":0,"periods":1,"policy":{"weights":[5,5,5,5,5,5,5,5],"exclude":20,"readmit":4,"credit":1,"streak":2,"cap":100}}"#;
+const SMALLEST: &str =
+    r#"{"nodes":3,"m":0,"periods":1,"policy":{"weights":[5,5,5,5,5,5,5,5],"exclude":20,"readmit":4,"credit":1,"streak":2,"cap":100}}"#;
 
 /// Node 2 of four is silent in period 1.
-const SILENT: &str = r#"{"nodes":4,"m":0,"periods":4,"policy":{"weights":[5,5,5,5,5,5,5,5],"exclude":20,"readmit":4,"credit":1,"streak":2,"cap":100},"faults":[{"from":2,"to":"all","periods":[1,1],"slots":"all","effect":"drop"}]}"#;
+const SILENT: &str =
+    r#"{"nodes":4,"m":0,"periods":4,"policy":{"weights":[5,5,5,5,5,5,5,5],"exclude":20,"readmit":4,"credit":1,"streak":2,"cap":100},"faults":[{"from":2,"to":"all","periods":[1,1],"slots":"all","effect":"drop"}]}"#;
 
 /// Node 3 of four is silent in periods 1 and 6, and the count at which it leaves is low.
-const LEAVES: &str = r#"{"nodes":4,"m":0,"periods":8,"policy":{"weights":[5,5,5,5,5,5,5,5],"exclude":10,"readmit":8,"credit":1,"streak":1,"cap":12},"faults":[{"from":3,"to":"all","periods":[1,1],"slots":"all","effect":"drop"},{"from":3,"to":"all","periods":[6,6],"slots":"all","effect":"drop"}]}"#;
+const LEAVES: &str =
+    r#"{"nodes":4,"m":0,"periods":8,"policy":{"weights":[5,5,5,5,5,5,5,5],"exclude":10,"readmit":8,"credit":1,"streak":1,"cap":12},"faults":[{"from":3,"to":"all","periods":[1,1],"slots":"all","effect":"drop"},{"from":3,"to":"all","periods":[6,6],"slots":"all","effect":"drop"}]}"#;
 
 /// All of three nodes are silent.
-const ALL_SILENT: &str = r#"{"nodes":3,"m":0,"periods":1,"policy":{"weights":[5,5,5,5,5,5,5,5],"exclude":20,"readmit":4,"credit":1,"streak":2,"cap":100},"faults":[{"from":0,"to":"all","periods":[0,0],"slots":"all","effect":"drop"},{"from":1,"to":"all","periods":[0,0],"slots":"all","effect":"drop"},{"from":2,"to":"all","periods":[0,0],"slots":"all","effect":"drop"}]}"#;
+const ALL_SILENT: &str =
+    r#"{"nodes":3,"m":0,"periods":1,"policy":{"weights":[5,5,5,5,5,5,5,5],"exclude":20,"readmit":4,"credit":1,"streak":2,"cap":100},"faults":[{"from":0,"to":"all","periods":[0,0],"slots":"all","effect":"drop"},{"from":1,"to":"all","periods":[0,0],"slots":"all","effect":"drop"},{"from":2,"to":"all","periods":[0,0],"slots":"all","effect":"drop"}]}"#;
 
 fn words(alloc: Global, list: &[&str]) -> Result<Vec<String>, Fail> {
     let mut words = Vec::new(alloc);
@@ -36,18 +40,54 @@ fn replayed(alloc: Global, input: &[u8]) -> Result<(Status, Vec<u8>), Fail> {
 #[test]
 fn texts_have_the_worked_lines(rt: HostRuntime) -> Result<(), Fail> {
     let cases = [
-        (SILENT, "period 1 members 0,1,2,3 n 4 a 0 s 0 b 1 budget yes claim yes\nnode 0 N full members 0,1,2,3 counts 0,0,5,0 streaks 0,0,0,0 run -,-,-,-\n  done 0=- 1=- 2=E 3=-\n  rows 0=0,0,1,0 1=0,0,1,0 2=E 3=0,0,1,0\n  votes -\n"),
-        (SILENT, "node 2 B full members 0,1,2,3 counts 0,0,5,0 streaks 0,0,0,0 run -,-,-,-\n  done 0=- 1=- 2=- 3=-\n  rows 0=0,0,1,0 1=0,0,1,0 2=0,0,0,0 3=0,0,1,0\n"),
-        (SILENT, "period 2 members 0,1,2,3 n 4 a 0 s 1 b 0 budget yes claim yes\nnode 0 N full members 0,1,2,3 counts 0,0,10,0 streaks 1,1,0,1 run -,-,-,-\n  done 0=- 1=- 2=- 3=-\n  rows 0=0,0,1,0 1=0,0,1,0 2=0,0,0,0 3=0,0,1,0\n"),
-        (SILENT, "node 2 S full members 0,1,2,3 counts 0,0,10,0 streaks 0,0,1,0 run -,-,-,-\n"),
-        (LEAVES, "period 1 members 0,1,2,3 n 4 a 0 s 0 b 1 budget yes claim yes\nnode 0 N full members 0,1,2,3 counts 0,0,0,5 "),
-        (LEAVES, "period 2 members 0,1,2,3 n 4 a 0 s 1 b 0 budget yes claim yes\nnode 0 N full members 0,1,2 counts 0,0,0,10 "),
-        (LEAVES, "period 3 members 0,1,2 n 3 a 0 s 0 b 0 budget yes claim yes\nnode 0 N full members 0,1,2 counts 0,0,0,9 "),
-        (LEAVES, "period 4 members 0,1,2 n 3 a 0 s 0 b 0 budget yes claim yes\nnode 0 N full members 0,1,2,3 counts 0,0,0,8 "),
-        (LEAVES, "period 5 members 0,1,2,3 n 4 a 0 s 1 b 0 budget yes claim yes\nnode 0 N full members 0,1,2,3 counts 0,0,0,7 "),
-        (LEAVES, "period 6 members 0,1,2,3 n 4 a 0 s 0 b 1 budget yes claim yes\nnode 0 N full members 0,1,2 counts 0,0,0,12 "),
-        (LEAVES, "period 7 members 0,1,2 n 3 a 0 s 0 b 0 budget yes claim yes\nnode 0 N full members 0,1,2 counts 0,0,0,12 "),
-        (ALL_SILENT, "period 0 members - n 0 a 0 s 0 b 0 budget no claim no\nnode 0 B full members 0,1,2 counts 0,5,5 streaks 1,0,0 run -,-,-\n  done 0=- 1=E 2=E\n  rows 0=0,1,1 1=E 2=E\n"),
+        (
+            SILENT,
+            "period 1 members 0,1,2,3 n 4 a 0 s 0 b 1 budget yes claim yes\nnode 0 N full members 0,1,2,3 counts 0,0,5,0 streaks 0,0,0,0 run -,-,-,-\n  done 0=- 1=- 2=E 3=-\n  rows 0=0,0,1,0 1=0,0,1,0 2=E 3=0,0,1,0\n  votes -\n",
+        ),
+        (
+            SILENT,
+            "node 2 B full members 0,1,2,3 counts 0,0,5,0 streaks 0,0,0,0 run -,-,-,-\n  done 0=- 1=- 2=- 3=-\n  rows 0=0,0,1,0 1=0,0,1,0 2=0,0,0,0 3=0,0,1,0\n",
+        ),
+        (
+            SILENT,
+            "period 2 members 0,1,2,3 n 4 a 0 s 1 b 0 budget yes claim yes\nnode 0 N full members 0,1,2,3 counts 0,0,10,0 streaks 1,1,0,1 run -,-,-,-\n  done 0=- 1=- 2=- 3=-\n  rows 0=0,0,1,0 1=0,0,1,0 2=0,0,0,0 3=0,0,1,0\n",
+        ),
+        (
+            SILENT,
+            "node 2 S full members 0,1,2,3 counts 0,0,10,0 streaks 0,0,1,0 run -,-,-,-\n",
+        ),
+        (
+            LEAVES,
+            "period 1 members 0,1,2,3 n 4 a 0 s 0 b 1 budget yes claim yes\nnode 0 N full members 0,1,2,3 counts 0,0,0,5 ",
+        ),
+        (
+            LEAVES,
+            "period 2 members 0,1,2,3 n 4 a 0 s 1 b 0 budget yes claim yes\nnode 0 N full members 0,1,2 counts 0,0,0,10 ",
+        ),
+        (
+            LEAVES,
+            "period 3 members 0,1,2 n 3 a 0 s 0 b 0 budget yes claim yes\nnode 0 N full members 0,1,2 counts 0,0,0,9 ",
+        ),
+        (
+            LEAVES,
+            "period 4 members 0,1,2 n 3 a 0 s 0 b 0 budget yes claim yes\nnode 0 N full members 0,1,2,3 counts 0,0,0,8 ",
+        ),
+        (
+            LEAVES,
+            "period 5 members 0,1,2,3 n 4 a 0 s 1 b 0 budget yes claim yes\nnode 0 N full members 0,1,2,3 counts 0,0,0,7 ",
+        ),
+        (
+            LEAVES,
+            "period 6 members 0,1,2,3 n 4 a 0 s 0 b 1 budget yes claim yes\nnode 0 N full members 0,1,2 counts 0,0,0,12 ",
+        ),
+        (
+            LEAVES,
+            "period 7 members 0,1,2 n 3 a 0 s 0 b 0 budget yes claim yes\nnode 0 N full members 0,1,2 counts 0,0,0,12 ",
+        ),
+        (
+            ALL_SILENT,
+            "period 0 members - n 0 a 0 s 0 b 0 budget no claim no\nnode 0 B full members 0,1,2 counts 0,5,5 streaks 1,0,0 run -,-,-\n  done 0=- 1=E 2=E\n  rows 0=0,1,1 1=E 2=E\n",
+        ),
         (ALL_SILENT, "counts 5,0,5 streaks 0,1,0"),
     ];
     for (input, lines) in cases {
@@ -70,7 +110,11 @@ fn each_refusal_has_its_line(rt: HostRuntime) -> Result<(), Fail> {
         ("\"m\":0", "\"m\":0,\"frame\":0", "refused 4 1\n"),
         ("\"m\":0", "\"m\":0,\"order\":3", "refused 4 2\n"),
         ("\"exclude\":20", "\"exclude\":101", "refused 5 0\n"),
-        ("\"m\":0", "\"m\":0,\"faults\":[{\"from\":3,\"to\":\"all\",\"periods\":[0,0],\"slots\":\"all\",\"effect\":\"drop\"}]", "refused 10 0\n"),
+        (
+            "\"m\":0",
+            "\"m\":0,\"faults\":[{\"from\":3,\"to\":\"all\",\"periods\":[0,0],\"slots\":\"all\",\"effect\":\"drop\"}]",
+            "refused 10 0\n",
+        ),
         ("\"m\":0", "\"m\":1", "refused 14 0\n"),
         ("\"m\":0", "\"m\":0,\"tasks\":[0]", "refused 14 0\n"),
     ];
@@ -114,13 +158,29 @@ fn faults_of_the_outside(rt: HostRuntime) -> Result<(), Fail> {
     let alloc = rt.alloc();
     let (_, whole) = replayed(alloc, SMALLEST.as_bytes())?;
     let words = words(alloc, &["replay"])?;
-    let mut broken = MemSource::new(Vec::from_slice(alloc, SMALLEST.as_bytes())?, 1000, Vec::from_slice(alloc, &[0])?);
+    let mut broken = MemSource::new(
+        Vec::from_slice(alloc, SMALLEST.as_bytes())?,
+        1000,
+        Vec::from_slice(alloc, &[0])?,
+    );
     let mut sink = MemSink::new(alloc, 1000, 100, Vec::new(alloc)).map_err(|_| "memory")?;
-    assert_eq!(rt; maft(alloc, words.as_slice(), &mut broken, &mut sink), Status::ReadFault);
+    assert_eq!(rt;
+        maft(alloc, words.as_slice(), &mut broken, &mut sink),
+        Status::ReadFault
+    );
     assert!(rt; sink.written().is_empty());
-    let mut source = MemSource::new(Vec::from_slice(alloc, SMALLEST.as_bytes())?, 1000, Vec::new(alloc));
-    let mut failing = MemSink::new(alloc, 1000, 100, Vec::from_slice(alloc, &[2])?).map_err(|_| "memory")?;
-    assert_eq!(rt; maft(alloc, words.as_slice(), &mut source, &mut failing), Status::WriteFault);
+    let mut source = MemSource::new(
+        Vec::from_slice(alloc, SMALLEST.as_bytes())?,
+        1000,
+        Vec::new(alloc),
+    );
+    let mut failing = MemSink::new(alloc, 1000, 100, Vec::from_slice(alloc, &[2])?).map_err(
+        |_| "memory",
+    )?;
+    assert_eq!(rt;
+        maft(alloc, words.as_slice(), &mut source, &mut failing),
+        Status::WriteFault
+    );
     assert!(rt; failing.written().len() < whole.len());
     assert!(rt; whole.as_slice().starts_with(failing.written()));
     Ok(())
@@ -129,12 +189,26 @@ fn faults_of_the_outside(rt: HostRuntime) -> Result<(), Fail> {
 #[test]
 fn other_words_are_no_form(rt: HostRuntime) -> Result<(), Fail> {
     let alloc = rt.alloc();
-    let cases: [&[&str]; 6] = [&[], &["storm"], &["storm", "01"], &["storm", "18446744073709551616"], &["replay", "x"], &["--help"]];
+    let cases: [&[&str]; 6] = [
+        &[],
+        &["storm"],
+        &["storm", "01"],
+        &["storm", "18446744073709551616"],
+        &["replay", "x"],
+        &["--help"],
+    ];
     for list in cases {
         let words = words(alloc, list)?;
-        let mut source = MemSource::new(Vec::from_slice(alloc, b"x")?, 1, Vec::from_slice(alloc, &[0])?);
+        let mut source = MemSource::new(
+            Vec::from_slice(alloc, b"x")?,
+            1,
+            Vec::from_slice(alloc, &[0])?,
+        );
         let mut sink = MemSink::new(alloc, 10, 10, Vec::new(alloc)).map_err(|_| "memory")?;
-        assert_eq!(rt; maft(alloc, words.as_slice(), &mut source, &mut sink), Status::Usage);
+        assert_eq!(rt;
+            maft(alloc, words.as_slice(), &mut source, &mut sink),
+            Status::Usage
+        );
         assert!(rt; sink.written().is_empty());
     }
     Ok(())
@@ -142,7 +216,15 @@ fn other_words_are_no_form(rt: HostRuntime) -> Result<(), Fail> {
 
 #[test]
 fn numbers_of_the_statuses(rt: HostRuntime) {
-    assert!(rt; Status::Done.number() == 0 && Status::Usage.number() == 2 && Status::Unreadable.number() == 3);
-    assert!(rt; Status::Refused.number() == 4 && Status::ReadFault.number() == 5 && Status::WriteFault.number() == 6);
+    assert!(rt;
+        Status::Done.number() == 0
+            && Status::Usage.number() == 2
+            && Status::Unreadable.number() == 3
+    );
+    assert!(rt;
+        Status::Refused.number() == 4
+            && Status::ReadFault.number() == 5
+            && Status::WriteFault.number() == 6
+    );
     assert!(rt; Status::NoMemory.number() == 7 && Status::TooLong.number() == 8);
 }

@@ -19,7 +19,7 @@ joined-push separator (y ∷ ys) x =
 pub then : {a b c : Printer} {v w x : Option (List ℕ)} {k l m : ℕ} {s t : List ℕ} → Prints a v k b w l s → Prints b w l c x m t → Prints a v k c x m (s ++ t)
 then {a} {b} {c} {v} {w} {x} {k} {l} {m} {s} {t} first second = record {
   goes_on = λ old before done h.
-  subst (λ text. Printed old before text c x m) (append_assoc done s t) (second.goes_on old before (done ++ s) (first.goes_on old before done h));
+      subst (λ text. Printed old before text c x m) (append_assoc done s t) (second.goes_on old before (done ++ s) (first.goes_on old before done h));
 }
 
 -- nothing is printed where nothing happens

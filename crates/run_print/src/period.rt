@@ -43,7 +43,14 @@ impl Printer {
     }
 
     /// Prints a node's first line.
-    fn state<K: Sink, const N: usize>(&mut self, sink: &mut K, nodes: u8, i: u8, class: Class, shown: &NodeRecord<N>)
+    fn state<K: Sink, const N: usize>(
+        &mut self,
+        sink: &mut K,
+        nodes: u8,
+        i: u8,
+        class: Class,
+        shown: &NodeRecord<N>,
+    )
         requires { nodes ≤ N }
         ensures { Prints self.old (K.written sink.old) (K.faults sink.old) self.new (K.written sink.new) (K.faults sink.new) (state_text nodes i class shown.now) }
     {
@@ -64,7 +71,14 @@ impl Printer {
     }
 
     /// Prints all lines of a node.
-    fn node<K: Sink, const N: usize>(&mut self, sink: &mut K, nodes: u8, i: u8, class: Class, shown: &NodeRecord<N>)
+    fn node<K: Sink, const N: usize>(
+        &mut self,
+        sink: &mut K,
+        nodes: u8,
+        i: u8,
+        class: Class,
+        shown: &NodeRecord<N>,
+    )
         requires capacity { IsCapacity N }
         requires nodes { nodes ≤ N }
         ensures { Prints self.old (K.written sink.old) (K.faults sink.old) self.new (K.written sink.new) (K.faults sink.new) (node_text nodes i class shown.now) }
@@ -85,28 +99,25 @@ impl Printer {
         ensures { Prints self.old (K.written sink.old) (K.faults sink.old) self.new (K.written sink.new) (K.faults sink.new) (nodes_text shown.now.nodes shown.now.classes 0 shown.now.records.items) }
     {
         for i in 0..shown.records.len() {
-            self.node(sink, shown.nodes, i as u8, shown.classes[i], &shown.records[i]);
+            self.node(
+                sink,
+                shown.nodes,
+                i as u8,
+                shown.classes[i],
+                &shown.records[i],
+            );
         }
     }
-}
-
-/// Writes the period line.
-///
-/// # Errors
-/// `WriteFault` comes only where the sink's count of faults rose. A prefix of the line was written then.
-pub fn write_head<const N: usize, K: Sink>(shown: &PeriodRecord<N>, sink: &mut K) -> Result<(), WriteFault>
-    ensures { Writes (K.written sink.old) (K.written sink.new) (K.faults sink.old) (K.faults sink.new) (head_text (period_of shown.now)) result }
-{
-    let mut printer = Printer::new();
-    printer.head(sink, shown);
-    printer.finish(sink)
 }
 
 /// Writes all lines of a period, the period line first.
 ///
 /// # Errors
 /// `WriteFault` comes only where the sink's count of faults rose. A prefix of the lines was written then.
-pub fn write_period<const N: usize, K: Sink>(shown: &PeriodRecord<N>, sink: &mut K) -> Result<(), WriteFault>
+pub fn write_period<const N: usize, K: Sink>(
+    shown: &PeriodRecord<N>,
+    sink: &mut K,
+) -> Result<(), WriteFault>
     requires capacity { IsCapacity N }
     requires nodes { shown.now.nodes ≤ N }
     requires records { length shown.now.records.items ≤ N }

@@ -53,7 +53,11 @@ impl Printer {
     {
         let mut printer = self;
         printer.flush(sink);
-        if printer.failed { Err(WriteFault) } else { Ok(()) }
+        if printer.failed {
+            Err(WriteFault)
+        } else {
+            Ok(())
+        }
     }
 
     /// Writes what is gathered.

@@ -102,7 +102,12 @@ impl Printer {
     }
 
     /// Prints a member with its settled claim.
-    fn done_item<K: Sink, const N: usize>(&mut self, sink: &mut K, done: &[Wrapped<u8>; N], member: u8)
+    fn done_item<K: Sink, const N: usize>(
+        &mut self,
+        sink: &mut K,
+        done: &[Wrapped<u8>; N],
+        member: u8,
+    )
         ensures { Prints self.old (K.written sink.old) (K.faults sink.old) self.new (K.written sink.new) (K.faults sink.new) (done_item done.now member) }
     {
         self.number(sink, member as u64);
@@ -111,7 +116,12 @@ impl Printer {
     }
 
     /// Prints the members with their settled claims.
-    pub fn done<K: Sink, const N: usize>(&mut self, sink: &mut K, done: &[Wrapped<u8>; N], members: &NodeSet<N>)
+    pub fn done<K: Sink, const N: usize>(
+        &mut self,
+        sink: &mut K,
+        done: &[Wrapped<u8>; N],
+        members: &NodeSet<N>,
+    )
         ensures { Prints self.old (K.written sink.old) (K.faults sink.old) self.new (K.written sink.new) (K.faults sink.new) (joined (codes " ") (map (done_item done.now) members.now)) }
     {
         let mut printed: usize = 0;
@@ -123,7 +133,13 @@ impl Printer {
     }
 
     /// Prints a member with its settled row.
-    fn rows_item<K: Sink, const N: usize>(&mut self, sink: &mut K, nodes: u8, rows: &Matrix<N>, member: u8)
+    fn rows_item<K: Sink, const N: usize>(
+        &mut self,
+        sink: &mut K,
+        nodes: u8,
+        rows: &Matrix<N>,
+        member: u8,
+    )
         requires capacity { IsCapacity N }
         requires nodes { nodes ≤ N }
         ensures { Prints self.old (K.written sink.old) (K.faults sink.old) self.new (K.written sink.new) (K.faults sink.new) (rows_item nodes rows.now member) }
@@ -137,7 +153,13 @@ impl Printer {
     }
 
     /// Prints the members with their settled rows.
-    pub fn rows<K: Sink, const N: usize>(&mut self, sink: &mut K, nodes: u8, rows: &Matrix<N>, members: &NodeSet<N>)
+    pub fn rows<K: Sink, const N: usize>(
+        &mut self,
+        sink: &mut K,
+        nodes: u8,
+        rows: &Matrix<N>,
+        members: &NodeSet<N>,
+    )
         requires capacity { IsCapacity N }
         requires nodes { nodes ≤ N }
         ensures { Prints self.old (K.written sink.old) (K.faults sink.old) self.new (K.written sink.new) (K.faults sink.new) (joined (codes " ") (map (rows_item nodes rows.now) members.now)) }

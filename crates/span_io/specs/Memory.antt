@@ -19,8 +19,3 @@ pub record SinkState : Type 0 where
   pub fails : List ℕ
   pub call : ℕ
   pub faults : ℕ
-
--- A page: the bytes on it, and how often it was full.
-pub record PageState : Type 0 where
-  pub text : List ℕ
-  pub faults : ℕ

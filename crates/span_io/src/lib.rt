@@ -12,16 +12,14 @@ ghost use Rattle.span_io.specs.Causes.{HasCause, CountsGiven, IsWithin};
 
 mod devices;
 mod memory;
-mod page;
 mod reading;
 mod writing;
 
 pub use devices::{StdSink, StdSource};
 pub use memory::{MemSink, MemSource};
-pub use page::Page;
 pub use reading::{ReadError, read_all};
 use thiserror::Error;
-pub use writing::{write_all, write_number};
+pub use writing::write_all;
 
 /// A read or a write failed.
 #[derive(Clone, Copy, Debug, PartialEq, Eq, Error)]

@@ -1,6 +1,5 @@
 use crate::{
-    Failed, MemSink, MemSource, Page, ReadError, Sink, Source, StdSink, StdSource, read_all,
-    write_all, write_number,
+    Failed, MemSink, MemSource, ReadError, Sink, Source, StdSink, StdSource, read_all, write_all,
 };
 use std::alloc::{AllocError, Global};
 
@@ -49,23 +48,10 @@ fn a_sink_takes_pieces_up_to_its_room(rt: HostRuntime) {
     let fails = numbers(rt.alloc(), &[3]).expect(&rt, "memory");
     let mut sink = MemSink::new(rt.alloc(), 8, 3, fails).expect(&rt, "memory");
     assert!(rt; write_all(&mut sink, b"end ").is_ok());
-    assert!(rt; write_number(&mut sink, 1024).is_err());
+    assert!(rt; write_all(&mut sink, b"1024").is_err());
     assert!(rt; sink.written() == b"end 102".as_slice());
     assert!(rt; write_all(&mut sink, b"4\n") == Err(Failed));
     assert!(rt; sink.written() == b"end 1024".as_slice());
-}
-
-#[test]
-fn a_page_gathers_pieces(rt: HostRuntime) {
-    let mut page: Page<8> = Page::new();
-    assert!(rt; write_all(&mut page, b"end ").is_ok());
-    assert!(rt; write_number(&mut page, 18446744073709551615) == Err(Failed));
-    assert!(rt; page.as_slice() == b"end 1844".as_slice());
-    page.clear();
-    assert!(rt; write_number(&mut page, 0).is_ok());
-    let mut sink = MemSink::new(rt.alloc(), 8, 8, Vec::new(rt.alloc())).expect(&rt, "memory");
-    assert!(rt; page.write_to(&mut sink).is_ok());
-    assert!(rt; sink.written() == b"0".as_slice());
 }
 
 #[test]

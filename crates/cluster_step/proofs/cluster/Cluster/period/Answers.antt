@@ -8,10 +8,12 @@ pub returns : goal.returns
 returns g c =
     let left = c.self.view_is ∙ c.advance.ensures in
     let one_more : c.self.inside.run ≡ c.args.self.now.run + 1 = ap (λ (s : ClusterState). s.run) left in
-    let same : c.self.inside.scenario.now ≡ c.args.self.now.scenario = ap (λ (s : ClusterState). s.scenario) left in
-    ((refl, (λ x. tt), left), record {
-      after = tt;
-      shown = c.self.invariant.shown c.args.self.now.run one_more ∙ ap (λ s. run_period g.row.N s c.args.self.now.run) same;
-      nodes = rw c.self.invariant.nodes (roomy c.requires.capacity c.self.invariant.content.nodes);
-      records = c.self.invariant.all_records ∙ sym c.self.invariant.nodes;
-    })
+    let same : c.self.inside.scenario.now ≡ c.args.self.now.scenario = ap (λ (s : ClusterState). s.scenario) left in (
+      (refl, (λ x. tt), left),
+      record {
+        after = tt;
+        shown = c.self.invariant.shown c.args.self.now.run one_more ∙ ap (λ s. run_period g.row.N s c.args.self.now.run) same;
+        nodes = rw c.self.invariant.nodes (roomy c.requires.capacity c.self.invariant.content.nodes);
+        records = c.self.invariant.all_records ∙ sym c.self.invariant.nodes;
+      },
+    )

@@ -8,6 +8,7 @@ pub loop-i-preserved : goal.loop-i-preserved
 loop-i-preserved g c =
     let r = c.index.result.now in
     let shown = c.args.shown.now in
-    let within : c.loop-i.i < length shown.records.items = omega (arith, c.loop-i-test.true, c.loop-i.invariant.0) in
-    (c.loop-i.invariant.0,
-    rw (nodes_text-more shown.nodes shown.classes shown.records.items c.loop-i.i r within (sym c.index.ensures)) (then c.loop-i.invariant.1 c.node.ensures))
+    let within : c.loop-i.i < length shown.records.items = omega (arith, c.loop-i-test.true, c.loop-i.invariant.0) in (
+      c.loop-i.invariant.0,
+      rw (nodes_text-more shown.nodes shown.classes shown.records.items c.loop-i.i r within (sym c.index.ensures)) (then c.loop-i.invariant.1 c.node.ensures),
+    )
