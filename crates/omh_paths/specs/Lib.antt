@@ -1,1 +1,9 @@
 pub mod Wrapped
+pub mod Majority
+pub mod Paths
+pub mod MajorityLaws
+pub mod PathLaws
+pub mod PathLists
+pub mod Layout
+pub mod MemberLaws
+pub use Rattle.node_grid.specs.Count

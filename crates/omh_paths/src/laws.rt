@@ -1,0 +1,21 @@
+//! The laws of majorities and of paths, over their definitions alone.
+
+ghost use Rattle.omh_paths.specs.Wrapped.{IsExact};
+ghost use Rattle.omh_paths.specs.Majority.{MajorityLaw};
+ghost use Rattle.omh_paths.specs.Paths.{PathsLaw, RanksLaw};
+
+/// What the majority is: the value at more than half of the places that hold no error, or `Fault(1)`.
+pub fn majorities<V: Copy + Eq>()
+    requires { IsExact V.eq }
+    ensures { MajorityLaw V.eq }
+{}
+
+/// The list of all paths of so many members of a set has each of them once and nothing else, in lexicographic order.
+pub fn paths()
+    ensures { PathsLaw }
+{}
+
+/// The place of a path in that list and the path at a place undo each other.
+pub fn ranks()
+    ensures { RanksLaw }
+{}

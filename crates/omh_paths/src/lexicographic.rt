@@ -1,0 +1,89 @@
+ghost use Rattle.std.specs.Prelude.{◌≡◌, ℕ, ◌<◌, ◌≤◌, length, slice_index, true};
+ghost use Rattle.node_grid.specs.Capacity.{IsCapacity};
+ghost use Rattle.node_grid.specs.NodeSet.{has_id, ids_below};
+ghost use Rattle.omh_paths.specs.Paths.{paths_of_length, path_count, place_in, path_at, index_in};
+
+use crate::path::{MAX_NODES, Path};
+use node_grid::NodeSet;
+
+/// The number of paths of `len` nodes out of `k`: k (k - 1) .. (k - len + 1), and 0 where `len` is more than `k`.
+pub fn count_paths(k: u8, len: u8) -> usize
+    requires nodes { k ≤ 16 }
+    requires short { len ≤ 4 }
+    ensures product { result ≡ path_count k len }
+    ensures number { result ≡ length (paths_of_length (ids_below k) len) }
+{
+    let mut count = 1usize;
+    for used in 0..len {
+        count *= k.saturating_sub(used) as usize;
+    }
+    count
+}
+
+/// The place of a node among the members, in ascending order.
+fn place_among<const N: usize>(set: &NodeSet<N>, node: u8) -> usize
+    requires { IsCapacity N }
+    ensures { result ≡ index_in set.now node }
+{
+    let mut place = 0;
+    for id in set.iter() {
+        if id == node {
+            return place;
+        }
+        place += 1;
+    }
+    place
+}
+
+/// The member at a place, in ascending order.
+fn member_at<const N: usize>(set: &NodeSet<N>, place: usize) -> u8
+    requires capacity { IsCapacity N }
+    requires within { place < length set.now }
+    ensures { result ≡ slice_index set.now place }
+{
+    set.iter().nth(place).unwrap()
+}
+
+/// The place of the path among all paths of its length over the set, in lexicographic order.
+pub fn rank<const N: usize>(set: &NodeSet<N>, path: &Path) -> usize
+    requires capacity { IsCapacity N }
+    requires within { (q : ℕ) → has_id path.now q ≡ true → has_id set.now q ≡ true }
+    ensures place { result ≡ place_in (paths_of_length set.now (length path.now)) path.now }
+    ensures in_range { result < path_count (length set.now) (length path.now) }
+{
+    let mut left = *set;
+    let mut choices = set.len();
+    let mut place = 0;
+    for k in 0..path.len() {
+        let node = path.at(k);
+        place = place * choices as usize + place_among(&left, node);
+        left.cut(node);
+        choices -= 1;
+    }
+    place
+}
+
+/// The path of `len` nodes over the set that stands at a place in lexicographic order: the inverse of [`rank`].
+pub fn unrank<const N: usize>(set: &NodeSet<N>, len: u8, index: usize) -> Path
+    requires capacity { IsCapacity N }
+    requires some { 0 < len }
+    requires few { len ≤ 4 }
+    requires in_range { index < path_count (length set.now) len }
+    ensures path { result ≡ path_at (paths_of_length set.now len) index }
+    ensures long { length result ≡ len }
+    ensures within { (q : ℕ) → has_id result q ≡ true → has_id set.now q ≡ true }
+{
+    let mut left = *set;
+    let mut choices = set.len();
+    let mut rest = index;
+    let mut nodes = [0; MAX_NODES];
+    for k in 0..len {
+        choices -= 1;
+        let behind = count_paths(choices, len - k - 1);
+        let node = member_at(&left, rest / behind);
+        rest %= behind;
+        left.cut(node);
+        nodes[k as usize] = node;
+    }
+    Path::from_nodes(nodes, len)
+}
