@@ -1,0 +1,4 @@
+pub mod Members
+pub mod Leaving
+pub mod Completing
+pub mod Picking

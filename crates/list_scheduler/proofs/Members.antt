@@ -1,0 +1,70 @@
+-- Loops over the members of a set: what was yielded, and that the next member is a new one.
+use Rattle.std.proofs.Common.{cond, ◌≡◌, ℕ, zero, suc, ◌+◌, ◌<◌, ◌≤◌, Bool, true, false, ◌||◌, List, [], ◌∷◌, ◌++◌, refl, sym, ap, ◌∙◌, arith, eq-eqb, ne_eqb, append_assoc}
+use Rattle.std.specs.Prelude.{◌==◌}
+use Rattle.std.specs.List.{filter, range_with_len}
+use Rattle.node_grid.specs.NodeSet.{has_id, IsIdSet}
+
+-- the next member of a set, where these were yielded
+pub record IsNext (n : ℕ) (yielded : List ℕ) (node : ℕ) : Type 0 where
+  pub fresh : has_id yielded node ≡ false
+  pub within : node < n
+
+-- the same of the numbers from a on that pass a test
+abbrev IsNextFrom : ℕ → ℕ → List ℕ → ℕ → Type 0
+IsNextFrom a end ys x = (has_id ys x ≡ false) × (a ≤ x) × (x < end)
+
+next_by_test : (a n : ℕ) (rest : List ℕ) (x : ℕ) (zs : List ℕ) → ((us : List ℕ) → rest ≡ us ++ x ∷ zs → IsNextFrom (a + 1) (a + suc n) us x)
+    → (b : Bool) (ys : List ℕ) → cond b (a ∷ rest) rest ≡ ys ++ x ∷ zs → IsNextFrom a (a + suc n) ys x
+next_by_test a n rest x zs later false ys e = let r = later ys e in let l = r.1 in (r.0, omega arith, r.2)
+next_by_test a n rest x zs later true [] e = let d : a ≡ x = cc in (refl, omega arith, omega arith)
+next_by_test a n rest x zs later true (u ∷ us) e =
+    let d : a ≡ u = cc in
+    let t : rest ≡ us ++ x ∷ zs = cc in
+    let r = later us t in
+    let l = r.1 in
+    let ne : (u == x) ≡ false = ne_eqb u x (λ same. absurd (omega arith)) in
+    (rw ne r.0, omega arith, r.2)
+
+next_of_range : (p : ℕ → Bool) (a n : ℕ) (ys : List ℕ) (x : ℕ) (zs : List ℕ) → filter p (range_with_len a n) ≡ ys ++ x ∷ zs → IsNextFrom a (a + n) ys x
+next_of_range p a zero [] x zs h = cc
+next_of_range p a zero (y ∷ ys) x zs h = cc
+next_of_range p a (suc n) ys x zs h = next_by_test a n (filter p (range_with_len (a + 1) n)) x zs
+    (λ us e. let r = next_of_range p (a + 1) n us x zs e in let u = r.2 in (r.0, r.1, omega arith))
+    (p a) ys h
+
+pub next_member : (n : ℕ) (members ys : List ℕ) (x : ℕ) (zs : List ℕ) → IsIdSet n members → members ≡ ys ++ x ∷ zs → IsNext n ys x
+next_member n members ys x zs set split =
+    let r = next_of_range (λ k. has_id members k) 0 n ys x zs (sym set ∙ split) in
+    let u = r.2 in
+    record { fresh = r.0; within = omega arith }
+
+-- what the list with one more has
+pub has_one_more : (ys : List ℕ) (x q : ℕ) → has_id (ys ++ x ∷ []) q ≡ (has_id ys q || (x == q))
+has_one_more [] x q = or_false (x == q)
+  where
+    or_false : (b : Bool) → (b || false) ≡ b
+    or_false true = refl
+    or_false false = refl
+has_one_more (y ∷ ys) x q = ap (λ b. (y == q) || b) (has_one_more ys x q) ∙ regroup (y == q) (has_id ys q) (x == q)
+  where
+    regroup : (a b c : Bool) → (a || (b || c)) ≡ ((a || b) || c)
+    regroup true b c = refl
+    regroup false b c = refl
+
+pub has_this : (ys : List ℕ) (x : ℕ) → has_id (ys ++ x ∷ []) x ≡ true
+has_this ys x = has_one_more ys x x ∙ rw (eq-eqb x x refl) (or_true (has_id ys x))
+  where
+    or_true : (b : Bool) → (b || true) ≡ true
+    or_true true = refl
+    or_true false = refl
+
+pub has_other : (ys : List ℕ) (x q : ℕ) → (x == q) ≡ false → has_id (ys ++ x ∷ []) q ≡ has_id ys q
+has_other ys x q ne = has_one_more ys x q ∙ rw ne (or_false (has_id ys q))
+  where
+    or_false : (b : Bool) → (b || false) ≡ b
+    or_false true = refl
+    or_false false = refl
+
+-- the split of a set after one more step
+pub one_more : (members ys : List ℕ) (x : ℕ) (zs : List ℕ) → members ≡ ys ++ x ∷ zs → members ≡ (ys ++ x ∷ []) ++ zs
+one_more members ys x zs split = split ∙ sym (append_assoc ys (x ∷ []) zs)

@@ -1,0 +1,35 @@
+use Rattle.std.proofs.Common.{◌≡◌, ◌<◌, ◌≤◌, ◌+◌, sym, ap, ◌∙◌, arith}
+use Rattle.node_grid.specs.NodeSet.{ids_below}
+use Rattle.node_grid.specs.Count.{bit, count}
+use Rattle.list_scheduler.specs.Copies.{copy_at, is_passed}
+use Rattle.list_scheduler.proofs.Completing.{capacity_few}
+use Rattle.list_scheduler.proofs.Picking.{count_more, count_few}
+use Rattle.list_scheduler.proofs.copies.Copies.finished.Goals as goal
+use Rattle.list_scheduler.proofs.copies.Copies.finished.Goals.{then-is_passed, else-is_passed}
+
+pub overflow_add-passed : goal.overflow_add-passed
+overflow_add-passed g c =
+    let few = count_few (λ q. is_passed (copy_at c.args.self.now c.args.t q)) c.loop-node.node in
+    let so_far : c.loop-node.passed ≡ count (λ q. is_passed (copy_at c.args.self.now c.args.t q)) (ids_below c.loop-node.node) = c.loop-node.invariant in
+    let nodes : c.args.graph.now.nodes ≤ g.row.N = c.nodes-node-end.ensures.graph.few_nodes in
+    let capacity = capacity_few g.row.N c.requires.capacity in
+    let end : c.nodes-node-end.result ≡ c.args.graph.now.nodes = c.nodes-node-end.ensures.count in
+    let below : c.loop-node.node < c.nodes-node-end.result = c.loop-node-test.true in
+    let fits : c.loop-node.passed + 1 < 256 = omega arith in
+    search (arith, fits)
+
+pub loop-node-preserved : goal.loop-node-preserved
+loop-node-preserved g c =
+    let more = count_more (λ q. is_passed (copy_at c.args.self.now c.args.t q)) c.loop-node.node in
+    let so_far : c.loop-node.passed ≡ count (λ q. is_passed (copy_at c.args.self.now c.args.t q)) (ids_below c.loop-node.node) = c.loop-node.invariant in
+    let told : c.is_passed.result ≡ is_passed (copy_at c.args.self.now c.args.t c.loop-node.node) = c.is_passed.ensures ∙ ap is_passed c.at.ensures.copy in
+    elim c.if-is_passed.branch [
+      | then-is_passed w ↦
+          let b : bit (is_passed (copy_at c.args.self.now c.args.t c.loop-node.node)) ≡ 1 = ap bit (sym told ∙ w.if-is_passed.true) in
+          let p : c.if-is_passed.passed ≡ c.loop-node.passed + 1 = w.passed-is in
+          omega arith
+      | else-is_passed w ↦
+          let b : bit (is_passed (copy_at c.args.self.now c.args.t c.loop-node.node)) ≡ 0 = ap bit (sym told ∙ w.if-is_passed.false) in
+          let p : c.if-is_passed.passed ≡ c.loop-node.passed = w.passed-is in
+          omega arith
+    ]

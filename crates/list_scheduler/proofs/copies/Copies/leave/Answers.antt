@@ -1,0 +1,12 @@
+use Rattle.std.proofs.Common.{sym, ◌∙◌}
+use Rattle.list_scheduler.proofs.Leaving.{left_running, left_other}
+use Rattle.list_scheduler.proofs.copies.Copies.leave.Goals as goal
+use Rattle.list_scheduler.proofs.copies.Copies.leave.Goals.{in-Running, in_default}
+
+pub loop-t-preserved : goal.loop-t-preserved
+loop-t-preserved g c = elim c.match-at.branch [
+  | in-Running w ↦ w.self-is ∙ left_running g.row.N c.loop-t.t c.args.node w.in-Running.field-0 c.args.self.now c.loop-t.self w.set.new.self c.loop-t-test.true c.requires.node c.loop-t.invariant
+      (sym c.at.ensures.copy ∙ w.in-Running.is) w.set.ensures
+  | in_default w ↦ w.self-is ∙ left_other g.row.N c.loop-t.t c.args.node c.args.self.now c.loop-t.self c.loop-t-test.true c.requires.node c.loop-t.invariant
+      (λ e runs. w.in_default.not-Running e (c.at.ensures.copy ∙ runs))
+]

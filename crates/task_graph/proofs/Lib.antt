@@ -1,0 +1,4 @@
+pub mod Ascending
+pub mod Ranges
+pub mod Closure
+pub mod Refusals

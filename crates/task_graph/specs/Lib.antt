@@ -1,0 +1,4 @@
+pub mod Graph
+pub mod Refusal
+pub mod Reach
+pub mod GraphLaws
