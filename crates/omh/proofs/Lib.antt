@@ -1,0 +1,4 @@
+pub mod Flats
+pub mod Folding
+pub mod Tables
+pub mod Puts

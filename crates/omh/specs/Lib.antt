@@ -1,0 +1,14 @@
+pub mod Omh
+pub mod Laws
+pub mod Heard
+pub mod Flat
+pub mod HeardLaws
+pub mod Counting
+pub mod Settling
+pub mod Items
+pub mod Worlds
+pub use Rattle.node_grid.specs.Class
+pub use Rattle.node_grid.specs.Count
+pub use Rattle.omh_paths.specs.Wrapped
+pub use Rattle.omh_paths.specs.Majority
+pub use Rattle.omh_paths.specs.Paths
