@@ -1,0 +1,9 @@
+pub mod Finding
+pub mod Watching
+pub mod Inside
+pub mod Multiset
+pub use Rattle.node_grid.specs.Capacity
+pub use Rattle.frames.specs.Content
+pub use Rattle.frames.specs.Spelling
+pub use Rattle.frames.specs.Reading
+pub use Rattle.frames.specs.Seen

@@ -1,0 +1,137 @@
+-- What the tests on bodies say of them, and how a frame is made of its header and its body.
+use Rattle.std.proofs.Common.{◌≡◌, ℕ, ◌+◌, ◌*◌, ◌/◌, ◌%◌, ◌^◌, ◌<◌, ◌≤◌, Bool, true, false, ◌&&◌, List, ◌++◌, length, take, drop, map, sym, refl, ap, ◌∙◌, arith, subst, get_or, lit<, eq-eqb, inl}
+use Rattle.std.specs.Prelude.{◌==◌, Option, Some, None, IfSome, IfNone, option_map}
+use Rattle.std.specs.Bool.{Decides}
+use Rattle.std.proofs.Math.Nat.{add-mul-div_left, div-eq_of_lt, mul-mod_right}
+use Rattle.std.specs.List.{list_all, All, flat_map}
+use Rattle.std.proofs.lemmas.List.{length-map, take-append-drop, length-drop, length-take}
+use Rattle.std.proofs.lemmas.Bool.Decides.{Decides-eqb}
+use Rattle.frames.specs.declared.kind.Kind.{Kind}
+use Rattle.frames.specs.Seen.{number_of}
+use Rattle.frames.specs.Content.{Expectation, Content, DoneRelay, Data, Report0, ReportRelay, kind, kind_in, round_in, entries_due, IsClaim, IsRow, IsValue, IsEntry}
+use Rattle.frames.specs.Spelling.{claim_spelling, relayed_row_spelling, value_spelling, body_spelling, header_spelling, spelling, head_of, IsFrame}
+use Rattle.frames.specs.Reading.{cut, claim_in, claims_in, row_in, relayed_row_in, rows_in, value_in, values_in, said_in, reading}
+use Rattle.frames.specs.Checks.{is_claim_entry, is_row_entry, is_value, are_masks, has_claims, has_values, has_row, has_rows, IsSaid, IsBody}
+use Rattle.frames.specs.PieceLaws.{AreBytes, length-cut, length_spelt, test_spelt, restored, IsFormat, IsTest}
+use Rattle.frames.specs.EntryLaws.{claim_format, claim_test, value_format, value_test, row_valid, row_restored, row_long, row_passes, relayed_row_format, relayed_row_test}
+use Rattle.frames.specs.ReadingLaws.{said_spelt, spelt_once, header_told, reads_exactly, none_if}
+
+both : (x y : Bool) → x ≡ true → y ≡ true → (x && y) ≡ true
+both x y h k = rw (h, k) refl
+
+pub and_left : (x y : Bool) → (x && y) ≡ true → x ≡ true
+and_left true y h = refl
+and_left false y h = h
+
+pub and_right : (x y : Bool) → (x && y) ≡ true → y ≡ true
+and_right true y h = h
+and_right false y h = absurd (cc)
+
+times_over : (width n : ℕ) → 0 < width → (width * n) / width ≡ n
+times_over width n h =
+    let z : 0 / width ≡ 0 = div-eq_of_lt h in
+    ap (λ x. x / width) (omega arith) ∙ add-mul-div_left 0 n h ∙ omega arith
+
+-- a body of n entries of one format
+entries_said : {V : Type 0} (width : ℕ) (spell : V → List ℕ) (read : List ℕ → V) (P : V → Type 0) (test : List ℕ → Bool) → 0 < width → IsTest width spell read P test
+    → (n : ℕ) (bytes : List ℕ) → AreBytes bytes → ((length bytes == width * n) && list_all test (cut width bytes)) ≡ true
+    → (length (map read (cut width bytes)) ≡ n) × All P (map read (cut width bytes)) × (bytes ≡ flat_map spell (map read (cut width bytes)))
+entries_said width spell read P test wide t n bytes b h =
+    let l : length bytes ≡ width * n = (Decides-eqb (length bytes) (width * n)).0 (and_left (length bytes == width * n) (list_all test (cut width bytes)) h) in
+    let r = restored width spell read P test wide t n bytes l b (and_right (length bytes == width * n) (list_all test (cut width bytes)) h) in
+    (length-map (cut width bytes) read ∙ length-cut width bytes ∙ ap (λ x. x / width) l ∙ times_over width n wide, r.1, sym r.0)
+
+entries_test : {V : Type 0} (width : ℕ) (spell : V → List ℕ) (read : List ℕ → V) (P : V → Type 0) (test : List ℕ → Bool) → IsFormat width spell read P → IsTest width spell read P test
+    → (n : ℕ) (bytes : List ℕ) (xs : List V) → length xs ≡ n → All P xs → bytes ≡ flat_map spell xs → ((length bytes == width * n) && list_all test (cut width bytes)) ≡ true
+entries_test width spell read P test f t n bytes xs l a s =
+    let long : length bytes ≡ width * n = ap length s ∙ length_spelt width spell read P f xs a ∙ ap (λ x. width * x) l in
+    both (length bytes == width * n) (list_all test (cut width bytes)) (eq-eqb (length bytes) (width * n) long)
+    (ap (λ bs. list_all test (cut width bs)) s ∙ test_spelt width spell read P test f t xs a)
+
+pub claims_decided : (e : Expectation) (bytes : List ℕ) → AreBytes bytes → Decides (has_claims e bytes) (IsSaid e (DoneRelay (claims_in bytes)) bytes)
+claims_decided e bytes b = (
+  λ h. let x = entries_said 2 claim_spelling claim_in (IsEntry (IsClaim e.tasks) (round_in e.m e.slot)) (is_claim_entry e.tasks (round_in e.m e.slot)) (lit< tt) (claim_test e.tasks (round_in e.m e.slot)) (entries_due e) bytes b h in
+      record { sized = (x.0, x.1); spelt = x.2 },
+  λ (h : IsSaid e (DoneRelay (claims_in bytes)) bytes). entries_test 2 claim_spelling claim_in (IsEntry (IsClaim e.tasks) (round_in e.m e.slot)) (is_claim_entry e.tasks (round_in e.m e.slot)) (claim_format e.tasks (round_in e.m e.slot)) (claim_test e.tasks (round_in e.m e.slot)) (entries_due e) bytes (claims_in bytes) h.sized.0 h.sized.1 h.spelt,
+)
+
+pub values_decided : (e : Expectation) (bytes : List ℕ) → AreBytes bytes → Decides (has_values e bytes) (IsSaid e (Data (values_in bytes)) bytes)
+values_decided e bytes b = (
+  λ h. let x = entries_said 8 value_spelling value_in IsValue is_value (lit< tt) value_test e.due bytes b h in record { sized = (x.0, x.1); spelt = x.2 },
+  λ (h : IsSaid e (Data (values_in bytes)) bytes). entries_test 8 value_spelling value_in IsValue is_value value_format value_test e.due bytes (values_in bytes) h.sized.0 h.sized.1 h.spelt,
+)
+
+pub rows_decided : (e : Expectation) (bytes : List ℕ) → e.nodes ≤ e.capacity → AreBytes bytes → Decides (has_rows e bytes) (IsSaid e (ReportRelay (rows_in e.capacity e.nodes bytes)) bytes)
+rows_decided e bytes few b =
+    let r : ℕ = round_in e.m e.slot in
+    let format = relayed_row_format e.capacity e.nodes r in
+    let test = relayed_row_test e.capacity e.nodes r few in (
+      λ h. let x = entries_said (1 + 2 * e.nodes) (relayed_row_spelling e.nodes) (relayed_row_in e.capacity e.nodes) (IsEntry (IsRow e.capacity e.nodes) r) (is_row_entry r) (omega arith) test (entries_due e) bytes b h in
+          record { sized = (x.0, x.1); spelt = x.2 },
+      λ (h : IsSaid e (ReportRelay (rows_in e.capacity e.nodes bytes)) bytes). entries_test (1 + 2 * e.nodes) (relayed_row_spelling e.nodes) (relayed_row_in e.capacity e.nodes) (IsEntry (IsRow e.capacity e.nodes) r) (is_row_entry r) format test (entries_due e) bytes (rows_in e.capacity e.nodes bytes) h.sized.0 h.sized.1 h.spelt,
+    )
+
+pub row_decided : (e : Expectation) (bytes : List ℕ) → e.nodes ≤ e.capacity → AreBytes bytes → Decides (has_row e bytes) (IsSaid e (Report0 (row_in e.capacity e.nodes bytes)) bytes)
+row_decided e bytes few b = (
+  λ h. let l : length bytes ≡ 2 * e.nodes = (Decides-eqb (length bytes) (2 * e.nodes)).0 (and_left (length bytes == 2 * e.nodes) (are_masks bytes) h) in
+      let t : are_masks bytes ≡ true = and_right (length bytes == 2 * e.nodes) (are_masks bytes) h in
+      record { sized = row_valid e.capacity e.nodes bytes few l b t; spelt = sym (row_restored e.capacity e.nodes bytes l b) },
+  λ (h : IsSaid e (Report0 (row_in e.capacity e.nodes bytes)) bytes).
+      both (length bytes == 2 * e.nodes) (are_masks bytes)
+      (eq-eqb (length bytes) (2 * e.nodes) (ap length h.spelt ∙ row_long e.capacity e.nodes (row_in e.capacity e.nodes bytes) h.sized))
+      (ap are_masks h.spelt ∙ row_passes e.capacity e.nodes (row_in e.capacity e.nodes bytes) h.sized),
+)
+
+-- where the candidate of a kind isn't what a body says, nothing is
+pub nothing_said : (e : Expectation) (k : ℕ) (bytes : List ℕ) → (IsSaid e (said_in e k bytes) bytes → ⊥) → (c : Content) → IsBody e k c bytes → ⊥
+nothing_said e k bytes h c b =
+    let same : said_in e k bytes ≡ c = ap (λ n. said_in e n bytes) (sym b.is) ∙ ap (said_in e (kind c)) b.said.spelt ∙ said_spelt e c b.said.sized in
+    let P : Content → Type 0 = λ x. IsSaid e x bytes in
+    h (subst P (sym same) b.said)
+
+pub nothing_of : (e : Expectation) (k n : ℕ) (bytes : List ℕ) (x : Content) → k ≡ n → said_in e n bytes ≡ x → (IsSaid e x bytes → ⊥) → (c : Content) → IsBody e k c bytes → ⊥
+nothing_of e k n bytes x s t h c b =
+    let P : Content → Type 0 = λ y. IsSaid e y bytes in
+    nothing_said e k bytes (λ said. h (subst P (ap (λ i. said_in e i bytes) s ∙ t) said)) c b
+
+-- a body of the kind that has its place
+pub body_placed : (e : Expectation) (k : ℕ) (bytes : List ℕ) (p : Kind) (num : ℕ) (c : Content) → k ≡ num → num ≡ number_of p → number_of p ≡ kind_in e.m e.slot → kind c ≡ k → IsSaid e c bytes → IsBody e k c bytes
+body_placed e k bytes p num c a b d is said = record { is = is; placed = inl (is ∙ a ∙ b ∙ d); said = said }
+
+pub kind_told : (k num : ℕ) (p q : Kind) → k ≡ num → num ≡ number_of p → p ≡ q → k ≡ number_of q
+kind_told k num p q a b e = a ∙ b ∙ ap number_of e
+
+pub whole_rows : (e : Expectation) (bytes : List ℕ) (width : ℕ) → width ≡ 1 + 2 * e.nodes → has_rows e bytes ≡ true → length bytes % width ≡ 0
+whole_rows e bytes width w h =
+    let l : length bytes ≡ (1 + 2 * e.nodes) * entries_due e = (Decides-eqb (length bytes) ((1 + 2 * e.nodes) * entries_due e)).0 (and_left (length bytes == (1 + 2 * e.nodes) * entries_due e) (list_all (is_row_entry (round_in e.m e.slot)) (cut (1 + 2 * e.nodes) bytes)) h) in
+    ap (λ x. x % width) (l ∙ ap (λ x. x * entries_due e) (sym w)) ∙ mul-mod_right width (entries_due e)
+
+-- ---- header and body
+
+pub frame_made : (e : Expectation) (c : Content) (bytes : List ℕ) (k size : ℕ) → take 14 bytes ≡ header_spelling (head_of e) k size → size ≡ length (drop 14 bytes) → size < 2 ^ 32 → IsBody e k c (drop 14 bytes) → IsFrame e c bytes
+frame_made e c bytes k size h n short b =
+    let long : size ≡ length (body_spelling e.nodes c) = n ∙ ap length b.said.spelt in
+    let is : bytes ≡ spelling e.nodes (head_of e) c =
+    sym (take-append-drop 14 bytes)
+    ∙ ap (λ xs. xs ++ drop 14 bytes) (h ∙ ap (λ x. header_spelling (head_of e) x size) (sym b.is) ∙ ap (header_spelling (head_of e) (kind c)) long)
+    ∙ ap (λ xs. header_spelling (head_of e) (kind c) (length (body_spelling e.nodes c)) ++ xs) b.said.spelt in
+    (spelt_once e c bytes).1 (record { placed = b.placed; sized = b.said.sized; short = omega arith }, is)
+
+pub frame_header : (e : Expectation) (c : Content) (bytes : List ℕ) → IsFrame e c bytes → take 14 bytes ≡ header_spelling (head_of e) (kind c) (length (drop 14 bytes))
+frame_header e c bytes h = header_told e c bytes h ∙ ap (header_spelling (head_of e) (kind c)) (sym (length-drop 14 bytes))
+
+pub frame_kind : (e : Expectation) (c : Content) (bytes : List ℕ) → IsFrame e c bytes → get_or (take 14 bytes) 3 0 ≡ kind c
+frame_kind e c bytes h = ap (λ xs. get_or xs 3 0) (frame_header e c bytes h)
+
+pub frame_body : (e : Expectation) (c : Content) (bytes : List ℕ) → IsFrame e c bytes → IsBody e (kind c) c (drop 14 bytes)
+frame_body e c bytes h = record { is = refl; placed = h.in_range.placed; said = record { sized = h.in_range.sized; spelt = h.body } }
+
+pub frame_size : (e : Expectation) (c : Content) (bytes : List ℕ) → IsFrame e c bytes → (14 ≤ length bytes) × (length (drop 14 bytes) < 2 ^ 32)
+frame_size e c bytes h =
+    let l = ap length (frame_header e c bytes h) in
+    (omega (arith, length-take 14 bytes), omega (arith, ap length h.body, h.in_range.short))
+
+-- what the relation says of an answer is what reading says
+pub exactly : {F : Type 0} (view : F → Content) (e : Expectation) (bytes : List ℕ) (o : Option F) → IfSome o (λ f. IsFrame e (view f) bytes) → IfNone o ((c : Content) → IsFrame e c bytes → ⊥) → option_map view o ≡ reading e bytes
+exactly view e bytes None s n = sym (none_if (reading e bytes) (λ c r. n c ((reads_exactly e c bytes).0 r)))
+exactly view e bytes (Some f) s n = sym ((reads_exactly e (view f) bytes).1 s)

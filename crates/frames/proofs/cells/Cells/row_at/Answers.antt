@@ -1,0 +1,35 @@
+use Rattle.std.proofs.Common.{◌≡◌, ◌/◌, ◌<◌, ◌*◌, ◌+◌, ◌-◌, ℕ, List, length, subst, sym, ap, ◌∙◌, false, arith, get_or, take, drop}
+use Rattle.std.specs.Prelude.{◌==◌, if◌then◌else◌}
+use Rattle.std.proofs.Math.Nat.{mul_comm}
+use Rattle.omh_paths.specs.declared.wrapped.Wrapped.{Wrapped}
+use Rattle.omh_paths.specs.declared.wrapped.Wrapped.TheVariants.{Plain, Fault}
+use Rattle.frames.specs.Reading.{row_in, relayed_row_in, rows_in}
+use Rattle.frames.specs.PieceLaws.{read_at}
+use Rattle.frames.specs.EntryLaws.{relayed_row_at}
+use Rattle.frames.proofs.cells.Cells.row_at.Goals as goal
+
+-- the entry at a place, by its tag
+entry : (capacity nodes width k : ℕ) (bytes : List ℕ) (d : Wrapped (List ℕ)) → width ≡ 1 + 2 * nodes → k < length bytes / width
+    → get_or (rows_in capacity nodes bytes) k d ≡ (if get_or bytes (k * width) 0 == 0 then Plain (row_in capacity nodes (take (2 * nodes) (drop (k * width + 1) bytes))) else Fault (get_or bytes (k * width) 0))
+entry capacity nodes width k bytes d e h =
+    let P : ℕ → Type 0 = λ w. k < length bytes / w in
+    let at : (1 + 2 * nodes) * k ≡ k * width = mul_comm (1 + 2 * nodes) k ∙ ap (λ w. k * w) (sym e) in
+    read_at (1 + 2 * nodes) (relayed_row_in capacity nodes) bytes k d (subst P e h) ∙ relayed_row_at capacity nodes bytes k (k * width) at
+
+pub returns-in-0 : goal.returns-in-0
+returns-in-0 g c =
+    let bytes : List ℕ = c.args.self.now.bytes.now in
+    let at : ℕ = c.args.k * c.args.self.now.width in
+    let zero : get_or bytes at 0 ≡ 0 = c.in-0.is in
+    let size : at + c.args.self.now.width - (at + 1) ≡ 2 * c.args.nodes = omega (arith, c.requires.wide) in
+    ap Plain (c.read_row.ensures ∙ ap (λ n. row_in g.row.N c.args.nodes (take n (drop (at + 1) bytes))) size)
+    ∙ sym (entry g.row.N c.args.nodes c.args.self.now.width c.args.k bytes _ c.requires.wide c.requires.within
+    ∙ ap (λ t. if t == 0 then Plain (row_in g.row.N c.args.nodes (take (2 * c.args.nodes) (drop (at + 1) bytes))) else Fault t) zero)
+
+pub returns-in_default : goal.returns-in_default
+returns-in_default g c =
+    let bytes : List ℕ = c.args.self.now.bytes.now in
+    let at : ℕ = c.args.k * c.args.self.now.width in
+    let some : (get_or bytes at 0 == 0) ≡ false = grind arith in
+    sym (entry g.row.N c.args.nodes c.args.self.now.width c.args.k bytes _ c.requires.wide c.requires.within
+    ∙ ap (λ b. if b then Plain (row_in g.row.N c.args.nodes (take (2 * c.args.nodes) (drop (at + 1) bytes))) else Fault (get_or bytes at 0)) some)

@@ -1,0 +1,66 @@
+-- Tests on pieces of a body, each by the bytes alone.
+use Rattle.std.specs.Prelude.{◌≡◌, ◌⊎◌, ◌+◌, ◌*◌, length, ℕ, Bool, ◌&&◌, ◌||◌, ◌==◌, nat_le, List, drop, slice_index, if◌then◌else◌}
+use Rattle.std.specs.List.{list_all}
+use Rattle.frames.specs.Content.{Expectation, Content, kind, kind_in, round_in, entries_due, IsSized}
+use Rattle.frames.specs.Spelling.{body_spelling}
+use Rattle.frames.specs.Reading.{cut, value_in, fits_claim, fits_value}
+
+-- two bytes that are an entry of a relayed claim
+abbrev pub is_claim_entry : ℕ → ℕ → List ℕ → Bool
+is_claim_entry tasks r bytes =
+    if slice_index bytes 0 == 0 then fits_claim tasks (slice_index bytes 1) else (nat_le (slice_index bytes 0) r && (slice_index bytes 1 == 0))
+
+-- two bytes that are a mask below 256
+abbrev pub is_mask : List ℕ → Bool
+is_mask bytes = slice_index bytes 0 == 0
+
+abbrev pub are_masks : List ℕ → Bool
+are_masks bytes = list_all is_mask (cut 2 bytes)
+
+abbrev pub are_zero : List ℕ → Bool
+are_zero bytes = list_all (λ b. b == 0) bytes
+
+-- bytes that are an entry of a relayed row
+abbrev pub is_row_entry : ℕ → List ℕ → Bool
+is_row_entry r bytes = if slice_index bytes 0 == 0 then are_masks (drop 1 bytes) else (nat_le (slice_index bytes 0) r && are_zero (drop 1 bytes))
+
+-- eight bytes that are a value in range
+abbrev pub is_value : List ℕ → Bool
+is_value bytes = fits_value (value_in bytes)
+
+-- pieces of so many bytes that are entries as they are written: a plain value, or a tag with 0 in all bytes after it
+abbrev pub is_written : List ℕ → Bool
+is_written bytes = (slice_index bytes 0 == 0) || are_zero (drop 1 bytes)
+
+abbrev pub are_written : ℕ → List ℕ → Bool
+are_written width bytes = list_all is_written (cut width bytes)
+
+-- tests on whole bodies
+abbrev pub has_state : Expectation → List ℕ → Bool
+has_state e bytes = length bytes == e.state_len
+
+abbrev pub has_claim : Expectation → List ℕ → Bool
+has_claim e bytes = (length bytes == 1) && fits_claim e.tasks (slice_index bytes 0)
+
+abbrev pub has_claims : Expectation → List ℕ → Bool
+has_claims e bytes = (length bytes == 2 * entries_due e) && list_all (is_claim_entry e.tasks (round_in e.m e.slot)) (cut 2 bytes)
+
+abbrev pub has_values : Expectation → List ℕ → Bool
+has_values e bytes = (length bytes == 8 * e.due) && list_all is_value (cut 8 bytes)
+
+abbrev pub has_row : Expectation → List ℕ → Bool
+has_row e bytes = (length bytes == 2 * e.nodes) && are_masks bytes
+
+abbrev pub has_rows : Expectation → List ℕ → Bool
+has_rows e bytes = (length bytes == (1 + 2 * e.nodes) * entries_due e) && list_all (is_row_entry (round_in e.m e.slot)) (cut (1 + 2 * e.nodes) bytes)
+
+-- the bytes are the spelling of a body of the right sizes
+pub record IsSaid (e : Expectation) (c : Content) (bytes : List ℕ) : Type 0 where
+  pub sized : IsSized e c
+  pub spelt : bytes ≡ body_spelling e.nodes c
+
+-- and that of a kind that has its place in the slot
+pub record IsBody (e : Expectation) (k : ℕ) (c : Content) (bytes : List ℕ) : Type 0 where
+  pub is : kind c ≡ k
+  pub placed : (kind c ≡ kind_in e.m e.slot) ⊎ (kind c ≡ 7)
+  pub said : IsSaid e c bytes

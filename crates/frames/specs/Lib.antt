@@ -1,0 +1,14 @@
+pub mod Content
+pub mod Spelling
+pub mod Reading
+pub mod Laws
+pub mod PieceLaws
+pub mod Checks
+pub mod EntryLaws
+pub mod ReadingLaws
+pub mod Writing
+pub mod Seen
+pub mod Bound
+pub use Rattle.node_grid.specs.Capacity
+pub use Rattle.node_grid.specs.NodeSet
+pub use Rattle.omh_paths.specs.Paths

@@ -1,0 +1,53 @@
+-- What the types of the code say, in the words of the grammar.
+use Rattle.std.specs.Prelude.{◌≡◌, ℕ, ◌+◌, ◌*◌}
+use Rattle.frames.specs.declared.frame.Body.{Body}
+use Rattle.frames.specs.declared.frame.Body.TheVariants as body
+use Rattle.frames.specs.declared.frame.Expect.{Expect}
+use Rattle.frames.specs.declared.kind.Kind.{Kind}
+use Rattle.frames.specs.declared.kind.Kind.TheVariants as kinds
+use Rattle.frames.specs.Content.{Expectation, Content, State, Done0, DoneRelay, Data, Report0, ReportRelay, Cold}
+use Rattle.frames.specs.Reading.{claims_in, rows_in, values_in}
+
+-- what is expected, where a row has a mask for each of N nodes
+abbrev pub expected : {N : ℕ} → Expect N → Expectation
+expected {N} e = record {
+  capacity = N;
+  nodes = e.nodes;
+  m = e.m;
+  period = e.period;
+  slot = e.slot;
+  sender = e.sender;
+  members = e.members;
+  state_len = e.state_len;
+  tasks = e.tasks;
+  due = e.due;
+}
+
+-- what a body says, among so many nodes
+abbrev pub content : {N : ℕ} → ℕ → Body N → Content
+content nodes (body.State bytes) = State bytes.now
+content nodes (body.Done0 task) = Done0 task
+content nodes (body.DoneRelay cells) = DoneRelay (claims_in cells.bytes.now)
+content nodes (body.Data values) = Data (values_in values.bytes.now)
+content nodes (body.Report0 row) = Report0 row
+content {N} nodes (body.ReportRelay cells) = ReportRelay (rows_in N nodes cells.bytes.now)
+content nodes body.Cold = Cold
+
+-- entries have the width of the entries of their kind
+abbrev pub HasWidth : {N : ℕ} → ℕ → Body N → Type 0
+HasWidth nodes (body.State bytes) = Unit {0}
+HasWidth nodes (body.Done0 task) = Unit {0}
+HasWidth nodes (body.DoneRelay cells) = cells.width ≡ 2
+HasWidth nodes (body.Data values) = Unit {0}
+HasWidth nodes (body.Report0 row) = Unit {0}
+HasWidth nodes (body.ReportRelay cells) = cells.width ≡ 1 + 2 * nodes
+HasWidth nodes body.Cold = Unit {0}
+
+abbrev pub number_of : Kind → ℕ
+number_of kinds.State = 1
+number_of kinds.Done0 = 2
+number_of kinds.DoneRelay = 3
+number_of kinds.Data = 4
+number_of kinds.Report0 = 5
+number_of kinds.ReportRelay = 6
+number_of kinds.Cold = 7
