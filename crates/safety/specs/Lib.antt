@@ -1,0 +1,12 @@
+pub mod Told
+pub mod Charges
+pub mod Given
+pub mod Laws
+pub mod Runs
+pub use Rattle.protocol.specs.Arrival
+pub use Rattle.protocol.specs.Heard
+pub use Rattle.protocol.specs.View
+pub use Rattle.protocol.specs.Cluster
+pub use Rattle.protocol.specs.Run
+pub use Rattle.protocol.specs.Accepted
+pub use Rattle.protocol.specs.Safe

@@ -1,0 +1,93 @@
+//! The laws, from the reception of single frames to the safety of whole runs.
+//!
+//! The induction over periods carries a premise, `Started`. It holds of period 0, and where it holds of a period that
+//! tolerates its faults, that period is safe and the next one has its premise.
+
+ghost use Rattle.safety.specs.Charges.{NoCharge, FullCharge};
+ghost use Rattle.safety.specs.Laws.{SyncLaw, ClaimsLaw, DataLaw, ReportsLaw, StartLaw, StepLaw, SafetyLaw};
+ghost use Rattle.safety.specs.Runs.{DeliveryLaw, ReceptionLaw, SparingLaw, RunLaw};
+
+/// A node that no nonfaulty member accuses of a kind isn't charged with it.
+pub fn no_charge()
+    ensures { NoCharge }
+{}
+
+/// A node that each nonfaulty member but it accuses of a kind is charged with it.
+pub fn full_charge()
+    ensures { FullCharge }
+{}
+
+/// What each node has of the frames of a period is what was delivered to it of the frames that were sent.
+pub fn delivery()
+    ensures { DeliveryLaw }
+{}
+
+/// What sound nodes read in each period of each run, and how the classes go with restarts.
+pub fn reception()
+    ensures { ReceptionLaw }
+{}
+
+/// Each sound node goes through a period with the agreed state of the nonfaulty ones.
+pub fn sync()
+    ensures { SyncLaw }
+{
+    mme_vote::laws::members();
+}
+
+/// Sound nodes settle claims alike, and have the same channels due.
+pub fn claims()
+    ensures { ClaimsLaw }
+{
+    mme_vote::laws::members();
+}
+
+/// Votes of sound nodes are close.
+pub fn data()
+    ensures { DataLaw }
+{
+    mme_vote::laws::members();
+}
+
+/// Sound nodes settle rows alike.
+pub fn reports()
+    ensures { ReportsLaw }
+{
+    mme_vote::laws::members();
+}
+
+/// The premise holds of the first period.
+pub fn start()
+    ensures { StartLaw }
+{
+    mme_vote::laws::members();
+}
+
+/// It leads to what is safe of a period, and to the next.
+pub fn step()
+    ensures { StepLaw }
+{
+    mme_vote::laws::members();
+}
+
+/// Each claimed period of a cluster of which reception holds is safe.
+pub fn safety()
+    ensures { SafetyLaw }
+{
+    start();
+    step();
+}
+
+/// Each claimed period of each run is safe, with further kinds of accusation that spare the nonfaulty nodes.
+pub fn sparing()
+    ensures { SparingLaw }
+{
+    reception();
+    safety();
+}
+
+/// Each claimed period of each run is safe.
+pub fn runs()
+    ensures { RunLaw }
+{
+    sparing();
+}
