@@ -1,0 +1,13 @@
+mod Rows
+pub mod Marking
+pub mod Touching
+pub mod Ranges
+pub mod Entries
+pub mod Slots
+pub mod Places
+pub mod Restarting
+pub mod Refusals
+pub mod Loops
+pub mod Classing
+pub mod Sets
+pub mod Facts

@@ -1,0 +1,83 @@
+-- Loops over all nodes or all slots.
+use Rattle.std.proofs.Common.{◌≡◌, ◌≢◌, ℕ, zero, suc, ◌+◌, ◌<◌, ◌≤◌, Bool, true, false, ◌&&◌, ◌||◌, Option, None, Some, refl, sym, ap, ◌∙◌, inl, inr, arith}
+use Rattle.std.specs.Prelude.{◌==◌}
+use Rattle.std.specs.List.{list_all, range_with_len}
+use Rattle.std.specs.Option.{option_map, is_some}
+use Rattle.std.proofs.lemmas.Bool.{and_from, and_left, and_right, or_cases, or_left, or_right, cases_eq, ne_eqb, or_from}
+use Rattle.node_grid.specs.NodeSet.{ids_below}
+use Rattle.fault_classes.specs.Change.{Change, is_untouched, same_effect}
+use Rattle.fault_classes.specs.ChangeLaws.{same_effect-refl, same_effect_is}
+
+all_range : (f : ℕ → Bool) (a n : ℕ) → ((k : ℕ) → a ≤ k → k < a + n → f k ≡ true) → list_all f (range_with_len a n) ≡ true
+all_range f a zero h = refl
+all_range f a (suc n) h = and_from _ _ (h a (omega arith) (omega arith)) (all_range f (a + 1) n (λ k l u. h k (omega arith) (omega arith)))
+
+not_all_range : (f : ℕ → Bool) (a n k : ℕ) → a ≤ k → k < a + n → f k ≡ false → list_all f (range_with_len a n) ≡ false
+not_all_range f a zero k l u fails = absurd (omega arith)
+not_all_range f a (suc n) k l u fails = elim (cases_eq k a) [
+  | inl e ↦ and_left (f a) _ (ap f (sym e) ∙ fails)
+  | inr ne ↦ and_right (f a) _ (not_all_range f (a + 1) n k (omega arith) (omega arith) fails)
+]
+
+pub all_ids : (f : ℕ → Bool) (n : ℕ) → ((k : ℕ) → k < n → f k ≡ true) → list_all f (ids_below n) ≡ true
+all_ids f n h = all_range f 0 n (λ k l u. h k (omega arith))
+
+pub not_all_ids : (f : ℕ → Bool) (n k : ℕ) → k < n → f k ≡ false → list_all f (ids_below n) ≡ false
+not_all_ids f n k u fails = not_all_range f 0 n k (omega arith) (omega arith) fails
+
+pub touched : {X : Type 0} (f : X → Change) (o : Option X) (e : Option Change) → option_map f o ≡ e → is_some o ≡ true → is_untouched e ≡ false
+touched f None e h s = cc
+touched f (Some x) e h s = ap is_untouched (sym h)
+
+pub untouched : {X : Type 0} (f : X → Change) (o : Option X) (e : Option Change) → option_map f o ≡ e → is_some o ≡ false → is_untouched e ≡ true
+untouched f None e h s = ap is_untouched (sym h)
+untouched f (Some x) e h s = cc
+
+-- a test of another node
+pub other_fails : (k j : ℕ) (b : Bool) → k ≢ j → b ≡ false → (k == j || b) ≡ false
+other_fails k j b ne h = or_from (k == j) b (ne_eqb k j ne) h
+
+-- ---- frames that are all touched as the first one is
+
+abbrev pub pair_alike : (ℕ → Option Change) → ℕ → ℕ → ℕ → Bool
+pair_alike e j i h = i == j || (h == j || same_effect (e i) (e h))
+
+pub symmetric_from : (e : ℕ → Option Change) (n j first : ℕ) → ((k : ℕ) → k < n → (k == j || same_effect (e first) (e k)) ≡ true)
+    → list_all (λ i. list_all (pair_alike e j i) (ids_below n)) (ids_below n) ≡ true
+symmetric_from e n j first alike = all_ids _ n (λ i hi. all_ids (pair_alike e j i) n (λ h hh. pair i h (alike i hi) (alike h hh)))
+  where
+    pair : (i h : ℕ) → (i == j || same_effect (e first) (e i)) ≡ true → (h == j || same_effect (e first) (e h)) ≡ true → pair_alike e j i h ≡ true
+    pair i h a b = elim (or_cases (i == j) (same_effect (e first) (e i)) a) [
+      | inl x ↦ or_left (i == j) _ x
+      | inr x ↦ or_right (i == j) _ (elim (or_cases (h == j) (same_effect (e first) (e h)) b) [
+        | inl y ↦ or_left (h == j) _ y
+        | inr y ↦
+            let s : e i ≡ e h = sym (same_effect_is (e first) (e i) x) ∙ same_effect_is (e first) (e h) y in
+            or_right (h == j) _ (ap (same_effect (e i)) (sym s) ∙ same_effect-refl (e i))
+      ])
+    ]
+
+pub not_symmetric_from : (e : ℕ → Option Change) (n j first k : ℕ) → first < n → first ≢ j → k < n → k ≢ j → same_effect (e first) (e k) ≡ false
+    → list_all (λ i. list_all (pair_alike e j i) (ids_below n)) (ids_below n) ≡ false
+not_symmetric_from e n j first k hf nf hk nk differ =
+    not_all_ids _ n first hf (not_all_ids (pair_alike e j first) n k hk (other_fails first j _ nf (other_fails k j _ nk differ)))
+
+-- ---- a test of four parts
+
+pub fourth : (a b c d : Bool) → a ≡ true → b ≡ true → c ≡ true → d ≡ (a && (b && (c && d)))
+fourth a b c d x y z = rw (x, y, z) refl
+
+pub third_fails : (a b c d : Bool) → c ≡ false → (a && (b && (c && d))) ≡ false
+third_fails a b c d z = rw z (none a b)
+  where
+    none : (a b : Bool) → (a && (b && false)) ≡ false
+    none true true = refl
+    none true false = refl
+    none false b = refl
+
+pub second_fails : (a b e : Bool) → b ≡ false → (a && (b && e)) ≡ false
+second_fails a b e z = rw z (none a)
+  where
+    none : (a : Bool) → (a && false) ≡ false
+    none true = refl
+    none false = refl

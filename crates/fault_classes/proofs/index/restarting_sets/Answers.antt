@@ -1,0 +1,38 @@
+use Rattle.std.proofs.Common.{◌≡◌, ◌<◌, [], length, get_or, take, true, None, ap, ◌∙◌, arith, lit<}
+use Rattle.std.proofs.lemmas.List.{take_more, get_or_read}
+use Rattle.node_grid.specs.NodeSet.{with_id}
+use Rattle.fault_classes.specs.declared.line.Restart.{Restart}
+use Rattle.fault_classes.specs.Rules.{is_restart}
+use Rattle.fault_classes.proofs.Restarting.{restart_ok, restart_parts, restarting_push}
+use Rattle.fault_classes.proofs.index.restarting_sets.Goals as goal
+
+pub index_mut-set-requires : goal.index_mut-set-requires
+index_mut-set-requires g c =
+    let d : Restart = record { node = 0; period = 0 } in
+    let r : Restart = get_or c.args.restarts.now c.loop-restart.restart-index d in
+    let ok : is_restart c.args.nodes c.args.periods r ≡ true = restart_ok c.args.nodes c.args.periods None 0 c.args.restarts.now c.loop-restart.restart-index d c.loop-restart-test.true c.requires.in_order in
+    let p = restart_parts c.args.nodes c.args.periods r ok in
+    omega (arith, p.1, c.loop-restart.invariant.long, c.loop-restart.sets.ok)
+
+pub put-requires : goal.put-requires
+put-requires g c =
+    let d : Restart = record { node = 0; period = 0 } in
+    let r : Restart = get_or c.args.restarts.now c.loop-restart.restart-index d in
+    let ok : is_restart c.args.nodes c.args.periods r ≡ true = restart_ok c.args.nodes c.args.periods None 0 c.args.restarts.now c.loop-restart.restart-index d c.loop-restart-test.true c.requires.in_order in
+    let p = restart_parts c.args.nodes c.args.periods r ok in
+    let low : r.node < g.row.N = omega (arith, p.0, c.requires.nodes) in
+    (lit< tt, low)
+
+pub loop-restart-preserved : goal.loop-restart-preserved
+loop-restart-preserved g c =
+    let d : Restart = record { node = 0; period = 0 } in
+    let k = c.loop-restart.restart-index in
+    let xs = c.args.restarts.now in
+    let r : Restart = get_or xs k d in
+    let ok : is_restart c.args.nodes c.args.periods r ≡ true = restart_ok c.args.nodes c.args.periods None 0 xs k d c.loop-restart-test.true c.requires.in_order in
+    let p = restart_parts c.args.nodes c.args.periods r ok in
+    let sets = c.loop-restart.sets.items in
+    let within : r.period < length sets = omega (arith, p.1, c.loop-restart.invariant.long) in
+    let old : c.index_mut-set.result.now ≡ get_or sets r.period [] = get_or_read sets r.period c.index_mut-set.result.now within c.index_mut-set.ensures.value [] in
+    let new : c.put.new.self ≡ with_id g.row.N (get_or sets r.period []) r.node = c.put.ensures ∙ ap (λ s. with_id g.row.N s r.node) old in
+    rw (take_more xs k d c.loop-restart-test.true) (restarting_push g.row.N c.args.periods (take k xs) r sets c.put.new.self c.loop-restart.invariant p.1 new)

@@ -1,0 +1,37 @@
+use Rattle.std.proofs.Common.{◌≡◌, ◌+◌, ◌++◌, ◌∷◌, [], sym, ap, ◌∙◌, arith, append_assoc}
+use Rattle.std.proofs.lemmas.List.{length_push}
+use Rattle.node_grid.specs.declared.class.Class.{Class}
+use Rattle.node_grid.specs.Count.{bit}
+use Rattle.node_grid.specs.Class.{is_asymmetric, is_symmetric, is_silent}
+use Rattle.fault_classes.specs.declared.budget.Budget.{Budget}
+use Rattle.fault_classes.specs.Plan.{class_of}
+use Rattle.fault_classes.specs.Budget.{counts_as, with_member}
+use Rattle.fault_classes.proofs.Sets.{count_push, bit_le}
+use Rattle.fault_classes.proofs.plan.FaultPlan.budget.Goals as goal
+
+pub loop-node-preserved : goal.loop-node-preserved
+loop-node-preserved g c =
+    let plan = c.args.self.now in
+    let p = c.args.period in
+    let x = c.in-Some.node in
+    let xs = c.loop-node.yielded in
+    let class : Class = class_of plan p x in
+    let new : c.add.new.self ≡ with_member c.loop-node.budget class = c.add.ensures ∙ ap (with_member c.loop-node.budget) c.class.ensures in
+    let all : c.add.new.self.n ≡ c.loop-node.budget.n = ap (λ (b : Budget). b.n) new in
+    let a : c.add.new.self.a ≡ c.loop-node.budget.a + bit (is_asymmetric class) = ap (λ (b : Budget). b.a) new in
+    let s : c.add.new.self.s ≡ c.loop-node.budget.s + bit (is_symmetric class) = ap (λ (b : Budget). b.s) new in
+    let b : c.add.new.self.b ≡ c.loop-node.budget.b + bit (is_silent class) = ap (λ (b : Budget). b.b) new in
+    let i = c.loop-node.invariant in
+    let long = length_push xs x in
+    record {
+      can = tt;
+      ends = tt;
+      split = i.split ∙ ap (λ rest. xs ++ rest) c.in-Some.ensures.steps ∙ sym (append_assoc xs (x ∷ []) c.next.new.self);
+      all = all ∙ i.all;
+      asymmetric = a ∙ ap (λ k. k + bit (is_asymmetric class)) i.asymmetric ∙ sym (count_push (counts_as is_asymmetric plan p) xs x);
+      symmetric = s ∙ ap (λ k. k + bit (is_symmetric class)) i.symmetric ∙ sym (count_push (counts_as is_symmetric plan p) xs x);
+      silent = b ∙ ap (λ k. k + bit (is_silent class)) i.silent ∙ sym (count_push (counts_as is_silent plan p) xs x);
+      few = omega (arith, a, long, i.few, bit_le (is_asymmetric class));
+      few_symmetric = omega (arith, s, long, i.few_symmetric, bit_le (is_symmetric class));
+      few_silent = omega (arith, b, long, i.few_silent, bit_le (is_silent class));
+    }

@@ -1,0 +1,46 @@
+use Rattle.std.proofs.Common.{sym, ◌∙◌}
+use Rattle.fault_classes.specs.Plan.{sound_before, steady}
+use Rattle.fault_classes.specs.ClassLaws.{class_by}
+use Rattle.fault_classes.proofs.Classing.{class_N, class_J, class_B, class_S, class_A}
+use Rattle.fault_classes.proofs.Sets.{has_in}
+use Rattle.fault_classes.proofs.standing.class_in.Goals as goal
+
+pub returns-then-has : goal.returns-then-has
+returns-then-has g c =
+    let plan = c.args.index.now in
+    let p = c.args.period in
+    let good = has_in c.args.good.now (steady plan p (sound_before plan p)) plan.nodes c.args.node c.requires.good c.requires.node in
+    sym (class_by plan p c.args.node c.requires.node ∙ class_N _ _ _ _ (sym (c.has.ensures ∙ good) ∙ c.if-has.true))
+
+pub returns-then-joins : goal.returns-then-joins
+returns-then-joins g c =
+    let plan = c.args.index.now in
+    let p = c.args.period in
+    let good = has_in c.args.good.now (steady plan p (sound_before plan p)) plan.nodes c.args.node c.requires.good c.requires.node in
+    sym (class_by plan p c.args.node c.requires.node ∙ class_J _ _ _ _ (sym (c.has.ensures ∙ good) ∙ c.if-has.false) (sym c.joins.ensures ∙ c.if-joins.true))
+
+pub returns-then-is_benign : goal.returns-then-is_benign
+returns-then-is_benign g c =
+    let plan = c.args.index.now in
+    let p = c.args.period in
+    let good = has_in c.args.good.now (steady plan p (sound_before plan p)) plan.nodes c.args.node c.requires.good c.requires.node in
+    sym (class_by plan p c.args.node c.requires.node
+    ∙ class_B _ _ _ _ (sym (c.has.ensures ∙ good) ∙ c.if-has.false) (sym c.joins.ensures ∙ c.if-joins.false) (sym c.is_benign.ensures ∙ c.if-is_benign.true))
+
+pub returns-then-is_symmetric : goal.returns-then-is_symmetric
+returns-then-is_symmetric g c =
+    let plan = c.args.index.now in
+    let p = c.args.period in
+    let good = has_in c.args.good.now (steady plan p (sound_before plan p)) plan.nodes c.args.node c.requires.good c.requires.node in
+    sym (class_by plan p c.args.node c.requires.node
+    ∙ class_S _ _ _ _ (sym (c.has.ensures ∙ good) ∙ c.if-has.false) (sym c.joins.ensures ∙ c.if-joins.false) (sym c.is_benign.ensures ∙ c.if-is_benign.false)
+    (sym c.is_symmetric.ensures ∙ c.if-is_symmetric.true))
+
+pub returns-else-is_symmetric : goal.returns-else-is_symmetric
+returns-else-is_symmetric g c =
+    let plan = c.args.index.now in
+    let p = c.args.period in
+    let good = has_in c.args.good.now (steady plan p (sound_before plan p)) plan.nodes c.args.node c.requires.good c.requires.node in
+    sym (class_by plan p c.args.node c.requires.node
+    ∙ class_A _ _ _ _ (sym (c.has.ensures ∙ good) ∙ c.if-has.false) (sym c.joins.ensures ∙ c.if-joins.false) (sym c.is_benign.ensures ∙ c.if-is_benign.false)
+    (sym c.is_symmetric.ensures ∙ c.if-is_symmetric.false))

@@ -1,0 +1,12 @@
+use Rattle.std.proofs.Common.{sym, ◌∙◌, arith}
+use Rattle.fault_classes.specs.Change.{is_untouched}
+use Rattle.fault_classes.specs.Plan.{slot_count, each_in_slot}
+use Rattle.fault_classes.proofs.Loops.{all_ids, not_all_ids}
+use Rattle.fault_classes.proofs.standing.is_clean.Goals as goal
+
+pub returns-then-not-is_clean_at : goal.returns-then-not-is_clean_at
+returns-then-not-is_clean_at g c =
+    sym (not_all_ids (each_in_slot c.args.index.now is_untouched c.args.period c.args.node) (slot_count c.args.index.now.rounds) c.loop-slot.slot (omega arith) (sym c.is_clean_at.ensures ∙ c.if-not-is_clean_at.true))
+
+pub returns : goal.returns
+returns g c = sym (all_ids (each_in_slot c.args.index.now is_untouched c.args.period c.args.node) (slot_count c.args.index.now.rounds) (λ k h. c.loop-slot.invariant k (omega arith)))

@@ -1,0 +1,16 @@
+pub mod Change
+pub mod ChangeLaws
+pub mod Line
+pub mod Plan
+pub mod Rules
+pub mod Cells
+pub mod Index
+pub mod Standing
+pub mod ClassLaws
+pub mod Budget
+pub mod BudgetLaws
+pub mod Laws
+pub use Rattle.node_grid.specs.Capacity
+pub use Rattle.node_grid.specs.NodeSet
+pub use Rattle.node_grid.specs.Count
+pub use Rattle.node_grid.specs.Class

@@ -1,0 +1,189 @@
+ghost use Rattle.std.specs.Prelude.{◌≡◌, ℕ, ◌^◌, ◌<◌, ◌≤◌, ◌⊎◌, None, Some, IfOk, MatchResult, IsTrue, map, length, option_map};
+ghost use Rattle.fault_classes.specs.Change.{change_of};
+ghost use Rattle.fault_classes.specs.Line.{line_of, effect_at, touches};
+ghost use Rattle.fault_classes.specs.Plan.{plan_of, slot_count, restarts_at};
+ghost use Rattle.fault_classes.specs.Rules.{refusal_of, first_bad_restart};
+ghost use Rattle.fault_classes.specs.Cells.{IsShape, entry_of};
+ghost use Rattle.fault_classes.specs.Index.{IsRestarting};
+ghost use Rattle.node_grid.specs.Capacity.{IsCapacity};
+
+use crate::cells::{Shape, cells_of};
+use crate::rules::{first_bad_line, first_bad_restart};
+use crate::{Effect, FaultLine, PlanError, Restart};
+use node_grid::NodeSet;
+use std::alloc::{AllocError, Global};
+use std::marker::Model;
+
+/// The most lines that a plan may have.
+const MOST_LINES: usize = 4096;
+
+/// The lines and restarts of a plan, with a table from each frame to the line that touches it.
+#[derive(Drop)]
+pub struct PlanIndex<const N: usize> {
+    shape: Shape,
+    rounds: u8,
+    lines: Vec<FaultLine<N>>,
+    restarts: Vec<Restart>,
+    cells: Vec<u16>,
+    restarting: Vec<NodeSet<N>>,
+}
+
+// Clauses see the plan.
+impl<const N: usize> Model for PlanIndex<N> {
+    ghost use Rattle.std.specs.Prelude.{map};
+    ghost use Rattle.fault_classes.specs.Plan.{Plan, plan_of};
+    ghost use Rattle.fault_classes.specs.Line.{line_of};
+    ghost use Rattle.fault_classes.specs.Index.{IsIndex};
+
+    ghost Value = { Plan };
+
+    ghost view = { λ x. plan_of x.shape.nodes x.rounds x.shape.periods (map line_of x.lines.items) x.restarts.items };
+
+    ghost invariant = { λ x. IsIndex N (plan_of x.shape.nodes x.rounds x.shape.periods (map line_of x.lines.items) x.restarts.items) x.shape.slots x.cells.items x.restarting.items };
+}
+
+/// For each period the set of the nodes that restart at it.
+fn restarting_sets<const N: usize>(
+    alloc: Global,
+    restarts: &[Restart],
+    nodes: u8,
+    periods: u32,
+) -> Result<Vec<NodeSet<N>>, AllocError>
+    requires capacity { IsCapacity N }
+    requires nodes { nodes ≤ N }
+    requires in_order { first_bad_restart nodes periods None 0 restarts.now ≡ None }
+    ensures { IfOk result (λ v. IsRestarting N periods restarts.now v.items) }
+{
+    let mut sets = vec![in alloc; NodeSet::empty(); periods as usize]?;
+    for restart in restarts {
+        let set = &mut sets[restart.period as usize];
+        set.put(restart.node);
+    }
+    Ok(sets)
+}
+
+impl<const N: usize> PlanIndex<N> {
+    /// The plan of these lines and restarts with its index.
+    pub fn new(
+        alloc: Global,
+        nodes: u8,
+        m: u8,
+        periods: u32,
+        lines: Vec<FaultLine<N>>,
+        restarts: Vec<Restart>,
+    ) -> Result<Self, PlanError>
+        requires shape { IsShape N nodes (slot_count m) periods }
+        requires few_lines { length lines.items < 2 ^ 32 }
+        requires few_restarts { length restarts.items < 2 ^ 32 }
+        ensures { let plan = plan_of nodes m periods (map line_of lines.entry.items) restarts.items in MatchResult result (λ x. (x ≡ plan) × (refusal_of plan ≡ None)) (λ e. (e ≡ PlanError.NoMemory) ⊎ (refusal_of plan ≡ Some e)) }
+    {
+        let shape = Shape {
+            nodes,
+            slots: 2 * m + 4,
+            periods,
+        };
+        if let Some(place) = first_bad_line(lines.as_slice(), &shape) {
+            return Err(PlanError::Range(place));
+        }
+        let cells = cells_of(alloc, &shape, lines.as_slice())?;
+        if let Some(place) = first_bad_restart(restarts.as_slice(), nodes, periods) {
+            return Err(PlanError::Restart(place));
+        }
+        if lines.len() > MOST_LINES {
+            return Err(PlanError::TooMany);
+        }
+        let Ok(restarting) = restarting_sets(alloc, restarts.as_slice(), nodes, periods) else {
+            return Err(PlanError::NoMemory);
+        };
+        Ok(PlanIndex {
+            shape,
+            rounds: m,
+            lines,
+            restarts,
+            cells,
+            restarting,
+        })
+    }
+
+    pub fn nodes(&self) -> u8
+        ensures { result ≡ self.now.nodes }
+    {
+        self.shape.nodes
+    }
+
+    pub fn slots(&self) -> u8
+        ensures { result ≡ slot_count self.now.rounds }
+    {
+        self.shape.slots
+    }
+
+    pub fn periods(&self) -> u32
+        ensures { result ≡ self.now.periods }
+    {
+        self.shape.periods
+    }
+
+    pub fn line_count(&self) -> u32
+        ensures { result ≡ length self.now.lines }
+    {
+        self.lines.len() as u32
+    }
+
+    pub fn restart_count(&self) -> u32
+        ensures { result ≡ length self.now.restarts }
+    {
+        self.restarts.len() as u32
+    }
+
+    /// The number of the line that touches the frame: 0 for none, and 1 for the first line.
+    fn number(&self, period: u32, slot: u8, from: u8, to: u8) -> u16
+        requires period { period < self.now.periods }
+        requires slot { slot < slot_count self.now.rounds }
+        requires from { from < self.now.nodes }
+        requires to { to < self.now.nodes }
+        ensures { result ≡ entry_of (touches period slot from to) self.now.lines }
+    {
+        let nodes = self.shape.nodes as usize;
+        let block = period as usize * nodes + from as usize;
+        let row = block * self.shape.slots as usize + slot as usize;
+        self.cells[row * nodes + to as usize]
+    }
+
+    /// Whether one line touches a node's frames to two others in a slot, or none does.
+    pub fn is_same_line(&self, period: u32, slot: u8, from: u8, one: u8, other: u8) -> bool
+        requires period { period < self.now.periods }
+        requires slot { slot < slot_count self.now.rounds }
+        requires from { from < self.now.nodes }
+        requires one { one < self.now.nodes }
+        requires other { other < self.now.nodes }
+        ensures { IsTrue result → effect_at self.now.lines period slot from one ≡ effect_at self.now.lines period slot from other }
+    {
+        let _ = &self.shape;
+        self.number(period, slot, from, one) == self.number(period, slot, from, other)
+    }
+
+    /// The effect of the line that touches the frame.
+    pub fn effect(&self, period: u32, slot: u8, from: u8, to: u8) -> Option<&Effect>
+        requires period { period < self.now.periods }
+        requires slot { slot < slot_count self.now.rounds }
+        requires from { from < self.now.nodes }
+        requires to { to < self.now.nodes }
+        ensures { option_map (λ e. change_of e.now) result ≡ effect_at self.now.lines period slot from to }
+    {
+        let number = self.number(period, slot, from, to);
+        if number == 0 {
+            None
+        } else {
+            Some(&self.lines[number as usize - 1].effect)
+        }
+    }
+
+    pub fn is_restarting(&self, node: u8, period: u32) -> bool
+        requires node { node < self.now.nodes }
+        requires period { period < self.now.periods }
+        ensures { result ≡ restarts_at self.now node period }
+    {
+        let set = &self.restarting[period as usize];
+        set.has(node)
+    }
+}

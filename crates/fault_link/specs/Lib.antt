@@ -1,0 +1,4 @@
+pub mod Arrival
+pub use Rattle.fault_classes.specs.Change
+pub use Rattle.fault_classes.specs.Line
+pub use Rattle.fault_classes.specs.Plan

@@ -1,0 +1,109 @@
+//! What arrives of a frame, by the effect of the one fault line that touches it.
+//!
+//! Nothing here takes memory.
+#![tactic(auto)]
+
+ghost use Rattle.std.specs.Prelude.{◌≡◌, ◌≢◌, ℕ, ◌^◌, ◌<◌, length, replicate, option_map};
+ghost use Rattle.fault_classes.specs.Change.{change_of};
+ghost use Rattle.fault_classes.specs.Line.{effect_at};
+ghost use Rattle.fault_classes.specs.Plan.{slot_count};
+ghost use Rattle.fault_link.specs.Arrival.{delivered_of, patched};
+
+#[cfg(test)]
+mod tests;
+
+use fault_classes::{Effect, FaultPlan};
+
+/// The tick at which a frame arrives, where no line sets another one.
+const ON_TIME: u8 = 15;
+
+/// What arrives at one receiver of one frame: so many copies, all alike.
+#[derive(Clone, Copy, Debug)]
+pub struct Delivered<'a> {
+    /// How many copies arrive: 0, 1 or 2.
+    pub copies: u8,
+    /// The tick at which they arrive.
+    pub tick: u8,
+    /// The bytes of each copy.
+    pub bytes: &'a [u8],
+}
+
+/// What arrives at node `to` of the frame `sent` by node `from` in this slot of the period.
+///
+/// The bytes are those of `sent`, of the plan, or of `scratch`, which is written only where a line sets bytes of the
+/// frame.
+pub fn deliveries<'a, const N: usize>(
+    plan: &'a FaultPlan<N>,
+    period: u32,
+    slot: u8,
+    from: u8,
+    to: u8,
+    sent: &'a [u8],
+    scratch: &'a mut [u8],
+) -> Delivered<'a>
+    requires period { period < plan.now.periods }
+    requires slot { slot < slot_count plan.now.rounds }
+    requires from { from < plan.now.nodes }
+    requires to { to < plan.now.nodes }
+    requires link { from ≢ to }
+    requires room { length scratch.old ≡ length sent.now }
+    ensures { replicate result.copies (result.tick, result.bytes.now) ≡ delivered_of (effect_at plan.now.lines period slot from to) sent.now }
+{
+    arrival(plan.effect(period, slot, from, to), sent, scratch)
+}
+
+/// What arrives of a frame by an effect.
+fn arrival<'a>(effect: Option<&'a Effect>, sent: &'a [u8], scratch: &'a mut [u8]) -> Delivered<'a>
+    requires { length scratch.old ≡ length sent.now }
+    ensures { replicate result.copies (result.tick, result.bytes.now) ≡ delivered_of (option_map (λ e. change_of e.now) effect.entry) sent.now }
+{
+    match effect {
+        None => once(ON_TIME, sent),
+        Some(Effect::Drop) => Delivered {
+            copies: 0,
+            tick: ON_TIME,
+            bytes: &sent[..0],
+        },
+        Some(Effect::Cut(count)) => once(
+            ON_TIME,
+            &sent[..sent.len().saturating_sub(*count as usize)],
+        ),
+        Some(Effect::Twice) => Delivered {
+            copies: 2,
+            tick: ON_TIME,
+            bytes: sent,
+        },
+        Some(Effect::Time(tick)) => once(*tick, sent),
+        Some(Effect::Set { at, bytes }) => {
+            patch(sent, *at as usize, bytes.as_slice(), scratch);
+            once(ON_TIME, scratch)
+        }
+        Some(Effect::Raw(bytes)) => once(ON_TIME, bytes.as_slice()),
+    }
+}
+
+/// One copy.
+fn once(tick: u8, bytes: &[u8]) -> Delivered<'_>
+    ensures copies { result.copies ≡ 1 }
+    ensures tick { result.tick ≡ tick }
+    ensures bytes { result.bytes.now ≡ bytes.now }
+{
+    Delivered {
+        copies: 1,
+        tick,
+        bytes,
+    }
+}
+
+/// Writes the frame with other bytes from an offset on, as far as they fall within it.
+fn patch(sent: &[u8], at: usize, bytes: &[u8], scratch: &mut [u8])
+    requires offset { at < 2 ^ 16 }
+    requires room { length scratch.old ≡ length sent.now }
+    ensures { scratch.new ≡ patched at bytes.now sent.now }
+{
+    scratch.copy_from_slice(sent);
+    let end = scratch.len().min(at + bytes.len());
+    for place in at..end {
+        scratch[place] = bytes[place - at];
+    }
+}
