@@ -1,0 +1,13 @@
+pub mod Config
+pub mod Agreed
+pub mod Body
+pub mod Steps
+pub mod Adoption
+pub mod Given
+pub mod Ranges
+pub mod Tables
+pub mod BodyLaws
+pub mod StateLaws
+pub mod ReadLaws
+pub mod AgreedLaws
+pub mod Laws
