@@ -79,6 +79,7 @@ mod tests {
             return;
         };
         table.start(&NodeSet::full(4), 0, true, Wrapped::Plain(row));
+        table.put(&Path::root(3), Wrapped::Plain(row));
         table.put(&Path::root(3).then(1), Wrapped::Plain(row));
         assert_eq!(rt; table.settle(3), Wrapped::Plain(row));
     }
