@@ -22,6 +22,16 @@ pub enum Channel<const N: usize> {
     },
 }
 
+// What stands in the places of a list that aren't in use.
+impl<const N: usize> Default for Channel<N> {
+    fn default() -> Self {
+        Channel::Sensor {
+            delta: 0,
+            task: None,
+        }
+    }
+}
+
 impl<const N: usize> Channel<N> {
     /// The greatest distance from the vote that isn't held against a node.
     pub fn delta(&self) -> i64
