@@ -1,4 +1,0 @@
-pub mod Arrival
-pub use Rattle.fault_classes.specs.Change
-pub use Rattle.fault_classes.specs.Line
-pub use Rattle.fault_classes.specs.Plan

@@ -1,4 +1,0 @@
-pub mod Flats
-pub mod Folding
-pub mod Tables
-pub mod Puts
