@@ -1,5 +1,5 @@
 -- What the fault plan of a run makes of links and classes.
-use Rattle.std.proofs.Common.{ℕ, suc, ◌≡◌, ◌≢◌, ◌<◌, ◌+◌, Bool, true, false, not, ◌&&◌, ◌||◌, List, [], ◌∷◌, Option, None, Some, refl, sym, ap, ap₂, subst, ◌∙◌, inl, inr, arith, eqb-true, lt-ltb, ltb-true}
+use Rattle.std.proofs.Common.{ℕ, suc, ◌≡◌, ◌≢◌, ◌<◌, ◌+◌, Bool, true, false, not, ◌&&◌, ◌||◌, List, [], ◌∷◌, Option, None, Some, refl, sym, subst, ◌∙◌, inl, inr, arith, lt-ltb, ltb-true}
 use Rattle.std.specs.Prelude.{◌==◌, nat_lt, nat_le}
 use Rattle.std.specs.List.{list_all, find}
 use Rattle.std.specs.Option.{option_map, option_or}
@@ -9,48 +9,17 @@ use Rattle.node_grid.specs.declared.class.Class.{Class}
 use Rattle.node_grid.specs.declared.class.Class.TheVariants.{N, J, B, S, A}
 use Rattle.node_grid.specs.Class.{is_nonfaulty, is_sound}
 use Rattle.node_grid.specs.Count.{count}
-use Rattle.fault_classes.specs.Change.{Change, is_untouched, is_manifest, same_change, same_effect}
+use Rattle.fault_classes.specs.Change.{Change, is_untouched, is_manifest}
 use Rattle.fault_classes.specs.Change.Change.{Lost, Shortened, Doubled, Timed, Patched, Replaced}
 use Rattle.fault_classes.specs.Line.{Line, touches, effect_at}
 use Rattle.fault_classes.specs.Plan.{Plan, slot_count, nodes_of, slots_of, restarts_at, each_frame, is_clean, is_symmetric_in, steady, recovers_in, joins_in, sound_before, classify, class_of}
 use Rattle.fault_classes.specs.Rules.{is_within, is_change, is_line, first_bad_line, refusal_of}
 use Rattle.safety.proofs.Lists.{has_below, all_at, not_same}
-use Rattle.safety.proofs.Sync.{bytes_exact}
+use Rattle.fault_classes.specs.ChangeLaws.{untouched_is, same_effect_is}
+use Rattle.fault_classes.specs.ClassLaws.{steady_if, joins_if, benign_if, symmetric_if}
 use Rattle.safety.proofs.Arrivals.{IsChange}
 
 -- ---- how a class comes out
-
-is_n_if : (below good joining benign symmetric : Bool) → classify below good joining benign symmetric ≡ N → (below ≡ true) × (good ≡ true)
-is_n_if true true j b s h = (refl, refl)
-is_n_if true false true b s h = cc
-is_n_if true false false true s h = cc
-is_n_if true false false false true h = cc
-is_n_if true false false false false h = cc
-is_n_if false g j b s h = cc
-
-is_j_if : (below good joining benign symmetric : Bool) → classify below good joining benign symmetric ≡ J → joining ≡ true
-is_j_if true true j b s h = cc
-is_j_if true false true b s h = refl
-is_j_if true false false true s h = cc
-is_j_if true false false false true h = cc
-is_j_if true false false false false h = cc
-is_j_if false g j b s h = cc
-
-is_b_if : (below good joining benign symmetric : Bool) → classify below good joining benign symmetric ≡ B → (below ≡ true) × (benign ≡ true)
-is_b_if true true j b s h = cc
-is_b_if true false true b s h = cc
-is_b_if true false false true s h = (refl, refl)
-is_b_if true false false false true h = cc
-is_b_if true false false false false h = cc
-is_b_if false g j b s h = cc
-
-is_s_if : (below good joining benign symmetric : Bool) → classify below good joining benign symmetric ≡ S → symmetric ≡ true
-is_s_if true true j b s h = cc
-is_s_if true false true b s h = cc
-is_s_if true false false true s h = cc
-is_s_if true false false false true h = refl
-is_s_if true false false false false h = cc
-is_s_if false g j b s h = cc
 
 is_sound_if : (below good joining benign symmetric : Bool) → is_sound (classify below good joining benign symmetric) ≡ true → below ≡ true
 is_sound_if true g j b s h = refl
@@ -71,30 +40,6 @@ nonfaulty_from true false false false false e = refl
 nonfaulty_from false g j b s e = cc
 
 -- ---- what befalls a frame
-
-untouched_is : (l : Option Change) → is_untouched l ≡ true → l ≡ None
-untouched_is None h = refl
-untouched_is (Some c) h = cc
-
-same_change_is : (a b : Change) → same_change a b ≡ true → a ≡ b
-same_change_is Lost Lost h = refl
-same_change_is (Shortened j) (Shortened k) h = ap Shortened (eqb-true j k h)
-same_change_is Doubled Doubled h = refl
-same_change_is (Timed j) (Timed k) h = ap Timed (eqb-true j k h)
-same_change_is (Patched a xs) (Patched b ys) h = let p = and_parts _ _ h in ap₂ Patched (eqb-true a b p.0) (bytes_exact.tells xs ys p.1)
-same_change_is (Replaced xs) (Replaced ys) h = ap Replaced (bytes_exact.tells xs ys h)
-same_change_is Lost _ h = cc
-same_change_is (Shortened k) _ h = cc
-same_change_is Doubled _ h = cc
-same_change_is (Timed t) _ h = cc
-same_change_is (Patched at xs) _ h = cc
-same_change_is (Replaced xs) _ h = cc
-
-same_effect_is : (a b : Option Change) → same_effect a b ≡ true → a ≡ b
-same_effect_is None None h = refl
-same_effect_is (Some c) (Some d) h = ap Some (same_change_is c d h)
-same_effect_is None (Some d) h = cc
-same_effect_is (Some c) None h = cc
 
 at_least_one : (k : ℕ) → is_within 1 4096 k ≡ true → 0 < k
 at_least_one k h = grind (arith, nat_tests)
@@ -150,16 +95,13 @@ module _ (plan : Plan) where
   below_at p j h = ltb-true _ _ (is_sound_if _ _ _ _ _ h)
 
   pub benign_below : (p j : ℕ) → class_of plan p j ≡ B → j < plan.nodes
-  unfolding class_of
-  benign_below p j h = ltb-true _ _ (is_b_if (nat_lt j plan.nodes) (steady plan p (sound_before plan p) j) _ _ _ h).0
+  benign_below p j h = (benign_if plan p j h).0
 
   steady_at : (p j : ℕ) → class_of plan p j ≡ N → steady plan p (sound_before plan p) j ≡ true
-  unfolding class_of
-  steady_at p j h = (is_n_if (nat_lt j plan.nodes) (steady plan p (sound_before plan p) j) _ _ _ h).1
+  steady_at p j h = (steady_if plan p j h).1
 
   joins_at : (p j : ℕ) → class_of plan p j ≡ J → joins_in plan p (sound_before plan p) j ≡ true
-  unfolding class_of
-  joins_at p j h = is_j_if (nat_lt j plan.nodes) (steady plan p (sound_before plan p) j) _ _ _ h
+  joins_at p j h = (joins_if plan p j h).1
 
   pub stays_at : (p j : ℕ) → class_of plan p j ≡ N → restarts_at plan j p ≡ false
   stays_at p j n = not-true _ (and_parts _ _ (and_parts _ _ (steady_at p j n)).1).0
@@ -180,13 +122,13 @@ module _ (plan : Plan) where
   pub manifest_at : (p s j i : ℕ) → class_of plan p j ≡ B → is_sound (class_of plan p i) ≡ true → s < slot_count plan.rounds → j ≢ i → is_manifest (effect_at plan.lines p s j i) ≡ true
   unfolding class_of
   manifest_at p s j i b si hs ne =
-      frame_at is_manifest p s j i (is_b_if (nat_lt j plan.nodes) (steady plan p (sound_before plan p) j) _ _ _ b).1 hs (ltb-true _ _ (is_sound_if _ _ _ _ _ si)) ne
+      frame_at is_manifest p s j i (benign_if plan p j b).1 hs (ltb-true _ _ (is_sound_if _ _ _ _ _ si)) ne
 
   pub alike_at : (p s j i h : ℕ) → class_of plan p j ≡ S → is_sound (class_of plan p i) ≡ true → is_sound (class_of plan p h) ≡ true → s < slot_count plan.rounds → j ≢ i → j ≢ h
       → effect_at plan.lines p s j i ≡ effect_at plan.lines p s j h
   unfolding class_of
   alike_at p s j i h y si sh hs ni nh =
-      let all : is_symmetric_in plan p j ≡ true = is_s_if (nat_lt j plan.nodes) (steady plan p (sound_before plan p) j) _ _ _ y in
+      let all : is_symmetric_in plan p j ≡ true = (symmetric_if plan p j y).1 in
       let a = all_at _ (slots_of plan) s all (has_below (slot_count plan.rounds) s hs) in
       let b = all_at _ (nodes_of plan) i a (has_below plan.nodes i (ltb-true _ _ (is_sound_if _ _ _ _ _ si))) in
       let c = all_at _ (nodes_of plan) h b (has_below plan.nodes h (ltb-true _ _ (is_sound_if _ _ _ _ _ sh))) in
@@ -195,7 +137,7 @@ module _ (plan : Plan) where
   pub sound_before_at : (p j : ℕ) → class_of plan (suc p) j ≡ N → is_sound (class_of plan p j) ≡ true
   unfolding class_of sound_before
   sound_before_at p j n =
-      let st : steady plan (suc p) (sound_before plan (suc p)) j ≡ true = (is_n_if (nat_lt j plan.nodes) (steady plan (suc p) (sound_before plan (suc p)) j) _ _ _ n).1 in
+      let st : steady plan (suc p) (sound_before plan (suc p)) j ≡ true = (steady_if plan (suc p) j n).1 in
       let low = (and_parts _ _ st).0 in
       let rest = (and_parts (nat_lt j plan.nodes) (not (restarts_at plan j (suc p)) && (is_clean plan (suc p) j && sound_before plan (suc p) j)) st).1 in
       let more = (and_parts (not (restarts_at plan j (suc p))) (is_clean plan (suc p) j && sound_before plan (suc p) j) rest).1 in

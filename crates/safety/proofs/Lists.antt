@@ -1,39 +1,22 @@
 -- Lists of nodes: what they have, and how many of them pass a test.
-use Rattle.std.proofs.Common.{ℕ, zero, suc, ◌≡◌, ◌≢◌, ◌<◌, ◌≤◌, ◌+◌, Bool, true, false, not, ◌&&◌, ◌||◌, ◌==◌, List, [], ◌∷◌, map, filter, length, None, Some, refl, sym, ap, ap₂, subst, ◌∙◌, inl, inr, arith, eqb-true, eq-eqb, ltb-true, lt-ltb, le-ltb, nat_lt}
+use Rattle.std.proofs.Common.{ℕ, zero, suc, ◌≡◌, ◌≢◌, ◌<◌, ◌≤◌, ◌+◌, Bool, true, false, not, ◌&&◌, ◌||◌, ◌==◌, List, [], ◌∷◌, map, filter, length, None, Some, refl, sym, ap, subst, ◌∙◌, inl, inr, arith, eqb-true, eq-eqb, ltb-true, lt-ltb, le-ltb, nat_lt}
 use Rattle.std.specs.Prelude.{if◌then◌else◌}
 use Rattle.std.specs.List.{range_with_len, list_any, list_all}
-use Rattle.std.proofs.lemmas.Bool.{cases_Bool, cases_eq, cases_lt, cond-true, cond-false, or_left, or_right, or_cases, or_from, and_from, and_parts, both_ways}
+use Rattle.std.proofs.lemmas.Bool.{cases_Bool, cases_lt, cond-true, cond-false, or_left, or_right, or_cases, or_from, and_from, and_parts, both_ways}
 use Rattle.std.proofs.lemmas.List.FromFn.{get_or-map-range_with_len}
 use Rattle.std.specs.Prelude.{slice_index_or}
-use Rattle.node_grid.specs.NodeSet.{ids_below, has_id, ids_where, IsIdSet}
-use Rattle.node_grid.specs.NodeSetLaws.{has-filter, hasnt-filter, hasnt-above}
+use Rattle.node_grid.specs.NodeSet.{ids_below, has_id, ids_where}
+use Rattle.node_grid.specs.NodeSetLaws.{has-filter, hasnt-filter}
 use Rattle.node_grid.specs.Count.{bit, count, Distinct}
+use Rattle.list_scheduler.specs.CopyLaws.{has_range, range_below, map_range}
 
 -- ---- ranges
-
-pub has_range : (a n k : ℕ) → a ≤ k → k < a + n → has_id (range_with_len a n) k ≡ true
-has_range a zero k l u = absurd (omega arith)
-has_range a (suc n) k l u = elim (cases_eq a k) [
-  | inl e ↦ or_left _ _ (eq-eqb a k e)
-  | inr ne ↦ or_right (a == k) _ (has_range (a + 1) n k (omega arith) (omega arith))
-]
 
 pub has_below : (n k : ℕ) → k < n → has_id (ids_below n) k ≡ true
 has_below n k h = has_range 0 n k (omega arith) (omega arith)
 
-pub range_below : (a n q : ℕ) → has_id (range_with_len a n) q ≡ true → q < a + n
-range_below a zero q h = cc
-range_below a (suc n) q h = elim (or_cases (a == q) _ h) [
-  | inl e ↦ let d = eqb-true a q e in omega arith
-  | inr later ↦ let l = range_below (a + 1) n q later in omega arith
-]
-
 pub below_of : (n q : ℕ) → has_id (ids_below n) q ≡ true → q < n
 below_of n q h = let l = range_below 0 n q h in omega arith
-
-pub map_range : {X : Type 0} (f g : ℕ → X) (a n : ℕ) → ((k : ℕ) → a ≤ k → k < a + n → f k ≡ g k) → map f (range_with_len a n) ≡ map g (range_with_len a n)
-map_range f g a zero h = refl
-map_range f g a (suc n) h = ap₂ ◌∷◌ (h a (omega arith) (omega arith)) (map_range f g (a + 1) n (λ k l u. h k (omega arith) (omega arith)))
 
 pub map_below : {X : Type 0} (f g : ℕ → X) (n : ℕ) → ((k : ℕ) → k < n → f k ≡ g k) → map f (ids_below n) ≡ map g (ids_below n)
 map_below f g n h = map_range f g 0 n (λ k l u. h k (omega arith))
@@ -80,38 +63,6 @@ passes_where f n q h = (and_parts (nat_lt q n) (f q) (sym (has_where f n q) ∙ 
 
 pub in_where : (f : ℕ → Bool) (n q : ℕ) → q < n → f q ≡ true → has_id (ids_where f n) q ≡ true
 in_where f n q low h = has_where f n q ∙ and_from _ _ (lt-ltb _ _ low) h
-
-pub below_set : (n : ℕ) (s : List ℕ) (q : ℕ) → IsIdSet n s → has_id s q ≡ true → q < n
-below_set n s q set on = elim (cases_lt q n) [
-  | inl low ↦ low
-  | inr high ↦ absurd (both_ways _ (hasnt-above n s q set high) on)
-]
-
-distinct_range : (f : ℕ → Bool) (a n : ℕ) → Distinct (filter f (range_with_len a n))
-distinct_range f a zero = tt
-distinct_range f a (suc n) = elim (cases_Bool (f a)) [
-  | inl keeps ↦ subst Distinct (sym (cond-true (f a) (a ∷ filter f (range_with_len (a + 1) n)) (filter f (range_with_len (a + 1) n)) keeps)) (first_apart, distinct_range f (a + 1) n)
-  | inr drops ↦ subst Distinct (sym (cond-false (f a) (a ∷ filter f (range_with_len (a + 1) n)) (filter f (range_with_len (a + 1) n)) drops)) (distinct_range f (a + 1) n)
-]
-  where
-    above : (b k q : ℕ) → has_id (range_with_len b k) q ≡ true → b ≤ q
-    above b zero q h = cc
-    above b (suc k) q h = elim (or_cases (b == q) _ h) [
-      | inl e ↦ let d = eqb-true b q e in omega arith
-      | inr later ↦ let l = above (b + 1) k q later in omega arith
-    ]
-
-    first_apart : has_id (filter f (range_with_len (a + 1) n)) a ≡ false
-    first_apart = elim (cases_Bool (has_id (filter f (range_with_len (a + 1) n)) a)) [
-      | inl on ↦ let l = above (a + 1) n a (in_filter f (range_with_len (a + 1) n) a on) in absurd (omega arith)
-      | inr off ↦ off
-    ]
-
-pub distinct_where : (f : ℕ → Bool) (n : ℕ) → Distinct (ids_where f n)
-distinct_where f n = distinct_range f 0 n
-
-pub distinct_set : (n : ℕ) (s : List ℕ) → IsIdSet n s → Distinct s
-distinct_set n s set = subst Distinct (sym set) (distinct_where (has_id s) n)
 
 -- ---- what all or some elements pass
 

@@ -32,7 +32,8 @@ use Rattle.protocol.specs.Safe.{Classing, reference, members_from, members_at, B
 use Rattle.safety.specs.Told.{Told}
 use Rattle.safety.specs.Charges.{RowsFit}
 use Rattle.safety.specs.Given.{Valued, AllExpect, IsGiven, IsSparing, Started}
-use Rattle.safety.proofs.Lists.{any_below, below_set, distinct_set, tabulated}
+use Rattle.safety.proofs.Lists.{any_below, tabulated}
+use Rattle.omh_paths.specs.MemberLaws.{Distinct-ids, member-lt}
 use Rattle.safety.proofs.Classes.{is_n}
 use Rattle.safety.proofs.Masks.{mask_lacks}
 use Rattle.safety.proofs.Charging.{no_charge_law, full_charge_law}
@@ -168,10 +169,10 @@ module _ (cl : Cluster) (class_of : Classing) (p : ℕ) (h : Here cl class_of p)
   told_rows = (h.all.given.reception p).report h.start.state.standing.members expect
 
   distinct : Distinct h.start.state.standing.members
-  distinct = distinct_set cl.setting.config.nodes h.start.state.standing.members h.start.valid.standing.set
+  distinct = Distinct-ids cl.setting.config.nodes h.start.state.standing.members h.start.valid.standing.set
 
   pub below : (q : ℕ) → has_id h.start.state.standing.members q ≡ true → q < cl.setting.config.nodes
-  below q on = below_set cl.setting.config.nodes h.start.state.standing.members q h.start.valid.standing.set on
+  below q on = member-lt cl.setting.config.nodes h.start.state.standing.members q h.start.valid.standing.set on
 
   in_room : (q : ℕ) → has_id h.start.state.standing.members q ≡ true → q < cl.setting.capacity
   in_room q on = let l = below q on in let f = h.all.given.config.few_nodes in omega arith

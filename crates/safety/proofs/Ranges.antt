@@ -37,10 +37,12 @@ use Rattle.protocol.specs.Talk.{Talk}
 use Rattle.protocol.specs.View.{Setting, Kept, Received, bodies_for, adopted_by, claim_at, channel, no_channel, due_channels, is_due, value_at, first_there, own_from, own_value, own_values, own_in, channel_room, kind_count, row_by, empty_row, through, joined, view_from}
 use Rattle.protocol.specs.Run.{System, members_in, claim_sent, expectation}
 use Rattle.protocol.specs.Accepted.{IsAccepted}
-use Rattle.safety.proofs.Lists.{tabulated, below_where, distinct_set}
+use Rattle.safety.proofs.Lists.{tabulated, below_where}
+use Rattle.omh_paths.specs.MemberLaws.{Distinct-ids}
 use Rattle.safety.proofs.Masks.{mask_below}
 use Rattle.safety.proofs.Spans.{cut_low, cut_high}
-use Rattle.safety.proofs.Copies.{works_are, listed_task, few_tasks}
+use Rattle.list_scheduler.specs.CopyLaws.{works_runs}
+use Rattle.safety.proofs.Copies.{listed_task, few_tasks}
 use Rattle.safety.proofs.PathCounts.{entries_number}
 use Rattle.safety.proofs.Talks.{FormFits}
 use Rattle.safety.proofs.Premises.{StateLaws}
@@ -187,7 +189,7 @@ module _ (sys : System) (given : IsAccepted sys) (states : StateLaws sys.setting
 
   pub members_distinct : (o : Option AgreedView) → Valid o → Distinct (members_in o)
   members_distinct None v = tt
-  members_distinct (Some a) v = distinct_set sys.setting.config.nodes a.standing.members (v a refl).standing.set
+  members_distinct (Some a) v = Distinct-ids sys.setting.config.nodes a.standing.members (v a refl).standing.set
 
   pub members_few : (o : Option AgreedView) → Valid o → length (members_in o) ≤ 16
   members_few None v = omega arith
@@ -222,7 +224,7 @@ module _ (sys : System) (given : IsAccepted sys) (states : StateLaws sys.setting
       by_work : (o : Option (ℕ × ℕ)) → works a.copies i ≡ o → IsClaim (length sys.setting.config.graph.tasks) (claim_at g.run o)
       by_work None e = inl refl
       by_work (Some w) e =
-          let r = works_are a.copies i w e in
+          let r = (works_runs a.copies i w e).0 in
           let some = (v a refl).copies.early w.0 i w.1 r in
           let low = listed_task sys.setting.config.graph w.0 (omega arith) in
           by_time (nat_le (slice_index g.run w.0) w.1) w.0 low
