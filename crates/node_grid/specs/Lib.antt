@@ -1,4 +1,6 @@
 pub mod Capacity
+pub mod Version
+pub mod Kinds
 pub mod NodeSet
 pub mod NodeSetLaws
 pub mod Matrix

@@ -4,12 +4,16 @@
 #![tactic(auto)]
 
 mod class;
+pub mod kind;
 mod matrix;
 mod node_set;
 
 pub use class::Class;
 pub use matrix::{Matrix, Row};
 pub use node_set::{Ids, NodeSet};
+
+/// In place of a task, where none is claimed.
+pub const NO_CLAIM: u8 = 255;
 
 /// The answer of a call that could not have the memory that it needs.
 #[derive(Clone, Copy, Debug, PartialEq, Eq)]
