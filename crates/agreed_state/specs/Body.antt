@@ -82,7 +82,7 @@ is_copy most true Passed = true
 is_copy most true Failed = true
 
 abbrev pub is_copy_at : GraphView → CopyTable → ℕ → ℕ → Bool
-is_copy_at graph copies t q = is_copy (task_at graph.tasks t).most (has_id (task_at graph.tasks t).allowed q) (copy_at copies t q)
+is_copy_at graph copies t q = is_copy (task_at graph.tasks t).max (has_id (task_at graph.tasks t).nodes q) (copy_at copies t q)
 
 abbrev pub is_running : CopyState → Bool
 is_running Idle = false

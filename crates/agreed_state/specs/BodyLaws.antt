@@ -172,8 +172,8 @@ words_at-list capacity nodes k ws xs long here rest =
     ])
 
 -- a graph's tasks allow none but its nodes, and what is no task allows none
-pub allowed_behind : (capacity : ℕ) (graph : GraphView) (t q : ℕ) → IsGraph capacity graph → graph.nodes ≤ q → has_id (task_at graph.tasks t).allowed q ≡ false
-allowed_behind capacity graph t q ok behind = elim (cases_Bool (has_id (task_at graph.tasks t).allowed q)) [
+pub allowed_behind : (capacity : ℕ) (graph : GraphView) (t q : ℕ) → IsGraph capacity graph → graph.nodes ≤ q → has_id (task_at graph.tasks t).nodes q ≡ false
+allowed_behind capacity graph t q ok behind = elim (cases_Bool (has_id (task_at graph.tasks t).nodes q)) [
   | inl on ↦
       let task = task_ranged graph.nodes graph.tasks ok.tasks.in_range t (allowed_within graph.tasks t q on) in
       let below = task.allowed q on in
@@ -181,13 +181,13 @@ allowed_behind capacity graph t q ok behind = elim (cases_Bool (has_id (task_at 
   | inr off ↦ off
 ]
 
-pub allowed_past : (graph : GraphView) (t q : ℕ) → length graph.tasks ≤ t → has_id (task_at graph.tasks t).allowed q ≡ false
-allowed_past graph t q past = ap (λ (x : TaskView). has_id x.allowed q) (task_past graph.tasks t past)
+pub allowed_past : (graph : GraphView) (t q : ℕ) → length graph.tasks ≤ t → has_id (task_at graph.tasks t).nodes q ≡ false
+allowed_past graph t q past = ap (λ (x : TaskView). has_id x.nodes q) (task_past graph.tasks t past)
 
-pub most_small : (capacity : ℕ) (graph : GraphView) (t : ℕ) → IsGraph capacity graph → (task_at graph.tasks t).most ≤ 1024
+pub most_small : (capacity : ℕ) (graph : GraphView) (t : ℕ) → IsGraph capacity graph → (task_at graph.tasks t).max ≤ 1024
 most_small capacity graph t ok = elim (cases_lt t (length graph.tasks)) [
   | inl within ↦ let task = task_ranged graph.nodes graph.tasks ok.tasks.in_range t within in task.most
-  | inr past ↦ omega (arith, ap (λ (x : TaskView). x.most) (task_past graph.tasks t past))
+  | inr past ↦ omega (arith, ap (λ (x : TaskView). x.max) (task_past graph.tasks t past))
 ]
 
 pub same_state : (m m' c c' s s' : List ℕ) (t t' : CopyTable) → m ≡ m' → c ≡ c' → s ≡ s' → t ≡ t'
@@ -216,6 +216,6 @@ state_in-words capacity config a small ok agreed =
     copy_read t q true et true eq =
         let room = room-of capacity config a ok agreed in
         rw (et, eq) (ap copy_of (copies_word config a t q room (lt_from t _ et) (lt_from q _ eq))
-        ∙ copy_of-copy_word (task_at config.graph.tasks t).most (copy_at a.copies t q) (most_small capacity config.graph t ok.graph) (λ e r. agreed.copies.early t q e r))
+        ∙ copy_of-copy_word (task_at config.graph.tasks t).max (copy_at a.copies t q) (most_small capacity config.graph t ok.graph) (λ e r. agreed.copies.early t q e r))
     copy_read t q true et false eq = rw (et, eq) (sym (agreed.copies.allowed t q (allowed_behind capacity config.graph t q ok.graph (from_no q config.graph.nodes eq))))
     copy_read t q false et b' eq = rw et (sym (agreed.copies.allowed t q (allowed_past config.graph t q (from_no t (length config.graph.tasks) et))))

@@ -50,6 +50,6 @@ pub record IsConfig (capacity : ℕ) (config : Config capacity) : Type 0 where
 
 -- what node i is given: run times within the bounds of its tasks, and readings in range
 pub record IsInputs (graph : GraphView) (i : ℕ) (inputs : Inputs) : Type 0 where
-  pub least : (t : ℕ) → t < length graph.tasks → has_id (task_at graph.tasks t).allowed i ≡ true → (task_at graph.tasks t).least ≤ slice_index inputs.run t
-  pub most : (t : ℕ) → t < length graph.tasks → has_id (task_at graph.tasks t).allowed i ≡ true → slice_index inputs.run t ≤ (task_at graph.tasks t).most
+  pub least : (t : ℕ) → t < length graph.tasks → has_id (task_at graph.tasks t).nodes i ≡ true → (task_at graph.tasks t).min ≤ slice_index inputs.run t
+  pub most : (t : ℕ) → t < length graph.tasks → has_id (task_at graph.tasks t).nodes i ≡ true → slice_index inputs.run t ≤ (task_at graph.tasks t).max
   pub readings : All IsValue inputs.reading

@@ -164,8 +164,8 @@ state_in-agreed capacity config ws small ok h =
         allowed = λ t q off. elim (cases_lt t (length config.graph.tasks)) [
           | inl in_tasks ↦ elim (cases_lt q config.nodes) [
             | inl in_use ↦
-                let b : is_copy (task_at config.graph.tasks t).most false (copy_at copies t q) ≡ true =
-                subst (λ (allowed : Bool). is_copy (task_at config.graph.tasks t).most allowed (copy_at copies t q) ≡ true) off (copy_passes p t q in_tasks in_use) in
+                let b : is_copy (task_at config.graph.tasks t).max false (copy_at copies t q) ≡ true =
+                subst (λ (allowed : Bool). is_copy (task_at config.graph.tasks t).max allowed (copy_at copies t q) ≡ true) off (copy_passes p t q in_tasks in_use) in
                 idle_is (copy_at copies t q) b
             | inr behind ↦ at t q ∙ idle_behind config.graph k ws t q (omega (arith, ok.graph_nodes))
           ]
@@ -173,7 +173,7 @@ state_in-agreed capacity config ws small ok h =
         ];
         early = λ t q e r.
             let within = inside t q e r in
-            running_in_range (task_at config.graph.tasks t).most e (has_id (task_at config.graph.tasks t).allowed q) (copy_at copies t q) r (copy_passes p t q within.0 within.1);
+            running_in_range (task_at config.graph.tasks t).max e (has_id (task_at config.graph.tasks t).nodes q) (copy_at copies t q) r (copy_passes p t q within.0 within.1);
         one = λ t u q e f r r'.
             let within = inside t q e r in
             let within' = inside u q f r' in
@@ -202,7 +202,7 @@ state_in-agreed capacity config ws small ok h =
         (within.0, omega (arith, within.1, ok.graph_nodes))
 
     copy_passes : Passes config (state_in capacity config ws) → (t q : ℕ) → t < length config.graph.tasks → q < config.nodes
-        → is_copy (task_at config.graph.tasks t).most (has_id (task_at config.graph.tasks t).allowed q) (copy_at copies t q) ≡ true
+        → is_copy (task_at config.graph.tasks t).max (has_id (task_at config.graph.tasks t).nodes q) (copy_at copies t q) ≡ true
     copy_passes p t q in_tasks in_use = all_below_at (is_copy_at config.graph copies t) config.nodes q (all_below_at _ (length config.graph.tasks) t p.copies in_tasks) in_use
 
 -- ---- the words of what is read are those that were read
@@ -323,7 +323,7 @@ words-fit capacity config a small ok agreed = All-from_get_or (λ word. word < 6
               (omega (
                 arith,
                 copies_word config a (r / n) (r % n) room place.0 place.1,
-                copy_word-fits (task_at config.graph.tasks (r / n)).most (copy_at a.copies (r / n) (r % n)) (most_small capacity config.graph (r / n) ok.graph) (λ e q. agreed.copies.early (r / n) (r % n) e q),
+                copy_word-fits (task_at config.graph.tasks (r / n)).max (copy_at a.copies (r / n) (r % n)) (most_small capacity config.graph (r / n) ok.graph) (λ e q. agreed.copies.early (r / n) (r % n) e q),
               ))
         ]
       ]

@@ -63,7 +63,7 @@ is_state-agreed capacity config a ok =
     and_from _ _ (le_yes (get_or a.standing.counts q 0) config.policy.cap (ok.standing.counted.capped q in_use)) (lt_yes (get_or a.standing.streaks q 0) config.policy.streak (ok.standing.counted.unfilled q in_use))) in
     let copies : list_all (λ t. list_all (is_copy_at config.graph a.copies t) (ids_below config.nodes)) (ids_below (length config.graph.tasks)) ≡ true =
     all_below_from _ (length config.graph.tasks) (λ t in_tasks. all_below_from (is_copy_at config.graph a.copies t) config.nodes (λ q in_use.
-    copy_passes (task_at config.graph.tasks t).most (has_id (task_at config.graph.tasks t).allowed q) (copy_at a.copies t q) (ok.copies.allowed t q) (λ e r. ok.copies.early t q e r))) in
+    copy_passes (task_at config.graph.tasks t).max (has_id (task_at config.graph.tasks t).nodes q) (copy_at a.copies t q) (ok.copies.allowed t q) (λ e r. ok.copies.early t q e r))) in
     let few : list_all (runs_few (length config.graph.tasks) a.standing.members a.copies) (ids_below config.nodes) ≡ true =
     all_below_from _ config.nodes (λ q in_use. few_run config.graph (length config.graph.tasks) a.standing.members a.copies q ok.copies ok.members_run) in
     and_from _ _ (and_from _ _ (and_from _ _ (and_from _ _ some members) counted) copies) few

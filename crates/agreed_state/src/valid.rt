@@ -77,7 +77,7 @@ fn task_fits<const N: usize>(graph: &TaskGraph<N>, copies: &Copies<N>, task: u8)
 
 /// Whether a copy of the task may stand so on a node.
 fn copy_fits<const N: usize>(task: &Task<N>, node: u8, copy: CopyState) -> bool
-    ensures { result ≡ is_copy task.now.most (has_id task.now.allowed node) copy }
+    ensures { result ≡ is_copy task.now.max (has_id task.now.nodes node) copy }
 {
     match copy {
         CopyState::Idle => true,

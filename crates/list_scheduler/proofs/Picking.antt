@@ -70,7 +70,7 @@ eligible_same : (n : ℕ) (graph : GraphView) (ys : List ℕ) (old c : CopyTable
 eligible_same n graph ys old c node is_graph is next t ht =
     let few = few_tasks graph.nodes graph.tasks is_graph.tasks.in_range in
     let r = task_ranged graph.nodes graph.tasks is_graph.tasks.in_range t ht in
-    ap₂ (λ (a b : Bool). has_id (task_at graph.tasks t).allowed node && a && b)
+    ap₂ (λ (a b : Bool). has_id (task_at graph.tasks t).nodes node && a && b)
     (ap is_idle (column n graph ys old c node is next t (omega arith)))
     (list_all_same (finished graph c) (finished graph old) (task_at graph.tasks t).after (λ u on. let l = r.before u on in finished_same n graph ys old c is_graph is u (omega arith)))
 
@@ -182,7 +182,7 @@ count_few f (suc n) = let e : n + 1 ≡ suc n = omega arith in let m = rw e at (
 
 -- ---- eligibility, test by test
 
-pub eligible_from : (graph : GraphView) (copies : CopyTable) (q t : ℕ) → has_id (task_at graph.tasks t).allowed q ≡ true → is_idle (copy_at copies t q) ≡ true
+pub eligible_from : (graph : GraphView) (copies : CopyTable) (q t : ℕ) → has_id (task_at graph.tasks t).nodes q ≡ true → is_idle (copy_at copies t q) ≡ true
     → list_all (finished graph copies) (task_at graph.tasks t).after ≡ true → true ≡ is_eligible graph copies q t
 eligible_from graph copies q t on idle all = sym (ap₂ ◌&&◌ (ap₂ ◌&&◌ on idle) all)
 

@@ -61,8 +61,8 @@ works copies q = works_among copies q (ids_below most_tasks)
 -- copies as an agreed state may have them, but for what is said of non-members: a node has copies of its tasks
 -- alone, a running copy's e is from 1 to the task's greatest run time, and a node has at most one running copy
 pub record IsCopies (graph : GraphView) (copies : CopyTable) : Type 0 where
-  pub allowed : (t q : ℕ) → has_id (task_at graph.tasks t).allowed q ≡ false → copy_at copies t q ≡ Idle
-  pub early : (t q e : ℕ) → copy_at copies t q ≡ Running e → (0 < e) × (e ≤ (task_at graph.tasks t).most)
+  pub allowed : (t q : ℕ) → has_id (task_at graph.tasks t).nodes q ≡ false → copy_at copies t q ≡ Idle
+  pub early : (t q e : ℕ) → copy_at copies t q ≡ Running e → (0 < e) × (e ≤ (task_at graph.tasks t).max)
   pub one : (t u q e f : ℕ) → copy_at copies t q ≡ Running e → copy_at copies u q ≡ Running f → t ≡ u
 
 -- and no copy runs on a node that isn't a member

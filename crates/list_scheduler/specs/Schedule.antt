@@ -38,8 +38,8 @@ abbrev pub verdict_at : GraphView → Option (ℕ × ℕ) → Wrapped ℕ → Ve
 verdict_at graph None c = record { claim = claims_task c; overrun = false }
 verdict_at graph (Some w) c =
     if claims c w.0
-    then record { claim = nat_lt w.1 (task_at graph.tasks w.0).least; overrun = false }
-    else record { claim = claims_task c; overrun = nat_le (task_at graph.tasks w.0).most w.1 }
+    then record { claim = nat_lt w.1 (task_at graph.tasks w.0).min; overrun = false }
+    else record { claim = claims_task c; overrun = nat_le (task_at graph.tasks w.0).max w.1 }
 
 -- the verdict on each node
 abbrev pub verdict : GraphView → List ℕ → CopyTable → List (Wrapped ℕ) → ℕ → Verdict
@@ -50,8 +50,8 @@ verdict graph members copies settled q =
 abbrev pub worked_on : GraphView → ℕ → ℕ → Wrapped ℕ → CopyState
 worked_on graph t e c =
     if claims c t
-    then (if nat_lt e (task_at graph.tasks t).least then Running (e + 1) else Passed)
-    else (if nat_lt e (task_at graph.tasks t).most then Running (e + 1) else Failed)
+    then (if nat_lt e (task_at graph.tasks t).min then Running (e + 1) else Passed)
+    else (if nat_lt e (task_at graph.tasks t).max then Running (e + 1) else Failed)
 
 -- the copy of task t, of a member that works at this
 abbrev pub completed_at : GraphView → ℕ → CopyState → Option (ℕ × ℕ) → Wrapped ℕ → CopyState
@@ -94,7 +94,7 @@ finished graph copies t = nat_le (task_at graph.tasks t).need (count (λ q. is_p
 -- whether node q may start task t
 abbrev pub is_eligible : GraphView → CopyTable → ℕ → ℕ → Bool
 is_eligible graph copies q t =
-    has_id (task_at graph.tasks t).allowed q && is_idle (copy_at copies t q) && list_all (finished graph copies) (task_at graph.tasks t).after
+    has_id (task_at graph.tasks t).nodes q && is_idle (copy_at copies t q) && list_all (finished graph copies) (task_at graph.tasks t).after
 
 -- the least task that node q may start
 abbrev pub pick_of : GraphView → CopyTable → ℕ → Option ℕ

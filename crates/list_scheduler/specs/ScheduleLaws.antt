@@ -20,7 +20,7 @@ use Rattle.list_scheduler.specs.Schedule.{no_claim, claims, no_verdict, verdict_
 
 pub record IsOrdered (graph : GraphView) : Type 0 where
   pub few : length graph.tasks ≤ 32
-  pub ordered : (t : ℕ) → t < length graph.tasks → (0 < (task_at graph.tasks t).least) × ((task_at graph.tasks t).least ≤ (task_at graph.tasks t).most)
+  pub ordered : (t : ℕ) → t < length graph.tasks → (0 < (task_at graph.tasks t).min) × ((task_at graph.tasks t).min ≤ (task_at graph.tasks t).max)
 
 pub graph_ordered : (n : ℕ) (graph : GraphView) → IsGraph n graph → IsOrdered graph
 graph_ordered n graph is = record {
@@ -30,7 +30,7 @@ graph_ordered n graph is = record {
 
 -- what runs is a task of the graph
 pub runs_listed : (graph : GraphView) (copies : CopyTable) (t q e : ℕ) → IsCopies graph copies → copy_at copies t q ≡ Running e → t < length graph.tasks
-runs_listed graph copies t q e is h = elim (cases_Bool (has_id (task_at graph.tasks t).allowed q)) [
+runs_listed graph copies t q e is h = elim (cases_Bool (has_id (task_at graph.tasks t).nodes q)) [
   | inl on ↦ allowed_within graph.tasks t q on
   | inr off ↦ let z : Running e ≡ Idle = sym h ∙ is.allowed t q off in absurd (let y : ⊥ = cc in y)
 ]
@@ -43,8 +43,8 @@ running_in n f t q e h = elim (in_table n f t q) [
   | inr i ↦ let z : Running e ≡ Idle = sym h ∙ i in absurd (let y : ⊥ = cc in y)
 ]
 
-pub table_copies : (n : ℕ) (graph : GraphView) (f : ℕ → ℕ → CopyState) → ((t q : ℕ) → has_id (task_at graph.tasks t).allowed q ≡ false → f t q ≡ Idle)
-    → ((t q e : ℕ) → f t q ≡ Running e → (0 < e) × (e ≤ (task_at graph.tasks t).most))
+pub table_copies : (n : ℕ) (graph : GraphView) (f : ℕ → ℕ → CopyState) → ((t q : ℕ) → has_id (task_at graph.tasks t).nodes q ≡ false → f t q ≡ Idle)
+    → ((t q e : ℕ) → f t q ≡ Running e → (0 < e) × (e ≤ (task_at graph.tasks t).max))
     → ((t u q e g : ℕ) → f t q ≡ Running e → f u q ≡ Running g → t ≡ u)
     → IsCopies graph (table n f)
 table_copies n graph f allowed early one = record {
@@ -65,26 +65,26 @@ running_one x e h = cc
 record Came (graph : GraphView) (c : CopyState) (t e : ℕ) : Type 0 where
   at : ℕ
   was : c ≡ Running at
-  bounds : (0 < e) × (e ≤ (task_at graph.tasks t).most)
+  bounds : (0 < e) × (e ≤ (task_at graph.tasks t).max)
 
-came_on : (graph : GraphView) (t x e : ℕ) (c : Wrapped ℕ) → IsOrdered graph → t < length graph.tasks → worked_on graph t x c ≡ Running e → (0 < e) × (e ≤ (task_at graph.tasks t).most)
+came_on : (graph : GraphView) (t x e : ℕ) (c : Wrapped ℕ) → IsOrdered graph → t < length graph.tasks → worked_on graph t x c ≡ Running e → (0 < e) × (e ≤ (task_at graph.tasks t).max)
 came_on graph t x e c ordered ht h =
     let o = ordered.ordered t ht in
     elim (cases_Bool (claims c t)) [
-      | inl says ↦ elim (cases_Bool (nat_lt x (task_at graph.tasks t).least)) [
+      | inl says ↦ elim (cases_Bool (nat_lt x (task_at graph.tasks t).min)) [
         | inl soon ↦
-            let d : x + 1 ≡ e = running_one _ _ (sym (cond-true (claims c t) _ _ says ∙ cond-true (nat_lt x (task_at graph.tasks t).least) _ _ soon) ∙ h) in
-            let l : x < (task_at graph.tasks t).least = ltb-true _ _ soon in
-            let m : (task_at graph.tasks t).least ≤ (task_at graph.tasks t).most = o.1 in
+            let d : x + 1 ≡ e = running_one _ _ (sym (cond-true (claims c t) _ _ says ∙ cond-true (nat_lt x (task_at graph.tasks t).min) _ _ soon) ∙ h) in
+            let l : x < (task_at graph.tasks t).min = ltb-true _ _ soon in
+            let m : (task_at graph.tasks t).min ≤ (task_at graph.tasks t).max = o.1 in
             (omega arith, omega arith)
-        | inr late ↦ let d : Passed ≡ Running e = sym (cond-true (claims c t) _ _ says ∙ cond-false (nat_lt x (task_at graph.tasks t).least) _ _ late) ∙ h in absurd (let z : ⊥ = cc in z)
+        | inr late ↦ let d : Passed ≡ Running e = sym (cond-true (claims c t) _ _ says ∙ cond-false (nat_lt x (task_at graph.tasks t).min) _ _ late) ∙ h in absurd (let z : ⊥ = cc in z)
       ]
-      | inr silent ↦ elim (cases_Bool (nat_lt x (task_at graph.tasks t).most)) [
+      | inr silent ↦ elim (cases_Bool (nat_lt x (task_at graph.tasks t).max)) [
         | inl soon ↦
-            let d : x + 1 ≡ e = running_one _ _ (sym (cond-false (claims c t) _ _ silent ∙ cond-true (nat_lt x (task_at graph.tasks t).most) _ _ soon) ∙ h) in
-            let l : x < (task_at graph.tasks t).most = ltb-true _ _ soon in
+            let d : x + 1 ≡ e = running_one _ _ (sym (cond-false (claims c t) _ _ silent ∙ cond-true (nat_lt x (task_at graph.tasks t).max) _ _ soon) ∙ h) in
+            let l : x < (task_at graph.tasks t).max = ltb-true _ _ soon in
             (omega arith, omega arith)
-        | inr late ↦ let d : Failed ≡ Running e = sym (cond-false (claims c t) _ _ silent ∙ cond-false (nat_lt x (task_at graph.tasks t).most) _ _ late) ∙ h in absurd (let z : ⊥ = cc in z)
+        | inr late ↦ let d : Failed ≡ Running e = sym (cond-false (claims c t) _ _ silent ∙ cond-false (nat_lt x (task_at graph.tasks t).max) _ _ late) ∙ h in absurd (let z : ⊥ = cc in z)
       ]
     ]
 
@@ -237,7 +237,7 @@ picks_is graph members copies t q h =
     let e = is_it_is _ t a.1 in
     record { member = b.0; free = none_is _ b.1; least = e; eligible = find_passes (is_eligible graph copies q) (ids_below (length graph.tasks)) t e }
 
-eligible_allowed : (graph : GraphView) (copies : CopyTable) (q t : ℕ) → is_eligible graph copies q t ≡ true → has_id (task_at graph.tasks t).allowed q ≡ true
+eligible_allowed : (graph : GraphView) (copies : CopyTable) (q t : ℕ) → is_eligible graph copies q t ≡ true → has_id (task_at graph.tasks t).nodes q ≡ true
 eligible_allowed graph copies q t h = (and_parts _ _ (and_parts _ _ h).0).0
 
 -- a copy that runs after the pick: it was picked, or it ran before
@@ -259,13 +259,13 @@ picked_kept n graph members copies ordered is = table_copies n graph (picked gra
     (λ t q e h. early t q e (ran graph members copies t q e h))
     (λ t u q e g h k. both t u q e g (ran graph members copies t q e h) (ran graph members copies u q g k))
   where
-    not_picked : (t q : ℕ) → has_id (task_at graph.tasks t).allowed q ≡ false → (b : Bool) → picks graph members copies t q ≡ b → picks graph members copies t q ≡ false
+    not_picked : (t q : ℕ) → has_id (task_at graph.tasks t).nodes q ≡ false → (b : Bool) → picks graph members copies t q ≡ b → picks graph members copies t q ≡ false
     not_picked t q off false e = e
     not_picked t q off true e =
         let p = picks_is graph members copies t q e in
         absurd (both_ways _ off (eligible_allowed graph copies q t p.eligible))
 
-    early : (t q e : ℕ) → Ran graph members copies t q e → (0 < e) × (e ≤ (task_at graph.tasks t).most)
+    early : (t q e : ℕ) → Ran graph members copies t q e → (0 < e) × (e ≤ (task_at graph.tasks t).max)
     early t q e (New p one) =
         let o = ordered.ordered t (allowed_within graph.tasks t q (eligible_allowed graph copies q t p.eligible)) in
         let l = o.0 in
@@ -329,9 +329,9 @@ first_shape n graph members = IsTable-table n _
 -- of a node at work: what the graph and the copies say, where its run time lies within the task's bounds
 pub record AtWork (graph : GraphView) (run_time : ℕ → ℕ) (w : ℕ × ℕ) : Type 0 where
   pub few : w.0 < 255
-  pub least : (task_at graph.tasks w.0).least ≤ run_time w.0
-  pub most : run_time w.0 ≤ (task_at graph.tasks w.0).most
-  pub early : w.1 ≤ (task_at graph.tasks w.0).most
+  pub least : (task_at graph.tasks w.0).min ≤ run_time w.0
+  pub most : run_time w.0 ≤ (task_at graph.tasks w.0).max
+  pub early : w.1 ≤ (task_at graph.tasks w.0).max
 
 late_from : (a b : ℕ) → nat_le a b ≡ true → a ≤ b
 late_from a b h = grind (arith, nat_tests)
@@ -359,6 +359,6 @@ full_claim graph run_time w at c is = elim (cases_Bool (nat_le (run_time w.0) w.
       let l = not_late _ _ soon in
       let m = at.most in
       let f = at.few in
-      let high : w.1 < (task_at graph.tasks w.0).most = omega arith in
+      let high : w.1 < (task_at graph.tasks w.0).max = omega arith in
       cond-false (c == w.0) _ _ (ne_eqb c w.0 (λ d. absurd (omega arith))) ∙ ap₂ verdict_of (ap not (eq-eqb c 255 e)) (no_le _ _ high)
 ]

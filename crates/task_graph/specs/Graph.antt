@@ -7,10 +7,10 @@ use Rattle.node_grid.specs.NodeSet.{has_id}
 -- copies finish it, and the bounds of its run time in periods
 pub record TaskView : Type 0 where
   pub after : List ℕ
-  pub allowed : List ℕ
+  pub nodes : List ℕ
   pub need : ℕ
-  pub least : ℕ
-  pub most : ℕ
+  pub min : ℕ
+  pub max : ℕ
 
 -- a graph as clauses see it
 pub record GraphView : Type 0 where
@@ -18,7 +18,7 @@ pub record GraphView : Type 0 where
   pub tasks : List TaskView
 
 abbrev pub no_task : TaskView
-no_task = record { after = []; allowed = []; need = 0; least = 0; most = 0 }
+no_task = record { after = []; nodes = []; need = 0; min = 0; max = 0 }
 
 -- the task with number t, and no task from the number of tasks on
 abbrev pub task_at : List TaskView → ℕ → TaskView
@@ -46,9 +46,9 @@ abbrev pub is_in_range : ℕ → ℕ → ℕ → TaskView → Bool
 is_in_range nodes count t task =
     nat_lt t most_tasks
     && is_ascending task.after && all_below count task.after
-    && nat_lt 0 (length task.allowed) && all_below nodes task.allowed
-    && nat_le 1 task.need && nat_le task.need (length task.allowed)
-    && nat_le 1 task.least && nat_le task.least task.most && nat_le task.most most_periods
+    && nat_lt 0 (length task.nodes) && all_below nodes task.nodes
+    && nat_le 1 task.need && nat_le task.need (length task.nodes)
+    && nat_le 1 task.min && nat_le task.min task.max && nat_le task.max most_periods
 
 -- a task of the list that isn't in range
 abbrev pub IsOut : ℕ → List TaskView → ℕ → Type 0

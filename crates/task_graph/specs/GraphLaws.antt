@@ -31,13 +31,13 @@ pub record IsRanged (nodes count t : ℕ) (task : TaskView) : Type 0 where
   pub ascending : is_ascending task.after ≡ true
   pub below : all_below count task.after ≡ true
   pub before : (u : ℕ) → has_id task.after u ≡ true → u < count
-  pub some : 0 < length task.allowed
-  pub allowed : (q : ℕ) → has_id task.allowed q ≡ true → q < nodes
+  pub some : 0 < length task.nodes
+  pub allowed : (q : ℕ) → has_id task.nodes q ≡ true → q < nodes
   pub need : 0 < task.need
-  pub enough : task.need ≤ length task.allowed
-  pub least : 0 < task.least
-  pub ordered : task.least ≤ task.most
-  pub most : task.most ≤ 1024
+  pub enough : task.need ≤ length task.nodes
+  pub least : 0 < task.min
+  pub ordered : task.min ≤ task.max
+  pub most : task.max ≤ 1024
 
 pub ranged : (nodes count t : ℕ) (task : TaskView) → is_in_range nodes count t task ≡ true → IsRanged nodes count t task
 ranged nodes count t task h =
@@ -56,7 +56,7 @@ ranged nodes count t task h =
       below = i.1;
       before = λ u on. lt_from _ _ (passes (λ x. nat_lt x count) task.after u i.1 on);
       some = lt_from _ _ g.1;
-      allowed = λ q on. lt_from _ _ (passes (λ x. nat_lt x nodes) task.allowed q f.1 on);
+      allowed = λ q on. lt_from _ _ (passes (λ x. nat_lt x nodes) task.nodes q f.1 on);
       need = le_from _ _ e.1;
       enough = le_from _ _ d.1;
       least = le_from _ _ c.1;
@@ -90,10 +90,10 @@ follows_within tasks t u on = elim (cases_lt t (length tasks)) [
 ]
 
 -- no node is allowed for what is no task
-pub allowed_within : (tasks : List TaskView) (t q : ℕ) → has_id (task_at tasks t).allowed q ≡ true → t < length tasks
+pub allowed_within : (tasks : List TaskView) (t q : ℕ) → has_id (task_at tasks t).nodes q ≡ true → t < length tasks
 allowed_within tasks t q on = elim (cases_lt t (length tasks)) [
   | inl h ↦ h
-  | inr h ↦ let e : has_id (task_at tasks t).allowed q ≡ false = ap (λ (x : TaskView). has_id x.allowed q) (task_past tasks t h) in absurd (both_ways _ e on)
+  | inr h ↦ let e : has_id (task_at tasks t).nodes q ≡ false = ap (λ (x : TaskView). has_id x.nodes q) (task_past tasks t h) in absurd (both_ways _ e on)
 ]
 
 -- ---- a test for chains, after Floyd and Warshall

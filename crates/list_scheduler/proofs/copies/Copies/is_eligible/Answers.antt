@@ -21,7 +21,7 @@ pub returns : goal.returns
 returns g c =
     let task = c.task.view_is ∙ c.task-task.ensures.task in
     let e : c.deref-before-items.result.now ≡ (task_at c.args.graph.now.tasks c.args.t).after = c.deref-before-items.ensures.value ∙ ap (λ (x : TaskView). x.after) task in
-    let on : has_id (task_at c.args.graph.now.tasks c.args.t).allowed c.args.node ≡ true = sym (ap (λ (x : TaskView). has_id x.allowed c.args.node) task) ∙ sym c.has.ensures ∙ c.if-not-has.false in
+    let on : has_id (task_at c.args.graph.now.tasks c.args.t).nodes c.args.node ≡ true = sym (ap (λ (x : TaskView). has_id x.nodes c.args.node) task) ∙ sym c.has.ensures ∙ c.if-not-has.false in
     let idle : is_idle (copy_at c.args.self.now c.args.t c.args.node) ≡ true = sym (c.is_idle.ensures ∙ ap is_idle c.at.ensures.copy) ∙ c.if-not-is_idle.false in
     let all : list_all (finished c.args.graph.now c.args.self.now) c.deref-before-items.result.now ≡ true = all_taken (finished c.args.graph.now c.args.self.now) c.deref-before-items.result.now c.loop-before.before-index (omega arith) c.loop-before.invariant in
     eligible_from c.args.graph.now c.args.self.now c.args.node c.args.t on idle (sym (ap (list_all (finished c.args.graph.now c.args.self.now)) e) ∙ all)
