@@ -5,6 +5,7 @@ pub mod Settled
 pub mod View
 pub mod Cluster
 pub mod Run
+pub mod Saying
 pub mod Accepted
 pub mod Safe
 pub use Rattle.node_grid.specs.Capacity
