@@ -1,17 +1,18 @@
--- The cases of whether a node is a member after a step.
-use Rattle.std.proofs.Common.{◌≡◌, ℕ, ◌<◌, ◌≤◌, true, false, List, refl, arith}
-use Rattle.std.specs.Prelude.{nat_lt, nat_le}
-use Rattle.std.specs.List.{list_all}
+-- Who leaves, told from who stays.
+use Rattle.std.proofs.Common.{◌≡◌, ℕ, Bool, true, false, not, ◌&&◌, List, refl}
 use Rattle.node_grid.specs.NodeSet.{has_id}
 use Rattle.penalty.specs.declared.Policy.{Policy}
-use Rattle.membership.specs.Members.{stays}
+use Rattle.membership.specs.Members.{remains, joins, all_would_leave, stays, leaves}
 
-pub few : (policy : Policy) (members : List ℕ) (count : ℕ → ℕ) (q : ℕ) → has_id members q ≡ true → count q < policy.exclude → stays policy members count q ≡ true
-few policy members count q member h = let t : nat_lt (count q) policy.exclude ≡ true = grind arith in rw (member, t) refl
+pub stays-member : (policy : Policy) (members : List ℕ) (count times : ℕ → ℕ) (q : ℕ) → has_id members q ≡ true → stays policy members count times q ≡ remains policy (all_would_leave policy members count) (count q)
+stays-member policy members count times q on = rw on refl
 
-pub many : (policy : Policy) (members : List ℕ) (count : ℕ → ℕ) (q : ℕ) → has_id members q ≡ true → policy.exclude ≤ count q
-    → stays policy members count q ≡ list_all (λ j. nat_le policy.exclude (count j)) members
-many policy members count q member h = let t : nat_lt (count q) policy.exclude ≡ false = grind arith in rw (member, t) refl
+pub stays-other : (policy : Policy) (members : List ℕ) (count times : ℕ → ℕ) (q : ℕ) → has_id members q ≡ false → stays policy members count times q ≡ joins policy (count q) (times q)
+stays-other policy members count times q off = rw off refl
 
-pub joins : (policy : Policy) (members : List ℕ) (count : ℕ → ℕ) (q : ℕ) → has_id members q ≡ false → stays policy members count q ≡ nat_le (count q) policy.readmit
-joins policy members count q other = rw other refl
+pub leaves-not_stays : (policy : Policy) (members : List ℕ) (count times : ℕ → ℕ) (q : ℕ) → (has_id members q && not (stays policy members count times q)) ≡ leaves policy members count q
+leaves-not_stays policy members count times q = by (has_id members q) refl
+  where
+    by : (b : Bool) → has_id members q ≡ b → (has_id members q && not (stays policy members count times q)) ≡ leaves policy members count q
+    by true on = rw on refl
+    by false off = rw off refl

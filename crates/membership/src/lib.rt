@@ -4,42 +4,84 @@
 //! once is this project's own. Nothing here takes memory or refuses anything.
 #![tactic(auto)]
 
-ghost use Rattle.std.specs.Prelude.{◌≡◌, ℕ, ◌≤◌, nat_le, slice_index};
-ghost use Rattle.std.specs.List.{list_all};
+ghost use Rattle.std.specs.Prelude.{◌≡◌, ℕ, Bool, ◌≤◌, ◌&&◌, not, replicate, if◌then◌else◌, slice_index};
 ghost use Rattle.node_grid.specs.Capacity.{IsCapacity};
-ghost use Rattle.membership.specs.Members.{members_after};
+ghost use Rattle.membership.specs.Members.{remains, joins, all_would_leave, members_after, times_after, left_after};
 
 use node_grid::NodeSet;
 use penalty::{Counts, Policy};
 
-/// The members after a period, from those before it and the new counts of the `nodes` nodes in use.
+/// How often each node left the members, as far as that is counted.
+#[derive(Clone, Copy, Debug, PartialEq, Eq)]
+pub struct Left<const N: usize> {
+    /// The number stands still at 65535; it is 0 for a node that isn't in use.
+    pub times: [u16; N],
+}
+
+impl<const N: usize> Left<N> {
+    /// No node ever left.
+    pub fn zero() -> Self
+        requires { IsCapacity N }
+        ensures { result.times ≡ replicate N 0 }
+    {
+        Left { times: [0; N] }
+    }
+}
+
+/// The members after a period, from those before it and the new counts of the `nodes` nodes in use; `left` is how
+/// often each of them left, before the period and then after it.
 ///
-/// A member with a count of at least `exclude` leaves, and another node with a count of at most `readmit` joins.
-/// Where all members would leave, none leaves.
+/// A member with a count of at least `exclude` leaves; where all members would leave, none leaves. Where `retire`
+/// isn't 0, the number in `left` of each node that leaves rises by 1, and at 65535 it stays. A node that isn't a
+/// member joins where its count is at most `readmit`, and either `retire` is 0 or it left less than `retire` times.
 pub fn next<const N: usize>(
     members: &NodeSet<N>,
     nodes: u8,
     counts: &Counts<N>,
+    left: &mut Left<N>,
     policy: &Policy,
 ) -> NodeSet<N>
     requires capacity { IsCapacity N }
     requires nodes { nodes ≤ N }
-    ensures { result ≡ members_after policy.now nodes members.now (λ j. slice_index counts.now.counts j) }
+    ensures members { result ≡ members_after policy.now nodes members.now (λ j. slice_index counts.now.counts j) (λ j. slice_index left.old.times j) }
+    ensures left { left.new.times ≡ left_after policy.now nodes members.now (λ j. slice_index counts.now.counts j) left.old.times }
 {
     let all_leave = all_would_leave(members, counts, policy);
     let mut next = NodeSet::empty();
     for node in 0..nodes {
         let count = counts.counts[node as usize];
-        let stays = if members.has(node) {
-            count < policy.exclude || all_leave
-        } else {
-            count <= policy.readmit
-        };
+        let times = left.times[node as usize];
+        let was = members.has(node);
+        let stays = stays(policy, was, all_leave, count, times);
         if stays {
             next.put(node);
         }
+        left.times[node as usize] = times_after(policy, was, stays, times);
     }
     next
+}
+
+/// Whether a node is a member after the step: by whether it was one, whether all members would leave, its count, and
+/// how often it left.
+fn stays(policy: &Policy, was: bool, all_leave: bool, count: u16, times: u16) -> bool
+    ensures { result ≡ (if was then remains policy.now all_leave count else joins policy.now count times) }
+{
+    if was {
+        count < policy.exclude || all_leave
+    } else {
+        count <= policy.readmit && (policy.retire == 0 || times < policy.retire)
+    }
+}
+
+/// How often a node left after the step, by whether it was a member before it and stays or becomes one.
+fn times_after(policy: &Policy, was: bool, stays: bool, times: u16) -> u16
+    ensures { result ≡ times_after policy.now (was && not stays) times }
+{
+    if was && !stays && policy.retire != 0 {
+        times.saturating_add(1)
+    } else {
+        times
+    }
 }
 
 /// Whether each member has a count of at least `exclude`.
@@ -49,7 +91,7 @@ fn all_would_leave<const N: usize>(
     policy: &Policy,
 ) -> bool
     requires { IsCapacity N }
-    ensures { result ≡ list_all (λ j. nat_le policy.now.exclude (slice_index counts.now.counts j)) members.now }
+    ensures { result ≡ all_would_leave policy.now members.now (λ j. slice_index counts.now.counts j) }
 {
     for member in members.iter() {
         if counts.counts[member as usize] < policy.exclude {
@@ -61,53 +103,71 @@ fn all_would_leave<const N: usize>(
 
 #[cfg(test)]
 mod tests {
-    use super::next;
+    use super::{Left, next};
     use node_grid::NodeSet;
     use penalty::{Counts, Policy};
 
-    #[test]
-    fn leave_and_join(rt: HostRuntime) {
-        let policy = Policy {
+    fn policy(retire: u16) -> Policy {
+        Policy {
             weights: [0; 16],
             exclude: 10,
             readmit: 8,
             credit: 1,
             streak: 1,
             cap: 12,
-        };
+            retire,
+        }
+    }
+
+    #[test]
+    fn leave_and_join(rt: HostRuntime) {
+        let policy = policy(0);
         let mut members: NodeSet<8> = NodeSet::full(4);
+        let mut left = Left::zero();
         let mut counts: Counts<8> = Counts::zero();
         counts.counts[3] = 10;
-        members = next(&members, 4, &counts, &policy);
+        members = next(&members, 4, &counts, &mut left, &policy);
         assert!(rt; members == NodeSet::full(3));
         counts.counts[3] = 9;
-        assert!(rt; next(&members, 4, &counts, &policy) == NodeSet::full(3));
+        assert!(rt; next(&members, 4, &counts, &mut left, &policy) == NodeSet::full(3));
         counts.counts[3] = 8;
-        assert!(rt; next(&members, 4, &counts, &policy) == NodeSet::full(4));
+        assert!(rt; next(&members, 4, &counts, &mut left, &policy) == NodeSet::full(4));
+        assert!(rt; left == Left::zero());
     }
 
     #[test]
     fn not_all_leave(rt: HostRuntime) {
-        let policy = Policy {
-            weights: [0; 16],
-            exclude: 10,
-            readmit: 8,
-            credit: 1,
-            streak: 1,
-            cap: 12,
-        };
+        let policy = policy(2);
         let members: NodeSet<16> = NodeSet::full(3);
+        let mut left = Left::zero();
         let counts: Counts<16> = Counts {
             counts: [11; 16],
             streaks: [0; 16],
         };
-        assert!(rt; next(&members, 16, &counts, &policy) == members);
+        assert!(rt; next(&members, 16, &counts, &mut left, &policy) == members);
+        assert!(rt; left == Left::zero());
         let mut spared = counts;
         spared.counts[1] = 9;
         spared.counts[5] = 0;
-        let mut left: NodeSet<16> = NodeSet::empty();
-        left.put(1);
-        left.put(5);
-        assert!(rt; next(&members, 16, &spared, &policy) == left);
+        let mut stay: NodeSet<16> = NodeSet::empty();
+        stay.put(1);
+        stay.put(5);
+        assert!(rt; next(&members, 16, &spared, &mut left, &policy) == stay);
+        assert!(rt; left.times[0] == 1 && left.times[1] == 0 && left.times[2] == 1);
+    }
+
+    #[test]
+    fn retired(rt: HostRuntime) {
+        let policy = policy(2);
+        let members: NodeSet<8> = NodeSet::full(3);
+        let mut left = Left::zero();
+        left.times[3] = 1;
+        left.times[4] = 2;
+        left.times[0] = 65535;
+        let mut counts: Counts<8> = Counts::zero();
+        counts.counts[0] = 12;
+        let after = next(&members, 5, &counts, &mut left, &policy);
+        assert!(rt; !after.has(0) && after.has(3) && !after.has(4));
+        assert!(rt; left.times[0] == 65535 && left.times[3] == 1 && left.times[4] == 2);
     }
 }

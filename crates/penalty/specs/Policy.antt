@@ -12,3 +12,4 @@ pub record IsPolicy (policy : Policy) : Type 0 where
   pub credit : policy.credit ≤ 60000
   pub some_streak : 1 ≤ policy.streak
   pub streak : policy.streak ≤ 60000
+  pub retire : policy.retire ≤ 60000

@@ -24,6 +24,8 @@ pub struct Policy {
     pub streak: u16,
     /// No count rises above this: 1 to 60000.
     pub cap: u16,
+    /// A node that left the members so often never joins them again: 0 to 60000, where 0 is for no limit.
+    pub retire: u16,
 }
 
 #[cfg(test)]
@@ -42,6 +44,7 @@ mod tests {
             credit: 3,
             streak: 2,
             cap: 20,
+            retire: 0,
         };
         let mut counts: Counts<8> = Counts::zero();
         let mut charged = [0; 8];
