@@ -1,10 +1,13 @@
 pub mod Arrival
 pub mod Heard
 pub mod Talk
+pub mod TalkLaws
 pub mod Settled
 pub mod View
+pub mod ViewLaws
 pub mod Cluster
 pub mod Run
+pub mod RunLaws
 pub mod Saying
 pub mod Accepted
 pub mod Safe

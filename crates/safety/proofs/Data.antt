@@ -306,7 +306,8 @@ module _ (cl : Cluster) (class_of : Classing) (p : ℕ) (h : Here cl class_of p)
       by_channel (Sensor delta t) e =
           subst (λ (x : ℤ). pos (distance x (own_value cl.setting j p (cl.inputs j p) (begins cl j p) c)) ≤ℤ delta_of (channel cl.setting c)) (sym (own_reading i p (cl.inputs i p) (begins cl i p) c delta t (channel cl.setting c) e))
           (subst (λ (y : ℤ). pos (distance (slice_index_or (cl.inputs i p).reading c (pos 0)) y) ≤ℤ delta_of (channel cl.setting c)) (sym (own_reading j p (cl.inputs j p) (begins cl j p) c delta t (channel cl.setting c) e))
-          (h.all.given.close.readings i j p c (bounded i ni) (bounded j nj) low))
+          (subst (λ (d : ℤ). pos (distance (slice_index_or (cl.inputs i p).reading c (pos 0)) (slice_index_or (cl.inputs j p).reading c (pos 0))) ≤ℤ d) (sym (ap delta_of e))
+          (h.all.given.close.readings i j p c delta t (bounded i ni) (bounded j nj) low e)))
 
   -- no nonfaulty node's value deviates at another
   pub no_deviations : NoDeviations cl class_of p

@@ -10,9 +10,9 @@ use Rattle.protocol.specs.Heard.{paths_of, with_entries}
 use Rattle.protocol.specs.Talk.{frame_by, item_said, relay_said, told_first, rounds_upto}
 use Rattle.protocol.specs.Cluster.{view}
 use Rattle.protocol.specs.Run.{System, members_in, expectation, change_at, members_of, done_talk, values_said, row_talk, said_in, goes_in, deliveries, run}
+use Rattle.protocol.specs.TalkLaws.{first_at, relay_at}
+use Rattle.protocol.specs.RunLaws.{members_of_is, due_of_is}
 use Rattle.safety.specs.Runs.{DeliveryLaw}
-use Rattle.safety.proofs.Talks.{first_at, relay_at}
-use Rattle.safety.proofs.Runs.{before_is, stage}
 
 is_le : (a b : ℕ) → a ≤ b → nat_le a b ≡ true
 is_le a b h = grind (arith, nat_tests)
@@ -64,20 +64,17 @@ module _ (sys : System) (p : ℕ) where
       → arrival part e (delivered_of (change_at sys p slot j i) (frame_by (expectation sys p slot j [] 0) c)) ≡ arrival part e (deliveries sys p slot j i)
   of_said part e slot j i c is = ap (λ (c : Content). arrival part e (delivered_of (change_at sys p slot j i) (frame_by (expectation sys p slot j [] 0) c))) (sym is)
 
-  members_here : (i : ℕ) → members_of sys p (goes_in sys p) i ≡ members_in (view (run sys) i p).before
-  members_here i = ap members_in (sym (before_is sys p i))
-
 pub delivery_law : DeliveryLaw
 delivery_law sys p i = record {
   sync = λ j. refl;
   claim = λ j. ap (λ (f : ℕ → Arrival ℕ). f j) (first_at (done_talk sys p (goes_in sys p)) sys.setting.config.m i)
-      ∙ ap (λ (ms : List ℕ). arrival claim_in (expectation sys p 1 j ms 0) (deliveries sys p 1 j i)) (members_here sys p i);
+      ∙ ap (λ (ms : List ℕ). arrival claim_in (expectation sys p 1 j ms 0) (deliveries sys p 1 j i)) (members_of_is sys p i);
   claims = λ r j some low. claims_there r j some low;
   values = λ j. of_said sys p values_in _ (sys.setting.config.m + 2) j i _ (says_values sys p j)
-      ∙ ap₂ (λ (ms ds : List ℕ). arrival values_in (expectation sys p (sys.setting.config.m + 2) j ms (length ds)) (deliveries sys p (sys.setting.config.m + 2) j i)) (members_here sys p i) (sym (stage sys p i).0);
+      ∙ ap₂ (λ (ms ds : List ℕ). arrival values_in (expectation sys p (sys.setting.config.m + 2) j ms (length ds)) (deliveries sys p (sys.setting.config.m + 2) j i)) (members_of_is sys p i) (sym (due_of_is sys p i).0);
   row = λ j. ap (λ (f : ℕ → Arrival (List ℕ)). f j) (first_at (row_talk sys p (goes_in sys p)) sys.setting.config.m i)
       ∙ row_slot j ∙ of_said sys p row_in _ (sys.setting.config.m + 3) j i _ (says_row sys p j)
-      ∙ ap (λ (ms : List ℕ). arrival row_in (expectation sys p (sys.setting.config.m + 3) j ms 0) (deliveries sys p (sys.setting.config.m + 3) j i)) (members_here sys p i);
+      ∙ ap (λ (ms : List ℕ). arrival row_in (expectation sys p (sys.setting.config.m + 3) j ms 0) (deliveries sys p (sys.setting.config.m + 3) j i)) (members_of_is sys p i);
   rows = λ r j some low. rows_there r j some low;
 }
   where
@@ -87,7 +84,7 @@ delivery_law sys p i = record {
     claims_there (suc k) j some low =
         relay_at (done_talk sys p (goes_in sys p)) sys.setting.config.m k i j (omega arith)
         ∙ ap (with_entries (paths_of (members_of sys p (goes_in sys p) i) (suc k) j)) (of_said sys p claims_in _ (1 + suc k) j i _ (says_claims sys p k j low))
-        ∙ ap (λ (ms : List ℕ). with_entries (paths_of ms (suc k) j) (arrival claims_in (expectation sys p (1 + suc k) j ms 0) (deliveries sys p (1 + suc k) j i))) (members_here sys p i)
+        ∙ ap (λ (ms : List ℕ). with_entries (paths_of ms (suc k) j) (arrival claims_in (expectation sys p (1 + suc k) j ms 0) (deliveries sys p (1 + suc k) j i))) (members_of_is sys p i)
 
     row_slot : (j : ℕ) → told_first (row_talk sys p (goes_in sys p)) i j
         ≡ arrival row_in (expectation sys p (sys.setting.config.m + 3) j (members_of sys p (goes_in sys p) i) 0) (delivered_of (change_at sys p (sys.setting.config.m + 3) j i) (frame_by (expectation sys p (sys.setting.config.m + 3) j [] 0) (item_said (row_talk sys p (goes_in sys p)) j)))
@@ -99,4 +96,4 @@ delivery_law sys p i = record {
     rows_there (suc k) j some low =
         relay_at (row_talk sys p (goes_in sys p)) sys.setting.config.m k i j (omega arith)
         ∙ ap (with_entries (paths_of (members_of sys p (goes_in sys p) i) (suc k) j)) (of_said sys p rows_in _ (sys.setting.config.m + 3 + suc k) j i _ (says_rows sys p k j))
-        ∙ ap (λ (ms : List ℕ). with_entries (paths_of ms (suc k) j) (arrival rows_in (expectation sys p (sys.setting.config.m + 3 + suc k) j ms 0) (deliveries sys p (sys.setting.config.m + 3 + suc k) j i))) (members_here sys p i)
+        ∙ ap (λ (ms : List ℕ). with_entries (paths_of ms (suc k) j) (arrival rows_in (expectation sys p (sys.setting.config.m + 3 + suc k) j ms 0) (deliveries sys p (sys.setting.config.m + 3 + suc k) j i))) (members_of_is sys p i)

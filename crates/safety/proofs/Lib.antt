@@ -18,3 +18,4 @@ pub mod PathCounts
 pub mod Ranges
 pub mod Runs
 pub mod Deliveries
+pub mod Saying

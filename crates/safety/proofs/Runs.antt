@@ -24,6 +24,8 @@ use Rattle.protocol.specs.Talk.{arrives, rounds_upto}
 use Rattle.protocol.specs.View.{Further, Setting, Kept, nothing, Received, adopted_by, claims_settled, votes_on, noted, own_in, Mode, View, through, joined, view_from, opened}
 use Rattle.protocol.specs.Cluster.{kept, begins, view, view_with}
 use Rattle.protocol.specs.Run.{System, members_in, claim_sent, state_content, expectation, change_at, full_at, so_far, state_said, after_sync, members_of, done_talk, after_done, due_of, values_said, after_values, row_talk, delivered, all_kept, goes_in, run, classes}
+use Rattle.protocol.specs.ViewLaws.{full_if}
+use Rattle.protocol.specs.RunLaws.{begins_is, view_is, before_is, due_of_is, found_is}
 use Rattle.protocol.specs.Accepted.{IsAccepted}
 use Rattle.safety.specs.Told.{Told}
 use Rattle.safety.specs.Laws.{SafetyLaw}
@@ -40,74 +42,6 @@ use Rattle.safety.proofs.Ranges.{kept_after, before_valid, state_in_range, claim
 
 pub grammar : Grammar
 grammar = record { reads_back = reads_back; in_range = reads_in_range; no_front = has_no_front; cold = reads_cold; short = is_short }
-
--- ---- each node by itself keeps what the whole run says
-
-module _ (sys : System) where
-  kept_is : (i p : ℕ) → kept (run sys) i p ≡ all_kept sys p i
-  unfolding kept all_kept
-  kept_is i zero = refl
-  kept_is i (suc p) = ap (λ (x : Kept). (view_with (run sys) i p (opened sys.setting (restarts_at sys.plan i p) x)).kept) (kept_is i p)
-
-  pub begins_is : (i p : ℕ) → begins (run sys) i p ≡ goes_in sys p i
-  begins_is i p = ap (opened sys.setting (restarts_at sys.plan i p)) (kept_is i p)
-
-  pub view_is : (i p : ℕ) → view (run sys) i p ≡ so_far sys p (goes_in sys p) i (delivered sys p (goes_in sys p) i)
-  view_is i p = ap (view_with (run sys) i p) (begins_is i p)
-
--- ---- what later frames change nothing of
-
-joined_before : (s : Setting) (i p : ℕ) (g : Inputs) (k : Kept) (x y : Received) (o : Option AgreedView) → (joined s i p g k x o).before ≡ (joined s i p g k y o).before
-unfolding through
-joined_before s i p g k x y None = refl
-joined_before s i p g k x y (Some a) = refl
-
-before_same : (s : Setting) (i p : ℕ) (g : Inputs) (k : Kept) (x y : Received) (o : Option AgreedView) → x.sync ≡ y.sync → (view_from s i p g k x o).before ≡ (view_from s i p g k y o).before
-unfolding through
-before_same s i p g k x y (Some a) e = refl
-before_same s i p g k x y None e = joined_before s i p g k x y (adopted_by s i x.sync) ∙ ap (λ (f : ℕ → Arrival (List ℕ)). (joined s i p g k y (adopted_by s i f)).before) e
-
-joined_due : (s : Setting) (i p : ℕ) (g : Inputs) (k : Kept) (x : Received) (v : ℕ → Arrival (List ℤ)) (r : Rounds (List ℕ)) (o : Option AgreedView)
-    → ((joined s i p g k (record x { values = v; report = r }) o).due ≡ (joined s i p g k x o).due) × ((joined s i p g k (record x { values = v; report = r }) o).own ≡ (joined s i p g k x o).own)
-unfolding through claims_settled
-joined_due s i p g k x v r None = (refl, refl)
-joined_due s i p g k x v r (Some a) = (refl, refl)
-
-due_same : (s : Setting) (i p : ℕ) (g : Inputs) (k : Kept) (x : Received) (v : ℕ → Arrival (List ℤ)) (r : Rounds (List ℕ)) (o : Option AgreedView)
-    → ((view_from s i p g k (record x { values = v; report = r }) o).due ≡ (view_from s i p g k x o).due) × ((view_from s i p g k (record x { values = v; report = r }) o).own ≡ (view_from s i p g k x o).own)
-unfolding through claims_settled
-due_same s i p g k x v r (Some a) = (refl, refl)
-due_same s i p g k x v r None = joined_due s i p g k x v r (adopted_by s i x.sync)
-
-joined_found : (s : Setting) (i p : ℕ) (g : Inputs) (k : Kept) (x : Received) (r : Rounds (List ℕ)) (o : Option AgreedView) → (joined s i p g k (record x { report = r }) o).found ≡ (joined s i p g k x o).found
-unfolding through claims_settled votes_on noted
-joined_found s i p g k x r None = refl
-joined_found s i p g k x r (Some a) = refl
-
-found_same : (s : Setting) (i p : ℕ) (g : Inputs) (k : Kept) (x : Received) (r : Rounds (List ℕ)) (o : Option AgreedView) → (view_from s i p g k (record x { report = r }) o).found ≡ (view_from s i p g k x o).found
-unfolding through claims_settled votes_on noted
-found_same s i p g k x r (Some a) = refl
-found_same s i p g k x r None = joined_found s i p g k x r (adopted_by s i x.sync)
-
-joined_not_full : (s : Setting) (i p : ℕ) (g : Inputs) (k : Kept) (x : Received) (o : Option AgreedView) → (joined s i p g k x o).mode ≡ Mode.Full → ⊥
-unfolding through
-joined_not_full s i p g k x None h = cc
-joined_not_full s i p g k x (Some a) h = cc
-
-full_if : (s : Setting) (i p : ℕ) (g : Inputs) (k : Kept) (x : Received) (o : Option AgreedView) → (view_from s i p g k x o).mode ≡ Mode.Full → is_some o ≡ true
-full_if s i p g k x (Some a) h = refl
-full_if s i p g k x None h = absurd (joined_not_full s i p g k x (adopted_by s i x.sync) h)
-
--- what each node goes through a period with, and what is due, is settled before the later slots
-module _ (sys : System) (p : ℕ) where
-  pub before_is : (i : ℕ) → (view (run sys) i p).before ≡ (so_far sys p (goes_in sys p) i (after_sync sys p (goes_in sys p) i)).before
-  before_is i = ap (λ (v : View). v.before) (view_is sys i p)
-      ∙ before_same sys.setting i p (sys.inputs i p) (goes_in sys p i) (delivered sys p (goes_in sys p) i) (after_sync sys p (goes_in sys p) i) (goes_in sys p i).state refl
-
-  pub stage : (i : ℕ) → ((view (run sys) i p).due ≡ due_of sys p (goes_in sys p) i) × ((view (run sys) i p).own ≡ (so_far sys p (goes_in sys p) i (after_done sys p (goes_in sys p) i)).own)
-  stage i =
-      let r = due_same sys.setting i p (sys.inputs i p) (goes_in sys p i) (after_done sys p (goes_in sys p) i) (delivered sys p (goes_in sys p) i).values (delivered sys p (goes_in sys p) i).report (goes_in sys p i).state in
-      (ap (λ (v : View). v.due) (view_is sys i p) ∙ r.0, ap (λ (v : View). v.own) (view_is sys i p) ∙ r.1)
 
 in_range_if : (e : Expectation) (b : Bool) (c : Content) → (b ≡ true → IsInRange e c) → IsInRange e (if b then c else Cold)
 in_range_if e true c h = h refl
@@ -228,8 +162,7 @@ module _ (sys : System) (given : IsAccepted sys) (states : StateLaws sys.setting
     }
 
     row_items : ◌≡◌ {A = ℕ → List ℕ} (λ j. (so_far sys p (goes_in sys p) j (after_values sys p (goes_in sys p) j)).found) (λ j. (view (run sys) j p).found)
-    row_items = fun_ext (λ j. sym (ap (λ (v : View). v.found) (view_is sys j p)
-        ∙ found_same sys.setting j p (sys.inputs j p) (goes_in sys p j) (after_values sys p (goes_in sys p) j) (delivered sys p (goes_in sys p) j).report (goes_in sys p j).state))
+    row_items = fun_ext (λ j. sym (found_is sys p j))
 
     told_rows : Told sys.setting.config.m members (classes sys p) (λ j. (view (run sys) j p).found) (λ i. ((run sys).received i p).report)
     told_rows =
@@ -242,7 +175,7 @@ module _ (sys : System) (given : IsAccepted sys) (states : StateLaws sys.setting
 
     module _ (due : List ℕ) (all_due : AllDue (run sys) (classes sys) p due) where
       due_is : (i : ℕ) → is_sound (classes sys p i) ≡ true → due_of sys p (goes_in sys p) i ≡ due
-      due_is i s = sym (stage sys p i).0 ∙ all_due i s
+      due_is i s = sym (due_of_is sys p i).0 ∙ all_due i s
 
       abbrev expects : ℕ → ℕ → Expectation
       expects j i = expectation sys p (sys.setting.config.m + 2) j (members_of sys p (goes_in sys p) i) (length (due_of sys p (goes_in sys p) i))
@@ -273,7 +206,7 @@ module _ (sys : System) (given : IsAccepted sys) (states : StateLaws sys.setting
           let low : j < sys.setting.config.nodes = in_nodes j (below_at sys.plan p j sj) in
           let same : expects j j ≡ expects j i = expect_is j j sj ∙ sym (expect_is j i s) in
           let said : values_said sys p (goes_in sys p) j ≡ Data (map (own_in (view (run sys) j p).own) due) =
-          cond-true (full_at sys p (goes_in sys p) j) _ _ (full_are j n) ∙ ap₂ (λ (own : List (Option ℤ)) (ds : List ℕ). Data (map (own_in own) ds)) (sym (stage sys p j).1) (due_is j sj) in
+          cond-true (full_at sys p (goes_in sys p) j) _ _ (full_are j n) ∙ ap₂ (λ (own : List (Option ℤ)) (ds : List ℕ). Data (map (own_in own) ds)) (sym (due_of_is sys p j).1) (due_is j sj) in
           let range : IsInRange (expects j i) (Data (map (own_in (view (run sys) j p).own) due)) =
           subst (λ (e : Expectation). IsInRange e (Data (map (own_in (view (run sys) j p).own) due))) same (subst (λ (c : Content). IsInRange (expects j j) c) said (values_range j low)) in
           ap (arrives values_in (change_at sys p (sys.setting.config.m + 2) j i) (expects j j) (expects j i)) said

@@ -24,6 +24,7 @@ use Rattle.protocol.specs.Arrival.{Arrival, is_good, said}
 use Rattle.protocol.specs.Arrival.Arrival.{Bad, Good}
 use Rattle.protocol.specs.Heard.{Rounds, paths_of, looked_up, with_entries, entry, heard_back, heard}
 use Rattle.protocol.specs.Talk.{Talk, arrives, item_said, told_first, relay_said, told_relay, rounds_upto}
+use Rattle.protocol.specs.TalkLaws.{first_at, relay_at, heard_stable}
 use Rattle.safety.specs.Told.{Told}
 use Rattle.safety.proofs.Classes.{silent_is}
 use Rattle.safety.proofs.Arrivals.{Grammar, IsChange, taken, arrives_clean, arrives_cold, arrives_manifest, arrives_fits}
@@ -146,25 +147,6 @@ pub record FormFits {V : Type 0} (P : V → Type 0) (t : Talk V) (rounds : ℕ) 
   pub heads : (r j : ℕ) (ms ns : List ℕ) → head_of (t.expect r j ms) ≡ head_of (t.expect r j ns)
 
 module _ {V : Type 0} (t : Talk V) where
-  pub first_at : (r i : ℕ) → (rounds_upto t r i).first ≡ told_first t i
-  unfolding rounds_upto
-  first_at zero i = refl
-  first_at (suc r) i = refl
-
-  pub relay_at : (r k i j : ℕ) → k < r → (rounds_upto t r i).relay (suc k) j ≡ told_relay t (suc k) i j (rounds_upto t k j)
-  unfolding rounds_upto
-  relay_at zero k i j h = absurd (omega arith)
-  relay_at (suc r) k i j h = elim (cases_eq k r) [
-    | inl e ↦ cond-true (suc k == suc r) _ _ (eq-eqb (suc k) (suc r) (ap suc e)) ∙ ap (λ (n : ℕ). told_relay t (suc k) i j (rounds_upto t n j)) (sym e)
-    | inr ne ↦ cond-false (suc k == suc r) _ _ (ne_eqb (suc k) (suc r) (λ e. ne (omega arith))) ∙ relay_at r k i j (omega arith)
-  ]
-
-  heard_stable : (r m q : ℕ) (back : List ℕ) → length back ≤ suc r → r ≤ m → heard_back (rounds_upto t m q) back ≡ heard_back (rounds_upto t r q) back
-  heard_stable r m q [] short below = refl
-  heard_stable r m q (x ∷ []) short below = ap (λ (f : ℕ → Arrival V). said (f x)) (first_at m q ∙ sym (first_at r q))
-  heard_stable r m q (x ∷ c ∷ back) short below =
-      ap (λ f. entry f (reverse (c ∷ back))) (relay_at m (length back) q x (omega arith) ∙ sym (relay_at r (length back) q x (omega arith)))
-
   module _ (g : Grammar) (P : V → Type 0) (rounds : ℕ) (f : FormFits P t rounds) where
     first_in : (i j : ℕ) → HeardIn P 0 (said (told_first t i j))
     first_in i j = go (told_first t i j) refl where
@@ -198,7 +180,7 @@ module _ {V : Type 0} (t : Talk V) where
 
     pub heard_in : (r i : ℕ) (back : List ℕ) → r ≤ rounds → HeardIn P r (heard_back (rounds_upto t r i) back)
     heard_in r i [] low = omega arith
-    heard_in r i (q ∷ []) low = subst (λ (g : ℕ → Arrival V). HeardIn P r (said (g q))) (sym (first_at r i)) (weaker P 0 r _ (omega arith) (first_in i q))
+    heard_in r i (q ∷ []) low = subst (λ (g : ℕ → Arrival V). HeardIn P r (said (g q))) (sym (first_at t r i)) (weaker P 0 r _ (omega arith) (first_in i q))
     heard_in r i (q ∷ c ∷ back) low = relay_in r i (length (c ∷ back)) q (reverse (c ∷ back)) low
 
 -- the entries of node j's relay frame of round k + 1

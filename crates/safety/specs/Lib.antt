@@ -8,5 +8,6 @@ pub use Rattle.protocol.specs.Heard
 pub use Rattle.protocol.specs.View
 pub use Rattle.protocol.specs.Cluster
 pub use Rattle.protocol.specs.Run
+pub use Rattle.protocol.specs.Saying
 pub use Rattle.protocol.specs.Accepted
 pub use Rattle.protocol.specs.Safe

@@ -5,7 +5,7 @@
 
 ghost use Rattle.safety.specs.Charges.{NoCharge, FullCharge};
 ghost use Rattle.safety.specs.Laws.{SyncLaw, ClaimsLaw, DataLaw, ReportsLaw, StartLaw, StepLaw, SafetyLaw};
-ghost use Rattle.safety.specs.Runs.{DeliveryLaw, ReceptionLaw, SparingLaw, RunLaw};
+ghost use Rattle.safety.specs.Runs.{DeliveryLaw, SayingLaw, ReceptionLaw, SparingLaw, RunLaw};
 
 /// A node that no nonfaulty member accuses of a kind isn't charged with it.
 pub fn no_charge()
@@ -20,6 +20,11 @@ pub fn full_charge()
 /// What each node has of the frames of a period is what was delivered to it of the frames that were sent.
 pub fn delivery()
     ensures { DeliveryLaw }
+{}
+
+/// What each node says in each slot of a period is what its finished view says.
+pub fn saying()
+    ensures { SayingLaw }
 {}
 
 /// What sound nodes read in each period of each run, and how the classes go with restarts.

@@ -1,5 +1,5 @@
 -- The premises of the laws can be met: with an asymmetric node, and with a node that joins beside one.
-use Rattle.std.proofs.Common.{ℕ, zero, suc, ◌≡◌, ◌<◌, ◌≤◌, List, [], ◌∷◌, ◌++◌, length, replicate, None, ℤ, pos, ◌≤ℤ◌, refl, subst, inl, arith}
+use Rattle.std.proofs.Common.{ℕ, zero, suc, ◌≡◌, ◌<◌, ◌≤◌, List, [], ◌∷◌, ◌++◌, length, replicate, None, ℤ, pos, ◌≤ℤ◌, refl, ap, subst, inl, arith}
 use Rattle.std.specs.Prelude.{slice_index_or, All}
 use Rattle.std.proofs.lemmas.Int.{ints}
 use Rattle.std.proofs.lemmas.List.Elements.{All-nil, All-cons, All-replicate}
@@ -135,7 +135,7 @@ three_values-accepted = accepted 4 1 1 _ _ _ _ (record {
   readings = λ i low. All-cons IsValue (value_of_node i) (replicate 7 (pos 0)) (value_fits i low) (All-replicate IsValue 7 (pos 0) zero_fits);
   close = record {
     starts = λ i j c delta start step hi hj low e. no_state c low delta start step e;
-    readings = λ i j p c hi hj low. by_channel i j p c hi hj low;
+    readings = λ i j p c delta task hi hj low e. subst (λ (d : ℤ). pos (distance (slice_index_or (three_values.inputs i p).reading c (pos 0)) (slice_index_or (three_values.inputs j p).reading c (pos 0))) ≤ℤ d) (ap delta_of e) (by_channel i j p c hi hj low);
   };
 })
   where
@@ -169,7 +169,7 @@ joining-accepted = accepted 5 1 3 _ _ _ _ (record {
   in_range = All-nil _;
   plan = refl;
   readings = λ i low. All-replicate IsValue 8 (pos 0) zero_fits;
-  close = record { starts = λ i j c delta start step hi hj low e. absurd (omega arith); readings = λ i j p c hi hj low. absurd (omega arith) };
+  close = record { starts = λ i j c delta start step hi hj low e. absurd (omega arith); readings = λ i j p c delta task hi hj low e. absurd (omega arith) };
 })
 
 joining-before : Budget (run joining_beside_two_rows) (classes joining_beside_two_rows) 0
