@@ -15,7 +15,7 @@ use Rattle.omh_paths.specs.declared.wrapped.Wrapped.{Wrapped}
 use Rattle.error_reports.specs.Charge.{charged_mask}
 use Rattle.penalty.specs.Step.{for_nodes, count_after, streak_after, counts_after, streaks_after}
 use Rattle.penalty.specs.StepLaws.{length-for_nodes, for_nodes-at, for_nodes-past}
-use Rattle.membership.specs.Members.{members_after, standing_after}
+use Rattle.membership.specs.Members.{members_after, left_after, standing_after}
 use Rattle.list_scheduler.specs.Schedule.{copies_after}
 use Rattle.agreed_state.specs.declared.config.Config.{Config}
 use Rattle.agreed_state.specs.Agreed.{AgreedView, agreed_after}
@@ -99,15 +99,16 @@ for_nodes-same nodes f g xs h = ext_get_or 0 _ _ (length-for_nodes nodes f xs �
     ])
 
 -- the parts that a step leaves make up the state after it
-pub step_same : (n : ℕ) (config : Config n) (p : ℕ) (a : AgreedView) (settled : List (Wrapped ℕ)) (rows : List (Option (List ℕ))) (charges m c s : List ℕ) (t : CopyTable)
+pub step_same : (n : ℕ) (config : Config n) (p : ℕ) (a : AgreedView) (settled : List (Wrapped ℕ)) (rows : List (Option (List ℕ))) (charges m c s l : List ℕ) (t : CopyTable)
     → ((j : ℕ) → j < config.nodes → get_or charges j 0 ≡ charged_mask rows a.standing.members j)
     → c ≡ counts_after config.policy config.nodes (λ j. get_or charges j 0) a.standing.counts a.standing.streaks
     → s ≡ streaks_after config.policy config.nodes (λ j. get_or charges j 0) a.standing.streaks
-    → m ≡ members_after config.policy config.nodes a.standing.members (λ j. get_or c j 0)
+    → m ≡ members_after config.policy config.nodes a.standing.members (λ j. get_or c j 0) (λ j. get_or a.standing.left j 0)
+    → l ≡ left_after config.policy config.nodes a.standing.members (λ j. get_or c j 0) a.standing.left
     → t ≡ copies_after n config.graph config.frame p a.standing.members m a.copies settled
-    → (let r : AgreedView = record { standing = record { members = m; counts = c; streaks = s }; copies = t } in r) ≡ agreed_after n config p a settled rows
+    → (let r : AgreedView = record { standing = record { members = m; counts = c; streaks = s; left = l }; copies = t } in r) ≡ agreed_after n config p a settled rows
 unfolding agreed_after standing_after
-step_same n config p a settled rows charges m c s t charged ec es em et =
+step_same n config p a settled rows charges m c s l t charged ec es em el et =
     let policy = config.policy in
     let nodes = config.nodes in
     let charge : ℕ → ℕ = charged_mask rows a.standing.members in
@@ -115,6 +116,8 @@ step_same n config p a settled rows charges m c s t charged ec es em et =
     ec ∙ for_nodes-same nodes _ _ a.standing.counts (λ j in_use. ap (λ mask. count_after policy mask (get_or a.standing.counts j 0) (get_or a.standing.streaks j 0)) (charged j in_use)) in
     let streaks : s ≡ streaks_after policy nodes charge a.standing.streaks =
     es ∙ for_nodes-same nodes _ _ a.standing.streaks (λ j in_use. ap (λ mask. streak_after policy mask (get_or a.standing.streaks j 0)) (charged j in_use)) in
-    let members : m ≡ members_after policy nodes a.standing.members (λ j. get_or (counts_after policy nodes charge a.standing.counts a.standing.streaks) j 0) =
-    em ∙ ap (λ xs. members_after policy nodes a.standing.members (λ j. get_or xs j 0)) counts in
-    same_state _ _ _ _ _ _ _ _ members counts streaks (et ∙ ap (λ after. copies_after n config.graph config.frame p a.standing.members after a.copies settled) members)
+    let members : m ≡ members_after policy nodes a.standing.members (λ j. get_or (counts_after policy nodes charge a.standing.counts a.standing.streaks) j 0) (λ j. get_or a.standing.left j 0) =
+    em ∙ ap (λ xs. members_after policy nodes a.standing.members (λ j. get_or xs j 0) (λ j. get_or a.standing.left j 0)) counts in
+    let left : l ≡ left_after policy nodes a.standing.members (λ j. get_or (counts_after policy nodes charge a.standing.counts a.standing.streaks) j 0) a.standing.left =
+    el ∙ ap (λ xs. left_after policy nodes a.standing.members (λ j. get_or xs j 0) a.standing.left) counts in
+    same_state _ _ _ _ _ _ _ _ _ _ members counts streaks left (et ∙ ap (λ after. copies_after n config.graph config.frame p a.standing.members after a.copies settled) members)

@@ -4,17 +4,18 @@ use Rattle.std.specs.Prelude.{◌==◌, nat_lt}
 use Rattle.std.specs.List.{list_all}
 use Rattle.std.specs.Int.{w16, from_be_bytes, bit_at}
 use Rattle.std.proofs.lemmas.Bool.{cases_Bool, cases_lt}
-use Rattle.std.proofs.lemmas.List.{get_or-map, get_or-take, get_or-drop}
+use Rattle.std.proofs.lemmas.List.{get_or-map, get_or-take, get_or-drop, get_or_past, length-map}
 use Rattle.std.proofs.lemmas.List.FromFn.{length-map-range_with_len, get_or-map-range_with_len}
 use Rattle.std.proofs.lemmas.Nat.Bits.{bit_at_above}
 use Rattle.std.proofs.Math.Nat.{lt-div-mul-add}
-use Rattle.node_grid.specs.NodeSet.{ids_where, ids_where_below, has_id, bits_set, mask_of, IsIdSet}
+use Rattle.node_grid.specs.NodeSet.{ids_below, ids_where, ids_where_below, has_id, bits_set, mask_of, IsIdSet}
 use Rattle.node_grid.specs.NodeSetLaws.{filter_range, hasnt-bits_set}
 use Rattle.frames.specs.Reading.{piece, cut}
 use Rattle.error_reports.specs.MaskLaws.{mask-fits}
-use Rattle.agreed_state.specs.Body.{words_of, members_of}
+use Rattle.agreed_state.specs.Body.{words_of, words_at, members_of, is_told}
 use Rattle.agreed_state.specs.BodyLaws.{IsIdSet-members_of, mask_of-members_of}
-use Rattle.agreed_state.specs.Ranges.{lt_yes, lt_no, shorter, all_of, IsIdSet-narrower}
+use Rattle.agreed_state.specs.ReadLaws.{words_at-get, words_at-rest}
+use Rattle.agreed_state.specs.Ranges.{lt_yes, lt_no, shorter, all_of, all_below_from, IsIdSet-narrower}
 
 -- the word at a place is made of the two bytes there
 pub word_at-is : (bytes : List ℕ) (k : ℕ) → 2 * k + 2 ≤ length bytes → get_or (words_of bytes) k 0 ≡ get_or bytes (2 * k) 0 * 256 + get_or bytes (2 * k + 1) 0
@@ -57,3 +58,22 @@ great_word word nodes fits few great = elim (cases_Bool (list_all (λ q. nat_lt 
 -- a quotient of 0
 pub small_from : (word p : ℕ) → 0 < p → word / p ≡ 0 → word < p
 small_from word p some none = omega (arith, lt-div-mul-add {a = word} some, ap (λ q. q * p) none)
+
+-- ---- words of bytes are small
+
+pub word_small : (bytes : List ℕ) (k : ℕ) → ((i : ℕ) → get_or bytes i 0 < 256) → get_or (words_of bytes) k 0 < 65536
+word_small bytes k are = elim (cases_lt (2 * k + 1) (length bytes)) [
+  | inl within ↦ omega (arith, word_at-is bytes k (omega arith), are (2 * k), are (2 * k + 1))
+  | inr beyond ↦
+      let many : length (words_of bytes) ≤ k = omega (arith, length-map (cut 2 bytes) (from_be_bytes w16), length-map-range_with_len (piece 2 bytes) 0 (length bytes / 2)) in
+      omega (arith, get_or_past (words_of bytes) k 0 many)
+]
+
+pub told_small : (n nodes told k : ℕ) (bytes : List ℕ) → told ≤ n → ((i : ℕ) → get_or bytes i 0 < 256) → list_all (is_told (words_at n told k (words_of bytes))) (ids_below nodes) ≡ true
+told_small n nodes told k bytes room are = all_below_from (is_told (words_at n told k (words_of bytes))) nodes (λ q in_use. lt_yes _ 65536 (at q))
+  where
+    at : (q : ℕ) → get_or (words_at n told k (words_of bytes)) q 0 < 65536
+    at q = elim (cases_lt q told) [
+      | inl before ↦ omega (arith, words_at-get n told k (words_of bytes) q room before, word_small bytes (k + q) are)
+      | inr behind ↦ omega (arith, words_at-rest n told k (words_of bytes) q behind)
+    ]

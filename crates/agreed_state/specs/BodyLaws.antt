@@ -1,5 +1,5 @@
 -- An agreed state and its body: which words it has, and that the state is read back from them.
-use Rattle.std.proofs.Common.{◌≡◌, ℕ, suc, ◌+◌, ◌*◌, ◌^◌, ◌<◌, ◌≤◌, Bool, true, false, cond, List, ◌++◌, length, take, get_or, refl, sym, ap, ◌∙◌, arith, inl, inr}
+use Rattle.std.proofs.Common.{◌≡◌, ℕ, suc, ◌+◌, ◌*◌, ◌^◌, ◌<◌, ◌≤◌, Bool, true, false, cond, List, ◌++◌, length, take, get_or, refl, sym, ap, ◌∙◌, arith, inl, inr, eqb-true}
 use Rattle.std.specs.Prelude.{◌==◌, nat_lt}
 use Rattle.std.proofs.lemmas.Bool.{cases_lt, cases_Bool}
 use Rattle.std.proofs.lemmas.List.{ext_get_or, get_or-append-add, get_or_append_left, get_or-take, length-append, length-take-le}
@@ -9,13 +9,14 @@ use Rattle.node_grid.specs.NodeSetLaws.{filter_range, IsIdSet-bits_set, mask_of-
 use Rattle.error_reports.specs.MaskLaws.{mask-has, mask-fits}
 use Rattle.task_graph.specs.Graph.{GraphView, TaskView, task_at, IsGraph}
 use Rattle.task_graph.specs.GraphLaws.{task_ranged, task_past, allowed_within}
+use Rattle.membership.specs.Members.{Standing}
 use Rattle.list_scheduler.specs.declared.copies.CopyState.{CopyState}
 use Rattle.list_scheduler.specs.declared.copies.CopyState.TheVariants.{Idle, Running, Passed, Failed}
 use Rattle.list_scheduler.specs.Copies.{CopyTable, copy_at, table}
 use Rattle.agreed_state.specs.declared.config.Config.{Config}
 use Rattle.agreed_state.specs.Config.{IsConfig}
-use Rattle.agreed_state.specs.Agreed.{AgreedView, IsAgreed}
-use Rattle.agreed_state.specs.Body.{copy_word, task_words, copy_words, words, members_of, copy_of, words_at, copy_in, state_in}
+use Rattle.agreed_state.specs.Agreed.{AgreedView, IsStanding, IsAgreed}
+use Rattle.agreed_state.specs.Body.{copy_word, task_words, copy_words, left_room, words, members_of, copy_of, words_at, copy_in, state_in}
 use Rattle.list_scheduler.specs.CopyLaws.{table_same}
 use Rattle.agreed_state.specs.Ranges.{lt_yes, lt_no, lt_from, from_no, IsIdSet-wider, length-rows, get_or-rows}
 
@@ -96,20 +97,24 @@ copy_word-at graph copies t q in_tasks in_nodes =
 pub record HasRoom {capacity : ℕ} (config : Config capacity) (a : AgreedView) : Type 0 where
   pub counts : config.nodes ≤ length a.standing.counts
   pub streaks : config.nodes ≤ length a.standing.streaks
+  pub left : left_room config ≤ length a.standing.left
   pub graph : config.graph.nodes ≡ config.nodes
 
-pub length-words : {capacity : ℕ} (config : Config capacity) (a : AgreedView) → HasRoom config a → length (words config a) ≡ 1 + 2 * config.nodes + length config.graph.tasks * config.nodes
+pub length-words : {capacity : ℕ} (config : Config capacity) (a : AgreedView) → HasRoom config a → length (words config a) ≡ 1 + 2 * config.nodes + left_room config + length config.graph.tasks * config.nodes
 unfolding words
 length-words config a room =
     let counts = take config.nodes a.standing.counts in
     let streaks = take config.nodes a.standing.streaks in
+    let left = take (left_room config) a.standing.left in
     let copies = copy_words config.graph a.copies in
     omega (
       arith,
-      length-append counts (streaks ++ copies),
-      length-append streaks copies,
+      length-append counts (streaks ++ (left ++ copies)),
+      length-append streaks (left ++ copies),
+      length-append left copies,
       length-take-le config.nodes a.standing.counts room.counts,
       length-take-le config.nodes a.standing.streaks room.streaks,
+      length-take-le (left_room config) a.standing.left room.left,
       length-copy_words config.graph a.copies,
       ap (λ n. length config.graph.tasks * n) room.graph,
     )
@@ -120,7 +125,8 @@ word-0 config a = refl
 
 -- behind the first word
 later_word : {capacity : ℕ} (config : Config capacity) (a : AgreedView) (k : ℕ)
-    → get_or (words config a) (1 + k) 0 ≡ get_or (take config.nodes a.standing.counts ++ (take config.nodes a.standing.streaks ++ copy_words config.graph a.copies)) k 0
+    → get_or (words config a) (1 + k) 0
+    ≡ get_or (take config.nodes a.standing.counts ++ (take config.nodes a.standing.streaks ++ (take (left_room config) a.standing.left ++ copy_words config.graph a.copies))) k 0
 unfolding words
 later_word config a k = let next : 1 + k ≡ suc k = omega arith in rw next refl
 
@@ -139,23 +145,50 @@ streak_word config a j room in_use =
     ap (λ k. get_or (words config a) k 0) place ∙ later_word config a (length counts + j) ∙ get_or-append-add counts _ j 0
     ∙ get_or_append_left streaks _ 0 j (omega arith) ∙ get_or-take config.nodes a.standing.streaks j 0 in_use
 
+pub left_word : {capacity : ℕ} (config : Config capacity) (a : AgreedView) (j : ℕ) → HasRoom config a → j < left_room config → get_or (words config a) (1 + 2 * config.nodes + j) 0 ≡ get_or a.standing.left j 0
+left_word config a j room told =
+    let counts = take config.nodes a.standing.counts in
+    let streaks = take config.nodes a.standing.streaks in
+    let left = take (left_room config) a.standing.left in
+    let many_counts : length counts ≡ config.nodes = length-take-le config.nodes a.standing.counts room.counts in
+    let many_streaks : length streaks ≡ config.nodes = length-take-le config.nodes a.standing.streaks room.streaks in
+    let many_left : length left ≡ left_room config = length-take-le (left_room config) a.standing.left room.left in
+    let place : 1 + 2 * config.nodes + j ≡ 1 + (length counts + (length streaks + j)) = omega arith in
+    ap (λ k. get_or (words config a) k 0) place ∙ later_word config a _ ∙ get_or-append-add counts _ _ 0 ∙ get_or-append-add streaks _ j 0
+    ∙ get_or_append_left left _ 0 j (omega arith) ∙ get_or-take (left_room config) a.standing.left j 0 told
+
 pub copies_word : {capacity : ℕ} (config : Config capacity) (a : AgreedView) (t q : ℕ) → HasRoom config a → t < length config.graph.tasks → q < config.graph.nodes
-    → get_or (words config a) (1 + 2 * config.nodes + t * config.graph.nodes + q) 0 ≡ copy_word (copy_at a.copies t q)
+    → get_or (words config a) (1 + 2 * config.nodes + left_room config + t * config.graph.nodes + q) 0 ≡ copy_word (copy_at a.copies t q)
 copies_word config a t q room in_tasks in_nodes =
     let counts = take config.nodes a.standing.counts in
     let streaks = take config.nodes a.standing.streaks in
     let many_counts : length counts ≡ config.nodes = length-take-le config.nodes a.standing.counts room.counts in
     let many_streaks : length streaks ≡ config.nodes = length-take-le config.nodes a.standing.streaks room.streaks in
-    let place : 1 + 2 * config.nodes + t * config.graph.nodes + q ≡ 1 + (length counts + (length streaks + (t * config.graph.nodes + q))) = omega arith in
-    ap (λ k. get_or (words config a) k 0) place ∙ later_word config a _ ∙ get_or-append-add counts _ _ 0 ∙ get_or-append-add streaks _ _ 0
+    let left = take (left_room config) a.standing.left in
+    let many_left : length left ≡ left_room config = length-take-le (left_room config) a.standing.left room.left in
+    let place : 1 + 2 * config.nodes + left_room config + t * config.graph.nodes + q ≡ 1 + (length counts + (length streaks + (length left + (t * config.graph.nodes + q)))) = omega arith in
+    ap (λ k. get_or (words config a) k 0) place ∙ later_word config a _ ∙ get_or-append-add counts _ _ 0 ∙ get_or-append-add streaks _ _ 0 ∙ get_or-append-add left _ _ 0
     ∙ copy_word-at config.graph a.copies t q in_tasks in_nodes
 
 -- ---- a state in its words
+
+-- for no more nodes than are in use
+pub few_told : {capacity : ℕ} (config : Config capacity) → left_room config ≤ config.nodes
+few_told config = elim (config.version == 1) as (λ b. cond b 0 config.nodes ≤ config.nodes) [ true ↦ omega arith | false ↦ omega arith ]
+
+-- behind them none left
+left_rest : (capacity : ℕ) (config : Config capacity) (s : Standing) (j : ℕ) → IsStanding capacity config s → left_room config ≤ j → get_or s.left j 0 ≡ 0
+left_rest capacity config s j ok = by (config.version == 1) refl
+  where
+    by : (b : Bool) → (config.version == 1) ≡ b → cond b 0 config.nodes ≤ j → get_or s.left j 0 ≡ 0
+    by true e behind = ok.no_left (eqb-true config.version 1 e) j
+    by false e behind = ok.rest_left j behind
 
 pub room-of : (capacity : ℕ) (config : Config capacity) (a : AgreedView) → IsConfig capacity config → IsAgreed capacity config a → HasRoom config a
 room-of capacity config a ok agreed = record {
   counts = omega (arith, ok.few_nodes, agreed.standing.many_counts);
   streaks = omega (arith, ok.few_nodes, agreed.standing.many_streaks);
+  left = omega (arith, few_told config, ok.few_nodes, agreed.standing.many_left);
   graph = ok.graph_nodes;
 }
 
@@ -190,9 +223,10 @@ most_small capacity graph t ok = elim (cases_lt t (length graph.tasks)) [
   | inr past ↦ omega (arith, ap (λ (x : TaskView). x.max) (task_past graph.tasks t past))
 ]
 
-pub same_state : (m m' c c' s s' : List ℕ) (t t' : CopyTable) → m ≡ m' → c ≡ c' → s ≡ s' → t ≡ t'
-    → (let r : AgreedView = record { standing = record { members = m; counts = c; streaks = s }; copies = t } in r) ≡ (let r : AgreedView = record { standing = record { members = m'; counts = c'; streaks = s' }; copies = t' } in r)
-same_state m m' c c' s s' t t' em ec es et = rw (em, ec, es, et) refl
+pub same_state : (m m' c c' s s' l l' : List ℕ) (t t' : CopyTable) → m ≡ m' → c ≡ c' → s ≡ s' → l ≡ l' → t ≡ t'
+    → (let r : AgreedView = record { standing = record { members = m; counts = c; streaks = s; left = l }; copies = t } in r)
+    ≡ (let r : AgreedView = record { standing = record { members = m'; counts = c'; streaks = s'; left = l' }; copies = t' } in r)
+same_state m m' c c' s s' l l' t t' em ec es el et = rw (em, ec, es, el, et) refl
 
 pub state_in-words : (capacity : ℕ) (config : Config capacity) (a : AgreedView) → capacity ≤ 16 → IsConfig capacity config → IsAgreed capacity config a → state_in capacity config (words config a) ≡ a
 unfolding state_in
@@ -207,12 +241,14 @@ state_in-words capacity config a small ok agreed =
     words_at-list capacity nodes 1 ws a.standing.counts agreed.standing.many_counts (λ j in_use. count_word config a j room in_use) agreed.standing.rest_counts in
     let streaks : words_at capacity nodes (1 + nodes) ws ≡ a.standing.streaks =
     words_at-list capacity nodes (1 + nodes) ws a.standing.streaks agreed.standing.many_streaks (λ j in_use. streak_word config a j room in_use) agreed.standing.rest_streaks in
-    let copies : table capacity (copy_in graph (1 + 2 * nodes) ws) ≡ a.copies =
-    table_same capacity (copy_in graph (1 + 2 * nodes) ws) (copy_at a.copies) (λ t q in_tasks in_room. copy_read t q (nat_lt t (length graph.tasks)) refl (nat_lt q graph.nodes) refl) ∙ sym agreed.table in
-    same_state _ _ _ _ _ _ _ _ members counts streaks copies
+    let left : words_at capacity (left_room config) (1 + 2 * nodes) ws ≡ a.standing.left =
+    words_at-list capacity (left_room config) (1 + 2 * nodes) ws a.standing.left agreed.standing.many_left (λ j told. left_word config a j room told) (λ j behind. left_rest capacity config a.standing j agreed.standing behind) in
+    let copies : table capacity (copy_in graph (1 + 2 * nodes + left_room config) ws) ≡ a.copies =
+    table_same capacity (copy_in graph (1 + 2 * nodes + left_room config) ws) (copy_at a.copies) (λ t q in_tasks in_room. copy_read t q (nat_lt t (length graph.tasks)) refl (nat_lt q graph.nodes) refl) ∙ sym agreed.table in
+    same_state _ _ _ _ _ _ _ _ _ _ members counts streaks left copies
   where
     copy_read : (t q : ℕ) (b : Bool) → nat_lt t (length config.graph.tasks) ≡ b → (b' : Bool) → nat_lt q config.graph.nodes ≡ b'
-        → copy_in config.graph (1 + 2 * config.nodes) (words config a) t q ≡ copy_at a.copies t q
+        → copy_in config.graph (1 + 2 * config.nodes + left_room config) (words config a) t q ≡ copy_at a.copies t q
     copy_read t q true et true eq =
         let room = room-of capacity config a ok agreed in
         rw (et, eq) (ap copy_of (copies_word config a t q room (lt_from t _ et) (lt_from q _ eq))

@@ -1,17 +1,14 @@
 -- What a cluster may be configured to, and what one node may be given in one period.
 use Rattle.std.specs.Prelude.{◌≡◌, ℕ, ◌^◌, ◌<◌, ◌≤◌, ℤ, pos, neg_ℤ, ◌≤ℤ◌, true, List, Option, None, Some, All, length, slice_index, slice_index_or}
+use Rattle.node_grid.specs.Version.{IsVersion, kind_count, most_nodes, most_rounds}
 use Rattle.node_grid.specs.NodeSet.{has_id}
 use Rattle.task_graph.specs.Graph.{GraphView, IsGraph, task_at}
 use Rattle.mme_vote.specs.declared.channel.Channel.{Channel}
 use Rattle.mme_vote.specs.declared.channel.Channel.TheVariants.{State, Sensor}
 use Rattle.penalty.specs.Policy.{IsPolicy}
+use Rattle.frames.specs.Content.{IsValue}
 use Rattle.agreed_state.specs.declared.config.Config.{Config}
 use Rattle.agreed_state.specs.declared.config.Inputs.{Inputs}
-
--- from -2^42 to 2^42
-pub record IsValue (value : ℤ) : Type 0 where
-  pub low : neg_ℤ (pos (2 ^ 42)) ≤ℤ value
-  pub high : value ≤ℤ pos (2 ^ 42)
 
 pub record IsDelta (delta : ℤ) : Type 0 where
   pub low : pos 0 ≤ℤ delta
@@ -36,13 +33,17 @@ IsChannel nodes tasks (State delta start step) = IsDelta delta × IsStart nodes 
 IsChannel nodes tasks (Sensor delta task) = IsDelta delta × IsTaskBelow tasks task
 
 pub record IsConfig (capacity : ℕ) (config : Config capacity) : Type 0 where
+  pub version : IsVersion config.version
   pub some_nodes : 3 ≤ config.nodes
   pub few_nodes : config.nodes ≤ capacity
-  pub few_rounds : config.m ≤ 3
+  pub version_nodes : config.nodes ≤ most_nodes config.version
+  pub few_rounds : config.m ≤ most_rounds config.version
   pub rounds : config.m < config.nodes
   pub some_frame : 1 ≤ config.frame
   pub frame : config.frame ≤ 1024
   pub policy : IsPolicy config.policy
+  pub weights : (k : ℕ) → kind_count config.version ≤ k → slice_index config.policy.weights k ≡ 0
+  pub retire : config.version ≡ 1 → config.policy.retire ≡ 0
   pub graph : IsGraph capacity config.graph
   pub graph_nodes : config.graph.nodes ≡ config.nodes
   pub few_channels : length config.channels.items ≤ 8

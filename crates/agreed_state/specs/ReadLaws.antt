@@ -21,10 +21,10 @@ use Rattle.list_scheduler.specs.Copies.{CopyTable, copy_at, table, is_idle}
 use Rattle.agreed_state.specs.declared.config.Config.{Config}
 use Rattle.agreed_state.specs.Config.{IsConfig}
 use Rattle.agreed_state.specs.Agreed.{AgreedView, IsAgreed}
-use Rattle.agreed_state.specs.Body.{copy_word, words, body, state_len, words_of, members_of, copy_of, words_at, copy_in, state_in, is_copy, is_copy_at, is_running, runs_few, is_counted, is_state, read_body}
+use Rattle.agreed_state.specs.Body.{copy_word, left_room, words, body, state_len, words_of, members_of, copy_of, words_at, copy_in, state_in, is_copy, is_copy_at, is_running, runs_few, is_counted, is_told, is_state, read_body}
 use Rattle.list_scheduler.specs.CopyLaws.{table_same, at_table}
 use Rattle.agreed_state.specs.Tables.{past_table}
-use Rattle.agreed_state.specs.BodyLaws.{HasRoom, length-words, word-0, count_word, streak_word, copies_word, copy_word-copy_of, copy_word-fits, mask_of-fits, IsIdSet-members_of, mask_of-members_of, room-of, state_in-words, most_small}
+use Rattle.agreed_state.specs.BodyLaws.{HasRoom, length-words, word-0, count_word, streak_word, left_word, copies_word, copy_word-copy_of, copy_word-fits, mask_of-fits, IsIdSet-members_of, mask_of-members_of, few_told, room-of, state_in-words, most_small}
 use Rattle.agreed_state.specs.StateLaws.{is_state-agreed}
 use Rattle.agreed_state.specs.Ranges.{lt_yes, lt_no, lt_from, le_from, all_below_at, IsIdSet-narrower, count_two, count_at}
 
@@ -88,11 +88,11 @@ running_within graph k ws t q e r = (
 
 -- ---- words that pass are those of an agreed state
 
-words_at-get : (capacity nodes k : ℕ) (ws : List ℕ) (j : ℕ) → nodes ≤ capacity → j < nodes → get_or (words_at capacity nodes k ws) j 0 ≡ get_or ws (k + j) 0
+pub words_at-get : (capacity nodes k : ℕ) (ws : List ℕ) (j : ℕ) → nodes ≤ capacity → j < nodes → get_or (words_at capacity nodes k ws) j 0 ≡ get_or ws (k + j) 0
 words_at-get capacity nodes k ws j room in_use =
     get_or-map-range_with_len (λ i. cond (nat_lt i nodes) (get_or ws (k + i) 0) 0) 0 capacity j j 0 (omega arith) (omega arith) ∙ rw (lt_yes j nodes in_use) refl
 
-words_at-rest : (capacity nodes k : ℕ) (ws : List ℕ) (j : ℕ) → nodes ≤ j → get_or (words_at capacity nodes k ws) j 0 ≡ 0
+pub words_at-rest : (capacity nodes k : ℕ) (ws : List ℕ) (j : ℕ) → nodes ≤ j → get_or (words_at capacity nodes k ws) j 0 ≡ 0
 words_at-rest capacity nodes k ws j behind = elim (cases_lt j capacity) [
   | inl within ↦ get_or-map-range_with_len (λ i. cond (nat_lt i nodes) (get_or ws (k + i) 0) 0) 0 capacity j j 0 within (omega arith) ∙ rw (lt_no j nodes behind) refl
   | inr beyond ↦ get_or_past (words_at capacity nodes k ws) j 0 (omega (arith, length-map-range_with_len (λ i. cond (nat_lt i nodes) (get_or ws (k + i) 0) 0) 0 capacity))
@@ -128,6 +128,7 @@ runner_is_member tasks copies members t q few in_tasks first = elim (cases_Bool 
 pub record Passes {capacity : ℕ} (config : Config capacity) (a : AgreedView) : Type 0 where
   pub some : nat_lt 0 (length a.standing.members) ≡ true
   pub members : list_all (λ q. nat_lt q config.nodes) a.standing.members ≡ true
+  pub told : list_all (is_told a.standing.left) (ids_below config.nodes) ≡ true
   pub counted : list_all (is_counted config.policy a.standing.counts a.standing.streaks) (ids_below config.nodes) ≡ true
   pub copies : list_all (λ t. list_all (is_copy_at config.graph a.copies t) (ids_below config.nodes)) (ids_below (length config.graph.tasks)) ≡ true
   pub few : list_all (runs_few (length config.graph.tasks) a.standing.members a.copies) (ids_below config.nodes) ≡ true
@@ -139,7 +140,8 @@ passes config a h =
     let third = and_parts _ _ last.0 in
     let second = and_parts _ _ third.0 in
     let first = and_parts _ _ second.0 in
-    record { some = first.0; members = first.1; counted = second.1; copies = third.1; few = last.1 }
+    let start = and_parts _ _ first.0 in
+    record { some = start.0; members = start.1; told = first.1; counted = second.1; copies = third.1; few = last.1 }
 
 pub state_in-agreed : (capacity : ℕ) (config : Config capacity) (ws : List ℕ) → capacity ≤ 16 → IsConfig capacity config → is_state config (state_in capacity config ws) ≡ true
     → IsAgreed capacity config (state_in capacity config ws)
@@ -154,10 +156,17 @@ state_in-agreed capacity config ws small ok h =
           capped = λ j in_use. le_from _ _ (and_parts _ _ (all_below_at (is_counted config.policy (state_in capacity config ws).standing.counts (state_in capacity config ws).standing.streaks) config.nodes j p.counted in_use)).0;
           unfilled = λ j in_use. lt_from _ _ (and_parts _ _ (all_below_at (is_counted config.policy (state_in capacity config ws).standing.counts (state_in capacity config ws).standing.streaks) config.nodes j p.counted in_use)).1;
         };
+        small_left = λ j. elim (cases_lt j config.nodes) [
+          | inl in_use ↦ lt_from _ _ (all_below_at (is_told (state_in capacity config ws).standing.left) config.nodes j p.told in_use)
+          | inr behind ↦ omega (arith, words_at-rest capacity (left_room config) (1 + 2 * config.nodes) ws j (omega (arith, few_told config)))
+        ];
+        no_left = λ first j. words_at-rest capacity (left_room config) (1 + 2 * config.nodes) ws j (none_told first j);
         many_counts = length-map-range_with_len _ 0 capacity;
         many_streaks = length-map-range_with_len _ 0 capacity;
+        many_left = length-map-range_with_len _ 0 capacity;
         rest_counts = λ j behind. words_at-rest capacity config.nodes 1 ws j behind;
         rest_streaks = λ j behind. words_at-rest capacity config.nodes (1 + config.nodes) ws j behind;
+        rest_left = λ j behind. words_at-rest capacity (left_room config) (1 + 2 * config.nodes) ws j (omega (arith, few_told config));
       };
       table = table_same capacity (copy_in config.graph k ws) (copy_at copies) (λ t q in_tasks in_room. sym (at t q));
       copies = record {
@@ -185,7 +194,10 @@ state_in-agreed capacity config ws small ok h =
     }
   where
     k : ℕ
-    k = 1 + 2 * config.nodes
+    k = 1 + 2 * config.nodes + left_room config
+
+    none_told : config.version ≡ 1 → (j : ℕ) → left_room config ≤ j
+    none_told first j = let is : (config.version == 1) ≡ true = eq-eqb config.version 1 first in omega (arith, ap (λ b. cond b 0 config.nodes) is)
 
     copies : CopyTable
     copies = table capacity (copy_in config.graph k ws)
@@ -217,7 +229,7 @@ in_row r tasks n h =
     positive (suc n) h = omega arith
 
 pub words-state_in : (capacity : ℕ) (config : Config capacity) (ws : List ℕ) → capacity ≤ 16 → IsConfig capacity config
-    → length ws ≡ 1 + 2 * config.nodes + length config.graph.tasks * config.nodes → get_or ws 0 0 < 65536 → words config (state_in capacity config ws) ≡ ws
+    → length ws ≡ 1 + 2 * config.nodes + left_room config + length config.graph.tasks * config.nodes → get_or ws 0 0 < 65536 → words config (state_in capacity config ws) ≡ ws
 unfolding state_in
 words-state_in capacity config ws small ok long narrow = ext_get_or 0 _ _ (length-words config a room ∙ sym long) (λ i h. at i (omega (arith, length-words config a room)))
   where
@@ -228,6 +240,7 @@ words-state_in capacity config ws small ok long narrow = ext_get_or 0 _ _ (lengt
     room = record {
       counts = omega (arith, ok.few_nodes, length-map-range_with_len (λ i. cond (nat_lt i config.nodes) (get_or ws (1 + i) 0) 0) 0 capacity);
       streaks = omega (arith, ok.few_nodes, length-map-range_with_len (λ i. cond (nat_lt i config.nodes) (get_or ws (1 + config.nodes + i) 0) 0) 0 capacity);
+      left = omega (arith, few_told config, ok.few_nodes, length-map-range_with_len (λ i. cond (nat_lt i (left_room config)) (get_or ws (1 + 2 * config.nodes + i) 0) 0) 0 capacity);
       graph = ok.graph_nodes;
     }
 
@@ -240,15 +253,19 @@ words-state_in capacity config ws small ok long narrow = ext_get_or 0 _ _ (lengt
     a_streak : (j : ℕ) → j < config.nodes → get_or (words config (state_in capacity config ws)) (1 + config.nodes + j) 0 ≡ get_or ws (1 + config.nodes + j) 0
     a_streak j in_use = streak_word config (state_in capacity config ws) j room in_use ∙ words_at-get capacity config.nodes (1 + config.nodes) ws j ok.few_nodes in_use
 
+    a_left : (j : ℕ) → j < left_room config → get_or (words config (state_in capacity config ws)) (1 + 2 * config.nodes + j) 0 ≡ get_or ws (1 + 2 * config.nodes + j) 0
+    a_left j told =
+        left_word config (state_in capacity config ws) j room told ∙ words_at-get capacity (left_room config) (1 + 2 * config.nodes) ws j (omega (arith, few_told config, ok.few_nodes)) told
+
     a_copy : (t q : ℕ) → t < length config.graph.tasks → q < config.graph.nodes
-        → get_or (words config (state_in capacity config ws)) (1 + 2 * config.nodes + t * config.graph.nodes + q) 0 ≡ get_or ws (1 + 2 * config.nodes + t * config.graph.nodes + q) 0
+        → get_or (words config (state_in capacity config ws)) (1 + 2 * config.nodes + left_room config + t * config.graph.nodes + q) 0 ≡ get_or ws (1 + 2 * config.nodes + left_room config + t * config.graph.nodes + q) 0
     a_copy t q in_tasks in_nodes =
-        let read : copy_in config.graph (1 + 2 * config.nodes) ws t q ≡ copy_of (get_or ws (1 + 2 * config.nodes + t * config.graph.nodes + q) 0) =
+        let read : copy_in config.graph (1 + 2 * config.nodes + left_room config) ws t q ≡ copy_of (get_or ws (1 + 2 * config.nodes + left_room config + t * config.graph.nodes + q) 0) =
         rw (lt_yes t (length config.graph.tasks) in_tasks, lt_yes q config.graph.nodes in_nodes) refl in
         copies_word config (state_in capacity config ws) t q room in_tasks in_nodes
-        ∙ ap copy_word (copy_read capacity config.graph (1 + 2 * config.nodes) ws t q ok.graph ∙ read) ∙ copy_word-copy_of _
+        ∙ ap copy_word (copy_read capacity config.graph (1 + 2 * config.nodes + left_room config) ws t q ok.graph ∙ read) ∙ copy_word-copy_of _
 
-    at : (i : ℕ) → i < 1 + 2 * config.nodes + length config.graph.tasks * config.nodes → get_or (words config (state_in capacity config ws)) i 0 ≡ get_or ws i 0
+    at : (i : ℕ) → i < 1 + 2 * config.nodes + left_room config + length config.graph.tasks * config.nodes → get_or (words config (state_in capacity config ws)) i 0 ≡ get_or ws i 0
     at i h = elim (cases_lt i 1) [
       | inl start ↦ let e : i ≡ 0 = omega arith in ap (λ k. get_or (words config (state_in capacity config ws)) k 0) e ∙ first ∙ ap (λ k. get_or ws k 0) (sym e)
       | inr some ↦ elim (cases_lt i (1 + config.nodes)) [
@@ -259,13 +276,18 @@ words-state_in capacity config ws small ok long narrow = ext_get_or 0 _ _ (lengt
           | inl streak ↦
               let e : 1 + config.nodes + (i - (1 + config.nodes)) ≡ i = omega arith in
               ap (λ k. get_or (words config (state_in capacity config ws)) k 0) (sym e) ∙ a_streak (i - (1 + config.nodes)) (omega arith) ∙ ap (λ k. get_or ws k 0) e
-          | inr copy ↦
-              let n = config.graph.nodes in
-              let r = i - (1 + 2 * config.nodes) in
-              let room : r < length config.graph.tasks * n = omega (arith, ap (λ m. length config.graph.tasks * m) ok.graph_nodes) in
-              let place = in_row r (length config.graph.tasks) n room in
-              let e : 1 + 2 * config.nodes + r / n * n + r % n ≡ i = omega (arith, div-add-mod' r n) in
-              ap (λ k. get_or (words config (state_in capacity config ws)) k 0) (sym e) ∙ a_copy (r / n) (r % n) place.0 place.1 ∙ ap (λ k. get_or ws k 0) e
+          | inr later ↦ elim (cases_lt i (1 + 2 * config.nodes + left_room config)) [
+            | inl left ↦
+                let e : 1 + 2 * config.nodes + (i - (1 + 2 * config.nodes)) ≡ i = omega arith in
+                ap (λ k. get_or (words config (state_in capacity config ws)) k 0) (sym e) ∙ a_left (i - (1 + 2 * config.nodes)) (omega arith) ∙ ap (λ k. get_or ws k 0) e
+            | inr copy ↦
+                let n = config.graph.nodes in
+                let r = i - (1 + 2 * config.nodes + left_room config) in
+                let room : r < length config.graph.tasks * n = omega (arith, ap (λ m. length config.graph.tasks * m) ok.graph_nodes) in
+                let place = in_row r (length config.graph.tasks) n room in
+                let e : 1 + 2 * config.nodes + left_room config + r / n * n + r % n ≡ i = omega (arith, div-add-mod' r n) in
+                ap (λ k. get_or (words config (state_in capacity config ws)) k 0) (sym e) ∙ a_copy (r / n) (r % n) place.0 place.1 ∙ ap (λ k. get_or ws k 0) e
+          ]
         ]
       ]
     ]
@@ -301,7 +323,7 @@ words-fit capacity config a small ok agreed = All-from_get_or (λ word. word < 6
     fits : (i j : ℕ) → i ≡ j → get_or (words config a) i 0 < 65536 → get_or (words config a) j 0 < 65536
     fits i j e h = omega (arith, ap (λ k. get_or (words config a) k 0) e)
 
-    at : (i : ℕ) → i < 1 + 2 * config.nodes + length config.graph.tasks * config.nodes → get_or (words config a) i 0 < 65536
+    at : (i : ℕ) → i < 1 + 2 * config.nodes + left_room config + length config.graph.tasks * config.nodes → get_or (words config a) i 0 < 65536
     at i h = elim (cases_lt i 1) [
       | inl start ↦ fits 0 i (omega arith) (omega (arith, word-0 config a, mask_of-fits config.nodes a.standing.members (omega (arith, ok.few_nodes)) agreed.standing.set))
       | inr some ↦ elim (cases_lt i (1 + config.nodes)) [
@@ -314,17 +336,23 @@ words-fit capacity config a small ok agreed = All-from_get_or (λ word. word < 6
               let j = i - (1 + config.nodes) in
               let in_use : j < config.nodes = omega arith in
               fits (1 + config.nodes + j) i (omega arith) (omega (arith, streak_word config a j room in_use, agreed.standing.counted.unfilled j in_use, ok.policy.streak))
-          | inr copy ↦
+          | inr later ↦ elim (cases_lt i (1 + 2 * config.nodes + left_room config)) [
+            | inl left ↦
+              let j = i - (1 + 2 * config.nodes) in
+              let told : j < left_room config = omega arith in
+              fits (1 + 2 * config.nodes + j) i (omega arith) (omega (arith, left_word config a j room told, agreed.standing.small_left j))
+            | inr copy ↦
               let n = config.graph.nodes in
-              let r = i - (1 + 2 * config.nodes) in
+              let r = i - (1 + 2 * config.nodes + left_room config) in
               let within : r < length config.graph.tasks * n = omega (arith, ap (λ m. length config.graph.tasks * m) ok.graph_nodes) in
               let place = in_row r (length config.graph.tasks) n within in
-              fits (1 + 2 * config.nodes + r / n * n + r % n) i (omega (arith, div-add-mod' r n))
+              fits (1 + 2 * config.nodes + left_room config + r / n * n + r % n) i (omega (arith, div-add-mod' r n))
               (omega (
                 arith,
                 copies_word config a (r / n) (r % n) room place.0 place.1,
                 copy_word-fits (task_at config.graph.tasks (r / n)).max (copy_at a.copies (r / n) (r % n)) (most_small capacity config.graph (r / n) ok.graph) (λ e q. agreed.copies.early (r / n) (r % n) e q),
               ))
+          ]
         ]
       ]
     ]
@@ -336,8 +364,8 @@ pub length-body : (capacity : ℕ) (config : Config capacity) (a : AgreedView) �
 length-body capacity config a small ok agreed =
     omega (arith, length_spelt 2 (to_be_bytes w16) (from_be_bytes w16) (λ word. word < 65536) word_format (words config a) (words-fit capacity config a small ok agreed), length-words config a (room-of capacity config a ok agreed))
 
-pub state_len-short : (capacity : ℕ) (config : Config capacity) → capacity ≤ 16 → IsConfig capacity config → state_len config ≤ 1090
-state_len-short capacity config small ok = omega (arith, mul-le-mul (few ok.few_nodes) (few_tasks config.graph.nodes config.graph.tasks ok.graph.tasks.in_range))
+pub state_len-short : (capacity : ℕ) (config : Config capacity) → capacity ≤ 16 → IsConfig capacity config → state_len config ≤ 1122
+state_len-short capacity config small ok = omega (arith, few_told config, mul-le-mul (few ok.few_nodes) (few_tasks config.graph.nodes config.graph.tasks ok.graph.tasks.in_range))
   where
     few : config.nodes ≤ capacity → config.nodes ≤ 16
     few h = omega arith
@@ -356,7 +384,7 @@ passed_is : (capacity : ℕ) (config : Config capacity) (bytes : List ℕ) → c
     → length bytes ≡ state_len config → is_state config (state_in capacity config (words_of bytes)) ≡ true
     → IsAgreed capacity config (state_in capacity config (words_of bytes)) × (body config (state_in capacity config (words_of bytes)) ≡ bytes)
 passed_is capacity config bytes small ok are long passes =
-    let n = 1 + 2 * config.nodes + length config.graph.tasks * config.nodes in
+    let n = 1 + 2 * config.nodes + left_room config + length config.graph.tasks * config.nodes in
     let ws = words_of bytes in
     let even : length bytes ≡ 2 * n = omega (arith, long) in
     let back = restored 2 (to_be_bytes w16) (from_be_bytes w16) (λ word. word < 65536) (λ b. true) (omega arith) word_test n bytes even are (all_true (cut 2 bytes)) in

@@ -11,7 +11,7 @@ ghost use Rattle.agreed_state.specs.Agreed.{AgreedView, IsAgreed, first_agreed, 
 use crate::Config;
 use error_reports::charged;
 use list_scheduler::{Copies, Verdict};
-use membership::next;
+use membership::{Left, next};
 use node_grid::{Matrix, NodeSet};
 use omh_paths::Wrapped;
 use penalty::Counts;
@@ -25,19 +25,21 @@ pub struct Agreed<const N: usize> {
     pub members: NodeSet<N>,
     /// The nodes' penalties and streaks.
     pub counts: Counts<N>,
+    /// How often each node left the members; 0 in version 1.
+    pub left: Left<N>,
     /// How the copies of tasks stand.
     pub copies: Copies<N>,
 }
 
-// Clauses see members, counts and streaks together, and the table of copies.
+// Clauses see members, counts, streaks and how often nodes left together, and the table of copies.
 impl<const N: usize> Model for Agreed<N> {
     ghost use Rattle.agreed_state.specs.Agreed.{AgreedView};
 
     ghost Value = { AgreedView };
 
-    ghost view = { λ a. record { standing = record { members = a.members; counts = a.counts.counts; streaks = a.counts.streaks }; copies = a.copies } };
+    ghost view = { λ a. record { standing = record { members = a.members; counts = a.counts.counts; streaks = a.counts.streaks; left = a.left.times }; copies = a.copies } };
 
-    ghost inverse = { λ v. record { members = v.standing.members; counts = record { counts = v.standing.counts; streaks = v.standing.streaks }; copies = v.copies } };
+    ghost inverse = { λ v. record { members = v.standing.members; counts = record { counts = v.standing.counts; streaks = v.standing.streaks }; left = record { times = v.standing.left }; copies = v.copies } };
 }
 
 /// What the completion of copies by the settled claims would do.
@@ -64,6 +66,7 @@ impl<const N: usize> Agreed<N> {
         Agreed {
             members,
             counts: Counts::zero(),
+            left: Left::zero(),
             copies,
         }
     }
@@ -93,7 +96,7 @@ impl<const N: usize> Agreed<N> {
     /// A period's step, by its settled claims and settled rows, of which there is at most one for each node.
     ///
     /// The claims complete copies; the rows charge nodes, whose counts and streaks are stepped; members leave and
-    /// join by the new counts; what runs on nodes that aren't members now fails; at a frame's end all copies are idle
+    /// join by the new counts, and where nodes retire it is counted how often each left; what runs on nodes that aren't members now fails; at a frame's end all copies are idle
     /// again; and each member that runs nothing starts its next task.
     pub fn step(
         &mut self,
@@ -111,7 +114,13 @@ impl<const N: usize> Agreed<N> {
         let before = self.members;
         let charges = charges(rows, &before, config.nodes);
         self.counts.step(&config.policy, config.nodes, &charges);
-        self.members = next(&before, config.nodes, &self.counts, &config.policy);
+        self.members = next(
+            &before,
+            config.nodes,
+            &self.counts,
+            &mut self.left,
+            &config.policy,
+        );
         step_copies(
             &mut self.copies,
             config,

@@ -31,6 +31,7 @@ fn policy(exclude: u16, readmit: u16, streak: u16, cap: u16) -> Policy
         credit: 1,
         streak,
         cap,
+        retire: 0,
     }
 }
 
@@ -40,6 +41,7 @@ fn config(graph: TaskGraph<8>, policy: Policy) -> Config<8>
     ensures { IsConfig 8 result }
 {
     Config {
+        version: 1,
         nodes: graph.nodes(),
         m: 0,
         frame: 8,
