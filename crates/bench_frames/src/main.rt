@@ -22,6 +22,7 @@ fn expect() -> Expect<8>
     ensures rounds { result.m ≡ 2 }
 {
     Expect {
+        version: 1,
         nodes: 8,
         m: 2,
         period: 0,

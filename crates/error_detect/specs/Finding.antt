@@ -1,5 +1,6 @@
 -- What a slot finds of a sender, from what arrived of it.
 use Rattle.std.specs.Prelude.{ℕ, Bool, ◌&&◌, nat_le, List, [], ◌∷◌, Option, Some, None, if◌then◌else◌}
+use Rattle.node_grid.specs.Kinds.{missing, malformed, timing, cold}
 use Rattle.frames.specs.Content as content
 use Rattle.frames.specs.Content.{Expectation, Content}
 use Rattle.frames.specs.Reading.{reading}
@@ -40,7 +41,7 @@ told e (d ∷ d' ∷ rest) = None
 -- the kind of error that a finding is
 abbrev pub kind_of : Finding → Option ℕ
 kind_of Good = None
-kind_of Missing = Some 0
-kind_of Malformed = Some 1
-kind_of Timing = Some 2
-kind_of Cold = Some 3
+kind_of Missing = Some missing
+kind_of Malformed = Some malformed
+kind_of Timing = Some timing
+kind_of Cold = Some cold

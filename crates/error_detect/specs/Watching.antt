@@ -75,6 +75,7 @@ closed w = record { nodes = w.nodes; me = w.me; frame_max = w.frame_max; expect 
 abbrev pub of_sender : ℕ → Expectation → Expectation
 of_sender j e =
     record {
+      version = e.version;
       capacity = e.capacity;
       nodes = e.nodes;
       m = e.m;

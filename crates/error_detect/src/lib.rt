@@ -31,6 +31,7 @@ mod tests {
         ensures { HasSizes 4 0 18 0 (expected result) }
     {
         Expect {
+            version: 1,
             nodes: 4,
             m: 0,
             period: 0,

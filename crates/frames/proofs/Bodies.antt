@@ -64,22 +64,22 @@ values_decided e bytes b = (
 pub rows_decided : (e : Expectation) (bytes : List ℕ) → e.nodes ≤ e.capacity → AreBytes bytes → Decides (has_rows e bytes) (IsSaid e (ReportRelay (rows_in e.capacity e.nodes bytes)) bytes)
 rows_decided e bytes few b =
     let r : ℕ = round_in e.m e.slot in
-    let format = relayed_row_format e.capacity e.nodes r in
-    let test = relayed_row_test e.capacity e.nodes r few in (
-      λ h. let x = entries_said (1 + 2 * e.nodes) (relayed_row_spelling e.nodes) (relayed_row_in e.capacity e.nodes) (IsEntry (IsRow e.capacity e.nodes) r) (is_row_entry r) (omega arith) test (entries_due e) bytes b h in
+    let format = relayed_row_format e.version e.capacity e.nodes r in
+    let test = relayed_row_test e.version e.capacity e.nodes r few in (
+      λ h. let x = entries_said (1 + 2 * e.nodes) (relayed_row_spelling e.nodes) (relayed_row_in e.capacity e.nodes) (IsEntry (IsRow e.version e.capacity e.nodes) r) (is_row_entry e.version r) (omega arith) test (entries_due e) bytes b h in
           record { sized = (x.0, x.1); spelt = x.2 },
-      λ (h : IsSaid e (ReportRelay (rows_in e.capacity e.nodes bytes)) bytes). entries_test (1 + 2 * e.nodes) (relayed_row_spelling e.nodes) (relayed_row_in e.capacity e.nodes) (IsEntry (IsRow e.capacity e.nodes) r) (is_row_entry r) format test (entries_due e) bytes (rows_in e.capacity e.nodes bytes) h.sized.0 h.sized.1 h.spelt,
+      λ (h : IsSaid e (ReportRelay (rows_in e.capacity e.nodes bytes)) bytes). entries_test (1 + 2 * e.nodes) (relayed_row_spelling e.nodes) (relayed_row_in e.capacity e.nodes) (IsEntry (IsRow e.version e.capacity e.nodes) r) (is_row_entry e.version r) format test (entries_due e) bytes (rows_in e.capacity e.nodes bytes) h.sized.0 h.sized.1 h.spelt,
     )
 
 pub row_decided : (e : Expectation) (bytes : List ℕ) → e.nodes ≤ e.capacity → AreBytes bytes → Decides (has_row e bytes) (IsSaid e (Report0 (row_in e.capacity e.nodes bytes)) bytes)
 row_decided e bytes few b = (
-  λ h. let l : length bytes ≡ 2 * e.nodes = (Decides-eqb (length bytes) (2 * e.nodes)).0 (and_left (length bytes == 2 * e.nodes) (are_masks bytes) h) in
-      let t : are_masks bytes ≡ true = and_right (length bytes == 2 * e.nodes) (are_masks bytes) h in
-      record { sized = row_valid e.capacity e.nodes bytes few l b t; spelt = sym (row_restored e.capacity e.nodes bytes l b) },
+  λ h. let l : length bytes ≡ 2 * e.nodes = (Decides-eqb (length bytes) (2 * e.nodes)).0 (and_left (length bytes == 2 * e.nodes) (are_masks e.version bytes) h) in
+      let t : are_masks e.version bytes ≡ true = and_right (length bytes == 2 * e.nodes) (are_masks e.version bytes) h in
+      record { sized = row_valid e.version e.capacity e.nodes bytes few l b t; spelt = sym (row_restored e.capacity e.nodes bytes l b) },
   λ (h : IsSaid e (Report0 (row_in e.capacity e.nodes bytes)) bytes).
-      both (length bytes == 2 * e.nodes) (are_masks bytes)
-      (eq-eqb (length bytes) (2 * e.nodes) (ap length h.spelt ∙ row_long e.capacity e.nodes (row_in e.capacity e.nodes bytes) h.sized))
-      (ap are_masks h.spelt ∙ row_passes e.capacity e.nodes (row_in e.capacity e.nodes bytes) h.sized),
+      both (length bytes == 2 * e.nodes) (are_masks e.version bytes)
+      (eq-eqb (length bytes) (2 * e.nodes) (ap length h.spelt ∙ row_long e.version e.capacity e.nodes (row_in e.capacity e.nodes bytes) h.sized))
+      (ap (are_masks e.version) h.spelt ∙ row_passes e.version e.capacity e.nodes (row_in e.capacity e.nodes bytes) h.sized),
 )
 
 -- where the candidate of a kind isn't what a body says, nothing is
@@ -103,7 +103,7 @@ kind_told k num p q a b e = a ∙ b ∙ ap number_of e
 
 pub whole_rows : (e : Expectation) (bytes : List ℕ) (width : ℕ) → width ≡ 1 + 2 * e.nodes → has_rows e bytes ≡ true → length bytes % width ≡ 0
 whole_rows e bytes width w h =
-    let l : length bytes ≡ (1 + 2 * e.nodes) * entries_due e = (Decides-eqb (length bytes) ((1 + 2 * e.nodes) * entries_due e)).0 (and_left (length bytes == (1 + 2 * e.nodes) * entries_due e) (list_all (is_row_entry (round_in e.m e.slot)) (cut (1 + 2 * e.nodes) bytes)) h) in
+    let l : length bytes ≡ (1 + 2 * e.nodes) * entries_due e = (Decides-eqb (length bytes) ((1 + 2 * e.nodes) * entries_due e)).0 (and_left (length bytes == (1 + 2 * e.nodes) * entries_due e) (list_all (is_row_entry e.version (round_in e.m e.slot)) (cut (1 + 2 * e.nodes) bytes)) h) in
     ap (λ x. x % width) (l ∙ ap (λ x. x * entries_due e) (sym w)) ∙ mul-mod_right width (entries_due e)
 
 -- ---- header and body

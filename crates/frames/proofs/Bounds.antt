@@ -10,6 +10,7 @@ use Rattle.std.proofs.lemmas.List.{length-replicate, drop-replicate}
 use Rattle.std.proofs.lemmas.List.Elements.{All-replicate}
 use Rattle.std.proofs.lemmas.List.FromFn.{length-range_with_len}
 use Rattle.node_grid.specs.NodeSet.{IsIdSet, has_id, ids_below}
+use Rattle.node_grid.specs.Version.{mask_bound}
 use Rattle.node_grid.specs.NodeSetLaws.{length-ids, filter_every, IsIdSet-filter}
 use Rattle.omh_paths.specs.declared.wrapped.Wrapped.TheVariants.{Fault}
 use Rattle.omh_paths.specs.Paths.{path_count}
@@ -120,12 +121,12 @@ no_longer nodes m state_len due fewer e (DoneRelay xs) s h =
 no_longer nodes m state_len due fewer e (Data xs) s h =
     let l : length (flat_map value_spelling xs) ≡ 8 * length xs = length_spelt 8 value_spelling value_in IsValue value_format xs h.sized.1 in
     omega (arith, h.sized.0, s.few_due)
-no_longer nodes m state_len due fewer e (Report0 masks) s h = omega (arith, row_long e.capacity e.nodes masks h.sized, s.nodes_is)
+no_longer nodes m state_len due fewer e (Report0 masks) s h = omega (arith, row_long e.version e.capacity e.nodes masks h.sized, s.nodes_is)
 no_longer nodes m state_len due fewer e (ReportRelay xs) s h =
     let r : ℕ = round_in e.m e.slot in
     let n : entries_due e ≤ most_entries nodes m = relay_entries e nodes m 6 fewer s.m_is s.members (placed_kind e (ReportRelay xs) h (lit< tt)) (inr refl) in
     let l : length (flat_map (relayed_row_spelling e.nodes) xs) ≡ (1 + 2 * e.nodes) * length xs =
-    length_spelt (1 + 2 * e.nodes) (relayed_row_spelling e.nodes) (relayed_row_in e.capacity e.nodes) (IsEntry (IsRow e.capacity e.nodes) r) (relayed_row_format e.capacity e.nodes r) xs h.sized.1 in
+    length_spelt (1 + 2 * e.nodes) (relayed_row_spelling e.nodes) (relayed_row_in e.capacity e.nodes) (IsEntry (IsRow e.version e.capacity e.nodes) r) (relayed_row_format e.version e.capacity e.nodes r) xs h.sized.1 in
     let p : (1 + 2 * e.nodes) * length xs ≤ (1 + 2 * nodes) * most_entries nodes m = mul-le (1 + 2 * e.nodes) (length xs) (1 + 2 * nodes) (most_entries nodes m) (omega (arith, s.nodes_is)) (omega (arith, h.sized.0)) in
     omega (arith, mul_comm (1 + 2 * nodes) (most_entries nodes m))
 no_longer nodes m state_len due fewer e Cold s h = omega arith
@@ -133,7 +134,7 @@ no_longer nodes m state_len due fewer e Cold s h = omega arith
 -- ---- one is as long
 
 abbrev expects : ℕ → ℕ → ℕ → ℕ → ℕ → Expectation
-expects nodes m state_len due slot = record { capacity = nodes; nodes = nodes; m = m; period = 0; slot = slot; sender = 0; members = ids_below nodes; state_len = state_len; tasks = 0; due = due }
+expects nodes m state_len due slot = record { version = 2; capacity = nodes; nodes = nodes; m = m; period = 0; slot = slot; sender = 0; members = ids_below nodes; state_len = state_len; tasks = 0; due = due }
 
 IsIdSet-below : (n : ℕ) → IsIdSet n (ids_below n)
 IsIdSet-below n =
@@ -178,10 +179,10 @@ values_reached nodes m state_len due h =
 
 row_reached : (nodes m state_len due : ℕ) → IsLimited nodes m state_len due → IsReached nodes m state_len due (2 * nodes)
 row_reached nodes m state_len due h =
-    let row : IsRow nodes nodes (replicate nodes 0) = record { room = omega arith; whole = length-replicate nodes 0; within = All-replicate (λ mask. mask < 256) nodes 0 (lit< tt); rest = drop-replicate nodes nodes 0 } in
+    let row : IsRow 2 nodes nodes (replicate nodes 0) = record { room = omega arith; whole = length-replicate nodes 0; within = All-replicate (λ mask. mask < mask_bound 2) nodes 0 (lit< tt); rest = drop-replicate nodes nodes 0 } in
     reached_by nodes m state_len due (m + 3) (2 * nodes) (Report0 (replicate nodes 0)) h
     (sym (rw (eq_no (m + 3) 0 (omega arith), eq_no (m + 3) 1 (omega arith), le_no (m + 3) (m + 1) (omega arith), eq_no (m + 3) (m + 2) (omega arith), eq_test (m + 3) (m + 3) refl) refl))
-    row (row_long nodes nodes (replicate nodes 0) row)
+    row (row_long 2 nodes nodes (replicate nodes 0) row)
 
 rows_reached : (nodes m state_len due : ℕ) → IsLimited nodes m state_len due → 0 < m → IsReached nodes m state_len due (most_entries nodes m * (1 + 2 * nodes))
 rows_reached nodes m state_len due h some =
@@ -193,12 +194,12 @@ rows_reached nodes m state_len due h some =
     let ids : length (ids_below nodes) ≡ nodes = length-range_with_len 0 nodes in
     let isnt : (m == 0) ≡ false = eq_no m 0 (omega arith) in
     let due_is : entries_due e ≡ n = rw (has, isnt) (ap (λ k. path_count (k - 1) (round_in m slot)) ids ∙ ap (path_count (nodes - 1)) round) in
-    let one : IsEntry (IsRow nodes nodes) (round_in m slot) (Fault 1) = (lit< tt, omega arith) in
-    let all : All (IsEntry (IsRow nodes nodes) (round_in m slot)) (replicate n (Fault 1)) = All-replicate (IsEntry (IsRow nodes nodes) (round_in m slot)) n (Fault 1) one in
+    let one : IsEntry (IsRow 2 nodes nodes) (round_in m slot) (Fault 1) = (lit< tt, omega arith) in
+    let all : All (IsEntry (IsRow 2 nodes nodes) (round_in m slot)) (replicate n (Fault 1)) = All-replicate (IsEntry (IsRow 2 nodes nodes) (round_in m slot)) n (Fault 1) one in
     reached_by nodes m state_len due slot (n * (1 + 2 * nodes)) (ReportRelay (replicate n (Fault 1))) h
     (sym (rw (eq_no slot 0 (omega arith), eq_no slot 1 (omega arith), le_no slot (m + 1) (omega arith), eq_no slot (m + 2) (omega arith), eq_no slot (m + 3) (omega arith), le_yes slot (2 * m + 3) (omega arith)) refl))
     (length-replicate n (Fault 1) ∙ sym due_is, all)
-    (length_spelt (1 + 2 * nodes) (relayed_row_spelling nodes) (relayed_row_in nodes nodes) (IsEntry (IsRow nodes nodes) (round_in m slot)) (relayed_row_format nodes nodes (round_in m slot)) (replicate n (Fault 1)) all
+    (length_spelt (1 + 2 * nodes) (relayed_row_spelling nodes) (relayed_row_in nodes nodes) (IsEntry (IsRow 2 nodes nodes) (round_in m slot)) (relayed_row_format 2 nodes nodes (round_in m slot)) (replicate n (Fault 1)) all
     ∙ ap (λ x. (1 + 2 * nodes) * x) (length-replicate n (Fault 1)) ∙ mul_comm (1 + 2 * nodes) n)
 
 of_max : (P : ℕ → Type 0) (a b : ℕ) → P a → P b → P (max a b)

@@ -1,7 +1,10 @@
 -- Tests on pieces of a body, each by the bytes alone.
-use Rattle.std.specs.Prelude.{◌≡◌, ◌⊎◌, ◌+◌, ◌*◌, length, ℕ, Bool, ◌&&◌, ◌||◌, ◌==◌, nat_le, List, drop, slice_index, if◌then◌else◌}
+use Rattle.std.specs.Prelude.{◌≡◌, ◌⊎◌, ◌+◌, ◌*◌, length, ℕ, Bool, ◌&&◌, ◌||◌, ◌==◌, nat_le, nat_lt, List, drop, slice_index, if◌then◌else◌}
 use Rattle.std.specs.List.{list_all}
+use Rattle.std.specs.Int.{w16, from_be_bytes}
+use Rattle.node_grid.specs.Version.{mask_bound}
 use Rattle.frames.specs.Content.{Expectation, Content, kind, kind_in, round_in, entries_due, IsSized}
+use Rattle.frames.specs.FrameKinds.{cold_kind}
 use Rattle.frames.specs.Spelling.{body_spelling}
 use Rattle.frames.specs.Reading.{cut, value_in, fits_claim, fits_value}
 
@@ -10,19 +13,19 @@ abbrev pub is_claim_entry : ℕ → ℕ → List ℕ → Bool
 is_claim_entry tasks r bytes =
     if slice_index bytes 0 == 0 then fits_claim tasks (slice_index bytes 1) else (nat_le (slice_index bytes 0) r && (slice_index bytes 1 == 0))
 
--- two bytes that are a mask below 256
-abbrev pub is_mask : List ℕ → Bool
-is_mask bytes = slice_index bytes 0 == 0
+-- two bytes that are a mask of the version
+abbrev pub is_mask : ℕ → List ℕ → Bool
+is_mask version bytes = nat_lt (from_be_bytes w16 bytes) (mask_bound version)
 
-abbrev pub are_masks : List ℕ → Bool
-are_masks bytes = list_all is_mask (cut 2 bytes)
+abbrev pub are_masks : ℕ → List ℕ → Bool
+are_masks version bytes = list_all (is_mask version) (cut 2 bytes)
 
 abbrev pub are_zero : List ℕ → Bool
 are_zero bytes = list_all (λ b. b == 0) bytes
 
 -- bytes that are an entry of a relayed row
-abbrev pub is_row_entry : ℕ → List ℕ → Bool
-is_row_entry r bytes = if slice_index bytes 0 == 0 then are_masks (drop 1 bytes) else (nat_le (slice_index bytes 0) r && are_zero (drop 1 bytes))
+abbrev pub is_row_entry : ℕ → ℕ → List ℕ → Bool
+is_row_entry version r bytes = if slice_index bytes 0 == 0 then are_masks version (drop 1 bytes) else (nat_le (slice_index bytes 0) r && are_zero (drop 1 bytes))
 
 -- eight bytes that are a value in range
 abbrev pub is_value : List ℕ → Bool
@@ -49,10 +52,10 @@ abbrev pub has_values : Expectation → List ℕ → Bool
 has_values e bytes = (length bytes == 8 * e.due) && list_all is_value (cut 8 bytes)
 
 abbrev pub has_row : Expectation → List ℕ → Bool
-has_row e bytes = (length bytes == 2 * e.nodes) && are_masks bytes
+has_row e bytes = (length bytes == 2 * e.nodes) && are_masks e.version bytes
 
 abbrev pub has_rows : Expectation → List ℕ → Bool
-has_rows e bytes = (length bytes == (1 + 2 * e.nodes) * entries_due e) && list_all (is_row_entry (round_in e.m e.slot)) (cut (1 + 2 * e.nodes) bytes)
+has_rows e bytes = (length bytes == (1 + 2 * e.nodes) * entries_due e) && list_all (is_row_entry e.version (round_in e.m e.slot)) (cut (1 + 2 * e.nodes) bytes)
 
 -- the bytes are the spelling of a body of the right sizes
 pub record IsSaid (e : Expectation) (c : Content) (bytes : List ℕ) : Type 0 where
@@ -62,5 +65,5 @@ pub record IsSaid (e : Expectation) (c : Content) (bytes : List ℕ) : Type 0 wh
 -- and that of a kind that has its place in the slot
 pub record IsBody (e : Expectation) (k : ℕ) (c : Content) (bytes : List ℕ) : Type 0 where
   pub is : kind c ≡ k
-  pub placed : (kind c ≡ kind_in e.m e.slot) ⊎ (kind c ≡ 7)
+  pub placed : (kind c ≡ kind_in e.m e.slot) ⊎ (kind c ≡ cold_kind)
   pub said : IsSaid e c bytes

@@ -1,12 +1,16 @@
 -- What a receiver expects of a frame, what a frame can say, and what of it is in range.
 use Rattle.std.specs.Prelude.{◌≡◌, ℕ, ◌+◌, ◌-◌, ◌*◌, ◌^◌, ◌<◌, ◌≤◌, ◌⊎◌, Bool, true, false, ℤ, pos, neg_ℤ, ◌≤ℤ◌, ◌==◌, nat_le, List, length, drop, replicate, All, if◌then◌else◌}
+use Rattle.node_grid.specs.Kinds.{no_claim}
 use Rattle.node_grid.specs.NodeSet.{has_id}
+use Rattle.node_grid.specs.Version.{mask_bound}
 use Rattle.omh_paths.specs.Paths.{path_count}
 use Rattle.omh_paths.specs.declared.wrapped.Wrapped.{Wrapped}
 use Rattle.omh_paths.specs.declared.wrapped.Wrapped.TheVariants.{Plain, Fault}
+use Rattle.frames.specs.FrameKinds.{state_kind, claim_kind, claim_relay_kind, data_kind, row_kind, row_relay_kind, cold_kind}
 
 -- what a receiver expects: a slot of a period, a sender, and the sizes of what is sent
 pub record Expectation : Type 0 where
+  pub version : ℕ  -- which of the two versions of the formats
   pub capacity : ℕ  -- how many masks a row has
   pub nodes : ℕ
   pub m : ℕ  -- how many relay rounds there are
@@ -21,7 +25,7 @@ pub record Expectation : Type 0 where
 -- what a frame says
 pub data Content : Type 0 where
   State : List ℕ → Content  -- the bytes of a state
-  Done0 : ℕ → Content  -- a claim: a task, or 255 for none
+  Done0 : ℕ → Content  -- a claim: a task, or no_claim
   DoneRelay : List (Wrapped ℕ) → Content  -- what was heard of claims, by path
   Data : List ℤ → Content  -- a value for each due channel
   Report0 : List ℕ → Content  -- a row: a mask for each node
@@ -40,23 +44,23 @@ is_cold Cold = true
 
 -- the number of a content's kind
 abbrev pub kind : Content → ℕ
-kind (State bytes) = 1
-kind (Done0 task) = 2
-kind (DoneRelay entries) = 3
-kind (Data numbers) = 4
-kind (Report0 masks) = 5
-kind (ReportRelay entries) = 6
-kind Cold = 7
+kind (State bytes) = state_kind
+kind (Done0 task) = claim_kind
+kind (DoneRelay entries) = claim_relay_kind
+kind (Data numbers) = data_kind
+kind (Report0 masks) = row_kind
+kind (ReportRelay entries) = row_relay_kind
+kind Cold = cold_kind
 
 -- the kind that has its place in a slot, where there are m relay rounds; that of Cold where there is no such slot
 abbrev pub kind_in : ℕ → ℕ → ℕ
 kind_in m slot =
-    if slot == 0 then 1
-    else (if slot == 1 then 2
-    else (if nat_le slot (m + 1) then 3
-    else (if slot == m + 2 then 4
-    else (if slot == m + 3 then 5
-    else (if nat_le slot (2 * m + 3) then 6 else 7)))))
+    if slot == 0 then state_kind
+    else (if slot == 1 then claim_kind
+    else (if nat_le slot (m + 1) then claim_relay_kind
+    else (if slot == m + 2 then data_kind
+    else (if slot == m + 3 then row_kind
+    else (if nat_le slot (2 * m + 3) then row_relay_kind else cold_kind)))))
 
 -- the relay round of a slot of relay frames
 abbrev pub round_in : ℕ → ℕ → ℕ
@@ -66,15 +70,15 @@ round_in m slot = if nat_le slot (m + 1) then slot - 1 else slot - (m + 3)
 abbrev pub entries_due : Expectation → ℕ
 entries_due e = if has_id e.members e.sender then path_count (length e.members - 1) (round_in e.m e.slot) else 0
 
--- a task, or 255 for none
+-- a task, or none
 abbrev pub IsClaim : ℕ → ℕ → Type 0
-IsClaim tasks task = (task ≡ 255) ⊎ (task < tasks)
+IsClaim tasks task = (task ≡ no_claim) ⊎ (task < tasks)
 
--- a mask of at most eight kinds for each node, and 0 where there is no node
-pub record IsRow (capacity nodes : ℕ) (masks : List ℕ) : Type 0 where
+-- a mask of the version for each node, and 0 where there is no node
+pub record IsRow (version capacity nodes : ℕ) (masks : List ℕ) : Type 0 where
   pub room : nodes ≤ capacity
   pub whole : length masks ≡ capacity
-  pub within : All (λ mask. mask < 256) masks
+  pub within : All (λ mask. mask < mask_bound version) masks
   pub rest : drop nodes masks ≡ replicate (capacity - nodes) 0
 
 -- from -2^42 to 2^42
@@ -93,6 +97,6 @@ IsSized e (State bytes) = length bytes ≡ e.state_len
 IsSized e (Done0 task) = IsClaim e.tasks task
 IsSized e (DoneRelay entries) = (length entries ≡ entries_due e) × All (IsEntry (IsClaim e.tasks) (round_in e.m e.slot)) entries
 IsSized e (Data numbers) = (length numbers ≡ e.due) × All IsValue numbers
-IsSized e (Report0 masks) = IsRow e.capacity e.nodes masks
-IsSized e (ReportRelay entries) = (length entries ≡ entries_due e) × All (IsEntry (IsRow e.capacity e.nodes) (round_in e.m e.slot)) entries
+IsSized e (Report0 masks) = IsRow e.version e.capacity e.nodes masks
+IsSized e (ReportRelay entries) = (length entries ≡ entries_due e) × All (IsEntry (IsRow e.version e.capacity e.nodes) (round_in e.m e.slot)) entries
 IsSized e Cold = Unit {0}

@@ -1,10 +1,10 @@
 -- The spellings of claims, masks, values and rows, one piece each.
-use Rattle.std.proofs.Common.{◌≡◌, ℕ, zero, suc, ◌+◌, ◌-◌, ◌*◌, ◌/◌, ◌%◌, ◌^◌, ◌<◌, ◌≤◌, ◌≢◌, Bool, true, false, ◌&&◌, List, [], ◌∷◌, ◌++◌, length, take, drop, map, replicate, refl, sym, ap, ◌∙◌, arith, get_or, lit<, eq-eqb, add-zero, set}
-use Rattle.std.specs.Prelude.{◌==◌, nat_le, ℤ, pos, negsuc, neg_ℤ, ◌≤ℤ◌, int_le, slice_index, if◌then◌else◌}
+use Rattle.std.proofs.Common.{◌≡◌, ℕ, zero, suc, ◌+◌, ◌-◌, ◌*◌, ◌/◌, ◌%◌, ◌^◌, ◌<◌, ◌≤◌, Bool, true, false, ◌&&◌, List, [], ◌∷◌, ◌++◌, length, take, drop, map, replicate, refl, sym, ap, ◌∙◌, arith, get_or, lit<, add-zero, set}
+use Rattle.std.specs.Prelude.{◌==◌, nat_le, nat_lt, ℤ, pos, negsuc, neg_ℤ, ◌≤ℤ◌, int_le, if◌then◌else◌}
 use Rattle.std.specs.Int.{w16, w64, to_be_bytes, from_be_bytes, cast_unsigned, cast_signed}
 use Rattle.std.specs.List.{flat_map, All, list_all, range_with_len}
 use Rattle.std.proofs.Math.Nat.{div-add-mod}
-use Rattle.std.proofs.lemmas.Bool.Decides.{nat_tests}
+use Rattle.std.proofs.lemmas.Bool.Decides.{nat_tests, Decides-ltb}
 use Rattle.std.proofs.lemmas.List.{drop-take, drop-drop, take_more, set_at, append_assoc, take_at, drop_at, take_all, take-take, length-append, length-take, length-map, length-replicate, take-append-drop, length-take-le}
 use Rattle.std.proofs.lemmas.List.Elements.{All-take, All-append, All-replicate}
 use Rattle.std.proofs.lemmas.Grind.{flat_map-append}
@@ -12,6 +12,7 @@ use Rattle.std.proofs.lemmas.List.FromFn.{length-map-range_with_len}
 use mir.Val.{SFits}
 use Rattle.std.proofs.lemmas.Nat.{from_be_bytes-to_be_bytes_2, from_be_bytes-to_be_bytes_8, be_bytes_2, be_bytes_8}
 use Rattle.std.proofs.lemmas.Int.{ints, to_z-of_z, of_z-to_z}
+use Rattle.node_grid.specs.Version.{mask_bound}
 use Rattle.omh_paths.specs.declared.wrapped.Wrapped.{Wrapped}
 use Rattle.omh_paths.specs.declared.wrapped.Wrapped.TheVariants.{Plain, Fault}
 use Rattle.frames.specs.Content.{IsClaim, IsRow, IsValue, IsEntry}
@@ -96,36 +97,56 @@ claim_at bytes k =
 
 -- ---- masks
 
-pub mask_format : IsFormat 2 (to_be_bytes w16) (from_be_bytes w16) (λ mask. mask < 256)
-mask_format = record { wide = lit< tt; long = λ x h. refl; back = λ x h. from_be_bytes-to_be_bytes_2 x (omega arith) }
-
-pub mask_test : IsTest 2 (to_be_bytes w16) (from_be_bytes w16) (λ mask. mask < 256) is_mask
-mask_test = record { passes = passes; valid = valid; restores = λ b l h t. be_bytes_2 b (from_be_bytes w16 b) l h refl }
+-- two bytes hold each mask, and 0 is one
+mask_within : (version x : ℕ) → x < mask_bound version → x < 2 ^ 16
+mask_within version x h = within (version == 1) x h
   where
-    passes : (x : ℕ) → x < 256 → is_mask (to_be_bytes w16 x) ≡ true
-    passes x h = eq-eqb _ 0 (omega arith)
+    within : (b : Bool) (x : ℕ) → x < (if b then 256 else 65536) → x < 2 ^ 16
+    within true x h = omega arith
+    within false x h = omega arith
 
-    valid : (b : List ℕ) → length b ≡ 2 → AreBytes b → is_mask b ≡ true → from_be_bytes w16 b < 256
-    valid b l h t = let e : slice_index b 0 ≡ 0 = eq_told (slice_index b 0) 0 t in let small : get_or b 1 0 < 256 = h 1 in omega arith
-
-pub mask_at : (bytes : List ℕ) (k : ℕ) → is_mask (piece 2 bytes k) ≡ (get_or bytes (2 * k) 0 == 0)
-mask_at bytes k = ap (λ t. t == 0) (get_or-piece 2 bytes k 0 (lit< tt) ∙ ap (λ i. get_or bytes i 0) (add-zero (2 * k)))
-
-pub masks_pass : (bytes : List ℕ) → ((k : ℕ) → k < length bytes / 2 → get_or bytes (2 * k) 0 ≡ 0) → are_masks bytes ≡ true
-masks_pass bytes h = each_passes is_mask 2 bytes (λ k l. mask_at bytes k ∙ eq-eqb (get_or bytes (2 * k) 0) 0 (h k l))
-
-pub masks_fail : (bytes : List ℕ) (k : ℕ) → k < length bytes / 2 → get_or bytes (2 * k) 0 ≢ 0 → are_masks bytes ≡ false
-masks_fail bytes k l h = one_fails is_mask 2 bytes k l (mask_at bytes k ∙ not_equal (get_or bytes (2 * k) 0) 0 h)
+pub zero_mask : (version : ℕ) → 0 < mask_bound version
+zero_mask version = some (version == 1)
   where
-    not_equal : (a b : ℕ) → a ≢ b → (a == b) ≡ false
-    not_equal a b h = grind arith
+    some : (b : Bool) → 0 < (if b then 256 else 65536)
+    some true = lit< tt
+    some false = lit< tt
+
+mask_back : (version x : ℕ) → x < mask_bound version → from_be_bytes w16 (to_be_bytes w16 x) ≡ x
+mask_back version x h = from_be_bytes-to_be_bytes_2 x (mask_within version x h)
+
+pub mask_format : (version : ℕ) → IsFormat 2 (to_be_bytes w16) (from_be_bytes w16) (λ mask. mask < mask_bound version)
+mask_format version = record { wide = lit< tt; long = λ x h. refl; back = mask_back version }
+
+pub mask_test : (version : ℕ) → IsTest 2 (to_be_bytes w16) (from_be_bytes w16) (λ mask. mask < mask_bound version) (is_mask version)
+mask_test version = record {
+  passes = λ x h. ap (λ m. nat_lt m (mask_bound version)) (mask_back version x h) ∙ (Decides-ltb x (mask_bound version)).1 h;
+  valid = λ b l h t. (Decides-ltb (from_be_bytes w16 b) (mask_bound version)).0 t;
+  restores = λ b l h t. be_bytes_2 b (from_be_bytes w16 b) l h refl;
+}
+
+-- the mask at a place
+abbrev pub mask_of : List ℕ → ℕ → ℕ
+mask_of bytes k = from_be_bytes w16 (get_or bytes (2 * k) 0 ∷ get_or bytes (2 * k + 1) 0 ∷ [])
 
 -- two bytes read as a mask
-pub mask_read : (bytes : List ℕ) (k : ℕ) → from_be_bytes w16 (piece 2 bytes k) ≡ from_be_bytes w16 (get_or bytes (2 * k) 0 ∷ get_or bytes (2 * k + 1) 0 ∷ [])
+pub mask_read : (bytes : List ℕ) (k : ℕ) → from_be_bytes w16 (piece 2 bytes k) ≡ mask_of bytes k
 mask_read bytes k =
     let a : get_or (piece 2 bytes k) 0 0 ≡ get_or bytes (2 * k) 0 = get_or-piece 2 bytes k 0 (lit< tt) ∙ ap (λ i. get_or bytes i 0) (add-zero (2 * k)) in
     let b : get_or (piece 2 bytes k) 1 0 ≡ get_or bytes (2 * k + 1) 0 = get_or-piece 2 bytes k 1 (lit< tt) in
     omega arith
+
+mask_at : (version : ℕ) (bytes : List ℕ) (k : ℕ) → is_mask version (piece 2 bytes k) ≡ nat_lt (mask_of bytes k) (mask_bound version)
+mask_at version bytes k = ap (λ m. nat_lt m (mask_bound version)) (mask_read bytes k)
+
+pub masks_pass : (version : ℕ) (bytes : List ℕ) → ((k : ℕ) → k < length bytes / 2 → mask_of bytes k < mask_bound version) → are_masks version bytes ≡ true
+masks_pass version bytes h = each_passes (is_mask version) 2 bytes (λ k l. mask_at version bytes k ∙ (Decides-ltb (mask_of bytes k) (mask_bound version)).1 (h k l))
+
+pub masks_fail : (version : ℕ) (bytes : List ℕ) (k : ℕ) → k < length bytes / 2 → mask_bound version ≤ mask_of bytes k → are_masks version bytes ≡ false
+masks_fail version bytes k l h = one_fails (is_mask version) 2 bytes k l (mask_at version bytes k ∙ not_less (mask_of bytes k) (mask_bound version) h)
+  where
+    not_less : (a b : ℕ) → b ≤ a → nat_lt a b ≡ false
+    not_less a b h = grind (arith, nat_tests)
 
 -- ---- values
 
@@ -210,42 +231,10 @@ all_true [] = refl
 all_true (b ∷ bs) = all_true bs
 
 module _ (capacity nodes : ℕ) where
-  shown : (masks : List ℕ) → IsRow capacity nodes masks → All (λ mask. mask < 256) (take nodes masks)
-  shown masks h = All-take (λ mask. mask < 256) nodes masks h.within
-
-  pub row_long : (masks : List ℕ) → IsRow capacity nodes masks → length (row_spelling nodes masks) ≡ 2 * nodes
-  row_long masks h =
-      length_spelt 2 (to_be_bytes w16) (from_be_bytes w16) (λ mask. mask < 256) mask_format (take nodes masks) (shown masks h)
-      ∙ ap (λ n. 2 * n) (length-take-le nodes masks (omega (arith, h.whole, h.room)))
-
-  pub row_back : (masks : List ℕ) → IsRow capacity nodes masks → row_in capacity nodes (row_spelling nodes masks) ≡ masks
-  row_back masks h =
-      ap (λ ms. take nodes ms ++ replicate (capacity - nodes) 0) (read_spelt 2 (to_be_bytes w16) (from_be_bytes w16) (λ mask. mask < 256) mask_format (take nodes masks) (shown masks h))
-      ∙ ap (λ ms. ms ++ replicate (capacity - nodes) 0) (take-take nodes nodes masks (omega arith))
-      ∙ ap (λ ms. take nodes masks ++ ms) (sym h.rest)
-      ∙ take-append-drop nodes masks
-
-  pub row_passes : (masks : List ℕ) → IsRow capacity nodes masks → are_masks (row_spelling nodes masks) ≡ true
-  row_passes masks h = test_spelt 2 (to_be_bytes w16) (from_be_bytes w16) (λ mask. mask < 256) is_mask mask_format mask_test (take nodes masks) (shown masks h)
-
   masks_read : (bytes : List ℕ) → length bytes ≡ 2 * nodes → length (map (from_be_bytes w16) (cut 2 bytes)) ≡ nodes
   masks_read bytes l =
       length-map (cut 2 bytes) (from_be_bytes w16) ∙ length-map-range_with_len (piece 2 bytes) 0 (length bytes / 2)
       ∙ omega arith
-
-  pub row_valid : (bytes : List ℕ) → nodes ≤ capacity → length bytes ≡ 2 * nodes → AreBytes bytes → are_masks bytes ≡ true → IsRow capacity nodes (row_in capacity nodes bytes)
-  row_valid bytes few l b t =
-      let n : length (map (from_be_bytes w16) (cut 2 bytes)) ≡ nodes = masks_read bytes l in
-      let zeros : List ℕ = replicate (capacity - nodes) 0 in
-      let front : List ℕ = take nodes (map (from_be_bytes w16) (cut 2 bytes)) in
-      let lf : length front ≡ nodes = length-take-le nodes (map (from_be_bytes w16) (cut 2 bytes)) (omega arith) in
-      let small : All (λ mask. mask < 256) (map (from_be_bytes w16) (cut 2 bytes)) = (restored 2 (to_be_bytes w16) (from_be_bytes w16) (λ mask. mask < 256) is_mask (lit< tt) mask_test nodes bytes l b t).1 in
-      record {
-        room = few;
-        whole = length-append front zeros ∙ omega (arith, length-replicate {A = ℕ} (capacity - nodes) 0);
-        within = All-append (λ mask. mask < 256) front zeros (All-take (λ mask. mask < 256) nodes (map (from_be_bytes w16) (cut 2 bytes)) small) (All-replicate (λ mask. mask < 256) (capacity - nodes) 0 (lit< tt));
-        rest = drop_at front zeros nodes lf;
-      }
 
   -- a row's bytes are told by the row, also where a mask isn't below 256
   pub row_restored : (bytes : List ℕ) → length bytes ≡ 2 * nodes → AreBytes bytes → row_spelling nodes (row_in capacity nodes bytes) ≡ bytes
@@ -267,36 +256,69 @@ module _ (capacity nodes : ℕ) where
       ap (λ t. if t == 0 then Plain (row_in capacity nodes (drop 1 (piece (1 + 2 * nodes) bytes k))) else Fault t) a
       ∙ ap (λ bs. if get_or bytes at 0 == 0 then Plain (row_in capacity nodes bs) else Fault (get_or bytes at 0)) b
 
-  pub relayed_row_format : (r : ℕ) → IsFormat (1 + 2 * nodes) (relayed_row_spelling nodes) (relayed_row_in capacity nodes) (IsEntry (IsRow capacity nodes) r)
+module _ (version capacity nodes : ℕ) where
+  shown : (masks : List ℕ) → IsRow version capacity nodes masks → All (λ mask. mask < mask_bound version) (take nodes masks)
+  shown masks h = All-take (λ mask. mask < mask_bound version) nodes masks h.within
+
+  pub row_long : (masks : List ℕ) → IsRow version capacity nodes masks → length (row_spelling nodes masks) ≡ 2 * nodes
+  row_long masks h =
+      length_spelt 2 (to_be_bytes w16) (from_be_bytes w16) (λ mask. mask < mask_bound version) (mask_format version) (take nodes masks) (shown masks h)
+      ∙ ap (λ n. 2 * n) (length-take-le nodes masks (omega (arith, h.whole, h.room)))
+
+  pub row_back : (masks : List ℕ) → IsRow version capacity nodes masks → row_in capacity nodes (row_spelling nodes masks) ≡ masks
+  row_back masks h =
+      ap (λ ms. take nodes ms ++ replicate (capacity - nodes) 0) (read_spelt 2 (to_be_bytes w16) (from_be_bytes w16) (λ mask. mask < mask_bound version) (mask_format version) (take nodes masks) (shown masks h))
+      ∙ ap (λ ms. ms ++ replicate (capacity - nodes) 0) (take-take nodes nodes masks (omega arith))
+      ∙ ap (λ ms. take nodes masks ++ ms) (sym h.rest)
+      ∙ take-append-drop nodes masks
+
+  pub row_passes : (masks : List ℕ) → IsRow version capacity nodes masks → are_masks version (row_spelling nodes masks) ≡ true
+  row_passes masks h = test_spelt 2 (to_be_bytes w16) (from_be_bytes w16) (λ mask. mask < mask_bound version) (is_mask version) (mask_format version) (mask_test version) (take nodes masks) (shown masks h)
+
+  pub row_valid : (bytes : List ℕ) → nodes ≤ capacity → length bytes ≡ 2 * nodes → AreBytes bytes → are_masks version bytes ≡ true → IsRow version capacity nodes (row_in capacity nodes bytes)
+  row_valid bytes few l b t =
+      let n : length (map (from_be_bytes w16) (cut 2 bytes)) ≡ nodes = masks_read capacity nodes bytes l in
+      let zeros : List ℕ = replicate (capacity - nodes) 0 in
+      let front : List ℕ = take nodes (map (from_be_bytes w16) (cut 2 bytes)) in
+      let lf : length front ≡ nodes = length-take-le nodes (map (from_be_bytes w16) (cut 2 bytes)) (omega arith) in
+      let small : All (λ mask. mask < mask_bound version) (map (from_be_bytes w16) (cut 2 bytes)) = (restored 2 (to_be_bytes w16) (from_be_bytes w16) (λ mask. mask < mask_bound version) (is_mask version) (lit< tt) (mask_test version) nodes bytes l b t).1 in
+      record {
+        room = few;
+        whole = length-append front zeros ∙ omega (arith, length-replicate {A = ℕ} (capacity - nodes) 0);
+        within = All-append (λ mask. mask < mask_bound version) front zeros (All-take (λ mask. mask < mask_bound version) nodes (map (from_be_bytes w16) (cut 2 bytes)) small) (All-replicate (λ mask. mask < mask_bound version) (capacity - nodes) 0 (zero_mask version));
+        rest = drop_at front zeros nodes lf;
+      }
+
+  pub relayed_row_format : (r : ℕ) → IsFormat (1 + 2 * nodes) (relayed_row_spelling nodes) (relayed_row_in capacity nodes) (IsEntry (IsRow version capacity nodes) r)
   relayed_row_format r = record { wide = omega arith; long = long; back = back }
     where
-      long : (x : Wrapped (List ℕ)) → IsEntry (IsRow capacity nodes) r x → length (relayed_row_spelling nodes x) ≡ 1 + 2 * nodes
+      long : (x : Wrapped (List ℕ)) → IsEntry (IsRow version capacity nodes) r x → length (relayed_row_spelling nodes x) ≡ 1 + 2 * nodes
       long (Plain masks) h = omega (arith, row_long masks h)
       long (Fault k) h = omega (arith, length-replicate {A = ℕ} (2 * nodes) 0)
 
-      back : (x : Wrapped (List ℕ)) → IsEntry (IsRow capacity nodes) r x → relayed_row_in capacity nodes (relayed_row_spelling nodes x) ≡ x
+      back : (x : Wrapped (List ℕ)) → IsEntry (IsRow version capacity nodes) r x → relayed_row_in capacity nodes (relayed_row_spelling nodes x) ≡ x
       back (Plain masks) h = ap Plain (row_back masks h)
       back (Fault zero) h = absurd (omega (arith, h.0))
       back (Fault (suc k)) h = rw (above_zero k) refl
 
-  pub relayed_row_test : (r : ℕ) → nodes ≤ capacity → IsTest (1 + 2 * nodes) (relayed_row_spelling nodes) (relayed_row_in capacity nodes) (IsEntry (IsRow capacity nodes) r) (is_row_entry r)
+  pub relayed_row_test : (r : ℕ) → nodes ≤ capacity → IsTest (1 + 2 * nodes) (relayed_row_spelling nodes) (relayed_row_in capacity nodes) (IsEntry (IsRow version capacity nodes) r) (is_row_entry version r)
   relayed_row_test r few = record { passes = passes; valid = valid; restores = restores }
     where
-      passes : (x : Wrapped (List ℕ)) → IsEntry (IsRow capacity nodes) r x → is_row_entry r (relayed_row_spelling nodes x) ≡ true
+      passes : (x : Wrapped (List ℕ)) → IsEntry (IsRow version capacity nodes) r x → is_row_entry version r (relayed_row_spelling nodes x) ≡ true
       passes (Plain masks) h = row_passes masks h
       passes (Fault zero) h = absurd (omega (arith, h.0))
       passes (Fault (suc k)) h = let e : nat_le (suc k) r ≡ true = le_test (suc k) r h.1 in let z : are_zero (replicate (2 * nodes) 0) ≡ true = zeros_pass (2 * nodes) in rw (above_zero k, e, z) refl
 
-      valid : (b : List ℕ) → length b ≡ 1 + 2 * nodes → AreBytes b → is_row_entry r b ≡ true → IsEntry (IsRow capacity nodes) r (relayed_row_in capacity nodes b)
+      valid : (b : List ℕ) → length b ≡ 1 + 2 * nodes → AreBytes b → is_row_entry version r b ≡ true → IsEntry (IsRow version capacity nodes) r (relayed_row_in capacity nodes b)
       valid [] l b h = absurd (omega arith)
       valid (zero ∷ rest) l b h = row_valid rest few (omega arith) (AreBytes-drop 1 (zero ∷ rest) b) h
       valid (suc k ∷ rest) l b h =
           let t = rw (above_zero k) at h in
           rw (above_zero k) (omega arith, le_told (suc k) r (and_left (nat_le (suc k) r) (are_zero rest) t))
 
-      restores : (b : List ℕ) → length b ≡ 1 + 2 * nodes → AreBytes b → is_row_entry r b ≡ true → relayed_row_spelling nodes (relayed_row_in capacity nodes b) ≡ b
+      restores : (b : List ℕ) → length b ≡ 1 + 2 * nodes → AreBytes b → is_row_entry version r b ≡ true → relayed_row_spelling nodes (relayed_row_in capacity nodes b) ≡ b
       restores [] l b h = absurd (omega arith)
-      restores (zero ∷ rest) l b h = ap (λ s. 0 ∷ s) (row_restored rest (omega arith) (AreBytes-drop 1 (zero ∷ rest) b))
+      restores (zero ∷ rest) l b h = ap (λ s. 0 ∷ s) (row_restored capacity nodes rest (omega arith) (AreBytes-drop 1 (zero ∷ rest) b))
       restores (suc k ∷ rest) l b h =
           let t = rw (above_zero k) at h in
           let z : rest ≡ replicate (2 * nodes) 0 = all_zeros rest (2 * nodes) (omega arith) (and_right (nat_le (suc k) r) (are_zero rest) t) in
@@ -375,25 +397,25 @@ claim_written tasks r (suc k ∷ y ∷ []) l h =
     rw (above_zero k, z) refl
 claim_written tasks r (suc k ∷ y ∷ z ∷ rest) l h = absurd (omega arith)
 
-row_written : (r : ℕ) (b : List ℕ) → is_row_entry r b ≡ true → is_written b ≡ true
-row_written r [] h = refl
-row_written r (zero ∷ rest) h = refl
-row_written r (suc k ∷ rest) h =
+row_written : (version r : ℕ) (b : List ℕ) → is_row_entry version r b ≡ true → is_written b ≡ true
+row_written version r [] h = refl
+row_written version r (zero ∷ rest) h = refl
+row_written version r (suc k ∷ rest) h =
     let t = rw (above_zero k) at h in
     rw (above_zero k) (and_right (nat_le (suc k) r) (are_zero rest) t)
 
 pub claims_written : (tasks r : ℕ) (bytes : List ℕ) → list_all (is_claim_entry tasks r) (cut 2 bytes) ≡ true → are_written 2 bytes ≡ true
 claims_written tasks r bytes h = tests_more (is_claim_entry tasks r) is_written 2 bytes (claim_written tasks r) (range_with_len 0 (length bytes / 2)) h
 
-pub rows_written : (width r : ℕ) (bytes : List ℕ) → list_all (is_row_entry r) (cut width bytes) ≡ true → are_written width bytes ≡ true
-rows_written width r bytes h = tests_more (is_row_entry r) is_written width bytes (λ b l t. row_written r b t) (range_with_len 0 (length bytes / width)) h
+pub rows_written : (version width r : ℕ) (bytes : List ℕ) → list_all (is_row_entry version r) (cut width bytes) ≡ true → are_written width bytes ≡ true
+rows_written version width r bytes h = tests_more (is_row_entry version r) is_written width bytes (λ b l t. row_written version r b t) (range_with_len 0 (length bytes / width)) h
 
 -- so are spellings of entries in range
 pub claims_written_spelt : (tasks r : ℕ) (xs : List (Wrapped ℕ)) → All (IsEntry (IsClaim tasks) r) xs → are_written 2 (flat_map claim_spelling xs) ≡ true
 claims_written_spelt tasks r xs h =
     claims_written tasks r (flat_map claim_spelling xs) (test_spelt 2 claim_spelling claim_in (IsEntry (IsClaim tasks) r) (is_claim_entry tasks r) (claim_format tasks r) (claim_test tasks r) xs h)
 
-pub rows_written_spelt : (capacity nodes r : ℕ) (xs : List (Wrapped (List ℕ))) → nodes ≤ capacity → All (IsEntry (IsRow capacity nodes) r) xs → are_written (1 + 2 * nodes) (flat_map (relayed_row_spelling nodes) xs) ≡ true
-rows_written_spelt capacity nodes r xs few h =
-    rows_written (1 + 2 * nodes) r (flat_map (relayed_row_spelling nodes) xs)
-    (test_spelt (1 + 2 * nodes) (relayed_row_spelling nodes) (relayed_row_in capacity nodes) (IsEntry (IsRow capacity nodes) r) (is_row_entry r) (relayed_row_format capacity nodes r) (relayed_row_test capacity nodes r few) xs h)
+pub rows_written_spelt : (version capacity nodes r : ℕ) (xs : List (Wrapped (List ℕ))) → nodes ≤ capacity → All (IsEntry (IsRow version capacity nodes) r) xs → are_written (1 + 2 * nodes) (flat_map (relayed_row_spelling nodes) xs) ≡ true
+rows_written_spelt version capacity nodes r xs few h =
+    rows_written version (1 + 2 * nodes) r (flat_map (relayed_row_spelling nodes) xs)
+    (test_spelt (1 + 2 * nodes) (relayed_row_spelling nodes) (relayed_row_in capacity nodes) (IsEntry (IsRow version capacity nodes) r) (is_row_entry version r) (relayed_row_format version capacity nodes r) (relayed_row_test version capacity nodes r few) xs h)

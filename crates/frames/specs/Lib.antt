@@ -1,3 +1,4 @@
+pub mod FrameKinds
 pub mod Content
 pub mod Spelling
 pub mod Reading
@@ -10,5 +11,7 @@ pub mod Writing
 pub mod Seen
 pub mod Bound
 pub use Rattle.node_grid.specs.Capacity
+pub use Rattle.node_grid.specs.Version
+pub use Rattle.node_grid.specs.Kinds
 pub use Rattle.node_grid.specs.NodeSet
 pub use Rattle.omh_paths.specs.Paths

@@ -3,9 +3,12 @@ use Rattle.std.specs.Prelude.{ℕ, ◌+◌, ◌-◌, ◌*◌, ◌/◌, ◌^◌, 
 use Rattle.std.specs.List.{range_with_len, list_all}
 use Rattle.std.specs.Int.{w16, w64, from_be_bytes, cast_signed}
 use Rattle.std.specs.Cmp.Lexicographic.{pointwise}
+use Rattle.node_grid.specs.Kinds.{no_claim}
+use Rattle.node_grid.specs.Version.{mask_bound}
 use Rattle.omh_paths.specs.declared.wrapped.Wrapped.{Wrapped}
 use Rattle.omh_paths.specs.declared.wrapped.Wrapped.TheVariants.{Plain, Fault}
 use Rattle.frames.specs.Content.{Expectation, Content, State, Done0, DoneRelay, Data, Report0, ReportRelay, Cold, kind, kind_in, round_in, entries_due}
+use Rattle.frames.specs.FrameKinds.{state_kind, claim_kind, claim_relay_kind, data_kind, row_kind, row_relay_kind, cold_kind}
 use Rattle.frames.specs.Spelling.{spelling, head_of}
 
 -- the k-th piece of so many bytes
@@ -41,19 +44,19 @@ values_in bytes = map value_in (cut 8 bytes)
 -- what a body of a kind would say
 abbrev pub said_in : Expectation → ℕ → List ℕ → Content
 said_in e k body =
-    if k == 1 then State body
-    else (if k == 2 then Done0 (slice_index body 0)
-    else (if k == 3 then DoneRelay (claims_in body)
-    else (if k == 4 then Data (values_in body)
-    else (if k == 5 then Report0 (row_in e.capacity e.nodes body)
-    else (if k == 6 then ReportRelay (rows_in e.capacity e.nodes body)
+    if k == state_kind then State body
+    else (if k == claim_kind then Done0 (slice_index body 0)
+    else (if k == claim_relay_kind then DoneRelay (claims_in body)
+    else (if k == data_kind then Data (values_in body)
+    else (if k == row_kind then Report0 (row_in e.capacity e.nodes body)
+    else (if k == row_relay_kind then ReportRelay (rows_in e.capacity e.nodes body)
     else Cold)))))
 
 abbrev pub fits_claim : ℕ → ℕ → Bool
-fits_claim tasks task = (task == 255) || nat_lt task tasks
+fits_claim tasks task = (task == no_claim) || nat_lt task tasks
 
-abbrev pub fits_row : ℕ → ℕ → List ℕ → Bool
-fits_row capacity nodes masks = nat_le nodes capacity && ((length masks == capacity) && (list_all (λ mask. nat_lt mask 256) masks && pointwise ◌==◌ (drop nodes masks) (replicate (capacity - nodes) 0)))
+abbrev pub fits_row : ℕ → ℕ → ℕ → List ℕ → Bool
+fits_row version capacity nodes masks = nat_le nodes capacity && ((length masks == capacity) && (list_all (λ mask. nat_lt mask (mask_bound version)) masks && pointwise ◌==◌ (drop nodes masks) (replicate (capacity - nodes) 0)))
 
 abbrev pub fits_value : ℤ → Bool
 fits_value number = int_le (neg_ℤ (pos (2 ^ 42))) number && int_le number (pos (2 ^ 42))
@@ -67,13 +70,13 @@ fits_sizes e (State bytes) = length bytes == e.state_len
 fits_sizes e (Done0 task) = fits_claim e.tasks task
 fits_sizes e (DoneRelay entries) = (length entries == entries_due e) && list_all (fits_entry (fits_claim e.tasks) (round_in e.m e.slot)) entries
 fits_sizes e (Data numbers) = (length numbers == e.due) && list_all fits_value numbers
-fits_sizes e (Report0 masks) = fits_row e.capacity e.nodes masks
-fits_sizes e (ReportRelay entries) = (length entries == entries_due e) && list_all (fits_entry (fits_row e.capacity e.nodes) (round_in e.m e.slot)) entries
+fits_sizes e (Report0 masks) = fits_row e.version e.capacity e.nodes masks
+fits_sizes e (ReportRelay entries) = (length entries == entries_due e) && list_all (fits_entry (fits_row e.version e.capacity e.nodes) (round_in e.m e.slot)) entries
 fits_sizes e Cold = true
 
 -- whether a content is in range
 abbrev pub fits : Expectation → Content → Bool
-fits e c = ((kind c == kind_in e.m e.slot) || (kind c == 7)) && fits_sizes e c
+fits e c = ((kind c == kind_in e.m e.slot) || (kind c == cold_kind)) && fits_sizes e c
 
 abbrev pub answer_if : Bool → Content → Option Content
 answer_if true c = Some c

@@ -8,6 +8,7 @@ use Rattle.std.specs.Cmp.Lexicographic.{pointwise}
 use Rattle.std.proofs.lemmas.Bool.Decides.{nat_tests, Decides-eqb, Decides-ltb, Decides-and, Decides-or, Decides-by_and}
 use Rattle.std.proofs.lemmas.Bool.{cases_lt}
 use Rattle.node_grid.specs.NodeSet.{has_id}
+use Rattle.node_grid.specs.Version.{mask_bound}
 use Rattle.std.proofs.lemmas.Slice.Eq.{bytes_eq-Decides}
 use Rattle.std.proofs.lemmas.List.{length-take, length-drop, take-append-drop, take-take, drop-take}
 use Rattle.std.proofs.lemmas.Nat.{mul-le, from_be_bytes-to_be_bytes_4}
@@ -33,12 +34,12 @@ glued n m bytes xs ys h k =
 
 pub header_told : (e : Expectation) (c : Content) (bytes : List ℕ) → IsFrame e c bytes → take 14 bytes ≡ header_spelling (head_of e) (kind c) (length bytes - 14)
 header_told e c bytes h =
-    let t3 : take 3 bytes ≡ 77 ∷ 70 ∷ 1 ∷ [] = glued 2 1 bytes (77 ∷ 70 ∷ []) (1 ∷ []) h.magic h.version in
-    let t4 : take 4 bytes ≡ 77 ∷ 70 ∷ 1 ∷ kind c ∷ [] = glued 3 1 bytes (77 ∷ 70 ∷ 1 ∷ []) (kind c ∷ []) t3 h.kind_byte in
-    let t8 : take 8 bytes ≡ 77 ∷ 70 ∷ 1 ∷ kind c ∷ to_be_bytes w32 e.period = glued 4 4 bytes (77 ∷ 70 ∷ 1 ∷ kind c ∷ []) (to_be_bytes w32 e.period) t4 h.period in
-    let t9 : take 9 bytes ≡ 77 ∷ 70 ∷ 1 ∷ kind c ∷ (to_be_bytes w32 e.period ++ (e.sender ∷ [])) = glued 8 1 bytes (77 ∷ 70 ∷ 1 ∷ kind c ∷ to_be_bytes w32 e.period) (e.sender ∷ []) t8 h.sender in
-    let t10 : take 10 bytes ≡ 77 ∷ 70 ∷ 1 ∷ kind c ∷ (to_be_bytes w32 e.period ++ (e.sender ∷ e.slot ∷ [])) = glued 9 1 bytes (77 ∷ 70 ∷ 1 ∷ kind c ∷ (to_be_bytes w32 e.period ++ (e.sender ∷ []))) (e.slot ∷ []) t9 h.slot in
-    glued 10 4 bytes (77 ∷ 70 ∷ 1 ∷ kind c ∷ (to_be_bytes w32 e.period ++ (e.sender ∷ e.slot ∷ []))) (to_be_bytes w32 (length bytes - 14)) t10 h.length_field
+    let t3 : take 3 bytes ≡ 77 ∷ 70 ∷ e.version ∷ [] = glued 2 1 bytes (77 ∷ 70 ∷ []) (e.version ∷ []) h.magic h.version in
+    let t4 : take 4 bytes ≡ 77 ∷ 70 ∷ e.version ∷ kind c ∷ [] = glued 3 1 bytes (77 ∷ 70 ∷ e.version ∷ []) (kind c ∷ []) t3 h.kind_byte in
+    let t8 : take 8 bytes ≡ 77 ∷ 70 ∷ e.version ∷ kind c ∷ to_be_bytes w32 e.period = glued 4 4 bytes (77 ∷ 70 ∷ e.version ∷ kind c ∷ []) (to_be_bytes w32 e.period) t4 h.period in
+    let t9 : take 9 bytes ≡ 77 ∷ 70 ∷ e.version ∷ kind c ∷ (to_be_bytes w32 e.period ++ (e.sender ∷ [])) = glued 8 1 bytes (77 ∷ 70 ∷ e.version ∷ kind c ∷ to_be_bytes w32 e.period) (e.sender ∷ []) t8 h.sender in
+    let t10 : take 10 bytes ≡ 77 ∷ 70 ∷ e.version ∷ kind c ∷ (to_be_bytes w32 e.period ++ (e.sender ∷ e.slot ∷ [])) = glued 9 1 bytes (77 ∷ 70 ∷ e.version ∷ kind c ∷ (to_be_bytes w32 e.period ++ (e.sender ∷ []))) (e.slot ∷ []) t9 h.slot in
+    glued 10 4 bytes (77 ∷ 70 ∷ e.version ∷ kind c ∷ (to_be_bytes w32 e.period ++ (e.sender ∷ e.slot ∷ []))) (to_be_bytes w32 (length bytes - 14)) t10 h.length_field
 
 pub body_length : (nodes : ℕ) (head : Head) (c : Content) → length (spelling nodes head c) ≡ 14 + length (body_spelling nodes c)
 body_length nodes head c = omega arith
@@ -82,17 +83,17 @@ le_decided a b = (λ h. grind (arith, nat_tests), λ h. grind (arith, nat_tests)
 all_decided : {V : Type 0} (test : V → Bool) (P : V → Type 0) → ((v : V) → Decides (test v) (P v)) → (xs : List V) → Decides (list_all test xs) (All P xs)
 all_decided test P each xs = Decides-by_and test P (list_all test) each refl (λ _ _. refl) xs
 
-row_decided : (capacity nodes : ℕ) (masks : List ℕ) → Decides (fits_row capacity nodes masks) (IsRow capacity nodes masks)
-row_decided capacity nodes masks =
+row_decided : (version capacity nodes : ℕ) (masks : List ℕ) → Decides (fits_row version capacity nodes masks) (IsRow version capacity nodes masks)
+row_decided version capacity nodes masks =
     let rest : List ℕ = replicate (capacity - nodes) 0 in
     let whole = Decides-eqb (length masks) capacity in
-    let within = all_decided (λ (mask : ℕ). nat_lt mask 256) (λ mask. mask < 256) (λ mask. Decides-ltb mask 256) masks in
+    let within = all_decided (λ (mask : ℕ). nat_lt mask (mask_bound version)) (λ mask. mask < mask_bound version) (λ mask. Decides-ltb mask (mask_bound version)) masks in
     let zeros = bytes_eq-Decides (drop nodes masks) rest in
-    let last = Decides-and (list_all (λ mask. nat_lt mask 256) masks) (pointwise ◌==◌ (drop nodes masks) rest) within zeros in
-    let later = Decides-and (length masks == capacity) (list_all (λ mask. nat_lt mask 256) masks && pointwise ◌==◌ (drop nodes masks) rest) whole last in
-    let all = Decides-and (nat_le nodes capacity) ((length masks == capacity) && (list_all (λ mask. nat_lt mask 256) masks && pointwise ◌==◌ (drop nodes masks) rest)) (le_decided nodes capacity) later in (
+    let last = Decides-and (list_all (λ mask. nat_lt mask (mask_bound version)) masks) (pointwise ◌==◌ (drop nodes masks) rest) within zeros in
+    let later = Decides-and (length masks == capacity) (list_all (λ mask. nat_lt mask (mask_bound version)) masks && pointwise ◌==◌ (drop nodes masks) rest) whole last in
+    let all = Decides-and (nat_le nodes capacity) ((length masks == capacity) && (list_all (λ mask. nat_lt mask (mask_bound version)) masks && pointwise ◌==◌ (drop nodes masks) rest)) (le_decided nodes capacity) later in (
       λ h. let x = all.0 h in record { room = x.0; whole = x.1.0; within = x.1.1.0; rest = x.1.1.1 },
-      λ (h : IsRow capacity nodes masks). all.1 (h.room, (h.whole, (h.within, h.rest))),
+      λ (h : IsRow version capacity nodes masks). all.1 (h.room, (h.whole, (h.within, h.rest))),
     )
 
 entry_decided : {V : Type 0} (test : V → Bool) (P : V → Type 0) (r : ℕ) → ((v : V) → Decides (test v) (P v)) → (x : Wrapped V) → Decides (fits_entry test r x) (IsEntry P r x)
@@ -106,10 +107,10 @@ sized_decided e (DoneRelay entries) =
     Decides-and (length entries == entries_due e) (list_all (fits_entry (fits_claim e.tasks) (round_in e.m e.slot)) entries) (Decides-eqb (length entries) (entries_due e))
     (all_decided (fits_entry (fits_claim e.tasks) (round_in e.m e.slot)) (IsEntry (IsClaim e.tasks) (round_in e.m e.slot)) (entry_decided (fits_claim e.tasks) (IsClaim e.tasks) (round_in e.m e.slot) (claim_decided e.tasks)) entries)
 sized_decided e (Data numbers) = Decides-and (length numbers == e.due) (list_all fits_value numbers) (Decides-eqb (length numbers) e.due) (all_decided fits_value IsValue value_decided numbers)
-sized_decided e (Report0 masks) = row_decided e.capacity e.nodes masks
+sized_decided e (Report0 masks) = row_decided e.version e.capacity e.nodes masks
 sized_decided e (ReportRelay entries) =
-    Decides-and (length entries == entries_due e) (list_all (fits_entry (fits_row e.capacity e.nodes) (round_in e.m e.slot)) entries) (Decides-eqb (length entries) (entries_due e))
-    (all_decided (fits_entry (fits_row e.capacity e.nodes) (round_in e.m e.slot)) (IsEntry (IsRow e.capacity e.nodes) (round_in e.m e.slot)) (entry_decided (fits_row e.capacity e.nodes) (IsRow e.capacity e.nodes) (round_in e.m e.slot) (row_decided e.capacity e.nodes)) entries)
+    Decides-and (length entries == entries_due e) (list_all (fits_entry (fits_row e.version e.capacity e.nodes) (round_in e.m e.slot)) entries) (Decides-eqb (length entries) (entries_due e))
+    (all_decided (fits_entry (fits_row e.version e.capacity e.nodes) (round_in e.m e.slot)) (IsEntry (IsRow e.version e.capacity e.nodes) (round_in e.m e.slot)) (entry_decided (fits_row e.version e.capacity e.nodes) (IsRow e.version e.capacity e.nodes) (round_in e.m e.slot) (row_decided e.version e.capacity e.nodes)) entries)
 sized_decided e Cold = (λ h. tt, λ h. refl)
 
 abbrev HasPlace : Expectation → Content → Type 0
@@ -128,9 +129,9 @@ said_spelt e (State bytes) h = refl
 said_spelt e (Done0 task) h = refl
 said_spelt e (DoneRelay entries) h = ap DoneRelay (read_spelt 2 claim_spelling claim_in (IsEntry (IsClaim e.tasks) (round_in e.m e.slot)) (claim_format e.tasks (round_in e.m e.slot)) entries h.1)
 said_spelt e (Data numbers) h = ap Data (read_spelt 8 value_spelling value_in IsValue value_format numbers h.1)
-said_spelt e (Report0 masks) h = ap Report0 (row_back e.capacity e.nodes masks h)
+said_spelt e (Report0 masks) h = ap Report0 (row_back e.version e.capacity e.nodes masks h)
 said_spelt e (ReportRelay entries) h =
-    ap ReportRelay (read_spelt (1 + 2 * e.nodes) (relayed_row_spelling e.nodes) (relayed_row_in e.capacity e.nodes) (IsEntry (IsRow e.capacity e.nodes) (round_in e.m e.slot)) (relayed_row_format e.capacity e.nodes (round_in e.m e.slot)) entries h.1)
+    ap ReportRelay (read_spelt (1 + 2 * e.nodes) (relayed_row_spelling e.nodes) (relayed_row_in e.capacity e.nodes) (IsEntry (IsRow e.version e.capacity e.nodes) (round_in e.m e.slot)) (relayed_row_format e.version e.capacity e.nodes (round_in e.m e.slot)) entries h.1)
 said_spelt e Cold h = refl
 
 answer_told : (b : Bool) (x c : Content) → answer_if b x ≡ Some c → (b ≡ true) × (x ≡ c)
@@ -284,10 +285,10 @@ is_short e c h k z = record { placed = inl k; sized = z; short = short c k z }
     short (Data numbers) k z =
         let l = length_spelt 8 value_spelling value_in IsValue value_format numbers z.1 in
         omega (arith, z.0, h.due)
-    short (Report0 masks) k z = omega (arith, row_long e.capacity e.nodes masks z, h.nodes)
+    short (Report0 masks) k z = omega (arith, row_long e.version e.capacity e.nodes masks z, h.nodes)
     short (ReportRelay entries) k z =
         let n : entries_due e ≤ 4096 = few_entries e (ReportRelay entries) h k (lit< tt) in
-        let l = length_spelt (1 + 2 * e.nodes) (relayed_row_spelling e.nodes) (relayed_row_in e.capacity e.nodes) (IsEntry (IsRow e.capacity e.nodes) (round_in e.m e.slot)) (relayed_row_format e.capacity e.nodes (round_in e.m e.slot)) entries z.1 in
+        let l = length_spelt (1 + 2 * e.nodes) (relayed_row_spelling e.nodes) (relayed_row_in e.capacity e.nodes) (IsEntry (IsRow e.version e.capacity e.nodes) (round_in e.m e.slot)) (relayed_row_format e.version e.capacity e.nodes (round_in e.m e.slot)) entries z.1 in
         let p : (1 + 2 * e.nodes) * length entries ≤ 33 * 4096 = mul-le (1 + 2 * e.nodes) (length entries) 33 4096 (omega (arith, h.nodes)) (omega (arith, z.0)) in
         omega arith
     short Cold k z = lit< tt

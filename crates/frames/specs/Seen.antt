@@ -6,11 +6,13 @@ use Rattle.frames.specs.declared.frame.Expect.{Expect}
 use Rattle.frames.specs.declared.kind.Kind.{Kind}
 use Rattle.frames.specs.declared.kind.Kind.TheVariants as kinds
 use Rattle.frames.specs.Content.{Expectation, Content, State, Done0, DoneRelay, Data, Report0, ReportRelay, Cold}
+use Rattle.frames.specs.FrameKinds.{state_kind, claim_kind, claim_relay_kind, data_kind, row_kind, row_relay_kind, cold_kind}
 use Rattle.frames.specs.Reading.{claims_in, rows_in, values_in}
 
 -- what is expected, where a row has a mask for each of N nodes
 abbrev pub expected : {N : ℕ} → Expect N → Expectation
 expected {N} e = record {
+  version = e.version;
   capacity = N;
   nodes = e.nodes;
   m = e.m;
@@ -44,10 +46,10 @@ HasWidth nodes (body.ReportRelay cells) = cells.width ≡ 1 + 2 * nodes
 HasWidth nodes body.Cold = Unit {0}
 
 abbrev pub number_of : Kind → ℕ
-number_of kinds.State = 1
-number_of kinds.Done0 = 2
-number_of kinds.DoneRelay = 3
-number_of kinds.Data = 4
-number_of kinds.Report0 = 5
-number_of kinds.ReportRelay = 6
-number_of kinds.Cold = 7
+number_of kinds.State = state_kind
+number_of kinds.Done0 = claim_kind
+number_of kinds.DoneRelay = claim_relay_kind
+number_of kinds.Data = data_kind
+number_of kinds.Report0 = row_kind
+number_of kinds.ReportRelay = row_relay_kind
+number_of kinds.Cold = cold_kind

@@ -6,6 +6,7 @@ use Rattle.omh_paths.specs.declared.wrapped.Wrapped.{Wrapped}
 use Rattle.omh_paths.specs.declared.wrapped.Wrapped.TheVariants.{Plain, Fault}
 use Rattle.frames.specs.declared.frame.Head.{Head}
 use Rattle.frames.specs.Content.{Expectation, Content, State, Done0, DoneRelay, Data, Report0, ReportRelay, Cold, kind, kind_in, IsSized}
+use Rattle.frames.specs.FrameKinds.{cold_kind}
 
 -- an entry of a relayed claim: a tag, 0 for a plain value, and the claim
 abbrev pub claim_spelling : Wrapped ℕ → List ℕ
@@ -36,7 +37,7 @@ body_spelling nodes Cold = []
 
 -- magic, version, kind, period, sender, slot, and how many bytes the body has
 abbrev pub header_spelling : Head → ℕ → ℕ → List ℕ
-header_spelling head k size = 77 ∷ 70 ∷ 1 ∷ k ∷ (to_be_bytes w32 head.period ++ (head.sender ∷ head.slot ∷ to_be_bytes w32 size))
+header_spelling head k size = 77 ∷ 70 ∷ head.version ∷ k ∷ (to_be_bytes w32 head.period ++ (head.sender ∷ head.slot ∷ to_be_bytes w32 size))
 
 -- the one spelling of a frame among so many nodes
 abbrev pub spelling : ℕ → Head → Content → List ℕ
@@ -44,18 +45,18 @@ spelling nodes head c = header_spelling head (kind c) (length (body_spelling nod
 
 -- the head that is expected
 abbrev pub head_of : Expectation → Head
-head_of e = record { period = e.period; sender = e.sender; slot = e.slot }
+head_of e = record { version = e.version; period = e.period; sender = e.sender; slot = e.slot }
 
 -- a content that can be sent: it has its place in the slot, as Cold has in each, and its sizes, and its length can be told
 pub record IsInRange (e : Expectation) (c : Content) : Type 0 where
-  pub placed : (kind c ≡ kind_in e.m e.slot) ⊎ (kind c ≡ 7)
+  pub placed : (kind c ≡ kind_in e.m e.slot) ⊎ (kind c ≡ cold_kind)
   pub sized : IsSized e c
   pub short : length (body_spelling e.nodes c) < 2 ^ 32
 
 -- the bytes are a frame for what is expected, and say c
 pub record IsFrame (e : Expectation) (c : Content) (bytes : List ℕ) : Type 0 where
   pub magic : take 2 bytes ≡ 77 ∷ 70 ∷ []
-  pub version : take 1 (drop 2 bytes) ≡ 1 ∷ []
+  pub version : take 1 (drop 2 bytes) ≡ e.version ∷ []
   pub kind_byte : take 1 (drop 3 bytes) ≡ kind c ∷ []
   pub period : take 4 (drop 4 bytes) ≡ to_be_bytes w32 e.period
   pub sender : take 1 (drop 8 bytes) ≡ e.sender ∷ []

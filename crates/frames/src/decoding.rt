@@ -15,16 +15,17 @@ use crate::frame::{Body, Expect, Frame};
 use crate::kind::Kind;
 use crate::pieces::{are_masks, are_zero};
 use crate::values::{Values, read_value};
+use node_grid::NO_CLAIM;
 use omh_paths::count_paths;
 
 /// Values lie from minus this to this.
 const VALUE_LIMIT: i64 = 1 << 42;
 
-/// Whether a claim is a task, or 255 for none.
+/// Whether a claim is a task or `NO_CLAIM`.
 fn is_claim(task: u8, tasks: u8) -> bool
     ensures { result ≡ fits_claim tasks task }
 {
-    task == 255 || task < tasks
+    task == NO_CLAIM || task < tasks
 }
 
 /// Whether a value is in range.
@@ -47,12 +48,12 @@ fn is_claim_entry(entry: &[u8], tasks: u8, round: u8) -> bool
 }
 
 /// Whether bytes are an entry of a relayed row.
-fn is_row_entry(entry: &[u8], round: u8) -> bool
+fn is_row_entry(version: u8, entry: &[u8], round: u8) -> bool
     requires { 1 ≤ length entry.now }
-    ensures { result ≡ is_row_entry round entry.now }
+    ensures { result ≡ is_row_entry version round entry.now }
 {
     if entry[0] == 0 {
-        are_masks(&entry[1..])
+        are_masks(version, &entry[1..])
     } else {
         entry[0] <= round && are_zero(&entry[1..])
     }
@@ -71,12 +72,12 @@ fn are_claims(body: &[u8], tasks: u8, round: u8) -> bool
 }
 
 /// Whether the bytes are entries of relayed rows, of so many bytes each.
-fn are_rows(body: &[u8], width: usize, round: u8) -> bool
+fn are_rows(version: u8, body: &[u8], width: usize, round: u8) -> bool
     requires { 1 ≤ width }
-    ensures { result ≡ list_all (is_row_entry round) (cut width body.now) }
+    ensures { result ≡ list_all (is_row_entry version round) (cut width body.now) }
 {
     for k in 0..body.len() / width {
-        if !is_row_entry(&body[width * k..width * k + width], round) {
+        if !is_row_entry(version, &body[width * k..width * k + width], round) {
             return false;
         }
     }
@@ -151,7 +152,7 @@ impl<const N: usize> Expect<N> {
     fn has_row(&self, bytes: &[u8]) -> bool
         ensures { result ≡ has_row (expected self.now) bytes.now }
     {
-        bytes.len() == 2 * self.nodes as usize && are_masks(bytes)
+        bytes.len() == 2 * self.nodes as usize && are_masks(self.version, bytes)
     }
 
     /// Whether the bytes are the relayed rows that are due.
@@ -162,7 +163,8 @@ impl<const N: usize> Expect<N> {
         ensures { result ≡ has_rows (expected self.now) bytes.now }
     {
         let width = self.row_width();
-        bytes.len() == width * self.entries_due() && are_rows(bytes, width, self.round())
+        bytes.len() == width * self.entries_due()
+            && are_rows(self.version, bytes, width, self.round())
     }
 
     /// The number of bytes of an entry of relayed rows.

@@ -24,7 +24,7 @@ pub(crate) fn header(head: Head, kind: u8, size: u32) -> [u8; 14]
     [
         b'M',
         b'F',
-        1,
+        head.version,
         kind,
         period[0],
         period[1],

@@ -13,9 +13,11 @@ use node_grid::{NodeSet, Row};
 /// The bytes of an agreed state: room for those of the largest configuration.
 pub type StateBody = ArrayVec<u8, 1152>;
 
-/// Who sent a frame, and for which slot of which period.
+/// Who sent a frame, for which slot of which period, and in which version of the formats.
 #[derive(Clone, Copy, Debug, PartialEq, Eq)]
 pub struct Head {
+    /// The version, 1 or 2.
+    pub version: u8,
     /// The period.
     pub period: u32,
     /// The sender.
@@ -38,7 +40,7 @@ pub struct Frame<'a, const N: usize> {
 pub enum Body<'a, const N: usize> {
     /// The sender's agreed state.
     State(&'a [u8]),
-    /// The task that the sender claims to have done, or 255 for none.
+    /// The task that the sender claims to have done, or `NO_CLAIM`.
     Done0(u8),
     /// For each path, what the sender heard of claims.
     DoneRelay(Cells<'a>),
@@ -68,6 +70,8 @@ impl<const N: usize> Body<'_, N> {
 /// What a receiver expects of a frame.
 #[derive(Clone, Copy, Debug)]
 pub struct Expect<const N: usize> {
+    /// The version, 1 or 2, of which the masks of rows have 8 or 16 bits.
+    pub version: u8,
     /// The number of nodes.
     pub nodes: u8,
     /// The number of relay rounds.
@@ -94,6 +98,7 @@ impl<const N: usize> Expect<N> {
         ensures { result ≡ head_of (expected self.now) }
     {
         Head {
+            version: self.version,
             period: self.period,
             sender: self.sender,
             slot: self.slot,

@@ -51,7 +51,7 @@ mod tests {
 
     const COLD: [u8; 14] = [0x4d, 0x46, 1, 7, 0, 0, 0, 1, 4, 0, 0, 0, 0, 0];
 
-    /// What is expected among so many nodes with one relay round, one due channel and no tasks.
+    /// What is expected in version 1 among so many nodes with one relay round, one due channel and no tasks.
     fn expect<const N: usize>(nodes: u8, period: u32, slot: u8, sender: u8) -> Expect<N>
         requires capacity { IsCapacity N }
         requires nodes { nodes ≤ 8 }
@@ -59,6 +59,7 @@ mod tests {
         ensures rounds { result.m ≡ 1 }
     {
         Expect {
+            version: 1,
             nodes,
             m: 1,
             period,
@@ -133,6 +134,18 @@ mod tests {
                 assert!(rt; decode(expect, &longer[..bytes.len() + 1]).is_none());
             }
         }
+    }
+
+    #[test]
+    fn frames_of_the_other_version(rt: HostRuntime) {
+        let later: Expect<8> = Expect {
+            version: 2,
+            ..expect(4, 0, 1, 2)
+        };
+        assert!(rt; decode(&later, &CLAIM).is_none());
+        let mut claim = CLAIM;
+        claim[2] = 2;
+        assert!(rt; decode(&later, &claim).is_some());
     }
 
     #[test]

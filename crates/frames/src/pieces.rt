@@ -1,6 +1,7 @@
 //! Pieces of a body that are written and checked.
 
 ghost use Rattle.std.specs.Prelude.{◌≡◌, ◌+◌, ◌≤◌, length};
+ghost use Rattle.node_grid.specs.Version.{mask_bound};
 ghost use Rattle.frames.specs.Checks.{are_masks, are_zero};
 ghost use Rattle.frames.specs.Writing.{pasted};
 
@@ -20,12 +21,20 @@ pub(crate) fn are_zero(bytes: &[u8]) -> bool
     bytes.iter().all(|b| *b == 0)
 }
 
-/// Whether the bytes are masks below 256, two bytes each.
-pub(crate) fn are_masks(bytes: &[u8]) -> bool
-    ensures { result ≡ are_masks bytes.now }
+/// The greatest mask of a version.
+fn greatest_mask(version: u8) -> u16
+    ensures { result + 1 ≡ mask_bound version }
 {
+    if version == 1 { 255 } else { u16::MAX }
+}
+
+/// Whether the bytes are masks of the version, two bytes each.
+pub(crate) fn are_masks(version: u8, bytes: &[u8]) -> bool
+    ensures { result ≡ are_masks version bytes.now }
+{
+    let greatest = greatest_mask(version);
     for k in 0..bytes.len() / 2 {
-        if bytes[2 * k] != 0 {
+        if u16::from_be_bytes([bytes[2 * k], bytes[2 * k + 1]]) > greatest {
             return false;
         }
     }

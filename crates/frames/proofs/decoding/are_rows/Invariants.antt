@@ -4,4 +4,4 @@ use Rattle.frames.specs.Reading.{piece}
 use Rattle.frames.proofs.decoding.are_rows.Given as goal
 
 abbrev pub invariant-loop-k : goal.invariant-loop-k
-invariant-loop-k l = (j : ℕ) → j < l.k → is_row_entry l.round (piece l.width l.body j) ≡ true
+invariant-loop-k l = (j : ℕ) → j < l.k → is_row_entry l.version l.round (piece l.width l.body j) ≡ true

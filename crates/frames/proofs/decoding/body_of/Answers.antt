@@ -26,7 +26,7 @@ over-requires-then-has_rows-clause-written g c =
     let e : Expectation = expected c.args.expect.now in
     let yes : has_rows e c.args.bytes.now ≡ true = sym c.has_rows.ensures ∙ c.if-has_rows.true in
     let P : ℕ → Type 0 = λ w. are_written w c.args.bytes.now ≡ true in
-    subst P (sym c.row_width.ensures) (rows_written (1 + 2 * e.nodes) (round_in e.m e.slot) c.args.bytes.now (and_right _ _ yes))
+    subst P (sym c.row_width.ensures) (rows_written e.version (1 + 2 * e.nodes) (round_in e.m e.slot) c.args.bytes.now (and_right _ _ yes))
 
 pub returns-then-has_claims-clause-some : goal.returns-then-has_claims-clause-some
 returns-then-has_claims-clause-some g c =
