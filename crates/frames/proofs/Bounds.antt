@@ -1,5 +1,5 @@
 -- How long a frame can be.
-use Rattle.std.proofs.Common.{◌≡◌, ℕ, zero, suc, ◌+◌, ◌-◌, ◌*◌, ◌^◌, ◌<◌, ◌≤◌, ◌≢◌, max, Bool, true, false, List, length, replicate, refl, sym, ap, ◌∙◌, arith, subst, inl, inr, lit<, ◌⊎◌}
+use Rattle.std.proofs.Common.{◌≡◌, ℕ, zero, suc, ◌+◌, ◌-◌, ◌*◌, ◌^◌, ◌<◌, ◌≤◌, ◌≢◌, max, Bool, true, false, List, length, replicate, refl, sym, ap, ◌∙◌, arith, subst, inl, inr, lit<, lit≤, ◌⊎◌}
 use Rattle.std.specs.Prelude.{◌==◌, nat_le, pos, if◌then◌else◌}
 use Rattle.std.specs.List.{All, flat_map, filter}
 use Rattle.std.proofs.lemmas.Bool.Decides.{nat_tests}
@@ -216,6 +216,25 @@ rows_or_row nodes zero state_len due h =
     subst P (sym e) (row_reached nodes zero state_len due h)
 rows_or_row nodes (suc m) state_len due h =
     of_max (IsReached nodes (suc m) state_len due) (most_entries nodes (suc m) * (1 + 2 * nodes)) (2 * nodes) (rows_reached nodes (suc m) state_len due h (omega arith)) (row_reached nodes (suc m) state_len due h)
+
+-- ---- the longest frame of all
+
+pub few_entries : (nodes m : ℕ) → nodes ≤ 16 → m ≤ 3 → m < nodes → most_entries nodes m ≤ 2730
+few_entries nodes m a b c =
+    let wider : path_count (nodes - 1) m ≤ path_count 15 m = more_paths (nodes - 1) 15 m (omega arith) in
+    let longer : path_count 15 m ≤ path_count 15 3 = longer_paths 15 m 3 b (lit≤ tt) in
+    let most : path_count 15 3 ≡ 2730 = refl in
+    chosen (m == 0) (path_count (nodes - 1) m) (omega (arith, wider, longer, most))
+  where
+    chosen : (none : Bool) (n : ℕ) → n ≤ 2730 → (if none then 0 else n) ≤ 2730
+    chosen true n h = omega arith
+    chosen false n h = h
+
+pub is_short_bound : (nodes m state_len due n : ℕ) → nodes ≤ 16 → m ≤ 3 → m < nodes → state_len < 2 ^ 16 → due < 2 ^ 8
+    → n ≡ 14 + max (max (max (most_entries nodes m * (1 + 2 * nodes)) (2 * nodes)) state_len) (8 * due) → n ≤ 90104
+is_short_bound nodes m state_len due n a b c d f g =
+    let rows : most_entries nodes m * (1 + 2 * nodes) ≤ 2730 * 33 = mul-le (most_entries nodes m) (1 + 2 * nodes) 2730 33 (few_entries nodes m a b c) (omega arith) in
+    omega arith
 
 pub is_greatest : (nodes m state_len due n : ℕ) → nodes ≤ 16 → m ≤ 3 → m < nodes → state_len < 2 ^ 16 → due < 2 ^ 8
     → n ≡ 14 + max (max (max (most_entries nodes m * (1 + 2 * nodes)) (2 * nodes)) state_len) (8 * due) → IsGreatest nodes m state_len due n

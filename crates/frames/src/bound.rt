@@ -7,12 +7,13 @@ use crate::encoding::HEADER;
 use omh_paths::count_paths;
 
 /// The greatest length of a frame among so many nodes, with `m` relay rounds, states of `state_len` bytes and at most
-/// `due` due channels, over all slots, senders and sets of members.
+/// `due` due channels, over all slots, senders and sets of members: at most 90,104.
 pub fn frame_bound(nodes: u8, m: u8, state_len: u16, due: u8) -> usize
     requires nodes { nodes ≤ 16 }
     requires rounds { m ≤ 3 }
     requires fewer { m < nodes }
-    ensures { IsGreatest nodes m state_len due result }
+    ensures greatest { IsGreatest nodes m state_len due result }
+    ensures short { result ≤ 90104 }
 {
     let row = 2 * nodes as usize;
     let rows = most_entries(nodes, m) * (1 + row);
