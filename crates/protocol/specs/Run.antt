@@ -1,6 +1,7 @@
 -- The run of a cluster: all nodes together, slot by slot.
 use Rattle.std.specs.Prelude.{ℕ, zero, suc, ◌+◌, ◌-◌, Bool, ◌==◌, nat_le, List, [], map, length, Option, None, Some, is_some, if◌then◌else◌}
 use Rattle.node_grid.specs.declared.class.Class.{Class}
+use Rattle.node_grid.specs.Kinds.{missing, no_claim}
 use Rattle.frames.specs.Content.{Content, Expectation}
 use Rattle.frames.specs.Content.Content.{State, Data, Cold}
 use Rattle.error_detect.specs.Finding.{Delivery}
@@ -8,7 +9,6 @@ use Rattle.fault_classes.specs.Change.{Change}
 use Rattle.fault_classes.specs.Line.{effect_at}
 use Rattle.fault_classes.specs.Plan.{Plan, restarts_at, class_of}
 use Rattle.fault_link.specs.Arrival.{delivered_of}
-use Rattle.list_scheduler.specs.Schedule.{no_claim}
 use Rattle.agreed_state.specs.declared.config.Inputs.{Inputs}
 use Rattle.agreed_state.specs.Agreed.{AgreedView}
 use Rattle.agreed_state.specs.Body.{body, state_len}
@@ -40,7 +40,7 @@ state_content s None = Cold
 state_content s (Some a) = State (body s.config a)
 
 abbrev pub silence : {V : Type 0} → Rounds V
-silence = record { first = λ j. Bad 0; relay = λ k j. Bad 0 }
+silence = record { first = λ j. Bad missing; relay = λ k j. Bad missing }
 
 module _ (sys : System) (p : ℕ) where
   -- what is expected in a slot of a sender, with these members and so many due channels
@@ -80,7 +80,7 @@ module _ (sys : System) (p : ℕ) where
     after_sync i = record {
       sync = λ j. arrives state_in (change_at 0 j i) (expectation 0 j [] 0) (expectation 0 j [] 0) (state_said j);
       done = silence;
-      values = λ j. Bad 0;
+      values = λ j. Bad missing;
       report = silence;
     }
 

@@ -2,6 +2,7 @@
 use Rattle.std.specs.Prelude.{ℕ, zero, suc, ◌^◌, ℤ, pos, ◌+ℤ◌, neg_ℤ, int_lt, Bool, true, false, not, ◌&&◌, ◌||◌, ◌==◌, nat_eq, nat_lt, nat_le, List, [], ◌∷◌, map, length, replicate, Option, None, Some, if◌then◌else◌, slice_index, slice_index_or}
 use Rattle.std.specs.List.{list_any, filter_map}
 use Rattle.std.specs.Cmp.Lexicographic.{pointwise}
+use Rattle.node_grid.specs.Kinds.{state, claim, overrun, deviate, no_claim}
 use Rattle.node_grid.specs.NodeSet.{ids_below, ids_where, has_id, mask_of}
 use Rattle.omh_paths.specs.declared.wrapped.Wrapped.{Wrapped}
 use Rattle.omh_paths.specs.declared.wrapped.Wrapped.TheVariants.{Plain, Fault}
@@ -10,7 +11,7 @@ use Rattle.mme_vote.specs.declared.channel.Channel.TheVariants.{State, Sensor}
 use Rattle.mme_vote.specs.Channel.{delta_of}
 use Rattle.mme_vote.specs.Vote.{vote_of, distance}
 use Rattle.list_scheduler.specs.Copies.{works}
-use Rattle.list_scheduler.specs.Schedule.{no_claim, verdict}
+use Rattle.list_scheduler.specs.Schedule.{verdict}
 use Rattle.error_reports.specs.Charge.{accuses}
 use Rattle.agreed_state.specs.declared.config.Config.{Config}
 use Rattle.agreed_state.specs.declared.config.Inputs.{Inputs}
@@ -24,11 +25,15 @@ use Rattle.protocol.specs.Settled.{settled_items}
 
 -- ---- what is given
 
--- kinds of accusation beyond the eight of this version: what a node, full or not, with these members, says of node j and kind k
--- by what it was told of the claims, and, for its next row, of the rows
+-- further kinds, behind the named ones: what a node, full or not, with these members, says of node j and kind k by what it was told
+-- of the claims, and, for its next row, of the rows. Of named kinds it says nothing, and a row of version 1 has no room for others
 pub record Further : Type 0 where
   pub claims : ℕ → Bool → List ℕ → Rounds ℕ → ℕ → ℕ → Bool
   pub rows : ℕ → Bool → List ℕ → Rounds (List ℕ) → ℕ → ℕ → Bool
+
+-- whether a kind comes behind the named ones
+abbrev pub is_further : ℕ → Bool
+is_further k = nat_lt deviate k
 
 -- there are none
 abbrev pub no_further : Further
@@ -195,16 +200,16 @@ abbrev pub other_body : List ℕ → Arrival (List ℕ) → Bool
 other_body own (Bad k) = false
 other_body own (Good b) = not (pointwise ◌==◌ own b)
 
--- the kinds that are no findings: 4 another state, 5 a false claim, 6 an overrun, 7 a deviating value
+-- the kinds that are no findings: another state, a false claim, an overrun and a deviating value
 abbrev pub by_kind : Bool → Bool → Bool → Bool → ℕ → Bool
-by_kind state claim overrun deviate k = (state && k == 4) || ((claim && k == 5) || ((overrun && k == 6) || (deviate && k == 7)))
+by_kind other false_claim late far k = (other && k == state) || ((false_claim && k == claim) || ((late && k == overrun) || (far && k == deviate)))
 
 -- whether node i notes kind k of another node j: what it found in the sync, done and data slots, what it carried over from the report
--- slots of the period before, and the kinds that are no findings
+-- slots of the period before, further kinds, and those that are no findings
 unfoldable pub noted : Setting → ℕ → AgreedView → Kept → List (Wrapped ℕ) → List ℕ → List (Option ℤ) → Received → ℕ → ℕ → Bool
 noted s i a kept done due votes x j k =
     let v = verdict s.config.graph a.standing.members a.copies done j in
-    is_bad (x.sync j) k || (rounds_bad s.config.m x.done j k || (is_bad (x.values j) k || (accuses kept.carried j k || (s.further.claims i true a.standing.members x.done j k
+    is_bad (x.sync j) k || (rounds_bad s.config.m x.done j k || (is_bad (x.values j) k || (accuses kept.carried j k || ((s.further.claims i true a.standing.members x.done j k && is_further k)
     || by_kind (other_body (body s.config a) (x.sync j)) v.claim v.overrun (deviates s due votes x j) k))))
 
 -- the row of a node i that notes these: a mask for each node, none of itself
@@ -214,9 +219,9 @@ row_by s i notes = map (λ j. if nat_lt j s.config.nodes && not (j == i) then ma
 abbrev pub empty_row : Setting → List ℕ
 empty_row s = replicate s.capacity 0
 
--- what is carried over: the findings of the report slots
+-- what is carried over: the findings of the report slots, and further kinds
 abbrev pub carried_by : Setting → ℕ → Bool → AgreedView → Received → List ℕ
-carried_by s i full a x = row_by s i (λ j k. rounds_bad s.config.m x.report j k || s.further.rows i full a.standing.members x.report j k)
+carried_by s i full a x = row_by s i (λ j k. rounds_bad s.config.m x.report j k || (s.further.rows i full a.standing.members x.report j k && is_further k))
 
 -- ---- a period
 

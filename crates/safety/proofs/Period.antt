@@ -1,31 +1,33 @@
 -- One period: from the premise to what is safe of it, and to the premise of the next.
-use Rattle.std.proofs.Common.{length, ℕ, zero, suc, ◌≡◌, ◌≢◌, ◌<◌, ◌≤◌, ◌⊎◌, Bool, true, false, not, ◌&&◌, List, [], ◌∷◌, map, Option, None, Some, ℤ, pos, ◌≤ℤ◌, refl, sym, ap, ap₂, subst, ◌∙◌, inl, inr, arith, nat_lt}
+use Rattle.std.proofs.Common.{length, ℕ, zero, suc, ◌≡◌, ◌≢◌, ◌<◌, ◌≤◌, ◌⊎◌, Bool, true, false, not, ◌&&◌, List, [], ◌∷◌, map, Option, None, Some, ℤ, pos, ◌≤ℤ◌, refl, sym, ap, ap₂, subst, ◌∙◌, inl, inr, arith, nat_lt, ne_eqb}
 use Rattle.std.specs.Prelude.{if◌then◌else◌, ◌==◌, nat_eq, slice_index}
 use Rattle.std.specs.List.{find}
 use Rattle.std.specs.Cmp.Lexicographic.{pointwise}
 use Rattle.std.specs.Int.{bit_at}
-use Rattle.std.proofs.lemmas.Bool.{cases_Bool, cond-true, cond-false, or_from}
+use Rattle.std.proofs.lemmas.Bool.Decides.{nat_tests}
+use Rattle.std.proofs.lemmas.Bool.{cases_Bool, cases_lt, cond-true, cond-false, or_from}
 use Rattle.node_grid.specs.declared.class.Class.{Class}
 use Rattle.node_grid.specs.declared.class.Class.TheVariants.{N, J}
 use Rattle.node_grid.specs.Class.{is_nonfaulty, is_sound, IsWithin}
 use Rattle.node_grid.specs.NodeSet.{ids_below, ids_where, has_id, mask_of}
 use Rattle.node_grid.specs.Count.{Distinct}
+use Rattle.node_grid.specs.Kinds.{deviate}
 use Rattle.node_grid.specs.Matrix.{row_at}
 use Rattle.omh_paths.specs.declared.wrapped.Wrapped.{Wrapped}
 use Rattle.omh_paths.specs.declared.wrapped.Wrapped.TheVariants.{Plain}
 use Rattle.mme_vote.specs.declared.channel.Channel.TheVariants.{State}
 use Rattle.mme_vote.specs.Vote.{distance}
-use Rattle.mme_vote.specs.Members.{MembersLaw}
 use Rattle.list_scheduler.specs.declared.schedule.Verdict.{Verdict}
 use Rattle.list_scheduler.specs.Schedule.{verdict, claim_of, no_verdict}
 use Rattle.error_reports.specs.Charge.{accuses, charged}
 use Rattle.membership.specs.Members.{Standing}
 use Rattle.agreed_state.specs.Agreed.{AgreedView, agreed_after, standing_by, fold}
+use Rattle.agreed_state.specs.Body.{body}
 use Rattle.protocol.specs.Arrival.{Arrival, is_good, is_bad}
 use Rattle.protocol.specs.Arrival.Arrival.{Bad, Good}
 use Rattle.protocol.specs.Heard.{Rounds, rounds_bad}
 use Rattle.protocol.specs.Settled.{settled_items, item_of}
-use Rattle.protocol.specs.View.{Setting, Kept, nothing, own_claim, as_claim, claims_settled, due_channels, own_value, channel, deviates, by_kind, noted, row_by, kind_count, Mode, View, through}
+use Rattle.protocol.specs.View.{Setting, Kept, nothing, own_claim, as_claim, claims_settled, due_channels, own_value, channel, deviates, other_body, by_kind, is_further, noted, row_by, kind_count, Mode, View, through}
 use Rattle.protocol.specs.Cluster.{Cluster, kept, begins, view}
 use Rattle.protocol.specs.Run.{claim_sent, members_in}
 use Rattle.protocol.specs.Safe.{Classing, reference, members_from, members_at, Budget, rows_from, rows_at, IsContinuous, IsInnocent, AllAccuse, FullyCharged, VotesClose, Safe}
@@ -94,7 +96,6 @@ pub record Premises (cl : Cluster) (class_of : Classing) : Type 0 where
   pub states : StateLaws cl.setting
   pub claims : ItemLaws nat_eq
   pub rows : ItemLaws (pointwise {A = ℕ} ◌==◌)
-  pub votes : MembersLaw
   pub few_channels : length cl.setting.config.channels.items ≤ 8
 
 -- a period with its premise, in budget
@@ -122,6 +123,23 @@ OwnsClose cl class_of p = (i j c : ℕ) (delta : ℤ) (start : List ℤ) (step :
 
 by_kind_none : (s c o d : Bool) (k : ℕ) → s ≡ false → c ≡ false → o ≡ false → d ≡ false → by_kind s c o d k ≡ false
 by_kind_none s c o d k a b e f = rw (a, b, e, f) refl
+
+and_fails : (a b : Bool) → b ≡ false → (a && b) ≡ false
+and_fails true b h = h
+and_fails false b h = refl
+
+-- the kinds that are no findings are named ones
+pub by_kind_named : (s c o d : Bool) (k : ℕ) → deviate < k → by_kind s c o d k ≡ false
+by_kind_named s c o d k high =
+    or_from _ _ (and_fails s (k == 4) (ne_eqb k 4 (omega arith)))
+    (or_from _ _ (and_fails c (k == 5) (ne_eqb k 5 (omega arith)))
+    (or_from _ _ (and_fails o (k == 6) (ne_eqb k 6 (omega arith))) (and_fails d (k == 7) (ne_eqb k 7 (omega arith)))))
+
+-- nothing further is said of a named kind
+named_only : (b : Bool) (k : ℕ) → k ≤ deviate → (b && is_further k) ≡ false
+named_only b k low = and_fails b (is_further k) (not_further k low) where
+  not_further : (k : ℕ) → k ≤ deviate → is_further k ≡ false
+  not_further k low = grind (arith, nat_tests)
 
 claim_read : (xs : List (Option ℕ)) (j : ℕ) → claim_of (map as_claim xs) j ≡ as_claim (item_of xs j)
 claim_read [] j = refl
@@ -239,37 +257,60 @@ module _ (cl : Cluster) (class_of : Classing) (p : ℕ) (h : Here cl class_of p)
     fail = λ q on b. ap (λ (xs : List (Option (List ℕ))). row_at xs q) (rows_list i s) ∙ rows_well.fail i q s on b;
   }
 
-  module _ (fine : NoVerdicts cl class_of p h.start.state) (close : NoDeviations cl class_of p) (votes : AllVotesClose cl class_of p h.start.state)
-      (spares : IsSparing cl class_of p h.start.state.standing.members) where
-    not_noted : (q j k : ℕ) → class_of p q ≡ N → IsContinuous class_of j p → q ≢ j
-        → noted cl.setting q h.start.state (begins cl q p) (view cl q p).done (view cl q p).due (view cl q p).votes (cl.received q p) j k ≡ false
-    unfolding noted
-    not_noted q j k nq always apart =
-        let nj = always p (omega arith) in
-        let s : is_sound (class_of p q) ≡ true = ap is_sound nq in
-        let ne : j ≢ q = λ e. apart (sym e) in
-        let v = fine q j s nj in
-        or_from _ _ (ap (λ f. is_bad f k) ((h.all.given.reception p).sync.stands j q h.start.state nj s ne (h.start.equal j nj) h.start.valid))
-        (or_from _ _ (rounds_good told_done j q k nj s ne)
-        (or_from _ _ (ap (λ f. is_bad f k) (told_values.stands j q nj s ne))
-        (or_from _ _ (h.start.carried q j k nq always ne)
-        (or_from _ _ (spares.claims q j k nq always ne)
-        (by_kind_none _ _ _ _ k
-        (no_other_body cl class_of p j q h.all.given h.start nj s ne)
-        (ap (λ (v : Verdict). v.claim) v)
-        (ap (λ (v : Verdict). v.overrun) v)
-        (close q j nq nj ne))))))
+  -- of a node that was nonfaulty throughout nothing is found in the frames of the period, so its part in a nonfaulty node's row is what
+  -- that carried over, a further kind, or one that is no finding
+  pub row_without : (q j k : ℕ) → class_of p q ≡ N → IsContinuous class_of j p → j ≢ q → accuses (begins cl q p).carried j k ≡ false
+      → (cl.setting.further.claims q true h.start.state.standing.members (cl.received q p).done j k && is_further k) ≡ false
+      → (let v = verdict cl.setting.config.graph h.start.state.standing.members h.start.state.copies (view cl q p).done j in
+        by_kind (other_body (body cl.setting.config h.start.state) ((cl.received q p).sync j)) v.claim v.overrun (deviates cl.setting (view cl q p).due (view cl q p).votes (cl.received q p) j) k) ≡ false
+      → accuses (view cl q p).found j k ≡ false
+  unfolding noted
+  row_without q j k nq always ne carried none other =
+      let nj = always p (omega arith) in
+      let s : is_sound (class_of p q) ≡ true = ap is_sound nq in
+      ap (λ (r : List ℕ). accuses r j k) (found_is q nq)
+      ∙ not_noted_row cl.setting q _ j k (h.all.given.classing.bounded p j (ap is_sound nj)) h.all.given.config.few_nodes
+      (or_from _ _ (ap (λ f. is_bad f k) ((h.all.given.reception p).sync.stands j q h.start.state nj s ne (h.start.equal j nj) h.start.valid))
+      (or_from _ _ (rounds_good told_done j q k nj s ne)
+      (or_from _ _ (ap (λ f. is_bad f k) (told_values.stands j q nj s ne))
+      (or_from _ _ carried
+      (or_from _ _ none other)))))
 
+  -- and of such a node no finding is carried on
+  pub carried_without : (i j k : ℕ) → class_of (suc p) i ≡ N → IsContinuous class_of j (suc p) → j ≢ i
+      → (cl.setting.further.rows i (is_nonfaulty (class_of p i)) h.start.state.standing.members (cl.received i p).report j k && is_further k) ≡ false
+      → accuses (begins cl i (suc p)).carried j k ≡ false
+  unfolding through
+  carried_without i j k n always ne none =
+      let s = h.all.given.classing.sound_before p i n in
+      let nj = always p (omega arith) in
+      ap (λ (x : Kept). accuses x.carried j k) (begins_next i n)
+      ∙ ap (λ (v : View). accuses v.kept.carried j k) (goes i s)
+      ∙ not_noted_row cl.setting i _ j k (h.all.given.classing.bounded p j (ap is_sound nj)) h.all.given.config.few_nodes
+      (or_from _ _ (rounds_good told_rows j i k nj s ne) none)
+
+  module _ (fine : NoVerdicts cl class_of p h.start.state) (close : NoDeviations cl class_of p) (votes : AllVotesClose cl class_of p h.start.state)
+      (spares : IsSparing cl class_of p) where
     -- no nonfaulty node accuses one that was nonfaulty throughout
-    pub row_clean : (q j k : ℕ) → class_of p q ≡ N → IsContinuous class_of j p → q ≢ j → accuses (view cl q p).found j k ≡ false
-    row_clean q j k nq always apart =
-        ap (λ (r : List ℕ). accuses r j k) (found_is q nq)
-        ∙ not_noted_row cl.setting q _ j k (h.all.given.classing.bounded p j (ap is_sound (always p (omega arith)))) h.all.given.config.few_nodes (not_noted q j k nq always apart)
+    pub row_clean : (q j k : ℕ) → class_of p q ≡ N → IsContinuous class_of j p → j ≢ q → accuses (view cl q p).found j k ≡ false
+    row_clean q j k nq always ne = elim (cases_lt deviate k) [
+      | inl high ↦ spares q j k nq always ne high
+      | inr low ↦
+          let nj = always p (omega arith) in
+          let s : is_sound (class_of p q) ≡ true = ap is_sound nq in
+          let v = fine q j s nj in
+          row_without q j k nq always ne (h.start.carried q j k nq always ne (omega arith)) (named_only _ k (omega arith))
+          (by_kind_none _ _ _ _ k
+          (no_other_body cl class_of p j q h.all.given h.start nj s ne)
+          (ap (λ (v : Verdict). v.claim) v)
+          (ap (λ (v : Verdict). v.overrun) v)
+          (close q j nq nj ne))
+    ]
 
     pub uncharged : (i j k : ℕ) → is_sound (class_of p i) ≡ true → IsContinuous class_of j p → charged (view cl i p).rows h.start.state.standing.members j k ≡ false
     uncharged i j k s always =
         no_charge_law (class_of p) h.start.state.standing.members cl.setting.config.m row_item (view cl i p).rows within (rows_fit i s) j k
-        (λ q on n apart. row_clean q j k n always apart)
+        (λ q on n apart. row_clean q j k n always (λ e. apart (sym e)))
 
     -- the reference node's part of the step
     abbrev pub after_state : AgreedView
@@ -334,13 +375,6 @@ module _ (cl : Cluster) (class_of : Classing) (p : ℕ) (h : Here cl class_of p)
       votes = votes;
     }
 
-    carried_on : (i j k : ℕ) → is_sound (class_of p i) ≡ true → IsContinuous class_of j p → j ≢ i → accuses (view cl i p).kept.carried j k ≡ false
-    unfolding through
-    carried_on i j k s always ne =
-        ap (λ (v : View). accuses v.kept.carried j k) (goes i s)
-        ∙ not_noted_row cl.setting i _ j k (h.all.given.classing.bounded p j (ap is_sound (always p (omega arith)))) h.all.given.config.few_nodes
-        (or_from _ _ (rounds_good told_rows j i k (always p (omega arith)) s ne) (spares.rows i j k s always ne))
-
     -- and the premise of the next
     pub started_next : OwnsClose cl class_of (suc p) → Started cl class_of (suc p)
     started_next near = record {
@@ -349,6 +383,6 @@ module _ (cl : Cluster) (class_of : Classing) (p : ℕ) (h : Here cl class_of p)
       folded = folded;
       equal = λ i n. ap (λ (k : Kept). k.state) (begins_next i n) ∙ ends i (h.all.given.classing.sound_before p i n);
       innocent = λ j always. innocent_here j (λ q l. always q (omega arith));
-      carried = λ i j k n always ne. ap (λ (x : Kept). accuses x.carried j k) (begins_next i n) ∙ carried_on i j k (h.all.given.classing.sound_before p i n) (λ q l. always q (omega arith)) ne;
+      carried = λ i j k n always ne named. carried_without i j k n always ne (named_only _ k named);
       close = near;
     }

@@ -21,7 +21,7 @@ use Rattle.protocol.specs.Arrival.{Arrival, is_good, state_in, values_in}
 use Rattle.protocol.specs.Arrival.Arrival.{Good}
 use Rattle.protocol.specs.Heard.{Rounds}
 use Rattle.protocol.specs.Talk.{arrives, rounds_upto}
-use Rattle.protocol.specs.View.{Further, Setting, Kept, nothing, Received, adopted_by, claims_settled, votes_on, noted, own_in, Mode, View, through, joined, view_from, opened}
+use Rattle.protocol.specs.View.{Setting, Kept, nothing, Received, adopted_by, claims_settled, votes_on, noted, own_in, Mode, View, through, joined, view_from, opened}
 use Rattle.protocol.specs.Cluster.{kept, begins, view, view_with}
 use Rattle.protocol.specs.Run.{System, members_in, claim_sent, state_content, expectation, change_at, full_at, so_far, state_said, after_sync, members_of, done_talk, after_done, due_of, values_said, after_values, row_talk, delivered, all_kept, goes_in, run, classes}
 use Rattle.protocol.specs.ViewLaws.{full_if}
@@ -30,13 +30,13 @@ use Rattle.protocol.specs.Accepted.{IsAccepted}
 use Rattle.safety.specs.Told.{Told}
 use Rattle.safety.specs.Laws.{SafetyLaw}
 use Rattle.safety.specs.Runs.{ReceptionLaw, SparingLaw, RunLaw}
-use Rattle.safety.specs.Given.{IsClassing, is_stray, Synced, Valued, AllExpect, AllDue, Reception}
+use Rattle.safety.specs.Given.{IsClassing, is_stray, Synced, Valued, AllExpect, AllDue, Reception, IsGiven}
 use Rattle.safety.proofs.Lists.{fewer, below_of}
 use Rattle.safety.proofs.Classes.{silent_is}
 use Rattle.safety.proofs.Arrivals.{Grammar, arrives_clean, arrives_cold, arrives_manifest}
 use Rattle.safety.proofs.Talks.{TalkFits, talk_told}
 use Rattle.safety.proofs.Premises.{StateLaws}
-use Rattle.safety.proofs.Induction.{state_laws}
+use Rattle.safety.proofs.Induction.{state_laws, none_spares}
 use Rattle.safety.proofs.Links.{effect_fits, below_at, benign_below, stays_at, restarts_when, clean_at, manifest_at, alike_at, sound_before_at, steady_is, recovers_at}
 use Rattle.safety.proofs.Ranges.{kept_after, before_valid, state_in_range, claim_in_range, claims_form, rows_form, row_in_range, due_few, numbers_fit, values_in_range}
 
@@ -268,18 +268,18 @@ reception_law sys given =
     let states : StateLaws sys.setting = state_laws sys.setting given.capacity given.config in
     (classing_is sys given states, λ p. reception_is sys given states p)
 
-pub sparing_law : ReceptionLaw → SafetyLaw → SparingLaw
-sparing_law reception safety sys given spares = safety (run sys) (classes sys) (record {
+given_of : ReceptionLaw → (sys : System) → IsAccepted sys → IsGiven (run sys) (classes sys)
+given_of reception sys given = record {
   capacity = given.capacity;
   config = given.config;
   inputs = λ i p low. given.inputs i p low;
   close = given.close;
   classing = (reception sys given).0;
   reception = (reception sys given).1;
-}) spares
+}
 
-pub run_law : SparingLaw → RunLaw
-run_law sparing sys given none = sparing sys given (λ p h. record {
-  claims = λ i j k n always ne. ap (λ (f : Further). f.claims i true h.start.state.standing.members ((run sys).received i p).done j k) none;
-  rows = λ i j k s always ne. ap (λ (f : Further). f.rows i (is_nonfaulty (classes sys p i)) h.start.state.standing.members ((run sys).received i p).report j k) none;
-})
+pub sparing_law : ReceptionLaw → SafetyLaw → SparingLaw
+sparing_law reception safety sys given spares = safety (run sys) (classes sys) (given_of reception sys given) spares
+
+pub run_law : ReceptionLaw → SparingLaw → RunLaw
+run_law reception sparing sys given none = sparing sys given (none_spares (run sys) (classes sys) (given_of reception sys given) none)

@@ -35,16 +35,12 @@ pub fn reception()
 /// Each sound node goes through a period with the agreed state of the nonfaulty ones.
 pub fn sync()
     ensures { SyncLaw }
-{
-    mme_vote::laws::members();
-}
+{}
 
 /// Sound nodes settle claims alike, and have the same channels due.
 pub fn claims()
     ensures { ClaimsLaw }
-{
-    mme_vote::laws::members();
-}
+{}
 
 /// Votes of sound nodes are close.
 pub fn data()
@@ -56,16 +52,12 @@ pub fn data()
 /// Sound nodes settle rows alike.
 pub fn reports()
     ensures { ReportsLaw }
-{
-    mme_vote::laws::members();
-}
+{}
 
 /// The premise holds of the first period.
 pub fn start()
     ensures { StartLaw }
-{
-    mme_vote::laws::members();
-}
+{}
 
 /// It leads to what is safe of a period, and to the next.
 pub fn step()
@@ -94,5 +86,6 @@ pub fn sparing()
 pub fn runs()
     ensures { RunLaw }
 {
+    reception();
     sparing();
 }
