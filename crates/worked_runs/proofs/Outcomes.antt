@@ -1,12 +1,12 @@
 -- Outcomes, by computation.
-use Rattle.std.proofs.Common.{◌≡◌, [], ◌∷◌, replicate, Some, None, pos, refl, arith}
+use Rattle.std.proofs.Common.{◌≡◌, [], ◌∷◌, map, replicate, Some, None, pos, refl, arith}
 use Rattle.node_grid.specs.declared.class.Class.TheVariants.{N, J, B, S, A}
 use Rattle.omh_paths.specs.declared.wrapped.Wrapped.TheVariants.{Plain, Fault}
 use Rattle.protocol.specs.View.{Mode}
 use Rattle.protocol.specs.Run.{run, classes}
 use Rattle.protocol.specs.Safe.{reference, members_at, Budget}
-use Rattle.worked_runs.specs.Systems.{half_accuses, two_rows, lost_row, three_values, two_colluding, five_silent, too_many_faults, joining_beside_two_rows, restart_amid_liars, two_states}
-use Rattle.worked_runs.specs.Shown.{of_all, class_in, mode_in, counts_after, streaks_after, done_in, rows_in, vote_in}
+use Rattle.worked_runs.specs.Systems.{half_accuses, two_rows, lost_row, three_values, two_colluding, five_silent, too_many_faults, joining_beside_two_rows, restart_amid_liars, two_states, late_claim_and_no_row, wrong_state_and_claims, sensor_of_a_task, steps_alone, excluded_and_back}
+use Rattle.worked_runs.specs.Shown.{of_all, class_in, mode_in, counts_after, streaks_after, members_before, done_in, due_in, own_value_in, rows_in, vote_in}
 use Rattle.worked_runs.proofs.Opened.{opened}
 
 pub half_accuses-classes : of_all half_accuses (class_in half_accuses 0) ≡ N ∷ N ∷ N ∷ N ∷ A ∷ []
@@ -160,3 +160,79 @@ two_states-reference = refl
 pub two_states-members : members_at (run two_states) (classes two_states) 2 ≡ []
 unfolding opened
 two_states-members = refl
+
+pub late_claim_and_no_row-rows : of_all late_claim_and_no_row (rows_in late_claim_and_no_row 0) ≡ (Some (0 ∷ 4 ∷ 0 ∷ []) ∷ Some (0 ∷ 0 ∷ 0 ∷ []) ∷ None ∷ []) ∷ (Some (0 ∷ 4 ∷ 0 ∷ []) ∷ Some (0 ∷ 0 ∷ 0 ∷ []) ∷ None ∷ []) ∷ (Some (0 ∷ 4 ∷ 0 ∷ []) ∷ Some (0 ∷ 0 ∷ 0 ∷ []) ∷ Some (0 ∷ 4 ∷ 0 ∷ []) ∷ []) ∷ []
+unfolding opened
+late_claim_and_no_row-rows = refl
+
+pub late_claim_and_no_row-counts : of_all late_claim_and_no_row (counts_after late_claim_and_no_row 0) ≡ replicate 3 (0 ∷ 5 ∷ 0 ∷ [])
+unfolding opened
+late_claim_and_no_row-counts = refl
+
+pub late_claim_and_no_row-rows_after : of_all late_claim_and_no_row (rows_in late_claim_and_no_row 1) ≡ replicate 3 (Some (0 ∷ 0 ∷ 1 ∷ []) ∷ Some (0 ∷ 0 ∷ 1 ∷ []) ∷ Some (0 ∷ 0 ∷ 0 ∷ []) ∷ [])
+unfolding opened
+late_claim_and_no_row-rows_after = refl
+
+pub late_claim_and_no_row-counts_after : of_all late_claim_and_no_row (counts_after late_claim_and_no_row 1) ≡ replicate 3 (0 ∷ 5 ∷ 5 ∷ [])
+unfolding opened
+late_claim_and_no_row-counts_after = refl
+
+pub wrong_state_and_claims-rows : of_all wrong_state_and_claims (rows_in wrong_state_and_claims 0) ≡ replicate 3 (Some (0 ∷ 64 ∷ 32 ∷ []) ∷ Some (16 ∷ 0 ∷ 32 ∷ []) ∷ Some (16 ∷ 64 ∷ 0 ∷ []) ∷ [])
+unfolding opened
+wrong_state_and_claims-rows = refl
+
+pub wrong_state_and_claims-counts : of_all wrong_state_and_claims (counts_after wrong_state_and_claims 0) ≡ replicate 3 (5 ∷ 5 ∷ 5 ∷ [])
+unfolding opened
+wrong_state_and_claims-counts = refl
+
+pub sensor_of_a_task-done : of_all sensor_of_a_task (done_in sensor_of_a_task 0) ≡ replicate 3 (Plain 0 ∷ Plain 255 ∷ Plain 255 ∷ [])
+unfolding opened
+sensor_of_a_task-done = refl
+
+pub sensor_of_a_task-done_after : of_all sensor_of_a_task (done_in sensor_of_a_task 1) ≡ replicate 3 (Plain 255 ∷ Plain 0 ∷ Plain 255 ∷ [])
+unfolding opened
+sensor_of_a_task-done_after = refl
+
+pub sensor_of_a_task-due : map (λ p. due_in sensor_of_a_task p 0) (0 ∷ 1 ∷ 2 ∷ []) ≡ [] ∷ (0 ∷ []) ∷ [] ∷ []
+unfolding opened
+sensor_of_a_task-due = refl
+
+pub sensor_of_a_task-votes : map (λ p. vote_in sensor_of_a_task p 0) (0 ∷ 1 ∷ 2 ∷ []) ≡ (None ∷ []) ∷ (Some (pos 5) ∷ []) ∷ (None ∷ []) ∷ []
+unfolding opened
+sensor_of_a_task-votes = refl
+
+pub steps_alone-owns : map (λ p. of_all steps_alone (own_value_in steps_alone p)) (0 ∷ 1 ∷ 2 ∷ 3 ∷ []) ≡ (pos 10 ∷ pos 12 ∷ pos 14 ∷ []) ∷ (pos 15 ∷ pos 15 ∷ pos 15 ∷ []) ∷ (pos 18 ∷ pos 18 ∷ pos 3 ∷ []) ∷ (pos 21 ∷ pos 21 ∷ pos 6 ∷ []) ∷ []
+unfolding opened
+steps_alone-owns = refl
+
+pub steps_alone-votes : map (λ p. of_all steps_alone (vote_in steps_alone p)) (0 ∷ 1 ∷ 2 ∷ 3 ∷ []) ≡ replicate 3 (Some (pos 12) ∷ []) ∷ replicate 3 (Some (pos 15) ∷ []) ∷ ((Some (pos 18) ∷ []) ∷ (Some (pos 18) ∷ []) ∷ (None ∷ []) ∷ []) ∷ replicate 3 (Some (pos 21) ∷ []) ∷ []
+unfolding opened
+steps_alone-votes = refl
+
+pub steps_alone-modes : map (λ p. mode_in steps_alone p 2) (1 ∷ 2 ∷ 3 ∷ []) ≡ Mode.Full ∷ Mode.Joining ∷ Mode.Full ∷ []
+unfolding opened
+steps_alone-modes = refl
+
+pub steps_alone-row : rows_in steps_alone 3 0 ≡ Some (0 ∷ 0 ∷ 136 ∷ []) ∷ Some (0 ∷ 0 ∷ 136 ∷ []) ∷ Some (0 ∷ 0 ∷ 0 ∷ []) ∷ []
+unfolding opened
+steps_alone-row = refl
+
+pub excluded_and_back-members : map (λ p. members_before excluded_and_back p 2) (0 ∷ 1 ∷ 2 ∷ []) ≡ (0 ∷ 1 ∷ 2 ∷ []) ∷ (0 ∷ 1 ∷ []) ∷ (0 ∷ 1 ∷ 2 ∷ []) ∷ []
+unfolding opened
+excluded_and_back-members = refl
+
+pub excluded_and_back-mode : mode_in excluded_and_back 1 2 ≡ Mode.Full
+unfolding opened
+excluded_and_back-mode = refl
+
+pub excluded_and_back-votes : map (λ p. of_all excluded_and_back (vote_in excluded_and_back p)) (0 ∷ 1 ∷ 2 ∷ []) ≡ replicate 3 (Some (pos 5) ∷ []) ∷ replicate 3 (Some (pos 3) ∷ []) ∷ replicate 3 (Some (pos 5) ∷ []) ∷ []
+unfolding opened
+excluded_and_back-votes = refl
+
+pub excluded_and_back-rows : of_all excluded_and_back (rows_in excluded_and_back 1) ≡ replicate 3 (Some (0 ∷ 0 ∷ 0 ∷ []) ∷ Some (0 ∷ 0 ∷ 0 ∷ []) ∷ None ∷ [])
+unfolding opened
+excluded_and_back-rows = refl
+
+pub excluded_and_back-counts : map (λ p. counts_after excluded_and_back p 2) (0 ∷ 1 ∷ 2 ∷ []) ≡ (0 ∷ 0 ∷ 5 ∷ []) ∷ (0 ∷ 0 ∷ 0 ∷ []) ∷ (0 ∷ 0 ∷ 0 ∷ []) ∷ []
+unfolding opened
+excluded_and_back-counts = refl

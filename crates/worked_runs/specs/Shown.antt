@@ -5,7 +5,7 @@ use Rattle.node_grid.specs.declared.class.Class.{Class}
 use Rattle.node_grid.specs.NodeSet.{ids_below}
 use Rattle.omh_paths.specs.declared.wrapped.Wrapped.{Wrapped}
 use Rattle.agreed_state.specs.Agreed.{AgreedView}
-use Rattle.protocol.specs.View.{View, Mode}
+use Rattle.protocol.specs.View.{View, Mode, own_in}
 use Rattle.protocol.specs.Cluster.{view}
 use Rattle.protocol.specs.Run.{System, run, classes, members_in}
 
@@ -48,3 +48,10 @@ rows_in sys p i = map (option_map (take sys.setting.config.nodes)) (take sys.set
 
 abbrev pub vote_in : System → ℕ → ℕ → List (Option ℤ)
 vote_in sys p i = take 1 (view_in sys p i).votes
+
+abbrev pub due_in : System → ℕ → ℕ → List ℕ
+due_in sys p i = (view_in sys p i).due
+
+-- its own value of the first channel
+abbrev pub own_value_in : System → ℕ → ℕ → ℤ
+own_value_in sys p i = own_in (view_in sys p i).own 0

@@ -1,41 +1,49 @@
 -- Small clusters with faults.
-use Rattle.std.specs.Prelude.{ℕ, ◌+◌, ◌*◌, ℤ, pos, not, ◌==◌, List, [], ◌∷◌, ◌++◌, replicate, slice_index_or, None}
+use Rattle.std.specs.Prelude.{ℕ, ◌+◌, ◌*◌, ℤ, pos, not, ◌==◌, List, [], ◌∷◌, ◌++◌, replicate, slice_index_or, None, Some}
 use Rattle.node_grid.specs.NodeSet.{ids_below, ids_where}
 use Rattle.penalty.specs.declared.Policy.{Policy}
+use Rattle.task_graph.specs.Graph.{TaskView}
 use Rattle.mme_vote.specs.declared.channel.Channel.{Channel}
-use Rattle.mme_vote.specs.declared.channel.Channel.TheVariants.{Sensor}
+use Rattle.mme_vote.specs.declared.channel.Channel.TheVariants.{State, Sensor}
 use Rattle.fault_classes.specs.declared.line.Restart.{Restart}
 use Rattle.fault_classes.specs.Change.{Change}
-use Rattle.fault_classes.specs.Change.Change.{Lost, Patched}
+use Rattle.fault_classes.specs.Change.Change.{Lost, Timed, Patched}
 use Rattle.fault_classes.specs.Line.{Line}
 use Rattle.agreed_state.specs.declared.config.Config.{Config}
 use Rattle.protocol.specs.View.{no_further}
 use Rattle.protocol.specs.Run.{System}
 
+abbrev pub no_readings : ℕ → List ℤ
+no_readings i = replicate 8 (pos 0)
+
+abbrev pub no_runs : ℕ → List ℕ
+no_runs i = replicate 32 0
+
 -- eight kinds of weight 5
 abbrev pub policy : Policy
 policy = record { weights = replicate 8 5 ++ replicate 8 0; exclude = 20; readmit = 4; credit = 1; streak = 2; cap = 100 }
 
--- a cluster without tasks
-abbrev pub config : ℕ → ℕ → ℕ → List (Channel 8) → Config 8
-config nodes m frame channels = record {
+abbrev pub config : Policy → ℕ → ℕ → ℕ → List TaskView → List (Channel 8) → Config 8
+config policy nodes m frame tasks channels = record {
   nodes = nodes;
   m = m;
   frame = frame;
   policy = policy;
-  graph = record { nodes = nodes; tasks = [] };
+  graph = record { nodes = nodes; tasks = tasks };
   channels = record { items = channels };
 }
 
-abbrev pub system : ℕ → ℕ → ℕ → List (Channel 8) → (ℕ → List ℤ) → List Line → List Restart → System
-system nodes m periods channels reading lines restarts = record {
-  setting = record { capacity = 8; config = config nodes m periods channels; further = no_further };
+-- a cluster with run times and readings by node
+abbrev pub cluster : Policy → ℕ → ℕ → ℕ → List TaskView → List (Channel 8) → (ℕ → List ℕ) → (ℕ → List ℤ) → List Line → List Restart → System
+cluster policy nodes m periods tasks channels run reading lines restarts = record {
+  setting = record { capacity = 8; config = config policy nodes m periods tasks channels; further = no_further };
   plan = record { nodes = nodes; rounds = m; periods = periods; lines = lines; restarts = restarts };
-  inputs = λ i p. record { run = replicate 32 0; reading = reading i };
+  inputs = λ i p. record { run = run i; reading = reading i };
 }
 
-abbrev pub no_readings : ℕ → List ℤ
-no_readings i = replicate 8 (pos 0)
+-- a cluster without tasks
+abbrev pub system : ℕ → ℕ → ℕ → List (Channel 8) → (ℕ → List ℤ) → List Line → List Restart → System
+system nodes m periods channels reading lines restarts = cluster policy nodes m periods [] channels no_runs reading lines restarts
 
 -- in one period, on some slots
 abbrev pub line : ℕ → List ℕ → ℕ → List ℕ → Change → Line
@@ -96,3 +104,44 @@ two_states = system 5 0 3 [] no_readings
     ∷ line 3 (1 ∷ []) 0 (3 ∷ []) (Patched 22 (0 ∷ 1 ∷ []))
     ∷ line 3 (0 ∷ []) 1 (0 ∷ []) Lost
     ∷ line 4 (0 ∷ []) 1 (0 ∷ []) Lost ∷ []) (record { node = 0; period = 1 } ∷ [])
+
+-- ---- three nodes without relay rounds
+
+-- by node, for the first channel or task
+abbrev pub three_readings : ℤ → ℤ → ℤ → ℕ → List ℤ
+three_readings a b c i = slice_index_or (a ∷ b ∷ c ∷ []) i (pos 0) ∷ replicate 7 (pos 0)
+
+abbrev pub three_runs : ℕ → ℕ → ℕ → ℕ → List ℕ
+three_runs a b c i = slice_index_or (a ∷ b ∷ c ∷ []) i 0 ∷ replicate 31 0
+
+-- node 1 claims late, and node 2 tells nobody its row
+abbrev pub late_claim_and_no_row : System
+late_claim_and_no_row = system 3 0 2 [] no_readings (line 1 (0 ∷ 2 ∷ []) 0 (1 ∷ []) (Timed 30) ∷ line 2 (0 ∷ 1 ∷ []) 0 (3 ∷ []) Lost ∷ []) []
+
+-- node 0 sends another state, node 1 doesn't claim a task that runs for one period, and node 2 claims one that runs for two
+abbrev pub wrong_state_and_claims : System
+wrong_state_and_claims = cluster policy 3 0 1
+    (record { after = []; nodes = 1 ∷ []; need = 1; min = 1; max = 1 } ∷ record { after = []; nodes = 2 ∷ []; need = 1; min = 2; max = 2 } ∷ []) []
+    (λ i. 1 ∷ 2 ∷ replicate 30 0) no_readings
+    (line 0 (1 ∷ 2 ∷ []) 0 (0 ∷ []) (Patched 16 (0 ∷ 7 ∷ []))
+    ∷ line 1 (0 ∷ 2 ∷ []) 0 (1 ∷ []) (Patched 14 (255 ∷ []))
+    ∷ line 2 (0 ∷ 1 ∷ []) 0 (1 ∷ []) (Patched 14 (1 ∷ [])) ∷ []) []
+
+-- a task of two copies, with run times 1 and 2, finishes in period 1, and a sensor is read then
+abbrev pub sensor_of_a_task : System
+sensor_of_a_task = cluster policy 3 0 4 (record { after = []; nodes = 0 ∷ 1 ∷ []; need = 2; min = 1; max = 3 } ∷ []) (Sensor (pos 10) (Some 0) ∷ [])
+    (three_runs 1 2 1) (three_readings (pos 1) (pos 5) (pos 6)) [] []
+
+-- nodes 1 and 2 each hear no values for a period: node 1 as a full node, and node 2 as a joining one
+abbrev pub steps_alone : System
+steps_alone = system 3 0 4 (State (pos 10) (pos 10 ∷ pos 12 ∷ pos 14 ∷ replicate 5 (pos 0)) (pos 3) ∷ []) no_readings
+    (line 0 (1 ∷ []) 1 (2 ∷ []) Lost ∷ line 2 (1 ∷ []) 1 (2 ∷ []) Lost
+    ∷ line 0 (2 ∷ []) 2 (2 ∷ []) Lost ∷ line 1 (2 ∷ []) 2 (2 ∷ []) Lost ∷ []) (record { node = 2; period = 2 } ∷ [])
+
+-- one error excludes a node, and one period without errors makes up for it
+abbrev pub strict_policy : Policy
+strict_policy = record { weights = replicate 8 5 ++ replicate 8 0; exclude = 5; readmit = 3; credit = 5; streak = 1; cap = 100 }
+
+-- node 2 sends no state
+abbrev pub excluded_and_back : System
+excluded_and_back = cluster strict_policy 3 0 3 [] (Sensor (pos 100) None ∷ []) no_runs (three_readings (pos 1) (pos 5) (pos 9)) (line 2 (0 ∷ 1 ∷ []) 0 (0 ∷ []) Lost ∷ []) []

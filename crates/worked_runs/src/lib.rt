@@ -4,15 +4,15 @@
 //! definition that is empty or off by one is refused here.
 #![tactic(auto)]
 
-ghost use Rattle.std.specs.Prelude.{◌≡◌, ℕ, List, [], ◌∷◌, replicate, Option, Some, None, pos};
+ghost use Rattle.std.specs.Prelude.{◌≡◌, ℕ, List, [], ◌∷◌, map, replicate, Option, Some, None, pos};
 ghost use Rattle.node_grid.specs.declared.class.Class.TheVariants.{N, J, B, S, A};
 ghost use Rattle.omh_paths.specs.declared.wrapped.Wrapped.TheVariants.{Plain, Fault};
 ghost use Rattle.protocol.specs.View.{Mode};
 ghost use Rattle.protocol.specs.Run.{run, classes};
 ghost use Rattle.protocol.specs.Accepted.{IsAccepted};
 ghost use Rattle.protocol.specs.Safe.{reference, members_at, Budget, Safe};
-ghost use Rattle.worked_runs.specs.Systems.{half_accuses, two_rows, lost_row, three_values, two_colluding, five_silent, too_many_faults, joining_beside_two_rows, restart_amid_liars, two_states};
-ghost use Rattle.worked_runs.specs.Shown.{of_all, class_in, mode_in, counts_after, streaks_after, done_in, rows_in, vote_in};
+ghost use Rattle.worked_runs.specs.Systems.{half_accuses, two_rows, lost_row, three_values, two_colluding, five_silent, too_many_faults, joining_beside_two_rows, restart_amid_liars, two_states, late_claim_and_no_row, wrong_state_and_claims, sensor_of_a_task, steps_alone, excluded_and_back};
+ghost use Rattle.worked_runs.specs.Shown.{of_all, class_in, mode_in, counts_after, streaks_after, members_before, done_in, due_in, own_value_in, rows_in, vote_in};
 
 /// Two of four voters accuse node 4 of a missing frame. Half of them aren't more than half, so nothing is charged.
 pub fn half_is_no_majority()
@@ -90,6 +90,45 @@ pub fn a_nonfaulty_node_may_have_no_state()
     ensures mode { mode_in two_states 1 0 ≡ Mode.Cold }
     ensures reference { reference (run two_states) (classes two_states) 2 ≡ Some 0 }
     ensures members { members_at (run two_states) (classes two_states) 2 ≡ [] }
+{}
+
+/// Findings of the claim slot are noted at once, those of the report slot a period later.
+pub fn a_lost_row_is_charged_a_period_later()
+    ensures rows { of_all late_claim_and_no_row (rows_in late_claim_and_no_row 0) ≡ (Some (0 ∷ 4 ∷ 0 ∷ []) ∷ Some (0 ∷ 0 ∷ 0 ∷ []) ∷ None ∷ []) ∷ (Some (0 ∷ 4 ∷ 0 ∷ []) ∷ Some (0 ∷ 0 ∷ 0 ∷ []) ∷ None ∷ []) ∷ (Some (0 ∷ 4 ∷ 0 ∷ []) ∷ Some (0 ∷ 0 ∷ 0 ∷ []) ∷ Some (0 ∷ 4 ∷ 0 ∷ []) ∷ []) ∷ [] }
+    ensures counts { of_all late_claim_and_no_row (counts_after late_claim_and_no_row 0) ≡ replicate 3 (0 ∷ 5 ∷ 0 ∷ []) }
+    ensures rows_after { of_all late_claim_and_no_row (rows_in late_claim_and_no_row 1) ≡ replicate 3 (Some (0 ∷ 0 ∷ 1 ∷ []) ∷ Some (0 ∷ 0 ∷ 1 ∷ []) ∷ Some (0 ∷ 0 ∷ 0 ∷ []) ∷ []) }
+    ensures counts_after { of_all late_claim_and_no_row (counts_after late_claim_and_no_row 1) ≡ replicate 3 (0 ∷ 5 ∷ 5 ∷ []) }
+{}
+
+/// Another state, a claim that never comes and one that comes too early are three kinds of error.
+pub fn each_error_has_its_kind()
+    ensures rows { of_all wrong_state_and_claims (rows_in wrong_state_and_claims 0) ≡ replicate 3 (Some (0 ∷ 64 ∷ 32 ∷ []) ∷ Some (16 ∷ 0 ∷ 32 ∷ []) ∷ Some (16 ∷ 64 ∷ 0 ∷ []) ∷ []) }
+    ensures counts { of_all wrong_state_and_claims (counts_after wrong_state_and_claims 0) ≡ replicate 3 (5 ∷ 5 ∷ 5 ∷ []) }
+{}
+
+/// Nodes claim a task from their run times on, and its sensor is due in the period that finishes it.
+pub fn a_sensor_is_read_when_its_task_finishes()
+    ensures done { of_all sensor_of_a_task (done_in sensor_of_a_task 0) ≡ replicate 3 (Plain 0 ∷ Plain 255 ∷ Plain 255 ∷ []) }
+    ensures done_after { of_all sensor_of_a_task (done_in sensor_of_a_task 1) ≡ replicate 3 (Plain 255 ∷ Plain 0 ∷ Plain 255 ∷ []) }
+    ensures due { map (λ p. due_in sensor_of_a_task p 0) (0 ∷ 1 ∷ 2 ∷ []) ≡ [] ∷ (0 ∷ []) ∷ [] ∷ [] }
+    ensures votes { map (λ p. vote_in sensor_of_a_task p 0) (0 ∷ 1 ∷ 2 ∷ []) ≡ (None ∷ []) ∷ (Some (pos 5) ∷ []) ∷ (None ∷ []) ∷ [] }
+{}
+
+/// A state channel starts, is voted and steps from the last vote. A full node that hears no values votes its own. A joining one has no vote, and steps from the own value that it kept.
+pub fn a_state_channel_steps_from_the_last_vote()
+    ensures owns { map (λ p. of_all steps_alone (own_value_in steps_alone p)) (0 ∷ 1 ∷ 2 ∷ 3 ∷ []) ≡ (pos 10 ∷ pos 12 ∷ pos 14 ∷ []) ∷ (pos 15 ∷ pos 15 ∷ pos 15 ∷ []) ∷ (pos 18 ∷ pos 18 ∷ pos 3 ∷ []) ∷ (pos 21 ∷ pos 21 ∷ pos 6 ∷ []) ∷ [] }
+    ensures votes { map (λ p. of_all steps_alone (vote_in steps_alone p)) (0 ∷ 1 ∷ 2 ∷ 3 ∷ []) ≡ replicate 3 (Some (pos 12) ∷ []) ∷ replicate 3 (Some (pos 15) ∷ []) ∷ ((Some (pos 18) ∷ []) ∷ (Some (pos 18) ∷ []) ∷ (None ∷ []) ∷ []) ∷ replicate 3 (Some (pos 21) ∷ []) ∷ [] }
+    ensures modes { map (λ p. mode_in steps_alone p 2) (1 ∷ 2 ∷ 3 ∷ []) ≡ Mode.Full ∷ Mode.Joining ∷ Mode.Full ∷ [] }
+    ensures row { rows_in steps_alone 3 0 ≡ Some (0 ∷ 0 ∷ 136 ∷ []) ∷ Some (0 ∷ 0 ∷ 136 ∷ []) ∷ Some (0 ∷ 0 ∷ 0 ∷ []) ∷ [] }
+{}
+
+/// A node that is excluded stays full, is left out of votes and rows, and comes back.
+pub fn an_excluded_node_comes_back()
+    ensures members { map (λ p. members_before excluded_and_back p 2) (0 ∷ 1 ∷ 2 ∷ []) ≡ (0 ∷ 1 ∷ 2 ∷ []) ∷ (0 ∷ 1 ∷ []) ∷ (0 ∷ 1 ∷ 2 ∷ []) ∷ [] }
+    ensures mode { mode_in excluded_and_back 1 2 ≡ Mode.Full }
+    ensures votes { map (λ p. of_all excluded_and_back (vote_in excluded_and_back p)) (0 ∷ 1 ∷ 2 ∷ []) ≡ replicate 3 (Some (pos 5) ∷ []) ∷ replicate 3 (Some (pos 3) ∷ []) ∷ replicate 3 (Some (pos 5) ∷ []) ∷ [] }
+    ensures rows { of_all excluded_and_back (rows_in excluded_and_back 1) ≡ replicate 3 (Some (0 ∷ 0 ∷ 0 ∷ []) ∷ Some (0 ∷ 0 ∷ 0 ∷ []) ∷ None ∷ []) }
+    ensures counts { map (λ p. counts_after excluded_and_back p 2) (0 ∷ 1 ∷ 2 ∷ []) ≡ (0 ∷ 0 ∷ 5 ∷ []) ∷ (0 ∷ 0 ∷ 0 ∷ []) ∷ (0 ∷ 0 ∷ 0 ∷ []) ∷ [] }
 {}
 
 /// The premises of the laws can be met with an asymmetric node.
