@@ -12,6 +12,8 @@ pub mod Saying
 pub mod Accepted
 pub mod Safe
 pub use Rattle.node_grid.specs.Capacity
+pub use Rattle.node_grid.specs.Version
+pub use Rattle.node_grid.specs.Kinds
 pub use Rattle.node_grid.specs.Class
 pub use Rattle.node_grid.specs.Count
 pub use Rattle.node_grid.specs.NodeSet
