@@ -5,4 +5,5 @@ pub mod NodeSet
 pub mod NodeSetLaws
 pub mod Matrix
 pub mod Count
+pub mod Planes
 pub mod Class

@@ -1,4 +1,4 @@
-//! Sets of nodes, classes of nodes, rows of accusations, and matrices of such rows.
+//! Sets of nodes, classes of nodes, rows of accusations, matrices of such rows, and counts by planes of bits.
 //!
 //! Nodes are numbers below a capacity `N`, which is 8 or 16. Nothing here takes memory or refuses anything.
 #![tactic(auto)]
@@ -7,10 +7,12 @@ mod class;
 pub mod kind;
 mod matrix;
 mod node_set;
+mod planes;
 
 pub use class::Class;
 pub use matrix::{Matrix, Row};
 pub use node_set::{Ids, NodeSet};
+pub use planes::Planes;
 
 /// In place of a task, where none is claimed.
 pub const NO_CLAIM: u8 = 255;

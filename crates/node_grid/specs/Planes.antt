@@ -1,0 +1,12 @@
+-- Counts of all kinds of error for each node, as planes of bits.
+use Rattle.std.specs.Prelude.{ℕ, ◌+◌, ◌*◌, ◌<◌, List, [], ◌∷◌, slice_index}
+use Rattle.std.specs.Int.{bit_at}
+
+-- the count of node j and kind k: the planes have its bits, the lowest first
+abbrev pub count_at : List (List ℕ) → ℕ → ℕ → ℕ
+count_at [] j k = 0
+count_at (plane ∷ planes) j k = bit_at (slice_index plane j) k + 2 * count_at planes j k
+
+-- for each of the n nodes and each kind
+abbrev pub EachCount : ℕ → (ℕ → ℕ → Type 0) → Type 0
+EachCount n P = (j k : ℕ) → j < n → k < 16 → P j k
