@@ -1,7 +1,6 @@
 -- What one more member adds to the counts of voters and accusers.
-use Rattle.std.proofs.Common.{◌≡◌, ◌≢◌, ℕ, ◌+◌, ◌/◌, ◌^◌, ◌≤◌, length, length-append, append_assoc, Bool, true, false, not, ◌&&◌, List, ◌∷◌, [], ◌++◌, Option, None, Some, get_or, bit_and, refl, sym, ap, ◌∙◌, arith, eq-eqb}
+use Rattle.std.proofs.Common.{◌≡◌, ◌≢◌, ℕ, ◌+◌, ◌/◌, ◌^◌, ◌≤◌, length, length-append, append_assoc, Bool, true, false, List, ◌∷◌, [], ◌++◌, Option, get_or, bit_and, refl, sym, ap, ◌∙◌, arith, eq-eqb}
 use Rattle.std.specs.Prelude.{◌==◌}
-use Rattle.std.specs.Int.{bit_at}
 use Rattle.std.proofs.lemmas.Nat.Bits.{shr_and_one}
 use Rattle.node_grid.specs.Count.{count, bit}
 use Rattle.node_grid.specs.Matrix.{row_at}

@@ -21,9 +21,13 @@ abbrev pub row_accuses : Option (List ℕ) → ℕ → ℕ → Bool
 row_accuses None j k = false
 row_accuses (Some row) j k = accuses row j k
 
+-- whether node q has a row
+abbrev pub is_sender : List (Option (List ℕ)) → ℕ → Bool
+is_sender rows q = is_row (row_at rows q)
+
 -- whether the row of node q counts on node j: it is there, and isn't j's own
 abbrev pub is_voter : List (Option (List ℕ)) → ℕ → ℕ → Bool
-is_voter rows j q = not (q == j) && is_row (row_at rows q)
+is_voter rows j q = not (q == j) && is_sender rows q
 
 abbrev pub is_accuser : List (Option (List ℕ)) → ℕ → ℕ → ℕ → Bool
 is_accuser rows j k q = not (q == j) && row_accuses (row_at rows q) j k

@@ -1,4 +1,4 @@
 pub mod Charge
 pub mod Notes
-pub mod MaskLaws
 pub mod ChargeLaws
+pub use Rattle.node_grid.specs.MaskLaws

@@ -6,9 +6,11 @@
 #![tactic(auto)]
 
 mod charge;
+mod charge_all;
 mod row_builder;
 
 pub use charge::charged;
+pub use charge_all::charged_all;
 pub use row_builder::RowBuilder;
 
 #[cfg(test)]

@@ -1,5 +1,5 @@
 -- Counts in planes of bits: one plane further, one addition further, and comparisons.
-use Rattle.std.proofs.Common.{◌≡◌, ◌≢◌, ℕ, zero, suc, ◌+◌, ◌*◌, ◌/◌, ◌%◌, ◌^◌, ◌<◌, ◌≤◌, min, max, Bool, true, false, List, [], ◌∷◌, ◌++◌, length, take, get_or, set, bit_and, refl, sym, ap, ap₂, ◌∙◌, arith, length-take-le, take_all, pow_pos}
+use Rattle.std.proofs.Common.{◌≡◌, ◌≢◌, ℕ, zero, suc, ◌+◌, ◌*◌, ◌/◌, ◌%◌, ◌^◌, ◌<◌, ◌≤◌, min, max, Bool, List, [], ◌∷◌, ◌++◌, length, take, get_or, set, bit_and, refl, sym, ap, ap₂, ◌∙◌, arith, length-take-le, take_all, pow_pos}
 use Rattle.std.specs.Prelude.{◌==◌, nat_lt, bit_xor, bit_or}
 use Rattle.std.specs.Int.{bit_at}
 use Rattle.std.proofs.lemmas.List.{take_more, take_more_set}
@@ -66,11 +66,10 @@ added_next old new sums carry carry' mask i j k in_old in_new same is_sum is_car
     let half : bit_at (bit_xor word (get_or carry j 0)) k + 2 * bit_at (bit_and word (get_or carry j 0)) k ≡ bit_at word k + bit_at (get_or carry j 0) k = half_added word (get_or carry j 0) k in
     let twice : 2 ^ (i + 1) ≡ 2 ^ i * 2 = let e : i + 1 ≡ suc i = omega arith in ap (λ n. 2 ^ n) e ∙ pow-suc 2 i in
     rw (low-set new i sums j k in_new, low-more old i j k in_old, is_sum, is_carry, same, twice)
-      (carried (2 ^ i) (count_at (take i new) j k) (count_at (take i old) j k) (bit_at word k) (bit_at (get_or carry j 0) k) _ _ (bit_at (get_or mask j 0) k) before half)
+    (carried (2 ^ i) (count_at (take i new) j k) (count_at (take i old) j k) (bit_at word k) (bit_at (get_or carry j 0) k) _ _ (bit_at (get_or mask j 0) k) before half)
 
 none_left : (new carry before bit : ℕ) → new + 32 * carry ≡ before + bit → before < 31 → bit < 2 → new ≡ before + bit
 none_left new carry before bit h few one = omega arith
-
 
 pub added_all : (old new : List (List ℕ)) (carry mask : List ℕ) (i j k : ℕ) → i ≡ 5 → length old ≡ 5 → length new ≡ 5
     → count_at (take i new) j k + 2 ^ i * bit_at (get_or carry j 0) k ≡ count_at (take i old) j k + bit_at (get_or mask j 0) k
@@ -113,8 +112,8 @@ above_next_one planes limit above i j k within set before =
     let word : ℕ = get_or (get_or planes i []) j 0 in
     let one : bit_at limit i ≡ 1 = sym (shr_and_one limit i) ∙ set in
     rw (bit_at_and above word k, limit-next limit i, low-more planes i j k within, one)
-      (above_one (bit_at above k) (limit % 2 ^ i) (2 ^ i) (count_at (take i planes) j k) (bit_at word k)
-        (mod-lt-pow limit i) (low-lt planes i j k (omega arith)) (bit_at-lt word k) (bit_at-lt above k) before)
+    (above_one (bit_at above k) (limit % 2 ^ i) (2 ^ i) (count_at (take i planes) j k) (bit_at word k)
+    (mod-lt-pow limit i) (low-lt planes i j k (omega arith)) (bit_at-lt word k) (bit_at-lt above k) before)
 
 pub above_next_zero : (planes : List (List ℕ)) (limit above i j k : ℕ) → i < length planes → bit_and (limit / 2 ^ i) 1 ≢ 1
     → (bit_at above k == 1) ≡ nat_lt (limit % 2 ^ i) (count_at (take i planes) j k)
@@ -123,8 +122,8 @@ above_next_zero planes limit above i j k within clear before =
     let word : ℕ = get_or (get_or planes i []) j 0 in
     let none : bit_at limit i ≡ 0 = let e = shr_and_one limit i in let l = bit_at-lt limit i in let n : bit_at limit i ≢ 1 = λ q. clear (e ∙ q) in omega arith in
     rw (bit_at_or above word k, limit-next limit i, low-more planes i j k within, none)
-      (above_zero (bit_at above k) (limit % 2 ^ i) (2 ^ i) (count_at (take i planes) j k) (bit_at word k)
-        (mod-lt-pow limit i) (low-lt planes i j k (omega arith)) (bit_at-lt word k) (bit_at-lt above k) before)
+    (above_zero (bit_at above k) (limit % 2 ^ i) (2 ^ i) (count_at (take i planes) j k) (bit_at word k)
+    (mod-lt-pow limit i) (low-lt planes i j k (omega arith)) (bit_at-lt word k) (bit_at-lt above k) before)
 
 pub above_all : (planes : List (List ℕ)) (limit i j k : ℕ) → i ≡ 5 → length planes ≡ 5 → limit ≤ 31
     → nat_lt (limit % 2 ^ i) (count_at (take i planes) j k) ≡ nat_lt limit (count_at planes j k)

@@ -5,5 +5,6 @@ pub mod NodeSet
 pub mod NodeSetLaws
 pub mod Matrix
 pub mod Count
+pub mod MaskLaws
 pub mod Planes
 pub mod Class

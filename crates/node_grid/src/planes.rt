@@ -1,7 +1,7 @@
-ghost use Rattle.std.specs.Prelude.{◌≡◌, ℕ, ◌+◌, ◌*◌, ◌==◌, ◌<◌, ◌≤◌, nat_lt, slice_index, replicate, bit_xor, bit_and};
+ghost use Rattle.std.specs.Prelude.{◌≡◌, ℕ, ◌+◌, ◌<◌, ◌≤◌, slice_index, replicate, bit_xor, bit_and};
 ghost use Rattle.std.specs.Int.{bit_at};
 ghost use Rattle.node_grid.specs.Capacity.{IsCapacity};
-ghost use Rattle.node_grid.specs.Planes.{count_at, EachCount};
+ghost use Rattle.node_grid.specs.Planes.{count_at, EachCount, more_mask};
 
 use crate::Row;
 use std::marker::Model;
@@ -66,7 +66,7 @@ impl<const N: usize> Planes<N> {
     pub fn more_than(&self, limits: &[u8; N]) -> Row<N>
         requires capacity { IsCapacity N }
         requires limits { (j : ℕ) → j < N → slice_index limits.now j ≤ 31 }
-        ensures { EachCount N (λ j k. (bit_at (slice_index result j) k == 1) ≡ nat_lt (slice_index limits.now j) (count_at self.now j k)) }
+        ensures { (j : ℕ) → j < N → slice_index result j ≡ more_mask self.now j (slice_index limits.now j) }
     {
         let mut row = Row::zero();
         for node in 0..N {
@@ -81,7 +81,7 @@ fn above<const N: usize>(planes: &[[u16; N]; PLANES], node: usize, limit: u8) ->
     requires capacity { IsCapacity N }
     requires node { node < N }
     requires limit { limit ≤ 31 }
-    ensures { (k : ℕ) → k < 16 → (bit_at result k == 1) ≡ nat_lt limit (count_at planes.now node k) }
+    ensures { result ≡ more_mask planes.now node limit }
 {
     let mut above = 0;
     for (place, plane) in planes.iter().enumerate() {

@@ -1,6 +1,6 @@
-use Rattle.std.proofs.Common.{◌≡◌, ℕ, ◌%◌, ◌*◌, ◌^◌, Bool, true, false, bit_or, sym, ap, ◌∙◌}
+use Rattle.std.proofs.Common.{ℕ, ◌%◌, ◌*◌, ◌^◌, Bool, bit_or, sym, ap, ◌∙◌}
 use Rattle.error_reports.specs.Charge.{charged}
-use Rattle.error_reports.specs.MaskLaws.{mask-set, mask-clear}
+use Rattle.node_grid.specs.MaskLaws.{mask-set, mask-clear}
 use Rattle.error_reports.proofs.charge.charged.Goals as goal
 use Rattle.error_reports.proofs.charge.charged.Goals.{then-is_charged, else-is_charged}
 

@@ -1,8 +1,8 @@
-use Rattle.std.proofs.Common.{◌≡◌, ◌+◌, true, false, List, [], ◌++◌, None, Some, refl, sym, ap, ◌∙◌, arith, append-nil, subst, ℕ}
+use Rattle.std.proofs.Common.{◌≡◌, true, false, ◌++◌, None, Some, refl, sym, ap, ◌∙◌, arith, append-nil}
 use Rattle.node_grid.specs.Count.{count}
 use Rattle.node_grid.specs.Matrix.{row_at}
 use Rattle.error_reports.specs.Charge.{accuses, is_voter, is_accuser, charged}
-use Rattle.error_reports.proofs.Voting.{Tally, Tally-more, split_more, own_voter, own_accuser, voter_by_row, accuser_by_row, accuses-yes, accuses-no}
+use Rattle.error_reports.proofs.Voting.{Tally-more, split_more, own_voter, own_accuser, voter_by_row, accuser_by_row, accuses-yes, accuses-no}
 use Rattle.error_reports.proofs.charge.is_charged.Goals as goal
 
 pub loop-member-preserved-then-row-node-eq1 : goal.loop-member-preserved-then-row-node-eq1

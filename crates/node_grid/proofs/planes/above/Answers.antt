@@ -1,4 +1,7 @@
 use Rattle.std.proofs.Common.{◌<◌, length, ◌∙◌, arith}
+use Rattle.std.specs.Prelude.{nat_lt}
+use Rattle.node_grid.specs.Planes.{count_at, more_mask}
+use Rattle.node_grid.specs.MaskLaws.{mask_from_bits}
 use Rattle.node_grid.proofs.Counting.{above_next_one, above_next_zero, above_all}
 use Rattle.node_grid.proofs.planes.above.Goals as goal
 use Rattle.node_grid.proofs.planes.above.Goals.{then-limit-place-eq1, else-limit-place-eq1}
@@ -15,5 +18,10 @@ loop-place-preserved g c =
     ]
 
 pub returns : goal.returns
-returns g c = λ k few.
-    c.loop-place.invariant k few ∙ above_all c.args.planes.now c.args.limit c.loop-place.place c.args.node k (omega arith) c.told-planes c.requires.limit
+unfolding more_mask
+returns g c =
+    let planes = c.args.planes.now in
+    let limit = c.args.limit in
+    let node = c.args.node in
+    mask_from_bits c.loop-place.above (λ k. nat_lt limit (count_at planes node k)) 16 (omega arith) (omega (arith, c.loop-place.auto.above-fits))
+    (λ k few. c.loop-place.invariant k few ∙ above_all planes limit c.loop-place.place node k (omega arith) c.told-planes c.requires.limit)

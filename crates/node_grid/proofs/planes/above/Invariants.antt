@@ -1,6 +1,6 @@
-use Rattle.std.proofs.Common.{◌≡◌, ℕ, ◌+◌, ◌*◌, ◌^◌, ◌==◌, ◌<◌, ◌≤◌, nat_lt, length, take, get_or, [], ◌%◌, bit_xor, bit_and}
+use Rattle.std.proofs.Common.{◌≡◌, ℕ, ◌^◌, ◌==◌, ◌<◌, nat_lt, take, ◌%◌}
 use Rattle.std.specs.Int.{bit_at}
-use Rattle.node_grid.specs.Planes.{count_at, EachCount}
+use Rattle.node_grid.specs.Planes.{count_at}
 use Rattle.node_grid.proofs.planes.above.Given as goal
 
 abbrev pub invariant-loop-place : goal.invariant-loop-place

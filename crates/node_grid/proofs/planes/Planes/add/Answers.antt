@@ -1,4 +1,4 @@
-use Rattle.std.proofs.Common.{◌≡◌, ℕ, ◌+◌, ◌*◌, get_or, [], ◌<◌, ap, ap₂, ◌∙◌, arith, length-set, get_or-set_other}
+use Rattle.std.proofs.Common.{◌≡◌, ◌+◌, get_or, [], ◌<◌, ap, ap₂, ◌∙◌, arith, length-set, get_or-set_other}
 use Rattle.std.specs.Int.{bit_at}
 use Rattle.node_grid.specs.Planes.{count_at}
 use Rattle.node_grid.proofs.Counting.{added_next, added_all}
@@ -13,7 +13,7 @@ loop-plane-preserved g c =
     let was = c.loop-plane.invariant in
     record {
       low = λ j k in_use few.
-        added_next old new sums c.loop-plane.carry c.carry_bits-carry.result c.row.inside.masks i j k (omega (arith, c.self.told)) (omega (arith, was.wide)) (was.high i (omega arith))
+          added_next old new sums c.loop-plane.carry c.carry_bits-carry.result c.row.inside.masks i j k (omega (arith, c.self.told)) (omega (arith, was.wide)) (was.high i (omega arith))
           (c.sum_bits.ensures j in_use) (c.carry_bits-carry.ensures j in_use) (was.low j k in_use few);
       wide = length-set new i sums ∙ was.wide;
       high = λ x above. get_or-set_other new i x sums [] (λ e. omega arith) ∙ was.high x (omega arith);

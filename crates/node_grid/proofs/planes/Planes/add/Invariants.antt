@@ -1,4 +1,4 @@
-use Rattle.std.proofs.Common.{◌≡◌, ℕ, ◌+◌, ◌*◌, ◌^◌, ◌==◌, ◌<◌, ◌≤◌, nat_lt, length, take, get_or, [], ◌%◌, bit_xor, bit_and}
+use Rattle.std.proofs.Common.{◌≡◌, ℕ, ◌+◌, ◌*◌, ◌^◌, ◌≤◌, length, take, get_or, []}
 use Rattle.std.specs.Int.{bit_at}
 use Rattle.node_grid.specs.Planes.{count_at, EachCount}
 use Rattle.node_grid.proofs.planes.Planes.add.Given as goal

@@ -1,5 +1,5 @@
 -- The mask of the kinds that pass a test: one kind further, and kind by kind.
-use Rattle.std.proofs.Common.{◌≡◌, ◌≢◌, ℕ, zero, suc, ◌+◌, ◌*◌, ◌%◌, ◌^◌, ◌<◌, ◌≤◌, bit_or, Bool, true, false, cond, not, ◌||◌, List, [], ◌∷◌, ◌++◌, refl, sym, ap, ◌∙◌, arith, inl, inr, pow_pos}
+use Rattle.std.proofs.Common.{◌≡◌, ◌≢◌, ℕ, zero, suc, ◌+◌, ◌*◌, ◌%◌, ◌^◌, ◌<◌, ◌≤◌, bit_or, Bool, true, false, cond, not, ◌||◌, [], ◌∷◌, ◌++◌, refl, sym, ap, ◌∙◌, arith, inl, inr, pow_pos}
 use Rattle.std.specs.Prelude.{◌==◌}
 use Rattle.std.specs.List.{filter, list_any}
 use Rattle.std.specs.Int.{bit_at, w16}
@@ -9,10 +9,11 @@ use Rattle.std.proofs.lemmas.List.FromFn.{filter_of_map_range_with_len_more, map
 use Rattle.std.proofs.lemmas.List.Folds.{list_any-append}
 use Rattle.std.proofs.lemmas.List.Sums.{sum_by-append, sum_by-cons}
 use Rattle.std.proofs.lemmas.Nat.{or_comm, or_shifted}
-use Rattle.std.proofs.lemmas.Nat.Bits.{bit_at_set_same, bit_at_set_other, bit_at_above}
+use Rattle.std.proofs.lemmas.Nat.Bits.{bit_at_set_same, bit_at_set_other, bit_at_above, bit_at-lt, same_from_bits_below}
 use Rattle.std.proofs.Math.Nat.{pow-suc}
 use Rattle.std.proofs.Math.Pow.{pow-lt}
 use Rattle.node_grid.specs.NodeSet.{ids_below, ids_where, mask_of}
+use Rattle.node_grid.specs.NodeSetLaws.{filter_range}
 
 pub ids_where-more : (p : ℕ → Bool) (n : ℕ) → ids_where p (n + 1) ≡ ids_where p n ++ cond (p n) (n ∷ []) []
 ids_where-more p n =
@@ -113,3 +114,15 @@ mask-none p zero = refl
 mask-none p (suc n) =
     let next : suc n ≡ n + 1 = omega arith in
     ap (λ i. mask_of (ids_where p i) == 0) next ∙ none_more p n (mask-none p n) (p n) refl ∙ ap (λ i. not (list_any p (ids_below i))) (sym next)
+
+same_bit : (x y : ℕ) → x < 2 → y < 2 → (x == 1) ≡ (y == 1) → x ≡ y
+same_bit x y h l e = grind arith
+
+-- a mask is known by its bits
+pub mask_from_bits : (mask : ℕ) (p : ℕ → Bool) (n : ℕ) → n ≤ 16 → mask < 2 ^ n → ((k : ℕ) → k < n → (bit_at mask k == 1) ≡ p k) → mask ≡ mask_of (ids_where p n)
+mask_from_bits mask p n few fits bits = same_from_bits_below n mask (mask_of (ids_where p n)) fits (mask-fits p n)
+    (λ k within. same_bit (bit_at mask k) (bit_at (mask_of (ids_where p n)) k) (bit_at-lt mask k) (bit_at-lt (mask_of (ids_where p n)) k) (bits k within ∙ sym (mask-has p n k few within)))
+
+-- tests that agree below n have the same mask
+pub same_masks : (p q : ℕ → Bool) (n : ℕ) → ((k : ℕ) → k < n → p k ≡ q k) → mask_of (ids_where p n) ≡ mask_of (ids_where q n)
+same_masks p q n same = ap mask_of (filter_range p q 0 n (λ k l u. same k (omega arith)))
