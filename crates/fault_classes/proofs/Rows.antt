@@ -5,7 +5,7 @@ use Rattle.node_grid.specs.declared.class.Class.TheVariants.{N, J, B, S, A}
 use Rattle.node_grid.specs.NodeSet.{ids_below}
 use Rattle.fault_classes.specs.declared.line.Restart.{Restart}
 use Rattle.fault_classes.specs.Change.{Change}
-use Rattle.fault_classes.specs.Change.Change.{Lost, Shortened, Timed, Patched, Replaced}
+use Rattle.fault_classes.specs.Change.Change.{Drop, Cut, Time, Set, Raw}
 use Rattle.fault_classes.specs.Line.{Line, effect_at}
 use Rattle.fault_classes.specs.Plan.{Plan, class_of, sound_before, reference_of}
 
@@ -24,10 +24,10 @@ recovers = record {
   nodes = 5;
   rounds = 0;
   periods = 3;
-  lines = line 4 (0 ∷ 1 ∷ []) 0 0 (0 ∷ []) Lost
-      ∷ line 3 (1 ∷ []) 0 0 (3 ∷ []) (Patched 22 (0 ∷ 1 ∷ []))
-      ∷ line 3 (0 ∷ []) 1 1 (0 ∷ []) Lost
-      ∷ line 4 (0 ∷ []) 1 1 (0 ∷ []) Lost ∷ [];
+  lines = line 4 (0 ∷ 1 ∷ []) 0 0 (0 ∷ []) Drop
+      ∷ line 3 (1 ∷ []) 0 0 (3 ∷ []) (Set 22 (0 ∷ 1 ∷ []))
+      ∷ line 3 (0 ∷ []) 1 1 (0 ∷ []) Drop
+      ∷ line 4 (0 ∷ []) 1 1 (0 ∷ []) Drop ∷ [];
   restarts = restart 0 1 ∷ [];
 }
 
@@ -62,9 +62,9 @@ amid_liars = record {
   nodes = 5;
   rounds = 0;
   periods = 3;
-  lines = line 1 (0 ∷ 2 ∷ 3 ∷ 4 ∷ []) 2 2 (0 ∷ []) (Patched 16 (0 ∷ 7 ∷ []))
-      ∷ line 2 (0 ∷ 1 ∷ 3 ∷ 4 ∷ []) 2 2 (0 ∷ []) (Patched 16 (0 ∷ 7 ∷ []))
-      ∷ line 3 (0 ∷ 1 ∷ 2 ∷ 4 ∷ []) 2 2 (0 ∷ []) (Patched 16 (0 ∷ 7 ∷ [])) ∷ [];
+  lines = line 1 (0 ∷ 2 ∷ 3 ∷ 4 ∷ []) 2 2 (0 ∷ []) (Set 16 (0 ∷ 7 ∷ []))
+      ∷ line 2 (0 ∷ 1 ∷ 3 ∷ 4 ∷ []) 2 2 (0 ∷ []) (Set 16 (0 ∷ 7 ∷ []))
+      ∷ line 3 (0 ∷ 1 ∷ 2 ∷ 4 ∷ []) 2 2 (0 ∷ []) (Set 16 (0 ∷ 7 ∷ [])) ∷ [];
   restarts = restart 4 2 ∷ [];
 }
 
@@ -78,7 +78,7 @@ at_a_tie nodes = record {
   nodes = nodes;
   rounds = 0;
   periods = 2;
-  lines = line 1 (2 ∷ []) 1 1 (0 ∷ []) (Replaced []) ∷ [];
+  lines = line 1 (2 ∷ []) 1 1 (0 ∷ []) (Raw []) ∷ [];
   restarts = restart 2 1 ∷ [];
 }
 
@@ -92,11 +92,11 @@ silent = record {
   nodes = 3;
   rounds = 0;
   periods = 1;
-  lines = line 0 (1 ∷ []) 0 0 (0 ∷ 1 ∷ 2 ∷ 3 ∷ []) Lost
-      ∷ line 0 (2 ∷ []) 0 0 (0 ∷ 1 ∷ []) (Shortened 3)
-      ∷ line 0 (2 ∷ []) 0 0 (2 ∷ 3 ∷ []) (Timed 30)
-      ∷ line 1 (0 ∷ []) 0 0 (1 ∷ []) (Replaced (5 ∷ []))
-      ∷ line 1 (2 ∷ []) 0 0 (1 ∷ []) (Replaced (5 ∷ [])) ∷ [];
+  lines = line 0 (1 ∷ []) 0 0 (0 ∷ 1 ∷ 2 ∷ 3 ∷ []) Drop
+      ∷ line 0 (2 ∷ []) 0 0 (0 ∷ 1 ∷ []) (Cut 3)
+      ∷ line 0 (2 ∷ []) 0 0 (2 ∷ 3 ∷ []) (Time 30)
+      ∷ line 1 (0 ∷ []) 0 0 (1 ∷ []) (Raw (5 ∷ []))
+      ∷ line 1 (2 ∷ []) 0 0 (1 ∷ []) (Raw (5 ∷ [])) ∷ [];
   restarts = [];
 }
 
@@ -104,6 +104,6 @@ silent_0 : classes_in silent 0 ≡ B ∷ S ∷ N ∷ []
 unfolding classes_in silent line class_of sound_before
 silent_0 = refl
 
-silent_effects : (effect_at silent.lines 0 2 0 2 ≡ Some (Timed 30)) × (effect_at silent.lines 0 0 0 2 ≡ Some (Shortened 3)) × (effect_at silent.lines 0 0 1 0 ≡ None)
+silent_effects : (effect_at silent.lines 0 2 0 2 ≡ Some (Time 30)) × (effect_at silent.lines 0 0 0 2 ≡ Some (Cut 3)) × (effect_at silent.lines 0 0 1 0 ≡ None)
 unfolding silent line
 silent_effects = (refl, refl, refl)

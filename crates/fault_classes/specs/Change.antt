@@ -2,40 +2,40 @@
 use Rattle.std.specs.Prelude.{ℕ, Bool, true, false, ◌&&◌, ◌==◌, List, Option, None, Some}
 use Rattle.std.specs.Cmp.Lexicographic.{pointwise}
 use Rattle.fault_classes.specs.declared.effect.Effect.{Effect}
-use Rattle.fault_classes.specs.declared.effect.Effect.TheVariants.{Drop, Cut, Twice, Time, Set, Raw}
+use Rattle.fault_classes.specs.declared.effect.Effect.TheVariants as code
 
 pub data Change : Type 0 where
-  Lost : Change
-  Shortened : ℕ → Change
-  Doubled : Change
-  Timed : ℕ → Change
-  Patched : ℕ → List ℕ → Change
-  Replaced : List ℕ → Change
+  Drop : Change
+  Cut : ℕ → Change
+  Twice : Change
+  Time : ℕ → Change
+  Set : ℕ → List ℕ → Change
+  Raw : List ℕ → Change
 
 abbrev pub change_of : Effect → Change
-change_of Drop = Lost
-change_of (Cut k) = Shortened k
-change_of Twice = Doubled
-change_of (Time t) = Timed t
-change_of (Set at bytes) = Patched at bytes.items
-change_of (Raw bytes) = Replaced bytes.items
+change_of code.Drop = Drop
+change_of (code.Cut k) = Cut k
+change_of code.Twice = Twice
+change_of (code.Time t) = Time t
+change_of (code.Set at bytes) = Set at bytes.items
+change_of (code.Raw bytes) = Raw bytes.items
 
 -- whether every receiver sees by itself that the frame is faulty
 abbrev pub is_manifest_change : Change → Bool
-is_manifest_change Lost = true
-is_manifest_change (Shortened k) = true
-is_manifest_change Doubled = true
-is_manifest_change (Timed t) = true
-is_manifest_change (Patched at bytes) = false
-is_manifest_change (Replaced bytes) = false
+is_manifest_change Drop = true
+is_manifest_change (Cut k) = true
+is_manifest_change Twice = true
+is_manifest_change (Time t) = true
+is_manifest_change (Set at bytes) = false
+is_manifest_change (Raw bytes) = false
 
 abbrev pub same_change : Change → Change → Bool
-same_change Lost Lost = true
-same_change (Shortened j) (Shortened k) = j == k
-same_change Doubled Doubled = true
-same_change (Timed s) (Timed t) = s == t
-same_change (Patched a xs) (Patched b ys) = a == b && pointwise ◌==◌ xs ys
-same_change (Replaced xs) (Replaced ys) = pointwise ◌==◌ xs ys
+same_change Drop Drop = true
+same_change (Cut j) (Cut k) = j == k
+same_change Twice Twice = true
+same_change (Time s) (Time t) = s == t
+same_change (Set a xs) (Set b ys) = a == b && pointwise ◌==◌ xs ys
+same_change (Raw xs) (Raw ys) = pointwise ◌==◌ xs ys
 same_change _ _ = false
 
 -- what befalls a frame is None where no line touches it

@@ -8,7 +8,7 @@ use Rattle.fault_classes.specs.declared.line.Restart.{Restart}
 use Rattle.fault_classes.specs.declared.error.PlanError.{PlanError}
 use Rattle.fault_classes.specs.declared.error.PlanError.TheVariants as error
 use Rattle.fault_classes.specs.Change.{Change}
-use Rattle.fault_classes.specs.Change.Change.{Lost, Shortened, Doubled, Timed, Patched, Replaced}
+use Rattle.fault_classes.specs.Change.Change.{Drop, Cut, Twice, Time, Set, Raw}
 use Rattle.fault_classes.specs.Line.{Line, shares}
 use Rattle.fault_classes.specs.Plan.{Plan, slot_count}
 
@@ -16,12 +16,12 @@ abbrev pub is_within : ℕ → ℕ → ℕ → Bool
 is_within low high x = nat_le low x && nat_le x high
 
 abbrev pub is_change : Change → Bool
-is_change Lost = true
-is_change (Shortened k) = is_within 1 4096 k
-is_change Doubled = true
-is_change (Timed t) = nat_le t 30 && not (is_within 10 20 t)
-is_change (Patched at bytes) = nat_le at 4095 && is_within 1 4096 (length bytes)
-is_change (Replaced bytes) = nat_le (length bytes) 4096
+is_change Drop = true
+is_change (Cut k) = is_within 1 4096 k
+is_change Twice = true
+is_change (Time t) = nat_le t 30 && not (is_within 10 20 t)
+is_change (Set at bytes) = nat_le at 4095 && is_within 1 4096 (length bytes)
+is_change (Raw bytes) = nat_le (length bytes) 4096
 
 -- it has some, and only below the limit
 abbrev pub are_below : ℕ → List ℕ → Bool

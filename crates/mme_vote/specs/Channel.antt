@@ -1,5 +1,5 @@
 -- What a channel says of itself.
-use Rattle.std.specs.Prelude.{ℕ, ℤ, Option, None}
+use Rattle.std.specs.Prelude.{ℕ, ℤ, pos, Option, None}
 use Rattle.mme_vote.specs.declared.channel.Channel.{Channel}
 use Rattle.mme_vote.specs.declared.channel.Channel.TheVariants.{State, Sensor}
 
@@ -12,3 +12,7 @@ delta_of (Sensor delta task) = delta
 abbrev pub task_of : {n : ℕ} → Channel n → Option ℕ
 task_of (State delta start step) = None
 task_of (Sensor delta task) = task
+
+-- what stands in the places of a list that aren't in use
+abbrev pub no_channel : {n : ℕ} → Channel n
+no_channel = Sensor (pos 0) None

@@ -1,5 +1,5 @@
 ghost use Rattle.std.specs.Prelude.{◌≡◌};
-ghost use Rattle.mme_vote.specs.Channel.{delta_of, task_of};
+ghost use Rattle.mme_vote.specs.Channel.{delta_of, task_of, no_channel};
 
 /// A number that the nodes vote on: what each node's own value of it is, and how far a value may be from the vote.
 #[derive(Clone, Copy, Debug, PartialEq, Eq)]
@@ -24,6 +24,8 @@ pub enum Channel<const N: usize> {
 
 // What stands in the places of a list that aren't in use.
 impl<const N: usize> Default for Channel<N> {
+    ghost is_default = { λ channel. channel ≡ no_channel };
+
     fn default() -> Self {
         Channel::Sensor {
             delta: 0,

@@ -10,7 +10,7 @@ use Rattle.node_grid.specs.declared.class.Class.TheVariants.{N, J, B, S, A}
 use Rattle.node_grid.specs.Class.{is_nonfaulty, is_sound}
 use Rattle.node_grid.specs.Count.{count}
 use Rattle.fault_classes.specs.Change.{Change, is_untouched, is_manifest}
-use Rattle.fault_classes.specs.Change.Change.{Lost, Shortened, Doubled, Timed, Patched, Replaced}
+use Rattle.fault_classes.specs.Change.Change.{Drop, Cut, Twice, Time, Set, Raw}
 use Rattle.fault_classes.specs.Line.{Line, touches, effect_at}
 use Rattle.fault_classes.specs.Plan.{Plan, slot_count, nodes_of, slots_of, restarts_at, each_frame, is_clean, is_symmetric_in, steady, recovers_in, joins_in, sound_before, classify, class_of}
 use Rattle.fault_classes.specs.Rules.{is_within, is_change, is_line, first_bad_line, refusal_of}
@@ -45,12 +45,12 @@ at_least_one : (k : ℕ) → is_within 1 4096 k ≡ true → 0 < k
 at_least_one k h = grind (arith, nat_tests)
 
 change_fits : (c : Change) → is_change c ≡ true → IsChange (Some c)
-change_fits Lost h = tt
-change_fits (Shortened k) h = at_least_one k h
-change_fits Doubled h = tt
-change_fits (Timed t) h = not-true _ (and_parts (nat_le t 30) _ h).1
-change_fits (Patched at bytes) h = tt
-change_fits (Replaced bytes) h = tt
+change_fits Drop h = tt
+change_fits (Cut k) h = at_least_one k h
+change_fits Twice h = tt
+change_fits (Time t) h = not-true _ (and_parts (nat_le t 30) _ h).1
+change_fits (Set at bytes) h = tt
+change_fits (Raw bytes) h = tt
 
 line_change : (nodes slots periods : ℕ) (l : Line) → is_line nodes slots periods l ≡ true → is_change l.change ≡ true
 line_change nodes slots periods l h =

@@ -7,7 +7,7 @@ use Rattle.mme_vote.specs.declared.channel.Channel.{Channel}
 use Rattle.mme_vote.specs.declared.channel.Channel.TheVariants.{State, Sensor}
 use Rattle.fault_classes.specs.declared.line.Restart.{Restart}
 use Rattle.fault_classes.specs.Change.{Change}
-use Rattle.fault_classes.specs.Change.Change.{Lost, Timed, Patched}
+use Rattle.fault_classes.specs.Change.Change.{Drop, Time, Set}
 use Rattle.fault_classes.specs.Line.{Line}
 use Rattle.agreed_state.specs.declared.config.Config.{Config}
 use Rattle.protocol.specs.View.{no_further}
@@ -51,47 +51,47 @@ line from to period slots change = record { from = from; to = to; first = period
 
 -- node 4 is silent towards nodes 0 and 1 in slot 0
 abbrev pub half_accuses : System
-half_accuses = system 5 1 1 [] no_readings (line 4 (0 ∷ 1 ∷ []) 0 (0 ∷ []) Lost ∷ []) []
+half_accuses = system 5 1 1 [] no_readings (line 4 (0 ∷ 1 ∷ []) 0 (0 ∷ []) Drop ∷ []) []
 
 -- node 3 tells node 2 another row than the others
 abbrev pub two_rows : System
-two_rows = system 4 1 1 [] no_readings (line 3 (2 ∷ []) 0 (4 ∷ []) (Patched 14 (0 ∷ 2 ∷ [])) ∷ []) []
+two_rows = system 4 1 1 [] no_readings (line 3 (2 ∷ []) 0 (4 ∷ []) (Set 14 (0 ∷ 2 ∷ [])) ∷ []) []
 
 -- node 3 tells its row to node 0 alone
 abbrev pub lost_row : System
-lost_row = system 4 1 1 [] no_readings (line 3 (1 ∷ 2 ∷ []) 0 (4 ∷ []) Lost ∷ []) []
+lost_row = system 4 1 1 [] no_readings (line 3 (1 ∷ 2 ∷ []) 0 (4 ∷ []) Drop ∷ []) []
 
 -- node 3 sends 1000 to node 0, nothing to node 1 and -1000 to node 2
 abbrev pub three_values : System
 three_values = system 4 1 1 (Sensor (pos 4) None ∷ [])
     (λ i. slice_index_or (pos 10 ∷ pos 12 ∷ pos 14 ∷ pos 12 ∷ []) i (pos 0) ∷ replicate 7 (pos 0))
-    (line 3 (0 ∷ []) 0 (3 ∷ []) (Patched 14 (0 ∷ 0 ∷ 0 ∷ 0 ∷ 0 ∷ 0 ∷ 3 ∷ 232 ∷ []))
-    ∷ line 3 (1 ∷ []) 0 (3 ∷ []) Lost
-    ∷ line 3 (2 ∷ []) 0 (3 ∷ []) (Patched 14 (255 ∷ 255 ∷ 255 ∷ 255 ∷ 255 ∷ 255 ∷ 252 ∷ 24 ∷ [])) ∷ []) []
+    (line 3 (0 ∷ []) 0 (3 ∷ []) (Set 14 (0 ∷ 0 ∷ 0 ∷ 0 ∷ 0 ∷ 0 ∷ 3 ∷ 232 ∷ []))
+    ∷ line 3 (1 ∷ []) 0 (3 ∷ []) Drop
+    ∷ line 3 (2 ∷ []) 0 (3 ∷ []) (Set 14 (255 ∷ 255 ∷ 255 ∷ 255 ∷ 255 ∷ 255 ∷ 252 ∷ 24 ∷ [])) ∷ []) []
 
 -- node 5 tells half of the others another row, and node 6 relays the first one to nodes 0 and 1 in its place
 abbrev pub two_colluding : System
 two_colluding = system 7 2 1 [] no_readings
-    (line 5 (3 ∷ 4 ∷ 6 ∷ []) 0 (5 ∷ []) (Patched 14 (0 ∷ 2 ∷ []))
-    ∷ line 6 (0 ∷ 1 ∷ []) 0 (6 ∷ []) (Patched 90 (0 ∷ 0 ∷ [])) ∷ []) []
+    (line 5 (3 ∷ 4 ∷ 6 ∷ []) 0 (5 ∷ []) (Set 14 (0 ∷ 2 ∷ []))
+    ∷ line 6 (0 ∷ 1 ∷ []) 0 (6 ∷ []) (Set 90 (0 ∷ 0 ∷ [])) ∷ []) []
 
 -- a node that is silent in all slots of a period, among so many
 abbrev pub silent_in : ℕ → ℕ → ℕ → ℕ → Line
-silent_in nodes m node period = line node (ids_where (λ q. not (q == node)) nodes) period (ids_below (2 * m + 4)) Lost
+silent_in nodes m node period = line node (ids_where (λ q. not (q == node)) nodes) period (ids_below (2 * m + 4)) Drop
 
 abbrev pub five_silent : System
 five_silent = system 7 1 1 [] no_readings (silent_in 7 1 2 0 ∷ silent_in 7 1 3 0 ∷ silent_in 7 1 4 0 ∷ silent_in 7 1 5 0 ∷ silent_in 7 1 6 0 ∷ []) []
 
 -- node 2 is silent, and node 3 tells node 0 another row
 abbrev pub too_many_faults : System
-too_many_faults = system 4 1 2 [] no_readings (silent_in 4 1 2 0 ∷ line 3 (0 ∷ []) 0 (4 ∷ []) (Patched 14 (0 ∷ 2 ∷ [])) ∷ []) []
+too_many_faults = system 4 1 2 [] no_readings (silent_in 4 1 2 0 ∷ line 3 (0 ∷ []) 0 (4 ∷ []) (Set 14 (0 ∷ 2 ∷ [])) ∷ []) []
 
 -- node 4 restarts at period 1, in which node 3 tells node 2 another row than the others
 abbrev pub joining_beside_two_rows : System
-joining_beside_two_rows = system 5 1 3 [] no_readings (line 3 (2 ∷ []) 1 (4 ∷ []) (Patched 14 (0 ∷ 2 ∷ [])) ∷ []) (record { node = 4; period = 1 } ∷ [])
+joining_beside_two_rows = system 5 1 3 [] no_readings (line 3 (2 ∷ []) 1 (4 ∷ []) (Set 14 (0 ∷ 2 ∷ [])) ∷ []) (record { node = 4; period = 1 } ∷ [])
 
 abbrev pub liar : ℕ → Line
-liar q = line q (ids_where (λ x. not (x == q)) 5) 2 (0 ∷ []) (Patched 16 (0 ∷ 7 ∷ []))
+liar q = line q (ids_where (λ x. not (x == q)) 5) 2 (0 ∷ []) (Set 16 (0 ∷ 7 ∷ []))
 
 -- node 4 restarts at period 2, in which three of the four others send it one false state
 abbrev pub restart_amid_liars : System
@@ -100,10 +100,10 @@ restart_amid_liars = system 5 0 3 [] no_readings (liar 1 ∷ liar 2 ∷ liar 3 �
 -- the nodes come to disagree in period 0, and node 0 restarts at period 1
 abbrev pub two_states : System
 two_states = system 5 0 3 [] no_readings
-    (line 4 (0 ∷ 1 ∷ []) 0 (0 ∷ []) Lost
-    ∷ line 3 (1 ∷ []) 0 (3 ∷ []) (Patched 22 (0 ∷ 1 ∷ []))
-    ∷ line 3 (0 ∷ []) 1 (0 ∷ []) Lost
-    ∷ line 4 (0 ∷ []) 1 (0 ∷ []) Lost ∷ []) (record { node = 0; period = 1 } ∷ [])
+    (line 4 (0 ∷ 1 ∷ []) 0 (0 ∷ []) Drop
+    ∷ line 3 (1 ∷ []) 0 (3 ∷ []) (Set 22 (0 ∷ 1 ∷ []))
+    ∷ line 3 (0 ∷ []) 1 (0 ∷ []) Drop
+    ∷ line 4 (0 ∷ []) 1 (0 ∷ []) Drop ∷ []) (record { node = 0; period = 1 } ∷ [])
 
 -- ---- three nodes without relay rounds
 
@@ -116,16 +116,16 @@ three_runs a b c i = slice_index_or (a ∷ b ∷ c ∷ []) i 0 ∷ replicate 31 
 
 -- node 1 claims late, and node 2 tells nobody its row
 abbrev pub late_claim_and_no_row : System
-late_claim_and_no_row = system 3 0 2 [] no_readings (line 1 (0 ∷ 2 ∷ []) 0 (1 ∷ []) (Timed 30) ∷ line 2 (0 ∷ 1 ∷ []) 0 (3 ∷ []) Lost ∷ []) []
+late_claim_and_no_row = system 3 0 2 [] no_readings (line 1 (0 ∷ 2 ∷ []) 0 (1 ∷ []) (Time 30) ∷ line 2 (0 ∷ 1 ∷ []) 0 (3 ∷ []) Drop ∷ []) []
 
 -- node 0 sends another state, node 1 doesn't claim a task that runs for one period, and node 2 claims one that runs for two
 abbrev pub wrong_state_and_claims : System
 wrong_state_and_claims = cluster policy 3 0 1
     (record { after = []; nodes = 1 ∷ []; need = 1; min = 1; max = 1 } ∷ record { after = []; nodes = 2 ∷ []; need = 1; min = 2; max = 2 } ∷ []) []
     (λ i. 1 ∷ 2 ∷ replicate 30 0) no_readings
-    (line 0 (1 ∷ 2 ∷ []) 0 (0 ∷ []) (Patched 16 (0 ∷ 7 ∷ []))
-    ∷ line 1 (0 ∷ 2 ∷ []) 0 (1 ∷ []) (Patched 14 (255 ∷ []))
-    ∷ line 2 (0 ∷ 1 ∷ []) 0 (1 ∷ []) (Patched 14 (1 ∷ [])) ∷ []) []
+    (line 0 (1 ∷ 2 ∷ []) 0 (0 ∷ []) (Set 16 (0 ∷ 7 ∷ []))
+    ∷ line 1 (0 ∷ 2 ∷ []) 0 (1 ∷ []) (Set 14 (255 ∷ []))
+    ∷ line 2 (0 ∷ 1 ∷ []) 0 (1 ∷ []) (Set 14 (1 ∷ [])) ∷ []) []
 
 -- a task of two copies, with run times 1 and 2, finishes in period 1, and a sensor is read then
 abbrev pub sensor_of_a_task : System
@@ -135,8 +135,8 @@ sensor_of_a_task = cluster policy 3 0 4 (record { after = []; nodes = 0 ∷ 1 �
 -- nodes 1 and 2 each hear no values for a period: node 1 as a full node, and node 2 as a joining one
 abbrev pub steps_alone : System
 steps_alone = system 3 0 4 (State (pos 10) (pos 10 ∷ pos 12 ∷ pos 14 ∷ replicate 5 (pos 0)) (pos 3) ∷ []) no_readings
-    (line 0 (1 ∷ []) 1 (2 ∷ []) Lost ∷ line 2 (1 ∷ []) 1 (2 ∷ []) Lost
-    ∷ line 0 (2 ∷ []) 2 (2 ∷ []) Lost ∷ line 1 (2 ∷ []) 2 (2 ∷ []) Lost ∷ []) (record { node = 2; period = 2 } ∷ [])
+    (line 0 (1 ∷ []) 1 (2 ∷ []) Drop ∷ line 2 (1 ∷ []) 1 (2 ∷ []) Drop
+    ∷ line 0 (2 ∷ []) 2 (2 ∷ []) Drop ∷ line 1 (2 ∷ []) 2 (2 ∷ []) Drop ∷ []) (record { node = 2; period = 2 } ∷ [])
 
 -- one error excludes a node, and one period without errors makes up for it
 abbrev pub strict_policy : Policy
@@ -144,4 +144,4 @@ strict_policy = record { weights = replicate 8 5 ++ replicate 8 0; exclude = 5; 
 
 -- node 2 sends no state
 abbrev pub excluded_and_back : System
-excluded_and_back = cluster strict_policy 3 0 3 [] (Sensor (pos 100) None ∷ []) no_runs (three_readings (pos 1) (pos 5) (pos 9)) (line 2 (0 ∷ 1 ∷ []) 0 (0 ∷ []) Lost ∷ []) []
+excluded_and_back = cluster strict_policy 3 0 3 [] (Sensor (pos 100) None ∷ []) no_runs (three_readings (pos 1) (pos 5) (pos 9)) (line 2 (0 ∷ 1 ∷ []) 0 (0 ∷ []) Drop ∷ []) []
