@@ -11,6 +11,7 @@ use Rattle.node_grid.specs.declared.class.Class.TheVariants.{N, J}
 use Rattle.node_grid.specs.Class.{is_nonfaulty, is_sound, IsWithin}
 use Rattle.node_grid.specs.NodeSet.{ids_below, ids_where, has_id, mask_of}
 use Rattle.node_grid.specs.Count.{Distinct}
+use Rattle.node_grid.specs.Version.{kind_count}
 use Rattle.node_grid.specs.Kinds.{deviate}
 use Rattle.node_grid.specs.Matrix.{row_at}
 use Rattle.omh_paths.specs.declared.wrapped.Wrapped.{Wrapped}
@@ -27,7 +28,7 @@ use Rattle.protocol.specs.Arrival.{Arrival, is_good, is_bad}
 use Rattle.protocol.specs.Arrival.Arrival.{Bad, Good}
 use Rattle.protocol.specs.Heard.{Rounds, rounds_bad}
 use Rattle.protocol.specs.Settled.{settled_items, item_of}
-use Rattle.protocol.specs.View.{Setting, Kept, nothing, own_claim, as_claim, claims_settled, due_channels, own_value, channel, deviates, other_body, by_kind, is_further, noted, row_by, kind_count, Mode, View, through}
+use Rattle.protocol.specs.View.{Setting, Kept, nothing, own_claim, as_claim, claims_settled, due_channels, own_value, channel, deviates, other_body, by_kind, is_further, noted, row_by, Mode, View, through}
 use Rattle.protocol.specs.Cluster.{Cluster, kept, begins, view}
 use Rattle.protocol.specs.Run.{claim_sent, members_in}
 use Rattle.protocol.specs.Safe.{Classing, reference, members_from, members_at, Budget, rows_from, rows_at, IsContinuous, IsInnocent, AllAccuse, FullyCharged, VotesClose, Safe}
@@ -83,11 +84,11 @@ rounds_good {rounds = rounds} {x = x} t j i k n s ne =
 not_noted_row : (s : Setting) (i : ℕ) (notes : ℕ → ℕ → Bool) (j k : ℕ) → j < s.config.nodes → s.config.nodes ≤ s.capacity → notes j k ≡ false → accuses (row_by s i notes) j k ≡ false
 unfolding row_by
 not_noted_row s i notes j k below few none =
-    ap (λ (m : ℕ). bit_at m k == 1) (tabulated s.capacity (λ j. if nat_lt j s.config.nodes && not (j == i) then mask_of (ids_where (notes j) kind_count) else 0) j 0 (omega arith))
+    ap (λ (m : ℕ). bit_at m k == 1) (tabulated s.capacity (λ j. if nat_lt j s.config.nodes && not (j == i) then mask_of (ids_where (notes j) (kind_count s.config.version)) else 0) j 0 (omega arith))
     ∙ by_guard (nat_lt j s.config.nodes && not (j == i))
   where
-    by_guard : (b : Bool) → (bit_at (if b then mask_of (ids_where (notes j) kind_count) else 0) k == 1) ≡ false
-    by_guard true = mask_lacks (notes j) kind_count k none
+    by_guard : (b : Bool) → (bit_at (if b then mask_of (ids_where (notes j) (kind_count s.config.version)) else 0) k == 1) ≡ false
+    by_guard true = mask_lacks (notes j) (kind_count s.config.version) k none
     by_guard false = mask_lacks (λ _. false) 0 k refl
 
 -- what the laws stand on
@@ -134,6 +135,12 @@ by_kind_named s c o d k high =
     or_from _ _ (and_fails s (k == 4) (ne_eqb k 4 (omega arith)))
     (or_from _ _ (and_fails c (k == 5) (ne_eqb k 5 (omega arith)))
     (or_from _ _ (and_fails o (k == 6) (ne_eqb k 6 (omega arith))) (and_fails d (k == 7) (ne_eqb k 7 (omega arith)))))
+
+kinds_few : (version k : ℕ) → k < kind_count version → k < 16
+kinds_few version k low = by_test (version == 1) low where
+  by_test : (b : Bool) → k < (if b then 8 else 16) → k < 16
+  by_test true low = omega arith
+  by_test false low = omega arith
 
 -- nothing further is said of a named kind
 named_only : (b : Bool) (k : ℕ) → k ≤ deviate → (b && is_further k) ≡ false
@@ -262,7 +269,7 @@ module _ (cl : Cluster) (class_of : Classing) (p : ℕ) (h : Here cl class_of p)
   pub row_without : (q j k : ℕ) → class_of p q ≡ N → IsContinuous class_of j p → j ≢ q → accuses (begins cl q p).carried j k ≡ false
       → (cl.setting.further.claims q true h.start.state.standing.members (cl.received q p).done j k && is_further k) ≡ false
       → (let v = verdict cl.setting.config.graph h.start.state.standing.members h.start.state.copies (view cl q p).done j in
-        by_kind (other_body (body cl.setting.config h.start.state) ((cl.received q p).sync j)) v.claim v.overrun (deviates cl.setting (view cl q p).due (view cl q p).votes (cl.received q p) j) k) ≡ false
+      by_kind (other_body (body cl.setting.config h.start.state) ((cl.received q p).sync j)) v.claim v.overrun (deviates cl.setting (view cl q p).due (view cl q p).votes (cl.received q p) j) k) ≡ false
       → accuses (view cl q p).found j k ≡ false
   unfolding noted
   row_without q j k nq always ne carried none other =
@@ -341,7 +348,7 @@ module _ (cl : Cluster) (class_of : Classing) (p : ℕ) (h : Here cl class_of p)
         (innocent_after cl.setting (view cl reference_is.node p).rows h.start.state.standing j h.all.given.config.policy.some_exclude low (counts_room j low)
         (λ k. uncharged reference_is.node j k (ap is_sound reference_is.nonfaulty) always) (h.start.innocent j always))
 
-    fully : (i j k : ℕ) → is_sound (class_of p i) ≡ true → j < cl.setting.config.nodes → k < kind_count
+    fully : (i j k : ℕ) → is_sound (class_of p i) ≡ true → j < cl.setting.config.nodes → k < kind_count cl.setting.config.version
         → (has_id h.start.state.standing.members j ≡ true → class_of p j ≢ N) ⊎ (0 < cl.setting.config.m)
         → AllAccuse cl class_of p h.start.state.standing.members j k
         → FullyCharged cl p i j k h.start.state.standing after_state.standing
@@ -352,7 +359,7 @@ module _ (cl : Cluster) (class_of : Classing) (p : ℕ) (h : Here cl class_of p)
         record {
           charged = is;
           counted = ap (λ (x : Standing). slice_index x.counts j) (standing_is ∙ ap (λ (x : List (Option (List ℕ))). standing_by cl.setting.config.policy cl.setting.config.nodes x h.start.state.standing) r)
-              ∙ counted_full cl.setting (view cl i p).rows h.start.state.standing j k jn (counts_room j jn) (omega arith) is;
+              ∙ counted_full cl.setting (view cl i p).rows h.start.state.standing j k jn (counts_room j jn) (kinds_few cl.setting.config.version k kn) is;
         }
 
     -- what is safe of the period

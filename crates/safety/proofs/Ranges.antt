@@ -1,5 +1,5 @@
 -- What the nodes of a run say is in the ranges of the grammar.
-use Rattle.std.proofs.Common.{ℕ, zero, suc, ◌≡◌, ◌<◌, ◌≤◌, ◌+◌, ◌-◌, ◌*◌, ◌^◌, Bool, true, false, not, ◌&&◌, List, [], ◌∷◌, map, filter, length, drop, replicate, Option, None, Some, ℤ, pos, ◌+ℤ◌, refl, sym, ap, ap₂, subst, ◌∙◌, inl, inr, arith, eq-eqb, nat_lt, lt-ltb, le-ltb, mul-le-mul}
+use Rattle.std.proofs.Common.{ℕ, zero, suc, ◌≡◌, ◌<◌, ◌≤◌, ◌+◌, ◌-◌, ◌^◌, Bool, true, false, not, ◌&&◌, List, [], ◌∷◌, map, filter, length, drop, replicate, Option, None, Some, ℤ, pos, ◌+ℤ◌, refl, sym, ap, ap₂, subst, ◌∙◌, inl, inr, arith, eq-eqb, nat_lt, lt-ltb, le-ltb}
 use Rattle.std.specs.Prelude.{◌==◌, nat_le, if◌then◌else◌, slice_index, slice_index_or, All, is_some}
 use Rattle.std.specs.List.{range_with_len}
 use Rattle.std.proofs.lemmas.Int.{ints}
@@ -8,6 +8,8 @@ use Rattle.std.proofs.lemmas.Bool.Decides.{nat_tests}
 use Rattle.std.proofs.lemmas.List.{get_or_past}
 use Rattle.std.proofs.lemmas.List.FromFn.{length-map-range_with_len, length-range_with_len}
 use Rattle.std.proofs.lemmas.List.Elements.{All-nil, All-cons}
+use Rattle.node_grid.specs.Version.{kind_count, mask_bound}
+use Rattle.node_grid.specs.Kinds.{no_claim}
 use Rattle.node_grid.specs.NodeSet.{ids_below, ids_where, has_id, mask_of}
 use Rattle.node_grid.specs.NodeSetLaws.{length-ids}
 use Rattle.node_grid.specs.Count.{Distinct}
@@ -15,26 +17,27 @@ use Rattle.omh_paths.specs.declared.wrapped.Wrapped.{Wrapped}
 use Rattle.omh_paths.specs.declared.wrapped.Wrapped.TheVariants.{Plain, Fault}
 use Rattle.omh_paths.specs.Majority.{majority}
 use Rattle.omh_paths.specs.Paths.{same_nodes, path_count}
-use Rattle.frames.specs.Content as frame
-use Rattle.frames.specs.Content.{Content, Expectation, kind_in, round_in, entries_due, IsClaim, IsRow, IsEntry, IsSized}
+use Rattle.frames.specs.Content.{Content, Expectation, kind_in, round_in, entries_due, IsClaim, IsRow, IsValue, IsEntry}
 use Rattle.frames.specs.Content.Content.{State, Done0, DoneRelay, Data, Report0, ReportRelay, Cold}
 use Rattle.frames.specs.Spelling.{IsInRange}
+use Rattle.frames.specs.EntryLaws.{zero_mask}
 use Rattle.frames.specs.Laws.{IsLaidOut}
 use Rattle.frames.specs.ReadingLaws.{is_short, cold_in_range}
 use Rattle.fault_classes.specs.Change.{Change}
 use Rattle.mme_vote.specs.declared.channel.Channel.{Channel}
 use Rattle.mme_vote.specs.declared.channel.Channel.TheVariants as channel_kind
 use Rattle.list_scheduler.specs.Copies.{works}
-use Rattle.list_scheduler.specs.Schedule.{no_claim}
 use Rattle.agreed_state.specs.declared.config.Inputs.{Inputs}
-use Rattle.agreed_state.specs.Config.{IsValue, IsChannel}
+use Rattle.agreed_state.specs.Config.{IsChannel}
+use Rattle.agreed_state.specs.ConfigLaws as config_laws
+use Rattle.agreed_state.specs.ReadLaws.{state_len-short}
 use Rattle.agreed_state.specs.Agreed.{AgreedView, IsAgreed}
 use Rattle.agreed_state.specs.Body.{body, state_len}
 use Rattle.agreed_state.specs.Adoption.{given as offered, read_of, adopted}
 use Rattle.protocol.specs.Arrival.{Arrival, claim_in, claims_in, row_in, rows_in, claim_form, row_form}
 use Rattle.protocol.specs.Heard.{paths_of}
 use Rattle.protocol.specs.Talk.{Talk}
-use Rattle.protocol.specs.View.{Setting, Kept, Received, bodies_for, adopted_by, claim_at, channel, no_channel, due_channels, is_due, value_at, first_there, own_from, own_value, own_values, own_in, channel_room, kind_count, row_by, empty_row, through, joined, view_from}
+use Rattle.protocol.specs.View.{Setting, Kept, Received, bodies_for, adopted_by, claim_at, channel, no_channel, due_channels, is_due, value_at, first_there, own_from, own_value, own_values, own_in, channel_room, row_by, empty_row, through, joined, view_from}
 use Rattle.protocol.specs.Run.{System, members_in, claim_sent, expectation}
 use Rattle.protocol.specs.Accepted.{IsAccepted}
 use Rattle.safety.proofs.Lists.{tabulated, below_where}
@@ -42,7 +45,7 @@ use Rattle.omh_paths.specs.MemberLaws.{Distinct-ids}
 use Rattle.safety.proofs.Masks.{mask_below}
 use Rattle.safety.proofs.Spans.{cut_low, cut_high}
 use Rattle.list_scheduler.specs.CopyLaws.{works_runs}
-use Rattle.safety.proofs.Copies.{listed_task, few_tasks}
+use Rattle.safety.proofs.Copies.{listed_task}
 use Rattle.safety.proofs.PathCounts.{entries_number}
 use Rattle.safety.proofs.Talks.{FormFits}
 use Rattle.safety.proofs.Premises.{StateLaws}
@@ -74,32 +77,39 @@ behind f (suc n) k a b h e =
 
 -- ---- rows
 
-row_of_masks : (capacity nodes : ℕ) (f : ℕ → ℕ) → nodes ≤ capacity → ((j : ℕ) → f j < 256) → ((j : ℕ) → nodes ≤ j → f j ≡ 0) → IsRow capacity nodes (map f (ids_below capacity))
-row_of_masks capacity nodes f few low high =
+row_of_masks : (version capacity nodes : ℕ) (f : ℕ → ℕ) → nodes ≤ capacity → ((j : ℕ) → f j < mask_bound version) → ((j : ℕ) → nodes ≤ j → f j ≡ 0) → IsRow version capacity nodes (map f (ids_below capacity))
+row_of_masks version capacity nodes f few low high =
     let e : nodes + (capacity - nodes) ≡ capacity = omega arith in
     record {
       room = few;
       whole = length-map-range_with_len f 0 capacity;
-      within = all_in (λ mask. mask < 256) f (ids_below capacity) (λ c on. low c);
+      within = all_in (λ mask. mask < mask_bound version) f (ids_below capacity) (λ c on. low c);
       rest = ap (λ (x : ℕ). drop nodes (map f (range_with_len 0 x))) (sym e) ∙ behind f nodes (capacity - nodes) 0 nodes high (omega arith);
     }
 
 zeros : (capacity : ℕ) → replicate {A = ℕ} capacity 0 ≡ map (λ _. 0) (ids_below capacity)
 zeros capacity = sym (all_zero (λ _. 0) 0 0 capacity (λ j l. refl) (omega arith))
 
-pub empty_is_row : (s : Setting) → s.config.nodes ≤ s.capacity → IsRow s.capacity s.config.nodes (empty_row s)
-empty_is_row s few = subst (IsRow s.capacity s.config.nodes) (sym (zeros s.capacity)) (row_of_masks s.capacity s.config.nodes (λ _. 0) few (λ j. omega arith) (λ j l. refl))
+pub empty_is_row : (s : Setting) → s.config.nodes ≤ s.capacity → IsRow s.config.version s.capacity s.config.nodes (empty_row s)
+empty_is_row s few = subst (IsRow s.config.version s.capacity s.config.nodes) (sym (zeros s.capacity)) (row_of_masks s.config.version s.capacity s.config.nodes (λ _. 0) few (λ j. zero_mask s.config.version) (λ j l. refl))
 
-pub row_by_is_row : (s : Setting) (i : ℕ) (notes : ℕ → ℕ → Bool) → s.config.nodes ≤ s.capacity → IsRow s.capacity s.config.nodes (row_by s i notes)
+-- a mask has room for the kinds of its version
+mask_room : (version : ℕ) → 2 ^ kind_count version ≡ mask_bound version
+mask_room version = by_test (version == 1) where
+  by_test : (b : Bool) → 2 ^ (if b then 8 else 16) ≡ (if b then 256 else 65536)
+  by_test true = refl
+  by_test false = refl
+
+pub row_by_is_row : (s : Setting) (i : ℕ) (notes : ℕ → ℕ → Bool) → s.config.nodes ≤ s.capacity → IsRow s.config.version s.capacity s.config.nodes (row_by s i notes)
 unfolding row_by
 row_by_is_row s i notes few =
-    row_of_masks s.capacity s.config.nodes (λ j. if nat_lt j s.config.nodes && not (j == i) then mask_of (ids_where (notes j) kind_count) else 0) few (λ j. small j (nat_lt j s.config.nodes && not (j == i))) (λ j l. none j (nat_lt j s.config.nodes) (le-ltb _ _ l))
+    row_of_masks s.config.version s.capacity s.config.nodes (λ j. if nat_lt j s.config.nodes && not (j == i) then mask_of (ids_where (notes j) (kind_count s.config.version)) else 0) few (λ j. small j (nat_lt j s.config.nodes && not (j == i))) (λ j l. none j (nat_lt j s.config.nodes) (le-ltb _ _ l))
   where
-    small : (j : ℕ) (b : Bool) → (if b then mask_of (ids_where (notes j) kind_count) else 0) < 256
-    small j true = mask_below (notes j) kind_count
-    small j false = omega arith
+    small : (j : ℕ) (b : Bool) → (if b then mask_of (ids_where (notes j) (kind_count s.config.version)) else 0) < mask_bound s.config.version
+    small j true = subst (λ (n : ℕ). mask_of (ids_where (notes j) (kind_count s.config.version)) < n) (mask_room s.config.version) (mask_below (notes j) (kind_count s.config.version))
+    small j false = zero_mask s.config.version
 
-    none : (j : ℕ) (b : Bool) → b ≡ false → (if b && not (j == i) then mask_of (ids_where (notes j) kind_count) else 0) ≡ 0
+    none : (j : ℕ) (b : Bool) → b ≡ false → (if b && not (j == i) then mask_of (ids_where (notes j) (kind_count s.config.version)) else 0) ≡ 0
     none j true h = cc
     none j false h = refl
 
@@ -196,12 +206,12 @@ module _ (sys : System) (given : IsAccepted sys) (states : StateLaws sys.setting
   members_few (Some a) v = let l = length-ids sys.setting.config.nodes a.standing.members (v a refl).standing.set in let f = nodes_few in omega arith
 
   state_short : state_len sys.setting.config < 2 ^ 16
-  state_short = short sys.setting.config.nodes (length sys.setting.config.graph.tasks) nodes_few (few_tasks given.config.graph) where
-    short : (n t : ℕ) → n ≤ 16 → t ≤ 32 → 2 + 4 * n + 2 * n * t < 2 ^ 16
-    short n t h k = omega (arith, mul-le-mul h k)
+  state_short = let l = state_len-short sys.setting.capacity sys.setting.config small given.config in omega arith where
+    small : sys.setting.capacity ≤ 16
+    small = elim given.capacity [ inl e ↦ omega arith | inr e ↦ omega arith ]
 
   laid_out : (p slot j : ℕ) (o : Option AgreedView) (due : ℕ) → Valid o → due ≤ 8 → IsLaidOut (expectation sys p slot j (members_in o) due)
-  laid_out p slot j o due v few = record { nodes = nodes_few; rounds = given.config.few_rounds; members = members_few o v; state_len = state_short; due = omega arith }
+  laid_out p slot j o due v few = record { nodes = nodes_few; rounds = config_laws.few_rounds sys.setting.capacity sys.setting.config given.config; members = members_few o v; state_len = state_short; due = omega arith }
 
   -- ---- states in slot 0
 
@@ -242,10 +252,10 @@ module _ (sys : System) (given : IsAccepted sys) (states : StateLaws sys.setting
   claims_fit p r j ms Cold xs low fit e = cc
 
   rows_fit_in : (p r j : ℕ) (ms : List ℕ) (c : Content) (xs : List (Wrapped (List ℕ))) → IsInRange (expectation sys p (sys.setting.config.m + 3 + r) j ms 0) c → rows_in c ≡ Some xs
-      → All (IsEntry (IsRow sys.setting.capacity sys.setting.config.nodes) r) xs
+      → All (IsEntry (IsRow sys.setting.config.version sys.setting.capacity sys.setting.config.nodes) r) xs
   rows_fit_in p r j ms (ReportRelay ys) xs fit e =
-      subst (All (IsEntry (IsRow sys.setting.capacity sys.setting.config.nodes) r)) (some_is ys xs e)
-      (subst (λ (k : ℕ). All (IsEntry (IsRow sys.setting.capacity sys.setting.config.nodes) k) ys) (row_round sys.setting.config.m r) fit.sized.1)
+      subst (All (IsEntry (IsRow sys.setting.config.version sys.setting.capacity sys.setting.config.nodes) r)) (some_is ys xs e)
+      (subst (λ (k : ℕ). All (IsEntry (IsRow sys.setting.config.version sys.setting.capacity sys.setting.config.nodes) k) ys) (row_round sys.setting.config.m r) fit.sized.1)
   rows_fit_in p r j ms (State b) xs fit e = cc
   rows_fit_in p r j ms (Done0 b) xs fit e = cc
   rows_fit_in p r j ms (DoneRelay b) xs fit e = cc
@@ -262,8 +272,8 @@ module _ (sys : System) (given : IsAccepted sys) (states : StateLaws sys.setting
   claim_fit e (ReportRelay b) v fit h = cc
   claim_fit e Cold v fit h = cc
 
-  row_fit : (e : Expectation) (c : Content) (v : List ℕ) → IsInRange e c → row_in c ≡ Some v → IsRow e.capacity e.nodes v
-  row_fit e (Report0 t) v fit h = subst (IsRow e.capacity e.nodes) (some_is t v h) fit.sized
+  row_fit : (e : Expectation) (c : Content) (v : List ℕ) → IsInRange e c → row_in c ≡ Some v → IsRow e.version e.capacity e.nodes v
+  row_fit e (Report0 t) v fit h = subst (IsRow e.version e.capacity e.nodes) (some_is t v h) fit.sized
   row_fit e (State b) v fit h = cc
   row_fit e (Done0 b) v fit h = cc
   row_fit e (DoneRelay b) v fit h = cc
@@ -302,8 +312,8 @@ module _ (sys : System) (given : IsAccepted sys) (states : StateLaws sys.setting
       heads = λ r j ms ns. refl;
     }
 
-    pub rows_form : (change : ℕ → ℕ → ℕ → Option Change) (item : ℕ → List ℕ) → ((j : ℕ) → IsRow sys.setting.capacity sys.setting.config.nodes (item j))
-        → FormFits (IsRow sys.setting.capacity sys.setting.config.nodes) (rows_talk change item) sys.setting.config.m
+    pub rows_form : (change : ℕ → ℕ → ℕ → Option Change) (item : ℕ → List ℕ) → ((j : ℕ) → IsRow sys.setting.config.version sys.setting.capacity sys.setting.config.nodes (item j))
+        → FormFits (IsRow sys.setting.config.version sys.setting.capacity sys.setting.config.nodes) (rows_talk change item) sys.setting.config.m
     rows_form change item fit = record {
       item_back = λ v. refl;
       relay_back = λ xs. refl;
@@ -314,7 +324,7 @@ module _ (sys : System) (given : IsAccepted sys) (states : StateLaws sys.setting
       relay_sent = λ r j i xs some low long all. is_short (expectation sys p (sys.setting.config.m + 3 + r) j (members_in (state i)) 0) (ReportRelay xs) (laid_out p (sys.setting.config.m + 3 + r) j (state i) 0 (valid i) (omega arith))
           (sym (rows_kind sys.setting.config.m r some low)) (
             entries_long (sys.setting.config.m + 3 + r) r j i xs (row_round sys.setting.config.m r) long,
-            subst (λ (k : ℕ). All (IsEntry (IsRow sys.setting.capacity sys.setting.config.nodes) k) xs) (sym (row_round sys.setting.config.m r)) all,
+            subst (λ (k : ℕ). All (IsEntry (IsRow sys.setting.config.version sys.setting.capacity sys.setting.config.nodes) k) xs) (sym (row_round sys.setting.config.m r)) all,
           );
       cold_sent = λ r j i. cold_in_range (expectation sys p (sys.setting.config.m + 3 + r) j (members_in (state i)) 0);
       heads = λ r j ms ns. refl;
@@ -322,11 +332,11 @@ module _ (sys : System) (given : IsAccepted sys) (states : StateLaws sys.setting
 
   -- ---- values
 
-  pub row_in_range : (i p : ℕ) (g : Inputs) (k : Kept) (x : Received) (o : Option AgreedView) → IsRow sys.setting.capacity sys.setting.config.nodes (view_from sys.setting i p g k x o).found
+  pub row_in_range : (i p : ℕ) (g : Inputs) (k : Kept) (x : Received) (o : Option AgreedView) → IsRow sys.setting.config.version sys.setting.capacity sys.setting.config.nodes (view_from sys.setting i p g k x o).found
   unfolding through
   row_in_range i p g k x (Some a) = row_by_is_row sys.setting i _ given.config.few_nodes
   row_in_range i p g k x None = go (adopted_by sys.setting i x.sync) where
-    go : (o : Option AgreedView) → IsRow sys.setting.capacity sys.setting.config.nodes (joined sys.setting i p g k x o).found
+    go : (o : Option AgreedView) → IsRow sys.setting.config.version sys.setting.capacity sys.setting.config.nodes (joined sys.setting i p g k x o).found
     go None = empty_is_row sys.setting given.config.few_nodes
     go (Some a) = empty_is_row sys.setting given.config.few_nodes
 
@@ -348,24 +358,21 @@ module _ (sys : System) (given : IsAccepted sys) (states : StateLaws sys.setting
   own_value_fits i p k c low listed =
       own_fits sys.setting.config.nodes (length sys.setting.config.graph.tasks) i p (sys.inputs i p) k c (channel sys.setting c) (given.config.channels c no_channel listed) (given.inputs i p low).readings
 
-  as_number : (v : ℤ) → IsValue v → frame.IsValue v
-  as_number v fit = record { low = fit.low; high = fit.high }
-
   -- what a full node sends of its due channels
   pub numbers_fit : (i p : ℕ) (k : Kept) (x : Received) (o : Option AgreedView) → is_some o ≡ true → i < sys.setting.config.nodes
-      → All frame.IsValue (map (own_in (view_from sys.setting i p (sys.inputs i p) k x o).own) (view_from sys.setting i p (sys.inputs i p) k x o).due)
+      → All IsValue (map (own_in (view_from sys.setting i p (sys.inputs i p) k x o).own) (view_from sys.setting i p (sys.inputs i p) k x o).due)
   unfolding through
   numbers_fit i p k x None full low = cc
   numbers_fit i p k x (Some a) full low =
-      all_in frame.IsValue (own_in (own_values sys.setting i p (sys.inputs i p) k)) _ (λ c on.
+      all_in IsValue (own_in (own_values sys.setting i p (sys.inputs i p) k)) _ (λ c on.
       let listed = below_where (λ c. is_due sys.setting a _ (channel sys.setting c)) (length sys.setting.config.channels.items) c on in
       let few = given.config.few_channels in
       let e : own_in (own_values sys.setting i p (sys.inputs i p) k) c ≡ own_value sys.setting i p (sys.inputs i p) k c =
       ap (λ (o : Option ℤ). first_there o None)
       (tabulated channel_room (λ c. if nat_lt c (length sys.setting.config.channels.items) then Some (own_value sys.setting i p (sys.inputs i p) k c) else None) c None (omega arith)
       ∙ cond-true (nat_lt c (length sys.setting.config.channels.items)) (Some (own_value sys.setting i p (sys.inputs i p) k c)) None (lt-ltb _ _ listed)) in
-      subst frame.IsValue (sym e) (as_number _ (own_value_fits i p k c low listed)))
+      subst IsValue (sym e) (own_value_fits i p k c low listed))
 
-  pub values_in_range : (p j : ℕ) (o : Option AgreedView) (due : ℕ) (xs : List ℤ) → Valid o → due ≤ 8 → length xs ≡ due → All frame.IsValue xs → IsInRange (expectation sys p (sys.setting.config.m + 2) j (members_in o) due) (Data xs)
+  pub values_in_range : (p j : ℕ) (o : Option AgreedView) (due : ℕ) (xs : List ℤ) → Valid o → due ≤ 8 → length xs ≡ due → All IsValue xs → IsInRange (expectation sys p (sys.setting.config.m + 2) j (members_in o) due) (Data xs)
   values_in_range p j o due xs valid few long all =
       is_short (expectation sys p (sys.setting.config.m + 2) j (members_in o) due) (Data xs) (laid_out p (sys.setting.config.m + 2) j o due valid few) (sym (value_kind sys.setting.config.m)) (long, all)

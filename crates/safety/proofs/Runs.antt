@@ -14,15 +14,13 @@ use Rattle.frames.specs.Spelling.{IsInRange}
 use Rattle.frames.specs.ReadingLaws.{reads_back, reads_in_range, has_no_front, reads_cold, is_short, cold_in_range}
 use Rattle.fault_classes.specs.Change.{Change, is_manifest}
 use Rattle.fault_classes.specs.Plan.{slot_count, restarts_at, steady, sound_before}
-use Rattle.agreed_state.specs.declared.config.Inputs.{Inputs}
 use Rattle.agreed_state.specs.Agreed.{AgreedView, IsAgreed}
 use Rattle.agreed_state.specs.Body.{body}
-use Rattle.protocol.specs.Arrival.{Arrival, is_good, state_in, values_in}
+use Rattle.protocol.specs.Arrival.{is_good, state_in, values_in}
 use Rattle.protocol.specs.Arrival.Arrival.{Good}
-use Rattle.protocol.specs.Heard.{Rounds}
 use Rattle.protocol.specs.Talk.{arrives, rounds_upto}
-use Rattle.protocol.specs.View.{Setting, Kept, nothing, Received, adopted_by, claims_settled, votes_on, noted, own_in, Mode, View, through, joined, view_from, opened}
-use Rattle.protocol.specs.Cluster.{kept, begins, view, view_with}
+use Rattle.protocol.specs.View.{Kept, nothing, own_in, View, opened}
+use Rattle.protocol.specs.Cluster.{begins, view}
 use Rattle.protocol.specs.Run.{System, members_in, claim_sent, state_content, expectation, change_at, full_at, so_far, state_said, after_sync, members_of, done_talk, after_done, due_of, values_said, after_values, row_talk, delivered, all_kept, goes_in, run, classes}
 use Rattle.protocol.specs.ViewLaws.{full_if}
 use Rattle.protocol.specs.RunLaws.{begins_is, view_is, before_is, due_of_is, found_is}
@@ -167,7 +165,7 @@ module _ (sys : System) (given : IsAccepted sys) (states : StateLaws sys.setting
     told_rows : Told sys.setting.config.m members (classes sys p) (λ j. (view (run sys) j p).found) (λ i. ((run sys).received i p).report)
     told_rows =
         subst (λ (f : ℕ → List ℕ). Told sys.setting.config.m members (classes sys p) f (rounds_upto (row_talk sys p (goes_in sys p)) sys.setting.config.m)) row_items
-        (talk_told grammar (IsRow sys.setting.capacity sys.setting.config.nodes) (row_talk sys p (goes_in sys p)) sys.setting.config.m members (classes sys p)
+        (talk_told grammar (IsRow sys.setting.config.version sys.setting.capacity sys.setting.config.nodes) (row_talk sys p (goes_in sys p)) sys.setting.config.m members (classes sys p)
         (rows_form sys given states p (λ i. (so_far sys p (goes_in sys p) i (after_sync sys p (goes_in sys p) i)).before) state_valid (full_at sys p (goes_in sys p)) (λ r. change_at sys p (sys.setting.config.m + 3 + r))
         (λ j. (so_far sys p (goes_in sys p) j (after_values sys p (goes_in sys p) j)).found)
         (λ j. row_in_range sys given states j p (sys.inputs j p) (goes_in sys p j) (after_values sys p (goes_in sys p) j) (goes_in sys p j).state))

@@ -11,7 +11,7 @@ use Rattle.protocol.specs.Heard.{heard, paths_of}
 use Rattle.protocol.specs.Talk.{relay_said, rounds_upto}
 use Rattle.protocol.specs.TalkLaws.{entries_stable}
 use Rattle.protocol.specs.View.{Kept, Received, View, own_in}
-use Rattle.protocol.specs.Cluster.{begins, view}
+use Rattle.protocol.specs.Cluster.{view}
 use Rattle.protocol.specs.Run.{System, members_in, claim_sent, members_of, done_talk, row_talk, said_in, goes_in, run}
 use Rattle.protocol.specs.RunLaws.{begins_is, before_is, members_of_is, due_of_is, found_is}
 use Rattle.protocol.specs.Saying.{if_full, says}
