@@ -1,6 +1,6 @@
 //! Rows of accusations: how a node makes its own, and what the settled rows of all members charge a node with.
 //!
-//! An error kind is a bit of a mask. A node is charged with a kind where more than half of the rows that count
+//! An error kind is a bit of a mask; `node_grid::kind` names the kinds. A node is charged with a kind where more than half of the rows that count
 //! accuse it of this kind: diagnosis from agreed local reports, in the manner of Walter, Lincoln and Suri (1997)
 //! and of Kieckhafer et al. (1988). Nothing here takes memory or refuses anything.
 #![tactic(auto)]
@@ -15,7 +15,8 @@ pub use row_builder::RowBuilder;
 
 #[cfg(test)]
 mod tests {
-    use super::{RowBuilder, charged};
+    use super::{RowBuilder, charged, charged_all};
+    use node_grid::kind::{COLD, DEVIATE, MISSING};
     use node_grid::{Matrix, NodeSet, Row};
 
     // The row that accuses node 3 alone.
@@ -38,6 +39,18 @@ mod tests {
     }
 
     #[test]
+    fn all_nodes_are_charged_at_once(rt: HostRuntime) {
+        let members: NodeSet<8> = NodeSet::full(4);
+        let mut rows: Matrix<8> = Matrix::empty();
+        assert!(rt; charged_all(&rows, &members, 4) == [0; 8]);
+        rows.set(0, accusing(3));
+        rows.set(1, accusing(1));
+        rows.set(2, accusing(2));
+        rows.set(3, accusing(255));
+        assert!(rt; charged_all(&rows, &members, 4) == [0, 0, 0, 3, 0, 0, 0, 0]);
+    }
+
+    #[test]
     fn exactly_half_charges_nothing(rt: HostRuntime) {
         let members: NodeSet<16> = NodeSet::full(5);
         let mut rows: Matrix<16> = Matrix::empty();
@@ -55,9 +68,9 @@ mod tests {
     #[test]
     fn a_period_carries_over(rt: HostRuntime) {
         let mut builder: RowBuilder<8> = RowBuilder::new();
-        builder.note(2, 0);
-        builder.note(2, 3);
-        builder.carry(3, 7);
+        builder.note(2, MISSING);
+        builder.note(2, COLD);
+        builder.carry(3, DEVIATE);
         assert!(rt; builder.row().masks[2] == 9 && builder.row().masks[3] == 0);
         builder.next_period();
         assert!(rt; builder.row() == accusing(128));

@@ -38,7 +38,7 @@ impl<const N: usize> RowBuilder<N> {
         }
     }
 
-    /// Notes an error of this kind of `node`, in this period's row.
+    /// Notes an error of this kind of `node`, in this period's row. `node_grid::kind` names the kinds.
     pub fn note(&mut self, node: u8, kind: u8)
         requires capacity { IsCapacity N }
         requires node { node < N }

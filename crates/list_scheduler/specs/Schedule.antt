@@ -1,6 +1,7 @@
 -- The schedule: completion, leaving, the frame's end and the pick. Each new copy is a case for itself.
 use Rattle.std.specs.Prelude.{ℕ, ◌+◌, ◌%◌, Bool, false, not, ◌&&◌, ◌==◌, nat_lt, nat_le, List, length, Option, None, Some, is_none, if◌then◌else◌, slice_index_or}
 use Rattle.std.specs.List.{find, list_all}
+use Rattle.node_grid.specs.Kinds.{no_claim}
 use Rattle.node_grid.specs.NodeSet.{ids_below, has_id}
 use Rattle.node_grid.specs.Count.{count}
 use Rattle.omh_paths.specs.declared.wrapped.Wrapped.{Wrapped}
@@ -12,10 +13,6 @@ use Rattle.list_scheduler.specs.declared.schedule.Verdict.{Verdict}
 use Rattle.list_scheduler.specs.Copies.{CopyTable, copy_at, table, is_passed, is_idle, works}
 
 -- ---- claims and completion
-
--- the claim of a node that claims nothing
-abbrev pub no_claim : ℕ
-no_claim = 255
 
 -- the settled claim of node q, by a list with one for each node; an error is a Fault
 abbrev pub claim_of : List (Wrapped ℕ) → ℕ → Wrapped ℕ

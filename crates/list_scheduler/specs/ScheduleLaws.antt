@@ -4,6 +4,7 @@ use Rattle.std.specs.Prelude.{◌==◌, ◌%◌, nat_lt, nat_le, is_none, if◌t
 use Rattle.std.specs.List.{find}
 use Rattle.std.proofs.lemmas.Bool.{cases_Bool, cond-true, cond-false, and_parts, both_ways}
 use Rattle.std.proofs.lemmas.Bool.Decides.{nat_tests}
+use Rattle.node_grid.specs.Kinds.{no_claim}
 use Rattle.node_grid.specs.NodeSet.{ids_below, has_id}
 use Rattle.omh_paths.specs.declared.wrapped.Wrapped.{Wrapped}
 use Rattle.omh_paths.specs.declared.wrapped.Wrapped.TheVariants.{Plain}
@@ -14,7 +15,7 @@ use Rattle.list_scheduler.specs.declared.copies.CopyState.TheVariants.{Idle, Run
 use Rattle.list_scheduler.specs.declared.schedule.Verdict.{Verdict}
 use Rattle.list_scheduler.specs.Copies.{CopyTable, copy_at, table, IsTable, works, IsCopies, MembersRun}
 use Rattle.list_scheduler.specs.CopyLaws.{in_table, IsTable-table, works_runs, nothing_runs}
-use Rattle.list_scheduler.specs.Schedule.{no_claim, claims, no_verdict, verdict_at, worked_on, completed_at, completed, left_copy, left_by, left, all_idle, frame_ended, is_eligible, pick_of, is_it, picks, picked, copies_after, first_copies}
+use Rattle.list_scheduler.specs.Schedule.{claims, no_verdict, verdict_at, worked_on, completed_at, completed, left_copy, left_by, left, all_idle, frame_ended, is_eligible, pick_of, is_it, picks, picked, copies_after, first_copies}
 
 -- ---- the tasks' bounds, as each graph has them
 

@@ -6,12 +6,9 @@ ghost use Rattle.list_scheduler.specs.Schedule.{no_verdict, claims_task, claims,
 ghost use Rattle.list_scheduler.specs.OneNode.{completed_by, starts, verdicts};
 
 use crate::{Copies, CopyState};
-use node_grid::NodeSet;
+use node_grid::{NO_CLAIM, NodeSet};
 use omh_paths::Wrapped;
 use task_graph::TaskGraph;
-
-// What a node claims that claims nothing.
-const NO_CLAIM: u8 = 255;
 
 /// What completion says of a node by its settled claim.
 #[derive(Clone, Copy, Debug, PartialEq, Eq)]

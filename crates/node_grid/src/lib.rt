@@ -23,7 +23,7 @@ pub struct NoMemory;
 
 #[cfg(test)]
 mod tests {
-    use super::{Matrix, NoMemory, NodeSet, Row};
+    use super::{Matrix, NoMemory, NodeSet, Planes, Row};
 
     #[test]
     fn sets(rt: HostRuntime) {
@@ -56,5 +56,17 @@ mod tests {
         assert!(rt; matrix.get(4).is_none());
         assert!(rt; matrix != Matrix::empty());
         assert_eq!(rt; NoMemory, NoMemory);
+    }
+
+    #[test]
+    fn counts_by_planes(rt: HostRuntime) {
+        let mut row: Row<8> = Row::zero();
+        row.masks[2] = 32769;
+        let mut planes: Planes<8> = Planes::zero();
+        planes.add(&row);
+        row.masks[2] = 1;
+        planes.add(&row);
+        assert!(rt; planes.planes()[0][2] == 32768 && planes.planes()[1][2] == 1);
+        assert!(rt; planes.more_than(&[1; 8]) == row);
     }
 }
