@@ -19,7 +19,10 @@ returns-clause-agreed g c =
 pub step_copies-requires : goal.step_copies-requires
 step_copies-requires g c =
     let graph = c.args.config.now.graph in
-    let copies : IsCopies graph c.self.inside.copies = subst (λ (v : AgreedView). IsCopies graph v.copies) (sym c.self.view_is) c.requires.agreed.copies in
-    (elim c.requires.capacity [ inl e ↦ rw e (lit< tt) | inr e ↦ rw e (lit< tt) ],
-    (elim c.requires.capacity [ inl e ↦ rw e (lit< tt) | inr e ↦ rw e (lit< tt) ],
-    (lit< tt, (elim c.requires.capacity [ inl e ↦ rw e (lit< tt) | inr e ↦ rw e (lit< tt) ], (c.requires.capacity, (c.requires.config, copies))))))
+    let copies : IsCopies graph c.self.inside.copies = subst (λ (v : AgreedView). IsCopies graph v.copies) (sym c.self.view_is) c.requires.agreed.copies in (
+      elim c.requires.capacity [ inl e ↦ rw e (lit< tt) | inr e ↦ rw e (lit< tt) ],
+      (
+        elim c.requires.capacity [ inl e ↦ rw e (lit< tt) | inr e ↦ rw e (lit< tt) ],
+        (lit< tt, (elim c.requires.capacity [ inl e ↦ rw e (lit< tt) | inr e ↦ rw e (lit< tt) ], (c.requires.capacity, (c.requires.config, copies)))),
+      ),
+    )
