@@ -1,7 +1,6 @@
-ghost use Rattle.std.specs.Prelude.{◌≡◌, ℕ, ◌+◌, ◌%◌, ◌==◌, ◌&&◌, not, ◌<◌, ◌≤◌, length, slice_index};
+ghost use Rattle.std.specs.Prelude.{◌≡◌, ℕ, ◌+◌, ◌%◌, ◌==◌, ◌&&◌, not, ◌<◌, ◌≤◌, length};
 ghost use Rattle.node_grid.specs.Capacity.{IsCapacity};
 ghost use Rattle.node_grid.specs.NodeSet.{ids_where, mask_of};
-ghost use Rattle.error_reports.specs.Charge.{charged_mask};
 ghost use Rattle.list_scheduler.specs.Copies.{IsTable, IsCopies, table};
 ghost use Rattle.list_scheduler.specs.Schedule.{left, finished, copies_after};
 ghost use Rattle.list_scheduler.specs.OneNode.{verdicts};
@@ -9,7 +8,7 @@ ghost use Rattle.agreed_state.specs.Config.{IsConfig};
 ghost use Rattle.agreed_state.specs.Agreed.{AgreedView, IsAgreed, first_agreed, agreed_after, finished_now};
 
 use crate::Config;
-use error_reports::charged;
+use error_reports::charged_all;
 use list_scheduler::{Copies, Verdict};
 use membership::{Left, next};
 use node_grid::{Matrix, NodeSet};
@@ -112,7 +111,7 @@ impl<const N: usize> Agreed<N> {
         ensures agreed { IsAgreed N config.now self.new }
     {
         let before = self.members;
-        let charges = charges(rows, &before, config.nodes);
+        let charges = charged_all(rows, &before, config.nodes);
         self.counts.step(&config.policy, config.nodes, &charges);
         self.members = next(
             &before,
@@ -174,19 +173,6 @@ fn ends_frame<const N: usize>(config: &Config<N>, period: u32) -> bool
     ensures { result ≡ ((period + 1) % config.now.frame == 0) }
 {
     (u64::from(period) + 1) % u64::from(config.frame) == 0
-}
-
-/// The mask of the kinds that each node in use is charged with.
-fn charges<const N: usize>(rows: &Matrix<N>, members: &NodeSet<N>, nodes: u8) -> [u16; N]
-    requires capacity { IsCapacity N }
-    requires nodes { nodes ≤ N }
-    ensures { (j : ℕ) → j < nodes → slice_index result j ≡ charged_mask rows.now members.now j }
-{
-    let mut charges = [0; N];
-    for node in 0..nodes {
-        charges[node as usize] = charged(rows, members, node);
-    }
-    charges
 }
 
 /// Makes what runs on nodes that aren't members Failed.
