@@ -5,8 +5,8 @@ use Rattle.std.proofs.lemmas.Bool.{cases_Bool, cond-true, cond-false}
 use Rattle.std.proofs.lemmas.List.Elements.{recursion_from_All}
 use Rattle.omh_paths.specs.declared.wrapped.Wrapped.TheVariants.{Fault}
 use Rattle.omh_paths.specs.Paths.{same_nodes}
-use Rattle.plain_settle.specs.declared.Entry.{Entry}
-use Rattle.plain_settle.specs.Plain.{said_in}
+use Rattle.bench_settle.specs.declared.plain.Entry.{Entry}
+use Rattle.bench_settle.specs.Plain.{said_in}
 
 said_known : {V : Type 0} (es : List (Entry V)) (p : List ℕ) → AllByRecursion (λ (e : Entry V). e.value ≢ Fault 255) es → said_in es p ≢ Fault 255
 said_known [] p h = λ e. cc

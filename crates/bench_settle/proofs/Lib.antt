@@ -1,1 +1,4 @@
 pub mod Settings
+pub mod Terms
+pub mod Sameness
+pub mod Known

@@ -5,7 +5,7 @@ use Rattle.node_grid.specs.NodeSet.{has_id, without_id}
 use Rattle.omh_paths.specs.PathLists.{has-of-without}
 use Rattle.omh.specs.Heard.{Hearing, Entry}
 use Rattle.omh.specs.HeardLaws.{has-without-me}
-use Rattle.plain_settle.specs.declared.PlainTable.{PlainTable}
+use Rattle.bench_settle.specs.declared.plain.PlainTable.{PlainTable}
 
 pub table_kept : {V : Type 0} (new old now : Hearing V) (es : List (Entry V)) → new ≡ record old { heard = es } → old ≡ record now { heard = old.heard } → new ≡ record now { heard = new.heard }
 table_kept {V} new old now es e f =

@@ -4,8 +4,8 @@ use Rattle.omh_paths.specs.declared.wrapped.Wrapped.{Wrapped}
 use Rattle.omh_paths.specs.declared.wrapped.Wrapped.TheVariants.{Fault}
 use Rattle.omh_paths.specs.Paths.{same_nodes}
 use Rattle.omh.specs.Omh.{Ear}
-use Rattle.plain_settle.specs.declared.Entry.{Entry}
-use Rattle.plain_settle.specs.declared.PlainTable.{PlainTable}
+use Rattle.bench_settle.specs.declared.plain.Entry.{Entry}
+use Rattle.bench_settle.specs.declared.plain.PlainTable.{PlainTable}
 
 -- what was heard for a path, which is Fault 0 where nothing was
 abbrev pub said_in : {V : Type 0} → List (Entry V) → List ℕ → Wrapped V

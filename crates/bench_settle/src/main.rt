@@ -3,6 +3,8 @@
 //! Without words it prints nothing.
 #![tactic(auto)]
 
+mod plain;
+
 ghost use Rattle.std.specs.Prelude.{◌≡◌, ◌≢◌, ◌<◌, ◌≤◌, ◌+◌, All, OnOk, true};
 ghost use Rattle.node_grid.specs.Capacity.{IsCapacity};
 ghost use Rattle.node_grid.specs.NodeSet.{has_id, without_id};
@@ -11,7 +13,7 @@ ghost use Rattle.omh_paths.specs.declared.wrapped.Wrapped.TheVariants.{Fault};
 use node_grid::{NoMemory, NodeSet, Row};
 use omh::Table;
 use omh_paths::{Wrapped, count_paths, unrank};
-use plain_settle::PlainTable;
+use plain::PlainTable;
 use std::alloc::{AllocError, Global};
 use std::time::Instant;
 use std::{env, io};

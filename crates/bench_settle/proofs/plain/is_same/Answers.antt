@@ -1,6 +1,6 @@
 use Rattle.std.proofs.Common.{◌≤◌, ◌<◌, length, sym, ◌∙◌, arith}
-use Rattle.plain_settle.proofs.Sameness.{other_length, other_node, same_node, all_same}
-use Rattle.plain_settle.proofs.is_same.Goals as goal
+use Rattle.bench_settle.proofs.Sameness.{other_length, other_node, same_node, all_same}
+use Rattle.bench_settle.proofs.plain.is_same.Goals as goal
 
 pub returns-then-len : goal.returns-then-len
 returns-then-len c = sym (other_length c.args.a.now c.args.b.now (λ e. c.if-len.true (c.len.ensures.count ∙ e ∙ sym c.len-2.ensures.count)))

@@ -3,10 +3,10 @@ use Rattle.omh.specs.Omh.{settled_at, term_at}
 use Rattle.omh_paths.specs.Majority.{majority as majority_of}
 use Rattle.omh_paths.specs.Wrapped.{unwrapped}
 use Rattle.omh_paths.specs.MajorityLaws.{majority_sound}
-use Rattle.plain_settle.specs.Plain.{plain_ear}
-use Rattle.plain_settle.proofs.Terms.{settled_at_end, settled_at_later, laid_yes, laid_no, laid_all, term_at_me, term_at_other}
-use Rattle.plain_settle.proofs.PlainTable.+settle_from.Goals as goal
-use Rattle.plain_settle.proofs.PlainTable.+settle_from.Goals.{then-not-has+in_ok-push, then-q-self, else-q-self+in_ok-value, else-not-has}
+use Rattle.bench_settle.specs.Plain.{plain_ear}
+use Rattle.bench_settle.proofs.Terms.{settled_at_end, settled_at_later, laid_yes, laid_no, laid_all, term_at_me, term_at_other}
+use Rattle.bench_settle.proofs.plain.PlainTable.+settle_from.Goals as goal
+use Rattle.bench_settle.proofs.plain.PlainTable.+settle_from.Goals.{then-not-has+in_ok-push, then-q-self, else-q-self+in_ok-value, else-not-has}
 
 pub returns-then-len-self-clause-settled : goal.returns-then-len-self-clause-settled
 returns-then-len-self-clause-settled g t c =

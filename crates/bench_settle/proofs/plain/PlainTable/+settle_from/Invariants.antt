@@ -1,8 +1,8 @@
 use Rattle.std.proofs.Common.{◌≡◌, ◌+◌, ◌-◌, ◌++◌, map, take, length}
 use Rattle.omh.specs.Omh.{term_at}
 use Rattle.omh_paths.specs.Paths.{outside}
-use Rattle.plain_settle.specs.Plain.{plain_ear}
-use Rattle.plain_settle.proofs.PlainTable.+settle_from.Given as goal
+use Rattle.bench_settle.specs.Plain.{plain_ear}
+use Rattle.bench_settle.proofs.plain.PlainTable.+settle_from.Given as goal
 
 abbrev pub decreases-settle_from : goal.decreases-settle_from
 decreases-settle_from g l = l.self.now.rounds + 1 - length l.path.now
