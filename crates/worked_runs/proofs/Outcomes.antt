@@ -5,8 +5,8 @@ use Rattle.omh_paths.specs.declared.wrapped.Wrapped.TheVariants.{Plain, Fault}
 use Rattle.protocol.specs.View.{Mode}
 use Rattle.protocol.specs.Run.{run, classes}
 use Rattle.protocol.specs.Safe.{reference, members_at, Budget}
-use Rattle.worked_runs.specs.Systems.{half_accuses, two_rows, lost_row, three_values, two_colluding, five_silent, too_many_faults, joining_beside_two_rows, restart_amid_liars, two_states, late_claim_and_no_row, wrong_state_and_claims, sensor_of_a_task, steps_alone, excluded_and_back}
-use Rattle.worked_runs.specs.Shown.{of_all, class_in, mode_in, counts_after, streaks_after, members_before, done_in, due_in, own_value_in, rows_in, vote_in}
+use Rattle.worked_runs.specs.Systems.{half_accuses, two_rows, lost_row, three_values, two_colluding, five_silent, too_many_faults, joining_beside_two_rows, restart_amid_liars, two_states, late_claim_and_no_row, wrong_state_and_claims, sensor_of_a_task, steps_alone, excluded_and_back, excluded_for_good}
+use Rattle.worked_runs.specs.Shown.{of_all, class_in, mode_in, counts_after, streaks_after, left_after, members_before, done_in, due_in, own_value_in, rows_in, vote_in}
 use Rattle.worked_runs.proofs.Opened.{opened}
 
 pub half_accuses-classes : of_all half_accuses (class_in half_accuses 0) ≡ N ∷ N ∷ N ∷ N ∷ A ∷ []
@@ -236,3 +236,15 @@ excluded_and_back-rows = refl
 pub excluded_and_back-counts : map (λ p. counts_after excluded_and_back p 2) (0 ∷ 1 ∷ 2 ∷ []) ≡ (0 ∷ 0 ∷ 5 ∷ []) ∷ (0 ∷ 0 ∷ 0 ∷ []) ∷ (0 ∷ 0 ∷ 0 ∷ []) ∷ []
 unfolding opened
 excluded_and_back-counts = refl
+
+pub excluded_for_good-members : map (λ p. members_before excluded_for_good p 2) (0 ∷ 1 ∷ 2 ∷ []) ≡ (0 ∷ 1 ∷ 2 ∷ []) ∷ (0 ∷ 1 ∷ []) ∷ (0 ∷ 1 ∷ []) ∷ []
+unfolding opened
+excluded_for_good-members = refl
+
+pub excluded_for_good-counts : map (λ p. counts_after excluded_for_good p 2) (0 ∷ 1 ∷ 2 ∷ []) ≡ (0 ∷ 0 ∷ 5 ∷ []) ∷ (0 ∷ 0 ∷ 0 ∷ []) ∷ (0 ∷ 0 ∷ 0 ∷ []) ∷ []
+unfolding opened
+excluded_for_good-counts = refl
+
+pub excluded_for_good-left : of_all excluded_for_good (left_after excluded_for_good 0) ≡ replicate 3 (0 ∷ 0 ∷ 1 ∷ [])
+unfolding opened
+excluded_for_good-left = refl

@@ -21,10 +21,11 @@ no_runs i = replicate 32 0
 
 -- eight kinds of weight 5
 abbrev pub policy : Policy
-policy = record { weights = replicate 8 5 ++ replicate 8 0; exclude = 20; readmit = 4; credit = 1; streak = 2; cap = 100 }
+policy = record { weights = replicate 8 5 ++ replicate 8 0; exclude = 20; readmit = 4; credit = 1; streak = 2; cap = 100; retire = 0 }
 
-abbrev pub config : Policy → ℕ → ℕ → ℕ → List TaskView → List (Channel 8) → Config 8
-config policy nodes m frame tasks channels = record {
+abbrev pub config : ℕ → Policy → ℕ → ℕ → ℕ → List TaskView → List (Channel 8) → Config 8
+config version policy nodes m frame tasks channels = record {
+  version = version;
   nodes = nodes;
   m = m;
   frame = frame;
@@ -34,16 +35,16 @@ config policy nodes m frame tasks channels = record {
 }
 
 -- a cluster with run times and readings by node
-abbrev pub cluster : Policy → ℕ → ℕ → ℕ → List TaskView → List (Channel 8) → (ℕ → List ℕ) → (ℕ → List ℤ) → List Line → List Restart → System
-cluster policy nodes m periods tasks channels run reading lines restarts = record {
-  setting = record { capacity = 8; config = config policy nodes m periods tasks channels; further = no_further };
+abbrev pub cluster : ℕ → Policy → ℕ → ℕ → ℕ → List TaskView → List (Channel 8) → (ℕ → List ℕ) → (ℕ → List ℤ) → List Line → List Restart → System
+cluster version policy nodes m periods tasks channels run reading lines restarts = record {
+  setting = record { capacity = 8; config = config version policy nodes m periods tasks channels; further = no_further };
   plan = record { nodes = nodes; rounds = m; periods = periods; lines = lines; restarts = restarts };
   inputs = λ i p. record { run = run i; reading = reading i };
 }
 
--- a cluster without tasks
+-- a cluster of version 1 without tasks
 abbrev pub system : ℕ → ℕ → ℕ → List (Channel 8) → (ℕ → List ℤ) → List Line → List Restart → System
-system nodes m periods channels reading lines restarts = cluster policy nodes m periods [] channels no_runs reading lines restarts
+system nodes m periods channels reading lines restarts = cluster 1 policy nodes m periods [] channels no_runs reading lines restarts
 
 -- in one period, on some slots
 abbrev pub line : ℕ → List ℕ → ℕ → List ℕ → Change → Line
@@ -120,7 +121,7 @@ late_claim_and_no_row = system 3 0 2 [] no_readings (line 1 (0 ∷ 2 ∷ []) 0 (
 
 -- node 0 sends another state, node 1 doesn't claim a task that runs for one period, and node 2 claims one that runs for two
 abbrev pub wrong_state_and_claims : System
-wrong_state_and_claims = cluster policy 3 0 1
+wrong_state_and_claims = cluster 1 policy 3 0 1
     (record { after = []; nodes = 1 ∷ []; need = 1; min = 1; max = 1 } ∷ record { after = []; nodes = 2 ∷ []; need = 1; min = 2; max = 2 } ∷ []) []
     (λ i. 1 ∷ 2 ∷ replicate 30 0) no_readings
     (line 0 (1 ∷ 2 ∷ []) 0 (0 ∷ []) (Set 16 (0 ∷ 7 ∷ []))
@@ -129,7 +130,7 @@ wrong_state_and_claims = cluster policy 3 0 1
 
 -- a task of two copies, with run times 1 and 2, finishes in period 1, and a sensor is read then
 abbrev pub sensor_of_a_task : System
-sensor_of_a_task = cluster policy 3 0 4 (record { after = []; nodes = 0 ∷ 1 ∷ []; need = 2; min = 1; max = 3 } ∷ []) (Sensor (pos 10) (Some 0) ∷ [])
+sensor_of_a_task = cluster 1 policy 3 0 4 (record { after = []; nodes = 0 ∷ 1 ∷ []; need = 2; min = 1; max = 3 } ∷ []) (Sensor (pos 10) (Some 0) ∷ [])
     (three_runs 1 2 1) (three_readings (pos 1) (pos 5) (pos 6)) [] []
 
 -- nodes 1 and 2 each hear no values for a period: node 1 as a full node, and node 2 as a joining one
@@ -140,8 +141,15 @@ steps_alone = system 3 0 4 (State (pos 10) (pos 10 ∷ pos 12 ∷ pos 14 ∷ rep
 
 -- one error excludes a node, and one period without errors makes up for it
 abbrev pub strict_policy : Policy
-strict_policy = record { weights = replicate 8 5 ++ replicate 8 0; exclude = 5; readmit = 3; credit = 5; streak = 1; cap = 100 }
+strict_policy = record { weights = replicate 8 5 ++ replicate 8 0; exclude = 5; readmit = 3; credit = 5; streak = 1; cap = 100; retire = 0 }
 
 -- node 2 sends no state
 abbrev pub excluded_and_back : System
-excluded_and_back = cluster strict_policy 3 0 3 [] (Sensor (pos 100) None ∷ []) no_runs (three_readings (pos 1) (pos 5) (pos 9)) (line 2 (0 ∷ 1 ∷ []) 0 (0 ∷ []) Drop ∷ []) []
+excluded_and_back = cluster 1 strict_policy 3 0 3 [] (Sensor (pos 100) None ∷ []) no_runs (three_readings (pos 1) (pos 5) (pos 9)) (line 2 (0 ∷ 1 ∷ []) 0 (0 ∷ []) Drop ∷ []) []
+
+-- the same in version 2, where a node that left once joins no more
+abbrev pub retiring_policy : Policy
+retiring_policy = record { weights = replicate 16 5; exclude = 5; readmit = 3; credit = 5; streak = 1; cap = 100; retire = 1 }
+
+abbrev pub excluded_for_good : System
+excluded_for_good = cluster 2 retiring_policy 3 0 3 [] [] no_runs no_readings (line 2 (0 ∷ 1 ∷ []) 0 (0 ∷ []) Drop ∷ []) []

@@ -11,8 +11,8 @@ ghost use Rattle.protocol.specs.View.{Mode};
 ghost use Rattle.protocol.specs.Run.{run, classes};
 ghost use Rattle.protocol.specs.Accepted.{IsAccepted};
 ghost use Rattle.protocol.specs.Safe.{reference, members_at, Budget, Safe};
-ghost use Rattle.worked_runs.specs.Systems.{half_accuses, two_rows, lost_row, three_values, two_colluding, five_silent, too_many_faults, joining_beside_two_rows, restart_amid_liars, two_states, late_claim_and_no_row, wrong_state_and_claims, sensor_of_a_task, steps_alone, excluded_and_back};
-ghost use Rattle.worked_runs.specs.Shown.{of_all, class_in, mode_in, counts_after, streaks_after, members_before, done_in, due_in, own_value_in, rows_in, vote_in};
+ghost use Rattle.worked_runs.specs.Systems.{half_accuses, two_rows, lost_row, three_values, two_colluding, five_silent, too_many_faults, joining_beside_two_rows, restart_amid_liars, two_states, late_claim_and_no_row, wrong_state_and_claims, sensor_of_a_task, steps_alone, excluded_and_back, excluded_for_good};
+ghost use Rattle.worked_runs.specs.Shown.{of_all, class_in, mode_in, counts_after, streaks_after, left_after, members_before, done_in, due_in, own_value_in, rows_in, vote_in};
 
 /// Two of four voters accuse node 4 of a missing frame. Half of them aren't more than half, so nothing is charged.
 pub fn half_is_no_majority()
@@ -129,6 +129,13 @@ pub fn an_excluded_node_comes_back()
     ensures votes { map (λ p. of_all excluded_and_back (vote_in excluded_and_back p)) (0 ∷ 1 ∷ 2 ∷ []) ≡ replicate 3 (Some (pos 5) ∷ []) ∷ replicate 3 (Some (pos 3) ∷ []) ∷ replicate 3 (Some (pos 5) ∷ []) ∷ [] }
     ensures rows { of_all excluded_and_back (rows_in excluded_and_back 1) ≡ replicate 3 (Some (0 ∷ 0 ∷ 0 ∷ []) ∷ Some (0 ∷ 0 ∷ 0 ∷ []) ∷ None ∷ []) }
     ensures counts { map (λ p. counts_after excluded_and_back p 2) (0 ∷ 1 ∷ 2 ∷ []) ≡ (0 ∷ 0 ∷ 5 ∷ []) ∷ (0 ∷ 0 ∷ 0 ∷ []) ∷ (0 ∷ 0 ∷ 0 ∷ []) ∷ [] }
+{}
+
+/// In version 2 a node that left often enough joins no more.
+pub fn an_excluded_node_may_retire()
+    ensures members { map (λ p. members_before excluded_for_good p 2) (0 ∷ 1 ∷ 2 ∷ []) ≡ (0 ∷ 1 ∷ 2 ∷ []) ∷ (0 ∷ 1 ∷ []) ∷ (0 ∷ 1 ∷ []) ∷ [] }
+    ensures counts { map (λ p. counts_after excluded_for_good p 2) (0 ∷ 1 ∷ 2 ∷ []) ≡ (0 ∷ 0 ∷ 5 ∷ []) ∷ (0 ∷ 0 ∷ 0 ∷ []) ∷ (0 ∷ 0 ∷ 0 ∷ []) ∷ [] }
+    ensures left { of_all excluded_for_good (left_after excluded_for_good 0) ≡ replicate 3 (0 ∷ 0 ∷ 1 ∷ []) }
 {}
 
 /// The premises of the laws can be met with an asymmetric node.
