@@ -1,5 +1,6 @@
 -- What the tests on bodies say of them, and how a frame is made of its header and its body.
-use Rattle.std.proofs.Common.{◌≡◌, ℕ, ◌+◌, ◌*◌, ◌/◌, ◌%◌, ◌^◌, ◌<◌, ◌≤◌, Bool, true, false, ◌&&◌, List, ◌++◌, length, take, drop, map, sym, refl, ap, ◌∙◌, arith, subst, get_or, lit<, eq-eqb, inl}
+use Rattle.std.proofs.Common.{◌≡◌, ℕ, ◌+◌, ◌*◌, ◌/◌, ◌%◌, ◌^◌, ◌<◌, ◌≤◌, Bool, true, ◌&&◌, List, ◌++◌, length, take, drop, map, sym, refl, ap, ◌∙◌, arith, subst, get_or, lit<, eq-eqb, inl}
+use Rattle.std.proofs.lemmas.Bool.{and_parts, and_from}
 use Rattle.std.specs.Prelude.{◌==◌, Option, Some, None, IfSome, IfNone, option_map}
 use Rattle.std.specs.Bool.{Decides}
 use Rattle.std.proofs.Math.Nat.{add-mul-div_left, div-eq_of_lt, mul-mod_right}
@@ -16,17 +17,6 @@ use Rattle.frames.specs.PieceLaws.{AreBytes, length-cut, length_spelt, test_spel
 use Rattle.frames.specs.EntryLaws.{claim_format, claim_test, value_format, value_test, row_valid, row_restored, row_long, row_passes, relayed_row_format, relayed_row_test}
 use Rattle.frames.specs.ReadingLaws.{said_spelt, spelt_once, header_told, reads_exactly, none_if}
 
-both : (x y : Bool) → x ≡ true → y ≡ true → (x && y) ≡ true
-both x y h k = rw (h, k) refl
-
-pub and_left : (x y : Bool) → (x && y) ≡ true → x ≡ true
-and_left true y h = refl
-and_left false y h = h
-
-pub and_right : (x y : Bool) → (x && y) ≡ true → y ≡ true
-and_right true y h = h
-and_right false y h = absurd (cc)
-
 times_over : (width n : ℕ) → 0 < width → (width * n) / width ≡ n
 times_over width n h =
     let z : 0 / width ≡ 0 = div-eq_of_lt h in
@@ -37,15 +27,15 @@ entries_said : {V : Type 0} (width : ℕ) (spell : V → List ℕ) (read : List 
     → (n : ℕ) (bytes : List ℕ) → AreBytes bytes → ((length bytes == width * n) && list_all test (cut width bytes)) ≡ true
     → (length (map read (cut width bytes)) ≡ n) × All P (map read (cut width bytes)) × (bytes ≡ flat_map spell (map read (cut width bytes)))
 entries_said width spell read P test wide t n bytes b h =
-    let l : length bytes ≡ width * n = (Decides-eqb (length bytes) (width * n)).0 (and_left (length bytes == width * n) (list_all test (cut width bytes)) h) in
-    let r = restored width spell read P test wide t n bytes l b (and_right (length bytes == width * n) (list_all test (cut width bytes)) h) in
+    let l : length bytes ≡ width * n = (Decides-eqb (length bytes) (width * n)).0 (and_parts _ _ h).0 in
+    let r = restored width spell read P test wide t n bytes l b (and_parts _ _ h).1 in
     (length-map (cut width bytes) read ∙ length-cut width bytes ∙ ap (λ x. x / width) l ∙ times_over width n wide, r.1, sym r.0)
 
 entries_test : {V : Type 0} (width : ℕ) (spell : V → List ℕ) (read : List ℕ → V) (P : V → Type 0) (test : List ℕ → Bool) → IsFormat width spell read P → IsTest width spell read P test
     → (n : ℕ) (bytes : List ℕ) (xs : List V) → length xs ≡ n → All P xs → bytes ≡ flat_map spell xs → ((length bytes == width * n) && list_all test (cut width bytes)) ≡ true
 entries_test width spell read P test f t n bytes xs l a s =
     let long : length bytes ≡ width * n = ap length s ∙ length_spelt width spell read P f xs a ∙ ap (λ x. width * x) l in
-    both (length bytes == width * n) (list_all test (cut width bytes)) (eq-eqb (length bytes) (width * n) long)
+    and_from (length bytes == width * n) (list_all test (cut width bytes)) (eq-eqb (length bytes) (width * n) long)
     (ap (λ bs. list_all test (cut width bs)) s ∙ test_spelt width spell read P test f t xs a)
 
 pub claims_decided : (e : Expectation) (bytes : List ℕ) → AreBytes bytes → Decides (has_claims e bytes) (IsSaid e (DoneRelay (claims_in bytes)) bytes)
@@ -73,11 +63,11 @@ rows_decided e bytes few b =
 
 pub row_decided : (e : Expectation) (bytes : List ℕ) → e.nodes ≤ e.capacity → AreBytes bytes → Decides (has_row e bytes) (IsSaid e (Report0 (row_in e.capacity e.nodes bytes)) bytes)
 row_decided e bytes few b = (
-  λ h. let l : length bytes ≡ 2 * e.nodes = (Decides-eqb (length bytes) (2 * e.nodes)).0 (and_left (length bytes == 2 * e.nodes) (are_masks e.version bytes) h) in
-      let t : are_masks e.version bytes ≡ true = and_right (length bytes == 2 * e.nodes) (are_masks e.version bytes) h in
+  λ h. let l : length bytes ≡ 2 * e.nodes = (Decides-eqb (length bytes) (2 * e.nodes)).0 (and_parts _ _ h).0 in
+      let t : are_masks e.version bytes ≡ true = (and_parts _ _ h).1 in
       record { sized = row_valid e.version e.capacity e.nodes bytes few l b t; spelt = sym (row_restored e.capacity e.nodes bytes l b) },
   λ (h : IsSaid e (Report0 (row_in e.capacity e.nodes bytes)) bytes).
-      both (length bytes == 2 * e.nodes) (are_masks e.version bytes)
+      and_from (length bytes == 2 * e.nodes) (are_masks e.version bytes)
       (eq-eqb (length bytes) (2 * e.nodes) (ap length h.spelt ∙ row_long e.version e.capacity e.nodes (row_in e.capacity e.nodes bytes) h.sized))
       (ap (are_masks e.version) h.spelt ∙ row_passes e.version e.capacity e.nodes (row_in e.capacity e.nodes bytes) h.sized),
 )
@@ -103,7 +93,7 @@ kind_told k num p q a b e = a ∙ b ∙ ap number_of e
 
 pub whole_rows : (e : Expectation) (bytes : List ℕ) (width : ℕ) → width ≡ 1 + 2 * e.nodes → has_rows e bytes ≡ true → length bytes % width ≡ 0
 whole_rows e bytes width w h =
-    let l : length bytes ≡ (1 + 2 * e.nodes) * entries_due e = (Decides-eqb (length bytes) ((1 + 2 * e.nodes) * entries_due e)).0 (and_left (length bytes == (1 + 2 * e.nodes) * entries_due e) (list_all (is_row_entry e.version (round_in e.m e.slot)) (cut (1 + 2 * e.nodes) bytes)) h) in
+    let l : length bytes ≡ (1 + 2 * e.nodes) * entries_due e = (Decides-eqb (length bytes) ((1 + 2 * e.nodes) * entries_due e)).0 (and_parts _ _ h).0 in
     ap (λ x. x % width) (l ∙ ap (λ x. x * entries_due e) (sym w)) ∙ mul-mod_right width (entries_due e)
 
 -- ---- header and body

@@ -1,5 +1,6 @@
 -- The spellings of claims, masks, values and rows, one piece each.
-use Rattle.std.proofs.Common.{◌≡◌, ℕ, zero, suc, ◌+◌, ◌-◌, ◌*◌, ◌/◌, ◌%◌, ◌^◌, ◌<◌, ◌≤◌, Bool, true, false, ◌&&◌, List, [], ◌∷◌, ◌++◌, length, take, drop, map, replicate, refl, sym, ap, ◌∙◌, arith, get_or, lit<, add-zero, set}
+use Rattle.std.proofs.Common.{◌≡◌, ℕ, zero, suc, ◌+◌, ◌-◌, ◌*◌, ◌/◌, ◌%◌, ◌^◌, ◌<◌, ◌≤◌, Bool, true, false, List, [], ◌∷◌, ◌++◌, length, take, drop, map, replicate, refl, sym, ap, ◌∙◌, arith, get_or, lit<, add-zero, set}
+use Rattle.std.proofs.lemmas.Bool.{and_parts}
 use Rattle.std.specs.Prelude.{◌==◌, nat_le, nat_lt, ℤ, pos, negsuc, neg_ℤ, ◌≤ℤ◌, int_le, if◌then◌else◌}
 use Rattle.std.specs.Int.{w16, w64, to_be_bytes, from_be_bytes, cast_unsigned, cast_signed}
 use Rattle.std.specs.List.{flat_map, All, list_all, range_with_len}
@@ -19,10 +20,8 @@ use Rattle.frames.specs.Content.{IsClaim, IsRow, IsValue, IsEntry}
 use Rattle.frames.specs.Spelling.{claim_spelling, row_spelling, relayed_row_spelling, value_spelling}
 use Rattle.frames.specs.Reading.{piece, cut, claim_in, claims_in, rows_in, values_in, row_in, relayed_row_in, value_in, fits_claim, fits_value}
 use Rattle.frames.specs.Checks.{is_written, are_written, is_claim_entry, is_mask, are_masks, are_zero, is_row_entry, is_value}
+use Rattle.frames.specs.TestLaws.{above_zero, eq_told, le_told, le_holds, lt_fails}
 use Rattle.frames.specs.PieceLaws.{get_or-piece, each_passes, one_fails, AreBytes, AreBytes-drop, IsFormat, IsTest, read_spelt, length_spelt, test_spelt, restored}
-
-above_zero : (k : ℕ) → (suc k == 0) ≡ false
-above_zero k = grind arith
 
 -- ---- claims
 
@@ -44,36 +43,19 @@ claim_format tasks r = record { wide = lit< tt; long = long; back = back }
     back (Fault zero) h = absurd (omega (arith, h.0))
     back (Fault (suc k)) h = rw (above_zero k) refl
 
-le_test : (a b : ℕ) → a ≤ b → nat_le a b ≡ true
-le_test a b h = grind (arith, nat_tests)
-
-le_told : (a b : ℕ) → nat_le a b ≡ true → a ≤ b
-le_told a b h = grind (arith, nat_tests)
-
-eq_told : (a b : ℕ) → (a == b) ≡ true → a ≡ b
-eq_told a b h = grind (arith, nat_tests)
-
-and_left : (x y : Bool) → (x && y) ≡ true → x ≡ true
-and_left true y h = refl
-and_left false y h = h
-
-and_right : (x y : Bool) → (x && y) ≡ true → y ≡ true
-and_right true y h = h
-and_right false y h = absurd (cc)
-
 pub claim_test : (tasks r : ℕ) → IsTest 2 claim_spelling claim_in (IsEntry (IsClaim tasks) r) (is_claim_entry tasks r)
 claim_test tasks r = record { passes = passes; valid = valid; restores = restores }
   where
     passes : (x : Wrapped ℕ) → IsEntry (IsClaim tasks) r x → is_claim_entry tasks r (claim_spelling x) ≡ true
     passes (Plain t) h = claim_fits tasks t h
     passes (Fault zero) h = absurd (omega (arith, h.0))
-    passes (Fault (suc k)) h = let e : nat_le (suc k) r ≡ true = le_test (suc k) r h.1 in rw (above_zero k, e) refl
+    passes (Fault (suc k)) h = let e : nat_le (suc k) r ≡ true = le_holds (suc k) r h.1 in rw (above_zero k, e) refl
 
     valid : (b : List ℕ) → length b ≡ 2 → AreBytes b → is_claim_entry tasks r b ≡ true → IsEntry (IsClaim tasks) r (claim_in b)
     valid (zero ∷ y ∷ []) l _ h = claim_valid tasks y h
     valid (suc k ∷ y ∷ []) l _ h =
         let t = rw (above_zero k) at h in
-        rw (above_zero k) (omega arith, le_told (suc k) r (and_left (nat_le (suc k) r) (y == 0) t))
+        rw (above_zero k) (omega arith, le_told (suc k) r (and_parts _ _ t).0)
     valid [] l _ h = absurd (omega arith)
     valid (x ∷ []) l _ h = absurd (omega arith)
     valid (x ∷ y ∷ z ∷ rest) l _ h = absurd (omega arith)
@@ -82,7 +64,7 @@ claim_test tasks r = record { passes = passes; valid = valid; restores = restore
     restores (zero ∷ y ∷ []) l _ h = refl
     restores (suc k ∷ y ∷ []) l _ h =
         let t = rw (above_zero k) at h in
-        let e : y ≡ 0 = eq_told y 0 (and_right (nat_le (suc k) r) (y == 0) t) in
+        let e : y ≡ 0 = eq_told y 0 (and_parts _ _ t).1 in
         rw (above_zero k, e) refl
     restores [] l _ h = absurd (omega arith)
     restores (x ∷ []) l _ h = absurd (omega arith)
@@ -143,10 +125,7 @@ pub masks_pass : (version : ℕ) (bytes : List ℕ) → ((k : ℕ) → k < lengt
 masks_pass version bytes h = each_passes (is_mask version) 2 bytes (λ k l. mask_at version bytes k ∙ (Decides-ltb (mask_of bytes k) (mask_bound version)).1 (h k l))
 
 pub masks_fail : (version : ℕ) (bytes : List ℕ) (k : ℕ) → k < length bytes / 2 → mask_bound version ≤ mask_of bytes k → are_masks version bytes ≡ false
-masks_fail version bytes k l h = one_fails (is_mask version) 2 bytes k l (mask_at version bytes k ∙ not_less (mask_of bytes k) (mask_bound version) h)
-  where
-    not_less : (a b : ℕ) → b ≤ a → nat_lt a b ≡ false
-    not_less a b h = grind (arith, nat_tests)
+masks_fail version bytes k l h = one_fails (is_mask version) 2 bytes k l (mask_at version bytes k ∙ lt_fails (mask_of bytes k) (mask_bound version) h)
 
 -- ---- values
 
@@ -158,8 +137,8 @@ value_fits number h =
 
 pub value_valid : (number : ℤ) → fits_value number ≡ true → IsValue number
 value_valid number h =
-    let low : int_le (neg_ℤ (pos (2 ^ 42))) number ≡ true = and_left (int_le (neg_ℤ (pos (2 ^ 42))) number) (int_le number (pos (2 ^ 42))) h in
-    let high : int_le number (pos (2 ^ 42)) ≡ true = and_right (int_le (neg_ℤ (pos (2 ^ 42))) number) (int_le number (pos (2 ^ 42))) h in
+    let low : int_le (neg_ℤ (pos (2 ^ 42))) number ≡ true = (and_parts (int_le (neg_ℤ (pos (2 ^ 42))) number) (int_le number (pos (2 ^ 42))) h).0 in
+    let high : int_le number (pos (2 ^ 42)) ≡ true = (and_parts (int_le (neg_ℤ (pos (2 ^ 42))) number) (int_le number (pos (2 ^ 42))) h).1 in
     record { low = grind (arith, ints); high = grind (arith, ints) }
 
 value_in_64 : (x : ℤ) → IsValue x → SFits w64 x
@@ -197,8 +176,8 @@ all_zeros [] zero l h = refl
 all_zeros [] (suc n) l h = absurd (omega arith)
 all_zeros (b ∷ bs) zero l h = absurd (omega arith)
 all_zeros (b ∷ bs) (suc n) l h =
-    let e : b ≡ 0 = eq_told b 0 (and_left (b == 0) (are_zero bs) h) in
-    let r : bs ≡ replicate n 0 = all_zeros bs n (omega arith) (and_right (b == 0) (are_zero bs) h) in
+    let e : b ≡ 0 = eq_told b 0 (and_parts _ _ h).0 in
+    let r : bs ≡ replicate n 0 = all_zeros bs n (omega arith) (and_parts _ _ h).1 in
     rw (e, r) refl
 
 zeros_pass : (n : ℕ) → are_zero (replicate n 0) ≡ true
@@ -236,7 +215,7 @@ module _ (capacity nodes : ℕ) where
       length-map (cut 2 bytes) (from_be_bytes w16) ∙ length-map-range_with_len (piece 2 bytes) 0 (length bytes / 2)
       ∙ omega arith
 
-  -- a row's bytes are told by the row, also where a mask isn't below 256
+  -- a row's bytes are told by the row, also where a mask is none of the version
   pub row_restored : (bytes : List ℕ) → length bytes ≡ 2 * nodes → AreBytes bytes → row_spelling nodes (row_in capacity nodes bytes) ≡ bytes
   row_restored bytes l b =
       let n : length (map (from_be_bytes w16) (cut 2 bytes)) ≡ nodes = masks_read bytes l in
@@ -307,21 +286,21 @@ module _ (version capacity nodes : ℕ) where
       passes : (x : Wrapped (List ℕ)) → IsEntry (IsRow version capacity nodes) r x → is_row_entry version r (relayed_row_spelling nodes x) ≡ true
       passes (Plain masks) h = row_passes masks h
       passes (Fault zero) h = absurd (omega (arith, h.0))
-      passes (Fault (suc k)) h = let e : nat_le (suc k) r ≡ true = le_test (suc k) r h.1 in let z : are_zero (replicate (2 * nodes) 0) ≡ true = zeros_pass (2 * nodes) in rw (above_zero k, e, z) refl
+      passes (Fault (suc k)) h = let e : nat_le (suc k) r ≡ true = le_holds (suc k) r h.1 in let z : are_zero (replicate (2 * nodes) 0) ≡ true = zeros_pass (2 * nodes) in rw (above_zero k, e, z) refl
 
       valid : (b : List ℕ) → length b ≡ 1 + 2 * nodes → AreBytes b → is_row_entry version r b ≡ true → IsEntry (IsRow version capacity nodes) r (relayed_row_in capacity nodes b)
       valid [] l b h = absurd (omega arith)
       valid (zero ∷ rest) l b h = row_valid rest few (omega arith) (AreBytes-drop 1 (zero ∷ rest) b) h
       valid (suc k ∷ rest) l b h =
           let t = rw (above_zero k) at h in
-          rw (above_zero k) (omega arith, le_told (suc k) r (and_left (nat_le (suc k) r) (are_zero rest) t))
+          rw (above_zero k) (omega arith, le_told (suc k) r (and_parts _ _ t).0)
 
       restores : (b : List ℕ) → length b ≡ 1 + 2 * nodes → AreBytes b → is_row_entry version r b ≡ true → relayed_row_spelling nodes (relayed_row_in capacity nodes b) ≡ b
       restores [] l b h = absurd (omega arith)
       restores (zero ∷ rest) l b h = ap (λ s. 0 ∷ s) (row_restored capacity nodes rest (omega arith) (AreBytes-drop 1 (zero ∷ rest) b))
       restores (suc k ∷ rest) l b h =
           let t = rw (above_zero k) at h in
-          let z : rest ≡ replicate (2 * nodes) 0 = all_zeros rest (2 * nodes) (omega arith) (and_right (nat_le (suc k) r) (are_zero rest) t) in
+          let z : rest ≡ replicate (2 * nodes) 0 = all_zeros rest (2 * nodes) (omega arith) (and_parts _ _ t).1 in
           rw (above_zero k) (ap (λ s. suc k ∷ s) (sym z))
 
 -- ---- entries and values as they are written
@@ -334,8 +313,8 @@ tests_more : (p q : List ℕ → Bool) (width : ℕ) (bytes : List ℕ) → ((b 
 tests_more p q width bytes h [] t = refl
 tests_more p q width bytes h (k ∷ ks) t =
     let b : List ℕ = piece width bytes k in
-    let here : q b ≡ true = h b (omega (arith, length-take width (drop (width * k) bytes))) (and_left (p b) (list_all p (map (piece width bytes) ks)) t) in
-    let rest : list_all q (map (piece width bytes) ks) ≡ true = tests_more p q width bytes h ks (and_right (p b) (list_all p (map (piece width bytes) ks)) t) in
+    let here : q b ≡ true = h b (omega (arith, length-take width (drop (width * k) bytes))) (and_parts _ _ t).0 in
+    let rest : list_all q (map (piece width bytes) ks) ≡ true = tests_more p q width bytes h ks (and_parts _ _ t).1 in
     rw (here, rest) refl
 
 any_claim : IsTest 2 claim_spelling claim_in (λ _. Unit {0}) is_written
@@ -350,7 +329,7 @@ any_claim = record { passes = passes; valid = λ b l h t. tt; restores = restore
     restores (zero ∷ y ∷ []) l _ h = refl
     restores (suc k ∷ y ∷ []) l _ h =
         let t = rw (above_zero k) at h in
-        let e : y ≡ 0 = eq_told y 0 (and_left (y == 0) true t) in
+        let e : y ≡ 0 = eq_told y 0 (and_parts _ _ t).0 in
         rw (above_zero k, e) refl
     restores [] l _ h = absurd (omega arith)
     restores (x ∷ []) l _ h = absurd (omega arith)
@@ -393,7 +372,7 @@ claim_written tasks r (zero ∷ rest) l h = refl
 claim_written tasks r (suc k ∷ []) l h = rw (above_zero k) refl
 claim_written tasks r (suc k ∷ y ∷ []) l h =
     let t = rw (above_zero k) at h in
-    let z : (y == 0) ≡ true = and_right (nat_le (suc k) r) (y == 0) t in
+    let z : (y == 0) ≡ true = (and_parts _ _ t).1 in
     rw (above_zero k, z) refl
 claim_written tasks r (suc k ∷ y ∷ z ∷ rest) l h = absurd (omega arith)
 
@@ -402,7 +381,7 @@ row_written version r [] h = refl
 row_written version r (zero ∷ rest) h = refl
 row_written version r (suc k ∷ rest) h =
     let t = rw (above_zero k) at h in
-    rw (above_zero k) (and_right (nat_le (suc k) r) (are_zero rest) t)
+    rw (above_zero k) (and_parts _ _ t).1
 
 pub claims_written : (tasks r : ℕ) (bytes : List ℕ) → list_all (is_claim_entry tasks r) (cut 2 bytes) ≡ true → are_written 2 bytes ≡ true
 claims_written tasks r bytes h = tests_more (is_claim_entry tasks r) is_written 2 bytes (claim_written tasks r) (range_with_len 0 (length bytes / 2)) h

@@ -3,7 +3,7 @@ use Rattle.std.proofs.Common.{◌≡◌, ℕ, zero, suc, ◌+◌, ◌*◌, ◌/�
 use Rattle.std.proofs.Math.Nat.{mul-add, mul-one, add-mul-div_left, div-eq_of_lt, div-add-mod}
 use Rattle.std.proofs.lemmas.Nat.{mul-le}
 use Rattle.frames.specs.Writing.{pasted}
-use Rattle.std.proofs.lemmas.Bool.{cases_lt}
+use Rattle.std.proofs.lemmas.Bool.{cases_lt, and_parts}
 use Rattle.std.specs.List.{range_with_len, flat_map, list_all, All}
 use Rattle.std.proofs.lemmas.List.{take_at, drop_at, drop-drop, length-append, take-append-drop, length-take-le, length-drop, length-take, nil_from_length, get_or-take, get_or-drop, get_or_past, get_or-map, append_assoc, append-nil}
 use Rattle.std.proofs.lemmas.List.Elements.{All-nil, All-cons, All-head, All-tail}
@@ -104,14 +104,6 @@ test_each width spell read P test t (x ∷ xs) h =
 pub test_spelt : {V : Type 0} (width : ℕ) (spell : V → List ℕ) (read : List ℕ → V) (P : V → Type 0) (test : List ℕ → Bool) → IsFormat width spell read P → IsTest width spell read P test → (xs : List V) → All P xs → list_all test (cut width (flat_map spell xs)) ≡ true
 test_spelt width spell read P test f t xs h = ap (list_all test) (cut_spelt width spell read P f xs h) ∙ test_each width spell read P test t xs h
 
-and_left : (x y : Bool) → (x && y) ≡ true → x ≡ true
-and_left true y h = refl
-and_left false y h = h
-
-and_right : (x y : Bool) → (x && y) ≡ true → y ≡ true
-and_right true y h = h
-and_right false y h = absurd (cc)
-
 -- what passes the test is the spelling of values in range
 pub restored : {V : Type 0} (width : ℕ) (spell : V → List ℕ) (read : List ℕ → V) (P : V → Type 0) (test : List ℕ → Bool) → 0 < width → IsTest width spell read P test
     → (n : ℕ) (bytes : List ℕ) → length bytes ≡ width * n → AreBytes bytes → list_all test (cut width bytes) ≡ true
@@ -129,9 +121,9 @@ restored width spell read P test wide t (suc n) bytes l b h =
     let lb : length back ≡ width * n = omega (arith, length-drop width bytes) in
     let c : cut width bytes ≡ front ∷ cut width back = ap (cut width) (sym whole) ∙ cut-cons width front back wide lf in
     let both : (test front && list_all test (cut width back)) ≡ true = sym (ap (list_all test) c) ∙ h in
-    let here : test front ≡ true = and_left (test front) (list_all test (cut width back)) both in
+    let here : test front ≡ true = (and_parts _ _ both).0 in
     let bf : AreBytes front = AreBytes-take width bytes b in
-    let rest = restored width spell read P test wide t n back lb (AreBytes-drop width bytes b) (and_right (test front) (list_all test (cut width back)) both) in
+    let rest = restored width spell read P test wide t n back lb (AreBytes-drop width bytes b) (and_parts _ _ both).1 in
     let e : spell (read front) ≡ front = t.restores front lf bf here in (
       ap (λ ps. flat_map spell (map read ps)) c ∙ ap (λ s. s ++ flat_map spell (map read (cut width back))) e ∙ ap (λ s. front ++ s) rest.0 ∙ whole,
       subst (λ ps. All P (map read ps)) (sym c) (All-cons P (read front) (map read (cut width back)) (t.valid front lf bf here) rest.1),

@@ -6,7 +6,7 @@ use Rattle.std.specs.Int.{w32, to_be_bytes, from_be_bytes}
 use Rattle.std.specs.List.{list_all, All}
 use Rattle.std.specs.Cmp.Lexicographic.{pointwise}
 use Rattle.std.proofs.lemmas.Bool.Decides.{nat_tests, Decides-eqb, Decides-ltb, Decides-and, Decides-or, Decides-by_and}
-use Rattle.std.proofs.lemmas.Bool.{cases_lt}
+use Rattle.std.proofs.lemmas.Bool.{cases_lt, and_parts, and_from}
 use Rattle.node_grid.specs.NodeSet.{has_id}
 use Rattle.node_grid.specs.Version.{mask_bound}
 use Rattle.std.proofs.lemmas.Slice.Eq.{bytes_eq-Decides}
@@ -21,6 +21,7 @@ use Rattle.frames.specs.Content.{Expectation, Content, State, Done0, DoneRelay, 
 use Rattle.frames.specs.Spelling.{claim_spelling, relayed_row_spelling, value_spelling, body_spelling, header_spelling, spelling, head_of, IsInRange, IsFrame}
 use Rattle.frames.specs.Reading.{claim_in, relayed_row_in, value_in, said_in, fits_claim, fits_row, fits_value, fits_entry, fits_sizes, fits, answer_if, confirmed, reading}
 use Rattle.frames.specs.Laws.{ReadsExactly, IsSpeltOnce, ReadsBack, ReadsInRange, HasNoFront, HasNoPrefix, ReadsCold, IsLaidOut, IsShort}
+use Rattle.frames.specs.TestLaws.{eq_fails, le_told, le_holds, le_fails}
 use Rattle.frames.specs.PieceLaws.{read_spelt, length_spelt}
 use Rattle.frames.specs.EntryLaws.{claim_format, claim_fits, claim_valid, value_format, value_fits, value_valid, row_back, row_long, relayed_row_format}
 
@@ -78,7 +79,7 @@ value_decided : (number : ℤ) → Decides (fits_value number) (IsValue number)
 value_decided number = (value_valid number, value_fits number)
 
 le_decided : (a b : ℕ) → Decides (nat_le a b) (a ≤ b)
-le_decided a b = (λ h. grind (arith, nat_tests), λ h. grind (arith, nat_tests))
+le_decided a b = (le_told a b, le_holds a b)
 
 all_decided : {V : Type 0} (test : V → Bool) (P : V → Type 0) → ((v : V) → Decides (test v) (P v)) → (xs : List V) → Decides (list_all test xs) (All P xs)
 all_decided test P each xs = Decides-by_and test P (list_all test) each refl (λ _ _. refl) xs
@@ -141,17 +142,6 @@ answer_told false x c h = absurd (cc)
 answer_given : (b : Bool) (x : Content) → b ≡ true → answer_if b x ≡ Some x
 answer_given b x h = ap (λ t. answer_if t x) h
 
-both : (x y : Bool) → x ≡ true → y ≡ true → (x && y) ≡ true
-both x y h k = rw (h, k) refl
-
-and_left : (x y : Bool) → (x && y) ≡ true → x ≡ true
-and_left true y h = refl
-and_left false y h = h
-
-and_right : (x y : Bool) → (x && y) ≡ true → y ≡ true
-and_right true y h = h
-and_right false y h = absurd (cc)
-
 pub reads_back : ReadsBack
 unfolding reading
 reads_back e c h =
@@ -161,7 +151,7 @@ reads_back e c h =
     let inside : fits e c ≡ true = (fits_decided e c).1 (h.placed, h.sized) in
     ap (confirmed e bytes) (said_spelt e c h.sized)
     ∙ answer_given (fits e c && (nat_lt (length bytes) (2 ^ 32 + 14) && pointwise ◌==◌ (spelling e.nodes (head_of e) c) bytes)) c
-    (both (fits e c) (nat_lt (length bytes) (2 ^ 32 + 14) && pointwise ◌==◌ (spelling e.nodes (head_of e) c) bytes) inside (both (nat_lt (length bytes) (2 ^ 32 + 14)) (pointwise ◌==◌ (spelling e.nodes (head_of e) c) bytes) short same))
+    (and_from (fits e c) (nat_lt (length bytes) (2 ^ 32 + 14) && pointwise ◌==◌ (spelling e.nodes (head_of e) c) bytes) inside (and_from (nat_lt (length bytes) (2 ^ 32 + 14)) (pointwise ◌==◌ (spelling e.nodes (head_of e) c) bytes) short same))
 
 pub reads_only : (e : Expectation) (c : Content) (bytes : List ℕ) → reading e bytes ≡ Some c → IsInRange e c × (bytes ≡ spelling e.nodes (head_of e) c)
 unfolding reading
@@ -169,10 +159,10 @@ reads_only e c bytes h =
     let x : Content = said_in e (slice_index bytes 3) (drop 14 bytes) in
     let t : Bool = nat_lt (length bytes) (2 ^ 32 + 14) && pointwise ◌==◌ (spelling e.nodes (head_of e) x) bytes in
     let told = answer_told (fits e x && t) x c h in
-    let inside = (fits_decided e x).0 (and_left (fits e x) t told.0) in
-    let rest : t ≡ true = and_right (fits e x) t told.0 in
-    let short : length bytes < 2 ^ 32 + 14 = (Decides-ltb (length bytes) (2 ^ 32 + 14)).0 (and_left (nat_lt (length bytes) (2 ^ 32 + 14)) (pointwise ◌==◌ (spelling e.nodes (head_of e) x) bytes) rest) in
-    let same : spelling e.nodes (head_of e) x ≡ bytes = (bytes_eq-Decides (spelling e.nodes (head_of e) x) bytes).0 (and_right (nat_lt (length bytes) (2 ^ 32 + 14)) (pointwise ◌==◌ (spelling e.nodes (head_of e) x) bytes) rest) in
+    let inside = (fits_decided e x).0 (and_parts (fits e x) t told.0).0 in
+    let rest : t ≡ true = (and_parts (fits e x) t told.0).1 in
+    let short : length bytes < 2 ^ 32 + 14 = (Decides-ltb (length bytes) (2 ^ 32 + 14)).0 (and_parts (nat_lt (length bytes) (2 ^ 32 + 14)) (pointwise ◌==◌ (spelling e.nodes (head_of e) x) bytes) rest).0 in
+    let same : spelling e.nodes (head_of e) x ≡ bytes = (bytes_eq-Decides (spelling e.nodes (head_of e) x) bytes).0 (and_parts (nat_lt (length bytes) (2 ^ 32 + 14)) (pointwise ◌==◌ (spelling e.nodes (head_of e) x) bytes) rest).1 in
     let n : length (body_spelling e.nodes x) < 2 ^ 32 = omega (arith, ap length same, body_length e.nodes (head_of e) x) in
     let P : Content → Type 0 = λ z. IsInRange e z × (bytes ≡ spelling e.nodes (head_of e) z) in
     subst P told.1 (record { placed = inside.0; sized = inside.1; short = n }, sym same)
@@ -247,15 +237,9 @@ round_within m slot k h l = elim (cases_lt (2 * m + 3) slot) [
   | inr early ↦ early_round m slot early
 ]
   where
-    eq_no : (a b : ℕ) → b < a → (a == b) ≡ false
-    eq_no a b h = grind arith
-
-    le_no : (a b : ℕ) → b < a → nat_le a b ≡ false
-    le_no a b h = grind (arith, nat_tests)
-
     no_slot : (m slot : ℕ) → 2 * m + 3 < slot → kind_in m slot ≡ 7
     no_slot m slot h =
-        rw (eq_no slot 0 (omega arith), eq_no slot 1 (omega arith), le_no slot (m + 1) (omega arith), eq_no slot (m + 2) (omega arith), eq_no slot (m + 3) (omega arith), le_no slot (2 * m + 3) h) refl
+        rw (eq_fails slot 0 (omega arith), eq_fails slot 1 (omega arith), le_fails slot (m + 1) (omega arith), eq_fails slot (m + 2) (omega arith), eq_fails slot (m + 3) (omega arith), le_fails slot (2 * m + 3) h) refl
 
     early_round : (m slot : ℕ) → slot ≤ 2 * m + 3 → round_in m slot ≤ m
     early_round m slot h = grind (arith, nat_tests)

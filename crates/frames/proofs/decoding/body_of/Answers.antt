@@ -1,4 +1,5 @@
 use Rattle.std.proofs.Common.{◌≡◌, ℕ, ◌+◌, ◌*◌, List, true, false, sym, ◌∙◌, arith, subst, refl}
+use Rattle.std.proofs.lemmas.Bool.{and_parts}
 use Rattle.std.proofs.lemmas.Bool.Decides.{not_from_Decides}
 use Rattle.frames.specs.Content.{Expectation, DoneRelay, Data, Report0, ReportRelay, round_in}
 use Rattle.frames.specs.Reading.{claims_in, values_in, row_in, rows_in}
@@ -6,14 +7,14 @@ use Rattle.frames.specs.Checks.{are_written, has_claims, has_values, has_row, ha
 use Rattle.frames.specs.Seen.{expected}
 use Rattle.frames.specs.PieceLaws.{AreBytes}
 use Rattle.frames.specs.EntryLaws.{claims_written, rows_written}
-use Rattle.frames.proofs.Bodies.{and_right, claims_decided, values_decided, row_decided, rows_decided, nothing_of, body_placed, kind_told, whole_rows}
+use Rattle.frames.proofs.Bodies.{claims_decided, values_decided, row_decided, rows_decided, nothing_of, body_placed, kind_told, whole_rows}
 use Rattle.frames.proofs.decoding.body_of.Goals as goal
 
 pub over-requires-clause-written : goal.over-requires-clause-written
 over-requires-clause-written g c =
     let e : Expectation = expected c.args.expect.now in
     let yes : has_claims e c.args.bytes.now ≡ true = sym c.has_claims.ensures ∙ c.if-has_claims.true in
-    claims_written e.tasks (round_in e.m e.slot) c.args.bytes.now (and_right _ _ yes)
+    claims_written e.tasks (round_in e.m e.slot) c.args.bytes.now (and_parts _ _ yes).1
 
 pub over-requires-then-has_rows-clause-whole : goal.over-requires-then-has_rows-clause-whole
 over-requires-then-has_rows-clause-whole g c =
@@ -26,7 +27,7 @@ over-requires-then-has_rows-clause-written g c =
     let e : Expectation = expected c.args.expect.now in
     let yes : has_rows e c.args.bytes.now ≡ true = sym c.has_rows.ensures ∙ c.if-has_rows.true in
     let P : ℕ → Type 0 = λ w. are_written w c.args.bytes.now ≡ true in
-    subst P (sym c.row_width.ensures) (rows_written e.version (1 + 2 * e.nodes) (round_in e.m e.slot) c.args.bytes.now (and_right _ _ yes))
+    subst P (sym c.row_width.ensures) (rows_written e.version (1 + 2 * e.nodes) (round_in e.m e.slot) c.args.bytes.now (and_parts _ _ yes).1)
 
 pub returns-then-has_claims-clause-some : goal.returns-then-has_claims-clause-some
 returns-then-has_claims-clause-some g c =
