@@ -1,5 +1,7 @@
 -- How many rows count on a node, and what a row without its node's own mask adds.
-use Rattle.std.proofs.Common.{◌≡◌, ◌≢◌, ℕ, zero, suc, ◌+◌, ◌<◌, ◌≤◌, Bool, true, false, cond, not, ◌&&◌, ◌||◌, List, [], ◌∷◌, ◌++◌, length, get_or, set, refl, sym, ap, ap₂, subst, ◌∙◌, arith, eq-eqb, get_or-set_other, Option, Some, None}
+use Rattle.node_grid.specs.ListLaws.{count-more, bit_le}
+use Rattle.std.proofs.lemmas.Bool.{le-ltb}
+use Rattle.std.proofs.Common.{◌≡◌, ◌≢◌, ℕ, zero, suc, ◌+◌, ◌<◌, ◌≤◌, Bool, true, false, cond, not, ◌&&◌, ◌||◌, List, [], ◌∷◌, ◌++◌, length, get_or, set, refl, sym, ap, ap₂, subst, ◌∙◌, arith, eq-eqb, get_or-set_other, Option, Some, None, ne_eqb, eqb-true}
 use Rattle.std.specs.Prelude.{◌==◌, ◌/◌, ◌*◌, nat_lt, is_some}
 use Rattle.std.specs.Option.{option_copied}
 use Rattle.std.proofs.Common.{Bor}
@@ -12,20 +14,13 @@ use Rattle.node_grid.specs.Matrix.{row_at}
 use Rattle.node_grid.specs.Planes.{count_at, more_mask}
 use Rattle.node_grid.specs.MaskLaws.{same_masks}
 use Rattle.error_reports.specs.Charge.{accuses, is_row, is_sender, row_accuses, is_voter, is_accuser, charged, charged_mask}
-use Rattle.error_reports.proofs.Counting.{count-more}
-
-other : (q j : ℕ) → q ≢ j → (q == j) ≡ false
-other q j ne = grind arith
-
-same : (q j : ℕ) → (q == j) ≡ true → q ≡ j
-same q j e = grind arith
 
 apart_below : (p : ℕ → Bool) (a n j : ℕ) → j < a → has_id (filter p (range_with_len a n)) j ≡ false
 apart_below p a zero j h = refl
 apart_below p a (suc n) j h = by (filter p (range_with_len (a + 1) n)) (apart_below p (a + 1) n j (omega arith)) (p a)
   where
     by : (rest : List ℕ) → has_id rest j ≡ false → (b : Bool) → has_id (cond b (a ∷ rest) rest) j ≡ false
-    by rest none true = rw (other a j (λ e. omega arith)) none
+    by rest none true = rw (ne_eqb a j (λ e. omega arith)) none
     by rest none false = none
 
 -- of those that pass, all but j
@@ -37,8 +32,8 @@ all_but t p a (suc n) j = by (filter p (range_with_len (a + 1) n)) (all_but t p 
     first : (rest : List ℕ) → count (λ q. not (q == j) && t q) rest + bit (has_id rest j && t j) ≡ count t rest → (j < a + 1 → has_id rest j ≡ false)
         → (b : Bool) → (a == j) ≡ b → bit (not b && t a) + count (λ q. not (q == j) && t q) rest + bit ((b || has_id rest j) && t j) ≡ bit (t a) + count t rest
     first rest before apart true e =
-        let known : count (λ q. not (q == j) && t q) rest + bit (false && t j) ≡ count t rest = rw (apart (omega (arith, same a j e))) at before in
-        omega (arith, known, ap (λ x. bit (t x)) (same a j e))
+        let known : count (λ q. not (q == j) && t q) rest + bit (false && t j) ≡ count t rest = rw (apart (omega (arith, eqb-true a j e))) at before in
+        omega (arith, known, ap (λ x. bit (t x)) (eqb-true a j e))
     first rest before apart false e = omega (arith, before)
 
     by : (rest : List ℕ) → count (λ q. not (q == j) && t q) rest + bit (has_id rest j && t j) ≡ count t rest → (j < a + 1 → has_id rest j ≡ false)
@@ -69,7 +64,7 @@ row_adds : (rows : List (Option (List ℕ))) (row : List ℕ) (j k q : ℕ) → 
 row_adds rows row j k q at = by (q == j) refl
   where
     by : (b : Bool) → (q == j) ≡ b → bit (not b && row_accuses (row_at rows q) j k) ≡ bit_at (get_or (set row q 0) j 0) k
-    by true e = rw (sym (same q j e), zeroed row q) (sym (bit_at-zero k))
+    by true e = rw (sym (eqb-true q j e), zeroed row q) (sym (bit_at-zero k))
     by false e =
         let ne : j ≢ q = λ s. let t : (q == j) ≡ true = eq-eqb q j (sym s) in cc in
         rw (at, get_or-set_other row q j 0 0 ne) (bit_back (bit_at (get_or row j 0) k) (bit_at-lt (get_or row j 0) k))
@@ -101,11 +96,7 @@ senders_same rows seen q before none is = omega (arith, is, count-more (is_sende
 
 pub accusers_few : (rows : List (Option (List ℕ))) (seen : List ℕ) (j k : ℕ) → count (is_accuser rows j k) seen ≤ length seen
 accusers_few rows [] j k = omega arith
-accusers_few rows (q ∷ seen) j k = omega (arith, accusers_few rows seen j k, one (is_accuser rows j k q))
-  where
-    one : (b : Bool) → bit b ≤ 1
-    one true = omega arith
-    one false = omega arith
+accusers_few rows (q ∷ seen) j k = omega (arith, accusers_few rows seen j k, bit_le (is_accuser rows j k q))
 
 -- whether a row was found
 pub is_row_found : (o : Option (Bor (List ℕ))) (r : Option (List ℕ)) → option_copied o ≡ r → is_row r ≡ is_some o
@@ -146,14 +137,10 @@ accusers_sent : (rows : List (Option (List ℕ))) (members : List ℕ) (j k : �
 accusers_sent rows [] j k = omega arith
 accusers_sent rows (q ∷ members) j k = omega (arith, accusers_sent rows members j k, one (q == j) (row_at rows q))
   where
-    row_one : (b : Bool) → bit b ≤ 1
-    row_one true = omega arith
-    row_one false = omega arith
-
     one : (b : Bool) (r : Option (List ℕ)) → bit (not b && row_accuses r j k) ≤ bit (is_row r)
     one true r = omega arith
     one false None = omega arith
-    one false (Some row) = row_one (accuses row j k)
+    one false (Some row) = bit_le (accuses row j k)
 
 -- with half of the voters as the limit, the kinds above it are those that the node is charged with
 pub charged_above : (planes : List (List ℕ)) (rows : List (Option (List ℕ))) (members : List ℕ) (j limit : ℕ) → limit ≡ count (is_voter rows j) members / 2
@@ -163,13 +150,10 @@ charged_above planes rows members j limit half counts =
     same_masks (λ k. nat_lt limit (count_at planes j k)) (charged rows members j) 16
     (λ k few. ap₂ nat_lt half (counts k few) ∙ half_less (count (is_voter rows j) members) (count (is_accuser rows j k) members))
 
-not_less : (l x : ℕ) → x ≤ l → nat_lt l x ≡ false
-not_less l x h = grind arith
-
 -- no count is above 31
 pub charged_none : (planes : List (List ℕ)) (rows : List (Option (List ℕ))) (members : List ℕ) (j limit : ℕ) → limit ≡ 31 → count (is_sender rows) members ≤ 16
     → ((k : ℕ) → k < 16 → count_at planes j k ≡ count (is_accuser rows j k) members) → more_mask planes j limit ≡ 0
 unfolding more_mask
 charged_none planes rows members j limit all few counts =
     same_masks (λ k. nat_lt limit (count_at planes j k)) (λ k. false) 16
-    (λ k low. not_less limit (count_at planes j k) (omega (arith, counts k low, accusers_sent rows members j k)))
+    (λ k low. le-ltb limit (count_at planes j k) (omega (arith, counts k low, accusers_sent rows members j k)))

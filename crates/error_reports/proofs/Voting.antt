@@ -1,14 +1,11 @@
 -- What one more member adds to the counts of voters and accusers.
-use Rattle.std.proofs.Common.{◌≡◌, ◌≢◌, ℕ, ◌+◌, ◌/◌, ◌^◌, ◌≤◌, length, length-append, append_assoc, Bool, true, false, List, ◌∷◌, [], ◌++◌, Option, get_or, bit_and, refl, sym, ap, ◌∙◌, arith, eq-eqb}
+use Rattle.node_grid.specs.ListLaws.{count-more, bit_le}
+use Rattle.std.proofs.Common.{◌≡◌, ◌≢◌, ℕ, ◌+◌, ◌/◌, ◌^◌, ◌≤◌, length, length-append, append_assoc, Bool, true, false, List, ◌∷◌, [], ◌++◌, Option, get_or, bit_and, refl, sym, ap, ◌∙◌, arith, eq-eqb, ne_eqb}
 use Rattle.std.specs.Prelude.{◌==◌}
 use Rattle.std.proofs.lemmas.Nat.Bits.{shr_and_one}
 use Rattle.node_grid.specs.Count.{count, bit}
 use Rattle.node_grid.specs.Matrix.{row_at}
 use Rattle.error_reports.specs.Charge.{accuses, is_row, row_accuses, is_voter, is_accuser}
-use Rattle.error_reports.proofs.Counting.{count-more}
-
-other : (q j : ℕ) → q ≢ j → (q == j) ≡ false
-other q j ne = grind arith
 
 pub own_voter : (rows : List (Option (List ℕ))) (j q : ℕ) → q ≡ j → is_voter rows j q ≡ false
 own_voter rows j q e = let t : (q == j) ≡ true = eq-eqb q j e in rw t refl
@@ -17,10 +14,10 @@ pub own_accuser : (rows : List (Option (List ℕ))) (j k q : ℕ) → q ≡ j �
 own_accuser rows j k q e = let t : (q == j) ≡ true = eq-eqb q j e in rw t refl
 
 pub voter_by_row : (rows : List (Option (List ℕ))) (j q : ℕ) (r : Option (List ℕ)) → q ≢ j → row_at rows q ≡ r → is_voter rows j q ≡ is_row r
-voter_by_row rows j q r ne e = rw (other q j ne, e) refl
+voter_by_row rows j q r ne e = rw (ne_eqb q j ne, e) refl
 
 pub accuser_by_row : (rows : List (Option (List ℕ))) (j k q : ℕ) (r : Option (List ℕ)) → q ≢ j → row_at rows q ≡ r → is_accuser rows j k q ≡ row_accuses r j k
-accuser_by_row rows j k q r ne e = rw (other q j ne, e) refl
+accuser_by_row rows j k q r ne e = rw (ne_eqb q j ne, e) refl
 
 pub accuses-yes : (row : List ℕ) (j k : ℕ) → bit_and (get_or row j 0 / 2 ^ k) 1 ≡ 1 → accuses row j k ≡ true
 accuses-yes row j k h = eq-eqb _ 1 (sym (shr_and_one (get_or row j 0) k) ∙ h)
@@ -35,10 +32,6 @@ pub record Tally (rows : List (Option (List ℕ))) (j k : ℕ) (seen : List ℕ)
   pub few_voters : v ≤ length seen
   pub few_accusers : a ≤ length seen
 
-bit_small : (b : Bool) → bit b ≤ 1
-bit_small true = omega arith
-bit_small false = omega arith
-
 pub Tally-more : (rows : List (Option (List ℕ))) (j k : ℕ) (seen : List ℕ) (v a q : ℕ) (votes accuses : Bool) (v' a' : ℕ)
     → Tally rows j k seen v a → is_voter rows j q ≡ votes → is_accuser rows j k q ≡ accuses → v' ≡ v + bit votes → a' ≡ a + bit accuses
     → Tally rows j k (seen ++ q ∷ []) v' a'
@@ -47,8 +40,8 @@ Tally-more rows j k seen v a q votes accuses v' a' before is_one does more_voter
     record {
       voters = omega (arith, more_voters, before.voters, count-more (is_voter rows j) seen q, ap bit is_one);
       accusers = omega (arith, more_accusers, before.accusers, count-more (is_accuser rows j k) seen q, ap bit does);
-      few_voters = omega (arith, more_voters, before.few_voters, longer, bit_small votes);
-      few_accusers = omega (arith, more_accusers, before.few_accusers, longer, bit_small accuses);
+      few_voters = omega (arith, more_voters, before.few_voters, longer, bit_le votes);
+      few_accusers = omega (arith, more_accusers, before.few_accusers, longer, bit_le accuses);
     }
 
 pub split_more : (xs ys zs rest : List ℕ) (x : ℕ) → xs ≡ ys ++ zs → zs ≡ x ∷ rest → xs ≡ (ys ++ x ∷ []) ++ rest

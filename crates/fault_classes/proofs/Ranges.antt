@@ -1,4 +1,5 @@
 -- What it says of a line that it is in range, and where the cells of its frames lie.
+use Rattle.node_grid.specs.ListLaws.{all_at}
 use Rattle.std.proofs.Common.{◌≡◌, ℕ, ◌+◌, ◌*◌, ◌^◌, ◌<◌, ◌≤◌, Bool, true, false, List, [], ◌∷◌, sym, ap, ◌∙◌, inl, inr, arith, eqb-true, ltb-true, leb-true}
 use Rattle.std.specs.Prelude.{◌==◌, nat_lt}
 use Rattle.std.specs.List.{list_all}
@@ -10,14 +11,6 @@ use Rattle.fault_classes.specs.Line.{Line}
 use Rattle.fault_classes.specs.Rules.{is_line, are_below, is_change}
 use Rattle.fault_classes.specs.Cells.{IsShape}
 use Rattle.node_grid.specs.Capacity.{IsCapacity}
-
--- what passes for each element
-pub all_at : (f : ℕ → Bool) (xs : List ℕ) (k : ℕ) → list_all f xs ≡ true → has_id xs k ≡ true → f k ≡ true
-all_at f [] k h on = cc
-all_at f (x ∷ xs) k h on = let p = and_parts _ _ h in elim (or_cases (x == k) (has_id xs k) on) [
-  | inl e ↦ ap f (sym (eqb-true x k e)) ∙ p.0
-  | inr later ↦ all_at f xs k p.1 later
-]
 
 pub below_from : (n : ℕ) (xs : List ℕ) (k : ℕ) → are_below n xs ≡ true → has_id xs k ≡ true → k < n
 below_from n xs k h on = ltb-true k n (all_at (λ x. nat_lt x n) xs k (and_parts _ _ h).1 on)

@@ -101,10 +101,3 @@ find_range f g a (suc n) h =
 pub first_where : (f g : ℕ → Bool) (n : ℕ) → ((k : ℕ) → k < n → f k ≡ g k) → slice_get (ids_where f n) 0 ≡ find g (ids_below n)
 first_where f g n h = first_filter f (ids_below n) ∙ find_range f g 0 n (λ k l u. h k (omega arith))
 
-pub count_push : {X : Type 0} (f : X → Bool) (xs : List X) (x : X) → count f (xs ++ x ∷ []) ≡ count f xs + bit (f x)
-count_push f [] x = omega arith
-count_push f (y ∷ xs) x = omega (arith, count_push f xs x)
-
-pub bit_le : (b : Bool) → bit b ≤ 1
-bit_le true = omega arith
-bit_le false = omega arith

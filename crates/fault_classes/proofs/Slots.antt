@@ -12,7 +12,7 @@ use Rattle.node_grid.specs.NodeSet.{has_id, bits_set, mask_of}
 use Rattle.node_grid.specs.NodeSetLaws.{mask_of-bits_set, has-bits_set, bits_set-zero}
 use Rattle.fault_classes.specs.Line.{slots_in}
 use Rattle.fault_classes.specs.Rules.{are_below}
-use Rattle.fault_classes.proofs.Ranges.{all_at}
+use Rattle.node_grid.specs.ListLaws.{all_at}
 
 -- all that a filter of a range keeps
 all_kept : (p f : ℕ → Bool) (a n : ℕ) → ((k : ℕ) → a ≤ k → k < a + n → p k ≡ true → f k ≡ true) → list_all f (filter p (range_with_len a n)) ≡ true

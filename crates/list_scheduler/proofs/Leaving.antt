@@ -1,7 +1,7 @@
 -- A node leaves task by task.
 use Rattle.std.proofs.Common.{◌≡◌, ℕ, ◌+◌, ◌<◌, ◌≤◌, true, false, refl, sym, ap, ◌∙◌, inl, inr, arith, eq-eqb, ne_eqb}
 use Rattle.std.specs.Prelude.{◌==◌, nat_lt, if◌then◌else◌}
-use Rattle.std.proofs.lemmas.Bool.{cases_eq, cases_lt, cond-true, cond-false}
+use Rattle.std.proofs.lemmas.Bool.{cases_eq, cases_lt, cond-true, cond-false, lt-ltb, le-ltb}
 use Rattle.std.proofs.lemmas.Bool.Decides.{nat_tests}
 use Rattle.list_scheduler.specs.declared.copies.CopyState.{CopyState}
 use Rattle.list_scheduler.specs.declared.copies.CopyState.TheVariants.{Idle, Running, Passed, Failed}
@@ -13,35 +13,29 @@ use Rattle.list_scheduler.specs.Schedule.{left_copy, left_by}
 abbrev pub left_up_to : ℕ → ℕ → CopyTable → ℕ → ℕ → CopyState
 left_up_to i node old t q = if nat_lt t i then left_by node old t q else copy_at old t q
 
-lt_test : (a b : ℕ) → a < b → nat_lt a b ≡ true
-lt_test a b h = grind (arith, nat_tests)
-
-not_lt_test : (a b : ℕ) → b ≤ a → nat_lt a b ≡ false
-not_lt_test a b h = grind (arith, nat_tests)
-
 pub left_none : (n node : ℕ) (old : CopyTable) → IsTable n old → old ≡ table n (left_up_to 0 node old)
-left_none n node old shape = shape ∙ table_same n _ _ (λ t q ht hq. sym (cond-false (nat_lt t 0) _ _ (not_lt_test t 0 (omega arith))))
+left_none n node old shape = shape ∙ table_same n _ _ (λ t q ht hq. sym (cond-false (nat_lt t 0) _ _ (le-ltb t 0 (omega arith))))
 
 pub left_all : (n node : ℕ) (old c : CopyTable) (i : ℕ) → 32 ≤ i → c ≡ table n (left_up_to i node old) → c ≡ table n (left_by node old)
-left_all n node old c i l is = is ∙ table_same n _ _ (λ t q ht hq. cond-true (nat_lt t i) _ _ (lt_test t i (omega arith)))
+left_all n node old c i l is = is ∙ table_same n _ _ (λ t q ht hq. cond-true (nat_lt t i) _ _ (lt-ltb t i (omega arith)))
 
 -- another task's copies, and another node's, stay as they are in a step
 same_elsewhere : (i node : ℕ) (old : CopyTable) (t q : ℕ) → (t ≡ i → q ≡ node → ⊥) → left_up_to (i + 1) node old t q ≡ left_up_to i node old t q
 same_elsewhere i node old t q ne = elim (cases_lt t i) [
-  | inl low ↦ cond-true (nat_lt t (i + 1)) _ _ (lt_test _ _ (omega arith)) ∙ sym (cond-true (nat_lt t i) _ _ (lt_test _ _ low))
+  | inl low ↦ cond-true (nat_lt t (i + 1)) _ _ (lt-ltb _ _ (omega arith)) ∙ sym (cond-true (nat_lt t i) _ _ (lt-ltb _ _ low))
   | inr high ↦ elim (cases_eq t i) [
     | inl at ↦
         let off : (q == node) ≡ false = ne_eqb q node (ne at) in
-        cond-true (nat_lt t (i + 1)) _ _ (lt_test _ _ (omega arith)) ∙ cond-false (q == node) _ _ off ∙ sym (cond-false (nat_lt t i) _ _ (not_lt_test _ _ high))
-    | inr other ↦ let above : i < t = omega arith in cond-false (nat_lt t (i + 1)) _ _ (not_lt_test _ _ (omega arith)) ∙ sym (cond-false (nat_lt t i) _ _ (not_lt_test _ _ high))
+        cond-true (nat_lt t (i + 1)) _ _ (lt-ltb _ _ (omega arith)) ∙ cond-false (q == node) _ _ off ∙ sym (cond-false (nat_lt t i) _ _ (le-ltb _ _ high))
+    | inr other ↦ let above : i < t = omega arith in cond-false (nat_lt t (i + 1)) _ _ (le-ltb _ _ (omega arith)) ∙ sym (cond-false (nat_lt t i) _ _ (le-ltb _ _ high))
   ]
 ]
 
 here : (i node : ℕ) (old : CopyTable) → left_up_to (i + 1) node old i node ≡ left_copy (copy_at old i node)
-here i node old = cond-true (nat_lt i (i + 1)) _ _ (lt_test _ _ (omega arith)) ∙ cond-true (node == node) _ _ (eq-eqb node node refl)
+here i node old = cond-true (nat_lt i (i + 1)) _ _ (lt-ltb _ _ (omega arith)) ∙ cond-true (node == node) _ _ (eq-eqb node node refl)
 
 before : (n i node : ℕ) (old c : CopyTable) → i < 32 → node < n → c ≡ table n (left_up_to i node old) → copy_at c i node ≡ copy_at old i node
-before n i node old c hi hq is = ap (λ (x : CopyTable). copy_at x i node) is ∙ at_table n _ i node hi hq ∙ cond-false (nat_lt i i) _ _ (not_lt_test _ _ (omega arith))
+before n i node old c hi hq is = ap (λ (x : CopyTable). copy_at x i node) is ∙ at_table n _ i node hi hq ∙ cond-false (nat_lt i i) _ _ (le-ltb _ _ (omega arith))
 
 pub left_running : (n i node e : ℕ) (old c new : CopyTable) → i < 32 → node < n → c ≡ table n (left_up_to i node old) → copy_at c i node ≡ Running e → new ≡ table n (with_copy c i node Failed)
     → new ≡ table n (left_up_to (i + 1) node old)
@@ -57,7 +51,7 @@ left_other n i node old c hi hq is rests =
     let same : left_copy (copy_at old i node) ≡ copy_at old i node = stays (copy_at old i node) (λ e r. rests e (before n i node old c hi hq is ∙ r)) in
     is ∙ table_same n _ _ (λ t q ht hr. elim (cases_eq t i) [
       | inl at ↦ elim (cases_eq q node) [
-        | inl on ↦ rw (at, on) (cond-false (nat_lt i i) _ _ (not_lt_test _ _ (omega arith)) ∙ sym (here i node old ∙ same))
+        | inl on ↦ rw (at, on) (cond-false (nat_lt i i) _ _ (le-ltb _ _ (omega arith)) ∙ sym (here i node old ∙ same))
         | inr off ↦ sym (same_elsewhere i node old t q (λ d e. off e))
       ]
       | inr other ↦ sym (same_elsewhere i node old t q (λ d e. other d))

@@ -2,7 +2,7 @@
 use Rattle.std.proofs.Common.{cond, ◌≡◌, ℕ, zero, suc, ◌+◌, ◌<◌, ◌≤◌, Bool, true, false, ◌&&◌, List, [], ◌∷◌, ◌++◌, length, get_or, take, Option, None, Some, refl, sym, ap, ap₂, ◌∙◌, inl, inr, arith, eqb-true, eq-eqb, ne_eqb}
 use Rattle.std.specs.Prelude.{◌==◌, nat_le, is_none, is_some, if◌then◌else◌}
 use Rattle.std.specs.List.{find, list_all, range_with_len}
-use Rattle.std.proofs.lemmas.Bool.{cases_Bool, cases_eq, cond-true, cond-false, and_parts, or_left, or_right}
+use Rattle.std.proofs.lemmas.Bool.{cases_Bool, cases_eq, cond-true, cond-false, and_parts, or_left, or_right, eqb-false}
 use Rattle.std.proofs.lemmas.List.Folds.{list_all_more}
 use Rattle.node_grid.specs.NodeSet.{ids_below, has_id}
 use Rattle.node_grid.specs.Count.{bit, count}
@@ -85,9 +85,6 @@ starts_same n graph ys old c node is_graph is next =
 picked_told : (graph : GraphView) (xs ys : List ℕ) (old : CopyTable) (t q : ℕ) → has_id xs q ≡ has_id ys q → picked graph xs old t q ≡ picked graph ys old t q
 picked_told graph xs ys old t q h = ap (λ (b : Bool). if b && is_none (works old q) && is_it (pick_of graph old q) t then Running 1 else copy_at old t q) h
 
-same_not : (a b : ℕ) → (a == b) ≡ false → a ≡ b → ⊥
-same_not a b f e = let z : (a == b) ≡ true = eq-eqb a b e in cc
-
 other_node : (graph : GraphView) (ys : List ℕ) (old : CopyTable) (node t q : ℕ) → (q ≡ node → ⊥) → picked graph (ys ++ node ∷ []) old t q ≡ picked graph ys old t q
 other_node graph ys old node t q ne = picked_told graph (ys ++ node ∷ []) ys old t q (has_other ys node q (ne_eqb node q (λ d. ne (sym d))))
 
@@ -113,7 +110,7 @@ picked_without n graph ys old c node is next none = is ∙ table_same n _ _ (λ 
   | inl on ↦
       let e : q ≡ node = eqb-true q node on in
       rw e (yielded_node graph ys old node t next.fresh ∙ sym (this_node graph ys old node t ∙ ap (λ (o : Option ℕ). if is_it o t then Running 1 else copy_at old t node) none))
-  | inr off ↦ sym (other_node graph ys old node t q (same_not q node off))
+  | inr off ↦ sym (other_node graph ys old node t q (eqb-false q node off))
 ])
 
 pub picked_with : (n : ℕ) (graph : GraphView) (ys : List ℕ) (old c new : CopyTable) (node task : ℕ) → c ≡ table n (picked graph ys old) → IsNext n ys node → starts graph old node ≡ Some task
@@ -126,7 +123,7 @@ picked_with n graph ys old c new node task is next some step = step ∙ put_copy
           let other : (task == t) ≡ false = ne_eqb task t (λ d. ne (sym d) e) in
           rw e (this_node graph ys old node t ∙ ap (λ (o : Option ℕ). if is_it o t then Running 1 else copy_at old t node) some ∙ cond-false (task == t) _ _ other
           ∙ sym (yielded_node graph ys old node t next.fresh))
-      | inr off ↦ other_node graph ys old node t q (same_not q node off)
+      | inr off ↦ other_node graph ys old node t q (eqb-false q node off)
     ])
 
 -- ---- the least eligible task, found from the first on

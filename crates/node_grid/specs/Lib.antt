@@ -5,6 +5,7 @@ pub mod NodeSet
 pub mod NodeSetLaws
 pub mod Matrix
 pub mod Count
+pub mod ListLaws
 pub mod MaskLaws
 pub mod Planes
 pub mod Class

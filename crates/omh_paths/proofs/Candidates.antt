@@ -1,4 +1,5 @@
 -- The candidate for the majority of what was seen, and by how many places it leads.
+use Rattle.node_grid.specs.ListLaws.{count-more}
 use Rattle.std.proofs.Common.{ℕ, ◌≡◌, ◌<◌, ◌≤◌, ◌+◌, ◌-◌, ◌*◌, ◌/◌, ap₂, ltb-true, ltb-false, Bool, true, false, not, ◌&&◌, List, [], ◌∷◌, ◌++◌, take, get_or, length, refl, sym, ap, subst, ◌∙◌, inl, inr, arith}
 use Rattle.std.proofs.lemmas.Bool.{cases_Bool, and_parts, both_ways, not-true}
 use Rattle.std.proofs.lemmas.Bool.Decides.{nat_tests}
@@ -11,10 +12,6 @@ use Rattle.omh_paths.specs.Wrapped.{same, IsExact, is_error}
 use Rattle.omh_paths.specs.Majority.{has_majority, majority, IsOnlyCandidate}
 use Rattle.omh_paths.specs.MajorityLaws.{same_tells, majority_is, majority_none}
 
-pub count-push : {X : Type 0} (test : X → Bool) (xs : List X) (x : X) → count test (xs ++ x ∷ []) ≡ count test xs + bit (test x)
-count-push test [] x = omega arith
-count-push test (y ∷ xs) x = omega (arith, count-push test xs x)
-
 abbrev pub votes : {V : Type 0} → List (Wrapped V) → ℕ
 votes seen = count (λ y. not (is_error y)) seen
 
@@ -25,16 +22,16 @@ pub record Leads {V : Type 0} (eq : V → V → Bool) (seen : List (Wrapped V)) 
   pub others : (y : Wrapped V) → is_error y ≡ false → same eq y c ≡ false → 2 * count (same eq y) seen + n ≤ votes seen
 
 votes-error : {V : Type 0} (seen : List (Wrapped V)) (v : Wrapped V) → is_error v ≡ true → votes (seen ++ v ∷ []) ≡ votes seen
-votes-error seen v e = let k = count-push (λ y. not (is_error y)) seen v in let b : bit (not (is_error v)) ≡ 0 = ap (λ b. bit (not b)) e in omega arith
+votes-error seen v e = let k = count-more (λ y. not (is_error y)) seen v in let b : bit (not (is_error v)) ≡ 0 = ap (λ b. bit (not b)) e in omega arith
 
 votes-more : {V : Type 0} (seen : List (Wrapped V)) (v : Wrapped V) → is_error v ≡ false → votes (seen ++ v ∷ []) ≡ votes seen + 1
-votes-more seen v e = let k = count-push (λ y. not (is_error y)) seen v in let b : bit (not (is_error v)) ≡ 1 = ap (λ b. bit (not b)) e in omega arith
+votes-more seen v e = let k = count-more (λ y. not (is_error y)) seen v in let b : bit (not (is_error v)) ≡ 1 = ap (λ b. bit (not b)) e in omega arith
 
 count-yes : {V : Type 0} (eq : V → V → Bool) (y : Wrapped V) (seen : List (Wrapped V)) (v : Wrapped V) → same eq y v ≡ true → count (same eq y) (seen ++ v ∷ []) ≡ count (same eq y) seen + 1
-count-yes eq y seen v e = let k = count-push (same eq y) seen v in let b : bit (same eq y v) ≡ 1 = ap bit e in omega arith
+count-yes eq y seen v e = let k = count-more (same eq y) seen v in let b : bit (same eq y v) ≡ 1 = ap bit e in omega arith
 
 count-no : {V : Type 0} (eq : V → V → Bool) (y : Wrapped V) (seen : List (Wrapped V)) (v : Wrapped V) → same eq y v ≡ false → count (same eq y) (seen ++ v ∷ []) ≡ count (same eq y) seen
-count-no eq y seen v e = let k = count-push (same eq y) seen v in let b : bit (same eq y v) ≡ 0 = ap bit e in omega arith
+count-no eq y seen v e = let k = count-more (same eq y) seen v in let b : bit (same eq y v) ≡ 0 = ap bit e in omega arith
 
 count-at_most : {V : Type 0} (eq : V → V → Bool) (y : Wrapped V) (seen : List (Wrapped V)) (v : Wrapped V) → count (same eq y) (seen ++ v ∷ []) ≤ count (same eq y) seen + 1
 count-at_most eq y seen v = elim (cases_Bool (same eq y v)) [ inl s ↦ omega (arith, count-yes eq y seen v s) | inr d ↦ omega (arith, count-no eq y seen v d) ]
@@ -104,7 +101,7 @@ module _ {V : Type 0} {eq : V → V → Bool} (exact : IsExact eq) where
 
 pub count_next : {X : Type 0} (test : X → Bool) (xs : List X) (i : ℕ) (x : X) → i < length xs → x ≡ get_or xs i x → count test (take (i + 1) xs) ≡ count test (take i xs) + bit (test x)
 count_next test xs i x here is =
-    ap (count test) (take_more xs i x here) ∙ count-push test (take i xs) (get_or xs i x) ∙ ap (λ y. count test (take i xs) + bit (test y)) (sym is)
+    ap (count test) (take_more xs i x here) ∙ count-more test (take i xs) (get_or xs i x) ∙ ap (λ y. count test (take i xs) + bit (test y)) (sym is)
 
 half : (v s : ℕ) → nat_lt (v / 2) s ≡ nat_lt v (2 * s)
 half v s = by_test (nat_lt (v / 2) s) refl (nat_lt v (2 * s)) refl

@@ -1,28 +1,22 @@
 -- A list whose every number is less than the next, by places.
 use Rattle.std.proofs.Common.{◌≡◌, ℕ, zero, suc, ◌+◌, ◌-◌, ◌<◌, ◌≤◌, Bool, true, false, ◌&&◌, List, [], ◌∷◌, length, get_or, refl, sym, inl, inr, arith}
-use Rattle.std.proofs.lemmas.Bool.{cases_lt}
+use Rattle.std.proofs.lemmas.Bool.{cases_lt, lt-ltb, le-ltb}
 use Rattle.std.specs.Prelude.{nat_lt}
 use Rattle.std.proofs.lemmas.Bool.Decides.{nat_tests}
 use Rattle.task_graph.specs.Graph.{is_ascending}
-
-lt_test : (a b : ℕ) → a < b → nat_lt a b ≡ true
-lt_test a b h = grind (arith, nat_tests)
-
-not_lt_test : (a b : ℕ) → b ≤ a → nat_lt a b ≡ false
-not_lt_test a b h = grind (arith, nat_tests)
 
 pub ascends_throughout : (xs : List ℕ) → ((j : ℕ) → suc j < length xs → get_or xs j 0 < get_or xs (suc j) 0) → is_ascending xs ≡ true
 ascends_throughout [] h = refl
 ascends_throughout (x ∷ []) h = refl
 ascends_throughout (x ∷ y ∷ ys) h =
-    let first : nat_lt x y ≡ true = lt_test x y (h 0 (omega arith)) in
+    let first : nat_lt x y ≡ true = lt-ltb x y (h 0 (omega arith)) in
     let rest : is_ascending (y ∷ ys) ≡ true = ascends_throughout (y ∷ ys) (λ j l. h (suc j) (omega arith)) in
     rw (first, rest) refl
 
 pub falls_somewhere : (xs : List ℕ) (j : ℕ) → suc j < length xs → get_or xs (suc j) 0 ≤ get_or xs j 0 → is_ascending xs ≡ false
 falls_somewhere [] j l h = absurd (omega arith)
 falls_somewhere (x ∷ []) j l h = absurd (omega arith)
-falls_somewhere (x ∷ y ∷ ys) zero l h = rw (not_lt_test x y h) refl
+falls_somewhere (x ∷ y ∷ ys) zero l h = rw (le-ltb x y h) refl
 falls_somewhere (x ∷ y ∷ ys) (suc j) l h =
     let rest : is_ascending (y ∷ ys) ≡ false = falls_somewhere (y ∷ ys) j (omega arith) h in
     rw rest (both_false (nat_lt x y))

@@ -1,25 +1,16 @@
 -- What a loop over tasks or members knows of ranges.
 use Rattle.std.proofs.Common.{◌≡◌, ℕ, zero, suc, ◌<◌, ◌≤◌, Bool, true, false, ◌&&◌, List, [], ◌∷◌, ◌++◌, length, get_or, refl, ◌∙◌, arith}
 use Rattle.std.specs.Prelude.{nat_lt}
-use Rattle.std.proofs.lemmas.Bool.{both_ways, and_parts}
+use Rattle.std.proofs.lemmas.Bool.{both_ways, and_parts, lt-ltb, le-ltb, ltb-true}
 use Rattle.std.proofs.lemmas.Bool.Decides.{nat_tests}
 use Rattle.std.proofs.lemmas.List.Folds.{list_all-append}
 use Rattle.task_graph.specs.Graph.{TaskView, task_at, all_below, is_in_range, IsOut, IsLeast}
 
-lt_test : (a b : ℕ) → a < b → nat_lt a b ≡ true
-lt_test a b h = grind (arith, nat_tests)
-
-not_lt_test : (a b : ℕ) → b ≤ a → nat_lt a b ≡ false
-not_lt_test a b h = grind (arith, nat_tests)
-
-lt_from : (a b : ℕ) → nat_lt a b ≡ true → a < b
-lt_from a b h = grind (arith, nat_tests)
-
 pub below_and_one : (n : ℕ) (xs : List ℕ) (x : ℕ) → all_below n xs ≡ true → x < n → all_below n (xs ++ x ∷ []) ≡ true
-below_and_one n xs x h l = list_all-append (λ y. nat_lt y n) xs (x ∷ []) ∙ rw (h, lt_test x n l) refl
+below_and_one n xs x h l = list_all-append (λ y. nat_lt y n) xs (x ∷ []) ∙ rw (h, lt-ltb x n l) refl
 
 pub one_above : (n : ℕ) (xs : List ℕ) (x : ℕ) (rest : List ℕ) → n ≤ x → all_below n (xs ++ x ∷ rest) ≡ false
-one_above n xs x rest l = list_all-append (λ y. nat_lt y n) xs (x ∷ rest) ∙ rw (not_lt_test x n l) (both_false (all_below n xs))
+one_above n xs x rest l = list_all-append (λ y. nat_lt y n) xs (x ∷ rest) ∙ rw (le-ltb x n l) (both_false (all_below n xs))
   where
     both_false : (b : Bool) → (b && false) ≡ false
     both_false true = refl
@@ -38,7 +29,7 @@ none_out nodes tasks all t is = both_ways _ is.1 (all t is.0)
 -- a number of a list that lies below n
 pub below_at : (n : ℕ) (xs : List ℕ) (i : ℕ) → all_below n xs ≡ true → i < length xs → get_or xs i 0 < n
 below_at n [] i h l = absurd (omega arith)
-below_at n (x ∷ xs) zero h l = lt_from x n (and_parts _ _ h).0
+below_at n (x ∷ xs) zero h l = ltb-true x n (and_parts _ _ h).0
 below_at n (x ∷ xs) (suc i) h l = below_at n xs i (and_parts _ _ h).1 (omega arith)
 
 -- what lies below a lesser bound
@@ -46,6 +37,6 @@ pub below_more : (m n : ℕ) (xs : List ℕ) → m ≤ n → all_below m xs ≡ 
 below_more m n [] l h = refl
 below_more m n (x ∷ xs) l h =
     let a = and_parts _ _ h in
-    let low = lt_from x m a.0 in
-    let first : nat_lt x n ≡ true = lt_test x n (omega arith) in
+    let low = ltb-true x m a.0 in
+    let first : nat_lt x n ≡ true = lt-ltb x n (omega arith) in
     rw (first, below_more m n xs l a.1) refl

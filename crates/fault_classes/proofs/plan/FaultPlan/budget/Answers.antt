@@ -6,7 +6,7 @@ use Rattle.node_grid.specs.Class.{is_asymmetric, is_symmetric, is_silent}
 use Rattle.fault_classes.specs.declared.budget.Budget.{Budget}
 use Rattle.fault_classes.specs.Plan.{class_of}
 use Rattle.fault_classes.specs.Budget.{counts_as, with_member}
-use Rattle.fault_classes.proofs.Sets.{count_push, bit_le}
+use Rattle.node_grid.specs.ListLaws.{count-more, bit_le}
 use Rattle.fault_classes.proofs.plan.FaultPlan.budget.Goals as goal
 
 pub loop-node-preserved : goal.loop-node-preserved
@@ -28,9 +28,9 @@ loop-node-preserved g c =
       ends = tt;
       split = i.split ∙ ap (λ rest. xs ++ rest) c.in-Some.ensures.steps ∙ sym (append_assoc xs (x ∷ []) c.next.new.self);
       all = all ∙ i.all;
-      asymmetric = a ∙ ap (λ k. k + bit (is_asymmetric class)) i.asymmetric ∙ sym (count_push (counts_as is_asymmetric plan p) xs x);
-      symmetric = s ∙ ap (λ k. k + bit (is_symmetric class)) i.symmetric ∙ sym (count_push (counts_as is_symmetric plan p) xs x);
-      silent = b ∙ ap (λ k. k + bit (is_silent class)) i.silent ∙ sym (count_push (counts_as is_silent plan p) xs x);
+      asymmetric = a ∙ ap (λ k. k + bit (is_asymmetric class)) i.asymmetric ∙ sym (count-more (counts_as is_asymmetric plan p) xs x);
+      symmetric = s ∙ ap (λ k. k + bit (is_symmetric class)) i.symmetric ∙ sym (count-more (counts_as is_symmetric plan p) xs x);
+      silent = b ∙ ap (λ k. k + bit (is_silent class)) i.silent ∙ sym (count-more (counts_as is_silent plan p) xs x);
       few = omega (arith, a, long, i.few, bit_le (is_asymmetric class));
       few_symmetric = omega (arith, s, long, i.few_symmetric, bit_le (is_symmetric class));
       few_silent = omega (arith, b, long, i.few_silent, bit_le (is_silent class));
