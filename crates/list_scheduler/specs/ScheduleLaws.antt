@@ -2,7 +2,7 @@
 use Rattle.std.proofs.Common.{◌≡◌, ℕ, ◌+◌, ◌<◌, ◌≤◌, Bool, true, false, not, List, [], ◌∷◌, length, Option, None, Some, refl, sym, ap, ap₂, ◌∙◌, inl, inr, arith, eqb-true, eq-eqb, ne_eqb, ltb-true, le-ltb}
 use Rattle.std.specs.Prelude.{◌==◌, ◌%◌, nat_lt, nat_le, is_none, if◌then◌else◌}
 use Rattle.std.specs.List.{find}
-use Rattle.std.proofs.lemmas.Bool.{cases_Bool, cond-true, cond-false, and_parts, both_ways}
+use Rattle.std.proofs.lemmas.Bool.{cases_Bool, cond-true, cond-false, and_parts, both_ways, leb-true, leb-false, lt-leb}
 use Rattle.std.proofs.lemmas.Bool.Decides.{nat_tests}
 use Rattle.node_grid.specs.Kinds.{no_claim}
 use Rattle.node_grid.specs.NodeSet.{ids_below, has_id}
@@ -334,15 +334,6 @@ pub record AtWork (graph : GraphView) (run_time : ℕ → ℕ) (w : ℕ × ℕ) 
   pub most : run_time w.0 ≤ (task_at graph.tasks w.0).max
   pub early : w.1 ≤ (task_at graph.tasks w.0).max
 
-late_from : (a b : ℕ) → nat_le a b ≡ true → a ≤ b
-late_from a b h = grind (arith, nat_tests)
-
-not_late : (a b : ℕ) → nat_le a b ≡ false → b < a
-not_late a b h = grind (arith, nat_tests)
-
-no_le : (a b : ℕ) → b < a → nat_le a b ≡ false
-no_le a b h = grind (arith, nat_tests)
-
 verdict_of : Bool → Bool → Verdict
 verdict_of a b = record { claim = a; overrun = b }
 
@@ -352,14 +343,14 @@ unfolding verdict_of
 full_claim graph run_time w at c is = elim (cases_Bool (nat_le (run_time w.0) w.1)) [
   | inl late ↦
       let e : c ≡ w.0 = is ∙ cond-true (nat_le (run_time w.0) w.1) _ _ late in
-      let l = late_from _ _ late in
+      let l = leb-true _ _ late in
       let m = at.least in
       cond-true (c == w.0) _ _ (eq-eqb c w.0 e) ∙ ap (λ b. verdict_of b false) (le-ltb _ _ (omega arith))
   | inr soon ↦
       let e : c ≡ 255 = is ∙ cond-false (nat_le (run_time w.0) w.1) _ _ soon in
-      let l = not_late _ _ soon in
+      let l = leb-false _ _ soon in
       let m = at.most in
       let f = at.few in
       let high : w.1 < (task_at graph.tasks w.0).max = omega arith in
-      cond-false (c == w.0) _ _ (ne_eqb c w.0 (λ d. absurd (omega arith))) ∙ ap₂ verdict_of (ap not (eq-eqb c 255 e)) (no_le _ _ high)
+      cond-false (c == w.0) _ _ (ne_eqb c w.0 (λ d. absurd (omega arith))) ∙ ap₂ verdict_of (ap not (eq-eqb c 255 e)) (lt-leb _ _ high)
 ]

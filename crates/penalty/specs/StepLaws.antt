@@ -1,17 +1,11 @@
 -- What the lists of a step have at each node.
 use Rattle.std.proofs.Common.{◌≡◌, ◌≢◌, ℕ, ◌+◌, ◌-◌, ◌<◌, ◌≤◌, true, false, cond, List, length, set, get_or, refl, sym, ap, ◌∙◌, arith, inl, inr, get_or-set_same, get_or-set_other, length-set}
 use Rattle.std.specs.Prelude.{◌==◌, nat_lt, min}
-use Rattle.std.proofs.lemmas.Bool.{cases_lt}
+use Rattle.std.proofs.lemmas.Bool.{cases_lt, lt-ltb, le-ltb}
 use Rattle.std.proofs.lemmas.List.{ext_get_or, get_or_past}
 use Rattle.std.proofs.lemmas.List.FromFn.{length-map-range_with_len, get_or-map-range_with_len}
 use Rattle.penalty.specs.declared.Policy.{Policy}
 use Rattle.penalty.specs.Step.{for_nodes, penalty, count_after, streak_after, counts_after, streaks_after, IsCounted}
-
-below : (k i : ℕ) → k < i → nat_lt k i ≡ true
-below k i h = grind arith
-
-not_below : (k i : ℕ) → i ≤ k → nat_lt k i ≡ false
-not_below k i h = grind arith
 
 pub length-for_nodes : (nodes : ℕ) (value : ℕ → ℕ) (xs : List ℕ) → length (for_nodes nodes value xs) ≡ length xs
 length-for_nodes nodes value xs = length-map-range_with_len _ 0 (length xs)
@@ -19,13 +13,13 @@ length-for_nodes nodes value xs = length-map-range_with_len _ 0 (length xs)
 -- a node in use has its new value
 pub for_nodes-at : (nodes : ℕ) (value : ℕ → ℕ) (xs : List ℕ) (j : ℕ) → j < nodes → j < length xs → get_or (for_nodes nodes value xs) j 0 ≡ value j
 for_nodes-at nodes value xs j in_use within =
-    get_or-map-range_with_len _ 0 (length xs) j j 0 within (omega arith) ∙ rw (below j nodes in_use) refl
+    get_or-map-range_with_len _ 0 (length xs) j j 0 within (omega arith) ∙ rw (lt-ltb j nodes in_use) refl
 
 -- behind them all is as it was
 pub for_nodes-past : (nodes : ℕ) (value : ℕ → ℕ) (xs : List ℕ) (j : ℕ) → nodes ≤ j → get_or (for_nodes nodes value xs) j 0 ≡ get_or xs j 0
 for_nodes-past nodes value xs j past =
     elim (cases_lt j (length xs)) [
-      | inl within ↦ get_or-map-range_with_len _ 0 (length xs) j j 0 within (omega arith) ∙ rw (not_below j nodes past) refl
+      | inl within ↦ get_or-map-range_with_len _ 0 (length xs) j j 0 within (omega arith) ∙ rw (le-ltb j nodes past) refl
       | inr beyond ↦
           let no_longer : length (for_nodes nodes value xs) ≤ j = omega (arith, length-for_nodes nodes value xs) in
           get_or_past (for_nodes nodes value xs) j 0 no_longer ∙ sym (get_or_past xs j 0 beyond)

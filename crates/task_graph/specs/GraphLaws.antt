@@ -2,28 +2,13 @@
 use Rattle.std.proofs.Common.{◌≡◌, ℕ, zero, suc, ◌<◌, ◌≤◌, Bool, true, false, ◌&&◌, List, [], ◌∷◌, ◌++◌, length, sym, ap, ◌∙◌, inl, inr, arith, eqb-true, subst}
 use Rattle.std.specs.Prelude.{nat_lt, nat_le}
 use Rattle.std.specs.List.{list_all}
-use Rattle.std.proofs.lemmas.Bool.{cases_Bool, cases_lt, and_parts, both_ways, or_left, or_right, or_cases}
+use Rattle.std.proofs.lemmas.Bool.{cases_Bool, cases_lt, and_parts, both_ways, or_left, or_right, or_cases, ltb-true, leb-true}
 use Rattle.std.proofs.lemmas.Bool.Decides.{nat_tests}
 use Rattle.std.proofs.lemmas.List.{get_or_past}
 use Rattle.node_grid.specs.NodeSet.{has_id}
+use Rattle.node_grid.specs.ListLaws.{all_at}
 use Rattle.task_graph.specs.Graph.{TaskView, no_task, task_at, is_ascending, all_below, is_in_range, IsOut, IsChain, ComesAfter, IsCyclic}
 use Rattle.task_graph.specs.Reach.{reaches, is_cyclic}
-
-lt_from : (a b : ℕ) → nat_lt a b ≡ true → a < b
-lt_from a b h = grind (arith, nat_tests)
-
-le_from : (a b : ℕ) → nat_le a b ≡ true → a ≤ b
-le_from a b h = grind (arith, nat_tests)
-
--- a number of a list passes what all of them pass
-pub passes : (p : ℕ → Bool) (xs : List ℕ) (x : ℕ) → list_all p xs ≡ true → has_id xs x ≡ true → p x ≡ true
-passes p [] x all on = cc
-passes p (y ∷ ys) x all on =
-    let a = and_parts _ _ all in
-    elim (or_cases _ _ on) [
-      | inl same ↦ ap p (sym (eqb-true y x same)) ∙ a.0
-      | inr later ↦ passes p ys x a.1 later
-    ]
 
 -- a task that is in range
 pub record IsRanged (nodes count t : ℕ) (task : TaskView) : Type 0 where
@@ -51,17 +36,17 @@ ranged nodes count t task h =
     let i = and_parts _ _ g.0 in
     let j = and_parts _ _ i.0 in
     record {
-      place = lt_from _ _ j.0;
+      place = ltb-true _ _ j.0;
       ascending = j.1;
       below = i.1;
-      before = λ u on. lt_from _ _ (passes (λ x. nat_lt x count) task.after u i.1 on);
-      some = lt_from _ _ g.1;
-      allowed = λ q on. lt_from _ _ (passes (λ x. nat_lt x nodes) task.nodes q f.1 on);
-      need = le_from _ _ e.1;
-      enough = le_from _ _ d.1;
-      least = le_from _ _ c.1;
-      ordered = le_from _ _ b.1;
-      most = le_from _ _ a.1;
+      before = λ u on. ltb-true _ _ (all_at (λ x. nat_lt x count) task.after u i.1 on);
+      some = ltb-true _ _ g.1;
+      allowed = λ q on. ltb-true _ _ (all_at (λ x. nat_lt x nodes) task.nodes q f.1 on);
+      need = leb-true _ _ e.1;
+      enough = leb-true _ _ d.1;
+      least = leb-true _ _ c.1;
+      ordered = leb-true _ _ b.1;
+      most = leb-true _ _ a.1;
     }
 
 -- ---- what each graph's tasks meet
