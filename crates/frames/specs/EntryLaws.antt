@@ -1,5 +1,5 @@
 -- The spellings of claims, masks, values and rows, one piece each.
-use Rattle.std.proofs.Common.{◌≡◌, ℕ, zero, suc, ◌+◌, ◌-◌, ◌*◌, ◌/◌, ◌%◌, ◌^◌, ◌<◌, ◌≤◌, Bool, true, false, List, [], ◌∷◌, ◌++◌, length, take, drop, map, replicate, refl, sym, ap, ◌∙◌, arith, get_or, lit<, add-zero, set}
+use Rattle.std.proofs.Common.{◌≡◌, ℕ, zero, suc, ◌+◌, ◌-◌, ◌*◌, ◌/◌, ◌%◌, ◌^◌, ◌<◌, ◌≤◌, ◌≢◌, Bool, true, false, List, [], ◌∷◌, ◌++◌, length, take, drop, map, replicate, refl, sym, ap, ◌∙◌, arith, get_or, lit<, add-zero, set}
 use Rattle.std.proofs.lemmas.Bool.{and_parts}
 use Rattle.std.specs.Prelude.{◌==◌, nat_le, nat_lt, ℤ, pos, negsuc, neg_ℤ, ◌≤ℤ◌, int_le, if◌then◌else◌}
 use Rattle.std.specs.Int.{w16, w64, to_be_bytes, from_be_bytes, cast_unsigned, cast_signed}
@@ -20,7 +20,7 @@ use Rattle.frames.specs.Content.{IsClaim, IsRow, IsValue, IsEntry}
 use Rattle.frames.specs.Spelling.{claim_spelling, row_spelling, relayed_row_spelling, value_spelling}
 use Rattle.frames.specs.Reading.{piece, cut, claim_in, claims_in, rows_in, values_in, row_in, relayed_row_in, value_in, fits_claim, fits_value}
 use Rattle.frames.specs.Checks.{is_written, are_written, is_claim_entry, is_mask, are_masks, are_zero, is_row_entry, is_value}
-use Rattle.frames.specs.TestLaws.{above_zero, eq_told, le_told, le_holds, lt_fails}
+use Rattle.frames.specs.TestLaws.{above_zero, eq_told, eq_holds, eq_fails, le_told, le_holds, lt_fails}
 use Rattle.frames.specs.PieceLaws.{get_or-piece, each_passes, one_fails, AreBytes, AreBytes-drop, IsFormat, IsTest, read_spelt, length_spelt, test_spelt, restored}
 
 -- ---- claims
@@ -108,7 +108,7 @@ mask_test version = record {
 }
 
 -- the mask at a place
-abbrev pub mask_of : List ℕ → ℕ → ℕ
+abbrev mask_of : List ℕ → ℕ → ℕ
 mask_of bytes k = from_be_bytes w16 (get_or bytes (2 * k) 0 ∷ get_or bytes (2 * k + 1) 0 ∷ [])
 
 -- two bytes read as a mask
@@ -121,11 +121,27 @@ mask_read bytes k =
 mask_at : (version : ℕ) (bytes : List ℕ) (k : ℕ) → is_mask version (piece 2 bytes k) ≡ nat_lt (mask_of bytes k) (mask_bound version)
 mask_at version bytes k = ap (λ m. nat_lt m (mask_bound version)) (mask_read bytes k)
 
-pub masks_pass : (version : ℕ) (bytes : List ℕ) → ((k : ℕ) → k < length bytes / 2 → mask_of bytes k < mask_bound version) → are_masks version bytes ≡ true
+masks_pass : (version : ℕ) (bytes : List ℕ) → ((k : ℕ) → k < length bytes / 2 → mask_of bytes k < mask_bound version) → are_masks version bytes ≡ true
 masks_pass version bytes h = each_passes (is_mask version) 2 bytes (λ k l. mask_at version bytes k ∙ (Decides-ltb (mask_of bytes k) (mask_bound version)).1 (h k l))
 
-pub masks_fail : (version : ℕ) (bytes : List ℕ) (k : ℕ) → k < length bytes / 2 → mask_bound version ≤ mask_of bytes k → are_masks version bytes ≡ false
+masks_fail : (version : ℕ) (bytes : List ℕ) (k : ℕ) → k < length bytes / 2 → mask_bound version ≤ mask_of bytes k → are_masks version bytes ≡ false
 masks_fail version bytes k l h = one_fails (is_mask version) 2 bytes k l (mask_at version bytes k ∙ lt_fails (mask_of bytes k) (mask_bound version) h)
+
+-- any two bytes are a mask of version 2, and one of version 1 where the first is 0
+pub all_masks : (version : ℕ) (bytes : List ℕ) → AreBytes bytes → version ≢ 1 → are_masks version bytes ≡ true
+all_masks version bytes b h =
+    let bound : mask_bound version ≡ 65536 = rw (eq_fails version 1 h) refl in
+    masks_pass version bytes (λ k l. let high : get_or bytes (2 * k) 0 < 256 = b (2 * k) in let low : get_or bytes (2 * k + 1) 0 < 256 = b (2 * k + 1) in rw bound (omega arith))
+
+pub small_masks : (version : ℕ) (bytes : List ℕ) → AreBytes bytes → version ≡ 1 → ((k : ℕ) → k < length bytes / 2 → get_or bytes (2 * k) 0 ≡ 0) → are_masks version bytes ≡ true
+small_masks version bytes b h zeros =
+    let bound : mask_bound version ≡ 256 = rw (eq_holds version 1 h) refl in
+    masks_pass version bytes (λ k l. let high : get_or bytes (2 * k) 0 ≡ 0 = zeros k l in let low : get_or bytes (2 * k + 1) 0 < 256 = b (2 * k + 1) in rw bound (omega arith))
+
+pub large_mask : (version : ℕ) (bytes : List ℕ) (k : ℕ) → k < length bytes / 2 → version ≡ 1 → get_or bytes (2 * k) 0 ≢ 0 → are_masks version bytes ≡ false
+large_mask version bytes k l h some =
+    let bound : mask_bound version ≡ 256 = rw (eq_holds version 1 h) refl in
+    masks_fail version bytes k l (rw bound (omega arith))
 
 -- ---- values
 
