@@ -3,7 +3,6 @@ use Rattle.std.proofs.Common.{◌≡◌, ℕ, ◌+◌, ◌<◌, ◌≤◌, Bool,
 use Rattle.std.specs.Prelude.{◌==◌, ◌%◌, nat_lt, nat_le, is_none, if◌then◌else◌}
 use Rattle.std.specs.List.{find}
 use Rattle.std.proofs.lemmas.Bool.{cases_Bool, cond-true, cond-false, and_parts, both_ways, leb-true, leb-false, lt-leb}
-use Rattle.std.proofs.lemmas.Bool.Decides.{nat_tests}
 use Rattle.node_grid.specs.Kinds.{no_claim}
 use Rattle.node_grid.specs.NodeSet.{ids_below, has_id}
 use Rattle.omh_paths.specs.declared.wrapped.Wrapped.{Wrapped}
