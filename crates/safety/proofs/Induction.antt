@@ -59,7 +59,7 @@ abbrev pub here : (cl : Cluster) (class_of : Classing) (p : ℕ) → IsHere cl c
 here cl class_of p h = record { all = premises cl class_of h.given; start = h.start; budget = h.budget }
 
 accuses_none : (n j k : ℕ) → accuses (replicate n 0) j k ≡ false
-accuses_none n j k = ap (λ (m : ℕ). bit_at m k == 1) (zero_there n) ∙ mask_lacks (λ _. false) 0 k refl where
+accuses_none n j k = ap (λ (m : ℕ). bit_at m k == 1) (zero_there n) ∙ mask_lacks (λ _. false) 0 k (omega arith) refl where
   long : (n : ℕ) → n ≤ j → length (replicate {A = ℕ} n 0) ≤ j
   long n h = omega (arith, length-replicate {A = ℕ} n 0)
 
