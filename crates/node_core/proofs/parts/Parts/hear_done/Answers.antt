@@ -1,0 +1,133 @@
+use Rattle.std.proofs.Common.{rules, ◌≡◌, ◌≢◌, ◌≤◌, ◌+◌, ◌-◌, ◌==◌, ◌&&◌, ◌||◌, not, List, map, ℕ, true, arith, inl, inr, lit<, sym, ap, subst, ◌∙◌, None, ap₂}
+use Rattle.std.specs.Prelude.{IsSome, nat_lt, if◌then◌else◌}
+use Rattle.node_core.specs.Notes.{noted_row}
+use Rattle.node_grid.specs.Version.{kind_count}
+use Rattle.node_grid.specs.NodeSet.{ids_below, ids_where, mask_of}
+use Rattle.error_reports.specs.Charge.{accuses}
+use Rattle.omh_paths.specs.declared.wrapped.Wrapped.TheVariants.{Fault}
+use Rattle.omh.specs.Heard.{Hearing}
+use Rattle.error_detect.specs.Watching.{Watch, closed, told_at, findings}
+use Rattle.protocol.specs.Arrival.{arrived, claims_in, claim_form}
+use Rattle.node_core.specs.Hearing.{entry_at, IsHeardBy}
+use Rattle.frames.specs.Bound.{IsGreatest}
+use Rattle.agreed_state.specs.Body.{state_len}
+use Rattle.node_core.specs.Parts.{NodeView}
+use Rattle.node_core.specs.Inside.{seen}
+use Rattle.node_core.specs.Steps.{setting_of, after_round, bad_in, heard_done, shut}
+use Rattle.node_core.proofs.Alike.{row_by_is}
+use Rattle.node_core.proofs.parts.Parts.hear_done.Goals as goal
+
+pub hear_claims_round-requires : goal.hear_claims_round-requires
+hear_claims_round-requires g c =
+    let is = c.self.view_is in
+    let k = c.close-found.ensures.closed in
+    let inv = c.self.invariant in
+    let open' : c.self.inside.watch.is_open ≡ true = ap (λ (v : NodeView g.row.N). v.arrived.is_open) is ∙ c.requires.open in
+    let watching : IsHeardBy c.close-found.new.self c.self.inside.config.now.nodes c.self.inside.me = record {
+      nodes_are = ap (λ (w : Watch). w.nodes) k ∙ inv.watch_nodes;
+      me_is = ap (λ (w : Watch). w.me) k ∙ inv.watch_me;
+      closed = ap (λ (w : Watch). w.is_open) k;
+      some_slot = subst IsSome (sym (ap (λ (w : Watch). w.expect) k)) (inv.watching open');
+    } in
+    let slots : c.self.inside.slot ≤ c.self.inside.done.rounds + 1 =
+    (let a = ap (λ (v : NodeView g.row.N). v.phase.slot) is in let b = ap (λ (v : NodeView g.row.N). v.done.rounds) is in let r = c.requires.round in omega arith) in (
+      search rules,
+      (
+        search rules,
+        (
+          search rules,
+          (
+            inv.capacity,
+            (
+              c.requires.distinct,
+              (
+                (c.requires.members ∙ sym (ap (λ (v : NodeView g.row.N). v.done.members) is)),
+                (
+                  (ap (λ (v : NodeView g.row.N). v.phase.me) is ∙ sym c.requires.me ∙ sym (ap (λ (v : NodeView g.row.N). v.done.me) is)),
+                  (
+                    watching,
+                    (
+                      inv.few,
+                      (
+                        (let l = slots in omega arith),
+                        (
+                          (let a = inv.done_rounds in let b = inv.few_rounds in omega arith),
+                          (λ j n. subst (λ (w : Watch). entry_at (arrived claims_in None (told_at w j)) n ≢ Fault 255) (ap (λ (v : NodeView g.row.N). closed v.arrived) (sym is) ∙ sym k) (c.requires.known j n)),
+                        ),
+                      ),
+                    ),
+                  ),
+                ),
+              ),
+            ),
+          ),
+        ),
+      ),
+    )
+
+pub invariant_of-self : goal.invariant_of-self
+invariant_of-self g c =
+    let k = c.close-found.ensures.closed in
+    let inv = c.self.invariant in
+    record {
+      capacity = inv.capacity;
+      few = inv.few;
+      me_low = inv.me_low;
+      few_rounds = inv.few_rounds;
+      config = inv.config;
+      greatest = subst (λ n. IsGreatest c.self.inside.config.now.nodes c.self.inside.config.now.m (state_len c.self.inside.config.now) 8 n) (sym (ap (λ (w : Watch). w.frame_max) k)) inv.greatest;
+      watch_nodes = ap (λ (w : Watch). w.nodes) k ∙ inv.watch_nodes;
+      watch_me = ap (λ (w : Watch). w.me) k ∙ inv.watch_me;
+      watching = λ h. absurd (let e = sym (ap (λ (w : Watch). w.is_open) k) ∙ h in cc);
+      done_rounds = ap (λ (h : Hearing ℕ). h.rounds) c.hear_claims_round.ensures ∙ inv.done_rounds;
+    }
+
+pub returns : goal.returns
+returns g c =
+    let n = c.self.inside in
+    let is = c.self.view_is in
+    let k = c.close-found.ensures.closed in
+    let r : ℕ = n.slot - 1 in
+    let nodes : ℕ = n.config.now.nodes in
+    let mk : List ℕ → Hearing ℕ → Watch → NodeView g.row.N = λ ns d w. record (seen n) { found = record (seen n).found { notes = ns }; done = d; arrived = w } in
+    ap (mk c.note_done-notes.result c.hear_claims_round.new.table) k
+    ∙ ap (λ d. mk c.note_done-notes.result d (closed n.watch)) (c.hear_claims_round.ensures ∙ ap (λ (w : Watch). after_round claim_form nodes w r n.done) k)
+    ∙ ap (λ ns. mk ns (after_round claim_form nodes (closed n.watch) r n.done) (closed n.watch))
+    (c.note_done-notes.ensures
+    ∙ ap₂ (λ (q : ℕ) (w : Watch). noted_row g.row.N q nodes n.me (λ j b. accuses n.found.notes j b || bad_in claim_form r w j b)) c.kind_count-kinds.ensures.count k
+    ∙ row_by_is (setting_of n.config.now) n.me (λ j b. accuses n.found.notes j b || bad_in claim_form r (closed n.watch) j b))
+    ∙ ap (λ (v : NodeView g.row.N). heard_done (shut v)) is
+
+pub note_done-notes-requires : goal.note_done-notes-requires
+note_done-notes-requires g c =
+    let is = c.self.view_is in
+    let k = c.close-found.ensures.closed in
+    let inv = c.self.invariant in
+    let open' : c.self.inside.watch.is_open ≡ true = ap (λ (v : NodeView g.row.N). v.arrived.is_open) is ∙ c.requires.open in
+    let watching : IsHeardBy c.close-found.new.self c.self.inside.config.now.nodes c.self.inside.me = record {
+      nodes_are = ap (λ (w : Watch). w.nodes) k ∙ inv.watch_nodes;
+      me_is = ap (λ (w : Watch). w.me) k ∙ inv.watch_me;
+      closed = ap (λ (w : Watch). w.is_open) k;
+      some_slot = subst IsSome (sym (ap (λ (w : Watch). w.expect) k)) (inv.watching open');
+    } in (
+      elim inv.capacity [ inl e ↦ rw e (lit< tt) | inr e ↦ rw e (lit< tt) ],
+      (
+        omega arith,
+        (
+          elim inv.capacity [ inl e ↦ rw e (lit< tt) | inr e ↦ rw e (lit< tt) ],
+          (
+            inv.capacity,
+            (
+              c.kind_count-kinds.ensures.few,
+              (
+                watching,
+                (
+                  inv.few,
+                  c.close-found.ensures.found ∙ ap (findings g.row.N) (sym k),
+                ),
+              ),
+            ),
+          ),
+        ),
+      ),
+    )
