@@ -5,7 +5,7 @@ use Rattle.std.specs.Int.RustNames.{count_ones}
 use Rattle.std.specs.List.{filter, range_with_len, sum_by, count_by, All}
 use Rattle.std.specs.Int.{bit_at, bit_not, w16, trailing_zeros}
 use Rattle.std.specs.Int.Count.{ones_step}
-use Rattle.std.proofs.lemmas.Bool.{cases_lt}
+use Rattle.std.proofs.lemmas.Bool.{cases_lt, ne_eqb, eqb-true, lt-ltb, le-ltb}
 use Rattle.std.proofs.lemmas.List.Sums.{sum_by-cons, length-filter, count_by-le-length}
 use Rattle.std.proofs.lemmas.List.FromFn.{length-range_with_len}
 use Rattle.std.proofs.lemmas.List.Elements.{All-filter, All-same, All-nil, All-cons}
@@ -18,21 +18,12 @@ use Rattle.std.specs.Cmp.Lexicographic.{pointwise}
 use Rattle.std.proofs.lemmas.Slice.Eq.{bytes_eq-Decides}
 use Rattle.node_grid.specs.NodeSet.{ids_below, has_id, with_id, without_id, bits_set, mask_of, IsIdSet, ids_where, ids_where_below}
 
-eqb_same : (x : ℕ) → (x == x) ≡ true
-eqb_same x = eq-eqb x x refl
-
-eqb_other : (x y : ℕ) → x ≢ y → (x == y) ≡ false
-eqb_other x y h = grind arith
-
-from_eqb : (x y : ℕ) → (x == y) ≡ true → x ≡ y
-from_eqb x y h = grind arith
-
 by_le : {P : Type 0} (a b : ℕ) → (a ≤ b → P) → (b < a → P) → P
 by_le {P} a b f g = elim (cases_lt b a) as (λ _. P) [ inl h ↦ g h | inr h ↦ f h ]
 
 by_equal : {P : Type 0} (a b : ℕ) → (a ≡ b → P) → (a ≢ b → P) → P
 by_equal {P} a b f g = elim (a == b) as (λ x. (a == b) ≡ x → P) [
-  | true ↦ λ e. f (from_eqb a b e)
+  | true ↦ λ e. f (eqb-true a b e)
   | false ↦ λ e. g (λ s. let t : (a == b) ≡ true = eq-eqb a b s in cc)
 ] refl
 
@@ -88,7 +79,7 @@ has-range a (suc n) x l u =
 
 hasnt-range : (a n x : ℕ) → a + n ≤ x → has_id (range_with_len a n) x ≡ false
 hasnt-range a zero x l = refl
-hasnt-range a (suc n) x l = rw (eqb_other a x (λ s. omega arith)) (hasnt-range (a + 1) n x (omega arith))
+hasnt-range a (suc n) x l = rw (ne_eqb a x (λ s. omega arith)) (hasnt-range (a + 1) n x (omega arith))
 
 and-true : (b : Bool) → (b && true) ≡ b
 and-true true = refl
@@ -99,7 +90,7 @@ and-false true = refl
 and-false false = refl
 
 has_filtered : (p : ℕ → Bool) (xs : List ℕ) (x : ℕ) → has_id (filter p xs) x ≡ (p x && has_id xs x)
-has_filtered p xs x = any-filter_same (λ y. y == x) p (p x) (λ k e. ap p (from_eqb k x e)) xs
+has_filtered p xs x = any-filter_same (λ y. y == x) p (p x) (λ k e. ap p (eqb-true k x e)) xs
 
 pub has-filter : (p : ℕ → Bool) (n x : ℕ) → x < n → has_id (filter p (ids_below n)) x ≡ p x
 has-filter p n x h = has_filtered p (ids_below n) x ∙ rw (has-range 0 n x (omega arith) (omega arith)) (and-true (p x))
@@ -115,10 +106,10 @@ filter_first p a (suc n) t l u y h =
     elim (a == t) as (λ b. (a == t) ≡ b → cond (p a) (a ∷ filter p (range_with_len (a + 1) n)) (filter p (range_with_len (a + 1) n))
     ≡ t ∷ cond (p a && not b) (a ∷ filter (λ k. p k && not (k == t)) (range_with_len (a + 1) n)) (filter (λ k. p k && not (k == t)) (range_with_len (a + 1) n))) [
       | true ↦ λ e.
-          let s : a ≡ t = from_eqb a t e in
+          let s : a ≡ t = eqb-true a t e in
           let pa : p a ≡ true = ap p s ∙ y in
           let rest : filter p (range_with_len (a + 1) n) ≡ filter (λ k. p k && not (k == t)) (range_with_len (a + 1) n) =
-          filter_range p (λ k. p k && not (k == t)) (a + 1) n (λ k l' u'. rw (eqb_other k t (λ q. omega arith)) (sym (and-true (p k)))) in
+          filter_range p (λ k. p k && not (k == t)) (a + 1) n (λ k l' u'. rw (ne_eqb k t (λ q. omega arith)) (sym (and-true (p k)))) in
           rw (pa, rest, s) refl
       | false ↦ λ e.
           let ne : a ≢ t = λ s. let v : (a == t) ≡ true = eq-eqb a t s in cc in
@@ -152,7 +143,7 @@ above i (suc n) mask h =
     let r : sum_by (λ k. 2 ^ k) rest ≡ q / 2 * (2 ^ i * 2) =
     above (i + 1) n mask (further mask i n h) ∙ rw (next_quotient mask i, next_power i) refl in
     elim (q % 2 == 1) as (λ b. (q % 2 == 1) ≡ b → sum_by (λ k. 2 ^ k) (cond b (i ∷ rest) rest) ≡ q * 2 ^ i) [
-      | true ↦ λ e. let o : q % 2 ≡ 1 = from_eqb (q % 2) 1 e in
+      | true ↦ λ e. let o : q % 2 ≡ 1 = eqb-true (q % 2) 1 e in
           sum_by-cons (λ k. 2 ^ k) i rest ∙ rw r (odd_step q (2 ^ i) o)
       | false ↦ λ e. let o : q % 2 ≢ 1 = λ s. let t : (q % 2 == 1) ≡ true = eq-eqb (q % 2) 1 s in cc in
           r ∙ even_step q (2 ^ i) o
@@ -197,7 +188,7 @@ bits_set-full n m h = filter_front (λ k. bit_at (2 ^ m - 1) k == 1) 0 m n h
 pub bits_set-put : (n mask x : ℕ) → n ≤ 16 → x < n → bits_set n (bit_or mask (1 * 2 ^ x % 2 ^ 16)) ≡ with_id n (bits_set n mask) x
 bits_set-put n mask x few h = filter_range _ _ 0 n (λ k l u.
     elim (k == x) as (λ b. (k == x) ≡ b → (bit_at (bit_or mask (1 * 2 ^ x % 2 ^ 16)) k == 1) ≡ (b || has_id (bits_set n mask) k)) [
-      | true ↦ λ e. let s : k ≡ x = from_eqb k x e in rw (s, bit_at_set_same w16 mask x (omega arith)) refl
+      | true ↦ λ e. let s : k ≡ x = eqb-true k x e in rw (s, bit_at_set_same w16 mask x (omega arith)) refl
       | false ↦ λ e. let ne : k ≢ x = λ s. let v : (k == x) ≡ true = eq-eqb k x s in cc in
           rw (bit_at_set_other w16 mask x (omega arith) k ne, has-bits_set n mask k (omega arith)) refl
     ] refl)
@@ -206,7 +197,7 @@ pub bits_set-cut : (n mask x : ℕ) → n ≤ 16 → x < n → bits_set n (bit_a
 bits_set-cut n mask x few h =
     filter_range _ (λ k. (bit_at mask k == 1) && not (k == x)) 0 n (λ k l u.
     elim (k == x) as (λ b. (k == x) ≡ b → (bit_at (bit_and mask (bit_not w16 (1 * 2 ^ x % 2 ^ 16))) k == 1) ≡ ((bit_at mask k == 1) && not b)) [
-      | true ↦ λ e. let s : k ≡ x = from_eqb k x e in rw (s, bit_at_clear_same w16 mask x (omega arith)) (sym (and-false (bit_at mask x == 1)))
+      | true ↦ λ e. let s : k ≡ x = eqb-true k x e in rw (s, bit_at_clear_same w16 mask x (omega arith)) (sym (and-false (bit_at mask x == 1)))
       | false ↦ λ e. let ne : k ≢ x = λ s. let v : (k == x) ≡ true = eq-eqb k x s in cc in
           rw (bit_at_clear_other w16 mask x (omega arith) k (omega arith) ne) (sym (and-true (bit_at mask k == 1)))
     ] refl)
@@ -267,7 +258,7 @@ hasnt-above n s k hs l = ap (λ t. has_id t k) hs ∙ hasnt-filter (λ j. has_id
 -- the least member is below n, and a set without it has the others in order
 pub first_below : (n : ℕ) (x : ℕ) (rest : List ℕ) → IsIdSet n (x ∷ rest) → x < n
 first_below n x rest hs = by_le n x
-    (λ l. absurd (let e : has_id (x ∷ rest) x ≡ false = hasnt-above n (x ∷ rest) x hs l in let f : (x == x) ≡ true = eqb_same x in let g : true ≡ false = rw f at e in cc))
+    (λ l. absurd (let e : has_id (x ∷ rest) x ≡ false = hasnt-above n (x ∷ rest) x hs l in let f : (x == x) ≡ true = eq-eqb x x refl in let g : true ≡ false = rw f at e in cc))
     (λ l. l)
 
 -- what a mask's view says, in the form of the clauses
@@ -298,22 +289,16 @@ same_sets n a b s t ha hb ea eb = by_test (a == b) refl (pointwise ◌==◌ s t)
     by_test : (x : Bool) → (a == b) ≡ x → (y : Bool) → pointwise ◌==◌ s t ≡ y → x ≡ y
     by_test true p true q = refl
     by_test false p false q = refl
-    by_test true p false q = let r : pointwise ◌==◌ s t ≡ true = (bytes_eq-Decides s t).1 (forth (from_eqb a b p)) in cc
+    by_test true p false q = let r : pointwise ◌==◌ s t ≡ true = (bytes_eq-Decides s t).1 (forth (eqb-true a b p)) in cc
     by_test false p true q = let r : (a == b) ≡ true = eq-eqb a b (back ((bytes_eq-Decides s t).0 q)) in cc
 
 -- ---- a loop that builds a set
 
-lt_test : (k i : ℕ) → k < i → nat_lt k i ≡ true
-lt_test k i h = grind arith
-
-not_lt_test : (k i : ℕ) → i ≤ k → nat_lt k i ≡ false
-not_lt_test k i h = grind arith
-
 pub ids_where_none : (p : ℕ → Bool) (n : ℕ) → ids_where_below p n 0 ≡ []
-ids_where_none p n = filter_none (λ k. nat_lt k 0 && p k) 0 n (λ k l u. rw (not_lt_test k 0 (omega arith)) refl)
+ids_where_none p n = filter_none (λ k. nat_lt k 0 && p k) 0 n (λ k l u. rw (le-ltb k 0 (omega arith)) refl)
 
 pub ids_where_all : (p : ℕ → Bool) (n i : ℕ) → n ≤ i → ids_where_below p n i ≡ ids_where p n
-ids_where_all p n i h = filter_range (λ k. nat_lt k i && p k) p 0 n (λ k l u. rw (lt_test k i (omega arith)) refl)
+ids_where_all p n i h = filter_range (λ k. nat_lt k i && p k) p 0 n (λ k l u. rw (lt-ltb k i (omega arith)) refl)
 
 next_test : (k i : ℕ) → i ≢ k → nat_lt k (i + 1) ≡ nat_lt k i
 next_test k i h = grind arith
@@ -325,8 +310,8 @@ ids_where_more_no p n i e = filter_range (λ k. nat_lt k (i + 1) && p k) (λ k. 
 
 pub ids_where_more_yes : (p : ℕ → Bool) (n i : ℕ) → p i ≡ true → ids_where_below p n (i + 1) ≡ with_id n (ids_where_below p n i) i
 ids_where_more_yes p n i e = filter_range (λ k. nat_lt k (i + 1) && p k) (λ k. (k == i) || has_id (ids_where_below p n i) k) 0 n (λ k l u. by_equal i k
-    (λ s. let f : p k ≡ true = ap p (sym s) ∙ e in let t : (k == i) ≡ true = eq-eqb k i (sym s) in rw (f, t, lt_test k (i + 1) (omega arith)) refl)
-    (λ ne. let t : (k == i) ≡ false = eqb_other k i (λ q. ne (sym q)) in
+    (λ s. let f : p k ≡ true = ap p (sym s) ∙ e in let t : (k == i) ≡ true = eq-eqb k i (sym s) in rw (f, t, lt-ltb k (i + 1) (omega arith)) refl)
+    (λ ne. let t : (k == i) ≡ false = ne_eqb k i (λ q. ne (sym q)) in
     rw (next_test k i ne, t) (sym (has-filter (λ j. nat_lt j i && p j) n k (omega arith)))))
 
 -- ---- a loop over the members
