@@ -10,7 +10,7 @@ use Rattle.fault_classes.specs.Change.{Change}
 use Rattle.fault_classes.specs.Change.Change.{Drop, Time, Set}
 use Rattle.fault_classes.specs.Line.{Line}
 use Rattle.agreed_state.specs.declared.config.Config.{Config}
-use Rattle.protocol.specs.View.{no_further}
+use Rattle.protocol.specs.View.{Further, no_further}
 use Rattle.protocol.specs.Run.{System}
 
 abbrev pub no_readings : ℕ → List ℤ
@@ -153,3 +153,15 @@ retiring_policy = record { weights = replicate 16 5; exclude = 5; readmit = 3; c
 
 abbrev pub excluded_for_good : System
 excluded_for_good = cluster 2 retiring_policy 3 0 3 [] [] no_runs no_readings (line 2 (0 ∷ 1 ∷ []) 0 (0 ∷ []) Drop ∷ []) []
+
+-- a node says all kinds of node 2 by the claims, and all of node 1 by the rows
+abbrev pub says_all : Further
+says_all = record { claims = λ i full members x j k. j == 2; rows = λ i full members x j k. j == 1 }
+
+-- three nodes that do so, without faults, in one of the versions
+abbrev pub saying_all : ℕ → System
+saying_all version = record {
+  setting = record { capacity = 8; config = config version policy 3 0 2 [] []; further = says_all };
+  plan = record { nodes = 3; rounds = 0; periods = 2; lines = []; restarts = [] };
+  inputs = λ i p. record { run = no_runs i; reading = no_readings i };
+}

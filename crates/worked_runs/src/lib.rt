@@ -11,7 +11,7 @@ ghost use Rattle.protocol.specs.View.{Mode};
 ghost use Rattle.protocol.specs.Run.{run, classes};
 ghost use Rattle.protocol.specs.Accepted.{IsAccepted};
 ghost use Rattle.protocol.specs.Safe.{reference, members_at, Budget, Safe};
-ghost use Rattle.worked_runs.specs.Systems.{half_accuses, two_rows, lost_row, three_values, two_colluding, five_silent, too_many_faults, joining_beside_two_rows, restart_amid_liars, two_states, late_claim_and_no_row, wrong_state_and_claims, sensor_of_a_task, steps_alone, excluded_and_back, excluded_for_good};
+ghost use Rattle.worked_runs.specs.Systems.{half_accuses, two_rows, lost_row, three_values, two_colluding, five_silent, too_many_faults, joining_beside_two_rows, restart_amid_liars, two_states, late_claim_and_no_row, wrong_state_and_claims, sensor_of_a_task, steps_alone, excluded_and_back, excluded_for_good, saying_all};
 ghost use Rattle.worked_runs.specs.Shown.{of_all, class_in, mode_in, counts_after, streaks_after, left_after, members_before, done_in, due_in, own_value_in, rows_in, vote_in};
 
 /// Two of four voters accuse node 4 of a missing frame. Half of them aren't more than half, so nothing is charged.
@@ -136,6 +136,13 @@ pub fn an_excluded_node_may_retire()
     ensures members { map (λ p. members_before excluded_for_good p 2) (0 ∷ 1 ∷ 2 ∷ []) ≡ (0 ∷ 1 ∷ 2 ∷ []) ∷ (0 ∷ 1 ∷ []) ∷ (0 ∷ 1 ∷ []) ∷ [] }
     ensures counts { map (λ p. counts_after excluded_for_good p 2) (0 ∷ 1 ∷ 2 ∷ []) ≡ (0 ∷ 0 ∷ 5 ∷ []) ∷ (0 ∷ 0 ∷ 0 ∷ []) ∷ (0 ∷ 0 ∷ 0 ∷ []) ∷ [] }
     ensures left { of_all excluded_for_good (left_after excluded_for_good 0) ≡ replicate 3 (0 ∷ 0 ∷ 1 ∷ []) }
+{}
+
+/// Nodes that say all kinds of others give kinds 8 to 15 in version 2, and none in version 1.
+pub fn further_kinds_come_behind_the_named_ones()
+    ensures version_1 { of_all (saying_all 1) (rows_in (saying_all 1) 1) ≡ replicate 3 (replicate 3 (Some (0 ∷ 0 ∷ 0 ∷ []))) }
+    ensures version_2 { of_all (saying_all 2) (rows_in (saying_all 2) 0) ≡ replicate 3 (Some (0 ∷ 0 ∷ 65280 ∷ []) ∷ Some (0 ∷ 0 ∷ 65280 ∷ []) ∷ Some (0 ∷ 0 ∷ 0 ∷ []) ∷ []) }
+    ensures version_2_after { of_all (saying_all 2) (rows_in (saying_all 2) 1) ≡ replicate 3 (Some (0 ∷ 65280 ∷ 65280 ∷ []) ∷ Some (0 ∷ 0 ∷ 65280 ∷ []) ∷ Some (0 ∷ 65280 ∷ 0 ∷ []) ∷ []) }
 {}
 
 /// The premises of the laws can be met with an asymmetric node.
