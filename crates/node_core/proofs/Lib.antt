@@ -27,3 +27,5 @@ pub mod PathCounts
 pub mod Saying
 pub mod Valuing
 pub mod Spelt
+pub mod Starting
+pub mod Buffers

@@ -19,3 +19,4 @@ pub mod Ranged
 pub mod Values
 pub mod SoundLaws
 pub mod Ready
+pub mod Fresh

@@ -22,3 +22,6 @@ mod settling;
 mod short_frames;
 mod sync_noting;
 mod voting;
+
+pub use node::Node;
+pub use outcome::{Mode, NodeRecord};

@@ -14,6 +14,7 @@ ghost use Rattle.agreed_state.specs.Agreed.{IsAgreed};
 
 mod data_slot;
 mod ending;
+mod opening;
 mod reports;
 mod saying;
 mod slots;
