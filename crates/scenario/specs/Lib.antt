@@ -1,7 +1,10 @@
-pub mod Reading
 pub mod Parts
-pub mod Numbers
-pub mod Scenario
-pub mod Verdict
 pub mod Seen
-pub use Rattle.penalty.specs.Policy
+pub mod Reading
+pub mod Keys
+pub mod Numbers
+pub mod Line
+pub mod Scenario
+pub mod Given
+pub mod Rules
+pub mod Verdict

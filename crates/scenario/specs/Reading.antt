@@ -1,9 +1,10 @@
 -- How JSON text is read as values of the types that a scenario is made of.
-use Rattle.std.specs.Prelude.{◌≡◌, ℕ, ℤ, ◌+◌, Bool, true, false, ◌&&◌, List, [], ◌∷◌, Option, Some, None, option_map, option_and_then}
+use Rattle.std.specs.Prelude.{◌≡◌, ℕ, ℤ, Bool, true, false, ◌&&◌, List, [], ◌∷◌, Option, Some, None, option_map, option_and_then, if◌then◌else◌}
+use Rattle.std.specs.List.{list_any}
 use Rattle.std.specs.Str.{IsUtf8, bytes_eq}
 use Rattle.serde_json.specs.Data.{Data, Items, no_items, item, Members, no_members, member}
 use Rattle.serde_json.specs.Read.{read}
-use Rattle.serde_json.specs.Find.{get, as_number, as_i64, as_array, as_str}
+use Rattle.serde_json.specs.Find.{get, as_number, as_i64, as_array, as_str, as_object}
 
 -- the bytes are JSON text of this value
 abbrev pub Reads : List ℕ → Data → Type 0
@@ -22,22 +23,6 @@ each f (item d ds) = option_and_then (λ x. option_map (λ xs. x ∷ xs) (each f
 abbrev pub list_of : {X : Type 0} → (Data → Option X) → Data → Option (List X)
 list_of f d = option_and_then (each f) (as_array d)
 
-abbrev pub count_items : Items → ℕ
-count_items no_items = 0
-count_items (item d ds) = count_items ds + 1
-
--- how many items the list has that a value is
-abbrev pub length_of : Data → Option ℕ
-length_of d = option_map count_items (as_array d)
-
-abbrev pub equals_text : List ℕ → Option (List ℕ) → Bool
-equals_text text None = false
-equals_text text (Some found) = bytes_eq found text
-
--- whether a value is this text
-abbrev pub is_text : List ℕ → Data → Bool
-is_text text d = equals_text text (as_str d)
-
 -- what f reads at a key that must be there
 abbrev pub required : {X : Type 0} → List ℕ → (Data → Option X) → Data → Option X
 required key f d = option_and_then f (get key d)
@@ -50,7 +35,22 @@ if_there default f (Some d) = f d
 abbrev pub optional : {X : Type 0} → List ℕ → X → (Data → Option X) → Data → Option X
 optional key default f d = if_there default f (get key d)
 
--- each key passes a test
-abbrev pub all_keys : (List ℕ → Bool) → Members → Bool
-all_keys p no_members = true
-all_keys p (member key d ms) = p key && all_keys p ms
+-- whether a key is one of these
+abbrev pub is_among : List (List ℕ) → List ℕ → Bool
+is_among names key = list_any (bytes_eq key) names
+
+abbrev pub all_among : List (List ℕ) → Members → Bool
+all_among names no_members = true
+all_among names (member key d ms) = is_among names key && all_among names ms
+
+abbrev pub in_object : {X : Type 0} → List (List ℕ) → (Data → Option X) → Data → Option Members → Option X
+in_object names fields d None = None
+in_object names fields d (Some ms) = if all_among names ms then fields d else None
+
+-- what the fields of an object with no other keys are
+abbrev pub object_of : {X : Type 0} → List (List ℕ) → (Data → Option X) → Data → Option X
+object_of names fields d = in_object names fields d (as_object d)
+
+-- what f reads at the one key of an object
+abbrev pub lone : {X : Type 0} → List ℕ → (Data → Option X) → Data → Option X
+lone key f d = object_of (key ∷ []) (required key f) d

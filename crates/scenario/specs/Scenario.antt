@@ -1,42 +1,44 @@
--- What an accepted scenario says.
-use Rattle.std.specs.Prelude.{◌≡◌, ℕ, ◌<◌, ◌≤◌, ◌==◌, Bool, ◌&&◌, nat_le, List, All}
-use Rattle.std.specs.List.{list_any}
-use Rattle.penalty.specs.declared.Policy.{Policy}
-use Rattle.penalty.specs.Policy.{IsPolicy}
-use Rattle.scenario.specs.declared.content.Silence.{Silence}
+-- What an accepted scenario says, and the system that it gives.
+use Rattle.std.specs.Prelude.{◌≡◌, ℕ, ◌-◌, ◌%◌, ◌<◌, ◌≤◌, ℤ, pos, List, [], ◌++◌, map, length, replicate, slice_index_or}
+use Rattle.fault_classes.specs.Plan.{Plan}
+use Rattle.agreed_state.specs.declared.config.Config.{Config}
+use Rattle.agreed_state.specs.declared.config.Inputs.{Inputs}
+use Rattle.protocol.specs.View.{no_further}
+use Rattle.protocol.specs.Run.{System}
+use Rattle.protocol.specs.Accepted.{IsAccepted}
 
--- An accepted scenario: how many nodes and periods, the number of the reference node's order, the length of a task
--- frame, the policy, and the silences.
-pub record Content : Type 0 where
-  pub nodes : ℕ
+-- An accepted scenario: what all nodes know of the cluster, the fault plan, how many periods are run, whose frames are
+-- delivered first, how long each node runs each task, and what each node reads of each channel.
+pub record ScenarioView (capacity : ℕ) : Type 0 where
+  pub config : Config capacity
+  pub plan : Plan
   pub periods : ℕ
   pub order : ℕ
-  pub frame : ℕ
-  pub policy : Policy
-  pub silences : List Silence
+  pub times : List (List ℕ)  -- by task, then by node
+  pub readings : List (List (List ℤ))  -- by channel: its rows, each by node; a state channel has none
 
--- whether the silence is of this node in this period
-abbrev pub covers : ℕ → ℕ → Silence → Bool
-covers node period s = (s.node == node) && nat_le s.first period && nat_le period s.last
+-- what node i reads in period p, by rows that come again and again; 0 without a row
+abbrev pub reading_at : ℕ → ℕ → List (List ℤ) → ℤ
+reading_at i p rows = slice_index_or (slice_index_or rows (p % length rows) []) i (pos 0)
 
--- whether the node is silent to all in all slots of the period
-abbrev pub silent : Content → ℕ → ℕ → Bool
-silent c node period = list_any (covers node period) c.silences
+-- what node i is given for period p, with 0 for what isn't in use
+abbrev pub inputs_of : {capacity : ℕ} → ScenarioView capacity → ℕ → ℕ → Inputs
+inputs_of s i p = record {
+  run = map (λ row. slice_index_or row i 0) s.times ++ replicate (32 - length s.times) 0;
+  reading = map (reading_at i p) s.readings ++ replicate (8 - length s.readings) (pos 0);
+}
 
--- a silence of a node in use, in periods that are run
-pub record IsSilence (nodes periods : ℕ) (s : Silence) : Type 0 where
-  pub node : s.node < nodes
-  pub ordered : s.first ≤ s.last
-  pub last : s.last < periods
+abbrev pub system_of : {capacity : ℕ} → ScenarioView capacity → System
+system_of {capacity} s = record {
+  setting = record { capacity = capacity; config = s.config; further = no_further };
+  plan = s.plan;
+  inputs = inputs_of s;
+}
 
--- the ranges of what an accepted scenario says
-pub record IsContent (c : Content) : Type 0 where
-  pub some_nodes : 3 ≤ c.nodes
-  pub nodes : c.nodes ≤ 8
-  pub some_periods : 1 ≤ c.periods
-  pub periods : c.periods ≤ 1024
-  pub order : c.order < c.nodes
-  pub some_frame : 1 ≤ c.frame
-  pub frame : c.frame ≤ 1024
-  pub policy : IsPolicy c.policy
-  pub silences : All (IsSilence c.nodes c.periods) c.silences
+-- what holds of each accepted scenario
+pub record IsScenario {capacity : ℕ} (s : ScenarioView capacity) : Type 0 where
+  pub system : IsAccepted (system_of s)
+  pub some_periods : 1 ≤ s.periods
+  pub few_periods : s.periods ≤ 1024
+  pub plan_periods : s.plan.periods ≡ s.periods
+  pub order : s.order < s.config.nodes

@@ -1,0 +1,145 @@
+-- Which rule refuses the parts of a scenario: the first that fails, at the first place at which it fails.
+use Rattle.std.specs.Prelude.{ℕ, ◌+◌, ◌^◌, ◌==◌, min, ℤ, pos, neg_ℤ, int_lt, Bool, true, false, not, ◌&&◌, ◌||◌, nat_lt, nat_le, List, [], ◌∷◌, map, length, Option, None, Some, is_some, option_map, if◌then◌else◌}
+use Rattle.std.specs.List.{list_all}
+use Rattle.std.specs.Option.{option_or}
+use Rattle.std.specs.Ordering.{int_eq}
+use Rattle.node_grid.specs.Version.{kind_count, most_nodes, most_rounds}
+use Rattle.mme_vote.specs.Vote.{distance}
+use Rattle.task_graph.specs.Reach.{is_cyclic}
+use Rattle.fault_classes.specs.declared.line.Restart.{Restart}
+use Rattle.fault_classes.specs.Plan.{slot_count}
+use Rattle.fault_classes.specs.Rules.{comes_after, first_overlap}
+use Rattle.scenario.specs.Parts.{PolicyParts, ChannelParts, TaskParts, RestartParts, ScenarioParts}
+use Rattle.scenario.specs.Parts.ChannelParts.{state, sensor}
+use Rattle.scenario.specs.Numbers.{is_within, is_below, natural, is_empty, are_below, listed}
+use Rattle.scenario.specs.Line.{line_at, restart_of}
+use Rattle.scenario.specs.Given.{task_of, frame_of, lines_of}
+
+-- ---- how a rule that fails is told: by its number and a place
+
+abbrev pub unless : Bool → ℕ → ℕ → Option (ℕ × ℕ)
+unless holds rule place = if holds then None else Some (rule, place)
+
+abbrev pub at_place : ℕ → Option ℕ → Option (ℕ × ℕ)
+at_place rule place = option_map (λ k. (rule, k)) place
+
+-- the first place from k on at which a test of place and item fails
+abbrev pub first_bad : {X : Type 0} → (ℕ → X → Bool) → ℕ → List X → Option ℕ
+first_bad test k [] = None
+first_bad test k (x ∷ xs) = if test k x then first_bad test (k + 1) xs else Some k
+
+-- ---- rules 2 to 5: the numbers of the whole and the policy
+
+abbrev pub version_of : ScenarioParts → ℕ
+version_of p = natural p.version
+
+-- rule 2, place 0: so many nodes as the version and the types have room for
+abbrev pub has_nodes : ℕ → ScenarioParts → Bool
+has_nodes capacity p = is_within (pos 3) (pos (min capacity (most_nodes (version_of p)))) p.nodes
+
+-- rule 3
+abbrev pub has_rounds : ScenarioParts → Bool
+has_rounds p = is_within (pos 0) (pos (most_rounds (version_of p))) p.m && int_lt p.m p.nodes
+
+-- rule 5. In version 1 no node retires
+abbrev pub is_policy : ℕ → PolicyParts → Bool
+is_policy version p =
+    (length p.weights == kind_count version) && list_all (is_within (pos 0) (pos 1000)) p.weights
+    && is_within (pos 1) (pos 60000) p.cap && is_within (pos 1) p.cap p.exclude
+    && is_within (pos 0) p.exclude p.readmit && int_lt p.readmit p.exclude
+    && is_within (pos 0) (pos 60000) p.credit && is_within (pos 1) (pos 60000) p.streak
+    && is_within (pos 0) (pos 60000) p.retire
+
+-- rule 1, where parts are given: version 1 has no retirement
+abbrev pub is_of_version : ScenarioParts → Bool
+is_of_version p = not (version_of p == 1) || int_eq p.policy.retire (pos 0)
+
+-- ---- rules 6 and 7: channels
+
+abbrev pub limit : ℤ
+limit = pos (2 ^ 42)
+
+-- a value for each node
+abbrev pub are_values : ℕ → List ℤ → Bool
+are_values nodes vs = (length vs == nodes) && list_all (is_within (neg_ℤ limit) limit) vs
+
+abbrev pub is_task_below : ℕ → Option ℤ → Bool
+is_task_below tasks None = true
+is_task_below tasks (Some t) = is_below tasks t
+
+abbrev pub is_channel : ℕ → ℕ → ChannelParts → Bool
+is_channel nodes tasks (state delta start step) =
+    is_within (pos 0) limit delta && are_values nodes start && is_within (neg_ℤ (pos (2 ^ 20))) (pos (2 ^ 20)) step
+is_channel nodes tasks (sensor delta task rows) =
+    is_within (pos 0) limit delta && is_task_below tasks task
+    && nat_le 1 (length rows) && nat_le (length rows) 1024 && list_all (are_values nodes) rows
+
+-- no two differ by more than delta
+abbrev pub are_close : ℤ → List ℤ → Bool
+are_close delta vs = list_all (λ v. list_all (λ w. not (int_lt delta (pos (distance v w)))) vs) vs
+
+abbrev pub is_close : ChannelParts → Bool
+is_close (state delta start step) = are_close delta start
+is_close (sensor delta task rows) = list_all (are_close delta) rows
+
+-- ---- rules 8 and 9: tasks
+
+abbrev pub is_task : ℕ → ℕ → TaskParts → Bool
+is_task nodes tasks t =
+    are_below tasks t.after
+    && not (is_empty t.nodes) && are_below nodes t.nodes
+    && is_within (pos 1) (pos (length (listed nodes t.nodes))) t.need
+    && is_within (pos 1) (pos 1024) t.max && is_within (pos 1) t.max t.min
+    && (length t.run == length t.nodes) && list_all (is_within t.min t.max) t.run
+
+-- ---- rule 12: restarts
+
+-- in range, and after the restart before it
+abbrev pub is_restart : ℕ → ℕ → Option Restart → RestartParts → Bool
+is_restart nodes periods before r =
+    is_below nodes r.node && is_below periods r.period && nat_le 1 (natural r.period) && comes_after before (restart_of r)
+
+-- the place of the first restart that isn't, where this one and so many come before
+abbrev pub first_bad_restart : ℕ → ℕ → Option Restart → ℕ → List RestartParts → Option ℕ
+first_bad_restart nodes periods before k [] = None
+first_bad_restart nodes periods before k (r ∷ rs) =
+    if is_restart nodes periods before r then first_bad_restart nodes periods (Some (restart_of r)) (k + 1) rs else Some k
+
+-- ---- all rules, in their order
+
+-- rule 1, and rules 2 to 5
+abbrev pub numbers_refusal : ℕ → ScenarioParts → Option (ℕ × ℕ)
+numbers_refusal capacity p =
+    option_or (unless (is_of_version p) 1 0)
+    (option_or (unless (is_within (pos 1) (pos 2) p.version) 2 1)
+    (option_or (unless (has_nodes capacity p) 2 0)
+    (option_or (unless (has_rounds p) 3 0)
+    (option_or (unless (is_within (pos 1) (pos 1024) p.periods) 4 0)
+    (option_or (unless (is_within (pos 1) (pos 1024) (frame_of p)) 4 1)
+    (option_or (unless (is_below (natural p.nodes) p.order) 4 2)
+    (unless (is_policy (version_of p) p.policy) 5 0)))))))
+
+-- rules 6 and 7
+abbrev pub channels_refusal : ScenarioParts → Option (ℕ × ℕ)
+channels_refusal p =
+    option_or (at_place 6 (first_bad (λ k c. nat_lt k 8 && is_channel (natural p.nodes) (length p.tasks) c) 0 p.channels))
+    (at_place 7 (first_bad (λ k c. is_close c) 0 p.channels))
+
+-- rules 8 and 9
+abbrev pub tasks_refusal : ScenarioParts → Option (ℕ × ℕ)
+tasks_refusal p =
+    option_or (at_place 8 (first_bad (λ k t. nat_lt k 32 && is_task (natural p.nodes) (length p.tasks) t) 0 p.tasks))
+    (at_place 9 (first_bad (λ k t. not (is_cyclic (map (task_of (natural p.nodes)) p.tasks) k)) 0 p.tasks))
+
+-- rules 10 to 13
+abbrev pub plan_refusal : ScenarioParts → Option (ℕ × ℕ)
+plan_refusal p =
+    option_or (at_place 10 (first_bad (λ k f. is_some (line_at (natural p.nodes) (slot_count (natural p.m)) (natural p.periods) f)) 0 p.faults))
+    (option_or (at_place 11 (first_overlap [] (lines_of p)))
+    (option_or (at_place 12 (first_bad_restart (natural p.nodes) (natural p.periods) None 0 p.restarts))
+    (unless (nat_le (length p.faults) 4096) 13 4096)))
+
+-- the first rule that fails, with its place
+abbrev pub refusal : ℕ → ScenarioParts → Option (ℕ × ℕ)
+refusal capacity p =
+    option_or (numbers_refusal capacity p) (option_or (channels_refusal p) (option_or (tasks_refusal p) (plan_refusal p)))
