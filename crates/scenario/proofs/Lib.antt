@@ -1,6 +1,4 @@
 pub mod Collect
-pub mod Ascending
 pub mod Keys
-pub mod Lines
-pub mod Weights
-pub mod Judged
+pub mod Ascending
+pub mod Within

@@ -27,7 +27,7 @@ policy_of p = record {
 }
 
 abbrev pub task_of : ℕ → TaskParts → TaskView
-task_of nodes t = record { after = map natural t.after; allowed = listed nodes t.nodes; need = natural t.need; least = natural t.min; most = natural t.max }
+task_of nodes t = record { after = map natural t.after; nodes = listed nodes t.nodes; need = natural t.need; min = natural t.min; max = natural t.max }
 
 -- a list with 0 behind it, up to so many places
 abbrev pub padded : ℕ → List ℤ → List ℤ

@@ -4,6 +4,7 @@ pub mod Reading
 pub mod Keys
 pub mod Numbers
 pub mod Line
+pub mod Narrowed
 pub mod Scenario
 pub mod Given
 pub mod Rules

@@ -1,16 +1,15 @@
 -- The fault line that parts are, and the restart.
 use Rattle.std.specs.Prelude.{ℕ, ◌-◌, ℤ, pos, Bool, true, false, not, ◌&&◌, nat_lt, nat_le, List, [], ◌∷◌, length, Option, None, Some, option_map, if◌then◌else◌}
 use Rattle.std.specs.Result.{result_ok}
-use Rattle.node_grid.specs.NodeSet.{ids_below, has_id, without_id}
+use Rattle.node_grid.specs.NodeSet.{without_id}
 use Rattle.fault_classes.specs.declared.line.Restart.{Restart}
 use Rattle.fault_classes.specs.Change.{Change}
 use Rattle.fault_classes.specs.Change.Change.{Lost, Shortened, Doubled, Timed, Patched, Replaced}
 use Rattle.fault_classes.specs.Line.{Line}
 use Rattle.hex.specs.Hex.{decode_of}
-use Rattle.scenario.specs.Parts.{Numbers, EffectParts, FaultParts, RestartParts}
-use Rattle.scenario.specs.Parts.Numbers.{all, these}
+use Rattle.scenario.specs.Parts.{EffectParts, FaultParts, RestartParts}
 use Rattle.scenario.specs.Parts.EffectParts.{drop, twice, shortened, time, set, raw}
-use Rattle.scenario.specs.Numbers.{is_within, is_below, natural, are_some_below, listed}
+use Rattle.scenario.specs.Numbers.{is_within, is_below, natural, are_some_below, lists, meant}
 
 -- the value, where the test holds
 abbrev pub only_if : {A : Type 0} → Bool → A → Option A
@@ -33,11 +32,6 @@ change_at (time t) = only_if (is_within (pos 0) (pos 30) t && not (is_within (po
 change_at (set at text) = if is_within (pos 0) (pos 4095) at then option_map (Patched (natural at)) (decoded 1 text) else None
 change_at (raw text) = option_map Replaced (decoded 0 text)
 
--- those that are meant, of all these
-abbrev pub meant : ℕ → List ℕ → Numbers → List ℕ
-meant n every all = every
-meant n every (these zs) = listed n zs
-
 -- two numbers in order, below the number of periods
 abbrev pub is_span : ℕ → List ℤ → Bool
 is_span periods (first ∷ last ∷ []) = is_within (pos 0) last first && is_below periods last
@@ -51,14 +45,14 @@ abbrev pub last_of : List ℤ → ℕ
 last_of (first ∷ last ∷ []) = natural last
 last_of _ = 0
 
--- the nodes that a line's frames go to
+-- the nodes that a line's frames go to, which the sender isn't one of
 abbrev pub receivers_of : ℕ → FaultParts → List ℕ
-receivers_of nodes p = meant nodes (without_id (ids_below nodes) (natural p.from)) p.to
+receivers_of nodes p = without_id (meant nodes p.to) (natural p.from)
 
--- whether the nodes, periods and slots of a line are in range, and it isn't to its sender
+-- whether the nodes, periods and slots of a line are in range, and its list of receivers hasn't the sender
 abbrev pub is_placed : ℕ → ℕ → ℕ → FaultParts → Bool
 is_placed nodes slots periods p =
-    is_below nodes p.from && are_some_below nodes p.to && not (has_id (receivers_of nodes p) (natural p.from))
+    is_below nodes p.from && are_some_below nodes p.to && not (lists p.to p.from)
     && is_span periods p.periods && are_some_below slots p.slots
 
 -- the line with this change
@@ -68,7 +62,7 @@ line_with nodes slots p change = record {
   to = receivers_of nodes p;
   first = first_of p.periods;
   last = last_of p.periods;
-  slots = meant slots (ids_below slots) p.slots;
+  slots = meant slots p.slots;
   change = change;
 }
 

@@ -1,14 +1,16 @@
-//! Scenarios: which cluster is run, for how long, and which nodes fall silent. They are read from JSON and judged by
+//! Scenarios: which cluster is run, for how long, and which faults befall it. They are read from JSON and judged by
 //! rules.
 #![tactic(auto)]
 
-mod content;
-mod judging;
+mod configuring;
+mod error;
 mod numbers;
 mod parts;
+mod planning;
 mod reading;
+mod rules;
 
-pub use content::{Scenario, ScenarioError, Silence};
-
-#[cfg(test)]
-mod tests;
+pub use error::ScenarioError;
+pub use parts::{
+    ChannelPart, EffectPart, FaultPart, NumbersPart, Parts, PolicyPart, RestartPart, TaskPart,
+};
