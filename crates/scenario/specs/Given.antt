@@ -24,6 +24,7 @@ policy_of p = record {
   credit = natural p.credit;
   streak = natural p.streak;
   cap = natural p.cap;
+  retire = natural p.retire;
 }
 
 abbrev pub task_of : ℕ → TaskParts → TaskView
@@ -42,6 +43,7 @@ frame_of p = unwrap_or p.frame p.periods
 
 abbrev pub config_of : (capacity : ℕ) → ScenarioParts → Config capacity
 config_of capacity p = record {
+  version = natural p.version;
   nodes = natural p.nodes;
   m = natural p.m;
   frame = natural (frame_of p);

@@ -4,7 +4,7 @@ use Rattle.std.specs.Result.{result_ok}
 use Rattle.node_grid.specs.NodeSet.{without_id}
 use Rattle.fault_classes.specs.declared.line.Restart.{Restart}
 use Rattle.fault_classes.specs.Change.{Change}
-use Rattle.fault_classes.specs.Change.Change.{Lost, Shortened, Doubled, Timed, Patched, Replaced}
+use Rattle.fault_classes.specs.Change.Change.{Drop, Cut, Twice, Time, Set, Raw}
 use Rattle.fault_classes.specs.Line.{Line}
 use Rattle.hex.specs.Hex.{decode_of}
 use Rattle.scenario.specs.Parts.{EffectParts, FaultParts, RestartParts}
@@ -25,12 +25,12 @@ decoded least text = bytes_of least (result_ok (decode_of text))
 
 -- what an effect does, where it is in range
 abbrev pub change_at : EffectParts → Option Change
-change_at drop = Some Lost
-change_at twice = Some Doubled
-change_at (shortened k) = only_if (is_within (pos 1) (pos 4096) k) (Shortened (natural k))
-change_at (time t) = only_if (is_within (pos 0) (pos 30) t && not (is_within (pos 10) (pos 20) t)) (Timed (natural t))
-change_at (set at text) = if is_within (pos 0) (pos 4095) at then option_map (Patched (natural at)) (decoded 1 text) else None
-change_at (raw text) = option_map Replaced (decoded 0 text)
+change_at drop = Some Drop
+change_at twice = Some Twice
+change_at (shortened k) = only_if (is_within (pos 1) (pos 4096) k) (Cut (natural k))
+change_at (time t) = only_if (is_within (pos 0) (pos 30) t && not (is_within (pos 10) (pos 20) t)) (Time (natural t))
+change_at (set at text) = if is_within (pos 0) (pos 4095) at then option_map (Set (natural at)) (decoded 1 text) else None
+change_at (raw text) = option_map Raw (decoded 0 text)
 
 -- two numbers in order, below the number of periods
 abbrev pub is_span : ℕ → List ℤ → Bool

@@ -9,6 +9,7 @@ use Rattle.task_graph.specs.Graph.{TaskView}
 use Rattle.task_graph.specs.Reach.{is_cyclic}
 use Rattle.fault_classes.specs.declared.line.Restart.{Restart}
 use Rattle.fault_classes.specs.Plan.{slot_count}
+use Rattle.fault_classes.specs.Rules as plan
 use Rattle.fault_classes.specs.Rules.{comes_after, first_overlap}
 use Rattle.scenario.specs.Parts.{PolicyParts, ChannelParts, TaskParts, FaultParts, RestartParts, ScenarioParts}
 use Rattle.scenario.specs.Parts.ChannelParts.{state, sensor}
@@ -129,10 +130,10 @@ is_line nodes slots periods k f = is_some (line_at nodes slots periods f)
 
 -- ---- rule 12: restarts
 
--- in range, and after the restart before it
+-- of a node in use and a period that is run, as a plan has it, and after the restart before it
 abbrev pub is_restart : ℕ → ℕ → Option Restart → RestartParts → Bool
 is_restart nodes periods before r =
-    is_below nodes r.node && is_below periods r.period && nat_le 1 (natural r.period) && comes_after before (restart_of r)
+    is_below nodes r.node && (is_below periods r.period && (plan.is_restart nodes periods (restart_of r) && comes_after before (restart_of r)))
 
 -- the place of the first restart that isn't, where this one and so many come before
 abbrev pub first_bad_restart : ℕ → ℕ → Option Restart → ℕ → List RestartParts → Option ℕ

@@ -42,3 +42,6 @@ pub record IsScenario {capacity : ℕ} (s : ScenarioView capacity) : Type 0 wher
   pub few_periods : s.periods ≤ 1024
   pub plan_periods : s.plan.periods ≡ s.periods
   pub order : s.order < s.config.nodes
+  pub task_count : length s.times ≡ length s.config.graph.tasks
+  pub channel_count : length s.readings ≡ length s.config.channels.items
+  pub times : (t i : ℕ) → slice_index_or (slice_index_or s.times t []) i 0 ≤ 1024

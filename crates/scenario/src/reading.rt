@@ -160,8 +160,7 @@ fn policy_of_fields(alloc: Global, value: &Value) -> Result<Option<PolicyPart>, 
         required_number(value, "streak"),
         required_number(value, "cap"),
         optional_number(value, "retire", 0),
-    )
-    else {
+    ) else {
         return Ok(None);
     };
     Ok(Some(PolicyPart {
@@ -179,11 +178,16 @@ fn has_policy_names(map: &Map<String, Value>, version: i64) -> bool
     ensures { result ≡ all_among (policy_names version) (members_view map.now.entries) }
 {
     if version == 1 {
-        has_only(map, &["weights", "exclude", "readmit", "credit", "streak", "cap"])
+        has_only(
+            map,
+            &["weights", "exclude", "readmit", "credit", "streak", "cap"],
+        )
     } else {
         has_only(
             map,
-            &["weights", "exclude", "readmit", "credit", "streak", "cap", "retire"],
+            &[
+                "weights", "exclude", "readmit", "credit", "streak", "cap", "retire",
+            ],
         )
     }
 }
