@@ -1,5 +1,5 @@
 -- What the steps of a node ask of it holds of a sound one.
-use Rattle.std.proofs.Common.{ℕ, ◌≡◌, ◌≢◌, ◌<◌, ◌≤◌, ◌+◌, ◌-◌, Bool, true, false, if◌then◌else◌, [], length, Option, None, Some, refl, sym, ap, subst, ◌∙◌, inl, inr, arith}
+use Rattle.std.proofs.Common.{ℕ, ◌≡◌, ◌≢◌, ◌<◌, ◌≤◌, ◌+◌, ◌-◌, false, [], length, Option, None, Some, refl, sym, subst, inl, inr, arith}
 use Rattle.std.specs.Prelude.{All, IfSome, nat_le}
 use Rattle.std.proofs.lemmas.Bool.{cases_Bool, cond-true, cond-false}
 use Rattle.node_grid.specs.Capacity.{IsCapacity}
@@ -13,7 +13,6 @@ use Rattle.error_detect.specs.Watching.{closed, told_at}
 use Rattle.agreed_state.specs.ConfigLaws.{few_rounds}
 use Rattle.agreed_state.specs.Config.{IsConfig}
 use Rattle.agreed_state.specs.Agreed.{AgreedView, IsAgreed}
-use Rattle.agreed_state.specs.Body.{state_len}
 use Rattle.agreed_state.specs.ReadLaws.{state_len-short}
 use Rattle.protocol.specs.Arrival.{arrived, state_in, claims_in, rows_in}
 use Rattle.protocol.specs.View.{content}
@@ -21,7 +20,7 @@ use Rattle.protocol.specs.Run.{members_in}
 use Rattle.node_core.specs.Hearing.{entry_at}
 use Rattle.node_core.specs.Parts.{NodeView}
 use Rattle.node_core.specs.Steps.{expected_in}
-use Rattle.node_core.specs.Sound.{HasSizes, Hears, IsInSlot, IsSound, IsTaken}
+use Rattle.node_core.specs.Sound.{HasSizes, Hears, IsInSlot, IsTaken}
 use Rattle.node_core.specs.Relaying.{relays}
 use Rattle.node_core.proofs.Ranges.{relays_in}
 use Rattle.node_core.proofs.Telling.{claims_known, rows_known, states_sized}

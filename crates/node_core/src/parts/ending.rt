@@ -1,6 +1,6 @@
 //! The end of a period.
 
-ghost use Rattle.std.specs.Prelude.{◌≡◌, ℕ, ◌≤◌, length, IfSome, if◌then◌else◌};
+ghost use Rattle.std.specs.Prelude.{◌≡◌, ◌≤◌, length, IfSome, if◌then◌else◌};
 ghost use Rattle.node_grid.specs.Capacity.{IsCapacity};
 ghost use Rattle.agreed_state.specs.Agreed.{IsAgreed};
 ghost use Rattle.protocol.specs.View.Mode.{Full as ViewFull, Joining as ViewJoining};

@@ -1,8 +1,6 @@
-use Rattle.std.proofs.Common.{rules, ◌≡◌, ◌≢◌, ◌≤◌, ◌+◌, ◌-◌, ◌==◌, ◌&&◌, ◌||◌, not, List, map, ℕ, true, arith, inl, inr, lit<, sym, ap, subst, ◌∙◌, None, ap₂}
-use Rattle.std.specs.Prelude.{IsSome, nat_lt, if◌then◌else◌}
+use Rattle.std.proofs.Common.{rules, ◌≡◌, ◌≢◌, ◌≤◌, ◌+◌, ◌-◌, ◌||◌, List, ℕ, true, arith, inl, inr, lit<, sym, ap, subst, ◌∙◌, None, ap₂}
+use Rattle.std.specs.Prelude.{IsSome}
 use Rattle.node_core.specs.Notes.{noted_row}
-use Rattle.node_grid.specs.Version.{kind_count}
-use Rattle.node_grid.specs.NodeSet.{ids_below, ids_where, mask_of}
 use Rattle.error_reports.specs.Charge.{accuses}
 use Rattle.omh_paths.specs.declared.wrapped.Wrapped.TheVariants.{Fault}
 use Rattle.omh.specs.Heard.{Hearing}

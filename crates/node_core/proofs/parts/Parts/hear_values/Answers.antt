@@ -1,9 +1,9 @@
-use Rattle.std.proofs.Common.{◌≡◌, ◌<◌, ◌≤◌, ◌+◌, ◌==◌, ◌&&◌, ◌||◌, not, List, [], map, length, get_or, ℕ, ℤ, Option, true, refl, arith, inl, inr, lit<, sym, ap, ap₂, subst, ◌∙◌}
-use Rattle.std.specs.Prelude.{IsSome, IfSome, All, nat_lt, if◌then◌else◌}
+use Rattle.std.proofs.Common.{◌≡◌, ◌<◌, ◌≤◌, ◌+◌, ◌==◌, ◌&&◌, ◌||◌, List, [], length, get_or, ℕ, ℤ, Option, true, refl, arith, inl, inr, lit<, sym, ap, ap₂, subst, ◌∙◌}
+use Rattle.std.specs.Prelude.{IsSome, IfSome, All, if◌then◌else◌}
 use Rattle.std.proofs.lemmas.Bool.{cond-true, cond-false}
 use Rattle.node_grid.specs.Version.{kind_count}
 use Rattle.node_grid.specs.Kinds.{deviate}
-use Rattle.node_grid.specs.NodeSet.{has_id, ids_below, ids_where, mask_of, IsIdSet}
+use Rattle.node_grid.specs.NodeSet.{has_id, IsIdSet}
 use Rattle.node_grid.specs.NodeSetLaws.{All-ids}
 use Rattle.node_grid.specs.Count.{Distinct}
 use Rattle.omh_paths.specs.declared.wrapped.Wrapped.TheVariants.{Plain}

@@ -4,7 +4,7 @@ use Rattle.std.proofs.lemmas.List.FromFn.{get_or-map-range_with_len}
 use Rattle.node_core.specs.Notes.{noted_row}
 use Rattle.node_grid.specs.Version.{kind_count}
 use Rattle.node_grid.specs.Kinds.{claim, overrun}
-use Rattle.node_grid.specs.NodeSet.{ids_below, ids_where, mask_of}
+use Rattle.node_grid.specs.NodeSet.{ids_where, mask_of}
 use Rattle.omh_paths.specs.declared.wrapped.Wrapped.{Wrapped}
 use Rattle.omh.specs.Heard.{Hearing}
 use Rattle.list_scheduler.specs.declared.schedule.Verdict.{Verdict}

@@ -1,4 +1,4 @@
-use Rattle.std.proofs.Common.{ℕ, Bool, true, false, inl, inr, lit<, sym, ap, subst, ◌∙◌}
+use Rattle.std.proofs.Common.{ℕ, inl, inr, lit<, sym, ap, subst, ◌∙◌}
 use Rattle.omh.specs.Heard.{Hearing}
 use Rattle.frames.specs.Bound.{IsGreatest}
 use Rattle.error_detect.specs.Watching.{Watch}

@@ -1,16 +1,15 @@
-use Rattle.std.proofs.Common.{◌≡◌, ◌≢◌, ◌<◌, ◌≤◌, ◌+◌, ◌*◌, ◌==◌, ℕ, true, false, length, arith, inl, inr, lit<, sym, ap, ap₂, subst, ◌∙◌, eq-eqb, ne_eqb, None, Some, Option}
+use Rattle.std.proofs.Common.{◌≡◌, ◌<◌, ◌≤◌, ◌+◌, ◌==◌, true, arith, inl, inr, lit<, sym, ap, subst, ◌∙◌, eq-eqb, ne_eqb, Some, Option}
 use Rattle.std.specs.Prelude.{if◌then◌else◌, nat_le, IfSome}
 use Rattle.std.proofs.lemmas.Bool.{cond-true, cond-false}
 use Rattle.node_grid.specs.Count.{Distinct}
 use Rattle.frames.specs.Content.{Expectation}
-use Rattle.agreed_state.specs.Agreed.{AgreedView, IsAgreed}
+use Rattle.agreed_state.specs.Agreed.{AgreedView}
 use Rattle.agreed_state.specs.Config.{IsConfig}
 use Rattle.node_core.specs.Parts.{NodeView}
-use Rattle.node_core.specs.Inside.{seen}
-use Rattle.node_core.specs.Sound.{HasSizes, Hears, IsInSlot, IsSound, IsTaken}
-use Rattle.node_core.specs.Steps.{shut, taken, slot_taken, after_done, after_data, after_report, heard_done, claims_known, after_sync, next_open, finished, slot_open}
-use Rattle.node_core.proofs.Asking.{few_capacity, goes_agreed, goes_distinct, done_hears, rows_hears, claims_asked, rows_asked, states_asked, members_asked, rows_end}
-use Rattle.node_core.proofs.Soundness.{le_is, gt_is, slot_is_taken}
+use Rattle.node_core.specs.Sound.{Hears, IsInSlot, IsSound}
+use Rattle.node_core.specs.Steps.{shut, after_done, after_data, after_report}
+use Rattle.node_core.proofs.Asking.{goes_agreed, goes_distinct, rows_hears, rows_asked}
+use Rattle.node_core.proofs.Soundness.{le_is, gt_is}
 use Rattle.node_core.proofs.parts.Parts.take_later.Goals as goal
 
 pub take_done-requires : goal.take_done-requires
