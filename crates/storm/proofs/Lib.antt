@@ -1,0 +1,12 @@
+pub mod Steps
+pub mod Shape
+pub mod Drawn
+pub mod Off
+pub mod Offs
+pub mod Classes
+pub mod Budgets
+pub mod Planned
+pub mod Reading
+pub mod Refusals
+pub mod Accepted
+pub mod Periods

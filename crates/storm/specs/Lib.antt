@@ -1,0 +1,5 @@
+pub mod Draws
+pub mod Storm
+pub mod Parts
+pub mod Adding
+pub mod Laws

@@ -1,0 +1,86 @@
+//! What is the same in each storm: the policy, the channels and the tasks.
+ghost use Rattle.std.specs.Prelude.{◌≡◌, map, IfOk};
+ghost use Rattle.scenario.specs.Seen.{policy_view, channel_view, task_view};
+ghost use Rattle.storm.specs.Parts.{storm_policy, storm_channels, storm_tasks};
+
+use scenario::{ChannelPart, PolicyPart, TaskPart};
+use std::alloc::{AllocError, Global};
+
+/// The policy.
+pub fn policy(alloc: Global) -> Result<PolicyPart, AllocError>
+    ensures { IfOk result (λ p. policy_view p ≡ storm_policy) }
+{
+    Ok(PolicyPart {
+        weights: Vec::from_slice(alloc, &[5, 5, 5, 1, 5, 5, 5, 5])?,
+        exclude: 20,
+        readmit: 4,
+        credit: 1,
+        streak: 2,
+        cap: 40,
+        retire: 0,
+    })
+}
+
+/// The channels: a state, a sensor, and a sensor that is voted where the last task finishes.
+pub fn channels(alloc: Global) -> Result<Vec<ChannelPart>, AllocError>
+    ensures { IfOk result (λ cs. map channel_view cs.items ≡ storm_channels) }
+{
+    let mut sensor = Vec::new(alloc);
+    sensor.push(Vec::from_slice(alloc, &[200, 202, 201, 203, 204, 200, 202, 201])?)?;
+    sensor.push(Vec::from_slice(alloc, &[210, 211, 212, 210, 213, 214, 211, 212])?)?;
+    let mut sensor_of_task = Vec::new(alloc);
+    sensor_of_task.push(Vec::from_slice(alloc, &[7, 8, 7, 8, 7, 8, 7, 8])?)?;
+    let mut channels = Vec::new(alloc);
+    channels.push(ChannelPart::State {
+        delta: 10,
+        start: Vec::from_slice(alloc, &[1000, 1002, 1004, 1001, 1003, 1005, 1002, 1000])?,
+        step: 5,
+    })?;
+    channels.push(ChannelPart::Sensor {
+        delta: 6,
+        task: None,
+        readings: sensor,
+    })?;
+    channels.push(ChannelPart::Sensor {
+        delta: 2,
+        task: Some(5),
+        readings: sensor_of_task,
+    })?;
+    Ok(channels)
+}
+
+/// A task.
+fn task(
+    alloc: Global,
+    after: &[i64],
+    nodes: &[i64],
+    need: i64,
+    min: i64,
+    max: i64,
+    run: &[i64],
+) -> Result<TaskPart, AllocError>
+    ensures { IfOk result (λ t. task_view t ≡ record { after = after.now; nodes = nodes.now; need = need; min = min; max = max; run = run.now }) }
+{
+    Ok(TaskPart {
+        after: Vec::from_slice(alloc, after)?,
+        nodes: Vec::from_slice(alloc, nodes)?,
+        need,
+        min,
+        max,
+        run: Vec::from_slice(alloc, run)?,
+    })
+}
+
+/// The tasks, in the order of their priority.
+pub fn tasks(alloc: Global) -> Result<Vec<TaskPart>, AllocError>
+    ensures { IfOk result (λ ts. map task_view ts.items ≡ storm_tasks) }
+{
+    let mut tasks = Vec::new(alloc);
+    tasks.push(task(alloc, &[], &[0, 1, 2], 2, 1, 3, &[2, 2, 3])?)?;
+    tasks.push(task(alloc, &[], &[3, 4, 5], 2, 1, 2, &[1, 1, 2])?)?;
+    tasks.push(task(alloc, &[0], &[0, 1], 1, 1, 2, &[1, 2])?)?;
+    tasks.push(task(alloc, &[0, 1], &[2, 3], 1, 1, 3, &[1, 2])?)?;
+    tasks.push(task(alloc, &[2], &[4], 1, 1, 1, &[1])?)?;
+    tasks.push(task(alloc, &[3, 4], &[5], 1, 1, 2, &[1])?)?;
+    Ok(tasks)
+}
