@@ -12,6 +12,8 @@ mod rows;
 mod settling;
 mod short_frames;
 mod sync;
+#[cfg(test)]
+mod tests;
 mod values;
 
 pub use node::Node;
