@@ -5,9 +5,10 @@ use Rattle.std.specs.Io.KnownBytes.{Appends, Consumes}
 abbrev pub Rose : ℕ → ℕ → Type 0
 Rose before now = min (before + 1) (2 ^ 64 - 1) ≤ now
 
--- a fault is answered only where the count of faults rose, and the count never falls
+-- a fault is answered exactly where the count of faults rises: an Ok leaves it, and it never falls
 pub record HasCause {T E : Type 0} (before now : ℕ) (result : Result T E) : Type 0 where
   pub later : before ≤ now
+  pub faultless : OnOk result (now ≡ before)
   pub failed : OnErr result (Rose before now)
 
 -- the number of bytes given rises by those of an `Ok`, up to 2^64 - 1

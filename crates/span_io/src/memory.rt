@@ -1,5 +1,5 @@
 //! A source and a sink in memory, whose calls fail where a list says so.
-ghost use Rattle.std.specs.Prelude.{◌≡◌, ◌+◌, ◌-◌, ◌^◌, ◌<◌, ◌≤◌, ◌↔◌, [], length, take, min, Some, IfOk, OnOk, IsErr, Contains, ◌⊎◌};
+ghost use Rattle.std.specs.Prelude.{◌≡◌, ◌+◌, ◌-◌, ◌^◌, ◌<◌, ◌≤◌, ◌↔◌, [], length, take, min, Some, IfOk, IsErr, Contains, ◌⊎◌};
 ghost use Rattle.std.specs.Io.{ReadsAtMost};
 ghost use Rattle.std.specs.Io.KnownBytes.{ReadConsumes, WriteAppends};
 ghost use Rattle.span_io.specs.Causes.{HasCause, CountsGiven, IsWithin};
@@ -82,7 +82,6 @@ impl Source for MemSource {
 
         // Which calls fail, and how much the others give.
         ensures fails { IsErr result ↔ Contains self.old.fails self.old.call }
-        ensures faultless { OnOk result (self.new.faults ≡ self.old.faults) }
         ensures amount { IfOk result (λ count.
             count ≡ min (length self.old.left) (min self.old.piece (length buf.old))) }
         ensures call { self.new.call ≡ min (self.old.call + 1) (2 ^ 64 - 1) }
@@ -189,7 +188,6 @@ impl Sink for MemSink {
         // Which calls fail, and how much the others take.
         ensures fails { IsErr result ↔ (Contains self.old.fails self.old.call
             ⊎ (self.old.room ≡ length self.old.written)) }
-        ensures faultless { OnOk result (self.new.faults ≡ self.old.faults) }
         ensures amount { IfOk result (λ count.
             count ≡ min (self.old.room - length self.old.written)
             (min self.old.piece (length bytes.now))) }

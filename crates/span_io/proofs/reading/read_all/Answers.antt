@@ -1,9 +1,9 @@
-use Rattle.std.proofs.Common.{arith, ℕ, ◌≤◌, length, length-append, length-take}
+use Rattle.std.proofs.Common.{arith, refl, ℕ, ◌≤◌, length, length-append, length-take}
 use Rattle.std.proofs.KnownBytes.{Consumes-nil, Consumes-trans}
 use Rattle.span_io.proofs.reading.read_all.Goals as goal
 
 pub loop-count-init : goal.loop-count-init
-loop-count-init g c = rw (c.new-bytes.ensures.len, c.new-bytes.ensures.items) (omega arith, Consumes-nil _, omega arith, omega arith)
+loop-count-init g c = rw (c.new-bytes.ensures.len, c.new-bytes.ensures.items) (omega arith, Consumes-nil _, omega arith, refl)
 
 pub returns-in_default-extend_from_slice-clause-taken : goal.returns-in_default-extend_from_slice-clause-taken
 returns-in_default-extend_from_slice-clause-taken g c = (_, Consumes-trans _ _ _ _ _ c.loop-count.invariant.1 c.in-Ok.ensures.bytes.0)
