@@ -1,23 +1,25 @@
 -- What an answer decides.
-use Rattle.std.proofs.Common.{◌≡◌, ℕ, ◌<◌, ◌≤◌, List, length, arith, inl, inr, sym, ◌∙◌, ap, subst, Ok, Err, Option, Some, None, refl}
+use Rattle.std.proofs.Common.{◌≡◌, ℕ, ◌<◌, ◌≤◌, List, length, arith, inl, inr, sym, ◌∙◌, ap, subst, Option, Some, None, refl}
 use Rattle.std.specs.Prelude.{IfSome}
 use Rattle.span_io.specs.Causes.{Rose}
 use Rattle.serde_json.specs.Data.{Data}
 use Rattle.scenario.specs.Reading.{Reads}
-use Rattle.scenario.specs.Scenario.{Content}
-use Rattle.scenario.specs.Verdict.{Verdict, verdict}
+use Rattle.scenario.specs.Scenario.{ScenarioView}
+use Rattle.scenario.specs.Verdict.{value_refusal, refusal_on}
 use Rattle.maft.specs.declared.status.Status.{Status}
 use Rattle.maft.specs.declared.status.Status.TheVariants.{Done, Usage, Unreadable, Refused, ReadFault, WriteFault, NoMemory, TooLong}
-use Rattle.maft.specs.Answers.{limit, IsAccepted, IsRefused, IsUnreadable, Decides, Answers}
+use Rattle.maft.specs.declared.form.Form.{Form}
+use Rattle.maft.specs.Answers.{limit, capacity, IsAccepted, IsRefused, IsUnreadable, Decides, Answers}
 
 -- bytes are text of one value alone
 same_value : (bytes : List ℕ) (d e : Data) → Reads bytes d → Reads bytes e → d ≡ e
 same_value bytes d e h k = let s : ◌≡◌ {A = Option Data} (Some d) (Some e) = sym h.1 ∙ k.1 in cc
 
-not_both : (bytes : List ℕ) (sc : Content) (rule place : ℕ) → IsAccepted bytes sc → IsRefused bytes rule place → ⊥
+not_both : (bytes : List ℕ) (sc : ScenarioView capacity) (rule place : ℕ) → IsAccepted bytes sc → IsRefused bytes rule place → ⊥
 not_both bytes sc rule place a r =
     let same : a.value ≡ r.value = same_value bytes a.value r.value a.reads r.reads in
-    let s : ◌≡◌ {A = Verdict} (Ok sc) (Err (rule, place)) = sym a.accepted ∙ ap verdict same ∙ r.refused in cc
+    let unrefused : value_refusal capacity a.value ≡ None = ap (refusal_on capacity) a.accepted.reads ∙ a.accepted.unrefused in
+    let s : ◌≡◌ {A = Option (ℕ × ℕ)} None (Some (rule, place)) = sym unrefused ∙ ap (value_refusal capacity) same ∙ r.refused in cc
 
 pub no_memory : (bytes : List ℕ) (before now : ℕ) → Decides bytes before now NoMemory
 no_memory bytes before now = record {
@@ -35,7 +37,7 @@ too_long bytes before now long = record {
   accepted = λ h sc a n. absurd (omega arith);
 }
 
-done : (bytes : List ℕ) (before now : ℕ) (sc : Content) → length bytes ≤ limit → IsAccepted bytes sc → Decides bytes before now Done
+done : (bytes : List ℕ) (before now : ℕ) (sc : ScenarioView capacity) → length bytes ≤ limit → IsAccepted bytes sc → Decides bytes before now Done
 done bytes before now sc short a = record {
   too_long = λ h. absurd (omega arith);
   unreadable = λ h u. absurd (u a.value a.reads);
@@ -43,7 +45,7 @@ done bytes before now sc short a = record {
   accepted = λ h sc a n. inl refl;
 }
 
-write_fault : (bytes : List ℕ) (before now : ℕ) (sc : Content) → length bytes ≤ limit → IsAccepted bytes sc → Rose before now → Decides bytes before now WriteFault
+write_fault : (bytes : List ℕ) (before now : ℕ) (sc : ScenarioView capacity) → length bytes ≤ limit → IsAccepted bytes sc → Rose before now → Decides bytes before now WriteFault
 write_fault bytes before now sc short a rose = record {
   too_long = λ h. absurd (omega arith);
   unreadable = λ h u. absurd (u a.value a.reads);
@@ -68,15 +70,15 @@ unreadable bytes before now short u = record {
 }
 
 -- the answer to the bytes of an input that is not too long
-pub answered : (bytes : List ℕ) (old new : Option (List ℕ)) (before now : ℕ) (status : Status) → length bytes ≤ limit → Answers bytes old new before now status → Decides bytes before now status
-answered bytes old new before now Done short a = done bytes before now a.0 short a.1
-answered bytes old new before now WriteFault short a = write_fault bytes before now a.0 short a.1 a.3
-answered bytes old new before now Unreadable short a = unreadable bytes before now short a.0
-answered bytes old new before now Refused short a = refused bytes before now a.0 a.1 short a.2
-answered bytes old new before now NoMemory short a = no_memory bytes before now
-answered bytes old new before now Usage short a = absurd a
-answered bytes old new before now ReadFault short a = absurd a
-answered bytes old new before now TooLong short a = absurd a
+pub answered : (form : Form) (bytes : List ℕ) (old new : Option (List ℕ)) (before now : ℕ) (status : Status) → length bytes ≤ limit → Answers form bytes old new before now status → Decides bytes before now status
+answered form bytes old new before now Done short a = done bytes before now a.0 short a.1
+answered form bytes old new before now WriteFault short a = write_fault bytes before now a.0 short a.1 a.3
+answered form bytes old new before now Unreadable short a = unreadable bytes before now short a.0
+answered form bytes old new before now Refused short a = refused bytes before now a.0 a.1 short a.2
+answered form bytes old new before now NoMemory short a = no_memory bytes before now
+answered form bytes old new before now Usage short a = absurd a
+answered form bytes old new before now ReadFault short a = absurd a
+answered form bytes old new before now TooLong short a = absurd a
 
 -- what holds of the bytes that were read holds of those that were left, where they are told
 pub of_known : (left : Option (List ℕ)) (bytes : List ℕ) (before now : ℕ) (status : Status) → IfSome left (λ xs. bytes ≡ xs) → Decides bytes before now status

@@ -1,3 +1,4 @@
 pub mod Deciding
+pub mod Printed
 pub mod Rest
 pub mod Words

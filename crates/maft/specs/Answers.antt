@@ -1,41 +1,36 @@
 -- What the program says of the bytes that it reads.
-use Rattle.std.specs.Prelude.{◌≡◌, ℕ, ◌<◌, ◌≤◌, ◌⊎◌, List, ◌++◌, length, Option, IfSome, Ok, Err}
-use Rattle.std.specs.List.{flat_map}
+use Rattle.std.specs.Prelude.{◌≡◌, ℕ, ◌<◌, ◌≤◌, ◌⊎◌, List, length, Option, Some, IfSome}
 use Rattle.std.specs.Io.KnownBytes.{Appends, Keeps, IsAtEnd}
-use Rattle.node_grid.specs.NodeSet.{ids_below}
 use Rattle.span_io.specs.Causes.{Rose, AppendsPrefix}
 use Rattle.serde_json.specs.Data.{Data}
 use Rattle.scenario.specs.Reading.{Reads}
-use Rattle.scenario.specs.Scenario.{Content}
-use Rattle.scenario.specs.Verdict.{verdict}
-use Rattle.cluster_step.specs.Run.{run_period}
-use Rattle.run_print.specs.PeriodText.{period_text, end_text, refused_text}
+use Rattle.scenario.specs.Scenario.{ScenarioView}
+use Rattle.scenario.specs.Verdict.{IsAcceptedValue, value_refusal}
+use Rattle.run_print.specs.PeriodText.{refused_text}
+use Rattle.maft.specs.declared.form.Form.{Form}
 use Rattle.maft.specs.declared.status.Status.{Status}
 use Rattle.maft.specs.declared.status.Status.TheVariants.{Done, Usage, Unreadable, Refused, ReadFault, WriteFault, NoMemory, TooLong}
+use Rattle.maft.specs.Run.{run_text, IsSafeRun}
 
 -- how many bytes an input may have
 abbrev pub limit : ℕ
 limit = 4194304
 
--- the printed text of period p of a scenario
-unfoldable pub printed_period : Content → ℕ → List ℕ
-printed_period sc p = period_text (run_period 8 sc p)
-
--- the printed text of an accepted scenario: its periods, and the end
-abbrev pub run_text : Content → List ℕ
-run_text sc = flat_map (printed_period sc) (ids_below sc.periods) ++ end_text sc.periods
+-- how many nodes a scenario that is read has room for
+abbrev pub capacity : ℕ
+capacity = 16
 
 -- the bytes are JSON text of an accepted scenario
-pub record IsAccepted (bytes : List ℕ) (sc : Content) : Type 0 where
+pub record IsAccepted (bytes : List ℕ) (sc : ScenarioView capacity) : Type 0 where
   pub value : Data
   pub reads : Reads bytes value
-  pub accepted : verdict value ≡ Ok sc
+  pub accepted : IsAcceptedValue value sc
 
 -- they are JSON text that a rule refuses at a place
 pub record IsRefused (bytes : List ℕ) (rule place : ℕ) : Type 0 where
   pub value : Data
   pub reads : Reads bytes value
-  pub refused : verdict value ≡ Err (rule, place)
+  pub refused : value_refusal capacity value ≡ Some (rule, place)
 
 -- they are no JSON text
 abbrev pub IsUnreadable : List ℕ → Type 0
@@ -62,26 +57,15 @@ pub record Decides (bytes : List ℕ) (before now : ℕ) (status : Status) : Typ
   pub too_long : limit < length bytes → (status ≡ TooLong) ⊎ (status ≡ NoMemory)
   pub unreadable : length bytes ≤ limit → IsUnreadable bytes → (status ≡ Unreadable) ⊎ (status ≡ NoMemory)
   pub refused : length bytes ≤ limit → (rule place : ℕ) → IsRefused bytes rule place → (status ≡ Refused) ⊎ (status ≡ NoMemory)
-  pub accepted : length bytes ≤ limit → (sc : Content) → IsAccepted bytes sc → ¬ Rose before now → (status ≡ Done) ⊎ (status ≡ NoMemory)
-
--- what a replay of an accepted scenario answers and writes
-abbrev pub IsReplayed : Option (List ℕ) → Option (List ℕ) → ℕ → ℕ → Content → Status → Type 0
-IsReplayed old new before now sc Done = Appends old new (run_text sc)
-IsReplayed old new before now sc WriteFault = AppendsPrefix old new (run_text sc) × Rose before now
-IsReplayed old new before now sc NoMemory = Keeps old new
-IsReplayed old new before now sc Usage = ⊥
-IsReplayed old new before now sc Unreadable = ⊥
-IsReplayed old new before now sc Refused = ⊥
-IsReplayed old new before now sc ReadFault = ⊥
-IsReplayed old new before now sc TooLong = ⊥
+  pub accepted : length bytes ≤ limit → (sc : ScenarioView capacity) → IsAccepted bytes sc → ¬ Rose before now → (status ≡ Done) ⊎ (status ≡ NoMemory)
 
 -- what is answered of the bytes of an input that is not too long, and written
-abbrev pub Answers : List ℕ → Option (List ℕ) → Option (List ℕ) → ℕ → ℕ → Status → Type 0
-Answers bytes old new before now Done = (sc : Content) × IsAccepted bytes sc × Appends old new (run_text sc)
-Answers bytes old new before now WriteFault = (sc : Content) × IsAccepted bytes sc × AppendsPrefix old new (run_text sc) × Rose before now
-Answers bytes old new before now Unreadable = IsUnreadable bytes × Keeps old new
-Answers bytes old new before now Refused = (rule : ℕ) × (place : ℕ) × IsRefused bytes rule place × WritesSome old new before now (refused_text rule place)
-Answers bytes old new before now NoMemory = Keeps old new
-Answers bytes old new before now Usage = ⊥
-Answers bytes old new before now ReadFault = ⊥
-Answers bytes old new before now TooLong = ⊥
+abbrev pub Answers : Form → List ℕ → Option (List ℕ) → Option (List ℕ) → ℕ → ℕ → Status → Type 0
+Answers form bytes old new before now Done = (sc : ScenarioView capacity) × IsAccepted bytes sc × Appends old new (run_text form sc) × IsSafeRun sc
+Answers form bytes old new before now WriteFault = (sc : ScenarioView capacity) × IsAccepted bytes sc × AppendsPrefix old new (run_text form sc) × Rose before now
+Answers form bytes old new before now Unreadable = IsUnreadable bytes × Keeps old new
+Answers form bytes old new before now Refused = (rule : ℕ) × (place : ℕ) × IsRefused bytes rule place × WritesSome old new before now (refused_text rule place)
+Answers form bytes old new before now NoMemory = Keeps old new
+Answers form bytes old new before now Usage = ⊥
+Answers form bytes old new before now ReadFault = ⊥
+Answers form bytes old new before now TooLong = ⊥

@@ -1,3 +1,5 @@
 pub mod Status
 pub mod Words
+pub mod Run
 pub mod Answers
+pub mod Laws

@@ -1,10 +1,41 @@
-//! Replays a scenario of a cluster of operations controllers, and prints what every node believes.
+//! Replays a scenario of a cluster of operations controllers, and prints what every node believes. The theorem is clause
+//! `done` of [`maft`]: for every accepted scenario, and every period up to which all periods' members satisfy
+//! n > 2a + 2s + b + m with a at most m, the sound nodes hold equal penalty counts, memberships and schedules; no node
+//! that was nonfaulty throughout is penalised or excluded; what every nonfaulty member reports of a node raises its count
+//! by the configured weights, up to the cap; and votes lie within the nonfaulty members' own values, at most half of their
+//! spread apart, rounded up. It holds of the run whose text was written.
+//!
+//! Premise by premise, with the file in which each word is defined:
+//!
+//! | Words | Definition |
+//! |---|---|
+//! | the words are `replay`, `replay trace` or `check`, and the answer is Done | `words_of` in specs/Words |
+//! | the bytes are all bytes of the source, where it tells them | `IsWhole` in specs/Answers |
+//! | accepted scenario: the bytes are JSON text of parts that no rule refuses | `IsAccepted` in specs/Answers; in scenario/specs `Reads` of Reading, `parts_of` of Keys, `refusal` of Rules |
+//! | what the scenario says | `scenario_of` in scenario/specs/Given, `system_of` in scenario/specs/Scenario |
+//! | its run: what all nodes send, hear, settle and keep | `run` in protocol/specs/Run, `view` in protocol/specs/Cluster and View |
+//! | classes of nodes; sound, nonfaulty | `class_of` in fault_classes/specs/Plan |
+//! | members; n, a, s, b; every period up to which | `members_at`, `Budget` and `Claim` in protocol/specs/Safe |
+//! | equal counts, memberships and schedules | `Equal` in protocol/specs/Safe |
+//! | neither penalised nor excluded | `Unpunished` there |
+//! | raises its count | `FullyCharged` there; of a nonfaulty member it needs a relay round |
+//! | votes | `VotesClose` there |
+//! | the text of the run | `run_text` in specs/Run; `period_record` in cluster_step/specs/Record; run_print/specs PeriodText, NodeText, TraceText |
+//! | a period's line says `claim yes` exactly where the period is claimed | `told` of `IsSafeRun` in specs/Run |
+//!
+//! Nothing else is assumed. A source and a sink that don't tell their bytes are promised nothing of bytes. Want of memory
+//! is the one free answer; each other answer says its cause, and the bytes decide it where no device failed.
 #![tactic(auto)]
 
+mod form;
+pub mod laws;
 mod program;
+mod replay;
 mod status;
 
+pub use form::Form;
 pub use program::maft;
+pub use replay::{ReplayError, replay_at};
 use span_io::{StdSink, StdSource};
 pub use status::Status;
 use std::process::ExitCode;

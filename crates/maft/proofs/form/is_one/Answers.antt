@@ -2,7 +2,7 @@ use Rattle.std.proofs.Common.{ap, List, ℕ, [], ◌∷◌, sym, ◌∙◌}
 use Rattle.std.proofs.lemmas.Bool.Decides.{Decides-eqb, Decides-like}
 use Rattle.std.proofs.lemmas.Slice.Eq.{slice_eq-Decides}
 use Rattle.maft.proofs.Words.{one_word, first}
-use Rattle.maft.proofs.program.is_replay.Goals as goal
+use Rattle.maft.proofs.form.is_one.Goals as goal
 
 pub returns-then-words-eq1 : goal.returns-then-words-eq1
 returns-then-words-eq1 c =

@@ -1,0 +1,12 @@
+-- What is written of a period is its printed text.
+use Rattle.std.proofs.Common.{◌≡◌, ℕ, refl}
+use Rattle.fault_classes.specs.Plan.{Plan}
+use Rattle.scenario.specs.Scenario.{ScenarioView, system_of}
+use Rattle.cluster_step.specs.Record.{PeriodView, period_record}
+use Rattle.maft.specs.declared.form.Form.{Form}
+use Rattle.maft.specs.Run.{printed, shown_text}
+
+pub printed_is : {N : ℕ} (form f : Form) (sc run : ScenarioView N) (plan : Plan) (t : PeriodView) (p : ℕ)
+    → form ≡ f → run ≡ sc → plan ≡ sc.plan → t ≡ period_record (system_of run) p → shown_text f plan t ≡ printed form sc p
+unfolding printed
+printed_is form f sc run plan t p e same g h = rw (e, g, h, same) refl

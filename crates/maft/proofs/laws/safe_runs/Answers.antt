@@ -1,0 +1,8 @@
+use Rattle.scenario.specs.Scenario.{system_of}
+use Rattle.maft.proofs.laws.safe_runs.Goals as goal
+
+pub returns : goal.returns
+returns c N sc is = record {
+  safe = λ p claim. c.safe.ensures N sc p is ((c.claims.ensures (system_of sc) p).claim.1 claim);
+  told = λ p. (c.claims.ensures (system_of sc) p).claim;
+}

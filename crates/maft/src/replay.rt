@@ -1,0 +1,112 @@
+//! The run of an accepted scenario, written as it goes.
+ghost use Rattle.std.specs.Prelude.{◌≡◌, ◌+◌, ◌<◌};
+ghost use Rattle.node_grid.specs.Capacity.{IsCapacity};
+ghost use Rattle.span_io.specs.Causes.{Writes};
+ghost use Rattle.scenario.specs.Scenario.{IsScenario};
+ghost use Rattle.maft.specs.Run.{traced, printed, run_text, IsRun};
+
+use crate::Form;
+use crate::laws::safe_runs;
+use cluster_step::Cluster;
+use node_grid::NoMemory;
+use run_print::{WriteFault, write_end, write_head, write_period};
+use scenario::Scenario;
+use span_io::Sink;
+use std::alloc::Global;
+use thiserror::Error;
+
+/// Why a run was not written whole.
+#[derive(Clone, Copy, Debug, PartialEq, Eq, Error)]
+pub enum ReplayError {
+    /// The sink failed, and its count of faults rose. A prefix of the text was written.
+    #[error("the output could not be written")]
+    WriteFault,
+    /// There was no memory for the cluster. Nothing was written.
+    #[error("out of memory")]
+    NoMemory,
+}
+
+/// Runs the next period of a cluster, and writes its text.
+fn write_next<const N: usize, K: Sink>(
+    scenario: &Scenario<N>,
+    cluster: &mut Cluster<'_, N>,
+    form: Form,
+    sink: &mut K,
+) -> Result<(), WriteFault>
+    requires capacity { IsCapacity N }
+    requires same { cluster.old.scenario ≡ scenario.now }
+    requires more { cluster.old.run < scenario.now.periods }
+    ensures ran { cluster.new ≡ record cluster.old { run = cluster.old.run + 1 } }
+    ensures wrote { Writes (K.written sink.old) (K.written sink.new) (K.faults sink.old) (K.faults sink.new)
+        (printed form scenario.now cluster.old.run) result }
+{
+    let plan = scenario.plan();
+    let shown = cluster.period();
+    match form {
+        Form::Replay => write_period(shown, plan, false, sink),
+        Form::Trace => write_period(shown, plan, true, sink),
+        Form::Check => write_head(shown, sink),
+    }
+}
+
+/// Runs all periods of a cluster that is just opened, and writes their texts and the end.
+fn write_run<const N: usize, K: Sink>(
+    scenario: &Scenario<N>,
+    cluster: &mut Cluster<'_, N>,
+    form: Form,
+    sink: &mut K,
+) -> Result<(), WriteFault>
+    requires capacity { IsCapacity N }
+    requires fresh { cluster.old ≡ record { scenario = scenario.now; run = 0 } }
+    ensures { Writes (K.written sink.old) (K.written sink.new) (K.faults sink.old) (K.faults sink.new) (run_text form scenario.now) result }
+{
+    let periods = scenario.periods();
+    'periods: for _ in 0..periods {
+        write_next(scenario, cluster, form, sink)?;
+    }
+    write_end(periods, sink)
+}
+
+/// Runs a scenario, and writes the text that this form has of it.
+///
+/// # Errors
+///
+/// As `replay_at`.
+pub(crate) fn write_form<const N: usize, K: Sink>(
+    alloc: Global,
+    scenario: &Scenario<N>,
+    form: Form,
+    sink: &mut K,
+) -> Result<(), ReplayError>
+    requires { IsCapacity N }
+    ensures { IsRun form scenario.now (K.written sink.old) (K.written sink.new) (K.faults sink.old) (K.faults sink.new) result }
+{
+    let Ok(mut cluster) = Cluster::open(alloc, scenario) else {
+        return Err(ReplayError::NoMemory);
+    };
+    let Ok(()) = write_run(scenario, &mut cluster, form, sink) else {
+        return Err(ReplayError::WriteFault);
+    };
+    safe_runs();
+    Ok(())
+}
+
+/// Runs a scenario, and writes of each period its line and the lines of every node, with `trace` also a line for each
+/// frame that is delivered, and then the end line. Where it answers `Ok`, each claimed period of the run is safe.
+///
+/// # Errors
+///
+/// - `WriteFault` comes only where the sink's count of faults rose. A prefix of the text was written then.
+/// - `NoMemory` may come at any time. Nothing was written then.
+pub fn replay_at<const N: usize, K: Sink>(
+    alloc: Global,
+    scenario: &Scenario<N>,
+    trace: bool,
+    sink: &mut K,
+) -> Result<(), ReplayError>
+    requires { IsCapacity N }
+    ensures { IsRun (traced trace) scenario.now (K.written sink.old) (K.written sink.new) (K.faults sink.old) (K.faults sink.new) result }
+{
+    let form = if trace { Form::Trace } else { Form::Replay };
+    write_form(alloc, scenario, form, sink)
+}
