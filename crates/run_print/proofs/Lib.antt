@@ -1,3 +1,3 @@
 pub mod Joining
-pub mod Nodes
+pub mod Lists
 pub mod Sending

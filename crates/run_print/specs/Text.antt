@@ -1,11 +1,16 @@
 -- Texts of the values that are printed.
-use Rattle.std.specs.Prelude.{ℕ, zero, suc, ◌==◌, Bool, true, false, List, [], ◌∷◌, ◌++◌, map, take, replicate, Option, None, Some, codes, decimal, if◌then◌else◌, slice_index_or}
+use Rattle.std.specs.Fmt.{signed_decimal}
+use Rattle.std.specs.Prelude.{ℕ, zero, suc, ℤ, ◌==◌, Bool, true, false, List, [], ◌∷◌, ◌++◌, map, take, Option, None, Some, codes, decimal, if◌then◌else◌, slice_index_or}
 use Rattle.std.specs.List.{flat_map}
 use Rattle.node_grid.specs.declared.class.Class.{Class}
 use Rattle.node_grid.specs.declared.class.Class.TheVariants.{N, J, B, S, A}
 use Rattle.omh_paths.specs.declared.wrapped.Wrapped.{Wrapped}
 use Rattle.omh_paths.specs.declared.wrapped.Wrapped.TheVariants.{Plain, Fault}
 use Rattle.node_grid.specs.Matrix.{row_at}
+use Rattle.node_grid.specs.Kinds.{no_claim}
+use Rattle.node_grid.specs.NodeSet.{ids_below}
+use Rattle.list_scheduler.specs.Copies.{CopyTable, works}
+use Rattle.protocol.specs.View.{Mode, Full, Joining, Cold}
 
 -- texts one after the other, with a separator between them
 abbrev pub joined : List ℕ → List (List ℕ) → List ℕ
@@ -34,7 +39,7 @@ class_text A = codes "A"
 
 -- a settled claim: a task, nothing, or an error
 abbrev pub claim_text : Wrapped ℕ → List ℕ
-claim_text (Plain claim) = if claim == 255 then codes "-" else decimal claim
+claim_text (Plain claim) = if claim == no_claim then codes "-" else decimal claim
 claim_text (Fault k) = codes "E"
 
 -- a settled row: the masks of the nodes in use, or an error
@@ -49,6 +54,35 @@ done_item done q = decimal q ++ codes "=" ++ claim_text (slice_index_or done q (
 -- the row of member q, as settled
 abbrev pub rows_item : ℕ → List (Option (List ℕ)) → ℕ → List ℕ
 rows_item nodes rows q = decimal q ++ codes "=" ++ row_text nodes (row_at rows q)
+
+-- how a node goes through a period
+abbrev pub mode_text : Mode → List ℕ
+mode_text Full = codes "full"
+mode_text Joining = codes "joining"
+mode_text Cold = codes "cold"
+
+-- the task that a node runs, and since how long; a node that runs none is `-`
+abbrev pub run_text : Option (ℕ × ℕ) → List ℕ
+run_text None = codes "-"
+run_text (Some w) = decimal w.0
+
+-- what each node in use runs
+abbrev pub runs_text : ℕ → CopyTable → List ℕ
+runs_text nodes copies = joined (codes ",") (map (λ q. run_text (works copies q)) (ids_below nodes))
+
+-- a vote; none is `-`
+abbrev pub vote_text : Option ℤ → List ℕ
+vote_text None = codes "-"
+vote_text (Some v) = signed_decimal v
+
+-- the vote on channel c
+abbrev pub vote_item : List (Option ℤ) → ℕ → List ℕ
+vote_item votes c = decimal c ++ codes "=" ++ vote_text (slice_index_or votes c None)
+
+-- the votes on the due channels; where no channel is due it is `-`
+abbrev pub votes_text : List (Option ℤ) → List ℕ → List ℕ
+votes_text votes [] = codes "-"
+votes_text votes (c ∷ cs) = joined (codes " ") (map (vote_item votes) (c ∷ cs))
 
 -- the separator before the item at place k
 abbrev pub separator_at : List ℕ → ℕ → List ℕ

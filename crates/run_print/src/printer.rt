@@ -1,3 +1,4 @@
+ghost use Rattle.std.specs.Fmt.{signed_decimal};
 ghost use Rattle.std.specs.Prelude.{◌≡◌, false, [], decimal};
 ghost use Rattle.run_print.specs.Printing.{Prints, Finishes};
 
@@ -10,7 +11,7 @@ use span_io::{Sink, write_all};
 ///
 /// After a fault of the sink it drops what comes, and tells of the fault in the end. It takes no memory.
 #[derive(Drop)]
-pub struct Printer {
+pub(crate) struct Printer {
     /// What isn't written yet.
     pub gathered: ArrayVec<u8, 4096>,
     /// Whether the sink failed.
@@ -19,7 +20,7 @@ pub struct Printer {
 
 impl Printer {
     /// A printer that has gathered nothing.
-    pub fn new() -> Self
+    pub(crate) fn new() -> Self
         ensures gathered { result.gathered.items ≡ [] }
         ensures failed { result.failed ≡ false }
     {
@@ -30,7 +31,7 @@ impl Printer {
     }
 
     /// Prints a piece of text.
-    pub fn text<K: Sink>(&mut self, sink: &mut K, bytes: &[u8])
+    pub(crate) fn text<K: Sink>(&mut self, sink: &mut K, bytes: &[u8])
         ensures { Prints self.old (K.written sink.old) (K.faults sink.old) self.new (K.written sink.new) (K.faults sink.new) bytes.now }
     {
         if self.gathered.try_extend_from_slice(bytes).is_err() {
@@ -40,15 +41,23 @@ impl Printer {
     }
 
     /// Prints a number in decimal.
-    pub fn number<K: Sink>(&mut self, sink: &mut K, n: u64)
+    pub(crate) fn number<K: Sink>(&mut self, sink: &mut K, n: u64)
         ensures { Prints self.old (K.written sink.old) (K.faults sink.old) self.new (K.written sink.new) (K.faults sink.new) (decimal n) }
     {
         let mut buffer = Buffer::new();
         self.text(sink, buffer.format(n).as_bytes());
     }
 
+    /// Prints a number with a sign in decimal.
+    pub(crate) fn signed<K: Sink>(&mut self, sink: &mut K, n: i64)
+        ensures { Prints self.old (K.written sink.old) (K.faults sink.old) self.new (K.written sink.new) (K.faults sink.new) (signed_decimal n) }
+    {
+        let mut buffer = Buffer::new();
+        self.text(sink, buffer.format(n).as_bytes());
+    }
+
     /// Writes what is gathered, and tells whether the whole text reached the sink.
-    pub fn finish<K: Sink>(self, sink: &mut K) -> Result<(), WriteFault>
+    pub(crate) fn finish<K: Sink>(self, sink: &mut K) -> Result<(), WriteFault>
         ensures { Finishes self (K.written sink.old) (K.faults sink.old) (K.written sink.new) (K.faults sink.new) result }
     {
         let mut printer = self;

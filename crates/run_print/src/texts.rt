@@ -1,12 +1,16 @@
 //! The printed texts of values.
-ghost use Rattle.std.specs.Prelude.{◌≡◌, ◌≤◌, ◌<◌, ◌∷◌, [], codes, decimal, length, take, map, replicate, slice_index_or};
+ghost use Rattle.std.specs.Prelude.{◌≡◌, ◌≤◌, ◌<◌, ◌∷◌, [], None, codes, decimal, length, take, map, slice_index_or};
 ghost use Rattle.node_grid.specs.Capacity.{IsCapacity};
 ghost use Rattle.omh_paths.specs.declared.wrapped.Wrapped.TheVariants.{Fault};
+ghost use Rattle.list_scheduler.specs.Copies.{works};
+ghost use Rattle.node_core.specs.Outcome.{mode_of};
 ghost use Rattle.run_print.specs.Printing.{Prints};
-ghost use Rattle.run_print.specs.Text.{joined, numbers_text, set_text, separator_at, yes_no, class_text, claim_text, row_text, done_item, rows_item};
+ghost use Rattle.run_print.specs.Text.{joined, numbers_text, set_text, separator_at, yes_no, mode_text, run_text, runs_text, vote_text, vote_item, votes_text, claim_text, row_text, done_item, rows_item};
 
-use crate::Printer;
-use node_grid::{Class, Matrix, NodeSet};
+use crate::printer::Printer;
+use list_scheduler::Copies;
+use node_core::Mode;
+use node_grid::{Matrix, NO_CLAIM, NodeSet};
 use omh_paths::Wrapped;
 use span_io::Sink;
 
@@ -17,6 +21,16 @@ fn claim_of<const N: usize>(done: &[Wrapped<u8>; N], member: u8) -> Wrapped<u8>
     match done.get(member as usize) {
         Some(claim) => *claim,
         None => Wrapped::Fault(0),
+    }
+}
+
+/// The vote on a channel; none for a number that is no channel's.
+fn vote_of(votes: &[Option<i64>; 8], channel: u8) -> Option<i64>
+    ensures { result ≡ slice_index_or votes.now channel None }
+{
+    match votes.get(channel as usize) {
+        Some(vote) => *vote,
+        None => None,
     }
 }
 
@@ -31,7 +45,7 @@ impl Printer {
     }
 
     /// Prints numbers, joined by commas.
-    pub fn numbers<K: Sink>(&mut self, sink: &mut K, numbers: &[u16])
+    pub(crate) fn numbers<K: Sink>(&mut self, sink: &mut K, numbers: &[u16])
         ensures { Prints self.old (K.written sink.old) (K.faults sink.old) self.new (K.written sink.new) (K.faults sink.new) (numbers_text numbers.now) }
     {
         for (k, n) in numbers.iter().enumerate() {
@@ -41,7 +55,7 @@ impl Printer {
     }
 
     /// Prints a set of nodes.
-    pub fn set<K: Sink, const N: usize>(&mut self, sink: &mut K, set: &NodeSet<N>)
+    pub(crate) fn set<K: Sink, const N: usize>(&mut self, sink: &mut K, set: &NodeSet<N>)
         ensures { Prints self.old (K.written sink.old) (K.faults sink.old) self.new (K.written sink.new) (K.faults sink.new) (set_text set.now) }
     {
         if set.is_empty() {
@@ -57,7 +71,7 @@ impl Printer {
     }
 
     /// Prints `yes` or `no`.
-    pub fn yes_no<K: Sink>(&mut self, sink: &mut K, yes: bool)
+    pub(crate) fn yes_no<K: Sink>(&mut self, sink: &mut K, yes: bool)
         ensures { Prints self.old (K.written sink.old) (K.faults sink.old) self.new (K.written sink.new) (K.faults sink.new) (yes_no yes) }
     {
         if yes {
@@ -67,26 +81,74 @@ impl Printer {
         }
     }
 
-    /// Prints a class's letter.
-    pub fn class<K: Sink>(&mut self, sink: &mut K, class: Class)
-        ensures { Prints self.old (K.written sink.old) (K.faults sink.old) self.new (K.written sink.new) (K.faults sink.new) (class_text class) }
+    /// Prints how a node goes through a period.
+    pub(crate) fn mode<K: Sink>(&mut self, sink: &mut K, mode: Mode)
+        ensures { Prints self.old (K.written sink.old) (K.faults sink.old) self.new (K.written sink.new) (K.faults sink.new) (mode_text (mode_of mode)) }
     {
-        match class {
-            Class::N => self.text(sink, b"N"),
-            Class::J => self.text(sink, b"J"),
-            Class::B => self.text(sink, b"B"),
-            Class::S => self.text(sink, b"S"),
-            Class::A => self.text(sink, b"A"),
+        match mode {
+            Mode::Full => self.text(sink, b"full"),
+            Mode::Joining => self.text(sink, b"joining"),
+            Mode::Cold => self.text(sink, b"cold"),
         }
     }
 
-    /// Prints as many hyphens, joined by commas.
-    pub fn hyphens<K: Sink>(&mut self, sink: &mut K, count: usize)
-        ensures { Prints self.old (K.written sink.old) (K.faults sink.old) self.new (K.written sink.new) (K.faults sink.new) (joined (codes ",") (replicate count (codes "-"))) }
+    /// Prints the task that a node runs.
+    fn run<K: Sink>(&mut self, sink: &mut K, run: Option<(u8, u16)>)
+        ensures { Prints self.old (K.written sink.old) (K.faults sink.old) self.new (K.written sink.new) (K.faults sink.new) (run_text run) }
     {
-        for k in 0..count {
-            self.separator(sink, k, b",");
+        match run {
+            Some((task, _)) => self.number(sink, task as u64),
+            None => self.text(sink, b"-"),
+        }
+    }
+
+    /// Prints what each node in use runs.
+    pub(crate) fn runs<K: Sink, const N: usize>(
+        &mut self,
+        sink: &mut K,
+        nodes: u8,
+        copies: &Copies<N>,
+    )
+        requires capacity { IsCapacity N }
+        requires nodes { nodes ≤ N }
+        ensures { Prints self.old (K.written sink.old) (K.faults sink.old) self.new (K.written sink.new) (K.faults sink.new) (runs_text nodes copies.now) }
+    {
+        for node in 0..nodes {
+            self.separator(sink, node as usize, b",");
+            self.run(sink, copies.running(node));
+        }
+    }
+
+    /// Prints a vote.
+    fn vote<K: Sink>(&mut self, sink: &mut K, vote: Option<i64>)
+        ensures { Prints self.old (K.written sink.old) (K.faults sink.old) self.new (K.written sink.new) (K.faults sink.new) (vote_text vote) }
+    {
+        match vote {
+            Some(value) => self.signed(sink, value),
+            None => self.text(sink, b"-"),
+        }
+    }
+
+    /// Prints a channel with its vote.
+    fn vote_item<K: Sink>(&mut self, sink: &mut K, votes: &[Option<i64>; 8], channel: u8)
+        ensures { Prints self.old (K.written sink.old) (K.faults sink.old) self.new (K.written sink.new) (K.faults sink.new) (vote_item votes.now channel) }
+    {
+        self.number(sink, channel as u64);
+        self.text(sink, b"=");
+        self.vote(sink, vote_of(votes, channel));
+    }
+
+    /// Prints the votes on the due channels.
+    pub(crate) fn votes<K: Sink>(&mut self, sink: &mut K, votes: &[Option<i64>; 8], due: &[u8])
+        ensures { Prints self.old (K.written sink.old) (K.faults sink.old) self.new (K.written sink.new) (K.faults sink.new) (votes_text votes.now due.now) }
+    {
+        if due.is_empty() {
             self.text(sink, b"-");
+            return;
+        }
+        for (k, channel) in due.iter().enumerate() {
+            self.separator(sink, k, b" ");
+            self.vote_item(sink, votes, *channel);
         }
     }
 
@@ -95,7 +157,7 @@ impl Printer {
         ensures { Prints self.old (K.written sink.old) (K.faults sink.old) self.new (K.written sink.new) (K.faults sink.new) (claim_text claim) }
     {
         match claim {
-            Wrapped::Plain(255) => self.text(sink, b"-"),
+            Wrapped::Plain(NO_CLAIM) => self.text(sink, b"-"),
             Wrapped::Plain(task) => self.number(sink, task as u64),
             Wrapped::Fault(_) => self.text(sink, b"E"),
         }
@@ -116,7 +178,7 @@ impl Printer {
     }
 
     /// Prints the members with their settled claims.
-    pub fn done<K: Sink, const N: usize>(
+    pub(crate) fn done<K: Sink, const N: usize>(
         &mut self,
         sink: &mut K,
         done: &[Wrapped<u8>; N],
@@ -153,7 +215,7 @@ impl Printer {
     }
 
     /// Prints the members with their settled rows.
-    pub fn rows<K: Sink, const N: usize>(
+    pub(crate) fn rows<K: Sink, const N: usize>(
         &mut self,
         sink: &mut K,
         nodes: u8,

@@ -1,5 +1,10 @@
+use Rattle.std.proofs.Common.{subst, sym}
+use Rattle.run_print.specs.Printing.{Prints}
+use Rattle.run_print.specs.NodeText.{node_text, settled_text}
 use Rattle.run_print.proofs.Joining.{then}
 use Rattle.run_print.proofs.printer.Printer.node.Goals as goal
 
-pub returns : goal.returns
-returns g c = then (then (then (then (then c.state.ensures c.text.ensures) c.done.ensures) c.text-2.ensures) c.rows.ensures) c.text-3.ensures
+pub returns-in-Some : goal.returns-in-Some
+returns-in-Some g c =
+    subst (λ r. Prints c.args.self.now (g.K.Sink.written c.args.sink.now) (g.K.Sink.faults c.args.sink.now) c.settled.new.self (g.K.Sink.written c.settled.new.sink) (g.K.Sink.faults c.settled.new.sink) (node_text c.args.nodes c.args.retire c.args.i c.args.letter.now r)) c.shown.view_is
+    (rw c.in-Some.is (then (then (then (then (then c.text.ensures c.number.ensures) c.text-2.ensures) c.text-3.ensures) c.text-4.ensures) (then (then c.mode.ensures c.state.ensures) (subst (λ r. Prints c.state.new.self (g.K.Sink.written c.state.new.sink) (g.K.Sink.faults c.state.new.sink) c.settled.new.self (g.K.Sink.written c.settled.new.sink) (g.K.Sink.faults c.settled.new.sink) (settled_text c.args.nodes r)) (sym c.shown.view_is) c.settled.ensures))))

@@ -1,7 +1,8 @@
+use Rattle.std.proofs.Common.{sym}
 use Rattle.run_print.proofs.Joining.{then}
 use Rattle.run_print.proofs.printer.Printer.state.Goals as goal
 
 pub returns : goal.returns
 returns g c =
-    then (then (then (then (then (then (then (then (then (then (then (then c.text.ensures c.number.ensures) c.text-2.ensures) c.class.ensures) c.text-3.ensures) c.set.ensures)
-    c.text-4.ensures) c.numbers.ensures) c.text-5.ensures) c.numbers-2.ensures) c.text-6.ensures) c.hyphens.ensures) c.text-7.ensures
+    rw (sym c.agreed.view_is)
+    (then (then (then (then (then (then (then (then c.text.ensures c.set.ensures) c.text-2.ensures) c.numbers.ensures) c.text-3.ensures) c.numbers-2.ensures) c.text-4.ensures) c.runs.ensures) c.left.ensures)

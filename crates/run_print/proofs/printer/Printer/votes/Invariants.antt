@@ -1,9 +1,10 @@
-use Rattle.std.specs.Prelude.{codes, replicate}
+use Rattle.std.proofs.Common.{map, take}
+use Rattle.std.specs.Prelude.{codes}
+use Rattle.run_print.specs.Text.{joined, vote_item}
 use Rattle.run_print.specs.Printing.{Prints}
-use Rattle.run_print.specs.Text.{joined}
-use Rattle.run_print.proofs.printer.Printer.hyphens.Given as goal
+use Rattle.run_print.proofs.printer.Printer.votes.Given as goal
 
 abbrev pub invariant-loop-k : goal.invariant-loop-k
 invariant-loop-k g l =
     Prints l.initial.self (g.K.Sink.written l.initial.sink) (g.K.Sink.faults l.initial.sink) l.self (g.K.Sink.written l.sink) (g.K.Sink.faults l.sink)
-    (joined (codes ",") (replicate l.k (codes "-")))
+    (joined (codes " ") (map (vote_item l.votes) (take l.k l.due)))

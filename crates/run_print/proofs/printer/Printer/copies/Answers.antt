@@ -1,0 +1,9 @@
+use Rattle.run_print.proofs.Joining.{then}
+use Rattle.run_print.proofs.Lists.{copy_next}
+use Rattle.run_print.specs.TraceText.{frame_text}
+use Rattle.run_print.proofs.printer.Printer.copies.Goals as goal
+
+pub loop-copy-preserved : goal.loop-copy-preserved
+loop-copy-preserved g c =
+    let l = c.args.link in
+    rw (copy_next (frame_text l.period l.slot l.from l.to) (c.args.delivered.now.tick, c.args.delivered.now.bytes.now) c.loop-copy._copy) (then c.loop-copy.invariant c.frame.ensures)

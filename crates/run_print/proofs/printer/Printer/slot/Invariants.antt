@@ -1,0 +1,10 @@
+use Rattle.std.specs.List.{flat_map}
+use Rattle.node_grid.specs.NodeSet.{ids_below}
+use Rattle.run_print.specs.TraceText.{sender_text}
+use Rattle.run_print.specs.Printing.{Prints}
+use Rattle.run_print.proofs.printer.Printer.slot.Given as goal
+
+abbrev pub invariant-loop-from : goal.invariant-loop-from
+invariant-loop-from g l =
+    Prints l.initial.self (g.K.Sink.written l.initial.sink) (g.K.Sink.faults l.initial.sink) l.self (g.K.Sink.written l.sink) (g.K.Sink.faults l.sink)
+    (flat_map (sender_text l.plan l.shown l.slot) (ids_below l.from))

@@ -1,0 +1,45 @@
+-- The printed frames of a period: what each node is delivered, by slot, sender and receiver.
+use Rattle.std.specs.Prelude.{◌≡◌, ◌<◌, ℕ, ◌+◌, ◌*◌, ◌==◌, Bool, true, false, List, [], ◌∷◌, ◌++◌, codes, decimal, if◌then◌else◌}
+use Rattle.std.specs.List.{flat_map}
+use Rattle.hex.specs.Hex.{encode_lower}
+use Rattle.node_grid.specs.NodeSet.{ids_below}
+use Rattle.fault_classes.specs.Line.{effect_at}
+use Rattle.fault_classes.specs.Plan.{Plan}
+use Rattle.fault_link.specs.Arrival.{delivered_of}
+use Rattle.cluster_step.specs.Record.{PeriodView, frame_at}
+use Rattle.run_print.specs.PeriodText.{head_text, nodes_text}
+
+-- bytes in hexadecimal; no bytes are `-`
+abbrev pub bytes_text : List ℕ → List ℕ
+bytes_text [] = codes "-"
+bytes_text (b ∷ bs) = encode_lower (b ∷ bs)
+
+-- the line of one frame that arrives, with its tick and bytes
+abbrev pub frame_text : ℕ → ℕ → ℕ → ℕ → ℕ × List ℕ → List ℕ
+frame_text period slot from to d =
+    codes "frame " ++ decimal period ++ codes " " ++ decimal slot ++ codes " " ++ decimal from ++ codes " " ++ decimal to
+    ++ codes " " ++ decimal d.0 ++ codes " " ++ bytes_text d.1 ++ codes "\n"
+
+-- what arrives of a sender's frame at one receiver, which isn't the sender
+abbrev pub link_text : Plan → PeriodView → ℕ → ℕ → ℕ → List ℕ
+link_text plan t slot from to =
+    if to == from then [] else flat_map (frame_text t.period slot from to) (delivered_of (effect_at plan.lines t.period slot from to) (frame_at t slot from))
+
+abbrev pub sender_text : Plan → PeriodView → ℕ → ℕ → List ℕ
+sender_text plan t slot from = flat_map (link_text plan t slot from) (ids_below t.nodes)
+
+abbrev pub slot_text : Plan → PeriodView → ℕ → List ℕ
+slot_text plan t slot = flat_map (sender_text plan t slot) (ids_below t.nodes)
+
+abbrev pub frames_text : Plan → PeriodView → List ℕ
+frames_text plan t = flat_map (slot_text plan t) (ids_below (2 * t.m + 4))
+
+-- the plan was made for the nodes and relay rounds of the period, and for more periods than its number
+pub record IsPlanOf (plan : Plan) (t : PeriodView) : Type 0 where
+  pub nodes : plan.nodes ≡ t.nodes
+  pub rounds : plan.rounds ≡ t.m
+  pub periods : t.period < plan.periods
+
+-- all lines of a period, the frames only with a trace
+abbrev pub period_text : Plan → Bool → PeriodView → List ℕ
+period_text plan trace t = head_text t ++ nodes_text t ++ (if trace then frames_text plan t else [])

@@ -1,0 +1,126 @@
+//! The printed lines of one node in a period.
+ghost use Rattle.std.specs.Prelude.{◌≡◌, ◌≤◌, codes};
+ghost use Rattle.node_grid.specs.Capacity.{IsCapacity};
+ghost use Rattle.span_io.specs.Causes.{Writes};
+ghost use Rattle.run_print.specs.Printing.{Prints};
+ghost use Rattle.run_print.specs.Text.{mode_text};
+ghost use Rattle.run_print.specs.NodeText.{left_text, state_text, settled_text, node_text};
+ghost use Rattle.run_print.specs.PeriodText.{alone_text};
+
+use crate::WriteFault;
+use crate::printer::Printer;
+use agreed_state::Agreed;
+use membership::Left;
+use node_core::NodeRecord;
+use span_io::Sink;
+
+impl Printer {
+    /// Prints how often each node left, where nodes retire.
+    fn left<K: Sink, const N: usize>(
+        &mut self,
+        sink: &mut K,
+        nodes: u8,
+        retire: u16,
+        left: &Left<N>,
+    )
+        requires { nodes ≤ N }
+        ensures { Prints self.old (K.written sink.old) (K.faults sink.old) self.new (K.written sink.new) (K.faults sink.new) (left_text nodes retire left.now.times) }
+    {
+        if retire != 0 {
+            self.text(sink, b" left ");
+            self.numbers(sink, &left.times[..nodes as usize]);
+        }
+    }
+
+    /// Prints an agreed state.
+    fn state<K: Sink, const N: usize>(
+        &mut self,
+        sink: &mut K,
+        nodes: u8,
+        retire: u16,
+        agreed: &Agreed<N>,
+    )
+        requires capacity { IsCapacity N }
+        requires nodes { nodes ≤ N }
+        ensures { Prints self.old (K.written sink.old) (K.faults sink.old) self.new (K.written sink.new) (K.faults sink.new) (state_text nodes retire agreed.now) }
+    {
+        let counts = &agreed.counts;
+        self.text(sink, b" members ");
+        self.set(sink, &agreed.members);
+        self.text(sink, b" counts ");
+        self.numbers(sink, &counts.counts[..nodes as usize]);
+        self.text(sink, b" streaks ");
+        self.numbers(sink, &counts.streaks[..nodes as usize]);
+        self.text(sink, b" run ");
+        self.runs(sink, nodes, &agreed.copies);
+        self.left(sink, nodes, retire, &agreed.left);
+    }
+
+    /// Prints what a node settled and voted.
+    fn settled<K: Sink, const N: usize>(&mut self, sink: &mut K, nodes: u8, shown: &NodeRecord<N>)
+        requires capacity { IsCapacity N }
+        requires nodes { nodes ≤ N }
+        ensures { Prints self.old (K.written sink.old) (K.faults sink.old) self.new (K.written sink.new) (K.faults sink.new) (settled_text nodes shown.now) }
+    {
+        self.text(sink, b"\n  done ");
+        self.done(sink, &shown.done, &shown.members);
+        self.text(sink, b"\n  rows ");
+        self.rows(sink, nodes, &shown.rows, &shown.members);
+        self.text(sink, b"\n  votes ");
+        self.votes(sink, &shown.votes, shown.due.as_slice());
+        self.text(sink, b"\n");
+    }
+
+    /// Prints all lines of node `i`, whose class is told by a letter.
+    pub(crate) fn node<K: Sink, const N: usize>(
+        &mut self,
+        sink: &mut K,
+        nodes: u8,
+        retire: u16,
+        i: u8,
+        letter: &[u8],
+        shown: &NodeRecord<N>,
+    )
+        requires capacity { IsCapacity N }
+        requires nodes { nodes ≤ N }
+        ensures { Prints self.old (K.written sink.old) (K.faults sink.old) self.new (K.written sink.new) (K.faults sink.new) (node_text nodes retire i letter.now shown.now) }
+    {
+        self.text(sink, b"node ");
+        self.number(sink, i as u64);
+        self.text(sink, b" ");
+        self.text(sink, letter);
+        self.text(sink, b" ");
+        match &shown.agreed {
+            None => self.text(sink, b"cold\n"),
+            Some(agreed) => {
+                self.mode(sink, shown.mode);
+                self.state(sink, nodes, retire, agreed);
+                self.settled(sink, nodes, shown);
+            }
+        }
+    }
+}
+
+/// Writes a period's number and the lines of one node, with `-` in place of a class.
+///
+/// # Errors
+/// `WriteFault` comes only where the sink's count of faults rose. A prefix of the lines was written then.
+pub fn write_alone<const N: usize, K: Sink>(
+    period: u32,
+    id: u8,
+    nodes: u8,
+    retire: u16,
+    shown: &NodeRecord<N>,
+    sink: &mut K,
+) -> Result<(), WriteFault>
+    requires capacity { IsCapacity N }
+    requires nodes { nodes ≤ N }
+    ensures { Writes (K.written sink.old) (K.written sink.new) (K.faults sink.old) (K.faults sink.new) (alone_text period id nodes retire shown.now) result }
+{
+    let mut printer = Printer::new();
+    printer.text(sink, b"period ");
+    printer.number(sink, period as u64);
+    printer.text(sink, b"\n");
+    printer.node(sink, nodes, retire, id, b"-", shown);
+    printer.finish(sink)
+}

@@ -1,0 +1,98 @@
+//! The printed summary of a storm.
+ghost use Rattle.std.specs.Prelude.{◌≡◌, ◌≤◌};
+ghost use Rattle.span_io.specs.Causes.{Writes};
+ghost use Rattle.run_print.specs.Printing.{Prints};
+ghost use Rattle.run_print.specs.StormText.{sums_text, outcome_text, storm_text};
+
+use crate::WriteFault;
+use crate::printer::Printer;
+use node_grid::NodeSet;
+use penalty::Counts;
+use span_io::Sink;
+use std::marker::Model;
+
+/// What is told of a storm.
+#[derive(Debug, Drop)]
+pub struct StormSum<const N: usize> {
+    /// The number that it was made from.
+    pub seed: u64,
+    /// How many periods it has.
+    pub periods: u32,
+    /// How many of them are claimed.
+    pub claimed: u32,
+    /// How many fault lines it has.
+    pub lines: u32,
+    /// How many restarts it has.
+    pub restarts: u32,
+    /// How often a node left the reference node's members.
+    pub excluded: u32,
+    /// How often a node joined them.
+    pub readmitted: u32,
+    /// The members in the end.
+    pub members: NodeSet<N>,
+    /// The penalty counts in the end.
+    pub counts: Counts<N>,
+    /// The number of nodes in use.
+    pub nodes: u8,
+}
+
+impl<const N: usize> Model for StormSum<N> {
+    ghost use Rattle.run_print.specs.StormText.{StormView};
+
+    ghost Value = { StormView };
+
+    ghost view = { λ s. record { seed = s.seed; periods = s.periods; claimed = s.claimed; lines = s.lines; restarts = s.restarts; excluded = s.excluded; readmitted = s.readmitted; members = s.members; counts = s.counts.counts; nodes = s.nodes } };
+}
+
+impl Printer {
+    /// Prints the first lines of a summary: its number, periods, lines and restarts, exclusions and readmissions.
+    fn sums<K: Sink, const N: usize>(&mut self, sink: &mut K, sum: &StormSum<N>)
+        ensures { Prints self.old (K.written sink.old) (K.faults sink.old) self.new (K.written sink.new) (K.faults sink.new) (sums_text sum.now) }
+    {
+        self.text(sink, b"storm ");
+        self.number(sink, sum.seed);
+        self.text(sink, b"\nperiods ");
+        self.number(sink, sum.periods as u64);
+        self.text(sink, b" claimed ");
+        self.number(sink, sum.claimed as u64);
+        self.text(sink, b"\nlines ");
+        self.number(sink, sum.lines as u64);
+        self.text(sink, b" restarts ");
+        self.number(sink, sum.restarts as u64);
+        self.text(sink, b"\nexcluded ");
+        self.number(sink, sum.excluded as u64);
+        self.text(sink, b" readmitted ");
+        self.number(sink, sum.readmitted as u64);
+    }
+
+    /// Prints the last lines of a summary: members and counts, and the end.
+    fn outcome<K: Sink, const N: usize>(&mut self, sink: &mut K, sum: &StormSum<N>)
+        requires { sum.now.nodes ≤ N }
+        ensures { Prints self.old (K.written sink.old) (K.faults sink.old) self.new (K.written sink.new) (K.faults sink.new) (outcome_text sum.now) }
+    {
+        self.text(sink, b"\nmembers ");
+        self.set(sink, &sum.members);
+        self.text(sink, b" counts ");
+        self.numbers(sink, &sum.counts.counts[..sum.nodes as usize]);
+        self.text(sink, b"\nend ");
+        self.number(sink, sum.periods as u64);
+        self.text(sink, b"\n");
+    }
+}
+
+/// Writes the six lines of a storm's summary.
+///
+/// # Errors
+/// `WriteFault` comes only where the sink's count of faults rose. A prefix of the lines was written then.
+pub fn write_storm<const N: usize, K: Sink>(
+    sum: &StormSum<N>,
+    sink: &mut K,
+) -> Result<(), WriteFault>
+    requires { sum.now.nodes ≤ N }
+    ensures { Writes (K.written sink.old) (K.written sink.new) (K.faults sink.old) (K.faults sink.new) (storm_text sum.now) result }
+{
+    let mut printer = Printer::new();
+    printer.sums(sink, sum);
+    printer.outcome(sink, sum);
+    printer.finish(sink)
+}

@@ -1,0 +1,186 @@
+//! The printed frames of a period.
+ghost use Rattle.std.specs.Prelude.{◌≡◌, true, [], if◌then◌else◌, ◌≢◌, ◌+◌, ◌*◌, ◌≤◌, ◌<◌, length, replicate};
+ghost use Rattle.std.specs.List.{flat_map};
+ghost use Rattle.hex.specs.Hex.{encode_lower};
+ghost use Rattle.fault_classes.specs.Line.{effect_at};
+ghost use Rattle.fault_link.specs.Arrival.{delivered_of};
+ghost use Rattle.cluster_step.specs.Record.{frame_at};
+ghost use Rattle.run_print.specs.Printing.{Prints};
+ghost use Rattle.run_print.specs.TraceText.{IsPlanOf, bytes_text, frame_text, link_text, sender_text, slot_text, frames_text};
+
+use crate::printer::Printer;
+use cluster_step::PeriodRecord;
+use fault_classes::FaultPlan;
+use fault_link::{Delivered, deliveries};
+use span_io::Sink;
+
+/// The greatest length of a frame: 16 nodes, three relay rounds.
+const LONGEST_FRAME: usize = 90_104;
+
+/// How many bytes are put into hexadecimal at once.
+const PIECE: usize = 512;
+
+/// Where a frame is sent.
+#[derive(Clone, Copy)]
+struct Link {
+    period: u32,
+    slot: u8,
+    from: u8,
+    to: u8,
+}
+
+/// How many slots a period has, by the relay rounds of the plan.
+fn slots_of<const N: usize>(plan: &FaultPlan<N>, rounds: u8) -> u8
+    requires { plan.now.rounds ≡ rounds }
+    ensures { result ≡ 2 * rounds + 4 }
+{
+    let _ = plan.line_count();
+    2 * rounds + 4
+}
+
+impl Printer {
+    /// Prints a few bytes in hexadecimal.
+    fn piece<K: Sink>(&mut self, sink: &mut K, bytes: &[u8])
+        requires { length bytes.now ≤ 512 }
+        ensures { Prints self.old (K.written sink.old) (K.faults sink.old) self.new (K.written sink.new) (K.faults sink.new) (encode_lower bytes.now) }
+    {
+        let mut digits = [0; 2 * PIECE];
+        let room = &mut digits[..2 * bytes.len()];
+        match hex::encode_to_slice(bytes, room) {
+            Ok(()) => self.text(sink, room),
+            Err(_) => unreachable!(),
+        }
+    }
+
+    /// Prints bytes in hexadecimal.
+    fn bytes<K: Sink>(&mut self, sink: &mut K, bytes: &[u8])
+        ensures { Prints self.old (K.written sink.old) (K.faults sink.old) self.new (K.written sink.new) (K.faults sink.new) (bytes_text bytes.now) }
+    {
+        if bytes.is_empty() {
+            self.text(sink, b"-");
+            return;
+        }
+        let mut rest = bytes;
+        for _piece in 0..bytes.len() / PIECE {
+            let (front, behind) = rest.split_at(PIECE);
+            self.piece(sink, front);
+            rest = behind;
+        }
+        self.piece(sink, rest);
+    }
+
+    /// Prints the line of one frame that arrives.
+    fn frame<K: Sink>(&mut self, sink: &mut K, link: Link, tick: u8, bytes: &[u8])
+        ensures { Prints self.old (K.written sink.old) (K.faults sink.old) self.new (K.written sink.new) (K.faults sink.new) (frame_text link.period link.slot link.from link.to (tick, bytes.now)) }
+    {
+        self.text(sink, b"frame ");
+        self.number(sink, link.period as u64);
+        self.text(sink, b" ");
+        self.number(sink, link.slot as u64);
+        self.text(sink, b" ");
+        self.number(sink, link.from as u64);
+        self.text(sink, b" ");
+        self.number(sink, link.to as u64);
+        self.text(sink, b" ");
+        self.number(sink, tick as u64);
+        self.text(sink, b" ");
+        self.bytes(sink, bytes);
+        self.text(sink, b"\n");
+    }
+
+    /// Prints what arrives at one receiver.
+    fn copies<K: Sink>(&mut self, sink: &mut K, link: Link, delivered: &Delivered<'_>)
+        ensures { Prints self.old (K.written sink.old) (K.faults sink.old) self.new (K.written sink.new) (K.faults sink.new) (flat_map (frame_text link.period link.slot link.from link.to) (replicate delivered.now.copies (delivered.now.tick, delivered.now.bytes.now))) }
+    {
+        for _copy in 0..delivered.copies {
+            self.frame(sink, link, delivered.tick, delivered.bytes);
+        }
+    }
+
+    /// Prints what arrives at each receiver of a sender's frame.
+    fn sender<K: Sink, const N: usize>(
+        &mut self,
+        sink: &mut K,
+        shown: &PeriodRecord<N>,
+        plan: &FaultPlan<N>,
+        slot: u8,
+        from: u8,
+        scratch: &mut [u8; LONGEST_FRAME],
+    )
+        requires planned { IsPlanOf plan.now shown.now }
+        requires slot { slot < 2 * shown.now.m + 4 }
+        requires from { from < shown.now.nodes }
+        ensures { Prints self.old (K.written sink.old) (K.faults sink.old) self.new (K.written sink.new) (K.faults sink.new) (sender_text plan.now shown.now slot from) }
+    {
+        // naming a field tells the checker the types of all of them
+        let _ = &shown.classes;
+        let sent = shown.sent(slot, from);
+        for to in 0..shown.nodes {
+            if to != from {
+                let link = Link {
+                    period: shown.period,
+                    slot,
+                    from,
+                    to,
+                };
+                let room = &mut scratch[..sent.len()];
+                let delivered = deliveries(plan, shown.period, slot, from, to, sent, room);
+                self.copies(sink, link, &delivered);
+            }
+        }
+    }
+
+    /// Prints all frames that arrive in a slot.
+    fn slot<K: Sink, const N: usize>(
+        &mut self,
+        sink: &mut K,
+        shown: &PeriodRecord<N>,
+        plan: &FaultPlan<N>,
+        slot: u8,
+        scratch: &mut [u8; LONGEST_FRAME],
+    )
+        requires planned { IsPlanOf plan.now shown.now }
+        requires slot { slot < 2 * shown.now.m + 4 }
+        ensures { Prints self.old (K.written sink.old) (K.faults sink.old) self.new (K.written sink.new) (K.faults sink.new) (slot_text plan.now shown.now slot) }
+    {
+        // naming a field tells the checker the types of all of them
+        let _ = &shown.classes;
+        for from in 0..shown.nodes {
+            self.sender(sink, shown, plan, slot, from, scratch);
+        }
+    }
+
+    /// Prints all frames that arrive in a period.
+    fn frames<K: Sink, const N: usize>(
+        &mut self,
+        sink: &mut K,
+        shown: &PeriodRecord<N>,
+        plan: &FaultPlan<N>,
+    )
+        requires planned { IsPlanOf plan.now shown.now }
+        ensures { Prints self.old (K.written sink.old) (K.faults sink.old) self.new (K.written sink.new) (K.faults sink.new) (frames_text plan.now shown.now) }
+    {
+        // naming a field tells the checker the types of all of them
+        let _ = &shown.classes;
+        let mut scratch = [0; LONGEST_FRAME];
+        for slot in 0..slots_of(plan, shown.m) {
+            self.slot(sink, shown, plan, slot, &mut scratch);
+        }
+    }
+
+    /// Prints all frames that arrive in a period, where they are asked for.
+    pub(crate) fn traced<K: Sink, const N: usize>(
+        &mut self,
+        sink: &mut K,
+        shown: &PeriodRecord<N>,
+        plan: &FaultPlan<N>,
+        trace: bool,
+    )
+        requires planned { trace ≡ true → IsPlanOf plan.now shown.now }
+        ensures { Prints self.old (K.written sink.old) (K.faults sink.old) self.new (K.written sink.new) (K.faults sink.new) (if trace then frames_text plan.now shown.now else []) }
+    {
+        if trace {
+            self.frames(sink, shown, plan);
+        }
+    }
+}
