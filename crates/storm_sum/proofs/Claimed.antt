@@ -1,0 +1,55 @@
+-- The summary of a storm.
+use Rattle.std.proofs.Common.{◌≡◌, ℕ, zero, suc, ◌+◌, Bool, true, List, map, Option, Some, Result, Ok, Err, refl, sym, ap, subst, ◌∙◌, arith}
+use Rattle.std.specs.Prelude.{IfOk, slice_index}
+use Rattle.std.specs.List.{range_with_len}
+use Rattle.node_grid.specs.NodeSet.{ids_below, has_id}
+use Rattle.node_grid.specs.Count.{bit, count}
+use Rattle.agreed_state.specs.Agreed.{AgreedView}
+use Rattle.protocol.specs.Cluster.{view}
+use Rattle.protocol.specs.Run.{System, members_in, run}
+use Rattle.node_core.specs.Outcome.{Outcome}
+use Rattle.node_core.specs.Stages.{outcome_of}
+use Rattle.cluster_step.specs.Laws.{ClaimLaw}
+use Rattle.storm.specs.Laws.{storm_system, Weathers, StormLaw}
+use Rattle.storm_sum.specs.Summary.{how_many, agreed_by, counts_in, claim_at, state_at}
+use Rattle.storm_sum.specs.Laws.{SummaryLaw}
+
+all_counted : (f : ℕ → Bool) (a n : ℕ) → ((q : ℕ) → f q ≡ true) → count f (range_with_len a n) ≡ n
+all_counted f a zero h = refl
+all_counted f a (suc n) h = let here : bit (f a) ≡ 1 = ap bit (h a) in let rest = all_counted f (a + 1) n h in omega arith
+
+every_period : (f : ℕ → Bool) (n : ℕ) → ((q : ℕ) → f q ≡ true) → how_many f n ≡ n
+unfolding how_many
+every_period f n h = all_counted f 0 n h
+
+claimed_at : ClaimLaw → (sys : System) → Weathers sys → (p : ℕ) → claim_at sys p ≡ true
+unfolding claim_at
+claimed_at claims sys w p = (claims sys p).claim.1 (w.periods p).claimed
+
+-- what node 0 of 8 records
+abbrev records : System → ℕ → List Outcome
+records sys p = map (λ i. outcome_of (view (run sys) i p)) (ids_below 8)
+
+ends : (seed : ℕ) (w : Weathers (storm_system seed)) (p : ℕ) → state_at (storm_system seed) p ≡ Some (w.periods p).after
+unfolding state_at
+ends seed w p = ap (agreed_by (records (storm_system seed) p)) (w.periods p).reference_node ∙ (w.periods p).ends_with
+
+pub claimed_law : StormLaw → ClaimLaw → SummaryLaw
+claimed_law storms claims seed =
+    let w = storms seed in
+    let last = w.periods 1023 in
+    let after = ends seed w 1023 in
+    record {
+      periods = refl;
+      claimed = every_period (claim_at (storm_system seed)) 1024 (claimed_at claims (storm_system seed) w);
+      lines = w.few_lines;
+      restarts = w.restarts;
+      nodes = refl;
+      members = λ j low. subst (λ (a : Option AgreedView). has_id (members_in a) j ≡ true) (sym after) (last.spared_after j low).member;
+      counts = λ j low. subst (λ (a : Option AgreedView). slice_index (counts_in a) j ≡ 0) (sym after) (last.spared_after j low).unpunished;
+    }
+
+-- what is Ok is this, so what holds of this holds of it
+pub holds_of : {A E : Type 0} (P : A → Type 0) (x : A) (r : Result A E) → IfOk r (λ s. s ≡ x) → P x → IfOk r P
+holds_of P x (Ok s) is h = subst P (sym is) h
+holds_of P x (Err e) is h = tt

@@ -1,0 +1,24 @@
+-- What the summary of each storm says.
+use Rattle.std.specs.Prelude.{ℕ, ◌≡◌, ◌<◌, ◌≤◌, true, slice_index}
+use Rattle.node_grid.specs.NodeSet.{has_id}
+use Rattle.scenario.specs.Given.{scenario_of}
+use Rattle.run_print.specs.StormText.{StormView}
+use Rattle.storm.specs.Parts.{storm_parts}
+use Rattle.storm_sum.specs.Summary.{summary_of}
+
+-- the summary of a number's storm
+abbrev pub storm_summary : ℕ → StormView
+storm_summary seed = summary_of seed (scenario_of 8 (storm_parts seed))
+
+-- all of 1024 periods are claimed, of at most 448 lines and 64 restarts, and nodes 0 to 4 are members with count 0 in the end
+pub record IsStormSummary (s : StormView) : Type 0 where
+  pub periods : s.periods ≡ 1024
+  pub claimed : s.claimed ≡ 1024
+  pub lines : s.lines ≤ 448
+  pub restarts : s.restarts ≡ 64
+  pub nodes : s.nodes ≡ 8
+  pub members : (j : ℕ) → j < 5 → has_id s.members j ≡ true
+  pub counts : (j : ℕ) → j < 5 → slice_index s.counts j ≡ 0
+
+abbrev pub SummaryLaw : Type 0
+SummaryLaw = (seed : ℕ) → IsStormSummary (storm_summary seed)

@@ -1,0 +1,55 @@
+//! The summary of a storm: its cluster is run, and what befalls its members is summed up.
+#![tactic(auto)]
+
+ghost use Rattle.std.specs.Prelude.{◌≡◌, IfOk};
+ghost use Rattle.storm_sum.specs.Laws.{storm_summary, IsStormSummary};
+ghost use Rattle.storm_sum.specs.Summary.{summary_of};
+
+pub mod laws;
+mod sums;
+
+use crate::sums::Sums;
+use cluster_step::Cluster;
+use node_grid::NoMemory;
+use run_print::StormSum;
+use scenario::Scenario;
+use std::alloc::Global;
+
+/// Runs a scenario, and sums up its periods.
+fn run(alloc: Global, scenario: &Scenario<8>, seed: u64) -> Result<StormSum<8>, NoMemory>
+    ensures { IfOk result (λ s. s ≡ summary_of seed scenario.now) }
+{
+    let mut cluster = Cluster::open(alloc, scenario)?;
+    let mut sums = Sums::none();
+    let periods = scenario.periods();
+    for _period in 0..periods {
+        sums.add_next(&mut cluster);
+    }
+    let plan = scenario.plan();
+    let config = scenario.config();
+    Ok(StormSum {
+        seed,
+        periods,
+        claimed: sums.claimed,
+        lines: plan.line_count(),
+        restarts: plan.restart_count(),
+        excluded: sums.excluded,
+        readmitted: sums.readmitted,
+        members: sums.members,
+        counts: sums.counts,
+        nodes: config.nodes,
+    })
+}
+
+/// Makes the storm of a number, runs it, and sums it up.
+///
+/// # Errors
+/// `NoMemory`: there was none.
+pub fn summary(alloc: Global, seed: u64) -> Result<StormSum<8>, NoMemory>
+    ensures says { IfOk result (λ s. s ≡ storm_summary seed) }
+    ensures claimed { IfOk result (λ s. IsStormSummary s) }
+{
+    laws::claimed();
+    let storm = storm::make(alloc, seed)?;
+    run(alloc, &storm, seed)
+}

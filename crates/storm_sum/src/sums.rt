@@ -1,0 +1,119 @@
+//! Sums over the periods of a run.
+ghost use Rattle.std.specs.Prelude.{◌≡◌, ◌+◌, ◌*◌, ◌<◌, ◌≤◌, ◌&&◌, ℕ, Some, not, replicate};
+ghost use Rattle.node_grid.specs.NodeSet.{has_id};
+ghost use Rattle.node_grid.specs.Count.{bit};
+ghost use Rattle.protocol.specs.Run.{members_in};
+ghost use Rattle.scenario.specs.Scenario.{system_of};
+ghost use Rattle.storm_sum.specs.Summary.{lost, state_after, excluded, readmitted, counts_in};
+ghost use Rattle.storm_sum.specs.Summing.{AreSums};
+
+use cluster_step::{Cluster, PeriodRecord};
+use node_grid::NodeSet;
+use penalty::Counts;
+
+/// What is summed up of the periods that were run, and what the last of them leaves.
+#[derive(Clone, Copy, Debug, PartialEq, Eq)]
+pub struct Sums {
+    /// How many periods are claimed.
+    pub claimed: u32,
+    /// How often a node left the reference node's members.
+    pub excluded: u32,
+    /// How often a node joined them.
+    pub readmitted: u32,
+    /// The members after the last period.
+    pub members: NodeSet<8>,
+    /// The penalty counts after the last period.
+    pub counts: Counts<8>,
+}
+
+/// What the agreed state of the reference node is after the period: its members and counts, none and 0 without a state.
+fn state_after(shown: &PeriodRecord<8>) -> (NodeSet<8>, Counts<8>)
+    requires { (r : ℕ) → shown.now.reference ≡ Some r → r < shown.now.nodes }
+    ensures members { result.0 ≡ members_in (state_after shown.now) }
+    ensures counts { result.1.counts ≡ counts_in (state_after shown.now) }
+{
+    let Some(node) = shown.reference else {
+        return (NodeSet::empty(), Counts::zero());
+    };
+    match &shown.node(node).agreed {
+        None => (NodeSet::empty(), Counts::zero()),
+        Some(agreed) => (agreed.members, agreed.counts),
+    }
+}
+
+/// Whether the node is in the first set and not in the second.
+fn is_lost(before: &NodeSet<8>, after: &NodeSet<8>, node: u8) -> bool
+    ensures { result ≡ (has_id before.now node && not (has_id after.now node)) }
+{
+    before.has(node) && !after.has(node)
+}
+
+/// How many of the nodes are in the first set and not in the second.
+fn lost(nodes: u8, before: &NodeSet<8>, after: &NodeSet<8>) -> u32
+    requires { nodes ≤ 8 }
+    ensures count { result ≡ lost nodes before.now after.now }
+    ensures few { result ≤ 8 }
+{
+    let mut lost = 0;
+    for node in 0..nodes {
+        if is_lost(before, after, node) {
+            lost += 1;
+        }
+    }
+    lost
+}
+
+impl Sums {
+    /// Nothing yet.
+    pub fn none() -> Self
+        ensures claimed { result.claimed ≡ 0 }
+        ensures excluded { result.excluded ≡ 0 }
+        ensures readmitted { result.readmitted ≡ 0 }
+    {
+        Sums {
+            claimed: 0,
+            excluded: 0,
+            readmitted: 0,
+            members: NodeSet::empty(),
+            counts: Counts::zero(),
+        }
+    }
+
+    /// Adds a period.
+    fn add(&mut self, shown: &PeriodRecord<8>)
+        requires nodes { shown.now.nodes ≤ 8 }
+        requires reference { (r : ℕ) → shown.now.reference ≡ Some r → r < shown.now.nodes }
+        requires few_claimed { self.old.claimed ≤ 1024 }
+        requires few_excluded { self.old.excluded ≤ 8192 }
+        requires few_readmitted { self.old.readmitted ≤ 8192 }
+        ensures claimed { self.new.claimed ≡ self.old.claimed + bit shown.now.claim }
+        ensures excluded { self.new.excluded ≡ self.old.excluded + excluded shown.now }
+        ensures readmitted { self.new.readmitted ≡ self.old.readmitted + readmitted shown.now }
+        ensures few_excluded { self.new.excluded ≤ self.old.excluded + 8 }
+        ensures few_readmitted { self.new.readmitted ≤ self.old.readmitted + 8 }
+        ensures members { self.new.members ≡ members_in (state_after shown.now) }
+        ensures counts { self.new.counts.counts ≡ counts_in (state_after shown.now) }
+    {
+        let (members, counts) = state_after(shown);
+        if shown.claim {
+            self.claimed += 1;
+        }
+        self.excluded += lost(shown.nodes, &shown.members, &members);
+        self.readmitted += lost(shown.nodes, &members, &shown.members);
+        self.members = members;
+        self.counts = counts;
+    }
+
+    /// Runs the next period of a cluster, and adds it.
+    pub fn add_next(&mut self, cluster: &mut Cluster<'_, 8>)
+        requires more { cluster.old.run < cluster.old.scenario.periods }
+        requires few { cluster.old.run < 1024 }
+        requires nodes { cluster.old.scenario.config.nodes ≤ 8 }
+        requires sums { AreSums (system_of cluster.old.scenario) cluster.old.run self.old }
+        ensures ran { cluster.new ≡ record cluster.old { run = cluster.old.run + 1 } }
+        ensures sums { AreSums (system_of cluster.old.scenario) (cluster.old.run + 1) self.new }
+    {
+        let shown = cluster.period();
+        self.add(shown);
+    }
+}
