@@ -7,4 +7,4 @@ use Rattle.node_alone.proofs.Collect.{after}
 use Rattle.node_alone.proofs.reading.entry_parts.Given as goal
 
 abbrev pub invariant-loop-item : goal.invariant-loop-item
-invariant-loop-item l = after (map part_view l.found.items) (each entry_at (items_view (drop l.item-index l.item-items))) ≡ each entry_at (items_view l.item-items)
+invariant-loop-item l = after (map part_view l.found.items) (each entry_at (items_view (drop l.item-index l.items))) ≡ each entry_at (items_view l.items)
