@@ -1,20 +1,20 @@
 -- Which rule refuses a record, by its parts and its scenario.
-use Rattle.std.proofs.Common.{ℕ, ◌≡◌, ◌<◌, ◌≤◌, ◌+◌, ◌*◌, List, map, refl, sym, ap, ap₂, subst, ◌∙◌, arith, Option, None, Some, Bool, true, false, ◌⊎◌}
+use Rattle.std.proofs.Common.{ℕ, ◌≡◌, ◌<◌, ◌≤◌, ◌+◌, ◌*◌, List, map, sym, ap, ap₂, subst, ◌∙◌, Option, None, Some}
 use Rattle.std.specs.Prelude.{All}
 use Rattle.std.specs.Option.{option_or}
 use Rattle.std.proofs.lemmas.Bool.{lt-ltb, le-ltb}
 use Rattle.serde_json.specs.Data.{Data}
 use Rattle.scenario.specs.Parts.{ScenarioParts}
 use Rattle.scenario.specs.Keys.{parts_of}
-use Rattle.scenario.specs.Rules.{refusal, unless, at_place}
+use Rattle.scenario.specs.Rules.{unless, at_place}
 use Rattle.scenario.specs.Scenario.{ScenarioView, IsScenario}
 use Rattle.scenario.specs.Given.{scenario_of}
 use Rattle.scenario.specs.Verdict.{Tells, IsAcceptedValue, value_refusal}
 use Rattle.scenario.specs.Verdict as scenario
 use Rattle.scenario.specs.declared.error.ScenarioError.{ScenarioError}
 use Rattle.scenario.specs.declared.error.ScenarioError.TheVariants.{Unreadable, Refused, NoMemory}
-use Rattle.node_alone.specs.Log.{Entry, RecordView}
-use Rattle.node_alone.specs.Parts.{EntryParts, RecordParts, record_parts}
+use Rattle.node_alone.specs.Log.{Entry}
+use Rattle.node_alone.specs.Parts.{RecordParts, record_parts}
 use Rattle.node_alone.specs.Rules.{Limits, limits_of, entry_of, first_bad_entry, log_refusal, parts_refusal, refusal_on, record_refusal, IsAcceptedRecord}
 use Rattle.node_alone.specs.Seen.{IsPlaced, Ascends, IsRecord}
 use Rattle.node_alone.proofs.Judged.{all_placed, all_ascend}

@@ -1,7 +1,7 @@
 -- Entries that no rule refuses: their numbers, and their order.
-use Rattle.std.proofs.Common.{ℕ, zero, suc, ◌≡◌, ◌≢◌, ◌<◌, ◌≤◌, ◌+◌, ◌==◌, ◌∙◌, ℤ, pos, negsuc, Bool, true, false, if◌then◌else◌, List, [], ◌∷◌, ◌++◌, map, length, get_or, take, drop, refl, sym, ap, ap₂, subst, arith, Option, None, Some, eq-eqb}
+use Rattle.std.proofs.Common.{ℕ, ◌≡◌, ◌≢◌, ◌<◌, ◌+◌, ◌==◌, ◌∙◌, ℤ, pos, negsuc, Bool, true, false, if◌then◌else◌, List, [], ◌∷◌, ◌++◌, map, length, get_or, take, drop, refl, sym, ap, ap₂, subst, arith, Option, None, Some, eq-eqb}
 use Rattle.std.specs.Prelude.{All, not, ◌&&◌}
-use Rattle.std.proofs.lemmas.Bool.{cases_Bool, true≢false, ltb-true, and_parts}
+use Rattle.std.proofs.lemmas.Bool.{true≢false, ltb-true, and_parts}
 use Rattle.std.proofs.lemmas.List.{map_push, map_more, get_or_default}
 use Rattle.std.proofs.lemmas.List.Elements.{All-nil, All-cons, All-weaker}
 use Rattle.scenario.specs.declared.error.ScenarioError.{ScenarioError}

@@ -1,7 +1,6 @@
 -- A log whose entries are what a run delivers has the run's view: one node, stepped through them, ends with both.
-use Rattle.std.proofs.Common.{ℕ, zero, suc, ◌≡◌, ◌≢◌, ◌<◌, ◌≤◌, ◌+◌, ◌*◌, ◌^◌, List, [], length, refl, sym, ap, ap₂, subst, ◌∙◌, inl, inr, arith, Option, Some}
+use Rattle.std.proofs.Common.{ℕ, zero, suc, ◌≡◌, ◌≢◌, ◌<◌, ◌≤◌, ◌+◌, ◌*◌, ◌^◌, List, [], length, refl, sym, ap, ap₂, subst, ◌∙◌, arith, Some}
 use Rattle.std.proofs.lemmas.List.{length-append}
-use Rattle.node_grid.specs.Capacity.{IsCapacity}
 use Rattle.frames.specs.Content.{kind}
 use Rattle.frames.specs.Spelling.{header_spelling, body_spelling, head_of}
 use Rattle.error_detect.specs.Finding.{Delivery}
@@ -10,11 +9,10 @@ use Rattle.error_detect.specs.Multiset.{Arriving}
 use Rattle.fault_classes.specs.Plan.{restarts_at}
 use Rattle.agreed_state.specs.declared.config.Config.{Config}
 use Rattle.agreed_state.specs.declared.config.Inputs.{Inputs}
-use Rattle.agreed_state.specs.Config.{IsConfig}
 use Rattle.agreed_state.specs.Agreed.{AgreedView}
 use Rattle.protocol.specs.Arrival.{arrival, state_in, claim_in, claims_in, values_in, row_in, rows_in}
 use Rattle.protocol.specs.Heard.{paths_of, with_entries}
-use Rattle.protocol.specs.View.{Kept, Received, View, opened}
+use Rattle.protocol.specs.View.{Kept, Received, opened}
 use Rattle.protocol.specs.Cluster.{kept, begins, view}
 use Rattle.protocol.specs.Run.{System, members_in, expectation, run, deliveries}
 use Rattle.safety.specs.Runs.{DeliveryLaw}
@@ -23,10 +21,10 @@ use Rattle.node_core.specs.Parts.{NodeView}
 use Rattle.node_core.specs.Steps.{setting_of, begun}
 use Rattle.node_core.specs.Stages.{due_of, outcome_of}
 use Rattle.node_core.specs.Period.{slots_run, expect_at, goes, Told, IsOver}
-use Rattle.node_core.specs.Sending.{GoesThrough, PeriodLaw}
-use Rattle.scenario.specs.Scenario.{ScenarioView, inputs_of, system_of, IsScenario}
+use Rattle.node_core.specs.Sending.{PeriodLaw}
+use Rattle.scenario.specs.Scenario.{inputs_of, system_of, IsScenario}
 use Rattle.node_alone.specs.Log.{RecordView, arrivals, entries_at}
-use Rattle.node_alone.specs.View.{received, period_alone, kept_alone, begins_alone, view_alone}
+use Rattle.node_alone.specs.View.{received, kept_alone, begins_alone, view_alone}
 use Rattle.node_alone.specs.Laws.{IsOfRun, IsRunPeriod, AloneLaw}
 use Rattle.node_alone.proofs.Told.{before_is, due_is, told, served_by, HasRooms, Valid, valid_begins}
 
@@ -113,8 +111,7 @@ module _ {N : ℕ} (log : RecordView N) (is : IsScenario log.scenario) (of_run :
 
     same_after : begins_alone log p ≡ k → ((view_alone log p).kept ≡ (view (run sys) i p).kept) × (outcome_of (view_alone log p) ≡ outcome_of (view (run sys) i p))
     same_after e =
-        let there = by_run (subst (λ (y : Kept). Valid config is.system.capacity is.system.config y.state) e (valid_begins log is.system.capacity is.system.config p)) in
-        (
+        let there = by_run (subst (λ (y : Kept). Valid config is.system.capacity is.system.config y.state) e (valid_begins log is.system.capacity is.system.config p)) in (
           sym by_log.kept ∙ ap (λ (y : Kept). (end y).kept) e ∙ there.kept,
           sym by_log.outcome ∙ ap (λ (y : Kept). (end y).outcome) e ∙ there.outcome,
         )

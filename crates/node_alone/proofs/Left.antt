@@ -1,10 +1,8 @@
 -- The entries of a slot, one after another.
-use Rattle.std.proofs.Common.{ℕ, ◌≡◌, zero, suc, ◌<◌, ◌≤◌, ◌+◌, true, false, List, [], ◌∷◌, map, length, get_or, drop, refl, sym, ap, subst, ◌∙◌, arith}
+use Rattle.std.proofs.Common.{ℕ, ◌≡◌, zero, suc, ◌<◌, ◌≤◌, ◌+◌, false, List, [], ◌∷◌, map, length, get_or, drop, refl, sym, ap, subst, ◌∙◌, arith}
 use Rattle.std.specs.Prelude.{All}
 use Rattle.std.proofs.lemmas.List.{drop-map}
-use Rattle.std.proofs.lemmas.List.Elements.{All-head, All-tail, All-get_or}
-use Rattle.error_detect.specs.Watching.{Watch}
-use Rattle.error_detect.specs.Multiset.{Arriving, all_delivered}
+use Rattle.std.proofs.lemmas.List.Elements.{All-head, All-tail}
 use Rattle.node_core.specs.Parts.{NodeView}
 use Rattle.node_core.specs.Steps.{given_frame}
 use Rattle.node_alone.specs.Log.{Entry, is_before, arriving, arrivals}
@@ -12,7 +10,7 @@ use Rattle.node_alone.specs.Seen.{Ascends, entry_view}
 use Rattle.node_alone.specs.Stepping.{handed, from_slot, IsFromOther, IsReady}
 use Rattle.node_alone.specs.declared.entry.Entry.{Entry as Kept}
 use Rattle.node_alone.proofs.Collect.{drop-here}
-use Rattle.node_alone.proofs.Ordering.{at_from, from_next, none_before, passes, ascends_drop, all_later, later_stay, later_bring, bring_next, skip_next}
+use Rattle.node_alone.proofs.Ordering.{at_from, from_next, passes, ascends_drop, all_later, later_stay, later_bring, bring_next, skip_next}
 
 abbrev views : List Kept → List Entry
 views xs = map entry_view xs

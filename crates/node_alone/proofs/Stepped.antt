@@ -1,21 +1,16 @@
 -- The node between periods, and what a period of its log makes of it.
-use Rattle.std.proofs.Common.{ℕ, zero, suc, ◌≡◌, ◌≢◌, ◌<◌, ◌≤◌, ◌+◌, ◌*◌, Bool, true, false, if◌then◌else◌, List, [], ◌∷◌, length, drop, refl, sym, ap, ap₂, subst, ◌∙◌, arith}
+use Rattle.std.proofs.Common.{ℕ, suc, ◌≡◌, ◌<◌, ◌+◌, ◌*◌, Bool, true, false, if◌then◌else◌, List, ◌∷◌, drop, refl, sym, ap, ap₂, subst, ◌∙◌, arith}
 use Rattle.std.specs.Prelude.{All}
 use Rattle.std.proofs.lemmas.List.Elements.{All-weaker}
-use Rattle.node_grid.specs.Capacity.{IsCapacity}
-use Rattle.frames.specs.Bound.{IsGreatest}
-use Rattle.error_detect.specs.Watching.{Watch, of_sender, delivered}
-use Rattle.error_detect.specs.Multiset.{Arriving, all_delivered}
+use Rattle.error_detect.specs.Watching.{of_sender, delivered}
+use Rattle.error_detect.specs.Multiset.{Arriving}
 use Rattle.fault_classes.specs.Plan.{restarts_at}
 use Rattle.agreed_state.specs.declared.config.Config.{Config}
 use Rattle.agreed_state.specs.declared.config.Inputs.{Inputs}
-use Rattle.agreed_state.specs.Config.{IsConfig}
-use Rattle.agreed_state.specs.Body.{state_len}
 use Rattle.protocol.specs.View.{Kept, nothing, opened}
 use Rattle.node_core.specs.Fresh.{IsFresh}
-use Rattle.node_core.specs.Outcome.{Outcome}
 use Rattle.node_core.specs.Parts.{NodeView}
-use Rattle.node_core.specs.Steps.{setting_of, restarted, begun}
+use Rattle.node_core.specs.Steps.{setting_of, restarted}
 use Rattle.node_core.specs.Stages.{outcome_of}
 use Rattle.node_core.specs.Period.{slots_run, expect_at}
 use Rattle.node_core.specs.Sending.{Fixed, fixed, fixed_of, GoesThrough, PeriodLaw}

@@ -1,5 +1,5 @@
 -- The node by itself: what its log gives of a period, and where that leads it.
-use Rattle.std.proofs.Common.{ℕ, zero, suc, ◌≡◌, ◌≢◌, ◌<◌, ◌≤◌, ◌+◌, ◌*◌, ◌^◌, Bool, true, false, if◌then◌else◌, List, [], length, map, refl, sym, ap, ap₂, subst, ◌∙◌, inl, inr, arith, Option, None, Some}
+use Rattle.std.proofs.Common.{ℕ, zero, suc, ◌≡◌, ◌≤◌, ◌+◌, Bool, true, false, List, length, map, refl, sym, ap, ap₂, subst, ◌∙◌, inl, inr, arith, Option, None, Some}
 use Rattle.std.specs.Prelude.{is_some}
 use Rattle.node_grid.specs.Capacity.{IsCapacity}
 use Rattle.node_grid.specs.NodeSet.{IsIdSet}
@@ -7,9 +7,9 @@ use Rattle.omh_paths.specs.declared.wrapped.Wrapped.{Wrapped}
 use Rattle.omh_paths.specs.declared.wrapped.Wrapped.TheVariants.{Plain, Fault}
 use Rattle.omh_paths.specs.Majority.{majority}
 use Rattle.omh_paths.specs.Paths.{same_nodes}
-use Rattle.error_detect.specs.Watching.{of_sender, HasRoom}
-use Rattle.error_detect.specs.Multiset.{Arriving, from_sender}
-use Rattle.fault_classes.specs.Plan.{Plan, restarts_at}
+use Rattle.error_detect.specs.Watching.{HasRoom}
+use Rattle.error_detect.specs.Multiset.{Arriving}
+use Rattle.fault_classes.specs.Plan.{restarts_at}
 use Rattle.agreed_state.specs.declared.config.Config.{Config}
 use Rattle.agreed_state.specs.declared.config.Inputs.{Inputs}
 use Rattle.agreed_state.specs.Config.{IsConfig}
@@ -17,9 +17,9 @@ use Rattle.agreed_state.specs.Agreed.{AgreedView, IsAgreed}
 use Rattle.agreed_state.specs.AgreedLaws.{first-agreed, agreed-after}
 use Rattle.agreed_state.specs.ReadLaws.{read_agreed}
 use Rattle.agreed_state.specs.Adoption.{adopted, given, read_of}
-use Rattle.protocol.specs.Arrival.{Arrival, arrival, state_in, claim_in, claims_in, values_in, row_in, rows_in}
+use Rattle.protocol.specs.Arrival.{Arrival, arrival, claim_in, claims_in, values_in, row_in, rows_in}
 use Rattle.protocol.specs.Heard.{paths_of, with_entries}
-use Rattle.protocol.specs.View.{Setting, Kept, nothing, Received, adopted_by, bodies_for, through, joined, view_from, opened}
+use Rattle.protocol.specs.View.{Setting, Kept, Received, adopted_by, bodies_for, through, joined, view_from, opened}
 use Rattle.protocol.specs.ViewLaws.{due_same}
 use Rattle.protocol.specs.Run.{System, members_in, expectation}
 use Rattle.node_core.specs.Steps.{setting_of}
@@ -29,7 +29,7 @@ use Rattle.node_core.specs.Period.{expect_at, goes, Told}
 use Rattle.node_core.specs.Sending.{IsServed}
 use Rattle.scenario.specs.Scenario.{inputs_of, system_of}
 use Rattle.node_alone.specs.Log.{RecordView, arrivals, entries_at}
-use Rattle.node_alone.specs.View.{after_sync, members, after_done, received, so_far, period_alone, kept_alone, begins_alone}
+use Rattle.node_alone.specs.View.{after_sync, members, after_done, received, so_far, kept_alone, begins_alone}
 
 some_is : {X : Type 0} (b a : X) → Some b ≡ Some a → b ≡ a
 some_is b a e = cc

@@ -1,5 +1,5 @@
 -- What a call that lends a record leaves of the node.
-use Rattle.std.specs.Prelude.{◌≡◌, ℕ, ◌+◌, []}
+use Rattle.std.specs.Prelude.{◌≡◌, ◌+◌, []}
 use Rattle.std.specs.Borrow.{MutBor, Fml, RattleType}
 use Rattle.std.specs.Io.BufRead.{Rests}
 use Rattle.node_alone.specs.Stepping.{AloneView}

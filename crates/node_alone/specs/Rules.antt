@@ -1,6 +1,6 @@
 -- Which rule refuses a record: the first that fails, at the first place at which it fails. Between rule 15 and rule 16 come those of the
 -- scenario.
-use Rattle.std.specs.Prelude.{◌≡◌, ℕ, ◌+◌, ◌*◌, ◌==◌, pos, Bool, not, ◌&&◌, nat_lt, List, [], ◌∷◌, map, length, Option, None, Some, is_some, unwrap_or, if◌then◌else◌}
+use Rattle.std.specs.Prelude.{◌≡◌, ℕ, ◌+◌, ◌*◌, ◌==◌, pos, Bool, not, ◌&&◌, nat_lt, List, [], ◌∷◌, map, Option, None, Some, is_some, unwrap_or, if◌then◌else◌}
 use Rattle.std.specs.Option.{option_or}
 use Rattle.std.specs.Result.{result_ok}
 use Rattle.hex.specs.Hex.{decode_of}

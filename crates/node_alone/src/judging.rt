@@ -77,11 +77,7 @@ fn bytes_of(alloc: Global, text: &str) -> Result<Option<Vec<u8>>, AllocError>
 }
 
 /// The entry that the parts are, where they are in range.
-fn entry(
-    alloc: Global,
-    part: &EntryPart<'_>,
-    limits: &Limits,
-) -> Result<Option<Entry>, AllocError>
+fn entry(alloc: Global, part: &EntryPart<'_>, limits: &Limits) -> Result<Option<Entry>, AllocError>
     ensures { IfOk result (λ o. option_map entry_view o ≡ (if is_entry (limits_view limits.now) (part_view part.now) then Some (entry_of (part_view part.now)) else None)) }
 {
     if !is_placed(part, limits.nodes, limits.slots, limits.periods, limits.id) {

@@ -5,8 +5,8 @@
 mod alone;
 mod delivering;
 mod entry;
-pub mod laws;
 mod judging;
+pub mod laws;
 mod reading;
 mod record;
 

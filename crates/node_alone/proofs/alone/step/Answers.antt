@@ -1,7 +1,6 @@
-use Rattle.std.proofs.Common.{ℕ, ◌≡◌, ◌<◌, ◌+◌, ◌*◌, sym, ap, subst, ◌∙◌, refl, arith, inl, inr, lit<, map, List, drop}
+use Rattle.std.proofs.Common.{◌≡◌, ◌+◌, ◌*◌, sym, ap, subst, ◌∙◌, arith, inl, inr, lit<, map, drop}
 use Rattle.agreed_state.specs.declared.config.Config.{Config}
 use Rattle.agreed_state.specs.ConfigLaws.{few_rounds}
-use Rattle.node_alone.specs.Log.{Entry}
 use Rattle.node_alone.specs.Seen.{entry_view, Ascends}
 use Rattle.node_alone.specs.Stepping.{from_slot}
 use Rattle.node_alone.proofs.Stepped.{ready_here, after_here, shown_here, rest_here}
@@ -12,8 +11,7 @@ run_slots-requires g c =
     let log = c.args.input.now in
     let es = map entry_view c.entries.result.now in
     let same : es ≡ log.entries = c.entries.ensures.entries in
-    let m : c.config.result.now.m ≡ log.scenario.config.m = ap (λ (y : Config g.row.N). y.m) c.config.ensures.config in
-    (
+    let m : c.config.result.now.m ≡ log.scenario.config.m = ap (λ (y : Config g.row.N). y.m) c.config.ensures.config in (
       elim c.requires.capacity [ inl e ↦ rw e (lit< tt) | inr e ↦ rw e (lit< tt) ],
       (
         c.requires.capacity,

@@ -1,4 +1,4 @@
-use Rattle.std.proofs.Common.{◌<◌, inl, inr, lit<}
+use Rattle.std.proofs.Common.{inl, inr, lit<}
 use Rattle.node_alone.proofs.alone.wake.Goals as goal
 
 pub scenario-requires : goal.scenario-requires

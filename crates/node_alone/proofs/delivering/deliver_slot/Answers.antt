@@ -1,4 +1,4 @@
-use Rattle.std.proofs.Common.{ℕ, ◌≡◌, ◌<◌, ◌≤◌, ◌+◌, false, [], drop, map, length, refl, sym, ap, subst, ◌∙◌, inl, inr, lit<, arith}
+use Rattle.std.proofs.Common.{◌≡◌, ◌+◌, false, drop, map, length, refl, sym, ap, subst, ◌∙◌, inl, inr, lit<, arith}
 use Rattle.std.specs.Prelude.{All}
 use Rattle.std.proofs.lemmas.List.Elements.{All-nil}
 use Rattle.node_core.specs.Steps.{given_frame}
@@ -60,12 +60,12 @@ loop-place-preserved g c =
 pub returns-clause-given : goal.returns-clause-given
 returns-clause-given g c =
     let late : All (λ e. is_before c.args.period (c.args.slot + 1) e ≡ false) (drop c.loop-place.place (map entry_view c.args.entries.now)) =
-        subst (All (λ e. is_before c.args.period (c.args.slot + 1) e ≡ false)) (sym (nothing_left c.args.entries.now c.loop-place.place c.loop-place-test.false)) (All-nil (λ e. is_before c.args.period (c.args.slot + 1) e ≡ false)) in
+    subst (All (λ e. is_before c.args.period (c.args.slot + 1) e ≡ false)) (sym (nothing_left c.args.entries.now c.loop-place.place c.loop-place-test.false)) (All-nil (λ e. is_before c.args.period (c.args.slot + 1) e ≡ false)) in
     given_all c.args.period c.args.slot c.args.next c.loop-place.place (map entry_view c.args.entries.now) c.requires.rest late c.args.node.now c.loop-place.node c.loop-place.invariant.given
 
 pub returns-clause-rest : goal.returns-clause-rest
 returns-clause-rest g c =
     let late : All (λ e. is_before c.args.period (c.args.slot + 1) e ≡ false) (drop c.loop-place.place (map entry_view c.args.entries.now)) =
-        subst (All (λ e. is_before c.args.period (c.args.slot + 1) e ≡ false)) (sym (nothing_left c.args.entries.now c.loop-place.place c.loop-place-test.false)) (All-nil (λ e. is_before c.args.period (c.args.slot + 1) e ≡ false)) in
+    subst (All (λ e. is_before c.args.period (c.args.slot + 1) e ≡ false)) (sym (nothing_left c.args.entries.now c.loop-place.place c.loop-place-test.false)) (All-nil (λ e. is_before c.args.period (c.args.slot + 1) e ≡ false)) in
     nothing_left c.args.entries.now (length c.args.entries.now) (omega arith) ∙ sym (nothing_left c.args.entries.now c.loop-place.place c.loop-place-test.false)
     ∙ rest_all c.args.period c.args.slot c.args.next c.loop-place.place (map entry_view c.args.entries.now) c.requires.rest late c.loop-place.invariant.rest

@@ -1,4 +1,4 @@
-use Rattle.std.proofs.Common.{ℕ, ◌≡◌, ◌<◌, ◌+◌, suc, inl, inr, lit<, sym, ap, subst, ◌∙◌, arith, map, List}
+use Rattle.std.proofs.Common.{ℕ, ◌≡◌, ◌+◌, suc, inl, inr, lit<, sym, ap, subst, ◌∙◌, arith, map, List}
 use Rattle.error_detect.specs.Multiset.{Arriving}
 use Rattle.node_core.specs.Parts.{NodeView}
 use Rattle.node_core.specs.Steps.{after_slot}
@@ -19,7 +19,7 @@ pub slot_end-requires : goal.slot_end-requires
 slot_end-requires g c = (
   elim c.requires.capacity [ inl e ↦ rw e (lit< tt) | inr e ↦ rw e (lit< tt) ],
   ap (λ (v : NodeView g.row.N). v.phase.is_open) (c.deliver_slot-next.ensures.given ∙ ap (λ (v : NodeView g.row.N). handed v (arrivals (map entry_view c.args.entries.now) c.args.period c.loop-slot.slot)) c.loop-slot.invariant.node)
-  ∙ (c.requires.ready c.loop-slot.slot c.loop-slot-test.true).is_open,
+      ∙ (c.requires.ready c.loop-slot.slot c.loop-slot-test.true).is_open,
 )
 
 pub loop-slot-preserved : goal.loop-slot-preserved

@@ -1,5 +1,5 @@
-use Rattle.std.proofs.Common.{◌≡◌, sym, ap, ◌∙◌, Some, None, refl, map}
-use Rattle.std.specs.Prelude.{option_map, if◌then◌else◌}
+use Rattle.std.proofs.Common.{sym, ap, ◌∙◌, map}
+use Rattle.std.specs.Prelude.{option_map}
 use Rattle.node_alone.specs.Rules.{is_entry, entry_of, first_bad_entry}
 use Rattle.node_alone.specs.Seen.{part_view, limits_view, entry_view}
 use Rattle.node_alone.proofs.Judged.{part_at, is_there, some_entry, next_found, next_left, back_here}

@@ -1,6 +1,5 @@
-use Rattle.std.proofs.Common.{◌≡◌, true, sym, ◌∙◌, arith, rules, w8, w32, w64, Fits, to_z-of_z}
+use Rattle.std.proofs.Common.{sym, ◌∙◌, arith, rules, w8, w32, w64, Fits, to_z-of_z}
 use Rattle.std.specs.Prelude.{FitsSigned}
-use Rattle.node_alone.specs.Rules.{is_placed}
 use Rattle.node_alone.specs.Seen.{part_view, limits_view}
 use Rattle.node_alone.proofs.Judged.{placed}
 use Rattle.node_alone.proofs.judging.entry.Goals as goal

@@ -1,4 +1,4 @@
-use Rattle.std.proofs.Common.{◌≡◌, sym, ◌∙◌}
+use Rattle.std.proofs.Common.{sym, ◌∙◌}
 use Rattle.node_alone.proofs.Fives.{not_five, five}
 use Rattle.node_alone.proofs.reading.entry_in.Goals as goal
 

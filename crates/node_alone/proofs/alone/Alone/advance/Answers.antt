@@ -1,6 +1,5 @@
-use Rattle.std.proofs.Common.{ℕ, ◌≡◌, ◌<◌, ◌+◌, sym, ap, subst, ◌∙◌, refl, arith, inl, inr, lit<}
+use Rattle.std.proofs.Common.{ℕ, ◌≡◌, ap, ◌∙◌, arith, inl, inr, lit<}
 use Rattle.node_core.specs.Stages.{outcome_of}
-use Rattle.node_alone.specs.Log.{RecordView}
 use Rattle.node_alone.specs.View.{view_alone}
 use Rattle.node_alone.specs.Stepping.{AloneView}
 use Rattle.node_alone.proofs.alone.Alone.advance.Goals as goal
@@ -8,8 +7,7 @@ use Rattle.node_alone.proofs.alone.Alone.advance.Goals as goal
 pub step-self-inside-requires : goal.step-self-inside-requires
 step-self-inside-requires g c =
     let run : c.self.inside.run ≡ c.args.self.now.run = ap (λ (v : AloneView g.row.N). v.run) c.self.view_is in
-    let periods : c.self.inside.input.now.scenario.periods ≡ c.args.self.now.input.scenario.periods = ap (λ (v : AloneView g.row.N). v.input.scenario.periods) c.self.view_is in
-    (
+    let periods : c.self.inside.input.now.scenario.periods ≡ c.args.self.now.input.scenario.periods = ap (λ (v : AloneView g.row.N). v.input.scenario.periods) c.self.view_is in (
       elim c.requires.capacity [ inl e ↦ rw e (lit< tt) | inr e ↦ rw e (lit< tt) ],
       (
         elim c.requires.capacity [ inl e ↦ rw e (lit< tt) | inr e ↦ rw e (lit< tt) ],

@@ -1,4 +1,4 @@
-use Rattle.std.proofs.Common.{◌≡◌, ◌<◌, sym, ap, subst, ◌∙◌, refl, arith, inl, inr, lit<}
+use Rattle.std.proofs.Common.{◌≡◌, sym, ap, subst, arith, inl, inr, lit<}
 use Rattle.agreed_state.specs.declared.config.Config.{Config}
 use Rattle.agreed_state.specs.Config.{IsConfig}
 use Rattle.node_core.specs.Fresh.{IsFresh}
@@ -9,8 +9,7 @@ use Rattle.node_alone.proofs.alone.Alone.open.Goals as goal
 pub open-requires : goal.open-requires
 open-requires g c =
     let is = c.config.ensures.config in
-    let nodes : c.config.result.now.nodes ≡ c.args.input.now.scenario.config.nodes = ap (λ (y : Config g.row.N). y.nodes) is in
-    (
+    let nodes : c.config.result.now.nodes ≡ c.args.input.now.scenario.config.nodes = ap (λ (y : Config g.row.N). y.nodes) is in (
       elim c.requires [ inl e ↦ rw e (lit< tt) | inr e ↦ rw e (lit< tt) ],
       (
         elim c.requires [ inl e ↦ rw e (lit< tt) | inr e ↦ rw e (lit< tt) ],

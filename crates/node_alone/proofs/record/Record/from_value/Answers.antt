@@ -1,11 +1,11 @@
-use Rattle.std.proofs.Common.{ℕ, ◌≡◌, ◌<◌, ◌≤◌, Some, None, sym, ap, subst, ◌∙◌, refl, inl, inr, lit<, arith, map}
+use Rattle.std.proofs.Common.{◌≡◌, sym, ap, subst, ◌∙◌, inl, inr, lit<, arith, map}
 use Rattle.std.specs.Prelude.{option_map}
 use Rattle.serde_json.specs.View.{view}
 use Rattle.scenario.specs.Rules.{at_place}
 use Rattle.scenario.specs.Verdict.{Tells}
 use Rattle.node_alone.specs.Rules.{Limits, entry_of, first_bad_entry}
 use Rattle.node_alone.specs.Seen.{part_view, limits_view, parts_view, entry_view}
-use Rattle.node_alone.proofs.Accepted.{no_parts, own_refused, no_node, entry_refused, accepted, is_record}
+use Rattle.node_alone.proofs.Accepted.{no_parts, no_node, entry_refused, accepted, is_record}
 use Rattle.node_alone.proofs.record.Record.from_value.Goals as goal
 
 pub returns-in_default-found-clause-refused : goal.returns-in_default-found-clause-refused
