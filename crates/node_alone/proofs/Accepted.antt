@@ -1,0 +1,77 @@
+-- Which rule refuses a record, by its parts and its scenario.
+use Rattle.std.proofs.Common.{ℕ, ◌≡◌, ◌<◌, ◌≤◌, ◌+◌, ◌*◌, List, map, sym, ap, ap₂, subst, ◌∙◌, Option, None, Some}
+use Rattle.std.specs.Prelude.{All}
+use Rattle.std.specs.Option.{option_or}
+use Rattle.std.proofs.lemmas.Bool.{lt-ltb, le-ltb}
+use Rattle.serde_json.specs.Data.{Data}
+use Rattle.scenario.specs.Parts.{ScenarioParts}
+use Rattle.scenario.specs.Keys.{parts_of}
+use Rattle.scenario.specs.Rules.{unless, at_place}
+use Rattle.scenario.specs.Scenario.{ScenarioView, IsScenario}
+use Rattle.scenario.specs.Given.{scenario_of}
+use Rattle.scenario.specs.Verdict.{Tells, IsAcceptedValue, value_refusal}
+use Rattle.scenario.specs.Verdict as scenario
+use Rattle.scenario.specs.declared.error.ScenarioError.{ScenarioError}
+use Rattle.scenario.specs.declared.error.ScenarioError.TheVariants.{Unreadable, Refused, NoMemory}
+use Rattle.node_alone.specs.Log.{Entry}
+use Rattle.node_alone.specs.Parts.{RecordParts, record_parts}
+use Rattle.node_alone.specs.Rules.{Limits, limits_of, entry_of, first_bad_entry, log_refusal, parts_refusal, refusal_on, record_refusal, IsAcceptedRecord}
+use Rattle.node_alone.specs.Seen.{IsPlaced, Ascends, IsRecord}
+use Rattle.node_alone.proofs.Judged.{all_placed, all_ascend}
+
+module _ (N id : ℕ) (d : Data) where
+  -- rule 15
+  pub no_parts : record_parts d ≡ None → record_refusal N id d ≡ Some (15, 0)
+  no_parts h = ap (refusal_on N id) h
+
+  module _ (parts : RecordParts) (reads : Some parts ≡ record_parts d) where
+    -- the scenario's own rules
+    own_rules : (o : Option ScenarioParts) (rule place : ℕ) → scenario.refusal_on N o ≡ Some (rule, place) → parts_refusal N id parts.frames o ≡ Some (rule, place)
+    own_rules None rule place h = h
+    own_rules (Some sc) rule place h = ap (λ r. option_or r (log_refusal (scenario_of N sc) id parts.frames)) h
+
+    pub own_refused : (e : ScenarioError) → Tells (value_refusal N parts.scenario) e → Tells (record_refusal N id d) e
+    own_refused Unreadable h = h
+    own_refused (Refused rule place) h = ap (refusal_on N id) (sym reads) ∙ own_rules (parts_of parts.scenario) rule place h
+    own_refused NoMemory h = h
+
+    module _ (s : ScenarioView N) (a : IsAcceptedValue parts.scenario s) where
+      -- of an accepted scenario the later rules are left
+      later_rules : record_refusal N id d ≡ log_refusal s id parts.frames
+      later_rules =
+          ap (refusal_on N id) (sym reads) ∙ ap (parts_refusal N id parts.frames) a.reads ∙ ap (λ o. option_or o (log_refusal (scenario_of N a.parts) id parts.frames)) a.unrefused
+          ∙ ap (λ (v : ScenarioView N). log_refusal v id parts.frames) (sym a.says)
+
+      -- rule 16
+      pub no_node : s.config.nodes ≤ id → record_refusal N id d ≡ Some (16, 0)
+      no_node h = later_rules ∙ ap (λ b. option_or (unless b 16 0) (at_place 17 (first_bad_entry (limits_of s id) 0 0 0 parts.frames))) (le-ltb id s.config.nodes h)
+
+      module _ (low : id < s.config.nodes) where
+        -- rule 17
+        entry_rules : record_refusal N id d ≡ at_place 17 (first_bad_entry (limits_of s id) 0 0 0 parts.frames)
+        entry_rules = later_rules ∙ ap (λ b. option_or (unless b 16 0) (at_place 17 (first_bad_entry (limits_of s id) 0 0 0 parts.frames))) (lt-ltb id s.config.nodes low)
+
+        pub entry_refused : (l : Limits) (e : ScenarioError) → l ≡ limits_of s id → Tells (at_place 17 (first_bad_entry l 0 0 0 parts.frames)) e → Tells (record_refusal N id d) e
+        entry_refused l e same h = subst (λ r. Tells r e) (sym entry_rules) (subst (λ (x : Limits). Tells (at_place 17 (first_bad_entry x 0 0 0 parts.frames)) e) same h)
+
+        module _ (l : Limits) (same : l ≡ limits_of s id) (good : first_bad_entry l 0 0 0 parts.frames ≡ None) (es : List Entry) (are : es ≡ map entry_of parts.frames) where
+          good_here : first_bad_entry (limits_of s id) 0 0 0 parts.frames ≡ None
+          good_here = ap (λ (x : Limits). first_bad_entry x 0 0 0 parts.frames) (sym same) ∙ good
+
+          pub accepted : IsAcceptedRecord {capacity = N} id d (record { scenario = s; id = id; entries = es })
+          accepted = record {
+            parts = parts;
+            scenario = a.parts;
+            reads = sym reads;
+            reads_scenario = a.reads;
+            unrefused = entry_rules ∙ ap (at_place 17) good_here;
+            says = ap₂ (λ (v : ScenarioView N) (xs : List Entry). record { scenario = v; id = id; entries = xs }) a.says are;
+          }
+
+          pub is_record : IsScenario s → IsRecord {N = N} (record { scenario = s; id = id; entries = es })
+          is_record is = record {
+            scenario = is;
+            id = low;
+            placed = subst (All (IsPlaced s.config.nodes (2 * s.config.m + 4) s.periods id)) (sym are) (all_placed (limits_of s id) 0 0 0 parts.frames good_here);
+            ascends = subst Ascends (sym are) (all_ascend (limits_of s id) 0 0 0 parts.frames good_here);
+          }

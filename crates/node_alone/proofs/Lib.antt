@@ -1,0 +1,10 @@
+mod Ordering
+mod Judged
+mod Collect
+mod Told
+mod Law
+mod Stepped
+mod Left
+mod Accepted
+mod Keys
+mod Fives

@@ -1,0 +1,33 @@
+use Rattle.std.proofs.Common.{ℕ, ◌≡◌, inl, inr, lit<, sym, ap, ap₂, subst, ◌∙◌, arith}
+use Rattle.std.specs.Prelude.{All}
+use Rattle.frames.specs.Content.{IsValue}
+use Rattle.fault_classes.specs.Plan.{restarts_at}
+use Rattle.agreed_state.specs.declared.config.Inputs.{Inputs}
+use Rattle.node_core.specs.Parts.{NodeView}
+use Rattle.scenario.specs.Scenario.{ScenarioView, inputs_of}
+use Rattle.node_alone.specs.Log.{RecordView}
+use Rattle.node_alone.proofs.Stepped.{woken_shut}
+use Rattle.node_alone.proofs.alone.begin.Goals as goal
+
+pub scenario-requires : goal.scenario-requires
+scenario-requires g c = (elim c.requires.capacity [ inl e ↦ rw e (lit< tt) | inr e ↦ rw e (lit< tt) ], elim c.requires.capacity [ inl e ↦ rw e (lit< tt) | inr e ↦ rw e (lit< tt) ])
+
+pub inputs-requires : goal.inputs-requires
+inputs-requires g c =
+    let is = c.scenario.ensures.scenario in
+    let nodes : c.scenario.result.now.config.nodes ≡ c.args.input.now.scenario.config.nodes = ap (λ (s : ScenarioView g.row.N). s.config.nodes) is in
+    let periods : c.scenario.result.now.periods ≡ c.args.input.now.scenario.periods = ap (λ (s : ScenarioView g.row.N). s.periods) is in
+    let id = c.id.ensures.id in
+    let low = c.id.ensures.log.id in
+    (elim c.requires.capacity [ inl e ↦ rw e (lit< tt) | inr e ↦ rw e (lit< tt) ], (omega (arith, nodes, id, low), omega (arith, periods, c.requires.period)))
+
+pub begin-requires : goal.begin-requires
+begin-requires g c =
+    let log : RecordView g.row.N = c.args.input.now in
+    let given : c.inputs.result ≡ inputs_of log.scenario log.id c.args.period = c.inputs.ensures ∙ ap₂ (λ (s : ScenarioView g.row.N) (i : ℕ). inputs_of s i c.args.period) c.scenario.ensures.scenario c.id.ensures.id in (
+      elim c.requires.capacity [ inl e ↦ rw e (lit< tt) | inr e ↦ rw e (lit< tt) ],
+      (
+        ap (λ (y : NodeView g.row.N). y.phase.is_open) c.wake.ensures ∙ woken_shut (restarts_at log.scenario.plan log.id c.args.period) c.args.node.now ∙ c.requires.closed,
+        subst (λ (x : Inputs). All IsValue x.reading) (sym given) (c.id.ensures.log.scenario.system.inputs log.id c.args.period c.id.ensures.log.id).readings,
+      ),
+    )

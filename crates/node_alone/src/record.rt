@@ -1,0 +1,152 @@
+//! A node's log, and how it is read.
+
+ghost use Rattle.std.specs.Prelude.{◌≡◌, ◌<◌, ◌+◌, ◌*◌, ℕ, Some, IfOk, IfErr, IsErrOf, map};
+ghost use Rattle.node_grid.specs.Capacity.{IsCapacity};
+ghost use Rattle.serde_json.specs.Data.{Data};
+ghost use Rattle.serde_json.specs.View.{view};
+ghost use Rattle.scenario.specs.Reading.{Reads};
+ghost use Rattle.scenario.specs.Verdict.{Tells};
+ghost use Rattle.node_alone.specs.Rules.{limits_of, record_refusal, IsAcceptedRecord};
+ghost use Rattle.node_alone.specs.Seen.{limits_view, entry_view, IsRecord};
+
+use crate::entry::Entry;
+use crate::judging::{Limits, entries};
+use crate::reading::parts;
+use agreed_state::Config;
+use scenario::{Scenario, ScenarioError};
+use serde_json::{Category, Value};
+use std::alloc::Global;
+use std::marker::Model;
+
+/// The log of one node: a scenario, and what the node was delivered in each slot, from the first period on.
+#[derive(Drop)]
+pub struct Record<const N: usize> {
+    scenario: Scenario<N>,
+    id: u8,
+    entries: Vec<Entry>,
+}
+
+impl<const N: usize> Model for Record<N> {
+    ghost use Rattle.std.specs.Prelude.{map};
+    ghost use Rattle.node_alone.specs.Log.{RecordView};
+    ghost use Rattle.node_alone.specs.Seen.{entry_view, IsRecord};
+
+    ghost Value = { RecordView N };
+
+    ghost view = { λ r. record { scenario = r.scenario; id = r.id; entries = map entry_view r.entries.items } };
+
+    ghost invariant = { λ r. IsRecord {N = N} (record { scenario = r.scenario; id = r.id; entries = map entry_view r.entries.items }) };
+}
+
+/// The limits of an entry of node `id`'s log, under the scenario.
+fn limits_of<const N: usize>(scenario: &Scenario<N>, id: u8) -> Limits
+    requires { IsCapacity N }
+    ensures { limits_view result ≡ limits_of scenario.now id }
+{
+    let config = scenario.config();
+    Limits {
+        nodes: config.nodes,
+        slots: 2 * config.m + 4,
+        periods: scenario.periods(),
+        id,
+    }
+}
+
+impl<const N: usize> Record<N> {
+    /// The log of node `id` that JSON text describes.
+    ///
+    /// # Errors
+    /// - `Unreadable` comes exactly where the bytes are no JSON text.
+    /// - `Refused` comes exactly where a rule fails, with the first that does and its first place.
+    /// - `NoMemory` may come at any time.
+    pub fn read(alloc: Global, bytes: &[u8], id: u8) -> Result<Record<N>, ScenarioError>
+        requires { IsCapacity N }
+        ensures accepted { IfOk result (λ r. (d : Data) × Reads bytes.now d × IsAcceptedRecord id d r) }
+        ensures unreadable { IsErrOf result ScenarioError.Unreadable →
+            (d : Data) → Reads bytes.now d → ⊥ }
+        ensures refused { (rule place : ℕ) → IsErrOf result (ScenarioError.Refused rule place) →
+            (d : Data) × Reads bytes.now d × (record_refusal N id d ≡ Some (rule, place)) }
+    {
+        let value = match Value::from_slice(alloc, bytes) {
+            Ok(value) => value,
+            Err(error) if error.classify() == Category::Memory => {
+                return Err(ScenarioError::NoMemory);
+            }
+            Err(_) => return Err(ScenarioError::Unreadable),
+        };
+        Record::from_value(alloc, &value, id)
+    }
+
+    /// The log of node `id` that a JSON value describes.
+    ///
+    /// # Errors
+    /// - `Refused` comes exactly where a rule fails, with the first that does and its first place.
+    /// - `NoMemory` may come at any time.
+    fn from_value(alloc: Global, value: &Value, id: u8) -> Result<Record<N>, ScenarioError>
+        requires { IsCapacity N }
+        ensures accepted { IfOk result (λ r. IsAcceptedRecord id (view value.now) r) }
+        ensures refused { IfErr result (Tells (record_refusal N id (view value.now))) }
+    {
+        let Ok(found) = parts(alloc, value) else {
+            return Err(ScenarioError::NoMemory);
+        };
+        let Some(parts) = found else {
+            return Err(ScenarioError::Refused { rule: 15, place: 0 });
+        };
+        let scenario = match Scenario::from_value(alloc, parts.scenario) {
+            Ok(scenario) => scenario,
+            Err(error) => return Err(error),
+        };
+        let limits = limits_of(&scenario, id);
+        if id >= limits.nodes {
+            return Err(ScenarioError::Refused { rule: 16, place: 0 });
+        }
+        let entries = match entries(alloc, parts.frames.as_slice(), &limits) {
+            Ok(entries) => entries,
+            Err(error) => return Err(error),
+        };
+        Ok(Record {
+            scenario,
+            id,
+            entries,
+        })
+    }
+
+    /// What all nodes know of the cluster.
+    pub fn config(&self) -> &Config<N>
+        ensures config { result.now ≡ self.now.scenario.config }
+        ensures log { IsRecord self.now }
+    {
+        self.scenario.config()
+    }
+
+    /// The number of periods, 1 to 1024.
+    pub fn periods(&self) -> u32
+        ensures periods { result ≡ self.now.scenario.periods }
+        ensures log { IsRecord self.now }
+    {
+        self.scenario.periods()
+    }
+
+    /// The number of the node.
+    pub fn id(&self) -> u8
+        ensures id { result ≡ self.now.id }
+        ensures log { IsRecord self.now }
+    {
+        self.id
+    }
+
+    pub(crate) fn scenario(&self) -> &Scenario<N>
+        ensures scenario { result.now ≡ self.now.scenario }
+        ensures log { IsRecord self.now }
+    {
+        &self.scenario
+    }
+
+    pub(crate) fn entries(&self) -> &[Entry]
+        ensures entries { map entry_view result.now ≡ self.now.entries }
+        ensures log { IsRecord self.now }
+    {
+        self.entries.as_slice()
+    }
+}
