@@ -58,7 +58,8 @@ fn write_run<const N: usize, K: Sink>(
 ) -> Result<(), WriteFault>
     requires capacity { IsCapacity N }
     requires fresh { cluster.old ≡ record { scenario = scenario.now; run = 0 } }
-    ensures { Writes (K.written sink.old) (K.written sink.new) (K.faults sink.old) (K.faults sink.new) (run_text form scenario.now) result }
+    ensures wrote { Writes (K.written sink.old) (K.written sink.new) (K.faults sink.old) (K.faults sink.new) (run_text form scenario.now) result }
+    ensures accepted { IsScenario scenario.now }
 {
     let periods = scenario.periods();
     'periods: for _ in 0..periods {

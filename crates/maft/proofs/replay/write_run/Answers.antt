@@ -11,10 +11,10 @@ periods-init g c = record {
   so_far = rw (rest-first c.args.form c.args.scenario.now) (start _ _ _);
 }
 
-pub returns-in_err-write_next : goal.returns-in_err-write_next
-returns-in_err-write_next g c =
+pub returns-in_err-write_next-clause-wrote : goal.returns-in_err-write_next-clause-wrote
+returns-in_err-write_next-clause-wrote g c =
     let sc = c.args.scenario.now in
-    let below : c.periods.counter < sc.periods = omega (arith, c.periods-periods.ensures.is, c.periods-test.true) in
+    let below : c.periods.counter < sc.periods = omega (arith, c.periods-periods.ensures.periods, c.periods-test.true) in
     fail _ _ _ _ _ _ _ _ (rest_text c.args.form sc (c.periods.counter + 1)) _ _ c.from_residual.ensures.0
     (rw (rest-next c.args.form sc c.periods.counter below) at c.periods.invariant.so_far)
     (rw c.periods.invariant.run at c.in_err-write_next.ensures.wrote)
@@ -22,7 +22,7 @@ returns-in_err-write_next g c =
 pub periods-preserved : goal.periods-preserved
 periods-preserved g c =
     let sc = c.args.scenario.now in
-    let below : c.periods.counter < sc.periods = omega (arith, c.periods-periods.ensures.is, c.periods-test.true) in
+    let below : c.periods.counter < sc.periods = omega (arith, c.periods-periods.ensures.periods, c.periods-test.true) in
     let ran = c.in_ok-write_next.ensures.ran in
     record {
       run = ap (λ (s : ClusterView g.row.N). s.run) ran ∙ ap (λ k. k + 1) c.periods.invariant.run;
@@ -31,8 +31,8 @@ periods-preserved g c =
           (rw c.periods.invariant.run at c.in_ok-write_next.ensures.wrote);
     }
 
-pub returns : goal.returns
-returns g c =
+pub returns-clause-wrote : goal.returns-clause-wrote
+returns-clause-wrote g c =
     let sc = c.args.scenario.now in
-    let ends : c.periods.counter ≡ sc.periods = omega (arith, c.periods-periods.ensures.is, c.periods-test.false, c.periods.auto.counter-end) in
-    last _ _ _ _ _ _ _ _ _ (rw (rest-last c.args.form sc c.periods.counter ends) at c.periods.invariant.so_far) (rw c.periods-periods.ensures.is at c.write_end.ensures)
+    let ends : c.periods.counter ≡ sc.periods = omega (arith, c.periods-periods.ensures.periods, c.periods-test.false, c.periods.auto.counter-end) in
+    last _ _ _ _ _ _ _ _ _ (rw (rest-last c.args.form sc c.periods.counter ends) at c.periods.invariant.so_far) (rw c.periods-periods.ensures.periods at c.write_end.ensures)

@@ -1,0 +1,17 @@
+use Rattle.std.proofs.Common.{inl, inr, lit<}
+use Rattle.maft.proofs.Printed.{is_ok}
+use Rattle.maft.proofs.replay.write_form.Goals as goal
+
+pub drop-cluster-inside-requires-room-T-Destruct : goal.drop-cluster-inside-requires-room-T-Destruct
+drop-cluster-inside-requires-room-T-Destruct g c κs = elim c.requires [ inl e ↦ rw e (lit< tt) | inr e ↦ rw e (lit< tt) ]
+
+pub drop-cluster-inside-requires-2-room-T-Destruct : goal.drop-cluster-inside-requires-2-room-T-Destruct
+drop-cluster-inside-requires-2-room-T-Destruct g c κs = elim c.requires [ inl e ↦ rw e (lit< tt) | inr e ↦ rw e (lit< tt) ]
+
+pub returns : goal.returns
+returns g c = record {
+  written = c.in-Ok-write_run.ensures.wrote.whole;
+  safe = c.safe_runs.ensures g.row.N c.args.scenario.now c.in-Ok-write_run.ensures.accepted;
+  write_fault = λ e. absurd (is_ok _ _ e);
+  no_memory = λ e. absurd (is_ok _ _ e);
+}
