@@ -63,5 +63,8 @@ fn main(rt: HostRuntime) -> io::Result<()> {
     verdict(&rt, bytes.as_slice())?;
     let json = time_of_json(&rt, bytes.as_slice())?;
     let whole = time_of_scenario(&rt, bytes.as_slice())?;
-    println!(rt; "{} bytes: JSON alone {json} us, read and judged {whole} us", bytes.len())
+    println!(rt;
+        "{} bytes: JSON alone {json} us, read and judged {whole} us",
+        bytes.len()
+    )
 }
