@@ -4,84 +4,99 @@ use Rattle.std.specs.Prelude.{IfSome}
 use Rattle.span_io.specs.Causes.{Rose}
 use Rattle.serde_json.specs.Data.{Data}
 use Rattle.scenario.specs.Reading.{Reads}
-use Rattle.scenario.specs.Scenario.{ScenarioView}
 use Rattle.scenario.specs.Verdict.{value_refusal, refusal_on}
+use Rattle.node_alone.specs.Rules.{record_refusal}
 use Rattle.maft.specs.declared.status.Status.{Status}
 use Rattle.maft.specs.declared.status.Status.TheVariants.{Done, Usage, Unreadable, Refused, ReadFault, WriteFault, NoMemory, TooLong}
-use Rattle.maft.specs.declared.form.Form.{Form}
-use Rattle.maft.specs.Answers.{limit, capacity, IsAccepted, IsRefused, IsUnreadable, Decides, Answers}
+use Rattle.maft.specs.declared.form.Reading.{Reading}
+use Rattle.maft.specs.declared.form.Reading.TheVariants.{Scenario, Log}
+use Rattle.maft.specs.Answers.{limit, capacity, IsRefused, IsUnreadable, HasTextOf, Decides, Answers}
 
 -- bytes are text of one value alone
 same_value : (bytes : List ℕ) (d e : Data) → Reads bytes d → Reads bytes e → d ≡ e
 same_value bytes d e h k = let s : ◌≡◌ {A = Option Data} (Some d) (Some e) = sym h.1 ∙ k.1 in cc
 
-not_both : (bytes : List ℕ) (sc : ScenarioView capacity) (rule place : ℕ) → IsAccepted bytes sc → IsRefused bytes rule place → ⊥
-not_both bytes sc rule place a r =
+nothing : (rule place : ℕ) → ◌≡◌ {A = Option (ℕ × ℕ)} None (Some (rule, place)) → ⊥
+nothing rule place e = cc
+
+-- bytes with a text are JSON text
+readable : (reading : Reading) (bytes text : List ℕ) → HasTextOf reading bytes text → IsUnreadable bytes → ⊥
+readable (Scenario form) bytes text h u = u h.1.value h.1.reads
+readable (Log id) bytes text h u = u h.1.value h.1.reads
+
+-- and no rule refuses them
+not_both : (reading : Reading) (bytes text : List ℕ) (rule place : ℕ) → HasTextOf reading bytes text → IsRefused reading bytes rule place → ⊥
+not_both (Scenario form) bytes text rule place h r =
+    let a = h.1 in
     let same : a.value ≡ r.value = same_value bytes a.value r.value a.reads r.reads in
     let unrefused : value_refusal capacity a.value ≡ None = ap (refusal_on capacity) a.accepted.reads ∙ a.accepted.unrefused in
-    let s : ◌≡◌ {A = Option (ℕ × ℕ)} None (Some (rule, place)) = sym unrefused ∙ ap (value_refusal capacity) same ∙ r.refused in cc
+    nothing rule place (sym unrefused ∙ ap (value_refusal capacity) same ∙ r.refused)
+not_both (Log id) bytes text rule place h r =
+    let a = h.1 in
+    let same : a.value ≡ r.value = same_value bytes a.value r.value a.reads r.reads in
+    nothing rule place (sym a.accepted.unrefused ∙ ap (record_refusal capacity id) same ∙ r.refused)
 
-pub no_memory : (bytes : List ℕ) (before now : ℕ) → Decides bytes before now NoMemory
-no_memory bytes before now = record {
+pub no_memory : (reading : Reading) (bytes : List ℕ) (before now : ℕ) → Decides reading bytes before now NoMemory
+no_memory reading bytes before now = record {
   too_long = λ h. inr refl;
   unreadable = λ h u. inr refl;
   refused = λ h rule place r. inr refl;
-  accepted = λ h sc a n. inr refl;
+  accepted = λ h text a n. inr refl;
 }
 
-pub too_long : (bytes : List ℕ) (before now : ℕ) → limit < length bytes → Decides bytes before now TooLong
-too_long bytes before now long = record {
+pub too_long : (reading : Reading) (bytes : List ℕ) (before now : ℕ) → limit < length bytes → Decides reading bytes before now TooLong
+too_long reading bytes before now long = record {
   too_long = λ h. inl refl;
   unreadable = λ h u. absurd (omega arith);
   refused = λ h rule place r. absurd (omega arith);
-  accepted = λ h sc a n. absurd (omega arith);
+  accepted = λ h text a n. absurd (omega arith);
 }
 
-done : (bytes : List ℕ) (before now : ℕ) (sc : ScenarioView capacity) → length bytes ≤ limit → IsAccepted bytes sc → Decides bytes before now Done
-done bytes before now sc short a = record {
+done : (reading : Reading) (bytes : List ℕ) (before now : ℕ) (text : List ℕ) → length bytes ≤ limit → HasTextOf reading bytes text → Decides reading bytes before now Done
+done reading bytes before now text short a = record {
   too_long = λ h. absurd (omega arith);
-  unreadable = λ h u. absurd (u a.value a.reads);
-  refused = λ h rule place r. absurd (not_both bytes sc rule place a r);
-  accepted = λ h sc a n. inl refl;
+  unreadable = λ h u. absurd (readable reading bytes text a u);
+  refused = λ h rule place r. absurd (not_both reading bytes text rule place a r);
+  accepted = λ h text a n. inl refl;
 }
 
-write_fault : (bytes : List ℕ) (before now : ℕ) (sc : ScenarioView capacity) → length bytes ≤ limit → IsAccepted bytes sc → Rose before now → Decides bytes before now WriteFault
-write_fault bytes before now sc short a rose = record {
+write_fault : (reading : Reading) (bytes : List ℕ) (before now : ℕ) (text : List ℕ) → length bytes ≤ limit → HasTextOf reading bytes text → Rose before now → Decides reading bytes before now WriteFault
+write_fault reading bytes before now text short a rose = record {
   too_long = λ h. absurd (omega arith);
-  unreadable = λ h u. absurd (u a.value a.reads);
-  refused = λ h rule place r. absurd (not_both bytes sc rule place a r);
-  accepted = λ h sc a n. absurd (n rose);
+  unreadable = λ h u. absurd (readable reading bytes text a u);
+  refused = λ h rule place r. absurd (not_both reading bytes text rule place a r);
+  accepted = λ h text a n. absurd (n rose);
 }
 
-refused : (bytes : List ℕ) (before now rule place : ℕ) → length bytes ≤ limit → IsRefused bytes rule place → Decides bytes before now Refused
-refused bytes before now rule place short r = record {
+refused : (reading : Reading) (bytes : List ℕ) (before now rule place : ℕ) → length bytes ≤ limit → IsRefused reading bytes rule place → Decides reading bytes before now Refused
+refused reading bytes before now rule place short r = record {
   too_long = λ h. absurd (omega arith);
   unreadable = λ h u. absurd (u r.value r.reads);
   refused = λ h rule place r. inl refl;
-  accepted = λ h sc a n. absurd (not_both bytes sc rule place a r);
+  accepted = λ h text a n. absurd (not_both reading bytes text rule place a r);
 }
 
-unreadable : (bytes : List ℕ) (before now : ℕ) → length bytes ≤ limit → IsUnreadable bytes → Decides bytes before now Unreadable
-unreadable bytes before now short u = record {
+unreadable : (reading : Reading) (bytes : List ℕ) (before now : ℕ) → length bytes ≤ limit → IsUnreadable bytes → Decides reading bytes before now Unreadable
+unreadable reading bytes before now short u = record {
   too_long = λ h. absurd (omega arith);
   unreadable = λ h u. inl refl;
   refused = λ h rule place r. absurd (u r.value r.reads);
-  accepted = λ h sc a n. absurd (u a.value a.reads);
+  accepted = λ h text a n. absurd (readable reading bytes text a u);
 }
 
 -- the answer to the bytes of an input that is not too long
-pub answered : (form : Form) (bytes : List ℕ) (old new : Option (List ℕ)) (before now : ℕ) (status : Status) → length bytes ≤ limit → Answers form bytes old new before now status → Decides bytes before now status
-answered form bytes old new before now Done short a = done bytes before now a.0 short a.1
-answered form bytes old new before now WriteFault short a = write_fault bytes before now a.0 short a.1 a.3
-answered form bytes old new before now Unreadable short a = unreadable bytes before now short a.0
-answered form bytes old new before now Refused short a = refused bytes before now a.0 a.1 short a.2
-answered form bytes old new before now NoMemory short a = no_memory bytes before now
-answered form bytes old new before now Usage short a = absurd a
-answered form bytes old new before now ReadFault short a = absurd a
-answered form bytes old new before now TooLong short a = absurd a
+pub answered : (reading : Reading) (bytes : List ℕ) (old new : Option (List ℕ)) (before now : ℕ) (status : Status) → length bytes ≤ limit → Answers reading bytes old new before now status → Decides reading bytes before now status
+answered reading bytes old new before now Done short a = done reading bytes before now a.0 short a.1
+answered reading bytes old new before now WriteFault short a = write_fault reading bytes before now a.0 short a.1 a.3
+answered reading bytes old new before now Unreadable short a = unreadable reading bytes before now short a.0
+answered reading bytes old new before now Refused short a = refused reading bytes before now a.0 a.1 short a.2
+answered reading bytes old new before now NoMemory short a = no_memory reading bytes before now
+answered reading bytes old new before now Usage short a = absurd a
+answered reading bytes old new before now ReadFault short a = absurd a
+answered reading bytes old new before now TooLong short a = absurd a
 
 -- what holds of the bytes that were read holds of those that were left, where they are told
-pub of_known : (left : Option (List ℕ)) (bytes : List ℕ) (before now : ℕ) (status : Status) → IfSome left (λ xs. bytes ≡ xs) → Decides bytes before now status
-    → IfSome left (λ xs. Decides xs before now status)
-of_known None bytes before now status h d = tt
-of_known (Some xs) bytes before now status h d = subst (λ ys. Decides ys before now status) h d
+pub of_known : (reading : Reading) (left : Option (List ℕ)) (bytes : List ℕ) (before now : ℕ) (status : Status) → IfSome left (λ xs. bytes ≡ xs) → Decides reading bytes before now status
+    → IfSome left (λ xs. Decides reading xs before now status)
+of_known reading None bytes before now status h d = tt
+of_known reading (Some xs) bytes before now status h d = subst (λ ys. Decides reading ys before now status) h d

@@ -3,8 +3,18 @@ use Rattle.std.proofs.Common.{◌≡◌, ℕ, refl, Result, Ok, Err}
 use Rattle.fault_classes.specs.Plan.{Plan}
 use Rattle.scenario.specs.Scenario.{ScenarioView, system_of}
 use Rattle.cluster_step.specs.Record.{PeriodView, period_record}
+use Rattle.agreed_state.specs.declared.config.Config.{Config}
+use Rattle.node_core.specs.Outcome.{Outcome}
+use Rattle.node_core.specs.Stages.{outcome_of}
+use Rattle.run_print.specs.PeriodText.{alone_text}
+use Rattle.node_alone.specs.Log.{RecordView}
+use Rattle.node_alone.specs.Stepping.{AloneView}
+use Rattle.node_alone.specs.View.{view_alone}
 use Rattle.maft.specs.declared.form.Form.{Form}
+use Rattle.maft.specs.declared.replay.ReplayError.{ReplayError}
+use Rattle.maft.specs.declared.replay.ReplayError.TheVariants.{WriteFault, NoMemory}
 use Rattle.maft.specs.Run.{printed, shown_text}
+use Rattle.maft.specs.Alone.{log_printed}
 
 pub printed_is : {N : ℕ} (form f : Form) (sc run : ScenarioView N) (plan : Plan) (t : PeriodView) (p : ℕ)
     → form ≡ f → run ≡ sc → plan ≡ sc.plan → t ≡ period_record (system_of run) p → shown_text f plan t ≡ printed form sc p
@@ -14,3 +24,14 @@ printed_is form f sc run plan t p e same g h = rw (e, g, h, same) refl
 -- what is Ok is no error
 pub is_ok : {T E : Type 0} (x : T) (e : E) → ◌≡◌ {A = Result T E} (Ok x) (Err e) → ⊥
 is_ok x e h = cc
+
+-- and want of memory is no fault of the sink
+pub other_error : {T : Type 0} → ◌≡◌ {A = Result T ReplayError} (Err WriteFault) (Err NoMemory) → ⊥
+other_error {T = T} h = cc
+
+-- what is written of a period of a log
+pub log_printed_is : {N : ℕ} (log : RecordView N) (alone : AloneView N) (p : ℕ) (config : Config N) (id : ℕ) (shown : Outcome)
+    → alone ≡ record { input = log; run = p } → config ≡ log.scenario.config → id ≡ log.id → shown ≡ outcome_of (view_alone alone.input alone.run)
+    → alone_text p id config.nodes config.policy.retire shown ≡ log_printed log p
+unfolding log_printed
+log_printed_is log alone p config id shown same c i s = rw (s, c, i, same) refl

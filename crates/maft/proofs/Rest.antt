@@ -1,28 +1,25 @@
--- The text of a run that is still to come.
+-- The text of a run that is still to come: what is printed of the periods from one on, and the end.
 use Rattle.std.proofs.Common.{◌≡◌, ℕ, suc, ◌+◌, ◌-◌, ◌<◌, List, [], ◌∷◌, ◌++◌, arith, refl, ap₂, append_assoc}
 use Rattle.std.specs.List.{flat_map, range_with_len}
-use Rattle.scenario.specs.Scenario.{ScenarioView}
 use Rattle.run_print.specs.PeriodText.{end_text}
-use Rattle.maft.specs.declared.form.Form.{Form}
-use Rattle.maft.specs.Run.{printed}
 
--- the periods from i on, and the end
-unfoldable pub rest_text : {N : ℕ} → Form → ScenarioView N → ℕ → List ℕ
-rest_text form sc i = flat_map (printed form sc) (range_with_len i (sc.periods - i)) ++ end_text sc.periods
+-- of so many periods, those from i on, and the end
+unfoldable pub rest_text : (ℕ → List ℕ) → ℕ → ℕ → List ℕ
+rest_text f periods i = flat_map f (range_with_len i (periods - i)) ++ end_text periods
 
-pub rest-next : {N : ℕ} (form : Form) (sc : ScenarioView N) (i : ℕ) → i < sc.periods → rest_text form sc i ≡ printed form sc i ++ rest_text form sc (i + 1)
+pub rest-next : (f : ℕ → List ℕ) (periods i : ℕ) → i < periods → rest_text f periods i ≡ f i ++ rest_text f periods (i + 1)
 unfolding rest_text
-rest-next form sc i h =
-    let more : sc.periods - i ≡ suc (sc.periods - (i + 1)) = omega arith in
-    rw more (append_assoc (printed form sc i) (flat_map (printed form sc) (range_with_len (i + 1) (sc.periods - (i + 1)))) (end_text sc.periods))
+rest-next f periods i h =
+    let more : periods - i ≡ suc (periods - (i + 1)) = omega arith in
+    rw more (append_assoc (f i) (flat_map f (range_with_len (i + 1) (periods - (i + 1)))) (end_text periods))
 
-pub rest-first : {N : ℕ} (form : Form) (sc : ScenarioView N) → rest_text form sc 0 ≡ flat_map (printed form sc) (range_with_len 0 sc.periods) ++ end_text sc.periods
+pub rest-first : (f : ℕ → List ℕ) (periods : ℕ) → rest_text f periods 0 ≡ flat_map f (range_with_len 0 periods) ++ end_text periods
 unfolding rest_text
-rest-first form sc = let all : sc.periods - 0 ≡ sc.periods = omega arith in rw all refl
+rest-first f periods = let all : periods - 0 ≡ periods = omega arith in rw all refl
 
-pub rest-last : {N : ℕ} (form : Form) (sc : ScenarioView N) (i : ℕ) → i ≡ sc.periods → rest_text form sc i ≡ end_text sc.periods
+pub rest-last : (f : ℕ → List ℕ) (periods i : ℕ) → i ≡ periods → rest_text f periods i ≡ end_text periods
 unfolding rest_text
-rest-last form sc i h = let none : sc.periods - i ≡ 0 = omega arith in rw none refl
+rest-last f periods i h = let none : periods - i ≡ 0 = omega arith in rw none refl
 
 -- texts that are the same at each number are the same one after the other
 pub same_texts : (f g : ℕ → List ℕ) → ((p : ℕ) → f p ≡ g p) → (ps : List ℕ) → flat_map f ps ≡ flat_map g ps

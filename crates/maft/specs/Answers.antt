@@ -7,10 +7,19 @@ use Rattle.scenario.specs.Reading.{Reads}
 use Rattle.scenario.specs.Scenario.{ScenarioView}
 use Rattle.scenario.specs.Verdict.{IsAcceptedValue, value_refusal}
 use Rattle.run_print.specs.PeriodText.{refused_text}
-use Rattle.maft.specs.declared.form.Form.{Form}
+use Rattle.node_alone.specs.Log.{RecordView}
+use Rattle.node_alone.specs.Rules.{IsAcceptedRecord, record_refusal}
+use Rattle.storm.specs.Laws.{Weathers, storm_system}
+use Rattle.storm_sum.specs.Laws.{storm_summary, IsStormSummary}
+use Rattle.run_print.specs.StormText.{storm_text}
+use Rattle.maft.specs.declared.form.Reading.{Reading}
+use Rattle.maft.specs.declared.form.Reading.TheVariants.{Scenario, Log}
+use Rattle.maft.specs.declared.form.Command.{Command}
+use Rattle.maft.specs.declared.form.Command.TheVariants.{Read, Storm}
 use Rattle.maft.specs.declared.status.Status.{Status}
 use Rattle.maft.specs.declared.status.Status.TheVariants.{Done, Usage, Unreadable, Refused, ReadFault, WriteFault, NoMemory, TooLong}
 use Rattle.maft.specs.Run.{run_text, IsSafeRun}
+use Rattle.maft.specs.Alone.{log_text}
 
 -- how many bytes an input may have
 abbrev pub limit : ℕ
@@ -26,11 +35,32 @@ pub record IsAccepted (bytes : List ℕ) (sc : ScenarioView capacity) : Type 0 w
   pub reads : Reads bytes value
   pub accepted : IsAcceptedValue value sc
 
--- they are JSON text that a rule refuses at a place
-pub record IsRefused (bytes : List ℕ) (rule place : ℕ) : Type 0 where
+-- they are JSON text of the accepted log of a node
+pub record IsAcceptedLog (bytes : List ℕ) (id : ℕ) (log : RecordView capacity) : Type 0 where
   pub value : Data
   pub reads : Reads bytes value
-  pub refused : value_refusal capacity value ≡ Some (rule, place)
+  pub accepted : IsAcceptedRecord id value log
+
+-- what the rules say of a JSON value
+abbrev pub refusal_for : Reading → Data → Option (ℕ × ℕ)
+refusal_for (Scenario form) d = value_refusal capacity d
+refusal_for (Log id) d = record_refusal capacity id d
+
+-- they are JSON text that a rule refuses at a place
+pub record IsRefused (reading : Reading) (bytes : List ℕ) (rule place : ℕ) : Type 0 where
+  pub value : Data
+  pub reads : Reads bytes value
+  pub refused : refusal_for reading value ≡ Some (rule, place)
+
+-- the text of the bytes, and what holds of it: of a run, that each claimed period is safe
+abbrev pub HasTextOf : Reading → List ℕ → List ℕ → Type 0
+HasTextOf (Scenario form) bytes text = (sc : ScenarioView capacity) × IsAccepted bytes sc × (text ≡ run_text form sc) × IsSafeRun sc
+HasTextOf (Log id) bytes text = (log : RecordView capacity) × IsAcceptedLog bytes id log × (text ≡ log_text log)
+
+-- The text that is written where nothing fails. Of a storm, for which nothing is read, all periods are claimed, and safe
+abbrev pub HasText : Command → List ℕ → List ℕ → Type 0
+HasText (Read reading) bytes text = HasTextOf reading bytes text
+HasText (Storm seed) bytes text = (text ≡ storm_text (storm_summary seed)) × IsStormSummary (storm_summary seed) × Weathers (storm_system seed)
 
 -- they are no JSON text
 abbrev pub IsUnreadable : List ℕ → Type 0
@@ -41,6 +71,11 @@ pub record IsWhole (old new : Option (List ℕ)) (bytes : List ℕ) : Type 0 whe
   pub all : IfSome old (λ xs. bytes ≡ xs)
   pub end : IsAtEnd new
   pub short : length bytes ≤ limit
+
+-- what was read: all bytes of the source, or nothing for a storm
+abbrev pub IsRead : Command → Option (List ℕ) → Option (List ℕ) → List ℕ → Type 0
+IsRead (Read reading) old new bytes = IsWhole old new bytes
+IsRead (Storm seed) old new bytes = Keeps old new
 
 -- nothing was read or written
 pub record IsUntouched (left_old left_new : Option (List ℕ)) (given_old given_new : ℕ) (written_old written_new : Option (List ℕ)) : Type 0 where
@@ -53,19 +88,35 @@ abbrev pub WritesSome : Option (List ℕ) → Option (List ℕ) → ℕ → ℕ 
 WritesSome old new before now text = (Appends old new text) ⊎ (AppendsPrefix old new text × Rose before now)
 
 -- what must be answered of these bytes, if not that there was no memory, where neither count of faults rose
-pub record Decides (bytes : List ℕ) (before now : ℕ) (status : Status) : Type 0 where
+pub record Decides (reading : Reading) (bytes : List ℕ) (before now : ℕ) (status : Status) : Type 0 where
   pub too_long : limit < length bytes → (status ≡ TooLong) ⊎ (status ≡ NoMemory)
   pub unreadable : length bytes ≤ limit → IsUnreadable bytes → (status ≡ Unreadable) ⊎ (status ≡ NoMemory)
-  pub refused : length bytes ≤ limit → (rule place : ℕ) → IsRefused bytes rule place → (status ≡ Refused) ⊎ (status ≡ NoMemory)
-  pub accepted : length bytes ≤ limit → (sc : ScenarioView capacity) → IsAccepted bytes sc → ¬ Rose before now → (status ≡ Done) ⊎ (status ≡ NoMemory)
+  pub refused : length bytes ≤ limit → (rule place : ℕ) → IsRefused reading bytes rule place → (status ≡ Refused) ⊎ (status ≡ NoMemory)
+  pub accepted : length bytes ≤ limit → (text : List ℕ) → HasTextOf reading bytes text → ¬ Rose before now → (status ≡ Done) ⊎ (status ≡ NoMemory)
+
+-- the same of a command, by what was left in the source, and the counts of faults of source and sink
+abbrev pub IsDecided : Command → Option (List ℕ) → ℕ → ℕ → ℕ → ℕ → Status → Type 0
+IsDecided (Read reading) left source_before source_now before now status = ¬ Rose source_before source_now → IfSome left (λ bytes. Decides reading bytes before now status)
+IsDecided (Storm seed) left source_before source_now before now status = ¬ Rose before now → (status ≡ Done) ⊎ (status ≡ NoMemory)
 
 -- what is answered of the bytes of an input that is not too long, and written
-abbrev pub Answers : Form → List ℕ → Option (List ℕ) → Option (List ℕ) → ℕ → ℕ → Status → Type 0
-Answers form bytes old new before now Done = (sc : ScenarioView capacity) × IsAccepted bytes sc × Appends old new (run_text form sc) × IsSafeRun sc
-Answers form bytes old new before now WriteFault = (sc : ScenarioView capacity) × IsAccepted bytes sc × AppendsPrefix old new (run_text form sc) × Rose before now
-Answers form bytes old new before now Unreadable = IsUnreadable bytes × Keeps old new
-Answers form bytes old new before now Refused = (rule : ℕ) × (place : ℕ) × IsRefused bytes rule place × WritesSome old new before now (refused_text rule place)
-Answers form bytes old new before now NoMemory = Keeps old new
-Answers form bytes old new before now Usage = ⊥
-Answers form bytes old new before now ReadFault = ⊥
-Answers form bytes old new before now TooLong = ⊥
+abbrev pub Answers : Reading → List ℕ → Option (List ℕ) → Option (List ℕ) → ℕ → ℕ → Status → Type 0
+Answers reading bytes old new before now Done = (text : List ℕ) × HasTextOf reading bytes text × Appends old new text
+Answers reading bytes old new before now WriteFault = (text : List ℕ) × HasTextOf reading bytes text × AppendsPrefix old new text × Rose before now
+Answers reading bytes old new before now Unreadable = IsUnreadable bytes × Keeps old new
+Answers reading bytes old new before now Refused = (rule : ℕ) × (place : ℕ) × IsRefused reading bytes rule place × WritesSome old new before now (refused_text rule place)
+Answers reading bytes old new before now NoMemory = Keeps old new
+Answers reading bytes old new before now Usage = ⊥
+Answers reading bytes old new before now ReadFault = ⊥
+Answers reading bytes old new before now TooLong = ⊥
+
+-- what is answered of a storm, and written
+abbrev pub AnswersStorm : ℕ → Option (List ℕ) → Option (List ℕ) → ℕ → ℕ → Status → Type 0
+AnswersStorm seed old new before now Done = IsStormSummary (storm_summary seed) × Weathers (storm_system seed) × Appends old new (storm_text (storm_summary seed))
+AnswersStorm seed old new before now WriteFault = IsStormSummary (storm_summary seed) × Weathers (storm_system seed) × AppendsPrefix old new (storm_text (storm_summary seed)) × Rose before now
+AnswersStorm seed old new before now NoMemory = Keeps old new
+AnswersStorm seed old new before now Usage = ⊥
+AnswersStorm seed old new before now Unreadable = ⊥
+AnswersStorm seed old new before now Refused = ⊥
+AnswersStorm seed old new before now ReadFault = ⊥
+AnswersStorm seed old new before now TooLong = ⊥

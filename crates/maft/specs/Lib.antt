@@ -1,5 +1,6 @@
 pub mod Status
 pub mod Words
 pub mod Run
+pub mod Alone
 pub mod Answers
 pub mod Laws

@@ -40,10 +40,10 @@ pub record IsSafeRun {N : ℕ} (sc : ScenarioView N) : Type 0 where
   pub safe : (p : ℕ) → Claim (run (system_of sc)) (classes (system_of sc)) p → Safe (run (system_of sc)) (classes (system_of sc)) p
   pub told : (p : ℕ) → (period_record (system_of sc) p).claim ≡ true ↔ Claim (run (system_of sc)) (classes (system_of sc)) p
 
--- The text of the run was written, and the run is safe; or a prefix of the text was written, where the count of faults rose; or
--- there was no memory, and nothing was written.
+-- The run is safe, and its text was written; or a prefix of the text was written, where the count of faults rose; or there was no
+-- memory, and nothing was written.
 pub record IsRun {N : ℕ} (form : Form) (sc : ScenarioView N) (old new : Option (List ℕ)) (before now : ℕ) (result : Result (Unit {0}) ReplayError) : Type 0 where
+  pub safe : IsSafeRun sc
   pub written : OnOk result (Appends old new (run_text form sc))
-  pub safe : OnOk result (IsSafeRun sc)
   pub write_fault : IsErrOf result WriteFault → AppendsPrefix old new (run_text form sc) × Rose before now
   pub no_memory : IsErrOf result NoMemory → Keeps old new

@@ -27,13 +27,14 @@
 //! is the one free answer; each other answer says its cause, and the bytes decide it where no device failed.
 #![tactic(auto)]
 
+mod alone;
 mod form;
 pub mod laws;
 mod program;
 mod replay;
 mod status;
 
-pub use form::Form;
+pub use form::{Command, Form, Reading};
 pub use program::maft;
 pub use replay::{ReplayError, replay_at};
 use span_io::{StdSink, StdSource};

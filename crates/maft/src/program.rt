@@ -1,18 +1,21 @@
 //! The top call.
-ghost use Rattle.std.specs.Prelude.{◌≡◌, ℕ, ◌<◌, ◌↔◌, ◌⊎◌, List, length, IfSome, Some};
+ghost use Rattle.std.specs.Prelude.{◌≡◌, ℕ, ◌<◌, ◌↔◌, ◌⊎◌, List, length, IfSome};
 ghost use Rattle.std.specs.Io.KnownBytes.{Appends, Keeps};
 ghost use Rattle.span_io.specs.Causes.{Rose, AppendsPrefix, GivenPast};
-ghost use Rattle.scenario.specs.Scenario.{ScenarioView};
 ghost use Rattle.run_print.specs.PeriodText.{refused_text};
-ghost use Rattle.maft.specs.declared.form.Form.{Form as SpecForm};
-ghost use Rattle.maft.specs.Words.{texts, words_of};
-ghost use Rattle.maft.specs.Run.{run_text, IsSafeRun};
-ghost use Rattle.maft.specs.Answers.{limit, capacity, IsAccepted, IsRefused, IsUnreadable, IsWhole, IsUntouched, WritesSome, Decides, Answers};
+ghost use Rattle.maft.specs.declared.form.Reading.{Reading as SpecReading};
+ghost use Rattle.maft.specs.declared.form.Reading.TheVariants.{Scenario as SpecScenario, Log as SpecLog};
+ghost use Rattle.maft.specs.declared.form.Command.{Command as SpecCommand};
+ghost use Rattle.maft.specs.declared.form.Command.TheVariants.{Read as SpecRead};
+ghost use Rattle.maft.specs.Words.{texts, Calls};
+ghost use Rattle.maft.specs.Answers.{limit, IsRefused, IsUnreadable, IsWhole, IsRead, IsUntouched, WritesSome, HasText, IsDecided, Answers, AnswersStorm};
 
-use crate::form::form_of;
+use crate::alone::write_log;
+use crate::form::command_of;
 use crate::replay::write_form;
-use crate::{Form, ReplayError, Status};
-use run_print::write_refused;
+use crate::{Command, Form, Reading, ReplayError, Status};
+use node_alone::Record;
+use run_print::{WriteFault, write_refused, write_storm};
 use scenario::{Scenario, ScenarioError};
 use span_io::{ReadError, Sink, Source, read_all};
 use std::alloc::Global;
@@ -23,9 +26,9 @@ const LIMIT: usize = 4_194_304;
 /// How many nodes a scenario that is read has room for.
 const CAPACITY: usize = 16;
 
-/// Answers the bytes of an input.
-fn answer<K: Sink>(alloc: Global, form: Form, bytes: &[u8], sink: &mut K) -> Status
-    ensures { Answers form bytes.now (K.written sink.old) (K.written sink.new) (K.faults sink.old) (K.faults sink.new) result }
+/// Answers the bytes of a scenario.
+fn answer_scenario<K: Sink>(alloc: Global, form: Form, bytes: &[u8], sink: &mut K) -> Status
+    ensures { Answers (SpecScenario form) bytes.now (K.written sink.old) (K.written sink.new) (K.faults sink.old) (K.faults sink.new) result }
 {
     let scenario = match Scenario::<CAPACITY>::read(alloc, bytes) {
         Ok(scenario) => scenario,
@@ -43,18 +46,62 @@ fn answer<K: Sink>(alloc: Global, form: Form, bytes: &[u8], sink: &mut K) -> Sta
     }
 }
 
+/// Answers the bytes of a node's log.
+fn answer_log<K: Sink>(alloc: Global, id: u8, bytes: &[u8], sink: &mut K) -> Status
+    ensures { Answers (SpecLog id) bytes.now (K.written sink.old) (K.written sink.new) (K.faults sink.old) (K.faults sink.new) result }
+{
+    let log = match Record::<CAPACITY>::read(alloc, bytes, id) {
+        Ok(log) => log,
+        Err(ScenarioError::Unreadable) => return Status::Unreadable,
+        Err(ScenarioError::Refused { rule, place }) => {
+            let _ = write_refused(rule, place, sink);
+            return Status::Refused;
+        }
+        Err(ScenarioError::NoMemory) => return Status::NoMemory,
+    };
+    match write_log(alloc, &log, sink) {
+        Ok(()) => Status::Done,
+        Err(ReplayError::WriteFault) => Status::WriteFault,
+        Err(ReplayError::NoMemory) => Status::NoMemory,
+    }
+}
+
+/// Answers the bytes of an input.
+fn answer<K: Sink>(alloc: Global, reading: Reading, bytes: &[u8], sink: &mut K) -> Status
+    ensures { Answers reading bytes.now (K.written sink.old) (K.written sink.new) (K.faults sink.old) (K.faults sink.new) result }
+{
+    match reading {
+        Reading::Scenario(form) => answer_scenario(alloc, form, bytes, sink),
+        Reading::Log(id) => answer_log(alloc, id, bytes, sink),
+    }
+}
+
+/// Answers the number of a storm.
+fn answer_storm<K: Sink>(alloc: Global, seed: u64, sink: &mut K) -> Status
+    ensures { AnswersStorm seed (K.written sink.old) (K.written sink.new) (K.faults sink.old) (K.faults sink.new) result }
+{
+    storm::laws::weathered();
+    let Ok(sum) = storm_sum::summary(alloc, seed) else {
+        return Status::NoMemory;
+    };
+    match write_storm(&sum, sink) {
+        Ok(()) => Status::Done,
+        Err(WriteFault) => Status::WriteFault,
+    }
+}
+
 /// Answers the words, by what the source gives, into the sink.
 ///
-/// The forms of words are told at `Form`: a scenario is read and run, and what every node believes is written. What
-/// each status says is told at `Status`; the first cause in the order Usage, ReadFault, TooLong, Unreadable, Refused,
-/// WriteFault decides. Want of memory is the one free answer, and nothing was written then.
+/// What the words may be is told at `Command`: a scenario or a node's log is read and run, or a storm is made and run, and
+/// the text of it is written. What each status says is told at `Status`; the first cause in the order Usage, ReadFault,
+/// TooLong, Unreadable, Refused, WriteFault decides. Want of memory is the one free answer, and nothing was written then.
 pub fn maft<S: Source, K: Sink>(
     alloc: Global,
     words: &[String],
     source: &mut S,
     sink: &mut K,
 ) -> Status
-    ensures usage { (result ≡ Status.Usage) ↔ ((form : SpecForm) → (texts words.now ≡ words_of form) → ⊥) }
+    ensures usage { (result ≡ Status.Usage) ↔ ((command : SpecCommand) → Calls (texts words.now) command → ⊥) }
     ensures usage_untouched { result ≡ Status.Usage → IsUntouched (S.left source.old) (S.left source.new)
         (S.given source.old) (S.given source.new) (K.written sink.old) (K.written sink.new) }
     ensures read_fault { result ≡ Status.ReadFault →
@@ -66,28 +113,30 @@ pub fn maft<S: Source, K: Sink>(
         × GivenPast limit (S.given source.old) (S.given source.new) × Keeps (K.written sink.old) (K.written sink.new) }
     ensures unreadable { result ≡ Status.Unreadable → (bytes : List ℕ) × IsWhole (S.left source.old) (S.left source.new) bytes
         × IsUnreadable bytes × Keeps (K.written sink.old) (K.written sink.new) }
-    ensures refused { result ≡ Status.Refused → (bytes : List ℕ) × (rule : ℕ) × (place : ℕ)
-        × IsWhole (S.left source.old) (S.left source.new) bytes × IsRefused bytes rule place
+    ensures refused { result ≡ Status.Refused → (reading : SpecReading) × (bytes : List ℕ) × (rule : ℕ) × (place : ℕ)
+        × Calls (texts words.now) (SpecRead reading) × IsWhole (S.left source.old) (S.left source.new) bytes × IsRefused reading bytes rule place
         × WritesSome (K.written sink.old) (K.written sink.new) (K.faults sink.old) (K.faults sink.new) (refused_text rule place) }
-    ensures write_fault { result ≡ Status.WriteFault → (bytes : List ℕ) × (form : SpecForm) × (scenario : ScenarioView capacity)
-        × IsWhole (S.left source.old) (S.left source.new) bytes × (texts words.now ≡ words_of form) × IsAccepted bytes scenario
-        × AppendsPrefix (K.written sink.old) (K.written sink.new) (run_text form scenario) × Rose (K.faults sink.old) (K.faults sink.new) }
+    ensures write_fault { result ≡ Status.WriteFault → (command : SpecCommand) × (bytes : List ℕ) × (text : List ℕ)
+        × Calls (texts words.now) command × IsRead command (S.left source.old) (S.left source.new) bytes × HasText command bytes text
+        × AppendsPrefix (K.written sink.old) (K.written sink.new) text × Rose (K.faults sink.old) (K.faults sink.new) }
     ensures no_memory { result ≡ Status.NoMemory → Keeps (K.written sink.old) (K.written sink.new) }
 
-    // The headline: the text of the run was written, and each claimed period of that run is safe.
-    ensures done { result ≡ Status.Done → (bytes : List ℕ) × (form : SpecForm) × (scenario : ScenarioView capacity)
-        × IsWhole (S.left source.old) (S.left source.new) bytes × (texts words.now ≡ words_of form) × IsAccepted bytes scenario
-        × Appends (K.written sink.old) (K.written sink.new) (run_text form scenario) × IsSafeRun scenario }
+    // The headline: what was read is accepted, its text was written, and each claimed period of a run is safe.
+    ensures done { result ≡ Status.Done → (command : SpecCommand) × (bytes : List ℕ) × (text : List ℕ)
+        × Calls (texts words.now) command × IsRead command (S.left source.old) (S.left source.new) bytes × HasText command bytes text
+        × Appends (K.written sink.old) (K.written sink.new) text }
 
-    // Where neither count of faults rose, the bytes decide the answer, but for want of memory.
-    ensures decided { (form : SpecForm) → (texts words.now ≡ words_of form) → ¬ Rose (S.faults source.old) (S.faults source.new) →
-        IfSome (S.left source.old) (λ bytes. Decides bytes (K.faults sink.old) (K.faults sink.new) result) }
+    // Where neither count of faults rose, words and bytes decide the answer, but for want of memory.
+    ensures decided { (result ≡ Status.Usage) ⊎ ((command : SpecCommand) × Calls (texts words.now) command
+        × IsDecided command (S.left source.old) (S.faults source.old) (S.faults source.new) (K.faults sink.old) (K.faults sink.new) result) }
 {
-    let Some(form) = form_of(words) else {
-        return Status::Usage;
+    let reading = match command_of(words) {
+        None => return Status::Usage,
+        Some(Command::Storm(seed)) => return answer_storm(alloc, seed, sink),
+        Some(Command::Read(reading)) => reading,
     };
     match read_all(alloc, source, LIMIT) {
-        Ok(bytes) => answer(alloc, form, bytes.as_slice(), sink),
+        Ok(bytes) => answer(alloc, reading, bytes.as_slice(), sink),
         Err(ReadError::Failed) => Status::ReadFault,
         Err(ReadError::TooLong) => Status::TooLong,
         Err(ReadError::NoMemory) => Status::NoMemory,

