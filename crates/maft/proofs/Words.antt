@@ -5,7 +5,6 @@ use Rattle.std.specs.Str.Parse.{ParsesUnsigned}
 use Rattle.std.specs.declared.alloc.Global.{Global}
 use Rattle.std.proofs.lemmas.Fmt.{parse-decimal}
 use Rattle.maft.specs.declared.form.Form.{Form}
-use Rattle.maft.specs.declared.form.Reading.{Reading}
 use Rattle.maft.specs.declared.form.Reading.TheVariants.{Scenario, Log}
 use Rattle.maft.specs.declared.form.Command.{Command}
 use Rattle.maft.specs.declared.form.Command.TheVariants.{Read, Storm}

@@ -9,8 +9,9 @@
 //!
 //! | Words | Definition |
 //! |---|---|
-//! | the words are `replay`, `replay trace` or `check`, and the answer is Done | `words_of` in specs/Words |
-//! | the bytes are all bytes of the source, where it tells them | `IsWhole` in specs/Answers |
+//! | the words are `replay`, `replay trace` or `check`, and the answer is Done | `Calls` in specs/Words |
+//! | the bytes are all bytes of the source, where it tells them | `IsRead` and `IsWhole` in specs/Answers |
+//! | the text that was written is that of a scenario, whose claimed periods are safe | `HasText` in specs/Answers, `IsSafeRun` in specs/Run |
 //! | accepted scenario: the bytes are JSON text of parts that no rule refuses | `IsAccepted` in specs/Answers; in scenario/specs `Reads` of Reading, `parts_of` of Keys, `refusal` of Rules |
 //! | what the scenario says | `scenario_of` in scenario/specs/Given, `system_of` in scenario/specs/Scenario |
 //! | its run: what all nodes send, hear, settle and keep | `run` in protocol/specs/Run, `view` in protocol/specs/Cluster and View |
@@ -22,6 +23,10 @@
 //! | votes | `VotesClose` there |
 //! | the text of the run | `run_text` in specs/Run; `period_record` in cluster_step/specs/Record; run_print/specs PeriodText, NodeText, TraceText |
 //! | a period's line says `claim yes` exactly where the period is claimed | `told` of `IsSafeRun` in specs/Run |
+//!
+//! For `storm SEED` nothing is read, and all periods of that storm are claimed and safe (`Weathers` in storm/specs/Laws). For
+//! `node I` the text is what the node believed by its log (`view_alone` in node_alone/specs/View); of it nothing is claimed
+//! but that, and law `alone` of node_alone: a log of what a run delivers has the run's beliefs.
 //!
 //! Nothing else is assumed. A source and a sink that don't tell their bytes are promised nothing of bytes. Want of memory
 //! is the one free answer; each other answer says its cause, and the bytes decide it where no device failed.

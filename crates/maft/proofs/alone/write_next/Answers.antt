@@ -1,6 +1,5 @@
-use Rattle.std.proofs.Common.{◌≡◌, ◌<◌, ◌≤◌, inl, inr, lit<, ap, subst, sym, ◌∙◌, List, ℕ}
+use Rattle.std.proofs.Common.{◌<◌, ◌≤◌, inl, inr, lit<, subst, List, ℕ}
 use Rattle.span_io.specs.Causes.{Writes}
-use Rattle.agreed_state.specs.declared.config.Config.{Config}
 use Rattle.run_print.specs.declared.WriteFault.{WriteFault}
 use Rattle.maft.proofs.Printed.{log_printed_is}
 use Rattle.maft.proofs.alone.write_next.Goals as goal
