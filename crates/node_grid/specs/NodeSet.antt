@@ -1,5 +1,5 @@
 -- Sets of small numbers, seen as the list of their members in ascending order.
-use Rattle.std.specs.Prelude.{◌≡◌, ℕ, ◌^◌, Bool, ◌==◌, ◌||◌, ◌&&◌, nat_lt, not, List}
+use Rattle.std.specs.Prelude.{◌≡◌, ℕ, ◌^◌, Bool, ◌==◌, ◌||◌, ◌&&◌, nat_lt, not, List, length}
 use Rattle.std.specs.List.{filter, list_any, range_with_len, sum_by}
 use Rattle.std.specs.Int.{bit_at}
 
@@ -18,6 +18,18 @@ with_id n s x = filter (λ k. (k == x) || has_id s k) (ids_below n)
 -- the set without x
 abbrev pub without_id : List ℕ → ℕ → List ℕ
 without_id s x = filter (λ k. not (k == x)) s
+
+-- the members of two sets together, of the numbers below n
+abbrev pub union_of : ℕ → List ℕ → List ℕ → List ℕ
+union_of n s t = filter (λ k. has_id s k || has_id t k) (ids_below n)
+
+-- the members that another set hasn't
+abbrev pub minus_of : List ℕ → List ℕ → List ℕ
+minus_of s t = filter (λ k. not (has_id t k)) s
+
+-- how many members are below x
+abbrev pub place_of : List ℕ → ℕ → ℕ
+place_of s x = length (filter (λ k. nat_lt k x) s)
 
 -- the places below n of the bits of a mask that are set
 abbrev pub bits_set : ℕ → ℕ → List ℕ

@@ -1,5 +1,5 @@
 -- Sets of small numbers as filters of a range, and as the bits of a mask.
-use Rattle.std.proofs.Common.{◌≡◌, ◌≢◌, ℕ, zero, suc, ◌+◌, ◌-◌, ◌*◌, ◌/◌, ◌%◌, ◌^◌, ◌<◌, ◌≤◌, Bool, true, false, cond, not, ◌&&◌, ◌||◌, List, [], ◌∷◌, length, refl, sym, ap, ◌∙◌, arith, eq-eqb, bit_and, bit_or, inl, inr, subst}
+use Rattle.std.proofs.Common.{◌≡◌, ◌≢◌, ℕ, zero, suc, ◌+◌, ◌-◌, ◌*◌, ◌/◌, ◌%◌, ◌^◌, ◌<◌, ◌≤◌, min, max, Bool, true, false, cond, not, ◌&&◌, ◌||◌, List, [], ◌∷◌, length, drop, refl, sym, ap, ◌∙◌, arith, eq-eqb, bit_and, bit_or, inl, inr, subst}
 use Rattle.std.specs.Prelude.{◌==◌, nat_lt}
 use Rattle.std.specs.Int.RustNames.{count_ones}
 use Rattle.std.specs.List.{filter, range_with_len, sum_by, count_by, All}
@@ -10,13 +10,13 @@ use Rattle.std.proofs.lemmas.List.Sums.{sum_by-cons, length-filter, count_by-le-
 use Rattle.std.proofs.lemmas.List.FromFn.{length-range_with_len}
 use Rattle.std.proofs.lemmas.List.Elements.{All-filter, All-same, All-nil, All-cons}
 use Rattle.std.proofs.lemmas.Map.Views.{any-filter_same}
-use Rattle.std.proofs.lemmas.Nat.Bits.{bit_at_above, bit_at_ones, bit_at_ones_above, bit_at_set_same, bit_at_set_other, bit_at_clear_same, bit_at_clear_other, bit_at-trailing_zeros, bit_at-zero, shr_and_one}
+use Rattle.std.proofs.lemmas.Nat.Bits.{bit_at_above, bit_at_ones, bit_at_ones_above, bit_at_set_same, bit_at_set_other, bit_at_clear_same, bit_at_clear_other, bit_at-trailing_zeros, bit_at-zero, bit_at-suc, bit_at-lt, bit_at_and, bit_at_or, bit_at_not, shr_and_one}
 use Rattle.std.proofs.Math.Nat.{div-div-eq-div-mul, div-eq_of_lt, pow-suc}
 use Rattle.std.proofs.Math.Pow.{pow_mono, pow-lt, ones_lt}
-use Rattle.std.proofs.lemmas.Nat.{or_lt}
+use Rattle.std.proofs.lemmas.Nat.{or_lt, and_le_l}
 use Rattle.std.specs.Cmp.Lexicographic.{pointwise}
 use Rattle.std.proofs.lemmas.Slice.Eq.{bytes_eq-Decides}
-use Rattle.node_grid.specs.NodeSet.{ids_below, has_id, with_id, without_id, bits_set, mask_of, IsIdSet, ids_where, ids_where_below}
+use Rattle.node_grid.specs.NodeSet.{ids_below, has_id, with_id, without_id, bits_set, mask_of, IsIdSet, ids_where, ids_where_below, union_of, minus_of, place_of}
 
 by_le : {P : Type 0} (a b : ℕ) → (a ≤ b → P) → (b < a → P) → P
 by_le {P} a b f g = elim (cases_lt b a) as (λ _. P) [ inl h ↦ g h | inr h ↦ f h ]
@@ -234,6 +234,113 @@ put_fits n mask x few l h = or_lt n mask (1 * 2 ^ x % 2 ^ 16) h
     mod_le_one : (p : ℕ) → 1 * p % 2 ^ 16 ≤ p
     mod_le_one p = omega arith
 
+-- ---- two sets together, and one without another
+
+either_bit : (x y : ℕ) → x < 2 → y < 2 → (max x y == 1) ≡ ((x == 1) || (y == 1))
+either_bit x y h l = grind arith
+
+both_bits : (x y : ℕ) → x < 2 → y < 2 → (min x (1 - y) == 1) ≡ ((x == 1) && not (y == 1))
+both_bits x y h l = grind arith
+
+pub bits_set-union : (n a b : ℕ) → bits_set n (bit_or a b) ≡ union_of n (bits_set n a) (bits_set n b)
+bits_set-union n a b = filter_range _ _ 0 n (λ k l u.
+    rw (bit_at_or a b k, has-bits_set n a k (omega arith), has-bits_set n b k (omega arith))
+    (either_bit (bit_at a k) (bit_at b k) (bit_at-lt a k) (bit_at-lt b k)))
+
+pub bits_set-minus : (n a b : ℕ) → n ≤ 16 → b < 2 ^ n → bits_set n (bit_and a (bit_not w16 b)) ≡ minus_of (bits_set n a) (bits_set n b)
+bits_set-minus n a b few h =
+    filter_range _ (λ k. (bit_at a k == 1) && not (has_id (bits_set n b) k)) 0 n (λ k l u.
+    let wide : b < 2 ^ 16 = omega (arith, pow_mono few) in
+    rw (bit_at_and a (bit_not w16 b) k, bit_at_not w16 b k (omega arith) (omega arith), has-bits_set n b k (omega arith))
+    (both_bits (bit_at a k) (bit_at b k) (bit_at-lt a k) (bit_at-lt b k)))
+    ∙ sym (filter_filter (λ k. bit_at a k == 1) (λ k. not (has_id (bits_set n b) k)) (ids_below n))
+
+pub union_fits : (n a b : ℕ) → a < 2 ^ n → b < 2 ^ n → bit_or a b < 2 ^ n
+union_fits n a b h l = or_lt n a b h l
+
+-- ---- the members below a number
+
+cut_bit : (x : ℕ) → x < 2 → (min x 1 == 1) ≡ (x == 1)
+cut_bit x h = grind arith
+
+no_bit : (x : ℕ) → (min x 0 == 1) ≡ false
+no_bit x = grind arith
+
+pub bits_set-below : (n mask x : ℕ) → bits_set n (bit_and mask (2 ^ x - 1)) ≡ filter (λ k. nat_lt k x) (bits_set n mask)
+bits_set-below n mask x =
+    filter_range _ (λ k. (bit_at mask k == 1) && nat_lt k x) 0 n (λ k l u. by_le x k
+    (λ le. rw (bit_at_and mask (2 ^ x - 1) k, bit_at_ones_above x k le, le-ltb k x le) (no_bit (bit_at mask k) ∙ sym (and-false (bit_at mask k == 1))))
+    (λ lt. rw (bit_at_and mask (2 ^ x - 1) k, bit_at_ones x k lt, lt-ltb k x lt) (cut_bit (bit_at mask k) (bit_at-lt mask k) ∙ sym (and-true (bit_at mask k == 1)))))
+    ∙ sym (filter_filter (λ k. bit_at mask k == 1) (λ k. nat_lt k x) (ids_below n))
+
+pub place-ones : (n mask x : ℕ) → mask < 2 ^ n → count_ones (bit_and mask (2 ^ x - 1)) ≡ place_of (bits_set n mask) x
+place-ones n mask x h =
+    sym (length-bits_set n (bit_and mask (2 ^ x - 1)) (omega (arith, and_le_l mask (2 ^ x - 1)))) ∙ ap length (bits_set-below n mask x)
+
+-- what the code of `place` computes
+pub shifted_short : (n x : ℕ) → n ≤ 16 → x < n → 1 * 2 ^ x % 65536 ≡ 2 ^ x
+shifted_short n x few h = omega (arith, pow-lt (let l : x < 16 = omega arith in l))
+
+-- ---- the set without its least member
+
+halves : (m : ℕ) → m % 2 ≡ 0 → 0 < m → ((m - 1) / 2 ≡ m / 2 - 1) × ((m - 1) % 2 ≡ 1)
+halves m even some = (omega arith, omega arith)
+
+-- one less turns the lowest bit that is set off, and those below it on
+pub less_below : (t m k : ℕ) → 0 < m → bit_at m t ≡ 1 → ((i : ℕ) → i < t → bit_at m i ≡ 0) → t < k → bit_at (m - 1) k ≡ bit_at m k
+less_below t m zero some one low later = absurd (omega arith)
+less_below zero m (suc k) some one low later =
+    let odd : m % 2 ≡ 1 = omega (arith, one) in
+    let half : (m - 1) / 2 ≡ m / 2 = omega arith in
+    bit_at-suc (m - 1) k ∙ ap (λ n. bit_at n k) half ∙ sym (bit_at-suc m k)
+less_below (suc t) m (suc k) some one low later =
+    let even : m % 2 ≡ 0 = omega (arith, low 0 (omega arith)) in
+    let half = halves m even some in
+    bit_at-suc (m - 1) k ∙ ap (λ n. bit_at n k) half.0
+    ∙ less_below t (m / 2) k (omega arith) (sym (bit_at-suc m t) ∙ one) (λ i l. sym (bit_at-suc m i) ∙ low (suc i) (omega arith)) (omega arith)
+    ∙ sym (bit_at-suc m k)
+
+pub less_at : (t m : ℕ) → 0 < m → bit_at m t ≡ 1 → ((i : ℕ) → i < t → bit_at m i ≡ 0) → bit_at (m - 1) t ≡ 0
+less_at zero m some one low = omega (arith, one)
+less_at (suc t) m some one low =
+    let even : m % 2 ≡ 0 = omega (arith, low 0 (omega arith)) in
+    let half = halves m even some in
+    bit_at-suc (m - 1) t ∙ ap (λ n. bit_at n t) half.0
+    ∙ less_at t (m / 2) (omega arith) (sym (bit_at-suc m t) ∙ one) (λ i l. sym (bit_at-suc m i) ∙ low (suc i) (omega arith))
+
+none_kept : (x y : ℕ) → x ≡ 0 → (min x y == 1) ≡ (x == 1)
+none_kept x y e = grind arith
+
+same_kept : (x y : ℕ) → y ≡ x → (min x y == 1) ≡ (x == 1)
+same_kept x y e = grind arith
+
+bits_set-rest : (n mask : ℕ) → n ≤ 16 → mask < 2 ^ n → mask ≢ 0 → bits_set n (bit_and mask (mask - 1)) ≡ without_id (bits_set n mask) (trailing_zeros w16 mask)
+bits_set-rest n mask few h some =
+    let t : ℕ = trailing_zeros w16 mask in
+    let wide : mask < 2 ^ 16 = omega (arith, pow_mono few) in
+    let f = bit_at-trailing_zeros w16 mask (omega arith) wide in
+    let one : bit_at mask t ≡ 1 = f.1 in
+    filter_range _ (λ k. (bit_at mask k == 1) && not (k == t)) 0 n (λ k l u. by_equal k t
+    (λ e. let gone : bit_at (mask - 1) k ≡ 0 = ap (bit_at (mask - 1)) e ∙ less_at t mask (omega arith) one f.2 in
+    rw (bit_at_and mask (mask - 1) k, gone, eq-eqb k t e) (no_bit (bit_at mask k) ∙ sym (and-false (bit_at mask k == 1))))
+    (λ ne. rw (bit_at_and mask (mask - 1) k, ne_eqb k t ne) (by_le t k
+    (λ le. same_kept (bit_at mask k) (bit_at (mask - 1) k) (less_below t mask k (omega arith) one f.2 (omega arith)))
+    (λ lt. none_kept (bit_at mask k) (bit_at (mask - 1) k) (f.2 k lt))
+    ∙ sym (and-true (bit_at mask k == 1)))))
+    ∙ sym (filter_filter (λ k. bit_at mask k == 1) (λ k. not (k == t)) (ids_below n))
+
+wrapped_less : (mask : ℕ) → mask < 65536 → mask ≢ 0 → (mask + 65535) % 65536 ≡ mask - 1
+wrapped_less mask h some = omega arith
+
+pub bits_set-drop : (n mask : ℕ) (s : List ℕ) → n ≤ 16 → mask < 2 ^ n → bits_set n mask ≡ s → bits_set n (bit_and mask ((mask + 65535) % 65536)) ≡ drop 1 s
+bits_set-drop n mask s few h is = by_equal mask 0
+    (λ e. let none : bit_and mask ((mask + 65535) % 65536) ≡ 0 = omega (arith, e, and_le_l mask ((mask + 65535) % 65536)) in
+    let empty : bits_set n mask ≡ [] = ap (bits_set n) e ∙ bits_set-zero n in
+    ap (bits_set n) none ∙ bits_set-zero n ∙ ap (λ xs. drop 1 xs) (sym empty ∙ is))
+    (λ some. let wide : mask < 2 ^ 16 = omega (arith, pow_mono few) in
+    ap (λ m. bits_set n (bit_and mask m)) (wrapped_less mask (omega arith) some) ∙ bits_set-rest n mask few h some
+    ∙ ap (λ xs. drop 1 xs) (sym (bits_set-first n mask few h some) ∙ is))
+
 -- ---- what callers need
 
 pub IsIdSet-filter : (p : ℕ → Bool) (n : ℕ) → IsIdSet n (filter p (ids_below n))
@@ -321,6 +428,9 @@ All-ids n s h = All-same (λ k. k < n) s (ids_where (λ k. has_id s k) n) h (All
 
 pub length-ids : (n : ℕ) (s : List ℕ) → IsIdSet n s → length s ≤ n
 length-ids n s h = omega (arith, ap length h, length-filter (λ k. has_id s k) (ids_below n), count_by-le-length (λ k. has_id s k) (ids_below n), length-range_with_len 0 n)
+
+pub place_of-le : (n : ℕ) (s : List ℕ) (x : ℕ) → IsIdSet n s → place_of s x ≤ n
+place_of-le n s x ids = omega (arith, length-filter (λ k. nat_lt k x) s, count_by-le-length (λ k. nat_lt k x) s, length-ids n s ids)
 
 -- for a loop that builds a set, and for what its result has
 pub ruleset id_loops = (ids_where_none, ids_where_all, ids_where_more_no, ids_where_more_yes)

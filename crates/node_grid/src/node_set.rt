@@ -1,5 +1,5 @@
-ghost use Rattle.std.specs.Prelude.{◌≡◌, ℕ, ◌+◌, ◌^◌, ◌<◌, ◌≤◌, List, [], ◌∷◌, ◌++◌, length, slice_get, IfSome, IsTrue, ◌↔◌, ◌==◌, All};
-ghost use Rattle.node_grid.specs.NodeSet.{ids_below, has_id, with_id, without_id, bits_set, mask_of, IsIdSet};
+ghost use Rattle.std.specs.Prelude.{◌≡◌, ℕ, ◌+◌, ◌^◌, ◌<◌, ◌≤◌, List, [], ◌∷◌, ◌++◌, length, slice_get, drop, IfSome, IsTrue, ◌↔◌, ◌==◌, All};
+ghost use Rattle.node_grid.specs.NodeSet.{ids_below, has_id, with_id, without_id, union_of, minus_of, place_of, bits_set, mask_of, IsIdSet};
 ghost use Rattle.std.specs.Cmp.Lexicographic.{pointwise};
 ghost use Rattle.std.specs.Cmp.Rules.{comparing};
 ghost use Rattle.std.proofs.Common.{rules};
@@ -75,6 +75,57 @@ impl<const N: usize> NodeSet<N> {
     {
         let mask = self.mask;
         self.mask = mask & !(1 << id);
+    }
+
+    /// The members of the two sets together.
+    pub fn union(&self, other: &NodeSet<N>) -> NodeSet<N>
+        ensures { result ≡ union_of N self.now other.now }
+    {
+        NodeSet {
+            mask: self.mask | other.mask,
+        }
+    }
+
+    /// The members that aren't in the other set.
+    pub fn minus(&self, other: &NodeSet<N>) -> NodeSet<N>
+        ensures { result ≡ minus_of self.now other.now }
+    {
+        NodeSet {
+            mask: self.mask & !other.mask,
+        }
+    }
+
+    /// How many members are below `id`: the place of a member among the members.
+    pub fn place(&self, id: u8) -> u8
+        requires { id < N }
+        ensures count { result ≡ place_of self.now id }
+        ensures few { result ≤ N }
+    {
+        let mask = self.mask;
+        let below = (1 << id) - 1;
+        (mask & below).count_ones() as u8
+    }
+
+    /// The set without its least member, if it has one.
+    pub fn rest(&self) -> NodeSet<N>
+        ensures { result ≡ drop 1 self.now }
+    {
+        // one less turns the lowest bit that is set off, and those below it on
+        NodeSet {
+            mask: self.mask & self.mask.wrapping_sub(1),
+        }
+    }
+
+    /// The member at a place, in ascending order; None exactly where there are no more members than that.
+    pub fn nth(&self, place: u8) -> Option<u8>
+        ensures node { result ≡ slice_get self.now place }
+        ensures within { IfSome result (λ x. x < N) }
+    {
+        let mut left = *self;
+        for _ in 0..place {
+            left = left.rest();
+        }
+        left.least()
     }
 
     /// The number of members.
@@ -157,7 +208,7 @@ impl<const N: usize> Iterator for Ids<N> {
 
     fn next(&mut self) -> Option<u8> {
         let first = self.left.least()?;
-        self.left.cut(first);
+        self.left = self.left.rest();
         Some(first)
     }
 }
