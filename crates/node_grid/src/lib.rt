@@ -46,6 +46,17 @@ mod tests {
     }
 
     #[test]
+    fn sets_by_masks(rt: HostRuntime) {
+        let mut set: NodeSet<16> = NodeSet::empty();
+        set.put(3);
+        set.put(15);
+        let both = set.union(&NodeSet::full(2));
+        assert!(rt; both.len() == 4 && both.place(15) == 3 && both.place(2) == 2);
+        assert!(rt; both.nth(2) == Some(3) && both.nth(4) == None);
+        assert_eq!(rt; both.minus(&NodeSet::full(1)), both.rest());
+    }
+
+    #[test]
     fn rows_of_a_matrix(rt: HostRuntime) {
         let mut row: Row<8> = Row::zero();
         row.masks[2] = 128;

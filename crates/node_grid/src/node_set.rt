@@ -100,6 +100,7 @@ impl<const N: usize> NodeSet<N> {
         requires { id < N }
         ensures count { result ≡ place_of self.now id }
         ensures few { result ≤ N }
+        ensures ids { IsIdSet N self.now }
     {
         let mask = self.mask;
         let below = (1 << id) - 1;

@@ -1,8 +1,9 @@
 -- The steps of counting, of ranking and of unranking.
 use Rattle.std.proofs.Common.{ℕ, zero, suc, ◌≡◌, ◌<◌, ◌≤◌, ◌+◌, ◌-◌, ◌*◌, ◌/◌, ◌%◌, true, ◌==◌, List, [], ◌∷◌, ◌++◌, length, drop, get_or, refl, sym, ap, ap₂, subst, ◌∙◌, arith, eq-eqb, append-nil}
 use Rattle.std.proofs.lemmas.Bool.{or_left}
-use Rattle.std.proofs.lemmas.List.{append_assoc}
-use Rattle.std.proofs.Math.Nat.{mul_assoc, mul-le-mul, mod-lt, div-lt_iff_lt-mul}
+use Rattle.std.proofs.lemmas.List.{append_assoc, length-append, get_or-append-add}
+use Rattle.std.proofs.lemmas.Nat.{div-mul-add, mod-mul-add}
+use Rattle.std.proofs.Math.Nat.{mul-le-mul, mod-lt, div-lt_iff_lt-mul}
 use Rattle.std.proofs.Math.Seq.{drop-cons}
 use Rattle.node_grid.specs.NodeSet.{has_id, without_id, IsIdSet}
 use Rattle.node_grid.specs.NodeSetLaws.{length-ids}
@@ -10,17 +11,6 @@ use Rattle.node_grid.specs.Count.{Distinct}
 use Rattle.omh_paths.specs.Paths.{paths_of_length, path_count, place_in, path_at, index_in}
 use Rattle.omh_paths.specs.MemberLaws.{path_count-few, Distinct-ids, member-lt}
 use Rattle.omh_paths.specs.PathLists.{Distinct-without, length-without, place-cons, place-lt, path_at-step, rest_within, digits, has-at, has-of-without, IsListed-at}
-
--- ---- how many paths there are
-
-pub count_step : (count k used len total : ℕ) → used < len → count * path_count (k - used) (len - used) ≡ total
-    → count * (k - used) * path_count (k - (used + 1)) (len - (used + 1)) ≡ total
-count_step count k used len total h e =
-    let l : len - used ≡ suc (len - (used + 1)) = omega arith in
-    let m : k - used - 1 ≡ k - (used + 1) = omega arith in
-    let w : path_count (k - used) (len - used) ≡ (k - used) * path_count (k - (used + 1)) (len - (used + 1)) =
-    ap (path_count (k - used)) l ∙ ap (λ (n : ℕ). (k - used) * path_count n (len - (used + 1))) m in
-    mul_assoc count (k - used) (path_count (k - (used + 1)) (len - (used + 1))) ∙ ap (λ (n : ℕ). count * n) (sym w) ∙ e
 
 -- ---- ranking
 
@@ -157,6 +147,24 @@ pub unranked_at : {n : ℕ} {s : List ℕ} {len index : ℕ} {front left : List 
 unranked_at {n} {s} {len} {index} {front} {left} {rest} k h l =
     let e : len - k ≡ suc (len - k - 1) = omega arith in
     subst (λ (r : ℕ). IsUnranked n s len index front left r rest) e h
+
+-- one member's share of an index was not reached, or is left behind
+pub place_reached : (set seen later : List ℕ) (x index behind rest : ℕ) → set ≡ seen ++ x ∷ later → index ≡ length seen * behind + rest → rest < behind → x ≡ get_or set (index / behind) 0
+place_reached set seen later x index behind rest split is within =
+    let place : index / behind ≡ length seen = ap (λ (n : ℕ). n / behind) is ∙ div-mul-add (length seen) behind rest within in
+    let zero_on : length seen + 0 ≡ index / behind = omega (arith, place) in
+    sym (ap₂ (λ (xs : List ℕ) (k : ℕ). get_or xs k 0) split (sym zero_on) ∙ get_or-append-add seen (x ∷ later) 0 0)
+
+pub rest_reached : (seen : List ℕ) (index behind rest : ℕ) → index ≡ length seen * behind + rest → rest < behind → rest ≡ index % behind
+rest_reached seen index behind rest is within = sym (ap (λ (n : ℕ). n % behind) is ∙ mod-mul-add (length seen) behind rest within)
+
+share : (n behind rest : ℕ) → behind ≤ rest → n * behind + rest ≡ (n + 1) * behind + (rest - behind)
+share n behind rest l = omega arith
+
+pub place_passed : (seen : List ℕ) (x index behind rest : ℕ) → index ≡ length seen * behind + rest → behind ≤ rest → index ≡ length (seen ++ x ∷ []) * behind + (rest - behind)
+place_passed seen x index behind rest is l =
+    let more : length (seen ++ x ∷ []) ≡ length seen + 1 = length-append seen (x ∷ []) in
+    is ∙ share (length seen) behind rest l ∙ ap (λ (n : ℕ). n * behind + (rest - behind)) (sym more)
 
 -- the number that the code counts
 pub behind_is : (behind choices m r : ℕ) → behind ≡ path_count (choices - 1) r → choices ≡ m → behind ≡ path_count (m - 1) r

@@ -1,13 +1,14 @@
 -- Sets of nodes as lists without repeats, and their sizes.
-use Rattle.std.proofs.Common.{ℕ, zero, suc, ◌≡◌, ◌<◌, ◌≤◌, ◌+◌, ◌-◌, ◌*◌, ◌^◌, ap, ◌∙◌, Bool, true, false, ◌||◌, List, length, refl, sym, ap₂, subst, inl, inr, arith, ne_eqb}
+use Rattle.std.proofs.Common.{ℕ, zero, suc, ◌≡◌, ◌<◌, ◌≤◌, ◌+◌, ◌-◌, ◌*◌, ◌^◌, ap, ◌∙◌, Bool, true, false, ◌||◌, List, ◌∷◌, length, refl, sym, ap₂, subst, inl, inr, arith, ne_eqb, eq-eqb}
+use Rattle.std.specs.Prelude.{◌==◌, ◌&&◌, nat_lt, filter}
 use Rattle.std.specs.List.{range_with_len}
-use Rattle.std.proofs.lemmas.Bool.{cases_lt, both_ways}
+use Rattle.std.proofs.lemmas.Bool.{cases_Bool, cases_eq, cases_lt, both_ways, cond-true, cond-false, lt-ltb, le-ltb}
 use Rattle.node_grid.specs.Capacity.{IsCapacity}
-use Rattle.node_grid.specs.NodeSet.{has_id, ids_below, IsIdSet}
-use Rattle.node_grid.specs.NodeSetLaws.{hasnt-above, length-ids}
+use Rattle.node_grid.specs.NodeSet.{has_id, ids_below, IsIdSet, place_of}
+use Rattle.node_grid.specs.NodeSetLaws.{hasnt-above, length-ids, filter_none, filter_filter}
 use Rattle.node_grid.specs.Count.{Distinct}
 use Rattle.std.proofs.Math.Nat.{mul-le-mul, pow-suc}
-use Rattle.omh_paths.specs.Paths.{path_count}
+use Rattle.omh_paths.specs.Paths.{path_count, index_in}
 use Rattle.omh_paths.specs.PathLists.{Distinct-filter}
 
 hasnt_range : (a b n : ℕ) → a < b → has_id (range_with_len b n) a ≡ false
@@ -61,3 +62,41 @@ path_count-le n (suc r) h = omega (arith, mul-le-mul h (path_count-le (n - 1) r 
 
 pub path_count-few : (n r : ℕ) → n ≤ 16 → r ≤ 4 → path_count n r ≤ 65536
 path_count-few n r h l = bound_four (path_count n r) r l (path_count-le n r h)
+
+-- ---- the place of a member is how many members are below it
+
+none_below : (p : ℕ → Bool) (a n q : ℕ) → q ≤ a → place_of (filter p (range_with_len a n)) q ≡ 0
+none_below p a n q h = ap length (filter_filter p (λ k. nat_lt k q) (range_with_len a n) ∙ filter_none (λ k. p k && nat_lt k q) a n (λ k l u. ap (λ (b : Bool). p k && b) (le-ltb k q (omega arith)) ∙ and_no (p k)))
+  where
+    and_no : (b : Bool) → (b && false) ≡ false
+    and_no true = refl
+    and_no false = refl
+
+place_in_range : (p : ℕ → Bool) (a n q : ℕ) → p q ≡ true → a ≤ q → q < a + n → place_of (filter p (range_with_len a n)) q ≡ index_in (filter p (range_with_len a n)) q
+place_in_range p a zero q on l u = absurd (omega arith)
+place_in_range p a (suc n) q on l u =
+    let rest : List ℕ = filter p (range_with_len (a + 1) n) in
+    elim (cases_eq a q) [
+      | inl e ↦
+          let first : filter p (range_with_len a (suc n)) ≡ a ∷ rest = cond-true (p a) (a ∷ rest) rest (ap p e ∙ on) in
+          let below : place_of (a ∷ rest) q ≡ 0 = ap length (cond-false (nat_lt a q) (a ∷ filter (λ k. nat_lt k q) rest) (filter (λ k. nat_lt k q) rest) (le-ltb a q (omega arith))) ∙ none_below p (a + 1) n q (omega arith) in
+          let index : index_in (a ∷ rest) q ≡ 0 = cond-true (a == q) 0 (1 + index_in rest q) (eq-eqb a q e) in
+          ap (λ (xs : List ℕ). place_of xs q) first ∙ below ∙ sym index ∙ ap (λ (xs : List ℕ). index_in xs q) (sym first)
+      | inr ne ↦
+          let later : place_of rest q ≡ index_in rest q = place_in_range p (a + 1) n q on (omega arith) (omega arith) in
+          let below : place_of (a ∷ rest) q ≡ suc (place_of rest q) = ap length (cond-true (nat_lt a q) (a ∷ filter (λ k. nat_lt k q) rest) (filter (λ k. nat_lt k q) rest) (lt-ltb a q (omega arith))) in
+          let index : index_in (a ∷ rest) q ≡ 1 + index_in rest q = cond-false (a == q) 0 (1 + index_in rest q) (ne_eqb a q ne) in
+          elim (cases_Bool (p a)) [
+            | inl yes' ↦
+                let first : filter p (range_with_len a (suc n)) ≡ a ∷ rest = cond-true (p a) (a ∷ rest) rest yes' in
+                ap (λ (xs : List ℕ). place_of xs q) first ∙ omega (arith, below, index, later) ∙ ap (λ (xs : List ℕ). index_in xs q) (sym first)
+            | inr no' ↦
+                let none : filter p (range_with_len a (suc n)) ≡ rest = cond-false (p a) (a ∷ rest) rest no' in
+                ap (λ (xs : List ℕ). place_of xs q) none ∙ later ∙ ap (λ (xs : List ℕ). index_in xs q) (sym none)
+          ]
+    ]
+
+pub place-index : (n : ℕ) (s : List ℕ) (q : ℕ) → IsIdSet n s → has_id s q ≡ true → place_of s q ≡ index_in s q
+place-index n s q ids on =
+    let low : q < n = member-lt n s q ids on in
+    ap (λ (xs : List ℕ). place_of xs q) ids ∙ place_in_range (λ k. has_id s k) 0 n q on (omega arith) (omega arith) ∙ ap (λ (xs : List ℕ). index_in xs q) (sym ids)

@@ -1,7 +1,7 @@
-ghost use Rattle.std.specs.Prelude.{◌≡◌, ℕ, ◌<◌, ◌≤◌, length, slice_index, true};
+ghost use Rattle.std.specs.Prelude.{◌≡◌, ℕ, ◌<◌, ◌≤◌, ◌*◌, ◌/◌, ◌%◌, length, slice_index, true};
 ghost use Rattle.node_grid.specs.Capacity.{IsCapacity};
 ghost use Rattle.node_grid.specs.NodeSet.{has_id, ids_below};
-ghost use Rattle.omh_paths.specs.Paths.{paths_of_length, path_count, place_in, path_at, index_in};
+ghost use Rattle.omh_paths.specs.Paths.{paths_of_length, path_count, place_in, path_at};
 
 use crate::path::{MAX_NODES, Path};
 use node_grid::NodeSet;
@@ -13,35 +13,45 @@ pub fn count_paths(k: u8, len: u8) -> usize
     ensures product { result ≡ path_count k len }
     ensures number { result ≡ length (paths_of_length (ids_below k) len) }
 {
-    let mut count = 1usize;
-    for used in 0..len {
-        count *= k.saturating_sub(used) as usize;
-    }
-    count
+    product(k, len)
 }
 
-/// The place of a node among the members, in ascending order.
-fn place_among<const N: usize>(set: &NodeSet<N>, node: u8) -> usize
-    requires { IsCapacity N }
-    ensures { result ≡ index_in set.now node }
+/// The product of the first `len` of the numbers k, k - 1, ..
+fn product(k: u8, len: u8) -> usize
+    requires nodes { k ≤ 16 }
+    requires short { len ≤ 4 }
+    ensures { result ≡ path_count k len }
 {
-    let mut place = 0;
-    for id in set.iter() {
-        if id == node {
-            return place;
-        }
-        place += 1;
+    let first = k as usize;
+    let second = first.saturating_sub(1);
+    let third = first.saturating_sub(2);
+    let fourth = first.saturating_sub(3);
+    match len {
+        0 => 1,
+        1 => first,
+        2 => first * second,
+        3 => first * (second * third),
+        _ => first * (second * (third * fourth)),
     }
-    place
 }
 
-/// The member at a place, in ascending order.
-fn member_at<const N: usize>(set: &NodeSet<N>, place: usize) -> u8
+/// The member that an index begins with, where `behind` places belong to each member, and the place among those.
+///
+/// This counts up from the least member: there are few, and a division would take longer.
+fn split_place<const N: usize>(set: &NodeSet<N>, behind: usize, index: usize) -> (u8, usize)
     requires capacity { IsCapacity N }
-    requires within { place < length set.now }
-    ensures { result ≡ slice_index set.now place }
+    requires within { index < length set.now * behind }
+    ensures node { result.0 ≡ slice_index set.now (index / behind) }
+    ensures rest { result.1 ≡ index % behind }
 {
-    set.iter().nth(place).unwrap()
+    let mut rest = index;
+    for node in set.iter() {
+        if rest < behind {
+            return (node, rest);
+        }
+        rest -= behind;
+    }
+    (0, rest)
 }
 
 /// The place of the path among all paths of its length over the set, in lexicographic order.
@@ -56,7 +66,7 @@ pub fn rank<const N: usize>(set: &NodeSet<N>, path: &Path) -> usize
     let mut place = 0;
     for k in 0..path.len() {
         let node = path.at(k);
-        place = place * choices as usize + place_among(&left, node);
+        place = place * choices as usize + left.place(node) as usize;
         left.cut(node);
         choices -= 1;
     }
@@ -80,8 +90,8 @@ pub fn unrank<const N: usize>(set: &NodeSet<N>, len: u8, index: usize) -> Path
     for k in 0..len {
         choices -= 1;
         let behind = count_paths(choices, len - k - 1);
-        let node = member_at(&left, rest / behind);
-        rest %= behind;
+        let (node, within) = split_place(&left, behind, rest);
+        rest = within;
         left.cut(node);
         nodes[k as usize] = node;
     }

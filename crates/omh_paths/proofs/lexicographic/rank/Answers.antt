@@ -1,10 +1,10 @@
-use Rattle.std.proofs.Common.{◌≡◌, ◌≤◌, ◌<◌, ◌*◌, ◌+◌, ℕ, List, [], length, drop, sym, ap, ap₂, subst, arith}
+use Rattle.std.proofs.Common.{◌≡◌, ◌≤◌, ◌<◌, ◌*◌, ◌+◌, ℕ, List, [], length, drop, sym, ap, ap₂, ◌∙◌, subst, arith}
 use Rattle.std.proofs.lemmas.List.{drop_all}
 use Rattle.node_grid.specs.NodeSet.{without_id}
 use Rattle.omh_paths.specs.Paths.{index_in}
 use Rattle.omh_paths.specs.PathLists.{index_in-lt, length-without, place-lt}
 use Rattle.omh_paths.proofs.Ranks.{IsRanked, ranked_start, ranked_at, ranked_more, head_within, place_bound, product_small, ranked_end}
-use Rattle.omh_paths.specs.MemberLaws.{Distinct-ids, capacity-le, few_ids}
+use Rattle.omh_paths.specs.MemberLaws.{Distinct-ids, capacity-le, few_ids, place-index}
 use Rattle.omh_paths.proofs.lexicographic.rank.Goals as goal
 
 pub loop-k-init : goal.loop-k-init
@@ -31,8 +31,16 @@ overflow_add-place g c =
     let small = product_small c.loop-k.place c.loop-k.choices low choices in
     let here : c.loop-k.k < length c.args.path.now = omega (arith, c.loop-k-test.true, c.len-k-end.ensures.count) in
     let now = ranked_at c.loop-k.k c.at-node.result c.loop-k.invariant.ranked here c.at-node.ensures in
-    let place : c.place_among.result < length c.loop-k.left = omega (arith, c.place_among.ensures, index_in-lt c.loop-k.left c.at-node.result (head_within c.at-node.result (drop (c.loop-k.k + 1) c.args.path.now) now)) in
+    let is : c.place.result ≡ index_in c.loop-k.left c.at-node.result =
+    c.place.ensures.count ∙ place-index g.row.N c.loop-k.left c.at-node.result c.place.ensures.ids (head_within c.at-node.result (drop (c.loop-k.k + 1) c.args.path.now) now) in
+    let place : c.place.result < length c.loop-k.left = omega (arith, is, index_in-lt c.loop-k.left c.at-node.result (head_within c.at-node.result (drop (c.loop-k.k + 1) c.args.path.now) now)) in
     omega (arith, small, place, now.few)
+
+pub place-requires : goal.place-requires
+place-requires g c =
+    let here : c.loop-k.k < length c.args.path.now = omega (arith, c.loop-k-test.true, c.len-k-end.ensures.count) in
+    let now = ranked_at c.loop-k.k c.at-node.result c.loop-k.invariant.ranked here c.at-node.ensures in
+    (omega arith, now.low c.at-node.result (head_within c.at-node.result (drop (c.loop-k.k + 1) c.args.path.now) now))
 
 pub cut-requires : goal.cut-requires
 cut-requires g c =
@@ -52,11 +60,13 @@ loop-k-preserved g c =
     let later : List ℕ = drop (c.loop-k.k + 1) c.args.path.now in
     let now = ranked_at c.loop-k.k c.at-node.result c.loop-k.invariant.ranked here c.at-node.ensures in
     let left : c.cut.new.self ≡ without_id c.loop-k.left c.at-node.result = c.cut.ensures in
-    let place : c.loop-k.place * c.loop-k.choices + c.place_among.result ≡ c.loop-k.place * length c.loop-k.left + index_in c.loop-k.left c.at-node.result =
-    ap₂ (λ (m i : ℕ). c.loop-k.place * m + i) c.loop-k.invariant.choices c.place_among.ensures in
+    let is : c.place.result ≡ index_in c.loop-k.left c.at-node.result =
+    c.place.ensures.count ∙ place-index g.row.N c.loop-k.left c.at-node.result c.place.ensures.ids (head_within c.at-node.result later now) in
+    let place : c.loop-k.place * c.loop-k.choices + c.place.result ≡ c.loop-k.place * length c.loop-k.left + index_in c.loop-k.left c.at-node.result =
+    ap₂ (λ (m i : ℕ). c.loop-k.place * m + i) c.loop-k.invariant.choices is in
     record {
       ranked = as_now g.row.N c.args.set.now c.args.path.now c.cut.new.self (without_id c.loop-k.left c.at-node.result) later
-          (c.loop-k.place * c.loop-k.choices + c.place_among.result) (c.loop-k.place * length c.loop-k.left + index_in c.loop-k.left c.at-node.result) left place
+          (c.loop-k.place * c.loop-k.choices + c.place.result) (c.loop-k.place * length c.loop-k.left + index_in c.loop-k.left c.at-node.result) left place
           (ranked_more c.at-node.result later now);
       choices = omega (arith, c.loop-k.invariant.choices, ap length left, length-without c.loop-k.left c.at-node.result now.distinct (head_within c.at-node.result later now));
     }

@@ -1,10 +1,10 @@
-use Rattle.std.proofs.Common.{◌≡◌, ◌<◌, ◌-◌, ◌+◌, ◌/◌, ◌%◌, ◌++◌, ◌∷◌, ℕ, List, [], length, get_or, set, take, drop, replicate, refl, sym, ap, ◌∙◌, subst, arith}
+use Rattle.std.proofs.Common.{◌≡◌, ◌<◌, ◌-◌, ◌+◌, ◌*◌, ◌/◌, ◌%◌, ◌++◌, ◌∷◌, ℕ, List, [], length, get_or, set, take, drop, replicate, refl, sym, ap, ◌∙◌, subst, arith}
 use Rattle.std.proofs.lemmas.List.{take_more_set, length-set, drop-set-lt}
 use Rattle.node_grid.specs.NodeSet.{has_id, without_id}
 use Rattle.omh_paths.specs.Paths.{path_count, path_at, paths_of_length, IsListed}
 use Rattle.omh_paths.specs.PathLists.{length-without, has-at, IsListed-at}
 use Rattle.omh_paths.specs.Layout.{zeros_after}
-use Rattle.omh_paths.proofs.Ranks.{IsUnranked, unranked_start, unranked_at, unranked_more, unranked_end, distinct_end, some_behind, first_place, behind_is}
+use Rattle.omh_paths.proofs.Ranks.{IsUnranked, unranked_start, unranked_at, unranked_more, unranked_end, distinct_end, first_place, behind_is}
 use Rattle.omh_paths.specs.MemberLaws.{capacity-le, Distinct-ids}
 use Rattle.omh_paths.proofs.lexicographic.unrank.Goals as goal
 
@@ -22,31 +22,19 @@ overflow_sub-choices g c =
     let place = first_place (c.args.len - c.loop-k.k - 1) now in
     omega (arith, c.loop-k.invariant.choices, place)
 
-pub nonzero_div-rest : goal.nonzero_div-rest
-nonzero_div-rest g c =
+pub split_place-node-requires : goal.split_place-node-requires
+split_place-node-requires g c =
     let now = unranked_at c.loop-k.k c.loop-k.invariant.unranked c.loop-k-test.true in
     let behind = behind_is c.count_paths-behind.result c.loop-k.choices (length c.loop-k.left) (c.args.len - c.loop-k.k - 1) c.count_paths-behind.ensures.product c.loop-k.invariant.choices in
-    omega (arith, some_behind (c.args.len - c.loop-k.k - 1) now)
-
-pub member_at-node-requires : goal.member_at-node-requires
-member_at-node-requires g c =
-    let now = unranked_at c.loop-k.k c.loop-k.invariant.unranked c.loop-k-test.true in
-    let behind = behind_is c.count_paths-behind.result c.loop-k.choices (length c.loop-k.left) (c.args.len - c.loop-k.k - 1) c.count_paths-behind.ensures.product c.loop-k.invariant.choices in
-    (omega arith, (c.requires.capacity, subst (λ (w : ℕ). c.loop-k.rest / w < length c.loop-k.left) (sym behind) (first_place (c.args.len - c.loop-k.k - 1) now)))
-
-pub nonzero_rem-rest : goal.nonzero_rem-rest
-nonzero_rem-rest g c =
-    let now = unranked_at c.loop-k.k c.loop-k.invariant.unranked c.loop-k-test.true in
-    let behind = behind_is c.count_paths-behind.result c.loop-k.choices (length c.loop-k.left) (c.args.len - c.loop-k.k - 1) c.count_paths-behind.ensures.product c.loop-k.invariant.choices in
-    omega (arith, some_behind (c.args.len - c.loop-k.k - 1) now)
+    (omega arith, (c.requires.capacity, subst (λ (w : ℕ). c.loop-k.rest < length c.loop-k.left * w) (sym behind) now.in_range))
 
 pub cut-requires : goal.cut-requires
 cut-requires g c =
     let now = unranked_at c.loop-k.k c.loop-k.invariant.unranked c.loop-k-test.true in
     let behind = behind_is c.count_paths-behind.result c.loop-k.choices (length c.loop-k.left) (c.args.len - c.loop-k.k - 1) c.count_paths-behind.ensures.product c.loop-k.invariant.choices in
     let w : ℕ = path_count (length c.loop-k.left - 1) (c.args.len - c.loop-k.k - 1) in
-    let node : c.member_at-node.result ≡ get_or c.loop-k.left (c.loop-k.rest / w) 0 = c.member_at-node.ensures ∙ ap (λ (x : ℕ). get_or c.loop-k.left (c.loop-k.rest / x) 0) behind in
-    (omega arith, now.low c.member_at-node.result (ap (has_id c.loop-k.left) node ∙ has-at c.loop-k.left (c.loop-k.rest / w) 0 (first_place (c.args.len - c.loop-k.k - 1) now)))
+    let node : c.split_place-node.result.0 ≡ get_or c.loop-k.left (c.loop-k.rest / w) 0 = c.split_place-node.ensures.node ∙ ap (λ (x : ℕ). get_or c.loop-k.left (c.loop-k.rest / x) 0) behind in
+    (omega arith, now.low c.split_place-node.result.0 (ap (has_id c.loop-k.left) node ∙ has-at c.loop-k.left (c.loop-k.rest / w) 0 (first_place (c.args.len - c.loop-k.k - 1) now)))
 
 pub loop-k-preserved : goal.loop-k-preserved
 loop-k-preserved g c =
@@ -54,16 +42,16 @@ loop-k-preserved g c =
     let now = unranked_at c.loop-k.k c.loop-k.invariant.unranked c.loop-k-test.true in
     let behind = behind_is c.count_paths-behind.result c.loop-k.choices (length c.loop-k.left) r c.count_paths-behind.ensures.product c.loop-k.invariant.choices in
     let w : ℕ = path_count (length c.loop-k.left - 1) r in
-    let q : ℕ = c.member_at-node.result in
-    let node : q ≡ get_or c.loop-k.left (c.loop-k.rest / w) 0 = c.member_at-node.ensures ∙ ap (λ (x : ℕ). get_or c.loop-k.left (c.loop-k.rest / x) 0) behind in
+    let q : ℕ = c.split_place-node.result.0 in
+    let node : q ≡ get_or c.loop-k.left (c.loop-k.rest / w) 0 = c.split_place-node.ensures.node ∙ ap (λ (x : ℕ). get_or c.loop-k.left (c.loop-k.rest / x) 0) behind in
     let here : c.loop-k.k < length c.loop-k.nodes = omega (arith, c.loop-k.invariant.whole, c.loop-k-test.true, c.requires.few) in
     let on = ap (has_id c.loop-k.left) node ∙ has-at c.loop-k.left (c.loop-k.rest / w) 0 (first_place r now) in
     let short : r ≡ c.args.len - (c.loop-k.k + 1) = omega arith in
     record {
       unranked = as_now g.row.N c.args.set.now c.args.len c.args.index
           (take (c.loop-k.k + 1) (set c.loop-k.nodes c.loop-k.k q)) (take c.loop-k.k c.loop-k.nodes ++ q ∷ []) c.cut.new.self (without_id c.loop-k.left q)
-          (c.args.len - (c.loop-k.k + 1)) r (c.loop-k.rest % c.count_paths-behind.result) (c.loop-k.rest % w)
-          (take_more_set c.loop-k.nodes c.loop-k.k q here) c.cut.ensures (sym short) (ap (λ (x : ℕ). c.loop-k.rest % x) behind) (unranked_more r q now node);
+          (c.args.len - (c.loop-k.k + 1)) r c.split_place-node.result.1 (c.loop-k.rest % w)
+          (take_more_set c.loop-k.nodes c.loop-k.k q here) c.cut.ensures (sym short) (c.split_place-node.ensures.rest ∙ ap (λ (x : ℕ). c.loop-k.rest % x) behind) (unranked_more r q now node);
       choices = omega (arith, c.loop-k.invariant.choices, ap length c.cut.ensures, length-without c.loop-k.left q now.distinct on);
       whole = length-set c.loop-k.nodes c.loop-k.k q ∙ c.loop-k.invariant.whole;
       zeros = drop-set-lt (c.loop-k.k + 1) c.loop-k.nodes c.loop-k.k q (omega arith) ∙ zeros_after c.loop-k.k c.loop-k.nodes here c.loop-k.invariant.zeros (omega (arith, c.loop-k-test.true, c.requires.few));
