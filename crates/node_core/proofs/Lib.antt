@@ -8,6 +8,7 @@ pub mod Frames
 pub mod Marks
 pub mod Bits
 pub mod Dues
+pub mod Flags
 pub mod Periods
 pub mod Owing
 pub mod Ranges

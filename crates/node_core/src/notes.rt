@@ -1,11 +1,10 @@
 //! What a node notes against the others.
 
-ghost use Rattle.std.specs.Prelude.{◌≡◌, ◌<◌, ◌≤◌, ◌==◌, ◌||◌, ◌&&◌, false, true};
+ghost use Rattle.std.specs.Prelude.{◌≡◌, ℕ, ◌-◌, ◌^◌, ◌<◌, ◌≤◌, ◌==◌, ◌&&◌};
 ghost use Rattle.std.specs.Int.{bit_at};
-ghost use Rattle.node_grid.specs.Kinds.{claim, overrun};
 ghost use Rattle.node_grid.specs.Version.{kind_count};
 ghost use Rattle.error_detect.specs.Finding.{kind_of};
-ghost use Rattle.node_core.specs.Notes.{against, kind_bad, noted_mask};
+ghost use Rattle.node_core.specs.Notes.{against, is_kind, kind_bad, noted_mask};
 
 use error_detect::Finding;
 use node_grid::kind::{CLAIM, COLD, DEVIATE, MALFORMED, MISSING, OVERRUN, STATE, TIMING};
@@ -46,27 +45,42 @@ pub struct Against {
     pub far: bool,
 }
 
-impl Against {
-    /// Whether it has this kind.
-    fn has(&self, k: u8) -> bool
-        ensures { result ≡ against self.now k }
-    {
-        self.kind == Some(k)
-            || self.other && k == STATE
-            || self.claim && k == CLAIM
-            || self.overrun && k == OVERRUN
-            || self.far && k == DEVIATE
-    }
+/// The mask of one kind, where it is so.
+fn flag(is_so: bool, kind: u8) -> u16
+    requires { kind < 16 }
+    ensures { (k : ℕ) → (bit_at result k == 1) ≡ (is_so && k == kind) }
+{
+    if is_so { 1 << kind } else { 0 }
+}
 
-    /// Whether the mask or this has the kind.
-    fn is_noted(&self, mask: u16, k: u8) -> bool
-        requires { k < 16 }
-        ensures { result ≡ ((bit_at mask k == 1) || against self.now k) }
+/// The mask of the kind of a frame's error, if it has one.
+fn kind_flag(kind: Option<u8>) -> u16
+    ensures { (k : ℕ) → k < 16 → (bit_at result k == 1) ≡ is_kind kind k }
+{
+    match kind {
+        Some(kind) => flag(kind < 16, kind % 16),
+        None => 0,
+    }
+}
+
+/// The mask of all kinds below `kinds`.
+fn all_kinds(kinds: u8) -> u16
+    requires { kinds ≤ 16 }
+    ensures { result ≡ 2 ^ kinds - 1 }
+{
+    ((1u32 << kinds) - 1) as u16
+}
+
+impl Against {
+    /// The mask of its kinds.
+    fn mask(&self) -> u16
+        ensures { (k : ℕ) → k < 16 → (bit_at result k == 1) ≡ against self.now k }
     {
-        if (mask >> k) & 1 == 1 {
-            return true;
-        }
-        self.has(k)
+        kind_flag(self.kind)
+            | flag(self.other, STATE)
+            | flag(self.claim, CLAIM)
+            | flag(self.overrun, OVERRUN)
+            | flag(self.far, DEVIATE)
     }
 
     /// A mask of so many kinds with these besides.
@@ -74,12 +88,6 @@ impl Against {
         requires { kinds ≤ 16 }
         ensures { result ≡ noted_mask kinds mask self.now }
     {
-        let mut noted = 0;
-        for k in 0..kinds {
-            if self.is_noted(mask, k) {
-                noted |= 1 << k;
-            }
-        }
-        noted
+        (mask | self.mask()) & all_kinds(kinds)
     }
 }
