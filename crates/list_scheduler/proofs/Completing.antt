@@ -1,14 +1,15 @@
 -- Completion goes member by member.
 use Rattle.std.proofs.Common.{◌≡◌, ℕ, ◌<◌, Bool, true, false, ◌≤◌, List, [], ◌∷◌, ◌++◌, length, set, Option, None, Some, refl, sym, ap, ap₂, ◌∙◌, inl, inr, arith, eqb-true, eq-eqb, ne_eqb}
 use Rattle.std.specs.Prelude.{◌==◌, if◌then◌else◌, replicate}
-use Rattle.std.proofs.lemmas.Bool.{cases_Bool, cond-true, cond-false}
+use Rattle.std.proofs.lemmas.Bool.{cases_Bool, cases_lt, cond-true, cond-false}
 use Rattle.node_grid.specs.NodeSet.{has_id}
 use Rattle.omh_paths.specs.declared.wrapped.Wrapped.{Wrapped}
 use Rattle.task_graph.specs.Graph.{GraphView}
 use Rattle.list_scheduler.specs.declared.copies.CopyState.{CopyState}
 use Rattle.list_scheduler.specs.declared.schedule.Verdict.{Verdict}
-use Rattle.list_scheduler.specs.Copies.{CopyTable, copy_at, table, IsTable, with_copy, works, IsCopies}
-use Rattle.list_scheduler.specs.CopyLaws.{at_table, table_same, put_copy, works_same, works_runs, map_range, map_same, set_map_range}
+use Rattle.list_scheduler.specs.Copies.{CopyTable, copy_at, table, IsTable, with_copy, works, running, IsCopies}
+use Rattle.list_scheduler.specs.declared.copies.CopyState.TheVariants.{Idle, Running, Passed, Failed}
+use Rattle.list_scheduler.specs.CopyLaws.{at_table, table_same, put_copy, works_same, works_runs, works_none, map_range, map_same, set_map_range}
 use Rattle.list_scheduler.specs.ScheduleLaws.{runs_listed}
 use Rattle.node_grid.specs.Capacity.{IsCapacity}
 use Rattle.list_scheduler.specs.Schedule.{claim_of, no_verdict, verdict_at, verdict, worked_on, completed_at, completed}
@@ -105,6 +106,19 @@ completed_by_some n graph node task e old new claim s shape some is step = step 
 -- what a node works at is a task of the graph
 pub works_listed : (graph : GraphView) (copies : CopyTable) (q t e : ℕ) → IsCopies graph copies → works copies q ≡ Some (t, e) → t < length graph.tasks
 works_listed graph copies q t e is h = let r = works_runs copies q (t, e) h in runs_listed graph copies t q e is r.0
+
+-- where none of the graph's tasks runs, none does
+pub works_within : (graph : GraphView) (copies : CopyTable) (q : ℕ) → IsCopies graph copies → ((u : ℕ) → u < length graph.tasks → running (copy_at copies u q) ≡ None) → works copies q ≡ None
+works_within graph copies q is none = works_none copies q (λ u h. elim (cases_lt u (length graph.tasks)) [
+  | inl l ↦ none u l
+  | inr m ↦ past u m (copy_at copies u q) refl
+])
+  where
+    past : (u : ℕ) → length graph.tasks ≤ u → (c : CopyState) → copy_at copies u q ≡ c → running c ≡ None
+    past u m Idle e = refl
+    past u m Passed e = refl
+    past u m Failed e = refl
+    past u m (Running k) e = absurd (omega (arith, runs_listed graph copies u q k is e))
 
 pub capacity_few : (n : ℕ) → IsCapacity n → n ≤ 16
 capacity_few n h = elim h [ inl e ↦ omega arith | inr e ↦ omega arith ]

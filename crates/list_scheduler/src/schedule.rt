@@ -142,6 +142,21 @@ impl<const N: usize> Copies<N> {
         verdicts
     }
 
+    // The node's running copy of the least task, where there are copies of the graph's tasks alone.
+    fn works(&self, graph: &TaskGraph<N>, node: u8) -> Option<(u8, u16)>
+        requires capacity { IsCapacity N }
+        requires node { node < N }
+        requires copies { IsCopies graph.now self.now }
+        ensures { result ≡ works self.now node }
+    {
+        for t in 0..graph.len() {
+            if let CopyState::Running(periods) = self.at(t, node) {
+                return Some((t, periods));
+            }
+        }
+        None
+    }
+
     // Completes one member's copy by its settled claim.
     fn complete_one(&mut self, graph: &TaskGraph<N>, node: u8, claim: Wrapped<u8>) -> Verdict
         requires capacity { IsCapacity N }
@@ -152,7 +167,7 @@ impl<const N: usize> Copies<N> {
     {
         // Proofs need here that the copies are a table.
         let _ = &self.rows;
-        let Some((t, periods)) = self.running(node) else {
+        let Some((t, periods)) = self.works(graph, node) else {
             return Verdict {
                 claim: claims_any(claim),
                 overrun: false,
@@ -184,10 +199,11 @@ impl<const N: usize> Copies<N> {
     fn next_task(&self, graph: &TaskGraph<N>, node: u8) -> Option<u8>
         requires capacity { IsCapacity N }
         requires node { node < N }
+        requires copies { IsCopies graph.now self.now }
         ensures task { result ≡ starts graph.now self.now node }
         ensures within { IfSome result (λ t. t < length graph.now.tasks) }
     {
-        if self.running(node).is_some() {
+        if self.works(graph, node).is_some() {
             return None;
         }
         for t in 0..graph.len() {
