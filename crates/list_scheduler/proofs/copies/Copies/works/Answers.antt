@@ -1,4 +1,4 @@
-use Rattle.std.proofs.Common.{◌<◌, ◌≤◌, length, sym, arith, rules}
+use Rattle.std.proofs.Common.{sym, arith, rules}
 use Rattle.task_graph.specs.GraphLaws.{few_tasks}
 use Rattle.list_scheduler.specs.CopyLaws.{works_first}
 use Rattle.list_scheduler.proofs.Completing.{works_within}
