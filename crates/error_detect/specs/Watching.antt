@@ -1,12 +1,13 @@
 -- What a watch keeps of a slot's deliveries, and what it finds by that.
-use Rattle.std.specs.Prelude.{◌≡◌, ℕ, ◌<◌, ◌≤◌, All, IfSome, ◌==◌, ◌||◌, Bool, true, false, List, [], ◌∷◌, Option, Some, None, nat_lt, nat_le, length, map, replicate, slice_set, if◌then◌else◌}
+use Rattle.std.specs.Prelude.{◌≡◌, ℕ, ◌<◌, ◌≤◌, All, IsSome, IfSome, ◌==◌, ◌||◌, Bool, true, false, List, [], ◌∷◌, Option, Some, None, nat_lt, nat_le, length, map, replicate, slice_set, if◌then◌else◌}
 use Rattle.node_grid.specs.Capacity.{IsCapacity}
+use Rattle.node_grid.specs.NodeSet.{has_id}
 use Rattle.std.specs.List.{slice_index_or, range_with_len}
 use Rattle.frames.specs.Content.{Expectation, Content}
 use Rattle.frames.specs.Spelling.{spelling, head_of, IsInRange}
 use Rattle.error_detect.specs.declared.finding.Finding.{Finding}
 use Rattle.error_detect.specs.declared.finding.Finding.TheVariants.{Good, Missing, Malformed, Timing}
-use Rattle.error_detect.specs.Finding.{is_in_window, finding, told}
+use Rattle.error_detect.specs.Finding.{is_in_window, is_good, finding, told}
 
 -- what arrived from one sender: nothing, one delivery with its bytes or with more than any frame has, or several
 pub data Arrival : Type 0 where
@@ -132,3 +133,12 @@ pub record AreInboxes (n nodes room : ℕ) (expect : Option Expectation) (boxes 
   pub each : length boxes ≡ nodes
   pub rooms : All (λ b. b.room ≡ room) boxes
   pub readable : IfSome expect (λ e. (e.nodes ≡ nodes) × (0 < e.nodes) × (e.m ≤ 3))
+
+-- once a slot is closed, the nodes that are marked are those whose finding is Good
+abbrev pub AreMarked : ℕ → Watch → List ℕ → Type 0
+AreMarked n w good = w.is_open ≡ false → IsSome w.expect → (j : ℕ) → j < n → has_id good j ≡ is_good (finding_at w j)
+
+-- what holds of the inside of a watch: its inboxes, and its marks
+pub record IsKept (n : ℕ) (w : Watch) (boxes : List Box) (good : List ℕ) : Type 0 where
+  pub inboxes : AreInboxes n w.nodes w.frame_max w.expect boxes
+  pub marked : AreMarked n w good

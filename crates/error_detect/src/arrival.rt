@@ -1,15 +1,16 @@
 //! What arrived from one sender in a slot.
 
-ghost use Rattle.std.specs.Prelude.{◌≡◌, ◌<◌, ◌≤◌, IfOk, IfSome, option_map};
+ghost use Rattle.std.specs.Prelude.{◌≡◌, ◌<◌, ◌≤◌, IfOk, Some};
 ghost use Rattle.node_grid.specs.Capacity.{IsCapacity};
 ghost use Rattle.frames.specs.Seen.{content, expected, HasWidth};
 ghost use Rattle.frames.specs.Spelling.{head_of};
 ghost use Rattle.frames.specs.Reading.{reading};
-ghost use Rattle.error_detect.specs.Finding.{is_in_window, found_of, told_of};
+ghost use Rattle.error_detect.specs.Finding.{is_in_window, found_of};
+ghost use Rattle.error_detect.specs.declared.finding.Finding.TheVariants.{Good};
 ghost use Rattle.error_detect.specs.Watching.{nothing, filled, emptied, found_by, told_by};
 
 use crate::finding::Finding;
-use frames::{Expect, Frame, decode};
+use frames::{Expect, Frame, decode, decode_known};
 use std::alloc::{AllocError, Global};
 use std::marker::Model;
 
@@ -120,26 +121,17 @@ impl Inbox {
         }
     }
 
-    /// The frame that arrived, exactly where its finding is Good.
-    pub(crate) fn frame<const N: usize>(&self, expect: &Expect<N>) -> Option<Frame<'_, N>>
+    /// The frame that arrived, where its finding is Good. It isn't checked again.
+    pub(crate) fn good_frame<const N: usize>(&self, expect: &Expect<N>) -> Frame<'_, N>
         requires capacity { IsCapacity N }
         requires some_nodes { 0 < expect.now.nodes }
         requires nodes { expect.now.nodes ≤ N }
-        requires rounds { expect.now.m ≤ 3 }
-        ensures head { IfSome result (λ f. f.head ≡ head_of (expected expect.now)) }
-        ensures widths { IfSome result (λ f. HasWidth expect.now.nodes f.body) }
-        ensures told { option_map (λ f. content expect.now.nodes f.body) result ≡ told_by (expected expect.now) self.now.arrival }
+        requires good { found_by (expected expect.now) self.now.arrival ≡ Good }
+        ensures head { result.head ≡ head_of (expected expect.now) }
+        ensures widths { HasWidth expect.now.nodes result.body }
+        ensures told { Some (content expect.now.nodes result.body) ≡ told_by (expected expect.now) self.now.arrival }
     {
-        match self.amount {
-            Amount::One(tick) => {
-                if is_in_window(tick) {
-                    told_of(expect, self.bytes.as_slice())
-                } else {
-                    None
-                }
-            }
-            _ => None,
-        }
+        decode_known(expect, self.bytes.as_slice())
     }
 }
 
@@ -158,25 +150,5 @@ fn found_of<const N: usize>(expect: &Expect<N>, bytes: &[u8]) -> Finding
         Finding::Cold
     } else {
         Finding::Good
-    }
-}
-
-/// The frame that the bytes are, where it isn't Cold.
-fn told_of<'a, const N: usize>(expect: &Expect<N>, bytes: &'a [u8]) -> Option<Frame<'a, N>>
-    requires capacity { IsCapacity N }
-    requires some_nodes { 0 < expect.now.nodes }
-    requires nodes { expect.now.nodes ≤ N }
-    requires rounds { expect.now.m ≤ 3 }
-    ensures head { IfSome result (λ f. f.head ≡ head_of (expected expect.now)) }
-    ensures widths { IfSome result (λ f. HasWidth expect.now.nodes f.body) }
-    ensures told { option_map (λ f. content expect.now.nodes f.body) result ≡ told_of (reading (expected expect.now) bytes.now) }
-{
-    let Some(frame) = decode(expect, bytes) else {
-        return None;
-    };
-    if frame.body.is_cold() {
-        None
-    } else {
-        Some(frame)
     }
 }

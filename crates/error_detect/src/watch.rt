@@ -4,12 +4,14 @@ ghost use Rattle.std.specs.Prelude.{◌≡◌, ◌≢◌, ◌<◌, ◌≤◌, tr
 ghost use Rattle.node_grid.specs.Capacity.{IsCapacity};
 ghost use Rattle.frames.specs.Seen.{content, expected, HasWidth};
 ghost use Rattle.frames.specs.Spelling.{head_of};
+ghost use Rattle.node_grid.specs.NodeSet.{ids_where};
+ghost use Rattle.error_detect.specs.Finding.{is_good_at};
 ghost use Rattle.error_detect.specs.Watching.{nothing, emptied, fresh, opened, delivered, closed, of_sender, HasRoom, finding_at, findings, told_at};
 
 use crate::arrival::Inbox;
 use crate::finding::Finding;
 use frames::{Expect, Frame};
-use node_grid::NoMemory;
+use node_grid::{NoMemory, NodeSet};
 use std::alloc::{AllocError, Global};
 use std::marker::Model;
 
@@ -22,19 +24,20 @@ pub struct SlotWatch<const N: usize> {
     expect: Option<Expect<N>>,
     is_open: bool,
     inboxes: Vec<Inbox>,
+    good: NodeSet<N>,
 }
 
 // Clauses see the numbers given to `open`, what was expected in the last slot, whether it is open, and what arrived, by sender.
 impl<const N: usize> Model for SlotWatch<N> {
     ghost use Rattle.std.specs.Prelude.{◌≡◌, ◌≤◌, map, option_map};
     ghost use Rattle.frames.specs.Seen.{expected};
-    ghost use Rattle.error_detect.specs.Watching.{Watch, arrival_of, AreInboxes};
+    ghost use Rattle.error_detect.specs.Watching.{Watch, arrival_of, IsKept};
 
     ghost Value = { Watch };
 
     ghost view = { λ w. record { nodes = w.nodes; me = w.me; frame_max = w.frame_max; expect = option_map expected w.expect; is_open = w.is_open; arrived = map arrival_of w.inboxes.items } };
 
-    ghost invariant = { λ w. AreInboxes N w.nodes w.frame_max (option_map expected w.expect) w.inboxes.items };
+    ghost invariant = { λ w. IsKept N (record { nodes = w.nodes; me = w.me; frame_max = w.frame_max; expect = option_map expected w.expect; is_open = w.is_open; arrived = map arrival_of w.inboxes.items }) w.inboxes.items w.good };
 }
 
 /// Empty inboxes, one for each node.
@@ -55,6 +58,20 @@ fn forget_all(inboxes: &mut [Inbox])
     for inbox in inboxes.iter_mut() {
         inbox.forget();
     }
+}
+
+/// The nodes whose finding is Good.
+fn good_nodes<const N: usize>(found: &[Finding; N]) -> NodeSet<N>
+    requires capacity { IsCapacity N }
+    ensures { result ≡ ids_where (is_good_at found.now) N }
+{
+    let mut good = NodeSet::empty();
+    for node in 0..N {
+        if found[node].is_good() {
+            good.put(node as u8);
+        }
+    }
+    good
 }
 
 impl<const N: usize> SlotWatch<N> {
@@ -81,6 +98,7 @@ impl<const N: usize> SlotWatch<N> {
             expect: None,
             is_open: false,
             inboxes,
+            good: NodeSet::empty(),
         })
     }
 
@@ -123,17 +141,27 @@ impl<const N: usize> SlotWatch<N> {
         }
     }
 
+    /// The finding of each node.
+    fn findings(&self) -> [Finding; N]
+        ensures { result ≡ findings N self.now }
+    {
+        let _ = &self.nodes;
+        let mut found = [Finding::Good; N];
+        for node in 0..N {
+            found[node] = self.finding(node as u8);
+        }
+        found
+    }
+
     /// Closes the slot and answers the finding of each node; Good for the watch's own, and where there is no node.
     pub fn close(&mut self) -> [Finding; N]
         requires open { self.old.is_open ≡ true }
         ensures found { result ≡ findings N self.old }
         ensures closed { self.new ≡ closed self.old }
     {
+        let found = self.findings();
+        self.good = good_nodes(&found);
         self.is_open = false;
-        let mut found = [Finding::Good; N];
-        for node in 0..N {
-            found[node] = self.finding(node as u8);
-        }
         found
     }
 
@@ -147,12 +175,15 @@ impl<const N: usize> SlotWatch<N> {
         ensures widths { IfSome result (λ f. HasWidth self.now.nodes f.body) }
         ensures told { option_map (λ f. content self.now.nodes f.body) result ≡ told_at self.now from }
     {
+        if !self.good.has(from) {
+            return None;
+        }
         match &self.expect {
             None => None,
-            Some(expect) => self.inboxes[from as usize].frame(&Expect {
+            Some(expect) => Some(self.inboxes[from as usize].good_frame(&Expect {
                 sender: from,
                 ..*expect
-            }),
+            })),
         }
     }
 }

@@ -1,7 +1,7 @@
 -- What the tests on bodies say of them, and how a frame is made of its header and its body.
-use Rattle.std.proofs.Common.{◌≡◌, ℕ, ◌+◌, ◌*◌, ◌/◌, ◌%◌, ◌^◌, ◌<◌, ◌≤◌, Bool, true, ◌&&◌, List, ◌++◌, length, take, drop, map, sym, refl, ap, ◌∙◌, arith, subst, get_or, lit<, eq-eqb, inl}
+use Rattle.std.proofs.Common.{◌≡◌, ℕ, ◌+◌, ◌*◌, ◌/◌, ◌%◌, ◌^◌, ◌<◌, ◌≤◌, Bool, true, false, ◌&&◌, List, ◌++◌, length, take, drop, map, sym, refl, ap, ◌∙◌, arith, subst, get_or, lit<, lit≤, eq-eqb, inl}
 use Rattle.std.proofs.lemmas.Bool.{and_parts, and_from}
-use Rattle.std.specs.Prelude.{◌==◌, Option, Some, None, IfSome, IfNone, option_map}
+use Rattle.std.specs.Prelude.{◌==◌, Option, Some, None, IsSome, IfSome, IfNone, option_map}
 use Rattle.std.specs.Bool.{Decides}
 use Rattle.std.proofs.Math.Nat.{add-mul-div_left, div-eq_of_lt, mul-mod_right}
 use Rattle.std.specs.List.{list_all, All, flat_map}
@@ -9,12 +9,12 @@ use Rattle.std.proofs.lemmas.List.{length-map, take-append-drop, length-drop, le
 use Rattle.std.proofs.lemmas.Bool.Decides.{Decides-eqb}
 use Rattle.frames.specs.declared.kind.Kind.{Kind}
 use Rattle.frames.specs.Seen.{number_of}
-use Rattle.frames.specs.Content.{Expectation, Content, DoneRelay, Data, Report0, ReportRelay, kind, kind_in, round_in, entries_due, IsClaim, IsRow, IsValue, IsEntry}
+use Rattle.frames.specs.Content.{Expectation, Content, State, Done0, DoneRelay, Data, Report0, ReportRelay, Cold, kind, kind_in, round_in, entries_due, IsClaim, IsRow, IsValue, IsEntry}
 use Rattle.frames.specs.Spelling.{claim_spelling, relayed_row_spelling, value_spelling, body_spelling, header_spelling, spelling, head_of, IsFrame}
 use Rattle.frames.specs.Reading.{cut, claim_in, claims_in, row_in, relayed_row_in, rows_in, value_in, values_in, said_in, reading}
-use Rattle.frames.specs.Checks.{is_claim_entry, is_row_entry, is_value, are_masks, has_claims, has_values, has_row, has_rows, IsSaid, IsBody}
+use Rattle.frames.specs.Checks.{are_written, is_claim_entry, is_row_entry, is_value, are_masks, has_claims, has_values, has_row, has_rows, IsSaid, IsBody}
 use Rattle.frames.specs.PieceLaws.{AreBytes, length-cut, length_spelt, test_spelt, restored, IsFormat, IsTest}
-use Rattle.frames.specs.EntryLaws.{claim_format, claim_test, value_format, value_test, row_valid, row_restored, row_long, row_passes, relayed_row_format, relayed_row_test}
+use Rattle.frames.specs.EntryLaws.{claim_format, claim_test, value_format, value_test, row_valid, row_restored, row_long, row_passes, relayed_row_format, relayed_row_test, claims_written, rows_written}
 use Rattle.frames.specs.ReadingLaws.{said_spelt, spelt_once, header_told, reads_exactly, none_if}
 
 times_over : (width n : ℕ) → 0 < width → (width * n) / width ≡ n
@@ -96,6 +96,33 @@ whole_rows e bytes width w h =
     let l : length bytes ≡ (1 + 2 * e.nodes) * entries_due e = (Decides-eqb (length bytes) ((1 + 2 * e.nodes) * entries_due e)).0 (and_parts _ _ h).0 in
     ap (λ x. x % width) (l ∙ ap (λ x. x * entries_due e) (sym w)) ∙ mul-mod_right width (entries_due e)
 
+-- what is said, by the number of its kind
+pub said_as : (e : Expectation) (k n : ℕ) (bytes : List ℕ) → k ≡ n → IsSaid e (said_in e k bytes) bytes → IsSaid e (said_in e n bytes) bytes
+said_as e k n bytes is said = subst (λ i. IsSaid e (said_in e i bytes) bytes) is said
+
+-- what holds of the bytes of a body that is said, by its kind
+pub claims_known : (e : Expectation) (bytes : List ℕ) → AreBytes bytes → IsSaid e (DoneRelay (claims_in bytes)) bytes → (length bytes % 2 ≡ 0) × (are_written 2 bytes ≡ true)
+claims_known e bytes b said =
+    let h : has_claims e bytes ≡ true = (claims_decided e bytes b).1 said in
+    let l : length bytes ≡ 2 * entries_due e = (Decides-eqb (length bytes) (2 * entries_due e)).0 (and_parts _ _ h).0 in
+    (ap (λ x. x % 2) l ∙ mul-mod_right 2 (entries_due e), claims_written e.tasks (round_in e.m e.slot) bytes (and_parts _ _ h).1)
+
+pub values_known : (e : Expectation) (bytes : List ℕ) → AreBytes bytes → IsSaid e (Data (values_in bytes)) bytes → length bytes % 8 ≡ 0
+values_known e bytes b said =
+    let h : has_values e bytes ≡ true = (values_decided e bytes b).1 said in
+    let l : length bytes ≡ 8 * e.due = (Decides-eqb (length bytes) (8 * e.due)).0 (and_parts _ _ h).0 in
+    ap (λ x. x % 8) l ∙ mul-mod_right 8 e.due
+
+pub row_known : (e : Expectation) (bytes : List ℕ) → e.nodes ≤ e.capacity → AreBytes bytes → IsSaid e (Report0 (row_in e.capacity e.nodes bytes)) bytes → length bytes ≡ 2 * e.nodes
+row_known e bytes few b said = (Decides-eqb (length bytes) (2 * e.nodes)).0 (and_parts _ _ ((row_decided e bytes few b).1 said)).0
+
+pub rows_known : (e : Expectation) (bytes : List ℕ) (width : ℕ) → width ≡ 1 + 2 * e.nodes → e.nodes ≤ e.capacity → AreBytes bytes → IsSaid e (ReportRelay (rows_in e.capacity e.nodes bytes)) bytes
+    → (length bytes % width ≡ 0) × (are_written width bytes ≡ true)
+rows_known e bytes width w few b said =
+    let h : has_rows e bytes ≡ true = (rows_decided e bytes few b).1 said in
+    let P : ℕ → Type 0 = λ n. are_written n bytes ≡ true in
+    (whole_rows e bytes width w h, subst P (sym w) (rows_written e.version (1 + 2 * e.nodes) (round_in e.m e.slot) bytes (and_parts _ _ h).1))
+
 -- ---- header and body
 
 pub frame_made : (e : Expectation) (c : Content) (bytes : List ℕ) (k size : ℕ) → take 14 bytes ≡ header_spelling (head_of e) k size → size ≡ length (drop 14 bytes) → size < 2 ^ 32 → IsBody e k c (drop 14 bytes) → IsFrame e c bytes
@@ -125,3 +152,58 @@ frame_size e c bytes h =
 pub exactly : {F : Type 0} (view : F → Content) (e : Expectation) (bytes : List ℕ) (o : Option F) → IfSome o (λ f. IsFrame e (view f) bytes) → IfNone o ((c : Content) → IsFrame e c bytes → ⊥) → option_map view o ≡ reading e bytes
 exactly view e bytes None s n = sym (none_if (reading e bytes) (λ c r. n c ((reads_exactly e c bytes).0 r)))
 exactly view e bytes (Some f) s n = sym ((reads_exactly e (view f) bytes).1 s)
+
+-- ---- bytes that are known to be a frame
+
+-- what holds of the kind and the body of a frame
+pub record IsKnown (e : Expectation) (bytes : List ℕ) (k : ℕ) : Type 0 where
+  pub long : 14 ≤ length bytes
+  pub kind_is : get_or (take 14 bytes) 3 0 ≡ k
+  pub first : 1 ≤ k
+  pub last : k ≤ 7
+  pub said : IsSaid e (said_in e k (drop 14 bytes)) (drop 14 bytes)
+  pub read : reading e bytes ≡ Some (said_in e k (drop 14 bytes))
+  pub framed : IsFrame e (said_in e k (drop 14 bytes)) bytes
+
+kind_first : (c : Content) → 1 ≤ kind c
+kind_first (State bytes) = lit≤ tt
+kind_first (Done0 task) = lit≤ tt
+kind_first (DoneRelay entries) = lit≤ tt
+kind_first (Data numbers) = lit≤ tt
+kind_first (Report0 masks) = lit≤ tt
+kind_first (ReportRelay entries) = lit≤ tt
+kind_first Cold = lit≤ tt
+
+kind_last : (c : Content) → kind c ≤ 7
+kind_last (State bytes) = lit≤ tt
+kind_last (Done0 task) = lit≤ tt
+kind_last (DoneRelay entries) = lit≤ tt
+kind_last (Data numbers) = lit≤ tt
+kind_last (Report0 masks) = lit≤ tt
+kind_last (ReportRelay entries) = lit≤ tt
+kind_last Cold = lit≤ tt
+
+known_as : (e : Expectation) (bytes : List ℕ) (c : Content) → reading e bytes ≡ Some c → IsKnown e bytes (get_or (take 14 bytes) 3 0)
+known_as e bytes c r =
+    let f : IsFrame e c bytes = (reads_exactly e c bytes).0 r in
+    let k : get_or (take 14 bytes) 3 0 ≡ kind c = frame_kind e c bytes f in
+    let same : said_in e (get_or (take 14 bytes) 3 0) (drop 14 bytes) ≡ c =
+    ap (λ n. said_in e n (drop 14 bytes)) k ∙ ap (said_in e (kind c)) f.body ∙ said_spelt e c f.in_range.sized in
+    let P : Content → Type 0 = λ x. IsSaid e x (drop 14 bytes) in
+    let Q : Content → Type 0 = λ x. IsFrame e x bytes in
+    record {
+      long = (frame_size e c bytes f).0;
+      kind_is = refl;
+      first = omega (arith, kind_first c);
+      last = omega (arith, kind_last c);
+      said = subst P (sym same) (frame_body e c bytes f).said;
+      read = r ∙ ap Some (sym same);
+      framed = subst Q (sym same) f;
+    }
+
+pub known : (e : Expectation) (bytes : List ℕ) → IsSome (reading e bytes) → IsKnown e bytes (get_or (take 14 bytes) 3 0)
+known e bytes h = of (reading e bytes) refl h
+  where
+    of : (o : Option Content) → reading e bytes ≡ o → IsSome o → IsKnown e bytes (get_or (take 14 bytes) 3 0)
+    of None r h = absurd (let no : false ≡ true = h in cc)
+    of (Some c) r h = known_as e bytes c r

@@ -168,7 +168,7 @@ impl<const N: usize> Expect<N> {
     }
 
     /// The number of bytes of an entry of relayed rows.
-    fn row_width(&self) -> usize
+    pub(crate) fn row_width(&self) -> usize
         ensures { result ≡ 1 + 2 * self.now.nodes }
     {
         1 + 2 * self.nodes as usize

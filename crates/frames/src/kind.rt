@@ -26,6 +26,23 @@ impl Kind {
         self as u8
     }
 
+    /// The kind of this number.
+    pub(crate) fn numbered(number: u8) -> Kind
+        requires first { 1 ≤ number }
+        requires last { number ≤ 7 }
+        ensures { number_of result ≡ number }
+    {
+        match number {
+            1 => Kind::State,
+            2 => Kind::Done0,
+            3 => Kind::DoneRelay,
+            4 => Kind::Data,
+            5 => Kind::Report0,
+            6 => Kind::ReportRelay,
+            _ => Kind::Cold,
+        }
+    }
+
     /// The kind of a body.
     pub(crate) fn of<const N: usize>(body: &Body<N>) -> Kind
         ensures { (nodes : ℕ) → number_of result ≡ kind (content nodes body.now) }

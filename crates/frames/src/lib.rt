@@ -13,6 +13,7 @@ mod decoding;
 mod encoding;
 mod frame;
 mod kind;
+mod known;
 pub mod laws;
 mod pieces;
 mod values;
@@ -22,6 +23,7 @@ pub use cells::{Cells, put_done, put_row};
 pub use decoding::decode;
 pub use encoding::encode;
 pub use frame::{Body, Expect, Frame, Head, StateBody};
+pub use known::decode_known;
 pub use values::{Values, put_value};
 
 #[cfg(test)]

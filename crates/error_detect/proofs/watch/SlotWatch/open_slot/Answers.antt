@@ -1,5 +1,5 @@
 use Rattle.std.proofs.Common.{◌≡◌, List, length, replicate, map, sym, ap, ◌∙◌, subst}
-use Rattle.std.specs.Prelude.{Some, true}
+use Rattle.std.specs.Prelude.{Some, true, false}
 use Rattle.std.specs.Vec.{with_items}
 use Rattle.std.proofs.lemmas.List.{with_items_is, length-map}
 use Rattle.frames.specs.Seen.{expected}
@@ -15,13 +15,13 @@ invariant_of-self g c =
     let whole : (with_items c.self.inside.inboxes c.forget_all.new.inboxes).items ≡ map emptied items = with_items_is c.self.inside.inboxes c.forget_all.new.inboxes long ∙ new in
     let P : List Box → Type 0 = AreInboxes g.row.N c.self.inside.nodes c.self.inside.frame_max (Some (expected c.args.expect.now)) in
     let is : P (map emptied items) = record {
-      capacity = c.self.invariant.capacity;
-      few = c.self.invariant.few;
-      each = length-map items emptied ∙ c.self.invariant.each;
-      rooms = rooms_emptied c.self.inside.frame_max items c.self.invariant.rooms;
+      capacity = c.self.invariant.inboxes.capacity;
+      few = c.self.invariant.inboxes.few;
+      each = length-map items emptied ∙ c.self.invariant.inboxes.each;
+      rooms = rooms_emptied c.self.inside.frame_max items c.self.invariant.inboxes.rooms;
       readable = (c.requires.nodes ∙ ap (λ (w : Watch). w.nodes) (sym c.self.view_is), c.requires.some_nodes, c.requires.rounds);
     } in
-    subst P (sym whole) is
+    record { inboxes = subst P (sym whole) is; marked = λ shut. absurd (let no : true ≡ false = shut in cc) }
 
 pub returns : goal.returns
 returns g c =
@@ -31,5 +31,5 @@ returns g c =
     let whole : (with_items c.self.inside.inboxes c.forget_all.new.inboxes).items ≡ map emptied items = with_items_is c.self.inside.inboxes c.forget_all.new.inboxes long ∙ new in
     let with_arrived : List Arrival → Watch =
     λ a. record { nodes = c.self.inside.nodes; me = c.self.inside.me; frame_max = c.self.inside.frame_max; expect = Some (expected c.args.expect.now); is_open = true; arrived = a } in
-    ap with_arrived (ap (map arrival_of) whole ∙ arrivals_emptied items ∙ ap (λ n. replicate n nothing) c.self.invariant.each)
+    ap with_arrived (ap (map arrival_of) whole ∙ arrivals_emptied items ∙ ap (λ n. replicate n nothing) c.self.invariant.inboxes.each)
     ∙ ap (λ w. opened w (expected c.args.expect.now)) c.self.view_is
