@@ -1,0 +1,13 @@
+pub mod Keep
+pub mod OneReceiver
+pub mod OneReceiverLaws
+pub mod Places
+pub mod Reads
+pub mod Doubts
+pub mod Members
+pub mod Blocks
+pub mod Folds
+pub mod Settles
+pub mod Seen
+pub mod SeenLaws
+pub mod Methods

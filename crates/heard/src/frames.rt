@@ -1,0 +1,188 @@
+//! Frames by place: where the values of each lie, and what was heard for a path.
+
+ghost use Rattle.std.specs.Prelude.{ℕ, ◌≡◌, ◌+◌, ◌-◌, ◌*◌, ◌<◌, ◌≤◌, List, [], true, length, take, slice_set, slice_index_or, replicate, IfOk, All};
+ghost use Rattle.node_grid.specs.Capacity.{IsCapacity};
+ghost use Rattle.omh_paths.specs.declared.wrapped.Wrapped.TheVariants.{Fault};
+ghost use Rattle.omh_paths.specs.Wrapped.{IsExact};
+ghost use Rattle.node_grid.specs.NodeSet.{has_id, with_id, without_id};
+ghost use Rattle.heard.specs.Keep.{frames_before, frame_at, pasted, wrapped_times, IsSmall, IsStored, parts, kept, set_at};
+
+use node_grid::NodeSet;
+use omh_paths::{Path, Wrapped, count_paths, rank};
+use std::alloc::{AllocError, Global};
+
+/// Where the values of the frames of `r` relays begin.
+pub fn frames_before(nodes: u8, r: u8) -> usize
+    requires nodes { nodes ≤ 16 }
+    requires short { r ≤ 4 }
+    ensures begins { result ≡ frames_before nodes r }
+    ensures small { result ≤ 4194304 }
+{
+    let mut begins = 0;
+    for shorter in 0..r {
+        begins += nodes as usize * count_paths(nodes.saturating_sub(1), shorter);
+    }
+    begins
+}
+
+/// Where the values of node `q`'s frame of `r` relays begin.
+pub fn frame_at(nodes: u8, r: u8, q: u8) -> usize
+    requires nodes { nodes ≤ 16 }
+    requires short { r ≤ 3 }
+    requires node { q < nodes }
+    ensures begins { result ≡ frame_at nodes r q }
+    ensures small { result ≤ 8388608 }
+{
+    frames_before(nodes, r) + q as usize * count_paths(nodes.saturating_sub(1), r)
+}
+
+/// Lays a frame's values from `at` on.
+pub fn lay_frame<V: Copy + Eq>(cells: &mut [Wrapped<V>], at: usize, values: &[Wrapped<V>])
+    requires { at + length values.now ≤ length cells.old }
+    ensures { cells.new ≡ pasted at values.now cells.old }
+{
+    let end = at + values.len();
+    cells[at..end].copy_from_slice(values);
+}
+
+/// The path without its last node.
+pub fn front_of(path: &Path) -> Path
+    requires { 1 < length path.now }
+    ensures { result ≡ take (length path.now - 1) path.now }
+{
+    let mut front = Path::root(path.at(0));
+    for k in 1..path.len() - 1 {
+        front = front.then(path.at(k));
+    }
+    front
+}
+
+/// The value after so many relays passed it on.
+pub fn wrapped_by<V: Copy + Eq>(value: Wrapped<V>, times: u8) -> Wrapped<V>
+    requires small { IsSmall 3 value }
+    requires few { times ≤ 3 }
+    ensures wrapped { result ≡ wrapped_times times value }
+    ensures small { IsSmall 6 result }
+{
+    let mut passed = value;
+    for _ in 0..times {
+        passed = passed.wrap();
+    }
+    passed
+}
+
+/// What was heard for a path.
+pub fn kept_at<V: Copy + Eq, const N: usize>(
+    nodes: u8,
+    rounds: u8,
+    members: &NodeSet<N>,
+    clean: &[NodeSet<N>],
+    odd: &[NodeSet<N>],
+    cells: &[Wrapped<V>],
+    said: &[Wrapped<V>],
+    path: &Path,
+) -> Wrapped<V>
+    requires stored { IsStored N rounds (parts nodes members.now clean.now odd.now cells.now said.now) }
+    requires within { (q : ℕ) → has_id path.now q ≡ true → has_id members.now q ≡ true }
+    requires short { length path.now ≤ rounds + 1 }
+    ensures kept { result ≡ kept (parts nodes members.now clean.now odd.now cells.now said.now) path.now }
+    ensures small { IsSmall 6 result }
+{
+    let r = path.len() - 1;
+    let c = path.at(0);
+    if r == 0 {
+        return cells[c as usize];
+    }
+    let q = path.at(r);
+    if clean[r as usize].has(q) {
+        return wrapped_by(said[c as usize], r);
+    }
+    if !odd[r as usize].has(q) {
+        return Wrapped::Fault(0);
+    }
+    let mut others = *members;
+    others.cut(q);
+    cells[frame_at(nodes, r, q) + rank(&others, &front_of(path))]
+}
+
+/// Puts a node into the set of a round.
+pub fn put_node<const N: usize>(sets: &mut [NodeSet<N>], r: u8, q: u8)
+    requires round { r < length sets.old }
+    requires node { q < N }
+    ensures { sets.new ≡ slice_set sets.old r (with_id N (set_at sets.old r) q) }
+{
+    let mut set = sets[r as usize];
+    set.put(q);
+    sets[r as usize] = set;
+}
+
+/// Takes a node out of the set of a round.
+pub fn cut_node<const N: usize>(sets: &mut [NodeSet<N>], r: u8, q: u8)
+    requires round { r < length sets.old }
+    requires node { q < N }
+    ensures { sets.new ≡ slice_set sets.old r (without_id (set_at sets.old r) q) }
+{
+    let mut set = sets[r as usize];
+    set.cut(q);
+    sets[r as usize] = set;
+}
+
+/// So many empty sets.
+pub fn no_sets<const N: usize>(alloc: Global, len: usize) -> Result<Vec<NodeSet<N>>, AllocError>
+    requires { IsCapacity N }
+    ensures { IfOk result (λ v. v.items ≡ replicate len []) }
+{
+    let mut sets = Vec::with_capacity(alloc, len)?;
+    for _ in 0..len {
+        sets.push(NodeSet::empty())?;
+    }
+    Ok(sets)
+}
+
+/// So many values of which nothing was heard.
+pub fn unheard<V: Copy + Eq>(alloc: Global, len: usize) -> Result<Vec<Wrapped<V>>, AllocError>
+    ensures { IfOk result (λ v. v.items ≡ replicate len (Fault 0)) }
+{
+    let mut values = Vec::with_capacity(alloc, len)?;
+    for _ in 0..len {
+        values.push(Wrapped::Fault(0))?;
+    }
+    Ok(values)
+}
+
+/// Empties all sets.
+pub fn clear<const N: usize>(sets: &mut [NodeSet<N>])
+    requires { IsCapacity N }
+    ensures { (r : ℕ) → set_at sets.new r ≡ [] }
+{
+    for set in sets.iter_mut() {
+        *set = NodeSet::empty();
+    }
+}
+
+/// Forgets what was heard of each node itself.
+pub fn forget_roots<V: Copy + Eq>(cells: &mut [Wrapped<V>], count: usize)
+    requires { count ≤ length cells.old }
+    ensures roots { (c : ℕ) → c < count → slice_index_or cells.new c (Fault 0) ≡ Fault 0 }
+    ensures small { All (IsSmall 3) cells.old → All (IsSmall 3) cells.new }
+{
+    for c in 0..count {
+        cells[c] = Wrapped::Fault(0);
+    }
+}
+
+/// Whether two values are one.
+pub fn are_one<V: Copy + Eq>(value: Wrapped<V>, expected: Wrapped<V>) -> bool
+    requires { IsExact V.eq }
+    ensures { result ≡ true → value ≡ expected }
+{
+    value == expected
+}
+
+/// Puts a value in place of another one.
+pub fn set_value<V: Copy + Eq>(values: &mut [Wrapped<V>], place: usize, value: Wrapped<V>)
+    requires { place < length values.old }
+    ensures { values.new ≡ slice_set values.old place value }
+{
+    values[place] = value;
+}
