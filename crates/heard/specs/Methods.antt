@@ -17,11 +17,11 @@ use Rattle.omh_paths.specs.PathLists.{length-without, has-without-left}
 use Rattle.omh.specs.Omh.{settled_at, settled_from}
 use Rattle.omh.specs.Heard.{Entry, Hearing, entry, heard_in, heard_paths, ear_of, nothing_heard, with_heard}
 use Rattle.omh.specs.HeardLaws.{IsHeardPath, IsHeardPath-root, heard_in-at, settled_as, entries_alike, entries_with}
-use Rattle.heard.specs.Keep.{Parts, parts, kept, kept_ear, root, base, cell, place_of, wrapped_times, set_at, first_node, frame_at, frames_before, pasted, IsSmall, IsStored}
+use Rattle.heard.specs.Keep.{Parts, parts, kept, kept_ear, root, cell, place_of, wrapped_times, set_at, first_node, frame_at, frames_before, pasted, IsSmall, IsStored}
 use Rattle.heard.specs.Places.{on-at, frames_before-le}
 use Rattle.heard.specs.Reads.{kept_root, kept_relayed, relayed_none, distinct_members, roots_fit, said_small, said_fits}
 use Rattle.heard.specs.Doubts.{AreHit, AreRoots, AreSaidBut, IsHitAt, DoubtsMore}
-use Rattle.heard.specs.Seen.{hearing_of, with_frame, as_written, clean_parts, odd_parts, missed_parts, root_parts, IsKept}
+use Rattle.heard.specs.Seen.{hearing_of, with_frame, as_written, odd_parts, missed_parts, root_parts, IsKept}
 use Rattle.heard.specs.SeenLaws.{clean_entries, clean_stored, odd_entries, odd_stored, odd_hit, frame_fits, missed_entries, missed_stored, missed_hit, missed_none}
 
 -- a whole list that was written through a slice

@@ -1,11 +1,11 @@
 -- What the store is seen as: what was heard by path.
-use Rattle.std.specs.Prelude.{ℕ, ◌≡◌, ◌+◌, ◌<◌, ◌≤◌, ◌==◌, ◌&&◌, Bool, true, false, List, [], ◌∷◌, ◌++◌, map, length, take, slice_index_or, slice_set, if◌then◌else◌}
+use Rattle.std.specs.Prelude.{ℕ, ◌≡◌, ◌+◌, ◌<◌, ◌≤◌, ◌==◌, ◌&&◌, Bool, false, List, [], map, length, take, slice_index_or, slice_set, if◌then◌else◌}
 use Rattle.node_grid.specs.NodeSet.{with_id, without_id}
 use Rattle.omh_paths.specs.declared.wrapped.Wrapped.{Wrapped}
 use Rattle.omh_paths.specs.declared.wrapped.Wrapped.TheVariants.{Fault}
 use Rattle.omh_paths.specs.Paths.{paths_of_length, place_in}
 use Rattle.omh.specs.Heard.{Entry, Hearing, entry, heard_paths}
-use Rattle.heard.specs.Keep.{Parts, kept, set_at, first_node, last_node, wrapped_times, frame_at, pasted, IsStored}
+use Rattle.heard.specs.Keep.{Parts, kept, set_at, last_node, frame_at, pasted, IsStored}
 use Rattle.heard.specs.Doubts.{AreHit}
 
 abbrev pub hearing_of : {V : Type 0} → Parts V → ℕ → ℕ → Bool → Wrapped V → Hearing V

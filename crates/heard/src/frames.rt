@@ -64,11 +64,10 @@ pub fn wrapped_by<V: Copy + Eq>(value: Wrapped<V>, times: u8) -> Wrapped<V>
     ensures wrapped { result ≡ wrapped_times times value }
     ensures small { IsSmall 6 result }
 {
-    let mut passed = value;
-    for _ in 0..times {
-        passed = passed.wrap();
+    match value {
+        Wrapped::Plain(v) => Wrapped::Plain(v),
+        Wrapped::Fault(k) => Wrapped::Fault(k + times),
     }
-    passed
 }
 
 /// What was heard for a path.
