@@ -28,5 +28,6 @@ pub mod PathCounts
 pub mod Saying
 pub mod Valuing
 pub mod Spelt
+pub mod Turning
 pub mod Starting
 pub mod Buffers
