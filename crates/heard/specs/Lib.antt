@@ -11,3 +11,5 @@ pub mod Settles
 pub mod Seen
 pub mod SeenLaws
 pub mod Methods
+pub mod Passing
+pub mod PassingLaws

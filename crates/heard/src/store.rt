@@ -1,19 +1,21 @@
 ghost use Rattle.std.specs.Prelude.{ℕ, ◌≡◌, ◌+◌, ◌-◌, ◌<◌, ◌≤◌, ◌∷◌, [], map, length, true, false, IfOk, All};
 ghost use Rattle.node_grid.specs.Capacity.{IsCapacity};
-ghost use Rattle.node_grid.specs.NodeSet.{has_id};
+ghost use Rattle.node_grid.specs.NodeSet.{has_id, without_id};
 ghost use Rattle.omh_paths.specs.declared.wrapped.Wrapped.TheVariants.{Fault};
 ghost use Rattle.omh_paths.specs.Paths.{path_count};
 ghost use Rattle.omh_paths.specs.Wrapped.{wrapped, IsExact};
 ghost use Rattle.omh.specs.Omh.{settled_from};
 ghost use Rattle.omh.specs.Heard.{ear_of, heard_in, heard_paths, nothing_heard, with_heard};
-ghost use Rattle.heard.specs.Keep.{IsSmall};
+ghost use Rattle.heard.specs.Keep.{IsSmall, wrapped_times};
+ghost use Rattle.heard.specs.Passing.{IsAllExpected};
 ghost use Rattle.heard.specs.Seen.{with_frame, as_written};
 
 use crate::doubts::{deviants, doubt};
 use crate::frames::{
     clear, cut_node, forget_roots, frame_at, frames_before, kept_at, lay_frame, no_sets, put_node,
-    set_value, unheard,
+    set_value, unheard, wrapped_by,
 };
+use crate::passing::{are_expected, set_of, value_of};
 use crate::settling::settle_other;
 use node_grid::{NoMemory, NodeSet};
 use omh_paths::{Path, Wrapped};
@@ -208,6 +210,32 @@ impl<V: Copy + Eq + Drop, const N: usize> Heard<V, N> {
             path,
         )
         .wrap()
+    }
+
+    /// Whether all that the node passes on in relay round `r` is what is expected: for each path of `r` of the others what
+    /// was heard of its first node, wrapped by each relay. False may be said where it is, too.
+    pub fn relays_expected(&self, r: u8) -> bool
+        requires exact { IsExact V.eq }
+        requires some { 0 < r }
+        requires round { r ≤ self.now.rounds }
+        ensures { result ≡ true → IsAllExpected self.now r }
+    {
+        let mut others = self.members;
+        others.cut(self.me);
+        if r == 1 {
+            return true;
+        }
+        let clean = set_of(self.clean.as_slice(), (r - 1) as usize);
+        are_expected(&others, &clean, self.cells.as_slice(), self.said.as_slice())
+    }
+
+    /// What was heard of one of the others itself, after `r` relays passed it on.
+    pub fn relayed(&self, c: u8, r: u8) -> Wrapped<V>
+        requires other { has_id (without_id self.now.members self.now.me) c ≡ true }
+        requires round { r ≤ self.now.rounds }
+        ensures { result ≡ wrapped_times r (heard_in self.now.heard (c ∷ [])) }
+    {
+        wrapped_by(value_of(self.cells.as_slice(), c as usize), r)
     }
 
     /// What the node settles for the item of a member: its own item where it is Full and that member, and else what
