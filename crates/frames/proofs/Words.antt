@@ -1,14 +1,17 @@
 -- What a number of eight bytes tells of them.
-use Rattle.std.proofs.Common.{◌≡◌, ◌≢◌, ℕ, zero, suc, ◌+◌, ◌-◌, ◌*◌, ◌/◌, ◌^◌, ◌<◌, true, false, List, [], ◌∷◌, length, drop, get_or, refl, sym, ap, ◌∙◌, arith, inl, inr, lit<, bit_and}
+use Rattle.std.proofs.Common.{◌≡◌, ◌≢◌, ℕ, zero, suc, ◌+◌, ◌-◌, ◌*◌, ◌/◌, ◌^◌, ◌<◌, ◌≤◌, Bool, true, false, List, [], ◌∷◌, length, take, drop, get_or, refl, sym, ap, ◌∙◌, arith, inl, inr, lit<, bit_and}
 use Rattle.std.specs.Prelude.{◌==◌}
 use Rattle.std.specs.Int.{w64, from_be_bytes}
 use Rattle.std.specs.Int.Bits.{and_zero_r}
+use Rattle.std.specs.List.{list_all}
 use Rattle.std.proofs.lemmas.Bool.{cases_lt, cases_Bool, and_parts}
-use Rattle.std.proofs.lemmas.Nat.{and_block, and_mask}
+use Rattle.std.proofs.lemmas.Nat.{and_block, and_mask, le-div}
+use Rattle.std.proofs.Math.Nat.{mul-add, mul-one}
+use Rattle.std.proofs.lemmas.List.{drop-drop, drop-take, take-take}
 use Rattle.frames.specs.Checks.{are_masks, are_zero}
-use Rattle.frames.specs.Reading.{piece}
+use Rattle.frames.specs.Reading.{piece, cut}
 use Rattle.frames.specs.TestLaws.{eq_told, eq_holds}
-use Rattle.frames.specs.PieceLaws.{AreBytes, AreBytes-take, AreBytes-drop, get_or-piece}
+use Rattle.frames.specs.PieceLaws.{AreBytes, AreBytes-take, AreBytes-drop, get_or-piece, piece_within, each_passes, one_fails}
 use Rattle.frames.specs.EntryLaws.{large_mask}
 
 -- ---- the bytes of a number
@@ -120,3 +123,28 @@ masks_further bytes k b before h j l = elim (cases_lt j (4 * k)) [
       sym (byte_at bytes k (2 * (j - 4 * k)) (2 * j) (omega arith) (omega arith))
       ∙ high_bytes (piece 8 bytes k) (AreBytes-piece bytes k b) h (j - 4 * k) (omega arith)
 ]
+
+-- ---- entries that are all the same
+
+-- where what follows the first piece is what stands before the last, each piece is the first
+pub same_pieces : (width : ℕ) (bytes : List ℕ) → 1 ≤ width → take (length bytes - width) bytes ≡ drop width bytes → (k : ℕ) → width * k + width ≤ length bytes → piece width bytes k ≡ piece width bytes 0
+same_pieces width bytes w h zero l = refl
+same_pieces width bytes w h (suc k) l =
+    let n : ℕ = length bytes - width in
+    let m : width * suc k ≡ width + width * k = omega (arith, mul-add width k 1, mul-one width) in
+    let long : n ≡ width * k + (n - width * k) = omega arith in
+    ap (λ i. take width (drop i bytes)) m
+    ∙ ap (take width) (sym (drop-drop (width * k) width bytes) ∙ ap (drop (width * k)) (sym h) ∙ ap (λ i. drop (width * k) (take i bytes)) long ∙ drop-take (width * k) (n - width * k) bytes)
+    ∙ take-take width (n - width * k) (drop (width * k) bytes) (omega arith)
+    ∙ same_pieces width bytes w h k (omega arith)
+
+-- so a test of the first is a test of all
+pub same_tested : (test : List ℕ → Bool) (width : ℕ) (bytes : List ℕ) → 1 ≤ width → width ≤ length bytes → take (length bytes - width) bytes ≡ drop width bytes → test (take width bytes) ≡ list_all test (cut width bytes)
+same_tested test width bytes w l h =
+    let start : width * 0 ≡ 0 = omega arith in
+    let first : piece width bytes 0 ≡ take width bytes = ap (λ i. take width (drop i bytes)) start in
+    let some : 0 < length bytes / width = le-div 1 (length bytes) width (omega arith) (omega arith) in
+    elim (cases_Bool (test (take width bytes))) [
+      | inl y ↦ y ∙ sym (each_passes test width bytes (λ k within. ap test (same_pieces width bytes w h k (piece_within width k (length bytes) (omega arith) within) ∙ first) ∙ y))
+      | inr n ↦ n ∙ sym (one_fails test width bytes 0 some (ap test first ∙ n))
+    ]

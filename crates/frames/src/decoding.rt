@@ -1,6 +1,6 @@
 //! Reading frames.
 
-ghost use Rattle.std.specs.Prelude.{◌≡◌, ◌↔◌, IsTrue, ◌+◌, ◌*◌, ◌/◌, ◌<◌, ◌≤◌, ◌==◌, ◌&&◌, List, length, IfSome, IfNone, option_map, take, drop};
+ghost use Rattle.std.specs.Prelude.{◌≡◌, ◌↔◌, IsTrue, ◌+◌, ◌-◌, ◌*◌, ◌/◌, ◌<◌, ◌≤◌, ◌==◌, ◌&&◌, List, length, IfSome, IfNone, option_map, take, drop};
 ghost use Rattle.std.specs.List.{list_all};
 ghost use Rattle.node_grid.specs.Capacity.{IsCapacity};
 ghost use Rattle.frames.specs.Content.{Content, entries_due, round_in};
@@ -71,8 +71,8 @@ fn are_claims(body: &[u8], tasks: u8, round: u8) -> bool
     true
 }
 
-/// Whether the bytes are entries of relayed rows, of so many bytes each.
-fn are_rows(version: u8, body: &[u8], width: usize, round: u8) -> bool
+/// Whether the bytes are entries of relayed rows, of so many bytes each: one by one.
+fn is_each_row(version: u8, body: &[u8], width: usize, round: u8) -> bool
     requires { 1 ≤ width }
     ensures { result ≡ list_all (is_row_entry version round) (cut width body.now) }
 {
@@ -82,6 +82,28 @@ fn are_rows(version: u8, body: &[u8], width: usize, round: u8) -> bool
         }
     }
     true
+}
+
+/// Whether the first so many bytes come again and again.
+fn is_repeated(body: &[u8], width: usize) -> bool
+    requires { width ≤ length body.now }
+    ensures { IsTrue result → take (length body.now - width) body.now ≡ drop width body.now }
+{
+    let (back, front) = (&body[width..], &body[..body.len() - width]);
+    front == back
+}
+
+/// Whether the bytes are entries of relayed rows, of so many bytes each.
+///
+/// In version 1 each mask is looked at; where all entries are the same, those of one are enough.
+fn are_rows(version: u8, body: &[u8], width: usize, round: u8) -> bool
+    requires { 1 ≤ width }
+    ensures { result ≡ list_all (is_row_entry version round) (cut width body.now) }
+{
+    if version == 1 && width <= body.len() && is_repeated(body, width) {
+        return is_row_entry(version, &body[..width], round);
+    }
+    is_each_row(version, body, width, round)
 }
 
 /// Whether the bytes are values in range.
