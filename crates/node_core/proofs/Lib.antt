@@ -1,5 +1,6 @@
 pub mod Putting
 pub mod Slots
+pub mod Entries
 pub mod Passing
 pub mod Viewing
 pub mod Alike

@@ -27,6 +27,7 @@ use Rattle.node_core.specs.Parts.{NodeView}
 use Rattle.node_core.specs.Steps.{setting_of, expected_in, with_notes, only_values, has_of, shut, synced, after_sync, taken, slot_taken, after_done, after_data, after_report, heard_done, claims_known, finished, next_open, after_slot, begun, restarted, given_frame}
 use Rattle.node_core.specs.Ranged.{IsRanged}
 use Rattle.node_core.proofs.Asking.{no_ids}
+pub use Rattle.node_core.proofs.Asking.{le_is, gt_is}
 use Rattle.node_core.proofs.Rowing.{row_by_is_row, empty_is_row}
 use Rattle.node_core.proofs.Valuing.{own_values_fit, no_values_fit}
 use Rattle.node_core.proofs.Speaking.{claims_speak, rows_speak, round_ranged, nothing_ranged}
@@ -46,12 +47,6 @@ adopted_agreed {N} config i sync small ok = if_some (λ a. IsAgreed N config a) 
 
 sizes_shut : {N : ℕ} (v : NodeView N) → HasSizes v → HasSizes (shut v)
 sizes_shut v h = record { kept = h.kept; before = h.before; done_nodes = h.done_nodes; done_rounds = h.done_rounds; rows_nodes = h.rows_nodes; rows_rounds = h.rows_rounds; due = h.due; done_range = h.done_range; rows_range = h.rows_range; carried = h.carried; notes = h.notes; late = h.late; readings = h.readings; values = h.values }
-
-pub le_is : (a b : ℕ) → a ≤ b → nat_le a b ≡ true
-le_is a b h = grind (arith, nat_tests)
-
-pub gt_is : (a b : ℕ) → b < a → nat_le a b ≡ false
-gt_is a b h = grind (arith, nat_tests)
 
 hears_distinct : {N : ℕ} (v : NodeView N) (ms : List ℕ) (a : AgreedView) → HasSizes v → v.phase.before ≡ Some a → ms ≡ a.standing.members → Distinct ms
 hears_distinct {N} v ms a h goes e = subst Distinct (sym e) (Distinct-ids v.config.nodes a.standing.members (subst (λ (o : Option AgreedView). IfSome o (λ b. IsAgreed N v.config b)) goes h.before).standing.set)

@@ -13,12 +13,12 @@ ghost use Rattle.frames.specs.Writing.{pasted};
 ghost use Rattle.node_core.specs.Relaying.{relays};
 
 use frames::{Body, Cells, Frame, Head, encode, put_done};
+use heard::Heard;
 use node_grid::NodeSet;
-use omh::Table;
 use omh_paths::{count_paths, unrank};
 
 /// Writes what the node passes on of claims, path by path.
-fn put_claims<const N: usize>(table: &Table<u8, N>, others: &NodeSet<N>, round: u8, out: &mut [u8])
+fn put_claims<const N: usize>(table: &Heard<u8, N>, others: &NodeSet<N>, round: u8, out: &mut [u8])
     requires capacity { IsCapacity N }
     requires distinct { Distinct table.now.members }
     requires member { has_id table.now.members table.now.me ≡ true }
@@ -37,7 +37,7 @@ fn put_claims<const N: usize>(table: &Table<u8, N>, others: &NodeSet<N>, round: 
 
 /// Writes the entries of the relay frame of claims, and answers how many bytes they are.
 fn fill_claims<const N: usize>(
-    table: &Table<u8, N>,
+    table: &Heard<u8, N>,
     members: &NodeSet<N>,
     me: u8,
     round: u8,
@@ -67,7 +67,7 @@ fn fill_claims<const N: usize>(
 
 /// Writes the relay frame of claims to the front of `out`, and answers its length.
 pub fn write_claims<const N: usize>(
-    table: &Table<u8, N>,
+    table: &Heard<u8, N>,
     members: &NodeSet<N>,
     me: u8,
     nodes: u8,

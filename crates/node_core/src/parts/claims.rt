@@ -1,12 +1,13 @@
 //! The done slots.
 
-ghost use Rattle.std.specs.Prelude.{◌≡◌, ◌≢◌, ℕ, ◌+◌, ◌<◌, ◌≤◌, true, None};
+ghost use Rattle.std.specs.Prelude.{◌≡◌, ℕ, ◌+◌, ◌-◌, ◌<◌, ◌≤◌, true, length, None};
 ghost use Rattle.node_grid.specs.Capacity.{IsCapacity};
 ghost use Rattle.node_grid.specs.Count.{Distinct};
-ghost use Rattle.omh_paths.specs.declared.wrapped.Wrapped.TheVariants.{Fault};
+ghost use Rattle.node_grid.specs.NodeSet.{has_id};
+ghost use Rattle.omh_paths.specs.Paths.{path_count};
 ghost use Rattle.error_detect.specs.Watching.{closed, told_at};
 ghost use Rattle.protocol.specs.Arrival.{arrived, claims_in};
-ghost use Rattle.node_core.specs.Hearing.{entry_at};
+ghost use Rattle.node_core.specs.Hearing.{Brings};
 ghost use Rattle.node_core.specs.Steps.{shut, heard_done, claims_known};
 ghost use Rattle.agreed_state.specs.Agreed.{IsAgreed};
 
@@ -28,7 +29,8 @@ impl<'c, const N: usize> Parts<'c, N> {
         requires me { self.old.done.me ≡ self.old.phase.me }
         requires later { 0 < self.old.phase.slot }
         requires round { self.old.phase.slot ≤ self.old.done.rounds + 1 }
-        requires known { (j k : ℕ) → entry_at (arrived claims_in None (told_at (closed self.old.arrived) j)) k ≢ Fault 255 }
+        requires few { length members.now ≤ self.old.config.nodes }
+        requires brings { (j : ℕ) → has_id members.now j ≡ true → Brings (path_count (length members.now - 1) (self.old.phase.slot - 1)) (arrived claims_in None (told_at (closed self.old.arrived) j)) }
         ensures { self.new ≡ heard_done (shut self.old) }
     {
         let round = self.slot - 1;
@@ -45,7 +47,15 @@ impl<'c, const N: usize> Parts<'c, N> {
             kinds,
         );
         self.found.notes = notes;
-        hear_claims_round(&mut self.done, &self.watch, members, self.me, nodes, round);
+        hear_claims_round(
+            &mut self.done,
+            self.claims_read.as_mut_slice(),
+            &self.watch,
+            members,
+            self.me,
+            nodes,
+            round,
+        );
     }
 
     /// Settles the claims, and takes what follows from them.

@@ -1,95 +1,100 @@
-//! What the frames of a report slot say, put into the table of rows.
+//! What the frames of a report slot say, put into what was heard of rows.
 
-ghost use Rattle.std.specs.Prelude.{◌≡◌, ◌≢◌, ℕ, ◌+◌, ◌*◌, ◌<◌, ◌≤◌, ◌∷◌, [], true, slice_index_or, map, IfSome, option_map, None};
+ghost use Rattle.std.specs.Prelude.{◌≡◌, ◌≢◌, ℕ, ◌+◌, ◌-◌, ◌*◌, ◌<◌, ◌≤◌, ◌∷◌, [], true, map, length, take, IfSome, option_map, None};
 ghost use Rattle.node_grid.specs.Capacity.{IsCapacity};
 ghost use Rattle.node_grid.specs.Count.{Distinct};
 ghost use Rattle.node_grid.specs.NodeSet.{has_id};
-ghost use Rattle.omh_paths.specs.declared.wrapped.Wrapped.TheVariants.{Fault};
+ghost use Rattle.omh_paths.specs.Paths.{path_count};
 ghost use Rattle.omh.specs.Heard.{with_heard};
 ghost use Rattle.frames.specs.Reading.{rows_in as entries_of};
 ghost use Rattle.frames.specs.Seen.{content, HasWidth};
 ghost use Rattle.error_detect.specs.Watching.{told_at};
 ghost use Rattle.protocol.specs.Arrival.{arrived, rows_in, row_form, said, row_in};
 ghost use Rattle.protocol.specs.Heard.{heard};
-ghost use Rattle.node_core.specs.Hearing.{entry_at, told_to, paths_from, all_told, slot_rounds, IsHeardBy};
+ghost use Rattle.node_core.specs.Hearing.{Brings, FitsIn, read_out, told_to, paths_from, all_told, slot_rounds, IsHeardBy};
 ghost use Rattle.node_core.specs.Steps.{after_round};
 
-use crate::hearing::put_behind;
+use crate::hearing::{set_entry, take_frame};
 use error_detect::SlotWatch;
 use frames::{Body, Cells, Frame};
+use heard::Heard;
 use node_grid::{NodeSet, Row};
-use omh::Table;
-use omh_paths::{Path, Wrapped, count_paths, unrank};
+use omh_paths::Wrapped;
 
-/// The row of entry `k`, and the error where there is none.
-fn row_in<const N: usize>(cells: &Cells<'_>, nodes: u8, k: usize) -> Wrapped<Row<N>>
+/// Copies the rows of a relay frame to the front of `entries`, and answers how many they are.
+fn copy_rows<const N: usize>(cells: &Cells<'_>, nodes: u8, entries: &mut [Wrapped<Row<N>>]) -> usize
     requires capacity { IsCapacity N }
     requires nodes { nodes ≤ N }
     requires wide { cells.now.width ≡ 1 + 2 * nodes }
-    ensures { result ≡ slice_index_or (entries_of N nodes cells.now.bytes.now) k (Fault 0) }
+    requires room { length (entries_of N nodes cells.now.bytes.now) ≤ length entries.old }
+    ensures count { result ≡ length (entries_of N nodes cells.now.bytes.now) }
+    ensures copied { take (length (entries_of N nodes cells.now.bytes.now)) entries.new ≡ entries_of N nodes cells.now.bytes.now }
+    ensures length { length entries.new ≡ length entries.old }
 {
-    if k < cells.len() {
-        cells.row_at(nodes, k)
-    } else {
-        Wrapped::Fault(0)
+    let count = cells.len();
+    for k in 0..count {
+        set_entry(entries, k, cells.row_at(nodes, k));
     }
+    count
 }
 
-/// The row of entry `k` of a relay frame, and the error where there is none.
-fn row_at<const N: usize>(frame: &Option<Frame<'_, N>>, nodes: u8, k: usize) -> Wrapped<Row<N>>
+/// Reads the rows of a relay frame to the front of `entries`, and answers how many they are, or None where there is no such
+/// frame.
+fn read_rows<const N: usize>(
+    frame: &Option<Frame<'_, N>>,
+    nodes: u8,
+    entries: &mut [Wrapped<Row<N>>],
+) -> Option<usize>
     requires capacity { IsCapacity N }
     requires nodes { nodes ≤ N }
     requires widths { IfSome frame.now (λ f. HasWidth nodes f.body) }
-    ensures { result ≡ entry_at (arrived rows_in None (option_map (λ f. content nodes f.body) frame.now)) k }
+    requires room { FitsIn (length entries.old) (arrived rows_in None (option_map (λ f. content nodes f.body) frame.now)) }
+    ensures read { arrived rows_in None (option_map (λ f. content nodes f.body) frame.now) ≡ read_out result entries.new }
+    ensures within { IfSome result (λ count. count ≤ length entries.new) }
+    ensures length { length entries.new ≡ length entries.old }
 {
     let Some(frame) = frame else {
-        return Wrapped::Fault(0);
+        return None;
     };
     match &frame.body {
-        Body::ReportRelay(cells) => row_in(cells, nodes, k),
-        Body::State(_) | Body::Done0(_) | Body::Data(_) => Wrapped::Fault(0),
-        Body::Report0(_) | Body::DoneRelay(_) | Body::Cold => Wrapped::Fault(0),
+        Body::ReportRelay(cells) => Some(copy_rows(cells, nodes, entries)),
+        Body::State(_) | Body::Done0(_) | Body::Data(_) => None,
+        Body::Report0(_) | Body::DoneRelay(_) | Body::Cold => None,
     }
 }
 
-/// Puts what the relay frame of another member says of rows.
+/// Takes what the relay frame of another member says of rows.
 fn hear_rows_from<const N: usize>(
-    table: &mut Table<Row<N>, N>,
+    table: &mut Heard<Row<N>, N>,
+    entries: &mut [Wrapped<Row<N>>],
     watch: &SlotWatch<N>,
-    members: &NodeSet<N>,
-    me: u8,
     nodes: u8,
     round: u8,
     sender: u8,
 )
     requires capacity { IsCapacity N }
-    requires distinct { Distinct members.now }
-    requires members { members.now ≡ table.old.members }
-    requires me { me ≡ table.old.me }
-    requires watching { IsHeardBy watch.now nodes me }
+    requires distinct { Distinct table.old.members }
+    requires watching { IsHeardBy watch.now nodes table.old.me }
     requires low { sender < nodes }
     requires nodes { nodes ≤ N }
-    requires sender { has_id members.now sender ≡ true }
-    requires other { sender ≢ me }
+    requires sender { has_id table.old.members sender ≡ true }
+    requires other { sender ≢ table.old.me }
     requires some_round { 0 < round }
     requires round { round ≤ table.old.rounds }
-    requires few { table.old.rounds ≤ 3 }
-    requires known { (k : ℕ) → entry_at (arrived rows_in None (told_at watch.now sender)) k ≢ Fault 255 }
-    ensures { table.new ≡ record table.old { heard = map (told_to (paths_from table.old.members table.old.me round sender) (heard (slot_rounds row_form table.old.members watch.now))) table.old.heard } }
+    requires brings { Brings (path_count (length table.old.members - 1) round) (arrived rows_in None (told_at watch.now sender)) }
+    requires room { path_count (length table.old.members - 1) round ≤ length entries.old }
+    ensures heard { table.new ≡ record table.old { heard = map (told_to (paths_from table.old.members table.old.me round sender) (heard (slot_rounds row_form table.old.members watch.now))) table.old.heard } }
+    ensures length { length entries.new ≡ length entries.old }
 {
-    let mut others = *members;
-    others.cut(sender);
     let frame = watch.frame(sender);
-    for k in 0..count_paths(others.len(), round) {
-        let path = unrank(&others, round, k);
-        let row = row_at(&frame, nodes, k);
-        put_behind(table, me, &path, sender, row);
-    }
+    let read = read_rows(&frame, nodes, entries);
+    take_frame(table, sender, round, entries, read);
 }
 
-/// Puts what the relay frames of all other members say of rows.
+/// Takes what the relay frames of all other members say of rows.
 pub fn hear_rows<const N: usize>(
-    table: &mut Table<Row<N>, N>,
+    table: &mut Heard<Row<N>, N>,
+    entries: &mut [Wrapped<Row<N>>],
     watch: &SlotWatch<N>,
     members: &NodeSet<N>,
     me: u8,
@@ -104,13 +109,14 @@ pub fn hear_rows<const N: usize>(
     requires nodes { nodes ≤ N }
     requires some_round { 0 < round }
     requires round { round ≤ table.old.rounds }
-    requires few { table.old.rounds ≤ 3 }
-    requires known { (j k : ℕ) → entry_at (arrived rows_in None (told_at watch.now j)) k ≢ Fault 255 }
-    ensures { table.new ≡ record table.old { heard = map (told_to (all_told table.old.members table.old.me round nodes) (heard (slot_rounds row_form table.old.members watch.now))) table.old.heard } }
+    requires brings { (j : ℕ) → has_id members.now j ≡ true → Brings (path_count (length members.now - 1) round) (arrived rows_in None (told_at watch.now j)) }
+    requires room { path_count (length members.now - 1) round ≤ length entries.old }
+    ensures heard { table.new ≡ record table.old { heard = map (told_to (all_told table.old.members table.old.me round nodes) (heard (slot_rounds row_form table.old.members watch.now))) table.old.heard } }
+    ensures length { length entries.new ≡ length entries.old }
 {
     for q in 0..nodes {
         if q != me && members.has(q) {
-            hear_rows_from(table, watch, members, me, nodes, round, q);
+            hear_rows_from(table, entries, watch, nodes, round, q);
         }
     }
 }
@@ -131,9 +137,9 @@ fn first_row<const N: usize>(frame: &Option<Frame<'_, N>>, nodes: u8) -> Wrapped
     }
 }
 
-/// Puts what the frame of round 0 of another member says of its row.
+/// Takes what the frame of round 0 of another member says of its row.
 fn hear_row_of<const N: usize>(
-    table: &mut Table<Row<N>, N>,
+    table: &mut Heard<Row<N>, N>,
     watch: &SlotWatch<N>,
     me: u8,
     nodes: u8,
@@ -148,12 +154,12 @@ fn hear_row_of<const N: usize>(
     ensures { table.new ≡ record table.old { heard = map (with_heard (sender ∷ []) (said (arrived row_in None (told_at watch.now sender)))) table.old.heard } }
 {
     let row = first_row(&watch.frame(sender), nodes);
-    table.put(&Path::root(sender), row);
+    table.put_root(sender, row);
 }
 
-/// Puts what the frames of round 0 of all other members say of their rows.
+/// Takes what the frames of round 0 of all other members say of their rows.
 pub fn hear_first_rows<const N: usize>(
-    table: &mut Table<Row<N>, N>,
+    table: &mut Heard<Row<N>, N>,
     watch: &SlotWatch<N>,
     members: &NodeSet<N>,
     me: u8,
@@ -172,9 +178,10 @@ pub fn hear_first_rows<const N: usize>(
     }
 }
 
-/// Puts what the frames of a round of all other members say of rows.
+/// Takes what the frames of a round of all other members say of rows.
 pub fn hear_rows_round<const N: usize>(
-    table: &mut Table<Row<N>, N>,
+    table: &mut Heard<Row<N>, N>,
+    entries: &mut [Wrapped<Row<N>>],
     watch: &SlotWatch<N>,
     members: &NodeSet<N>,
     me: u8,
@@ -188,13 +195,14 @@ pub fn hear_rows_round<const N: usize>(
     requires watching { IsHeardBy watch.now nodes me }
     requires nodes { nodes ≤ N }
     requires round { round ≤ table.old.rounds }
-    requires few { table.old.rounds ≤ 3 }
-    requires known { (j k : ℕ) → entry_at (arrived rows_in None (told_at watch.now j)) k ≢ Fault 255 }
-    ensures { table.new ≡ after_round row_form nodes watch.now round table.old }
+    requires brings { (j : ℕ) → has_id members.now j ≡ true → Brings (path_count (length members.now - 1) round) (arrived rows_in None (told_at watch.now j)) }
+    requires room { path_count (length members.now - 1) round ≤ length entries.old }
+    ensures heard { table.new ≡ after_round row_form nodes watch.now round table.old }
+    ensures length { length entries.new ≡ length entries.old }
 {
     if round == 0 {
         hear_first_rows(table, watch, members, me, nodes);
     } else {
-        hear_rows(table, watch, members, me, nodes, round);
+        hear_rows(table, entries, watch, members, me, nodes, round);
     }
 }

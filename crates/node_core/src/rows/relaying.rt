@@ -13,13 +13,13 @@ ghost use Rattle.frames.specs.Writing.{pasted};
 ghost use Rattle.node_core.specs.Relaying.{relays};
 
 use frames::{Body, Cells, Frame, Head, encode, put_row};
+use heard::Heard;
 use node_grid::{NodeSet, Row};
-use omh::Table;
 use omh_paths::{count_paths, unrank};
 
 /// Writes what the node passes on of rows, path by path.
 fn put_rows<const N: usize>(
-    table: &Table<Row<N>, N>,
+    table: &Heard<Row<N>, N>,
     others: &NodeSet<N>,
     version: u8,
     nodes: u8,
@@ -47,7 +47,7 @@ fn put_rows<const N: usize>(
 
 /// Writes the entries of the relay frame of rows, and answers how many bytes they are.
 fn fill_rows<const N: usize>(
-    table: &Table<Row<N>, N>,
+    table: &Heard<Row<N>, N>,
     members: &NodeSet<N>,
     me: u8,
     version: u8,
@@ -82,7 +82,7 @@ fn fill_rows<const N: usize>(
 
 /// Writes the relay frame of rows to the front of `out`, and answers its length.
 pub fn write_rows<const N: usize>(
-    table: &Table<Row<N>, N>,
+    table: &Heard<Row<N>, N>,
     members: &NodeSet<N>,
     me: u8,
     nodes: u8,

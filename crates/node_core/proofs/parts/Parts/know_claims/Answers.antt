@@ -82,6 +82,8 @@ invariant_of-self g c =
       watch_me = inv.watch_me;
       watching = inv.watching;
       done_rounds = ap (λ (h : Hearing ℕ). h.rounds) c.settle_claims-claims.ensures.kept ∙ inv.done_rounds;
+      claims_room = inv.claims_room;
+      rows_room = inv.rows_room;
     }
 
 pub returns : goal.returns

@@ -1,9 +1,0 @@
-use Rattle.std.proofs.Common.{◌≡◌, take, filter}
-use Rattle.protocol.specs.Heard.{heard}
-use Rattle.protocol.specs.Arrival.{row_form}
-use Rattle.node_core.specs.Hearing.{slot_rounds, pushed}
-use Rattle.node_core.proofs.Putting.{told, off}
-use Rattle.node_core.proofs.rows.hearing.hear_rows_from.Given as goal
-
-abbrev pub invariant-loop-k : goal.invariant-loop-k
-invariant-loop-k g l = l.table ≡ told (filter (off l.me) (take l.k (pushed l.members l.round l.sender))) (heard (slot_rounds row_form l.initial.table.members l.watch)) l.initial.table
