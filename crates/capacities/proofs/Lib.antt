@@ -1,0 +1,13 @@
+pub mod Lists
+pub mod Copies
+pub mod Standings
+pub mod Bodies
+pub mod Settling
+pub mod Frames
+pub mod Views
+pub mod Talks
+pub mod Runs
+pub mod Scenarios
+pub mod Periods
+pub mod Texts
+pub mod Rooms

@@ -1,0 +1,6 @@
+pub mod Texts
+pub mod Laws
+pub use Rattle.scenario.specs.Rules
+pub use Rattle.scenario.specs.Scenario
+pub use Rattle.scenario.specs.Verdict
+pub use Rattle.cluster_step.specs.Record
