@@ -11,6 +11,8 @@ pub mod ReadingLaws
 pub mod Writing
 pub mod Seen
 pub mod Bound
+pub mod Filling
+pub mod FillingLaws
 pub use Rattle.node_grid.specs.Capacity
 pub use Rattle.node_grid.specs.Version
 pub use Rattle.node_grid.specs.Kinds
