@@ -32,3 +32,4 @@ pub mod Spelt
 pub mod Turning
 pub mod Starting
 pub mod Buffers
+pub mod Blocks

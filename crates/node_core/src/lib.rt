@@ -8,6 +8,7 @@ pub mod node;
 mod notes;
 pub mod outcome;
 mod parts;
+mod relayed;
 mod rows;
 mod settling;
 mod short_frames;
