@@ -2,3 +2,4 @@ pub mod Deciding
 pub mod Printed
 pub mod Rest
 pub mod Words
+pub mod Rooms

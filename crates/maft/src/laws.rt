@@ -1,6 +1,7 @@
 //! What holds of the runs that the program prints, over the definitions alone. Each function's promise is its law.
-ghost use Rattle.maft.specs.Laws.{SafeRunLaw, OrderLaw};
+ghost use Rattle.maft.specs.Laws.{SafeRunLaw, OrderLaw, OneTextLaw};
 
+use capacities::laws as rooms;
 use cluster_step::laws;
 
 /// Each claimed period of an accepted scenario is safe, and its line says so exactly where it is claimed.
@@ -16,4 +17,12 @@ pub fn order_is_free()
     ensures { OrderLaw }
 {
     laws::order_is_free();
+}
+
+/// A scenario of at most 8 nodes has one text, with room for 8 nodes and with room for 16.
+pub fn one_text()
+    ensures { OneTextLaw }
+{
+    rooms::more_room();
+    rooms::less_room();
 }

@@ -18,6 +18,11 @@ const RESTART: &str =
 /// An input that is no scenario. What refuses it has 12 bytes.
 const NO_OBJECT: &str = "[]";
 
+/// Eight nodes for 64 periods: one tells two sorts of values, one is silent and restarts; channels, and tasks that come
+/// after others. The text of its replay has 158,728 bytes.
+const LONG: &str =
+    r#"{"nodes":8,"m":2,"periods":64,"frame":16,"policy":{"weights":[5,5,5,1,5,5,5,5],"exclude":20,"readmit":4,"credit":1,"streak":4,"cap":40},"channels":[{"kind":"state","delta":10,"start":[1000,1002,1004,1001,1003,1005,1002,1000],"step":5},{"kind":"sensor","delta":6,"readings":[[200,202,201,203,204,200,202,201],[210,211,212,210,213,214,211,212]]},{"kind":"sensor","delta":2,"task":5,"readings":[[7,8,7,8,7,8,7,8]]}],"tasks":[{"after":[],"nodes":[0,1,2],"need":2,"min":1,"max":3,"run":[2,2,3]},{"after":[],"nodes":[3,4,5],"need":2,"min":1,"max":2,"run":[1,1,2]},{"after":[0],"nodes":[0,1],"need":1,"min":1,"max":2,"run":[1,2]},{"after":[0,1],"nodes":[2,3],"need":1,"min":1,"max":3,"run":[1,2]},{"after":[2],"nodes":[4],"need":1,"min":1,"max":1,"run":[1]},{"after":[3,4],"nodes":[5],"need":1,"min":1,"max":2,"run":[1]}],"faults":[{"from":7,"to":[0,1,2],"periods":[10,30],"slots":[4],"effect":{"set":{"at":14,"hex":"00000000000f4240"}}},{"from":7,"to":[3,4],"periods":[10,30],"slots":[4],"effect":{"set":{"at":14,"hex":"fffffffffff0bdc0"}}},{"from":6,"to":"all","periods":[40,41],"slots":"all","effect":"drop"}],"restarts":[{"node":6,"period":42}]}"#;
+
 /// The status and the text of a replay of this input, by a source of pieces of seven bytes that fails at these calls, into
 /// a sink of this room.
 fn replayed(
@@ -35,13 +40,13 @@ fn replayed(
     Ok((status, Vec::from_slice(alloc, sink.written())?))
 }
 
-/// The text of a replay with its frames, at a capacity.
-fn traced_at<const N: usize>(alloc: Global) -> Result<Vec<u8>, Fail>
+/// The text of a scenario's replay at a capacity, with its frames or without.
+fn text_at<const N: usize>(alloc: Global, bytes: &[u8], trace: bool) -> Result<Vec<u8>, Fail>
     requires { IsCapacity N }
 {
-    let scenario = Scenario::<N>::read(alloc, RESTART.as_bytes()).map_err(|_| "refused")?;
-    let mut sink = MemSink::new(alloc, 100_000, 1000, Vec::new(alloc)).map_err(|_| "memory")?;
-    replay_at(alloc, &scenario, true, &mut sink).map_err(|_| "not written")?;
+    let scenario = Scenario::<N>::read(alloc, bytes).map_err(|_| "refused")?;
+    let mut sink = MemSink::new(alloc, 200_000, 1000, Vec::new(alloc)).map_err(|_| "memory")?;
+    replay_at(alloc, &scenario, trace, &mut sink).map_err(|_| "not written")?;
     Ok(Vec::from_slice(alloc, sink.written())?)
 }
 
@@ -106,8 +111,17 @@ fn a_full_sink_has_a_prefix(rt: HostRuntime) -> Result<(), Fail> {
 
 #[test]
 fn both_capacities_have_one_text(rt: HostRuntime) -> Result<(), Fail> {
-    let narrow = traced_at::<8>(rt.alloc())?;
-    let wide = traced_at::<16>(rt.alloc())?;
+    let narrow = text_at::<8>(rt.alloc(), RESTART.as_bytes(), true)?;
+    let wide = text_at::<16>(rt.alloc(), RESTART.as_bytes(), true)?;
+    assert_eq!(rt; narrow.as_slice(), wide.as_slice());
+    Ok(())
+}
+
+#[test]
+fn a_long_run_has_one_text(rt: HostRuntime) -> Result<(), Fail> {
+    let narrow = text_at::<8>(rt.alloc(), LONG.as_bytes(), false)?;
+    let wide = text_at::<16>(rt.alloc(), LONG.as_bytes(), false)?;
+    assert_eq!(rt; narrow.len(), 158_728);
     assert_eq!(rt; narrow.as_slice(), wide.as_slice());
     Ok(())
 }
