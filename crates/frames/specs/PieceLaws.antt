@@ -5,7 +5,7 @@ use Rattle.std.proofs.lemmas.Nat.{mul-le}
 use Rattle.frames.specs.Writing.{pasted}
 use Rattle.std.proofs.lemmas.Bool.{cases_lt, and_parts}
 use Rattle.std.specs.List.{range_with_len, flat_map, list_all, All}
-use Rattle.std.proofs.lemmas.List.{take_at, drop_at, drop-drop, length-append, take-append-drop, length-take-le, length-drop, length-take, nil_from_length, get_or-take, get_or-drop, get_or_past, get_or-map, append_assoc, append-nil}
+use Rattle.std.proofs.lemmas.List.{take_at, drop_at, drop-drop, length-append, take-append-drop, length-take-le, length-drop, length-take, take-take, drop-take, nil_from_length, get_or-take, get_or-drop, get_or_past, get_or-map, append_assoc, append-nil}
 use Rattle.std.proofs.lemmas.List.Elements.{All-nil, All-cons, All-head, All-tail}
 use Rattle.std.proofs.lemmas.List.FromFn.{length-map-range_with_len, get_or-map-range_with_len}
 use Rattle.std.proofs.lemmas.List.Folds.{list_all_at}
@@ -208,3 +208,30 @@ pasted_front header body old h =
     ap (λ k. drop k (pasted n body old)) (zero-add n) ∙ ap (drop n) (append_assoc (take n old) body rest) ∙ drop_at (take n old) (body ++ rest) n front in
     let e : n + length body ≡ 0 + length (header ++ body) = omega (arith, length-append header body) in
     ap (λ xs. [] ++ header ++ xs) a ∙ sym (append_assoc header body rest) ∙ ap (λ k. header ++ body ++ drop k old) e
+
+-- ---- pieces that are alike
+
+window : (w i n a : ℕ) (xs : List ℕ) → i + w ≤ n → take w (drop (a + i) xs) ≡ take w (drop i (take n (drop a xs)))
+window w i n a xs h =
+    let e : i + (n - i) ≡ n = omega arith in
+    ap (take w) (sym (drop-drop i a xs))
+    ∙ sym (take-take w (n - i) (drop i (drop a xs)) (omega arith))
+    ∙ ap (take w) (sym (drop-take i (n - i) (drop a xs)) ∙ ap (λ m. drop i (take m (drop a xs))) e)
+
+-- where a stretch is the same as the one that begins a piece later, all its pieces are the same
+pub pieces_alike : (w n f d : ℕ) (xs : List ℕ) → w * d ≤ n → take n (drop (w * f) xs) ≡ take n (drop (w * f + w) xs) → piece w xs (f + d) ≡ piece w xs f
+pieces_alike w n f zero xs fits same = let e : f + 0 ≡ f = omega arith in ap (piece w xs) e
+pieces_alike w n f (suc d) xs fits same =
+    let more : w * suc d ≡ w * d + w = omega arith in
+    let a : w * (f + suc d) ≡ w * f + w + w * d = omega arith in
+    let b : w * f + w * d ≡ w * (f + d) = omega arith in
+    ap (λ m. take w (drop m xs)) a
+    ∙ window w (w * d) n (w * f + w) xs (omega arith)
+    ∙ ap (λ ys. take w (drop (w * d) ys)) (sym same)
+    ∙ sym (window w (w * d) n (w * f) xs (omega arith))
+    ∙ ap (λ m. take w (drop m xs)) b
+    ∙ pieces_alike w n f d xs (omega arith) same
+
+pub read_alike : {V : Type 0} (width : ℕ) (read : List ℕ → V) (bytes : List ℕ) (k j : ℕ) (d : V) → k < length bytes / width → j < length bytes / width → piece width bytes k ≡ piece width bytes j
+    → get_or (map read (cut width bytes)) k d ≡ get_or (map read (cut width bytes)) j d
+read_alike width read bytes k j d a b e = read_at width read bytes k d a ∙ ap read e ∙ sym (read_at width read bytes j d b)

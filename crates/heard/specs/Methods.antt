@@ -10,18 +10,19 @@ use Rattle.node_grid.specs.Capacity.{IsCapacity}
 use Rattle.node_grid.specs.Count.{Distinct}
 use Rattle.omh_paths.specs.declared.wrapped.Wrapped.{Wrapped}
 use Rattle.omh_paths.specs.declared.wrapped.Wrapped.TheVariants.{Fault}
-use Rattle.omh_paths.specs.Paths.{path_count, same_nodes}
+use Rattle.omh_paths.specs.Paths.{path_count, paths_of_length, path_at, same_nodes}
 use Rattle.omh_paths.specs.Wrapped.{wrapped}
 use Rattle.omh_paths.specs.MemberLaws.{Distinct-ids}
-use Rattle.omh_paths.specs.PathLists.{length-without, has-without-left}
+use Rattle.omh_paths.specs.PathLists.{length-without, has-without-left, Distinct-without}
 use Rattle.omh.specs.Omh.{settled_at, settled_from}
 use Rattle.omh.specs.Heard.{Entry, Hearing, entry, heard_in, heard_paths, ear_of, nothing_heard, with_heard}
 use Rattle.omh.specs.HeardLaws.{IsHeardPath, IsHeardPath-root, heard_in-at, settled_as, entries_alike, entries_with}
 use Rattle.heard.specs.Keep.{Parts, parts, kept, kept_ear, root, cell, place_of, wrapped_times, set_at, first_node, frame_at, frames_before, pasted, IsSmall, IsStored}
 use Rattle.heard.specs.Places.{on-at, frames_before-le}
-use Rattle.heard.specs.Reads.{kept_root, kept_relayed, relayed_none, distinct_members, roots_fit, said_small, said_fits}
+use Rattle.heard.specs.Reads.{value_read, cell_small, kept_root, kept_relayed, relayed_none, distinct_members, few_members, nodes_few, roots_fit, said_small, said_fits}
+use Rattle.heard.specs.Blocks.{first_in, first_on}
 use Rattle.heard.specs.Doubts.{AreHit, AreRoots, AreSaidBut, IsHitAt, DoubtsMore}
-use Rattle.heard.specs.Seen.{hearing_of, with_frame, as_written, odd_parts, missed_parts, root_parts, IsKept}
+use Rattle.heard.specs.Seen.{hearing_of, with_frame, as_written, SaysExpected, odd_parts, missed_parts, root_parts, IsKept}
 use Rattle.heard.specs.SeenLaws.{clean_entries, clean_stored, odd_entries, odd_stored, odd_hit, frame_fits, missed_entries, missed_stored, missed_hit, missed_none}
 
 -- a whole list that was written through a slice
@@ -127,6 +128,50 @@ module _ {V : Type 0} (capacity rounds me : ℕ) (full : Bool) (own : Wrapped V)
       )
 
   -- ---- a clean frame
+
+  -- what was heard of another member itself
+  root_heard : (c : ℕ) → has_id p.members c ≡ true → c ≢ me → heard_in (map (entry (kept p)) (heard_paths p.members me rounds)) (c ∷ []) ≡ root p c
+  root_heard c on ne = heard_in-at (kept p) p.members me rounds (c ∷ []) d (IsHeardPath-root rounds c on ne) ∙ kept_root p (c ∷ []) (omega arith)
+
+  pub root_expected : (c r : ℕ) (cells : List (Wrapped V)) (x y value : Wrapped V) → has_id k.members c ≡ true → c ≢ k.me → cells ≡ p.cells → x ≡ get_or cells c x → y ≡ wrapped_times r x → value ≡ y
+      → value ≡ wrapped_times r (heard_in k.heard (c ∷ []))
+  root_expected c r cells x y value on ne e is f g =
+      let s = inv.stored in
+      let low : c < length cells = omega (arith, ap length e, roots_fit capacity rounds p s c (node_low c on)) in
+      let at : x ≡ root p c = value_read cells c x low is ∙ ap (λ (cs : List (Wrapped V)). get_or cs c (Fault 0)) e in
+      let heard : heard_in k.heard (c ∷ []) ≡ root p c =
+      sym (ap (λ (j : Hearing V). heard_in j.heard (c ∷ [])) view) ∙ root_heard c (is_member c on) (λ same. ne (same ∙ ap (λ (j : Hearing V). j.me) view)) in
+      g ∙ f ∙ ap (wrapped_times r) (at ∙ sym heard)
+
+  pub root_at : (c : ℕ) (cells : List (Wrapped V)) → has_id k.members c ≡ true → cells ≡ p.cells → c < length cells
+  root_at c cells on e = let s = inv.stored in omega (arith, ap length e, roots_fit capacity rounds p s c (node_low c on))
+
+  pub root_small : (c : ℕ) (cells : List (Wrapped V)) (x : Wrapped V) → has_id k.members c ≡ true → cells ≡ p.cells → x ≡ get_or cells c x → IsSmall 3 x
+  root_small c cells x on e is =
+      let s = inv.stored in
+      let at : x ≡ root p c = value_read cells c x (root_at c cells on e) is ∙ ap (λ (cs : List (Wrapped V)). get_or cs c (Fault 0)) e in
+      subst (IsSmall 3) (sym at) (cell_small capacity rounds p s c (roots_fit capacity rounds p s c (node_low c on)))
+
+  pub few_nodes : length k.members ≤ 16
+  few_nodes =
+      let s = inv.stored in
+      omega (arith, few_members capacity rounds p s, nodes_few capacity rounds p s, ap (λ (j : Hearing V). length j.members) view)
+
+  -- values that are what is expected are what the store means by that
+  pub expected_said : (q r : ℕ) (cells said values : List (Wrapped V)) → has_id k.members q ≡ true → 0 < r → length values ≡ path_count (length k.members - 1) r → cells ≡ p.cells → said ≡ p.said
+      → ((c : ℕ) → c < p.nodes → get_or cells c (Fault 0) ≡ get_or said c (Fault 0)) → SaysExpected k.me r (without_id k.members q) k.heard values (length values)
+      → AreSaidBut me r (without_id p.members q) p.said values []
+  expected_said q r cells said values on some count e f agree told i low off clean =
+      let others : List ℕ = without_id p.members q in
+      let s = inv.stored in
+      let told' : SaysExpected me r others (map (entry (kept p)) (heard_paths p.members me rounds)) values (length values) = subst (λ (j : Hearing V). SaysExpected j.me r (without_id j.members q) j.heard values (length values)) (sym view) told in
+      let listed : i < path_count (length others) r = omega (arith, others_count q r others values on refl count) in
+      let path : List ℕ = path_at (paths_of_length others r) i in
+      let c : ℕ = first_node path in
+      let od = Distinct-without p.members q d in
+      let member : has_id p.members c ≡ true = (has-without-left p.members q c (first_in others r i od some listed)).1 in
+      let ne : c ≢ me = λ same. both_ways _ off (ap (has_id path) (sym same) ∙ first_on others r i od some listed) in
+      told' i low off ∙ ap (wrapped_times r) (root_heard c member ne ∙ ap (λ (cs : List (Wrapped V)). get_or cs c (Fault 0)) (sym e) ∙ agree c (s.low c member) ∙ ap (λ (cs : List (Wrapped V)). get_or cs c (Fault 0)) f)
 
   module _ (q r : ℕ) (sender : has_id k.members q ≡ true) (some : 0 < r) (short : r ≤ k.rounds) where
     pub all_said : (found others : List ℕ) (said values : List (Wrapped V)) → found ≡ [] → others ≡ without_id p.members q → said ≡ p.said → AreSaidBut me r others said values found → AreSaidBut me r (without_id p.members q) p.said values []

@@ -1,6 +1,7 @@
-ghost use Rattle.std.specs.Prelude.{ℕ, ◌≡◌, ◌+◌, ◌-◌, ◌<◌, ◌≤◌, ◌∷◌, [], map, length, true, false, IfOk, All};
+ghost use Rattle.std.specs.Prelude.{ℕ, List, ◌≡◌, ◌≢◌, ◌+◌, ◌-◌, ◌<◌, ◌≤◌, ◌∷◌, [], map, length, true, false, IfOk, All};
 ghost use Rattle.node_grid.specs.Capacity.{IsCapacity};
 ghost use Rattle.node_grid.specs.NodeSet.{has_id, without_id};
+ghost use Rattle.omh_paths.specs.declared.wrapped.Wrapped.{Wrapped};
 ghost use Rattle.omh_paths.specs.declared.wrapped.Wrapped.TheVariants.{Fault};
 ghost use Rattle.omh_paths.specs.Paths.{path_count};
 ghost use Rattle.omh_paths.specs.Wrapped.{wrapped, IsExact};
@@ -8,17 +9,17 @@ ghost use Rattle.omh.specs.Omh.{settled_from};
 ghost use Rattle.omh.specs.Heard.{ear_of, heard_in, heard_paths, nothing_heard, with_heard};
 ghost use Rattle.heard.specs.Keep.{IsSmall, wrapped_times};
 ghost use Rattle.heard.specs.Passing.{IsAllExpected};
-ghost use Rattle.heard.specs.Seen.{with_frame, as_written};
+ghost use Rattle.heard.specs.Seen.{with_frame, as_written, SaysExpected};
 
 use crate::doubts::{deviants, doubt};
 use crate::frames::{
-    clear, cut_node, forget_roots, frame_at, frames_before, kept_at, lay_frame, no_sets, put_node,
-    set_value, unheard, wrapped_by,
+    are_as_said, are_one, clear, cut_node, forget_roots, frame_at, frames_before, kept_at,
+    lay_frame, no_sets, put_node, set_value, unheard, wrapped_by,
 };
 use crate::passing::{are_expected, set_of, value_of};
 use crate::settling::settle_other;
 use node_grid::{NoMemory, NodeSet};
-use omh_paths::{Path, Wrapped};
+use omh_paths::{Path, Wrapped, count_paths};
 use std::alloc::Global;
 use std::marker::Model;
 
@@ -177,6 +178,56 @@ impl<V: Copy + Eq + Drop, const N: usize> Heard<V, N> {
         );
         cut_node(self.clean.as_mut_slice(), r, q);
         put_node(self.odd.as_mut_slice(), r, q);
+    }
+
+    /// Whether a value is what a frame of relay round `r` is expected to say of member `c`: what was heard of it itself,
+    /// wrapped by each relay. Of the node itself all is.
+    pub fn expects(&self, c: u8, r: u8, value: Wrapped<V>) -> bool
+        requires exact { IsExact V.eq }
+        requires member { has_id self.now.members c ≡ true }
+        requires round { r ≤ self.now.rounds }
+        ensures { result ≡ true → c ≢ self.now.me → value ≡ wrapped_times r (heard_in self.now.heard (c ∷ [])) }
+    {
+        if c == self.me {
+            return true;
+        }
+        let cells = self.cells.as_slice();
+        are_one(value, wrapped_by(cells[c as usize], r))
+    }
+
+    /// How many values a frame of relay round `r` has for each commander.
+    pub fn values_each(&self, r: u8) -> usize
+        requires some { 0 < r }
+        requires round { r ≤ self.now.rounds }
+        ensures count { result ≡ path_count (length self.now.members - 2) (r - 1) }
+        ensures short { r ≤ 3 }
+        ensures few { length self.now.members ≤ 16 }
+    {
+        count_paths(self.members.len().saturating_sub(2), r - 1)
+    }
+
+    /// Takes up member `q`'s frame of relay round `r`, whose values are what is expected, without reading it. Answers false,
+    /// and takes up nothing, where the frame has to be read.
+    pub fn hear_expected(&mut self, q: u8, r: u8) -> bool
+        requires exact { IsExact V.eq }
+        requires sender { has_id self.old.members q ≡ true }
+        requires some { 0 < r }
+        requires round { r ≤ self.old.rounds }
+        ensures is { result ≡ true → (values : List (Wrapped V)) → length values ≡ path_count (length self.old.members - 1) r → SaysExpected self.old.me r (without_id self.old.members q) self.old.heard values (length values) →
+            self.new ≡ record self.old { heard = map (with_frame r q (as_written self.old.members q r values)) self.old.heard } }
+        ensures left { result ≡ false → self.new ≡ self.old }
+        ensures paths { map (λ e. e.path) self.old.heard ≡ heard_paths self.old.members self.old.me self.old.rounds }
+    {
+        if !are_as_said(
+            self.cells.as_slice(),
+            self.said.as_slice(),
+            self.nodes as usize,
+        ) {
+            return false;
+        }
+        self.begun = true;
+        put_node(self.clean.as_mut_slice(), r, q);
+        true
     }
 
     /// Takes up that member `q`'s frame of relay round `r` didn't come.

@@ -1,6 +1,7 @@
 pub mod Putting
 pub mod Slots
 pub mod Entries
+pub mod Expected
 pub mod Passing
 pub mod Viewing
 pub mod Alike

@@ -1,0 +1,27 @@
+use Rattle.std.proofs.Common.{◌≡◌, ◌*◌, ◌+◌, ◌-◌, ◌≤◌, ℕ, List, take, drop, ap, sym, ◌∙◌, arith}
+use Rattle.std.proofs.lemmas.Bool.Decides.{Decides-eqb}
+use Rattle.std.proofs.lemmas.Slice.Eq.{slice_eq-Decides}
+use Rattle.std.proofs.lemmas.Nat.{mul-le}
+use Rattle.frames.specs.Reading.{piece}
+use Rattle.frames.specs.PieceLaws.{pieces_alike}
+use Rattle.frames.proofs.cells.are_alike.Goals as goal
+
+pub returns : goal.returns
+returns c e k above below =
+    let w : ℕ = c.args.width in
+    let f : ℕ = c.args.from in
+    let u : ℕ = c.args.until in
+    let bytes : List ℕ = c.args.bytes.now in
+    let n : ℕ = u * w - w - f * w in
+    let same : take n (drop (f * w) bytes) ≡ take (u * w - w + w - (f * w + w)) (drop (f * w + w) bytes) = (slice_eq-Decides Decides-eqb _ _ _ c.eq.ensures).0 e in
+    let long : u * w - w + w - (f * w + w) ≡ n = omega arith in
+    let turned : f * w ≡ w * f = omega arith in
+    let here : take n (drop (w * f) bytes) ≡ take n (drop (w * f + w) bytes) =
+    ap (λ (i : ℕ). take n (drop i bytes)) (sym turned) ∙ same ∙ ap (λ (m : ℕ). take m (drop (f * w + w) bytes)) long ∙ ap (λ (i : ℕ). take n (drop (i + w) bytes)) turned in
+    let s : ℕ = u - 1 - f in
+    let parted : u ≡ f + s + 1 = omega (arith, c.requires.some) in
+    let wide : u * w ≡ f * w + s * w + w = ap (λ (i : ℕ). i * w) parted ∙ omega arith in
+    let fits : w * (k - f) ≤ w * s = mul-le w (k - f) w s (omega arith) (omega arith) in
+    let swap : w * s ≡ s * w = omega arith in
+    let back : k ≡ f + (k - f) = omega arith in
+    ap (piece w bytes) back ∙ pieces_alike w n f (k - f) bytes (omega arith) here
