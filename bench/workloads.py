@@ -9,7 +9,7 @@ Nothing is claimed of these figures.
 """
 import os
 import pathlib
-import resource
+import shutil
 import subprocess
 import sys
 import tempfile
@@ -63,32 +63,45 @@ def run(program, words, given):
         source.seek(0)
         child = subprocess.Popen([program, *words], stdin=source, stdout=sink)
         _, status, usage = os.wait4(child.pid, 0)
-        return usage.ru_utime + usage.ru_stime, sink.seek(0, 2), usage.ru_maxrss / 1024, os.waitstatus_to_exitcode(status)
+        return usage.ru_utime + usage.ru_stime, sink.seek(0, 2), os.waitstatus_to_exitcode(status)
+
+
+def memory(program, words, given):
+    """Peak memory in MB of one run, where a small program that starts it is there to tell it: a child of this one would
+    inherit this one's own peak."""
+    timer = shutil.which("time")
+    if timer is None:
+        return None
+    with tempfile.NamedTemporaryFile("r") as told:
+        subprocess.run([timer, "-f", "%M", "-o", told.name, program, *words], input=given.encode(), stdout=subprocess.DEVNULL, check=False)
+        return int(told.read().split()[-1]) / 1024
+
+
+def least(programs, words, given):
+    """By program the least processor seconds of several interleaved runs, and the bytes that it writes; none of one that fails."""
+    best = {}
+    for _ in range(RUNS):
+        for program in programs:
+            seconds, size, status = run(program, words, given)
+            if status != 0:
+                print(f"{program} {' '.join(words)} ended with {status}")
+                return {}
+            if program not in best or seconds < best[program][0]:
+                best[program] = (seconds, size)
+    return best
 
 
 def main():
     programs = sys.argv[1:] or [str(TOP / ".maft/maft")]
     for name, words, given in WORKLOADS:
-        best = {}
-        for _ in range(RUNS):
-            for program in programs:
-                seconds, size, memory, status = run(program, words, given)
-                if status != 0:
-                    print(f"{name}: {program} ended with {status}")
-                    break
-                old = best.get(program)
-                if old is None or seconds < old[0]:
-                    best[program] = (seconds, size, memory)
-                if seconds > 5:
-                    break
-            else:
-                continue
-            break
-        for program in programs:
-            if program in best:
-                seconds, size, memory = best[program]
-                ratio = "" if program == programs[0] else f", {seconds / best[programs[0]][0]:.2f} times the first"
-                print(f"{name}: {seconds * 1000:.1f} ms, {size / max(seconds, 1e-6) / 1e6:.0f} MB/s, {memory:.1f} MB{ratio}")
+        for program, (seconds, size) in least(programs, words, given).items():
+            peak = memory(program, words, given)
+            told = "" if peak is None else f", {peak:.1f} MB"
+            if program == programs[0]:
+                base = seconds
+            ratio = "" if program == programs[0] else f", {seconds / base:.2f} times the first"
+            print(f"{name}: {seconds * 1000:.1f} ms, {size / max(seconds, 1e-6) / 1e6:.0f} MB/s{told}{ratio}", flush=True)
 
 
-main()
+if __name__ == "__main__":
+    main()

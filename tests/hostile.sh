@@ -110,6 +110,7 @@ torment() {
 torment "the smallest scenario" "$top/tests/cases/smallest/stdin" replay
 torment "tasks, channels and restarts, traced" "$top/tests/cases/a_bit_of_everything/stdin" replay trace
 torment "sixteen nodes" "$top/scenarios/sixteen_nodes.json" check
+torment "a storm" /dev/null storm 7
 
 echo "$passed passed, $failed failed"
 [ "$failed" = 0 ]
