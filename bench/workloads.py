@@ -1,5 +1,5 @@
 #!/usr/bin/env python3
-"""Measures the program on seven workloads.
+"""Measures the program on eight workloads.
 
     bench/workloads.sh [PROGRAM..]
 
@@ -94,12 +94,11 @@ def least(programs, words, given):
 def main():
     programs = sys.argv[1:] or [str(TOP / ".maft/maft")]
     for name, words, given in WORKLOADS:
-        for program, (seconds, size) in least(programs, words, given).items():
+        best = least(programs, words, given)
+        for program, (seconds, size) in best.items():
             peak = memory(program, words, given)
             told = "" if peak is None else f", {peak:.1f} MB"
-            if program == programs[0]:
-                base = seconds
-            ratio = "" if program == programs[0] else f", {seconds / base:.2f} times the first"
+            ratio = "" if program == programs[0] else f", {seconds / best[programs[0]][0]:.2f} times the first"
             print(f"{name}: {seconds * 1000:.1f} ms, {size / max(seconds, 1e-6) / 1e6:.0f} MB/s{told}{ratio}", flush=True)
 
 

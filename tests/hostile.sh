@@ -3,7 +3,7 @@
 #
 #   tests/hostile.sh [PROGRAM]
 #
-# Of each scenario below each request for memory is refused in turn, each read and each write fails in turn, and each of them moves one
+# Of each run below each request for memory is refused in turn, each read and each write fails in turn, and each of them moves one
 # byte alone in turn. It does so by a small library that stands before the C library's calls; where no C compiler is there, this says so
 # and ends well. Each run must end well: with status 7 and nothing written where memory was refused, 5 and nothing where a read failed,
 # 6 and a prefix of the text where a write failed, or else with the whole text; 1 where there was no memory for the words themselves. The last line is 'N passed, M failed'.
@@ -94,7 +94,7 @@ judge() {
     fi
 }
 
-# all failures of one scenario
+# all failures of one run
 torment() {
     local what=$1 input=$2 before
     shift 2
