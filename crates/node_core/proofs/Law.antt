@@ -1,11 +1,11 @@
 -- The steps of a node lead from stage to stage.
-use Rattle.std.proofs.Common.{ℕ, zero, suc, ◌≡◌, ◌≢◌, ◌<◌, ◌≤◌, ◌+◌, ◌-◌, ◌*◌, ◌==◌, ◌||◌, ◌&&◌, Bool, true, false, if◌then◌else◌, List, length, map, refl, sym, ap, ap₂, ◌∙◌, arith, eq-eqb, ne_eqb, Option, None, Some, ℤ}
+use Rattle.std.proofs.Common.{ℕ, zero, suc, ◌≡◌, ◌≢◌, ◌<◌, ◌≤◌, ◌+◌, ◌-◌, ◌*◌, ◌==◌, ◌||◌, ◌&&◌, Bool, true, false, if◌then◌else◌, List, length, map, refl, sym, ap, ap₂, ◌∙◌, inl, inr, arith, eq-eqb, ne_eqb, Option, None, Some, ℤ}
 use Rattle.std.specs.Prelude.{nat_eq, nat_le, is_some}
 use Rattle.std.specs.List.{range_with_len, list_any}
 use Rattle.std.specs.Cmp.Lexicographic.{pointwise}
-use Rattle.std.proofs.lemmas.Bool.{cond-true, cond-false}
+use Rattle.std.proofs.lemmas.Bool.{cases_Bool, cond-true, cond-false}
 use Rattle.std.proofs.lemmas.Bool.Decides.{nat_tests}
-use Rattle.node_grid.specs.Kinds.{state, claim, overrun, deviate}
+use Rattle.node_grid.specs.Kinds.{state, claim, overrun, deviate, equivocate}
 use Rattle.node_grid.specs.NodeSet.{IsIdSet}
 use Rattle.omh_paths.specs.declared.wrapped.Wrapped.{Wrapped}
 use Rattle.omh_paths.specs.declared.wrapped.Wrapped.TheVariants.{Plain, Fault}
@@ -22,18 +22,20 @@ use Rattle.agreed_state.specs.Body.{body}
 use Rattle.protocol.specs.Arrival.{Arrival, Form, is_bad, claim_form, row_form, state_in, values_in}
 use Rattle.protocol.specs.Arrival.Arrival.{Bad, Good}
 use Rattle.protocol.specs.Heard.{Rounds, rounds_bad, with_entries, paths_of, heard}
-use Rattle.protocol.specs.View.{Setting, Kept, Received, own_claim, as_claim, claims_settled, due_channels, votes_on, deviates, other_body, row_by, empty_row, noted, View, is_far, channel, value_in, value_at, carried_by, through, joined, view_from, adopted_by}
+use Rattle.protocol.specs.View.{Setting, Kept, Received, own_claim, as_claim, claims_settled, due_channels, votes_on, deviates, other_body, row_by, empty_row, noted, View, is_far, is_further, channel, value_in, value_at, carried_by, through, joined, view_from, adopted_by}
 use Rattle.protocol.specs.View.Mode.{Full, Joining}
-use Rattle.protocol.specs.Settled.{settled_items}
-use Rattle.mme_vote.specs.Channel.{delta_of}
+use Rattle.protocol.specs.Settled.{settled_items, ear_of}
+use Rattle.protocol.specs.FurtherKinds.{convicts_member}
+use Rattle.mme_vote.specs.Channel.{delta_of, is_judged}
 use Rattle.list_scheduler.specs.Schedule.{verdict}
 use Rattle.node_core.specs.Outcome.{Outcome}
 use Rattle.node_core.specs.Parts.{Found, NodeView}
-use Rattle.node_core.specs.Steps.{setting_of, has_of, only_values, bad_in, settled_in, after_round, claims_known, shut, slot_taken, next_open, started, synced, expected_in}
+use Rattle.node_core.specs.Steps.{setting_of, has_of, only_values, bad_in, settled_in, after_round, by_conviction, claims_known, shut, slot_taken, next_open, started, synced, expected_in}
 use Rattle.node_core.specs.At.{heard_upto, table_at, IsRound, goes_with}
-use Rattle.node_core.specs.Stages.{rounds_closed, by_verdict, stage, notes_sync, notes_done, claims_of, due_of, own_of, votes_of, notes_claims, row_of, done_table, row_table, found_done, found_data, found_report, in_done, in_data, in_report, outcome_of}
-use Rattle.node_core.proofs.Viewing.{Agrees, round_more, settled_tabled}
+use Rattle.node_core.specs.Stages.{rounds_closed, by_verdict, stage, notes_sync, notes_done, claims_of, due_of, own_of, votes_of, notes_verdicts, convicts_over_claims, notes_claims, row_of, done_table, row_table, found_done, found_data, found_report, in_done, in_data, in_report, outcome_of}
+use Rattle.node_core.proofs.Viewing.{Agrees, round_more, settled_tabled, convicts_tabled}
 use Rattle.node_core.proofs.Alike.{Others, notes_more, row_alike, votes_alike, adopted_alike}
+use Rattle.node_core.proofs.Guilt.{further_is}
 
 or_false : (b : Bool) → (b || false) ≡ b
 or_false true = refl
@@ -140,7 +142,7 @@ module _ {N : ℕ} (config : Config N) (i p : ℕ) (g : Inputs) (k : Kept) (x : 
       ∙ ap (λ (v : NodeView N). claims_known v a) (hears config.m rows f w o agree round)
       ∙ ap (λ claims. stage config i p g k x (suc config.m) (Some a) (done_table config i p g k x a (suc config.m)) rows
       (record {
-        notes = row_by s i (λ j b. accuses (row_by s i (notes_done config i p g k x a (suc config.m))) j b || by_verdict config a claims j b);
+        notes = row_by s i (λ j b. accuses (row_by s i (λ q kd. accuses (row_by s i (notes_done config i p g k x a (suc config.m))) q kd || by_verdict config a claims q kd)) j b || by_conviction nat_eq (done_table config i p g k x a (suc config.m)) j b);
         late = f.late;
         claims = claims;
         due = due_channels s a claims;
@@ -148,7 +150,11 @@ module _ {N : ℕ} (config : Config N) (i p : ℕ) (g : Inputs) (k : Kept) (x : 
         votes = f.votes;
       }) (closed w) o) claims_are
       ∙ ap (λ (notes : List ℕ). stage config i p g k x (suc config.m) (Some a) (done_table config i p g k x a (suc config.m)) rows (record (found_data config i p g k x a f) { notes = notes }) (closed w) o)
-      (notes_more s i (notes_done config i p g k x a (suc config.m)) (by_verdict config a (claims_of config i p g k x a)) (notes_claims config i p g k x a) few (record { each = λ j low ne b within. refl }))
+      (ap (λ (row : List ℕ). row_by s i (λ j b. accuses row j b || by_conviction nat_eq (done_table config i p g k x a (suc config.m)) j b))
+      (notes_more s i (notes_done config i p g k x a (suc config.m)) (by_verdict config a (claims_of config i p g k x a)) (notes_verdicts config i p g k x a) few (record { each = λ j low ne b within. refl }))
+      ∙ notes_more s i (notes_verdicts config i p g k x a) (by_conviction nat_eq (done_table config i p g k x a (suc config.m))) (notes_claims config i p g k x a) few (record {
+        each = λ j low ne b within. ap (λ (c : Bool). notes_verdicts config i p g k x a j b || (c && b == equivocate)) (convicts_tabled nat_eq config.nodes config.m a.standing.members i full (own_claim i g a) x.done ids j ne);
+      }))
 
   -- ---- the data slot
 
@@ -156,50 +162,63 @@ module _ {N : ℕ} (config : Config N) (i p : ℕ) (g : Inputs) (k : Kept) (x : 
   abbrev pub AreValues : Watch → Type 0
   AreValues w = Others config.nodes i (λ j. x.values j ≡ has_of values_in w j)
 
-  votes_are : (w : Watch) → AreValues w → votes_on s i full a (due_of config i p g k x a) (own_of config i p g k x a) (only_values w) ≡ votes_of config i p g k x a
-  votes_are w h = votes_alike s i full a (due_of config i p g k x a) (own_of config i p g k x a) (only_values w) x ids (record { each = λ j low ne. sym (h.each j low ne) })
+  votes_are : (w : Watch) → AreValues w → votes_on s i full a (claims_of config i p g k x a) (due_of config i p g k x a) (own_of config i p g k x a) (only_values w) ≡ votes_of config i p g k x a
+  votes_are w h = votes_alike s i full a (claims_of config i p g k x a) (due_of config i p g k x a) (own_of config i p g k x a) (only_values w) x ids (record { each = λ j low ne. sym (h.each j low ne) })
 
   -- all that is noted, in the protocol's order
-  all_noted : (carried sync other rounds claim overrun values far : Bool)
-      → ((((carried || (sync || other)) || rounds) || (claim || overrun)) || (values || far)) ≡ (sync || (rounds || (values || (carried || (false || (other || (claim || (overrun || far))))))))
-  all_noted true true o r c v u f = refl
-  all_noted true false o true c v u f = refl
-  all_noted true false o false c v true f = refl
-  all_noted true false o false c v false f = refl
-  all_noted false true o r c v u f = refl
-  all_noted false false true true c v u f = refl
-  all_noted false false true false c v true f = refl
-  all_noted false false true false c v false f = refl
-  all_noted false false false true c v u f = refl
-  all_noted false false false false true v true f = refl
-  all_noted false false false false true v false f = refl
-  all_noted false false false false false true true f = refl
-  all_noted false false false false false true false f = refl
-  all_noted false false false false false false true f = refl
-  all_noted false false false false false false false f = refl
+  all_noted : (carried sync other rounds claim overrun convicted values far : Bool)
+      → (((((carried || (sync || other)) || rounds) || (claim || overrun)) || convicted) || (values || far)) ≡ (sync || (rounds || (values || (carried || (convicted || (other || (claim || (overrun || far))))))))
+  all_noted true true o r c v g u f = refl
+  all_noted true false o true c v g u f = refl
+  all_noted true false o false c v g true f = refl
+  all_noted true false o false c v g false f = refl
+  all_noted false true o r c v g u f = refl
+  all_noted false false true true c v g u f = refl
+  all_noted false false true false c v g true f = refl
+  all_noted false false true false c v true false f = refl
+  all_noted false false true false c v false false f = refl
+  all_noted false false false true c v g u f = refl
+  all_noted false false false false true v g true f = refl
+  all_noted false false false false true v true false f = refl
+  all_noted false false false false true v false false f = refl
+  all_noted false false false false false true g true f = refl
+  all_noted false false false false false true true false f = refl
+  all_noted false false false false false true false false f = refl
+  all_noted false false false false false false true true f = refl
+  all_noted false false false false false false true false f = refl
+  all_noted false false false false false false false true f = refl
+  all_noted false false false false false false false false f = refl
 
   abbrev data_taken : Hearing ℕ → Hearing (List ℕ) → Watch → Outcome → NodeView N
   data_taken d rows w o = stage config i p g k x (config.m + 2) (Some a) d (row_table config i p g k x a 0) (found_report config i p g k x a 0) (closed w) o
 
-  noted_all : (w : Watch) → AreValues w → (j : ℕ) → j < config.nodes → j ≢ i → (b : ℕ)
+  noted_all : (w : Watch) → AreValues w → full ≡ true → (j : ℕ) → j < config.nodes → j ≢ i → (b : ℕ)
       → (notes_claims config i p g k x a j b || (is_bad (has_of values_in w j) b || (deviates s (due_of config i p g k x a) (votes_of config i p g k x a) (only_values w) j && b == deviate)))
       ≡ noted s i a k (claims_of config i p g k x a) (due_of config i p g k x a) (votes_of config i p g k x a) x j b
   unfolding noted
-  noted_all w h j low ne b =
+  noted_all w h is_full j low ne b =
       let v = verdict config.graph a.standing.members a.copies (claims_of config i p g k x a) j in
       ap (λ (y : Arrival (List ℤ)). notes_claims config i p g k x a j b
-      || (is_bad y b || (list_any (λ c. is_far (delta_of (channel s c)) (value_in (due_of config i p g k x a) y c) (value_at (votes_of config i p g k x a) c)) (due_of config i p g k x a) && b == deviate))) (sym (h.each j low ne))
-      ∙ all_noted (accuses k.carried j b) (is_bad (x.sync j) b) (other_body (body config a) (x.sync j) && b == state) (rounds_bad config.m x.done j b) (v.claim && b == claim) (v.overrun && b == overrun) (is_bad (x.values j) b)
+      || (is_bad y b || (list_any (λ c. is_judged (channel s c) && is_far (delta_of (channel s c)) (value_in (due_of config i p g k x a) y c) (value_at (votes_of config i p g k x a) c)) (due_of config i p g k x a) && b == deviate))) (sym (h.each j low ne))
+      ∙ all_noted (accuses k.carried j b) (is_bad (x.sync j) b) (other_body (body config a) (x.sync j) && b == state) (rounds_bad config.m x.done j b) (v.claim && b == claim) (v.overrun && b == overrun)
+      (convicts_over_claims config i p g k x a j && b == equivocate) (is_bad (x.values j) b)
       (deviates s (due_of config i p g k x a) (votes_of config i p g k x a) x j && b == deviate)
+      ∙ ap (λ (c : Bool). is_bad (x.sync j) b || (rounds_bad config.m x.done j b || (is_bad (x.values j) b || (accuses k.carried j b || (c
+      || ((other_body (body config a) (x.sync j) && b == state) || ((v.claim && b == claim) || ((v.overrun && b == overrun) || (deviates s (due_of config i p g k x a) (votes_of config i p g k x a) x j && b == deviate)))))))))
+      (sym (further_is (convicts_over_claims config i p g k x a j) b)
+      ∙ ap (λ (f : Bool). (b == equivocate && convicts_member nat_eq (ear_of config.m i f a.standing.members x.done) j) && is_further b) is_full)
 
   -- a node's own row
   row_is : (w : Watch) → AreValues w
       → (if full then row_by s i (λ j b. accuses (row_by s i (notes_claims config i p g k x a)) j b || (is_bad (has_of values_in w j) b || (deviates s (due_of config i p g k x a) (votes_of config i p g k x a) (only_values w) j && b == deviate))) else empty_row s)
       ≡ row_of config i p g k x a
-  row_is w h =
-      ap (λ (r : List ℕ). if full then r else empty_row s)
-      (notes_more s i (notes_claims config i p g k x a) (λ j b. is_bad (has_of values_in w j) b || (deviates s (due_of config i p g k x a) (votes_of config i p g k x a) (only_values w) j && b == deviate))
-      (noted s i a k (claims_of config i p g k x a) (due_of config i p g k x a) (votes_of config i p g k x a) x) few (record { each = λ j low ne b within. noted_all w h j low ne b }))
+  row_is w h = elim (cases_Bool full) [
+    | inl is_full ↦
+        ap (λ (r : List ℕ). if full then r else empty_row s)
+        (notes_more s i (notes_claims config i p g k x a) (λ j b. is_bad (has_of values_in w j) b || (deviates s (due_of config i p g k x a) (votes_of config i p g k x a) (only_values w) j && b == deviate))
+        (noted s i a k (claims_of config i p g k x a) (due_of config i p g k x a) (votes_of config i p g k x a) x) few (record { each = λ j low ne b within. noted_all w h is_full j low ne b }))
+    | inr not_full ↦ cond-false full _ (empty_row s) not_full ∙ sym (cond-false full _ (empty_row s) not_full)
+  ]
 
   data_tests : (u v y z : NodeView N) → (if config.m + 2 == 0 then u else (if nat_le (config.m + 2) (config.m + 1) then v else (if config.m + 2 == config.m + 2 then y else z))) ≡ y
   data_tests u v y z =
@@ -269,8 +288,14 @@ module _ {N : ℕ} (config : Config N) (i p : ℕ) (g : Inputs) (k : Kept) (x : 
     outcome = outcome_of u;
   }
 
-  carried_is : row_by s i (rounds_closed (suc config.m) x.report) ≡ carried_by s i full a x
-  carried_is = row_alike s i (rounds_closed (suc config.m) x.report) (λ j b. rounds_bad config.m x.report j b || false) (record { each = λ j low ne b within. sym (or_false (rounds_bad config.m x.report j b)) })
+  carried_is : row_by s i (λ j b. accuses (row_by s i (rounds_closed (suc config.m) x.report)) j b || by_conviction (pointwise ◌==◌) (row_table config i p g k x a (suc config.m)) j b) ≡ carried_by s i full a x
+  carried_is =
+      notes_more s i (rounds_closed (suc config.m) x.report) (by_conviction (pointwise ◌==◌) (row_table config i p g k x a (suc config.m)))
+      (λ j b. rounds_bad config.m x.report j b || ((b == equivocate && convicts_member (pointwise ◌==◌) (ear_of config.m i full a.standing.members x.report) j) && is_further b)) few (record {
+        each = λ j low ne b within. ap (λ (c : Bool). rounds_bad config.m x.report j b || c)
+            (ap (λ (c : Bool). c && b == equivocate) (convicts_tabled (pointwise ◌==◌) config.nodes config.m a.standing.members i full (row_of config i p g k x a) x.report ids j ne)
+            ∙ sym (further_is (convicts_member (pointwise ◌==◌) (ear_of config.m i full a.standing.members x.report) j) b));
+      })
 
   rows_are : settled_in (pointwise ◌==◌) N (row_table config i p g k x a (suc config.m)) ≡ settled_items (pointwise ◌==◌) N config.m i full a.standing.members x.report (row_of config i p g k x a)
   rows_are = settled_tabled (pointwise ◌==◌) N config.nodes config.m a.standing.members i full (row_of config i p g k x a) x.report ids

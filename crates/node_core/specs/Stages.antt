@@ -1,7 +1,7 @@
 -- A node at each stage of a period, in the words of the protocol: given what it goes in with, and what it has of all frames of the
 -- period, of which each stage names those of the slots closed before it.
-use Rattle.std.specs.Prelude.{ℕ, zero, suc, ◌+◌, ℤ, Bool, true, false, ◌||◌, ◌&&◌, ◌==◌, List, Option, Some, is_some, if◌then◌else◌}
-use Rattle.node_grid.specs.Kinds.{state, claim, overrun, deviate}
+use Rattle.std.specs.Prelude.{ℕ, zero, suc, ◌+◌, ℤ, Bool, true, false, ◌||◌, ◌&&◌, ◌==◌, nat_eq, List, Option, Some, is_some, if◌then◌else◌}
+use Rattle.node_grid.specs.Kinds.{state, claim, overrun, deviate, equivocate}
 use Rattle.omh_paths.specs.declared.wrapped.Wrapped.{Wrapped}
 use Rattle.omh.specs.Heard.{Hearing}
 use Rattle.error_detect.specs.Watching.{Watch}
@@ -13,6 +13,8 @@ use Rattle.agreed_state.specs.Agreed.{AgreedView}
 use Rattle.agreed_state.specs.Body.{body}
 use Rattle.protocol.specs.Arrival.{is_bad}
 use Rattle.protocol.specs.Heard.{Rounds, rounds_bad}
+use Rattle.protocol.specs.Settled.{ear_of}
+use Rattle.protocol.specs.FurtherKinds.{convicts_member}
 use Rattle.protocol.specs.View.{Kept, Received, View, own_claim, claims_settled, due_channels, own_values, votes_on, deviates, other_body, row_by, empty_row, noted}
 use Rattle.protocol.specs.Run.{members_in}
 use Rattle.node_core.specs.Outcome.{Outcome}
@@ -61,10 +63,17 @@ module _ {N : ℕ} (config : Config N) (i p : ℕ) (g : Inputs) (k : Kept) (x : 
     own_of = own_values (setting_of config) i p g k
 
     abbrev pub votes_of : List (Option ℤ)
-    votes_of = votes_on (setting_of config) i (is_some k.state) a due_of own_of x
+    votes_of = votes_on (setting_of config) i (is_some k.state) a claims_of due_of own_of x
+
+    abbrev pub notes_verdicts : ℕ → ℕ → Bool
+    notes_verdicts j b = notes_done (suc config.m) j b || by_verdict config a claims_of j b
+
+    -- whether node j is convicted over the claims
+    abbrev pub convicts_over_claims : ℕ → Bool
+    convicts_over_claims j = convicts_member nat_eq (ear_of config.m i (is_some k.state) a.standing.members x.done) j
 
     abbrev pub notes_claims : ℕ → ℕ → Bool
-    notes_claims j b = notes_done (suc config.m) j b || by_verdict config a claims_of j b
+    notes_claims j b = notes_verdicts j b || (convicts_over_claims j && b == equivocate)
 
     abbrev pub notes_data : ℕ → ℕ → Bool
     notes_data j b = notes_claims j b || (is_bad (x.values j) b || (deviates (setting_of config) due_of votes_of x j && b == deviate))

@@ -1,7 +1,7 @@
 -- What each call makes of a node's parts.
 use Rattle.std.specs.Prelude.{ℕ, ◌+◌, ◌-◌, ◌*◌, Bool, true, false, not, ◌&&◌, ◌||◌, ◌==◌, nat_eq, nat_lt, nat_le, List, [], map, length, replicate, Option, None, Some, is_some, if◌then◌else◌}
 use Rattle.std.specs.Cmp.Lexicographic.{pointwise}
-use Rattle.node_grid.specs.Kinds.{missing, state, claim, overrun, deviate}
+use Rattle.node_grid.specs.Kinds.{missing, state, claim, overrun, deviate, equivocate}
 use Rattle.node_grid.specs.NodeSet.{has_id, ids_below}
 use Rattle.omh_paths.specs.declared.wrapped.Wrapped.{Wrapped}
 use Rattle.omh_paths.specs.declared.wrapped.Wrapped.TheVariants.{Plain, Fault}
@@ -22,7 +22,8 @@ use Rattle.protocol.specs.Arrival.{Arrival, Form, arrived, is_bad, state_in, val
 use Rattle.protocol.specs.Arrival.Arrival.{Bad}
 use Rattle.protocol.specs.Heard.{heard}
 use Rattle.protocol.specs.Settled.{plain}
-use Rattle.protocol.specs.View.{Setting, no_further, nothing, Received, content, adopted_by, own_claim, as_claim, due_channels, own_values, own_in, votes_on, deviates, other_body, row_by, empty_row, channel_room, cold_view}
+use Rattle.protocol.specs.FurtherKinds.{convicts_member, convictions}
+use Rattle.protocol.specs.View.{Setting, nothing, Received, content, adopted_by, own_claim, as_claim, due_channels, own_values, own_in, votes_on, deviates, other_body, row_by, empty_row, channel_room, cold_view}
 use Rattle.protocol.specs.View.Mode.{Full, Joining, Cold}
 use Rattle.protocol.specs.Run.{members_in, silence}
 use Rattle.node_core.specs.Parts.{NodeView}
@@ -30,7 +31,7 @@ use Rattle.node_core.specs.Hearing.{told_to, all_told, slot_rounds}
 use Rattle.node_core.specs.Relaying.{relays}
 
 abbrev pub setting_of : {N : ℕ} → Config N → Setting
-setting_of {N} config = record { capacity = N; config = config; further = no_further }
+setting_of {N} config = record { capacity = N; config = config; further = convictions config.m }
 
 -- what a node has of a sender's frame in the slot that was closed
 abbrev pub has_of : {C : Type 0} → (Content → Option C) → Watch → ℕ → Arrival C
@@ -108,13 +109,18 @@ synced v (Some a) =
 abbrev pub after_sync : {N : ℕ} → NodeView N → NodeView N
 after_sync v = synced v (if v.phase.full then v.kept.state else adopted_by (setting_of v.config) v.phase.me (has_of state_in v.arrived))
 
--- the claims are settled: verdicts, due channels and own values
+-- whether node j is convicted by what was heard of an item
+abbrev pub by_conviction : {V : Type 0} → (V → V → Bool) → Hearing V → ℕ → ℕ → Bool
+by_conviction eq h j k = convicts_member eq (ear_of h) j && k == equivocate
+
+-- the claims are settled: verdicts, convictions, due channels and own values
 abbrev pub claims_known : {N : ℕ} → NodeView N → AgreedView → NodeView N
 claims_known {N} v a =
     let s = setting_of v.config in
     let claims = map as_claim (settled_in nat_eq N v.done) in
     let w = with_notes v (λ j k. let x = verdict v.config.graph a.standing.members a.copies claims j in (x.claim && k == claim) || (x.overrun && k == overrun)) in
-    record w { found = record w.found { claims = claims; due = due_channels s a claims; own = own_values s v.phase.me v.phase.period v.phase.inputs v.kept } }
+    let u = with_notes w (by_conviction nat_eq v.done) in
+    record u { found = record u.found { claims = claims; due = due_channels s a claims; own = own_values s v.phase.me v.phase.period v.phase.inputs v.kept } }
 
 -- what a done slot says
 abbrev pub heard_done : {N : ℕ} → NodeView N → NodeView N
@@ -130,7 +136,7 @@ after_done v a =
 abbrev pub after_data : {N : ℕ} → NodeView N → AgreedView → NodeView N
 after_data v a =
     let s = setting_of v.config in
-    let votes = votes_on s v.phase.me v.phase.full a v.found.due v.found.own (only_values v.arrived) in
+    let votes = votes_on s v.phase.me v.phase.full a v.found.claims v.found.due v.found.own (only_values v.arrived) in
     let w = with_notes v (λ j k. is_bad (has_of values_in v.arrived j) k || (deviates s v.found.due votes (only_values v.arrived) j && k == deviate)) in
     let row = if v.phase.full then w.found.notes else empty_row s in
     record w { found = record w.found { notes = row; votes = votes }; rows = started v.rows a.standing.members v.phase.me v.phase.full (Plain row) }
@@ -145,7 +151,7 @@ ended {N} v a =
     let rows = settled_in (pointwise ◌==◌) N v.rows in
     let after = agreed_after N v.config v.phase.period a v.found.claims rows in
     record v {
-      kept = record { state = Some after; carried = v.found.late; votes = v.found.votes; owns = v.found.own };
+      kept = record { state = Some after; carried = noting v (by_conviction (pointwise ◌==◌) v.rows) v.found.late; votes = v.found.votes; owns = v.found.own };
       outcome = record {
         mode = if v.phase.full then Full else Joining;
         agreed = Some after;
@@ -161,7 +167,7 @@ ended {N} v a =
 -- the end of a period of a node that stayed Cold
 abbrev pub ended_cold : {N : ℕ} → NodeView N → NodeView N
 ended_cold {N} v =
-    let c = cold_view (setting_of v.config) in
+    let c = cold_view (setting_of v.config) v.phase.me (only_values v.arrived) in
     record v {
       kept = c.kept;
       outcome = record { mode = Cold; agreed = None; members = []; done = c.done; rows = c.rows; due = []; votes = c.votes; found = c.found };

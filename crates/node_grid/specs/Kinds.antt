@@ -33,6 +33,10 @@ overrun = 6
 abbrev pub deviate : ℕ
 deviate = 7
 
+-- the sender told different things to different members; in version 2 alone
+abbrev pub equivocate : ℕ
+equivocate = 8
+
 -- in place of a task, where none is claimed
 abbrev pub no_claim : ℕ
 no_claim = 255

@@ -98,6 +98,13 @@ has-filter p n x h = has_filtered p (ids_below n) x ∙ rw (has-range 0 n x (ome
 pub hasnt-filter : (p : ℕ → Bool) (n x : ℕ) → n ≤ x → has_id (filter p (ids_below n)) x ≡ false
 hasnt-filter p n x h = has_filtered p (ids_below n) x ∙ rw (hasnt-range 0 n x (omega arith)) (and-false (p x))
 
+-- who is in a set by a test passes it
+pub passes_where : (f : ℕ → Bool) (n q : ℕ) → has_id (ids_where f n) q ≡ true → f q ≡ true
+passes_where f n q on = elim (cases_lt q n) [
+  | inl low ↦ sym (has-filter f n q low) ∙ on
+  | inr high ↦ let e = sym (hasnt-filter f n q high) ∙ on in cc
+]
+
 -- the least number that passes comes first, and the others follow
 pub filter_first : (p : ℕ → Bool) (a n t : ℕ) → a ≤ t → t < a + n → p t ≡ true → ((k : ℕ) → a ≤ k → k < t → p k ≡ false)
     → filter p (range_with_len a n) ≡ t ∷ filter (λ k. p k && not (k == t)) (range_with_len a n)

@@ -23,3 +23,6 @@ pub const OVERRUN: u8 = 6;
 
 /// A value of the sender is further from the vote than its channel allows.
 pub const DEVIATE: u8 = 7;
+
+/// The sender told different things to different members. In version 2 alone.
+pub const EQUIVOCATE: u8 = 8;

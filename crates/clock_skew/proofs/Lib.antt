@@ -1,0 +1,3 @@
+pub mod Bounding
+pub mod Places
+pub mod Skewing
