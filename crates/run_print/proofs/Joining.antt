@@ -37,5 +37,5 @@ further {a} {b} {c} {d} {v} {w} {x} {y} {k} {l} {m} {n} separator items item bef
 pub finished : {T E : Type 0} {a b : Printer} {v w x : Option (List ℕ)} {k l m : ℕ} {text : List ℕ} {r : Result T E} → a.gathered.items ≡ [] → a.failed ≡ false
     → Prints a v k b w l text → Finishes b w l x m r → Writes v x k m text r
 finished {T} {E} {a} {b} {v} {w} {x} {k} {l} {m} {text} {r} empty going prints finishes =
-    let gathers : Gathers v v k k a.gathered.items [] = record { front = []; splits = empty; written = Appends-nil v; later = omega arith } in
+    let gathers : Gathers v v k k a.gathered.items [] = record { front = []; splits = empty; written = Appends-nil v; same = refl } in
     finishes v k text (prints.goes_on v k [] (subst (λ b. PrintedIf b v v k k a.gathered.items []) (sym going) gathers))

@@ -13,12 +13,12 @@ written old w w' before f f' g t x (Ok v) h q = record {
   front = h.front ++ (g ++ x);
   splits = append-nil (h.front ++ (g ++ x)) ∙ sym (append_assoc h.front g x) ∙ ap (λ y. y ++ x) h.splits;
   written = Appends-trans old w w' h.front (g ++ x) h.written q.whole;
-  later = omega (arith, h.later, q.later);
+  same = q.faultless ∙ h.same;
 }
 written old w w' before f f' g t x (Err e) h q = record {
   prefix = subst (λ y. AppendsPrefix old w' y) (sym (append_assoc h.front g x) ∙ ap (λ y. y ++ x) h.splits) (back old w w' h.front (g ++ x) h.written q.prefix);
-  rose = omega (arith, h.later, q.failed);
-  later = omega (arith, h.later, q.later);
+  rose = omega (arith, h.same, q.failed);
+  later = omega (arith, h.same, q.later);
 }
 
 pub sent : {T E : Type 0} (failed now : Bool) (old w w' : Option (List ℕ)) (before f f' : ℕ) (g t x : List ℕ) (r : Result T E) → failed ≡ false → now ≡ is_err r

@@ -4,12 +4,12 @@ use Rattle.std.specs.Io.KnownBytes.{Appends}
 use Rattle.span_io.specs.Causes.{Rose, AppendsPrefix, Writes}
 use Rattle.run_print.specs.declared.printer.Printer.{Printer}
 
--- the front of the text was written, and the rest is gathered
+-- the front of the text was written, the rest is gathered, and the count of faults stayed
 pub record Gathers (old now : Option (List ℕ)) (before count : ℕ) (gathered text : List ℕ) : Type 0 where
   pub front : List ℕ
   pub splits : front ++ gathered ≡ text
   pub written : Appends old now front
-  pub later : before ≤ count
+  pub same : count ≡ before
 
 -- a prefix of the text was written, and the count of faults rose
 pub record Fails (old now : Option (List ℕ)) (before count : ℕ) (text : List ℕ) : Type 0 where
@@ -29,6 +29,6 @@ Printed old before text printer now count = PrintedIf printer.failed old now bef
 pub record Prints (p : Printer) (w : Option (List ℕ)) (f : ℕ) (p' : Printer) (w' : Option (List ℕ)) (f' : ℕ) (text : List ℕ) : Type 0 where
   pub goes_on : (old : Option (List ℕ)) (before : ℕ) (done : List ℕ) → Printed old before done p w f → Printed old before (done ++ text) p' w' f'
 
--- all that was printed is written, or a prefix of it where the count of faults rose
+-- all that was printed is written, and the count of faults stayed; or a prefix of it, and the count rose
 abbrev pub Finishes : {T E : Type 0} → Printer → Option (List ℕ) → ℕ → Option (List ℕ) → ℕ → Result T E → Type 0
 Finishes p w f w' f' result = (old : Option (List ℕ)) (before : ℕ) (done : List ℕ) → Printed old before done p w f → Writes old w' before f' done result

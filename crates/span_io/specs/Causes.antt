@@ -35,9 +35,10 @@ TakesSome old new = (bs : List ℕ) × Consumes old new bs
 abbrev pub Takes : ℕ → Option (List ℕ) → Option (List ℕ) → Type 0
 Takes n old new = (bs : List ℕ) × (length bs ≡ n) × Consumes old new bs
 
--- All of the bytes were written, or a prefix of them where the count of faults rose.
+-- All of the bytes were written, and the count of faults stayed; or a prefix of them, and the count rose.
 pub record Writes {T E : Type 0} (old new : Option (List ℕ)) (before now : ℕ) (bytes : List ℕ) (result : Result T E) : Type 0 where
   pub whole : OnOk result (Appends old new bytes)
   pub prefix : OnErr result (AppendsPrefix old new bytes)
   pub later : before ≤ now
+  pub faultless : OnOk result (now ≡ before)
   pub failed : OnErr result (Rose before now)

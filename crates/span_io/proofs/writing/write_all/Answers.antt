@@ -1,4 +1,4 @@
-use Rattle.std.proofs.Common.{arith, drop, length, ◌≤◌, length-drop}
+use Rattle.std.proofs.Common.{arith, drop, length, ◌≤◌, ◌∙◌, length-drop}
 use Rattle.std.proofs.Math.Seq.{take-add}
 use Rattle.std.proofs.KnownBytes.{Appends-trans}
 use Rattle.std.proofs.lemmas.List.{take_rest}
@@ -10,4 +10,4 @@ loop-at-preserved g c =
     let within : c.in_ok-at.field-0 ≤ length (drop at c.args.bytes.now) = rw take_rest at c.in_ok-at.ensures.bound.1 in
     let whole = rw take_rest at c.in_ok-at.ensures.bytes in
     let step = Appends-trans _ _ _ _ _ c.loop-at.invariant.1 whole in
-    (omega (arith, length-drop at c.args.bytes.now, c.loop-at.invariant.0), rw take-add step, omega (arith, c.in_ok-at.ensures.cause.later, c.loop-at.invariant.2))
+    (omega (arith, length-drop at c.args.bytes.now, c.loop-at.invariant.0), rw take-add step, c.in_ok-at.ensures.cause.faultless ∙ c.loop-at.invariant.2)
