@@ -5,7 +5,7 @@ use Rattle.std.specs.Io.KnownBytes.{Appends}
 use Rattle.std.proofs.KnownBytes.{Appends-trans, Appends-nil}
 use Rattle.std.proofs.lemmas.List.{take-append-le}
 use Rattle.std.proofs.Math.Seq.{take-append-add}
-use Rattle.span_io.specs.Causes.{Writes, AppendsPrefix, Rose}
+use Rattle.span_io.specs.Causes.{Writes, AppendsPrefix}
 
 -- a prefix of the first part is a prefix of the whole
 pub front : (old new : Option (List ℕ)) (xs ys : List ℕ) → AppendsPrefix old new xs → AppendsPrefix old new (xs ++ ys)

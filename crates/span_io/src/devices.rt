@@ -1,8 +1,26 @@
 //! Sources and sinks over the readers and writers of the standard library.
-ghost use Rattle.std.specs.Prelude.{◌≡◌};
+ghost use Rattle.std.specs.Prelude.{◌≡◌, ◌≤◌, Ok, IfOk};
+ghost use Rattle.span_io.specs.Causes.{HasCause};
 
 use crate::{Failed, Sink, Source};
-use std::io::{Read, Write};
+use std::io::{self, Read, Write};
+
+/// What a call is answered where the reader or writer inside answered this: its count, and a failure, which is counted,
+/// where that failed or the count is below `least`.
+fn answered(inside: io::Result<usize>, least: usize, faults: &mut u64) -> Result<usize, Failed>
+    ensures told { IfOk result (λ count. inside ≡ Ok count) }
+    ensures some { IfOk result (λ count. least ≤ count) }
+    ensures asked { IfOk inside (λ count. least ≤ count → result ≡ Ok count) }
+    ensures cause { HasCause faults.old faults.new result }
+{
+    match inside {
+        Ok(count) if count >= least => Ok(count),
+        _ => {
+            *faults = faults.saturating_add(1);
+            Err(Failed)
+        }
+    }
+}
 
 /// A source over any reader.
 #[derive(Drop)]
@@ -35,16 +53,10 @@ impl<R: Read> Source for StdSource<R> {
     ghost faults = { λ s. s.faults };
 
     fn read(&mut self, buf: &mut [u8]) -> Result<usize, Failed> {
-        match self.inner.read(buf) {
-            Ok(count) => {
-                self.given = self.given.saturating_add(count as u64);
-                Ok(count)
-            }
-            Err(_) => {
-                self.faults = self.faults.saturating_add(1);
-                Err(Failed)
-            }
-        }
+        let inside = self.inner.read(buf);
+        let count = answered(inside, 0, &mut self.faults)?;
+        self.given = self.given.saturating_add(count as u64);
+        Ok(count)
     }
 }
 
@@ -71,12 +83,7 @@ impl<W: Write> Sink for StdSink<W> {
     ghost faults = { λ s. s.faults };
 
     fn write(&mut self, bytes: &[u8]) -> Result<usize, Failed> {
-        match self.inner.write(bytes) {
-            Ok(count) if count > 0 => Ok(count),
-            _ => {
-                self.faults = self.faults.saturating_add(1);
-                Err(Failed)
-            }
-        }
+        let inside = self.inner.write(bytes);
+        answered(inside, 1, &mut self.faults)
     }
 }

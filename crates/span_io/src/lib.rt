@@ -1,8 +1,8 @@
 //! Bytes in and bytes out, over sources and sinks that tell their bytes and count their faults.
 //!
 //! A source or a sink may fail at any call. It says so only where its count of faults rose, and the count rises in
-//! failing calls alone, so that whoever reads it knows whether the outside was honest. Sources and sinks in memory tell their bytes; those over the real
-//! devices tell none.
+//! failing calls alone, so that whoever reads it knows whether the outside was honest. Sources and sinks in memory tell
+//! their bytes; those over the real devices tell none.
 #![tactic(auto)]
 
 ghost use Rattle.std.specs.Prelude.{ℕ, ◌<◌, List, length, Option, IfOk};

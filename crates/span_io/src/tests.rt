@@ -67,6 +67,18 @@ fn readers_and_writers_are_sources_and_sinks(rt: HostRuntime) {
 }
 
 #[test]
+fn long_texts_go_through_readers_and_writers(rt: HostRuntime) {
+    let text = [7u8; 10_000];
+    let mut source = StdSource::new(&text[..]);
+    let read = read_all(rt.alloc(), &mut source, 10_000).expect(&rt, "the bytes");
+    assert!(rt; read.as_slice() == text.as_slice());
+    let mut room = [0u8; 10_000];
+    let mut sink = StdSink::new(&mut room[..]);
+    assert!(rt; write_all(&mut sink, &text).is_ok());
+    assert!(rt; room == text);
+}
+
+#[test]
 fn errors_have_texts(rt: HostRuntime) {
     for (error, text) in [
         (ReadError::Failed, "the device failed"),
