@@ -1,5 +1,5 @@
 -- No sound node convicts a node that tells all alike, so the kind of convictions spares those that were nonfaulty throughout.
-use Rattle.std.proofs.Common.{ℕ, zero, suc, ◌≡◌, ◌≢◌, ◌≤◌, Bool, true, false, ◌&&◌, ◌==◌, List, refl, sym, ap, ap₂, subst, ◌∙◌, inl, inr, arith}
+use Rattle.std.proofs.Common.{ℕ, zero, suc, ◌≡◌, ◌≢◌, ◌≤◌, Bool, true, false, ◌&&◌, ◌==◌, List, Some, refl, sym, ap, ap₂, subst, ◌∙◌, inl, inr, arith}
 use Rattle.std.specs.Prelude.{nat_eq, is_some}
 use Rattle.std.specs.Cmp.Lexicographic.{pointwise}
 use Rattle.std.proofs.lemmas.Bool.{cases_Bool, cond-true}
@@ -15,6 +15,7 @@ use Rattle.omh.specs.Settling.{sound_cases}
 use Rattle.equivocation.specs.Conviction.{convicts}
 use Rattle.equivocation.specs.ConvictionLaws.{spares_law, notices_law}
 use Rattle.error_reports.specs.Charge.{accuses}
+use Rattle.agreed_state.specs.Agreed.{AgreedView}
 use Rattle.protocol.specs.Heard.{Rounds}
 use Rattle.protocol.specs.Settled.{ear_of}
 use Rattle.protocol.specs.View.{Further, is_further, Kept, nothing}
@@ -22,13 +23,13 @@ use Rattle.protocol.specs.Cluster.{Cluster, begins, view}
 use Rattle.protocol.specs.Run.{members_in, run, classes}
 use Rattle.node_grid.specs.Kinds.{equivocate}
 use Rattle.protocol.specs.FurtherKinds.{convicts_member, convictions}
-use Rattle.protocol.specs.Safe.{Classing, Claim, IsContinuous}
+use Rattle.protocol.specs.Safe.{Classing, Claim, IsContinuous, CopiesClose, Safe}
 use Rattle.safety.specs.Told.{Told}
 use Rattle.safety.specs.Given.{IsGiven, Started, IsHere, AllSparing}
 use Rattle.safety.specs.Laws.{StartLaw, StepLaw}
-use Rattle.safety.specs.Runs.{ReceptionLaw, SparingLaw}
-use Rattle.safety.specs.ClockLaws.{ClockRunLaw}
-use Rattle.safety.specs.Convictions.{ConvictsWell, ConvictionsHold, ConvictionsLaw, ConvictingRunLaw, RunConvictionsLaw, ConvictingClockLaw}
+use Rattle.safety.specs.Runs.{ReceptionLaw, SparingLaw, RunLaw, RunCopiesLaw}
+use Rattle.safety.specs.ClockLaws.{SparingClockLaw, RunClockLaw}
+use Rattle.safety.specs.Convictions.{ConvictsWell, ConvictionsHold, ConvictionsLaw, RunConvictionsLaw}
 use Rattle.safety.proofs.Worlds.{world, fits}
 use Rattle.safety.proofs.Sync.{bytes_exact}
 use Rattle.safety.proofs.Period.{Here, before_is, within, reference_is, members_are, claim_item, row_item, told_done, told_rows, by_kind_named, row_without, carried_without}
@@ -142,8 +143,17 @@ module _ (cl : Cluster) (class_of : Classing) (given : IsGiven cl class_of) (are
 
 -- ---- a run
 
-pub convicting_run_law : ReceptionLaw → SparingLaw → ConvictingRunLaw
-convicting_run_law reception sparing sys given are = sparing sys given (convictions_spare (run sys) (classes sys) (given_of reception sys given) are)
+pub run_law : ReceptionLaw → SparingLaw → RunLaw
+run_law reception sparing sys given are = sparing sys given (convictions_spare (run sys) (classes sys) (given_of reception sys given) are)
+
+pub run_copies_law : RunLaw → RunCopiesLaw
+run_copies_law law sys given are p claim i j c a delta t lies si sj goes due e =
+    let safe : Safe (run sys) (classes sys) p = law sys given are p claim in
+    let same : safe.equal.before ≡ a = some_is safe.equal.before a (sym (safe.equal.goes i si) ∙ goes) in
+    subst (λ (b : AgreedView). CopiesClose (run sys) (classes sys) p b i j c t lies) same (safe.copies i j c delta t lies si sj due e)
+  where
+    some_is : (x y : AgreedView) → Some x ≡ Some y → x ≡ y
+    some_is x y e = cc
 
 pub run_convictions_law : ReceptionLaw → StartLaw → StepLaw → RunConvictionsLaw
 run_convictions_law reception start next sys given are p claim =
@@ -154,5 +164,5 @@ run_convictions_law reception start next sys given are p claim =
     let h : Here (run sys) (classes sys) p = here (run sys) (classes sys) p is in
     subst (ConvictionsHold (run sys) (classes sys) p) (sym (members_are (run sys) (classes sys) p (reference_is (run sys) (classes sys) p h) h.start)) (convictions_hold (run sys) (classes sys) p h)
 
-pub convicting_clock_law : ReceptionLaw → ClockRunLaw → ConvictingClockLaw
-convicting_clock_law reception law sys given are c clocks p claim = law sys given (convictions_spare (run sys) (classes sys) (given_of reception sys given) are) c clocks p claim
+pub run_clock_law : ReceptionLaw → SparingClockLaw → RunClockLaw
+run_clock_law reception law sys given are c clocks p claim = law sys given (convictions_spare (run sys) (classes sys) (given_of reception sys given) are) c clocks p claim
