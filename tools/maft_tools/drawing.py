@@ -1,0 +1,114 @@
+"""Draws scenarios by a seed. The same options and seed give the same scenarios on every machine."""
+from __future__ import annotations
+
+import copy
+import dataclasses
+import random
+
+from .plan import VALUE_LIMIT, WordsError
+from .scenario import Scenario
+
+CLASSES = ("benign", "symmetric", "asymmetric")
+
+
+@dataclasses.dataclass(frozen=True)
+class Options:
+    """What is drawn. In each scenario `faulty` nodes fall ill; each is of one of the classes, drawn for it.
+
+    In each period from 1 on a node that is well falls ill with the probability `rate`, for 1 to `length` periods. It restarts
+    `restart` periods after the last of them; 0 is for a node that never restarts, and then isn't ill a second time.
+    """
+
+    nodes: int = 5
+    m: int = 1
+    periods: int = 16
+    faulty: int = 1
+    classes: tuple[str, ...] = CLASSES
+    rate: float = 0.2
+    length: int = 3
+    restart: int = 2
+    seed: int = 0
+    base: str = ""
+
+
+def base_of(options: Options) -> dict:
+    """The cluster that faults are drawn onto: one sensor, and a policy that excludes at the second bad period."""
+    version = 2 if options.nodes > 8 or options.m > 2 else 1
+    data: dict = {"version": 2} if version == 2 else {}
+    policy = {"weights": [5] * (8 * version), "exclude": 10, "readmit": 4, "credit": 5, "streak": 1, "cap": 20}
+    readings = [[100 + (3 * node + row) % 5 for node in range(options.nodes)] for row in range(3)]
+    data.update(nodes=options.nodes, m=options.m, periods=options.periods, policy=policy, channels=[{"kind": "sensor", "delta": 4, "readings": readings}])
+    return data
+
+
+def _below(draw: random.Random, limit: int) -> int:
+    return int(draw.random() * limit)
+
+
+def _some(draw: random.Random, others: list[int]) -> list[int]:
+    """Some of the others, but not all and not none."""
+    while True:
+        chosen = [it for it in others if draw.random() < 0.5]
+        if 0 < len(chosen) < len(others):
+            return chosen
+
+
+def _value(draw: random.Random) -> int:
+    return max(-VALUE_LIMIT, min(VALUE_LIMIT, _below(draw, 4001) - 2000))
+
+
+def _benign(s: Scenario, draw: random.Random, node: int, span: tuple[int, int], voted: bool) -> None:
+    (s.silent, s.late, s.twice)[_below(draw, 3)](node, span)
+
+
+def _symmetric(s: Scenario, draw: random.Random, node: int, span: tuple[int, int], voted: bool) -> None:
+    if voted and draw.random() < 0.5:
+        s.tells(node, _value(draw), 0, span)
+    else:
+        accused = (node + 1 + _below(draw, s.nodes - 1)) % s.nodes
+        s.accuses(node, accused, ["deviate"], span)
+
+
+def _asymmetric(s: Scenario, draw: random.Random, node: int, span: tuple[int, int], voted: bool) -> None:
+    others = [it for it in range(s.nodes) if it != node]
+    some = _some(draw, others)
+    if voted and draw.random() < 0.5:
+        s.tells(node, _value(draw), 0, span, some)
+        s.tells(node, _value(draw), 0, span, [it for it in others if it not in some])
+    elif draw.random() < 0.5:
+        s.silent(node, span, some)
+    else:
+        s.accuses(node, others[_below(draw, len(others))], ["deviate", "missing"], span, some)
+
+
+_ILL = {"benign": _benign, "symmetric": _symmetric, "asymmetric": _asymmetric}
+
+
+def _chosen(draw: random.Random, nodes: int, count: int) -> list[int]:
+    left = list(range(nodes))
+    return sorted(left.pop(_below(draw, len(left))) for _ in range(min(count, nodes)))
+
+
+def drawn(options: Options, index: int, base: dict | None = None) -> dict:
+    """The scenario of this index, onto the base's cluster if one is given."""
+    if any(it not in CLASSES for it in options.classes) or not options.classes:
+        raise WordsError(f"the classes are {', '.join(CLASSES)}")
+    draw = random.Random(f"{options.seed}/{index}")
+    s = Scenario(copy.deepcopy(base) if base is not None else base_of(options))
+    channels = s.data.get("channels", [])
+    voted = bool(channels) and (channels[0].get("kind") == "state" or channels[0].get("kind") == "sensor" and "task" not in channels[0])
+    for node in _chosen(draw, s.nodes, options.faulty):
+        ill = _ILL[options.classes[_below(draw, len(options.classes))]]
+        period = 1
+        while period < s.periods:
+            if draw.random() >= options.rate:
+                period += 1
+                continue
+            last = min(period + _below(draw, options.length), s.periods - 1)
+            ill(s, draw, node, (period, last), voted)
+            if not options.restart:
+                break
+            if last + options.restart < s.periods:
+                s.restart(node, last + options.restart)
+            period = last + options.restart + 1
+    return s.data
