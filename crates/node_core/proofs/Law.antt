@@ -22,7 +22,7 @@ use Rattle.agreed_state.specs.Body.{body}
 use Rattle.protocol.specs.Arrival.{Arrival, Form, is_bad, claim_form, row_form, state_in, values_in}
 use Rattle.protocol.specs.Arrival.Arrival.{Bad, Good}
 use Rattle.protocol.specs.Heard.{Rounds, rounds_bad, with_entries, paths_of, heard}
-use Rattle.protocol.specs.View.{Setting, Kept, Received, own_claim, as_claim, claims_settled, due_channels, votes_on, deviates, other_body, row_by, empty_row, noted, View, is_far, is_further, channel, value_in, value_at, carried_by, through, joined, view_from, adopted_by}
+use Rattle.protocol.specs.View.{Setting, Kept, Received, own_claim, as_claim, claims_settled, due_channels, votes_on, deviates, other_body, row_by, empty_row, noted, View, is_far, is_further, channel, value_in, value_at, carried_by, through, joined, view_from, adopted_by, synced_by}
 use Rattle.protocol.specs.View.Mode.{Full, Joining}
 use Rattle.protocol.specs.Settled.{settled_items, ear_of}
 use Rattle.protocol.specs.FurtherKinds.{convicts_member}
@@ -30,11 +30,11 @@ use Rattle.mme_vote.specs.Channel.{delta_of, is_judged}
 use Rattle.list_scheduler.specs.Schedule.{verdict}
 use Rattle.node_core.specs.Outcome.{Outcome}
 use Rattle.node_core.specs.Parts.{Found, NodeView}
-use Rattle.node_core.specs.Steps.{setting_of, has_of, only_values, bad_in, settled_in, after_round, by_conviction, claims_known, shut, slot_taken, next_open, started, synced, expected_in}
+use Rattle.node_core.specs.Steps.{setting_of, has_of, only_values, bad_in, settled_in, after_round, by_conviction, claims_known, shut, slot_taken, next_open, started, synced, with_sync, expected_in}
 use Rattle.node_core.specs.At.{heard_upto, table_at, IsRound, goes_with}
 use Rattle.node_core.specs.Stages.{rounds_closed, by_verdict, stage, notes_sync, notes_done, claims_of, due_of, own_of, votes_of, notes_verdicts, convicts_over_claims, notes_claims, row_of, done_table, row_table, found_done, found_data, found_report, in_done, in_data, in_report, outcome_of}
 use Rattle.node_core.proofs.Viewing.{Agrees, round_more, settled_tabled, convicts_tabled}
-use Rattle.node_core.proofs.Alike.{Others, notes_more, row_alike, votes_alike, adopted_alike}
+use Rattle.node_core.proofs.Alike.{Others, notes_more, row_alike, votes_alike, adopted_alike, synced_alike}
 use Rattle.node_core.proofs.Guilt.{further_is}
 
 or_false : (b : Bool) → (b || false) ≡ b
@@ -108,7 +108,7 @@ module _ {N : ℕ} (config : Config N) (i p : ℕ) (g : Inputs) (k : Kept) (x : 
       let e : suc r - 1 ≡ r = omega arith in
       ap (λ (n : ℕ). stage config i p g k x (suc r) (Some a) (after_round claim_form config.nodes (closed w) n (done_table config i p g k x a r)) rows
       (record (found_done config i p g k x a r f) { notes = row_by s i (λ j b. accuses (row_by s i (notes_done config i p g k x a r)) j b || bad_in claim_form n (closed w) j b) }) (closed w) o) e
-      ∙ ap₂ (λ (d : Hearing ℕ) (notes : List ℕ). stage config i p g k x (suc r) (Some a) d rows (record f { notes = notes }) (closed w) o)
+      ∙ ap₂ (λ (d : Hearing ℕ) (notes : List ℕ). stage config i p g k x (suc r) (Some a) d rows (record f { sync = synced_by s i x; notes = notes }) (closed w) o)
       (round_more claim_form a.standing.members i config.m config.nodes r full (own_claim i g a) (closed w) x.done ids agree round)
       (notes_next r (closed w) round)
 
@@ -142,6 +142,7 @@ module _ {N : ℕ} (config : Config N) (i p : ℕ) (g : Inputs) (k : Kept) (x : 
       ∙ ap (λ (v : NodeView N). claims_known v a) (hears config.m rows f w o agree round)
       ∙ ap (λ claims. stage config i p g k x (suc config.m) (Some a) (done_table config i p g k x a (suc config.m)) rows
       (record {
+        sync = synced_by s i x;
         notes = row_by s i (λ j b. accuses (row_by s i (λ q kd. accuses (row_by s i (notes_done config i p g k x a (suc config.m))) q kd || by_verdict config a claims q kd)) j b || by_conviction nat_eq (done_table config i p g k x a (suc config.m)) j b);
         late = f.late;
         claims = claims;
@@ -233,7 +234,7 @@ module _ {N : ℕ} (config : Config N) (i p : ℕ) (g : Inputs) (k : Kept) (x : 
   abbrev by_votes : Hearing (List ℕ) → Found → Watch → Outcome → List (Option ℤ) → List ℕ → NodeView N
   by_votes rows f w o votes row =
       stage config i p g k x (config.m + 2) (Some a) (done_table config i p g k x a (suc config.m)) (started rows a.standing.members i full (Plain row))
-      (record { notes = row; late = f.late; claims = claims_of config i p g k x a; due = due_of config i p g k x a; own = own_of config i p g k x a; votes = votes }) w o
+      (record { sync = synced_by s i x; notes = row; late = f.late; claims = claims_of config i p g k x a; due = due_of config i p g k x a; own = own_of config i p g k x a; votes = votes }) w o
 
   pub step_data : (rows : Hearing (List ℕ)) (f : Found) (w : Watch) (o : Outcome) → AreValues (closed w) → rows.nodes ≡ config.nodes → rows.rounds ≡ config.m → f.late ≡ row_by s i (rounds_closed 0 x.report)
       → slot_taken (shut (in_data config i p g k x a rows f w o)) ≡ data_taken (done_table config i p g k x a (suc config.m)) rows w o
@@ -244,7 +245,7 @@ module _ {N : ℕ} (config : Config N) (i p : ℕ) (g : Inputs) (k : Kept) (x : 
       (if full then row_by s i (λ j b. accuses (row_by s i (notes_claims config i p g k x a)) j b || (is_bad (has_of values_in cw j) b || (deviates s (due_of config i p g k x a) votes (only_values cw) j && b == deviate))) else empty_row s)) (votes_are cw h)
       ∙ ap (by_votes rows f cw o (votes_of config i p g k x a)) (row_is cw h)
       ∙ ap₂ (λ (t : Hearing (List ℕ)) (l : List ℕ). stage config i p g k x (config.m + 2) (Some a) (done_table config i p g k x a (suc config.m)) t
-      (record { notes = row_of config i p g k x a; late = l; claims = claims_of config i p g k x a; due = due_of config i p g k x a; own = own_of config i p g k x a; votes = votes_of config i p g k x a }) cw o)
+      (record { sync = synced_by s i x; notes = row_of config i p g k x a; late = l; claims = claims_of config i p g k x a; due = due_of config i p g k x a; own = own_of config i p g k x a; votes = votes_of config i p g k x a }) cw o)
       (fresh_table rows config.nodes config.m a.standing.members i full (row_of config i p g k x a) x.report ids en em) late
 
   -- ---- the report slots
@@ -321,6 +322,7 @@ module _ {N : ℕ} (config : Config N) (i p : ℕ) (g : Inputs) (k : Kept) (x : 
           due = due_of config i p g k x a;
           votes = votes_of config i p g k x a;
           found = row_of config i p g k x a;
+          sync = synced_by s i x;
         };
       }
 
@@ -338,8 +340,11 @@ module _ {N : ℕ} (config : Config N) (i p : ℕ) (g : Inputs) (k : Kept) (x : 
       → slot_taken (shut (stage config i p g k x 0 k.state d rows f w o)) ≡ stage config i p g k x 0 (Some a) (done_table config i p g k x a 0) rows (found_done config i p g k x a 0 f) (closed w) o
   step_sync d rows f w o h en em carried goes =
       let cw : Watch = closed w in
-      ap (synced (stage config i p g k x 0 k.state d rows f cw o)) (goes_by k.state ∙ goes)
-      ∙ ap₂ (λ (t : Hearing ℕ) (notes : List ℕ). stage config i p g k x 0 (Some a) t rows (record f { notes = notes }) cw o)
+      ap (synced (with_sync (stage config i p g k x 0 k.state d rows f cw o))) (goes_by k.state ∙ goes)
+      ∙ ap (λ (sync : List ℕ). stage config i p g k x 0 (Some a) (started d a.standing.members i full (Plain (own_claim i g a))) rows
+      (record f { sync = sync; notes = row_by s i (λ j b. accuses f.notes j b || (is_bad (has_of state_in cw j) b || (other_body (body config a) (has_of state_in cw j) && b == state))) }) cw o)
+      (synced_alike s i (has_of state_in cw) x (record { each = λ j low ne. sym (h.each j low ne) }))
+      ∙ ap₂ (λ (t : Hearing ℕ) (notes : List ℕ). stage config i p g k x 0 (Some a) t rows (record f { sync = synced_by s i x; notes = notes }) cw o)
       (fresh_table d config.nodes config.m a.standing.members i full (own_claim i g a) x.done ids en em)
       (ap (λ (notes : List ℕ). row_by s i (λ j b. accuses notes j b || (is_bad (has_of state_in cw j) b || (other_body (body config a) (has_of state_in cw j) && b == state)))) carried
       ∙ row_alike s i (λ j b. accuses k.carried j b || (is_bad (has_of state_in cw j) b || (other_body (body config a) (has_of state_in cw j) && b == state))) (notes_done config i p g k x a 0) (record {

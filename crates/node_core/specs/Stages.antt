@@ -15,7 +15,7 @@ use Rattle.protocol.specs.Arrival.{is_bad}
 use Rattle.protocol.specs.Heard.{Rounds, rounds_bad}
 use Rattle.protocol.specs.Settled.{ear_of}
 use Rattle.protocol.specs.FurtherKinds.{convicts_member}
-use Rattle.protocol.specs.View.{Kept, Received, View, own_claim, claims_settled, due_channels, own_values, votes_on, deviates, other_body, row_by, empty_row, noted}
+use Rattle.protocol.specs.View.{Kept, Received, View, own_claim, claims_settled, due_channels, own_values, votes_on, deviates, other_body, row_by, empty_row, noted, synced_by}
 use Rattle.protocol.specs.Run.{members_in}
 use Rattle.node_core.specs.Outcome.{Outcome}
 use Rattle.node_core.specs.Parts.{Found, NodeView}
@@ -44,6 +44,10 @@ module _ {N : ℕ} (config : Config N) (i p : ℕ) (g : Inputs) (k : Kept) (x : 
     arrived = w;
     outcome = o;
   }
+
+  -- what it found in the sync slot, where it stays Cold
+  abbrev pub found_cold : Found → Found
+  found_cold f = record f { sync = synced_by (setting_of config) i x }
 
   -- going through the period with state a
   module _ (a : AgreedView) where
@@ -89,13 +93,13 @@ module _ {N : ℕ} (config : Config N) (i p : ℕ) (g : Inputs) (k : Kept) (x : 
 
     -- what it found before round r of claims, before the data slot, and before round r of rows
     abbrev pub found_done : ℕ → Found → Found
-    found_done r f = record f { notes = row_by (setting_of config) i (notes_done r) }
+    found_done r f = record f { sync = synced_by (setting_of config) i x; notes = row_by (setting_of config) i (notes_done r) }
 
     abbrev pub found_data : Found → Found
-    found_data f = record { notes = row_by (setting_of config) i notes_claims; late = f.late; claims = claims_of; due = due_of; own = own_of; votes = f.votes }
+    found_data f = record { sync = synced_by (setting_of config) i x; notes = row_by (setting_of config) i notes_claims; late = f.late; claims = claims_of; due = due_of; own = own_of; votes = f.votes }
 
     abbrev pub found_report : ℕ → Found
-    found_report r = record { notes = row_of; late = row_by (setting_of config) i (rounds_closed r x.report); claims = claims_of; due = due_of; own = own_of; votes = votes_of }
+    found_report r = record { sync = synced_by (setting_of config) i x; notes = row_of; late = row_by (setting_of config) i (rounds_closed r x.report); claims = claims_of; due = due_of; own = own_of; votes = votes_of }
 
     abbrev pub in_done : ℕ → Hearing (List ℕ) → Found → Watch → Outcome → NodeView N
     in_done r rows f w o = stage (suc r) (Some a) (done_table r) rows (found_done r f) w o
@@ -108,4 +112,4 @@ module _ {N : ℕ} (config : Config N) (i p : ℕ) (g : Inputs) (k : Kept) (x : 
 
 -- the record of a period's view
 abbrev pub outcome_of : View → Outcome
-outcome_of w = record { mode = w.mode; agreed = w.kept.state; members = members_in w.before; done = w.done; rows = w.rows; due = w.due; votes = w.votes; found = w.found }
+outcome_of w = record { mode = w.mode; agreed = w.kept.state; members = members_in w.before; done = w.done; rows = w.rows; due = w.due; votes = w.votes; found = w.found; sync = w.sync }

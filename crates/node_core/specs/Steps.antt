@@ -2,7 +2,7 @@
 use Rattle.std.specs.Prelude.{ℕ, ◌+◌, ◌-◌, ◌*◌, Bool, true, false, not, ◌&&◌, ◌||◌, ◌==◌, nat_eq, nat_lt, nat_le, List, [], map, length, replicate, Option, None, Some, is_some, if◌then◌else◌}
 use Rattle.std.specs.Cmp.Lexicographic.{pointwise}
 use Rattle.node_grid.specs.Kinds.{missing, state, claim, overrun, deviate, equivocate}
-use Rattle.node_grid.specs.NodeSet.{has_id, ids_below}
+use Rattle.node_grid.specs.NodeSet.{has_id, ids_below, ids_where}
 use Rattle.omh_paths.specs.declared.wrapped.Wrapped.{Wrapped}
 use Rattle.omh_paths.specs.declared.wrapped.Wrapped.TheVariants.{Plain, Fault}
 use Rattle.omh.specs.Omh.{settled_from}
@@ -18,7 +18,7 @@ use Rattle.agreed_state.specs.declared.config.Config.{Config}
 use Rattle.agreed_state.specs.declared.config.Inputs.{Inputs}
 use Rattle.agreed_state.specs.Agreed.{AgreedView, agreed_after}
 use Rattle.agreed_state.specs.Body.{body, state_len}
-use Rattle.protocol.specs.Arrival.{Arrival, Form, arrived, is_bad, state_in, values_in, claim_form, row_form}
+use Rattle.protocol.specs.Arrival.{Arrival, Form, arrived, is_bad, is_good, state_in, values_in, claim_form, row_form}
 use Rattle.protocol.specs.Arrival.Arrival.{Bad}
 use Rattle.protocol.specs.Heard.{heard}
 use Rattle.protocol.specs.Settled.{plain}
@@ -106,8 +106,15 @@ synced v (Some a) =
       done = started v.done a.standing.members v.phase.me v.phase.full (Plain (own_claim v.phase.me v.phase.inputs a));
     }
 
+-- the other nodes whose frames in the slot were good, by what each one's frame says
+abbrev pub good_in : ℕ → ℕ → (ℕ → Arrival (List ℕ)) → List ℕ
+good_in nodes me sync = ids_where (λ j. not (j == me) && is_good (sync j)) nodes
+
+abbrev pub with_sync : {N : ℕ} → NodeView N → NodeView N
+with_sync v = record v { found = record v.found { sync = good_in v.config.nodes v.phase.me (has_of state_in v.arrived) } }
+
 abbrev pub after_sync : {N : ℕ} → NodeView N → NodeView N
-after_sync v = synced v (if v.phase.full then v.kept.state else adopted_by (setting_of v.config) v.phase.me (has_of state_in v.arrived))
+after_sync v = synced (with_sync v) (if v.phase.full then v.kept.state else adopted_by (setting_of v.config) v.phase.me (has_of state_in v.arrived))
 
 -- whether node j is convicted by what was heard of an item
 abbrev pub by_conviction : {V : Type 0} → (V → V → Bool) → Hearing V → ℕ → ℕ → Bool
@@ -161,6 +168,7 @@ ended {N} v a =
         due = v.found.due;
         votes = v.found.votes;
         found = v.found.notes;
+        sync = v.found.sync;
       };
     }
 
@@ -170,7 +178,7 @@ ended_cold {N} v =
     let c = cold_view (setting_of v.config) v.phase.me (only_values v.arrived) in
     record v {
       kept = c.kept;
-      outcome = record { mode = Cold; agreed = None; members = []; done = c.done; rows = c.rows; due = []; votes = c.votes; found = c.found };
+      outcome = record { mode = Cold; agreed = None; members = []; done = c.done; rows = c.rows; due = []; votes = c.votes; found = c.found; sync = v.found.sync };
     }
 
 -- the slot is closed
@@ -211,7 +219,7 @@ begun {N} v period inputs =
     let s = setting_of v.config in
     let w = record v {
       phase = record { me = v.phase.me; period = period; slot = 0; is_open = true; inputs = inputs; full = is_some v.kept.state; before = v.kept.state };
-      found = record { notes = v.kept.carried; late = empty_row s; claims = replicate N (Fault 0); due = []; own = replicate channel_room None; votes = replicate channel_room None };
+      found = record { sync = []; notes = v.kept.carried; late = empty_row s; claims = replicate N (Fault 0); due = []; own = replicate channel_room None; votes = replicate channel_room None };
     } in
     record w { arrived = opened v.arrived (expected_in w 0) }
 
