@@ -6,34 +6,31 @@
 # The input is closed, or a folder; the output is closed, a full device, or a pipe whose reader goes away. The status is 5 or 6, and
 # the launcher hands it on and says what it means. The launcher is run as a copy beside a copy of the program, so that it builds
 # nothing. PROGRAM is by default what the gate built. The last line is 'N passed, M failed'.
-set -u
-top=$(cd "$(dirname "${BASH_SOURCE[0]}")/.." && pwd) || exit 2
-program=${1:-$top/crates/maft/out/maft}
-[ -x "$program" ] || { echo "tests/devices.sh: the program is not built: $program" >&2; exit 2; }
-work=$(mktemp -d) || exit 2
-trap 'rm -rf "$work"' EXIT
-passed=0
-failed=0
+. "${BASH_SOURCE[0]%/*}/lib/head.sh"
+take_program "$@"
 mkdir -p "$work/crates" "$work/.maft" && : >"$work/crates.txt" && cp "$top/maft" "$work/maft" && cp "$program" "$work/.maft/maft" || exit 2
 small=$top/tests/cases/smallest/stdin
 long=$top/tests/cases/long_run/stdin
 
 # one run that is over: its name, its status, the one that is wanted, and a word of what the launcher must say
 judge() {
-    if [ "$2" = "$3" ] && { [ -z "$4" ] || grep -q "$4" "$work/noise"; }; then passed=$((passed + 1)); else
-        failed=$((failed + 1))
-        echo "$1: status $2, wanted $3; $(head -n 1 "$work/noise")"
+    if [ "$2" = "$3" ] && { [ -z "$4" ] || grep -q "$4" "$work/noise"; }; then pass; else
+        refuse "$1: status $2, wanted $3; $(head -n 1 "$work/noise")"
     fi
 }
+
+# what a run without an input must not do
+silent() { if [ -s "$work/out" ]; then refuse "$1: something was written"; else pass; fi; }
 
 # all devices under one command: its name, what it must say of a failed read and of a failed write, and the command
 devices() {
     local what=$1 unread=$2 unwritten=$3 run=$4
     "$run" replay <&- >"$work/out" 2>"$work/noise"
     judge "$what, a closed input" $? 5 "$unread"
-    [ -s "$work/out" ] && { failed=$((failed + 1)); echo "$what, a closed input: something was written"; }
+    silent "$what, a closed input"
     "$run" replay <"$work" >"$work/out" 2>"$work/noise"
     judge "$what, a folder as input" $? 5 "$unread"
+    silent "$what, a folder as input"
     "$run" replay <"$small" >&- 2>"$work/noise"
     judge "$what, a closed output" $? 6 "$unwritten"
     if [ -e /dev/full ]; then
@@ -46,5 +43,4 @@ devices() {
 
 devices "the program" "" "" "$program"
 devices "the launcher" "could not be read" "could not be written" "$work/maft"
-echo "$passed passed, $failed failed"
-[ "$failed" = 0 ]
+finish
