@@ -1,5 +1,5 @@
 -- The nodes whose frames of the sync slot were good.
-use Rattle.std.proofs.Common.{ℕ, ◌≡◌, ◌<◌, ◌≤◌, ◌+◌, ◌&&◌, Bool, true, false, filter, sym, ap, ◌∙◌, arith, Option}
+use Rattle.std.proofs.Common.{ℕ, ◌≡◌, ◌<◌, ◌≤◌, Bool, true, false, filter, sym, ap, ◌∙◌, arith, Option}
 use Rattle.std.specs.Prelude.{nat_lt}
 use Rattle.std.proofs.lemmas.Bool.Decides.{nat_tests}
 use Rattle.node_grid.specs.NodeSet.{ids_below, ids_where, ids_where_below}

@@ -1,6 +1,6 @@
 -- Whom a node convicts, as it is noted.
-use Rattle.std.proofs.Common.{ℕ, ◌≡◌, ◌≢◌, ◌<◌, ◌≤◌, ◌+◌, ◌==◌, ◌||◌, ◌&&◌, Bool, true, false, List, map, refl, sym, ap, ap₂, ◌∙◌, inl, inr, arith, eq-eqb, eqb-true, ne_eqb}
-use Rattle.std.proofs.lemmas.Bool.{cases_Bool, cases_eq, cases_lt}
+use Rattle.std.proofs.Common.{ℕ, ◌≡◌, ◌≢◌, ◌<◌, ◌≤◌, ◌+◌, ◌==◌, ◌||◌, ◌&&◌, Bool, true, false, List, refl, sym, ap, ap₂, ◌∙◌, inl, inr, arith, eq-eqb, ne_eqb}
+use Rattle.std.proofs.lemmas.Bool.{cases_eq, cases_lt}
 use Rattle.node_grid.specs.NodeSet.{has_id, with_id}
 use Rattle.node_grid.specs.NodeSetLaws.{has-with_id}
 use Rattle.node_grid.specs.Version.{kind_count}
@@ -8,7 +8,7 @@ use Rattle.error_reports.specs.Charge.{accuses}
 use Rattle.node_grid.specs.Kinds.{equivocate}
 use Rattle.protocol.specs.View.{Setting, is_further, row_by}
 use Rattle.node_core.specs.Notes.{noted_row}
-use Rattle.node_core.proofs.Alike.{Others, row_alike, row_by_is}
+use Rattle.node_core.proofs.Alike.{row_alike, row_by_is}
 
 -- one node more
 pub one_more : (n node me : ℕ) (guilty new : List ℕ) (b : Bool) (F : ℕ → Bool) → (node ≢ me → b ≡ F node) → ((j : ℕ) → j < n → has_id new j ≡ ((b && j == node) || has_id guilty j))

@@ -1,4 +1,4 @@
-use Rattle.std.proofs.Common.{rules, ◌<◌, ◌||◌, ◌&&◌, ◌==◌, ◌+◌, Bool, ℕ, List, arith, sym, ap, ap₂, subst, ◌∙◌}
+use Rattle.std.proofs.Common.{rules, ◌<◌, ◌||◌, ◌&&◌, ◌==◌, ◌+◌, Bool, ℕ, List, arith, sym, ap₂, subst, ◌∙◌}
 use Rattle.node_grid.specs.NodeSet.{has_id, ids_where, mask_of}
 use Rattle.error_reports.specs.Charge.{accuses}
 use Rattle.node_grid.specs.Kinds.{equivocate}
