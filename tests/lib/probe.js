@@ -1,0 +1,79 @@
+// Drives the page of view/replay.html over the drawings of a check, and puts what is wrong into the title.
+// A drawing has: text, perhaps scenario, periods, nodes, and cells; a cell has at (period, node), words, absent (words), and pixels
+// (x and y within the cell, and a colour). A place is a pixel of a period: x, the lane and y within it, and a colour. A refusal has text and the words that must be told.
+"use strict";
+const wrong = [];
+let checked = 0;
+
+function demand(holds, what) { checked += 1; if (!holds) wrong.push(what); }
+
+function colour(x, y) {
+  const scale = canvas.width / parseFloat(canvas.style.width);
+  const data = canvas.getContext("2d").getImageData(Math.round(x * scale), Math.round(y * scale), 1, 1).data;
+  return "#" + [...data.slice(0, 3)].map((part) => part.toString(16).padStart(2, "0")).join("");
+}
+
+function pageWords() { return document.getElementById("words").textContent; }
+
+function luminance(hex) {
+  const parts = [1, 3, 5].map((at) => parseInt(hex.slice(at, at + 2), 16) / 255).map((v) => v <= 0.03928 ? v / 12.92 : ((v + 0.055) / 1.055) ** 2.4);
+  return 0.2126 * parts[0] + 0.7152 * parts[1] + 0.0722 * parts[2];
+}
+
+function contrast(a, b) { const [low, high] = [luminance(a), luminance(b)].sort((x, y) => x - y); return (high + 0.05) / (low + 0.05); }
+
+function checkDrawing(drawing) {
+  if (drawing.scenario) show(drawing.scenario);
+  show(drawing.text);
+  const problem = document.getElementById("problem").textContent;
+  demand(problem === "", drawing.name + ": " + problem);
+  if (!window.shown) { demand(false, drawing.name + ": nothing is shown"); return; }
+  demand(window.shown.periods === drawing.periods && window.shown.nodes === drawing.nodes, drawing.name + ": " + window.shown.periods + " periods of " + window.shown.nodes + " nodes");
+  demand(window.shown.milliseconds < 1000 * drawing.slow, drawing.name + ": " + window.shown.milliseconds + " ms");
+  if (drawing.opens !== undefined) demand(pageWords().includes("Period 0, node " + drawing.opens), drawing.name + ": opens elsewhere");
+  for (const cell of drawing.cells || []) {
+    const [period, node] = cell.at, at = drawing.name + ", period " + period + ", node " + node;
+    go(period, node);
+    for (const words of cell.words || []) demand(pageWords().includes(words), at + ": no words '" + words + "'");
+    for (const words of cell.absent || []) demand(!pageWords().includes(words), at + ": words '" + words + "'");
+    for (const [x, y, wanted] of cell.pixels || []) { const got = colour(state.width * period + x, HEAD + ROW * node + y); demand(got === wanted, at + ": pixel " + x + "," + y + " is " + got + ", not " + wanted); }
+  }
+  for (const [period, x, lane, y, wanted] of drawing.places || []) { const got = colour(state.width * period + x, (state.at[lane] || 0) + y); demand(got === wanted, drawing.name + ", period " + period + ", " + lane + " " + x + "," + y + ": " + got + ", not " + wanted); }
+  if (drawing.lost !== undefined) { go(0, 0); document.getElementById("lost").click(); demand(state.period === drawing.lost && !document.getElementById("lost").disabled, drawing.name + ": the lost claim is not gone to"); }
+  else demand(document.getElementById("lost").disabled, drawing.name + ": a lost claim is told");
+}
+
+function checkRefusal(refusal) {
+  show(drawings[0].text);
+  show(refusal.text);
+  demand(document.getElementById("problem").textContent.includes(refusal.words), refusal.words + ": the problem is '" + document.getElementById("problem").textContent + "'");
+  demand(canvas.width === 0 && pageWords() === "" && !window.shown, refusal.words + ": the old drawing stays");
+}
+
+// a text that would be an element, had the page put it there as such
+function checkInjection(text) {
+  show(text);
+  demand(!document.querySelector("#words img, #problem img, #told img") && !window.injected, "a text gets into the page as an element");
+}
+
+function checkContrasts() {
+  for (const [a, b, least] of CONTRASTS) demand(contrast(COLOURS[a], COLOURS[b]) >= least, "contrast of " + a + " and " + b);
+  for (const [name, ground] of Object.values(CLASSES)) { demand(contrast(COLOURS.ink, ground) >= 4.5, "text on " + name); demand(contrast(COLOURS.count, ground) >= 3, "bar on " + name); }
+}
+
+function drop(kind) {
+  const data = new DataTransfer();
+  data.setData("text/plain", drawings[0].text);
+  document.body.dispatchEvent(new DragEvent(kind, { bubbles: true, cancelable: true, dataTransfer: data }));
+}
+
+try {
+  for (const drawing of drawings) { state.plan = null; checkDrawing(drawing); }
+  for (const refusal of refusals) checkRefusal(refusal);
+  injections.forEach(checkInjection);
+  checkContrasts();
+  clear(); drop("drop");
+  demand(window.shown && window.shown.periods === drawings[0].periods, "a text that is dropped on the page is not drawn");
+  demand(getComputedStyle(document.getElementById("labels")).position === "sticky", "the names of the rows scroll away");
+} catch (error) { wrong.push("the page fails: " + error.message); }
+document.title = "looked " + checked + " wrong " + wrong.length + " " + JSON.stringify(wrong.slice(0, 12));
