@@ -56,6 +56,9 @@ pub fn convicted<V: Copy + Eq + Drop, const N: usize>(
     if kinds <= EQUIVOCATE {
         return guilty;
     }
+    if table.convicts_nobody() {
+        return guilty;
+    }
     for node in 0..N as u8 {
         if is_convicted(table, members, me, node) {
             guilty.put(node);
