@@ -30,6 +30,7 @@ fn parts(alloc: Global, seed: u64) -> Result<Parts, AllocError>
         tasks: tasks(alloc)?,
         faults: drawn.faults,
         restarts: drawn.restarts,
+        clock: None,
     })
 }
 
