@@ -6,13 +6,15 @@
 # A CASE is a folder of tests/cases; without one there are those at the end of this file, sixteen nodes and a storm.
 # Of each run below each request for memory is refused in turn, each read and each write fails in turn, and each of them moves one
 # byte alone in turn. It does so by a small library that stands before the C library's calls (tests/lib/fail.c); where no C compiler is
-# there, this says so and ends well. Refused memory must end with 7 and nothing written; what is asked for before the words are known
+# there, this says so and ends well; FAIL_LIBRARY names one that is compiled already. Refused memory must end with 7 and nothing written; what is asked for before the words are known
 # may also end with 1 and nothing written, or change nothing. A failed read must end with 5 and nothing written, a failed write with 6 and a prefix of the text, and a short
 # read or write with 0 and the whole text, which is a stored one. The last line is 'N passed, M failed'.
 . "${BASH_SOURCE[0]%/*}/lib/head.sh"
 take_program "$@"
-compiler=$(command -v cc || command -v gcc || command -v clang) || skip "no C compiler is installed"
-"$compiler" -shared -fPIC -O1 -o "$work/fail.so" "$top/tests/lib/fail.c" -ldl 2>"$work/compiler" || skip "the library can't be compiled: $(head -n 1 "$work/compiler")"
+if [ -n "${FAIL_LIBRARY-}" ]; then cp "$FAIL_LIBRARY" "$work/fail.so" || exit 2; else
+    compiler=$(command -v cc || command -v gcc || command -v clang) || skip "no C compiler is installed"
+    "$compiler" -shared -fPIC -O1 -o "$work/fail.so" "$top/tests/lib/fail.c" -ldl 2>"$work/compiler" || skip "the library can't be compiled: $(head -n 1 "$work/compiler")"
+fi
 cases=$top/tests/cases
 
 # the program with the library before it; the first word is one setting of the library

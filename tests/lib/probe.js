@@ -51,9 +51,9 @@ function checkRefusal(refusal) {
 }
 
 // a text that would be an element, had the page put it there as such
-function checkInjection(text) {
-  show(text);
-  demand(!document.querySelector("#words img, #problem img, #told img") && !window.injected, "a text gets into the page as an element");
+function checkInjection(texts) {
+  texts.forEach(show);
+  demand(!document.querySelector("main img") && !window.injected, "a text gets into the page as an element");
 }
 
 function checkContrasts() {

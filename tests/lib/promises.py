@@ -60,6 +60,8 @@ def read(text):
             periods[-1].clock = (words[2], numbers(words[4]))
         elif words[0] != "end" or int(words[1]) != len(periods):
             raise ValueError(f"no line of a replay: {line[:60]}")
+    if not text.endswith(f"end {len(periods)}\n"):
+        raise ValueError("the end line is missing")
     return periods
 
 
