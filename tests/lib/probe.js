@@ -75,5 +75,5 @@ try {
   clear(); drop("drop");
   demand(window.shown && window.shown.periods === drawings[0].periods, "a text that is dropped on the page is not drawn");
   demand(getComputedStyle(document.getElementById("labels")).position === "sticky", "the names of the rows scroll away");
-} catch (error) { wrong.push("the page fails: " + error.message); }
+} catch (error) { demand(false, "the page fails: " + error.message); }
 document.title = "looked " + checked + " wrong " + wrong.length + " " + JSON.stringify(wrong.slice(0, 12));
