@@ -1,18 +1,15 @@
 -- Clocks that no rule refuses are clocks for the nodes of their cluster.
-use Rattle.std.proofs.Common.{◌≡◌, ◌≢◌, ℕ, zero, suc, ◌+◌, ◌-◌, ◌<◌, ◌≤◌, ◌%◌, ◌^◌, ◌≤ℤ◌, ◌==◌, ℤ, pos, neg_ℤ, Bool, true, false, not, ◌&&◌, ◌||◌, List, [], ◌∷◌, map, length, get_or, Option, Some, None, refl, sym, ap, ◌∙◌, arith, inl, inr, subst}
-use Rattle.std.specs.Prelude.{All, option_map, slice_index_or, nat_lt}
-use Rattle.std.specs.List.{list_all, range_with_len}
-use Rattle.std.proofs.lemmas.Bool.{and_parts, or_cases, cases_lt, eqb-true, leb-true, ltb-true, not-true, both_ways, ne_eqb}
+use Rattle.std.proofs.Common.{◌≡◌, ◌≢◌, ℕ, ◌+◌, ◌-◌, ◌<◌, ◌≤◌, ◌%◌, ◌^◌, ◌==◌, ℤ, pos, neg_ℤ, Bool, true, false, List, [], map, length, get_or, Option, Some, None, refl, sym, ap, ◌∙◌, arith, inl, inr, subst}
+use Rattle.std.specs.Prelude.{All, option_map, nat_lt}
+use Rattle.std.proofs.lemmas.Bool.{and_parts, or_cases, cases_lt, eqb-true, leb-true, ltb-true, not-true}
 use Rattle.std.proofs.lemmas.List.{length-map}
 use Rattle.std.proofs.lemmas.List as list
 use Rattle.std.proofs.lemmas.List.Elements.{All-map, All-from_recursion}
 use Rattle.std.proofs.lemmas.Nat.{mod_below}
 use Rattle.node_grid.specs.declared.class.Class.{Class}
 use Rattle.node_grid.specs.declared.class.Class.TheVariants.{S}
-use Rattle.node_grid.specs.Class.{is_sound, is_symmetric}
-use Rattle.node_grid.specs.NodeSet.{has_id, ids_below}
-use Rattle.mme_vote.specs.Vote.{distance}
-use Rattle.clock_skew.specs.Clock.{ClockView, LieView, clock_of, number_at, row_at, IsUpTo, IsBound, AreUpTo, AreNear, IsLie, IsClock}
+use Rattle.node_grid.specs.NodeSet.{has_id}
+use Rattle.clock_skew.specs.Clock.{ClockView, LieView, clock_of, number_at, row_at, AreUpTo, AreNear, IsLie, IsClock}
 use Rattle.fault_classes.specs.Plan.{Plan, class_of}
 use Rattle.protocol.specs.Run.{run, classes}
 use Rattle.protocol.specs.Clocks.{IsFair, AreClocks}
@@ -21,7 +18,7 @@ use Rattle.scenario.specs.Parts.Numbers.{all}
 use Rattle.scenario.specs.Numbers.{is_within, natural}
 use Rattle.scenario.specs.Line.{is_addressed, lie_in}
 use Rattle.scenario.specs.Given.{padded, clock_in, plan_in, scenario_of}
-use Rattle.scenario.specs.Rules.{unless, at_place, first_bad, are_close, are_rows, are_up_to, is_drift, is_clock, hears, is_to_all, may_tell, may_tell_in, is_fair, is_said, is_lie, fits_lie, clock_refused, clock_refusal, HasRanges}
+use Rattle.scenario.specs.Rules.{unless, at_place, first_bad, are_rows, are_up_to, is_drift, is_clock, hears, is_to_all, may_tell, may_tell_in, is_fair, is_lie, fits_lie, clock_refused, clock_refusal, HasRanges}
 use Rattle.scenario.specs.Scenario.{system_of}
 use Rattle.scenario.proofs.Ranges.{within, passes, all_are}
 use Rattle.scenario.proofs.Places.{first_none, second_none, holds, nowhere, holds_at, all_hold}

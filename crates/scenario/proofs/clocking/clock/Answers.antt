@@ -1,4 +1,4 @@
-use Rattle.std.proofs.Common.{◌≡◌, ℕ, Option, None, Some, IfErr, rules, sym, ap, ◌∙◌, arith, subst, lit<, inl, inr, w64, to_z-of_z}
+use Rattle.std.proofs.Common.{ℕ, Option, Some, IfErr, rules, sym, ap, ◌∙◌, arith, subst, lit<, inl, inr, w64, to_z-of_z}
 use Rattle.std.specs.Prelude.{FitsSigned, option_map}
 use Rattle.fault_classes.specs.Plan.{Plan}
 use Rattle.scenario.specs.Rules.{clock_refused}

@@ -2,7 +2,7 @@ use Rattle.std.proofs.Common.{◌≡◌, true, ℤ, List, map, None, Vec, Global
 use Rattle.std.specs.Prelude.{FitsSigned}
 use Rattle.clock_skew.specs.Clock.{ClockView, IsClock, lie_of}
 use Rattle.scenario.specs.Line.{lie_in}
-use Rattle.scenario.specs.Given.{padded, clock_in}
+use Rattle.scenario.specs.Given.{padded}
 use Rattle.scenario.specs.Rules.{first_bad, is_clock, fits_lie}
 use Rattle.scenario.specs.Seen.{lie_view, clock_view}
 use Rattle.scenario.specs.declared.parts.LiePart.{LiePart}

@@ -1,5 +1,5 @@
-use Rattle.std.proofs.Common.{◌≡◌, ◌<◌, ℕ, false, Option, Some, sym, ap, ◌∙◌, arith, subst}
-use Rattle.scenario.specs.Rules.{at_place, first_bad, is_lie, fits_lie}
+use Rattle.std.proofs.Common.{◌≡◌, ◌<◌, ℕ, false, Option, sym, ap, ◌∙◌, arith, subst}
+use Rattle.scenario.specs.Rules.{at_place, is_lie}
 use Rattle.scenario.specs.Seen.{lie_view}
 use Rattle.scenario.specs.Verdict.{Tells}
 use Rattle.scenario.proofs.Lying.{next_lie, next_fits, fits, unfit, bad_lie}
