@@ -1,5 +1,5 @@
 -- The system that the parts of a storm give, and that it is accepted.
-use Rattle.std.proofs.Common.{◌≡◌, ℕ, zero, suc, ◌<◌, true, false, List, [], map, length, refl, ap, ap₂, subst, ◌∙◌, inl, arith}
+use Rattle.std.proofs.Common.{◌≡◌, ℕ, zero, suc, ◌<◌, true, false, List, [], map, length, None, refl, ap, ap₂, subst, ◌∙◌, inl, arith}
 use Rattle.task_graph.specs.Graph.{TaskView, IsOut, IsTasks}
 use Rattle.task_graph.specs.Reach.{is_cyclic}
 use Rattle.task_graph.specs.GraphLaws.{is_cyclic-finds, cyclic_within}
@@ -15,7 +15,7 @@ use Rattle.storm.specs.Parts.{storm_tasks, storm_channels, parts_of}
 use Rattle.storm.proofs.Off.{plan_by}
 use Rattle.storm.proofs.Shape.{AreBlocks}
 use Rattle.storm.proofs.Planned.{not_refused}
-use Rattle.storm.proofs.Refusals.{restarts_back, lines_are, not_early}
+use Rattle.storm.proofs.Refusals.{restarts_back, lines_are, not_early, no_clock}
 
 -- ---- the tasks
 
@@ -53,6 +53,7 @@ scenario_with plan = record {
   order = 0;
   times = map (times_of 8) storm_tasks;
   readings = map rows_of storm_channels;
+  clock = None;
 }
 
 -- the system of a storm of these blocks
@@ -66,7 +67,7 @@ pub given_is : (bs : List Block) → length bs ≡ 64 → AreBlocks 0 bs → sys
 given_is bs long are = ap (λ (plan : Plan). system_of (scenario_with plan)) (plan_is bs long are)
 
 scenario_is : (bs : List Block) → length bs ≡ 64 → AreBlocks 0 bs → IsScenario (scenario_of 8 (parts_of bs))
-scenario_is bs long are = accepted 8 (parts_of bs) (inl refl) (not_early bs) tasks_are (ap refusal_of (plan_is bs long are) ∙ not_refused bs (omega arith) are)
+scenario_is bs long are = accepted 8 (parts_of bs) (inl refl) (not_early bs) tasks_are (ap refusal_of (plan_is bs long are) ∙ not_refused bs (omega arith) are) (no_clock bs)
 
 pub accepted_by : (bs : List Block) → length bs ≡ 64 → AreBlocks 0 bs → IsAccepted (system_by bs)
 accepted_by bs long are = subst IsAccepted (given_is bs long are) (scenario_is bs long are).system

@@ -11,7 +11,7 @@ use Rattle.protocol.specs.Safe.{reference, members_from, members_at, Budget, Saf
 use Rattle.safety.specs.Given.{IsGiven, IsSparing, Started}
 use Rattle.safety.specs.Laws.{StartLaw, StepLaw}
 use Rattle.safety.specs.Runs.{ReceptionLaw}
-use Rattle.safety.proofs.Induction.{none_spares}
+use Rattle.safety.proofs.Convictions.{convictions_spare}
 use Rattle.storm.specs.Draws.{generator_of}
 use Rattle.storm.specs.Storm.{Block, blocks, storm, restart_of}
 use Rattle.storm.specs.Laws.{HasOneFaulty, IsWeathered, Weathers, StormLaw}
@@ -73,7 +73,7 @@ module _ (bs : List Block) (are : AreBlocks 0 bs) where
     safe_here p before =
         let s = before p (omega arith) in
         let spares : IsSparing (run (system_by bs)) (classes (system_by bs)) p =
-        none_spares (run (system_by bs)) (classes (system_by bs)) given refl p (λ q l. budget q (before q l)) before in
+        convictions_spare (run (system_by bs)) (classes (system_by bs)) given refl p (λ q l. budget q (before q l)) before in
         step (run (system_by bs)) (classes (system_by bs)) p (record { given = given; start = s; budget = budget p s }) spares
 
     all_started : (p : ℕ) → (q : ℕ) → q ≤ p → Started (run (system_by bs)) (classes (system_by bs)) q

@@ -16,7 +16,7 @@ use Rattle.hex.specs.Hex.{encode_lower, IsBytes}
 use Rattle.hex.specs.declared.error.FromHexError.{FromHexError}
 use Rattle.hex.proofs.HexLemmas.{decode_of-encode_lower}
 use Rattle.scenario.specs.Numbers.{is_within, is_below, is_ascending, is_empty, are_some_below, has_number, means, meant}
-use Rattle.scenario.specs.Line.{bytes_of, decoded, change_at, is_span, receivers_of, is_placed, line_with, line_at}
+use Rattle.scenario.specs.Line.{bytes_of, decoded, change_at, is_span, others_of, is_placed, line_with, line_at}
 use Rattle.storm.specs.Storm.{Block, lines_of}
 use Rattle.storm.specs.Parts.{numbers_of, effect_of, fault_of}
 use Rattle.storm.proofs.Shape.{IsLineOf, ascends, WritesBytes, AreBlocks}
@@ -120,7 +120,7 @@ line_back l h =
     let placed : is_placed 8 8 1024 (fault_of l) ≡ true =
     and_from _ _ (and_from _ _ (and_from _ _ (and_from _ _ a.0 (numbers_are 8 l.to b.0 h.ascending)) (not_from_false _ (has_same l.to l.from ∙ apart)))
     (span_is 1024 l.first l.last (leb-true _ _ d.0) (ltb-true _ _ e.0))) (numbers_are 8 l.slots f.0 h.slots_ascend) in
-    let to : receivers_of 8 (fault_of l) ≡ l.to = ap (λ (xs : List ℕ). without_id xs l.from) (meant_back 8 l.to h.set) ∙ without_none l.to l.from apart in
+    let to : others_of 8 (pos l.from) (numbers_of l.to) ≡ l.to = ap (λ (xs : List ℕ). without_id xs l.from) (meant_back 8 l.to h.set) ∙ without_none l.to l.from apart in
     let slots : meant 8 (numbers_of l.slots) ≡ l.slots = meant_back 8 l.slots h.slots_set in
     rw placed (ap (option_map (line_with 8 8 (fault_of l))) (change_back l.change f.1 h.bytes) ∙ ap₂ (line_to l) to slots)
 

@@ -10,7 +10,7 @@ use Rattle.fault_classes.specs.Rules as plan
 use Rattle.fault_classes.specs.Rules.{first_overlap}
 use Rattle.scenario.specs.Line.{line_at, restart_of}
 use Rattle.scenario.specs.Given as given
-use Rattle.scenario.specs.Rules.{first_bad, is_line, is_restart, first_bad_restart, early_refusal, cycles_refusal, plan_refusal, refusal}
+use Rattle.scenario.specs.Rules.{first_bad, is_line, is_restart, first_bad_restart, early_refusal, cycles_refusal, plan_refusal, clock_refusal, refusal}
 use Rattle.storm.specs.Draws.{generator_of}
 use Rattle.storm.specs.Storm.{Block, blocks, storm, lines_of, restarts_of}
 use Rattle.storm.specs.Parts.{fault_of, restart_parts, parts_of}
@@ -66,8 +66,12 @@ plan_stands bs long are =
     let size : nat_le (length (map fault_of (lines_of bs))) 4096 ≡ true = le-leb (length (map fault_of (lines_of bs))) 4096 (omega (arith, length-map (lines_of bs) fault_of)) in
     rw (faults, overlaps, restarts, size) refl
 
+pub no_clock : (bs : List Block) → clock_refusal (parts_of bs) ≡ None
+unfolding clock_refusal
+no_clock bs = refl
+
 pub not_refused : (bs : List Block) → length bs ≡ 64 → AreBlocks 0 bs → refusal 8 (parts_of bs) ≡ None
-not_refused bs long are = rw (not_early bs, no_cycles bs, plan_stands bs long are) refl
+not_refused bs long are = rw (not_early bs, no_cycles bs, plan_stands bs long are) (no_clock bs)
 
 pub unrefused_law : UnrefusedLaw
 unfolding storm

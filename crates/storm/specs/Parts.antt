@@ -84,6 +84,7 @@ parts_of bs = record {
   tasks = storm_tasks;
   faults = map fault_of (lines_of bs);
   restarts = map restart_parts (restarts_of bs);
+  clock = None;
 }
 
 -- the parts of a number's storm
