@@ -17,7 +17,7 @@ from collections.abc import Callable, Iterable, Iterator
 from . import program as runs
 from . import summary, text
 from .drawing import Options, drawn
-from .plan import WordsError
+from .plan import Json, WordsError
 
 
 @dataclasses.dataclass
@@ -96,7 +96,7 @@ def judge(program: str, job: Job) -> Row:
     return row
 
 
-def drawn_jobs(options: Options, count: int, base: dict | None = None) -> list[Job]:
+def drawn_jobs(options: Options, count: int, base: Json | None = None) -> list[Job]:
     """As many drawn scenarios. They are drawn where they are run."""
     source = "" if base is None else json.dumps(base)
     return [Job(f"{options.seed}/{index}", source, options, index) for index in range(count)]
@@ -132,21 +132,21 @@ def package_file(folder: str) -> str:
 def on_dask(program: str, jobs: list[Job], scheduler: str) -> Iterator[Row]:
     """Judges on the workers of a Dask scheduler, in the order of the jobs. The program has the same path on every worker."""
     try:
-        from distributed import Client
+        from distributed import Client  # type: ignore
     except ImportError:
         system = "/usr/bin/python3"
         if sys.executable != system and os.path.exists(system) and not os.environ.get("MAFT_TOOLS_SYSTEM"):
             os.environ["MAFT_TOOLS_SYSTEM"] = "1"
             os.execv(system, [system, *sys.argv])
         raise WordsError("--scheduler needs Dask: Debian's package python3-distributed, or pip's distributed") from None
-    with tempfile.TemporaryDirectory() as folder, Client(scheduler) as client:
+    with tempfile.TemporaryDirectory() as folder, Client(scheduler) as client:  # type: ignore
         client.upload_file(package_file(folder))
         batches = [jobs[at: at + 32] for at in range(0, len(jobs), 32)]
         for future in client.map(_judge_batch, [program] * len(batches), batches, pure=False):
             yield from (Row(**it) for it in future.result())
 
 
-def _judge_batch(program: str, jobs: list[Job]) -> list[dict]:
+def _judge_batch(program: str, jobs: list[Job]) -> list[Json]:
     return [dataclasses.asdict(judge(program, it)) for it in jobs]
 
 
@@ -186,7 +186,8 @@ def page(rows: list[Row]) -> str:
     lost = [it for it in good if it.lost is not None]
     lines = [f"{len(rows)} scenarios: {len(good) - len(lost)} claimed to the end, {len(lost)} lost the claim, {len(rows) - len(good)} not run"]
     for terms, count in Counter(it.terms for it in lost).most_common():
-        lines.append(f"  lost at {terms}: {count}, first in period {min(it.lost for it in lost if it.terms == terms)}, as in {next(it.name for it in lost if it.terms == terms)}")
+        first = min(it.lost for it in lost if it.terms == terms and it.lost is not None)
+        lines.append(f"  lost at {terms}: {count}, first in period {first}, as in {next(it.name for it in lost if it.terms == terms)}")
     for status, count in sorted(Counter(it.status for it in rows if it.status).items()):
         lines.append(f"  ended with status {status}: {count}, as {next(it.name for it in rows if it.status == status)}")
     margins = [it.margin for it in good if it.margin is not None]

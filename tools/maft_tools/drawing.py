@@ -5,7 +5,7 @@ import copy
 import dataclasses
 import random
 
-from .plan import VALUE_LIMIT, WordsError
+from .plan import VALUE_LIMIT, Json, WordsError
 from .scenario import Scenario
 
 CLASSES = ("benign", "symmetric", "asymmetric")
@@ -31,10 +31,10 @@ class Options:
     base: str = ""
 
 
-def base_of(options: Options) -> dict:
+def base_of(options: Options) -> Json:
     """The cluster that faults are drawn onto: one sensor, and a policy that excludes at the second bad period."""
     version = 2 if options.nodes > 8 or options.m > 2 else 1
-    data: dict = {"version": 2} if version == 2 else {}
+    data: Json = {"version": 2} if version == 2 else {}
     policy = {"weights": [5] * (8 * version), "exclude": 10, "readmit": 4, "credit": 5, "streak": 1, "cap": 20}
     readings = [[100 + (3 * node + row) % 5 for node in range(options.nodes)] for row in range(3)]
     data.update(nodes=options.nodes, m=options.m, periods=options.periods, policy=policy, channels=[{"kind": "sensor", "delta": 4, "readings": readings}])
@@ -89,7 +89,7 @@ def _chosen(draw: random.Random, nodes: int, count: int) -> list[int]:
     return sorted(left.pop(_below(draw, len(left))) for _ in range(min(count, nodes)))
 
 
-def drawn(options: Options, index: int, base: dict | None = None) -> dict:
+def drawn(options: Options, index: int, base: Json | None = None) -> Json:
     """The scenario of this index, onto the base's cluster if one is given."""
     if any(it not in CLASSES for it in options.classes) or not options.classes:
         raise WordsError(f"the classes are {', '.join(CLASSES)}")

@@ -4,7 +4,7 @@ from __future__ import annotations
 import json
 from collections.abc import Iterable
 
-from .plan import INPUT_LIMIT, WordsError
+from .plan import INPUT_LIMIT, Json, WordsError
 
 Entry = tuple[int, int, int, int, str]
 
@@ -25,7 +25,7 @@ def entries(trace: Iterable[str], node: int) -> list[Entry]:
     return found
 
 
-def cut(scenario: dict, trace: Iterable[str], node: int) -> str:
+def cut(scenario: Json, trace: Iterable[str], node: int) -> str:
     """A node's log, as JSON text.
 
     Raises WordsError where the scenario has no such node, the trace no frame for it, or the log is longer than the program reads.

@@ -4,6 +4,11 @@ The same facts stand in docs/FORMATS.md; this module is the one place of the too
 """
 from __future__ import annotations
 
+from typing import Any, Dict
+
+# a scenario, or a part of it, as JSON has it
+Json = Dict[str, Any]
+
 KINDS = ("missing", "malformed", "timing", "cold", "state", "claim", "overrun", "deviate", "equivocate")
 HEADER = 14
 VALUE_LIMIT = 2 ** 42
@@ -67,6 +72,6 @@ def mask_at(node: int) -> int:
     return HEADER + 2 * node
 
 
-def is_always_due(channel: dict) -> bool:
+def is_always_due(channel: Json) -> bool:
     """Whether a channel is due in every period."""
     return channel.get("kind") == "state" or channel.get("kind") == "sensor" and "task" not in channel

@@ -6,10 +6,16 @@ import os
 import pathlib
 import subprocess
 
-from .plan import WordsError
+from .plan import Json, WordsError
 
 TOP = pathlib.Path(__file__).resolve().parents[2]
-STATUSES = {3: "the input is no JSON text", 5: "the input could not be read", 6: "its output could not be written", 7: "there was not enough memory", 8: "the input is longer than 4,194,304 bytes"}
+STATUSES = {
+    3: "the input is no JSON text",
+    5: "the input could not be read",
+    6: "its output could not be written",
+    7: "there was not enough memory",
+    8: "the input is longer than 4,194,304 bytes",
+}
 
 
 def find(given: str | None) -> str:
@@ -25,14 +31,14 @@ def find(given: str | None) -> str:
     return done.stdout.strip()
 
 
-def run(program: str, words: list[str], scenario: dict | str) -> tuple[int, str]:
+def run(program: str, words: list[str], scenario: Json | str) -> tuple[int, str]:
     """Status and output of the program on a scenario, given as an object or as its text."""
     text = scenario if isinstance(scenario, str) else json.dumps(scenario, separators=(",", ":"))
     done = subprocess.run([program, *words], input=text.encode(), capture_output=True)
     return done.returncode, done.stdout.decode()
 
 
-def run_well(program: str, words: list[str], scenario: dict | str) -> str:
+def run_well(program: str, words: list[str], scenario: Json | str) -> str:
     """The output; raises WordsError where the status isn't 0."""
     status, out = run(program, words, scenario)
     if status == 4:
@@ -42,7 +48,7 @@ def run_well(program: str, words: list[str], scenario: dict | str) -> str:
     return out
 
 
-def load(path: str) -> dict:
+def load(path: str) -> Json:
     """The scenario in a file, or in standard input for `-`."""
     import sys
 

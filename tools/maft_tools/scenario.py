@@ -10,12 +10,12 @@ import copy
 import json
 import re
 from collections.abc import Callable, Iterable
-from typing import Union
+from typing import Any, Union
 
 from . import plan
-from .plan import WordsError
+from .plan import Json, WordsError
 
-Effect = Union[str, dict]
+Effect = Union[str, Json]
 Span = tuple[int, int]
 FORMS = """node I tells V on channel C [to nodes J, K and L] in periods P to Q
 node I is silent [to nodes ..] in period P [in slots S, T]
@@ -35,7 +35,7 @@ class Scenario:
     `due` answers which channels are due in a period, and is asked only where a channel of a task stands before the one told of.
     """
 
-    def __init__(self, data: dict, due: Callable[[dict, int], list[int]] | None = None) -> None:
+    def __init__(self, data: Json, due: Callable[[Json, int], list[int]] | None = None) -> None:
         self.data = copy.deepcopy(data)
         self.due = due
         try:
@@ -65,7 +65,7 @@ class Scenario:
             raise WordsError(f"node {sender} sends nothing to itself" if found else "there is nobody to send to")
         return found
 
-    def _links(self, line: dict) -> tuple[set[int], set[int], set[int]]:
+    def _links(self, line: Json) -> tuple[set[int], set[int], set[int]]:
         to = set(range(self.nodes)) - {line["from"]} if line["to"] == "all" else set(line["to"])
         slots = set(range(plan.slots(self.m))) if line["slots"] == "all" else set(line["slots"])
         return to, slots, set(range(line["periods"][0], line["periods"][1] + 1))
@@ -224,7 +224,7 @@ def _restart(s: Scenario, w: _Statement, node: str) -> None:
     s.restart(int(node), w.periods[0])
 
 
-_FORMS: list[tuple[str, Callable]] = [
+_FORMS: list[tuple[str, Callable[..., Any]]] = [
     (r"node (\d+) tells (-?\d+) on channel (\d+)", lambda s, w, n, v, c: s.tells(int(n), int(v), int(c), w.periods, w.to)),
     (r"node (\d+) is silent", lambda s, w, n: s.silent(int(n), w.periods, w.to, w.slots)),
     (r"node (\d+) is late(?: at tick (\d+))?", lambda s, w, n, t: s.late(int(n), w.periods, w.to, w.slots, 25 if t is None else int(t))),
@@ -238,14 +238,14 @@ _FORMS: list[tuple[str, Callable]] = [
 ]
 
 
-def due_by(program: str) -> Callable[[dict, int], list[int]]:
+def due_by(program: str) -> Callable[[Json, int], list[int]]:
     """Which channels are due in a period, as the program's replay of the scenario shows them."""
     from . import program as runs
     from . import text
 
     seen: dict[str, list[list[int]]] = {}
 
-    def due(data: dict, period: int) -> list[int]:
+    def due(data: Json, period: int) -> list[int]:
         key = json.dumps(data)
         if key not in seen:
             read = text.read(runs.run_well(program, ["replay"], key).splitlines(), reference_only=True)

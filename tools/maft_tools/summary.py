@@ -277,7 +277,10 @@ def _of_nodes(run: Summary) -> list[str]:
 def _of_accusations(run: Summary) -> list[str]:
     said = []
     for teller, rows in sorted(run.accusations.items()):
-        said.append((teller, [f"node {node} of " + ", ".join(f"{kind} in {spans(it)}" for kind, it in kinds.items()) for node, kinds in sorted(rows.items())]))
+        facts = []
+        for node, kinds in sorted(rows.items()):
+            facts.append(f"node {node} of " + ", ".join(f"{kind} in {spans(it)}" for kind, it in kinds.items()))
+        said.append((teller, facts))
     return [f"{_named(nodes)} accuse{'s' if len(nodes) == 1 else ''} {'; '.join(facts)}" for nodes, facts in _grouped(said)]
 
 
@@ -309,7 +312,8 @@ def page(run: Summary) -> str:
             lines.append(f"margin n - (2a + 2s + b + m), kept from 1 on: {_over_time(run.margins)}")
     lines += _of_nodes(run)
     for spread in run.spreads:
-        lines.append(f"channel {spread.channel}: voted in {spread.periods} periods; sound votes at most {spread.greatest} apart" + (f" (period {spread.at})" if spread.greatest else ""))
+        where = f" (period {spread.at})" if spread.greatest else ""
+        lines.append(f"channel {spread.channel}: voted in {spread.periods} periods; sound votes at most {spread.greatest} apart{where}")
     if run.skews:
         lines.append(f"clock skew of sound nodes: {_over_time(run.skews)}")
     lines += _of_accusations(run)
@@ -324,10 +328,12 @@ def table(text: Text, run: Summary) -> str:
     yes = {True: "yes", False: "no", None: ""}
     for at, period in enumerate(text.periods):
         charged = " ".join(f"{it.node}:{'+'.join(it.charged[period.number])}" for it in run.stories if period.number in it.charged)
-        moved = [" ".join(str(it.node) for it in run.stories if period.number in getattr(it, which)) for which in ("left", "joined", "cold")]
+        moved = []
+        for which in ("left", "joined", "cold"):
+            moved.append(" ".join(str(it.node) for it in run.stories if period.number in getattr(it, which)))
         spread = max((it.greatest for it in _spreads([period])), default="")
         skew = "" if period.skew is None else period.skew
-        counted = ["", "", "", ""] if period.budget is None else [period.n, period.a, period.s, period.b]
+        counted = [""] * 4 if period.budget is None else [str(it) for it in (period.n, period.a, period.s, period.b)]
         gap = "" if run.margins[at] is None else run.margins[at]
         writer.writerow([period.number, *counted, gap, yes[period.budget], yes[period.claim], charged, *moved, spread, skew])
     return out.getvalue()

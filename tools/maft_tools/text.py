@@ -39,7 +39,7 @@ class Node:
 
         A kind is charged where more than half of the settled rows of the others that are no error have it.
         """
-        out = {}
+        out: dict[int, int] = {}
         plain = {teller: row for teller, row in self.rows.items() if row is not None}
         if not any(any(row) for row in plain.values()):
             return out
@@ -99,10 +99,10 @@ def _yes(word: str) -> bool:
     return word == "yes"
 
 
-def _item(word: str, number: bool) -> int | str | None:
-    if word == "-":
-        return None
-    return int(word) if number or word != "E" else "E"
+def _claim(word: str) -> int | str | None:
+    if word in ("-", "E"):
+        return None if word == "-" else "E"
+    return int(word)
 
 
 def _period(words: list[str]) -> Period:
@@ -131,11 +131,11 @@ def _more(node: Node, words: list[str]) -> None:
     for cell in cells:
         key, _, value = cell.partition("=")
         if kind == "done":
-            node.done[int(key)] = _item(value, number=False)
+            node.done[int(key)] = _claim(value)
         elif kind == "rows":
             node.rows[int(key)] = None if value == "E" else tuple(map(int, value.split(",")))
         elif kind == "votes":
-            node.votes[int(key)] = _item(value, number=True)
+            node.votes[int(key)] = None if value == "-" else int(value)
         else:
             raise ValueError("a line")
 
