@@ -1,0 +1,232 @@
+//! The clocks of all nodes, period by period: what each node reads of the others, and how it corrects its own by it.
+
+ghost use Rattle.std.specs.Prelude.{◌≡◌, ◌<◌, false, All, None, map, length, slice_get, option_map};
+ghost use Rattle.node_grid.specs.Capacity.{IsCapacity};
+ghost use Rattle.node_grid.specs.NodeSet.{ids_below};
+ghost use Rattle.clock_skew.specs.Clock.{IsClock};
+ghost use Rattle.clock_skew.specs.Correction.{IsReading};
+ghost use Rattle.protocol.specs.Cluster.{view};
+ghost use Rattle.protocol.specs.Run.{run as run_of};
+ghost use Rattle.node_core.specs.Stages.{outcome_of};
+ghost use Rattle.scenario.specs.Scenario.{system_of};
+ghost use Rattle.cluster_step.specs.Record.{clock_in};
+ghost use Rattle.cluster_step.specs.Shown.{clock_shown};
+ghost use Rattle.cluster_step.specs.Clocking.{IsOffset, AreOthers, start_of, read_by, correction_by, moved, offsets_kept, offsets_before};
+
+use clock_skew::{ClockPlan, correction};
+use node_core::{Mode, NodeRecord};
+use safety::laws::offsets;
+use scenario::Scenario;
+
+/// The clocks of all nodes in a period. Behind the nodes in use all numbers are 0.
+#[derive(Clone, Copy, Debug)]
+pub struct ClockRecord<const N: usize> {
+    /// By how much each node corrected its clock.
+    pub correction: [i64; N],
+    /// The offset of each node's clock after the period: after the correction, and after the drift.
+    pub offset: [i64; N],
+}
+
+/// Where the clock of node `i` starts, and 0 of one that isn't in use.
+fn start_of<const N: usize>(plan: &ClockPlan<N>, nodes: u8, i: u8) -> i64
+    requires { nodes ≡ plan.now.nodes }
+    ensures { result ≡ start_of plan.now nodes i }
+{
+    if i < nodes { plan.start(i) } else { 0 }
+}
+
+/// Where the clocks of all nodes start.
+fn starts<const N: usize>(plan: &ClockPlan<N>, nodes: u8) -> [i64; N]
+    requires capacity { IsCapacity N }
+    requires nodes { nodes ≡ plan.now.nodes }
+    ensures { result ≡ map (start_of plan.now nodes) (ids_below N) }
+{
+    let mut offset = [0; N];
+    for i in 0..N as u8 {
+        offset[i as usize] = start_of(plan, nodes, i);
+    }
+    offset
+}
+
+/// What node `i` reads of node `j` in a period: how far that clock is ahead of its own, with an error and a lie. It is 0
+/// of a node that isn't in use.
+fn reading<const N: usize>(
+    plan: &ClockPlan<N>,
+    nodes: u8,
+    offset: &[i64; N],
+    period: u32,
+    i: u8,
+    j: u8,
+) -> i64
+    requires capacity { IsCapacity N }
+    requires clock { IsClock N plan.now }
+    requires nodes { nodes ≡ plan.now.nodes }
+    requires offsets { All IsOffset offset.now }
+    requires reader { i < nodes }
+    ensures reading { result ≡ read_by plan.now nodes offset.now period i j }
+    ensures range { IsReading result }
+{
+    if j >= nodes {
+        return 0;
+    }
+    let ahead = offset[j as usize] - offset[i as usize];
+    ahead + plan.error(i, j, period) + plan.lie(j, i, period)
+}
+
+/// What node `i` reads of all nodes in a period.
+fn readings<const N: usize>(
+    plan: &ClockPlan<N>,
+    nodes: u8,
+    offset: &[i64; N],
+    period: u32,
+    i: u8,
+) -> [i64; N]
+    requires capacity { IsCapacity N }
+    requires clock { IsClock N plan.now }
+    requires nodes { nodes ≡ plan.now.nodes }
+    requires offsets { All IsOffset offset.now }
+    requires reader { i < nodes }
+    ensures readings { result ≡ map (read_by plan.now nodes offset.now period i) (ids_below N) }
+    ensures range { All IsReading result }
+{
+    let mut readings = [0; N];
+    for j in 0..N as u8 {
+        readings[j as usize] = reading(plan, nodes, offset, period, i, j);
+    }
+    readings
+}
+
+/// By how much node `i` corrects its clock, by what it recorded of a period. It is 0 of a node that isn't in use.
+fn correction_of<const N: usize>(
+    plan: &ClockPlan<N>,
+    records: &[NodeRecord<N>],
+    offset: &[i64; N],
+    period: u32,
+    m: u8,
+    i: u8,
+) -> i64
+    requires capacity { IsCapacity N }
+    requires clock { IsClock N plan.now }
+    requires nodes { length records.now ≡ plan.now.nodes }
+    requires offsets { All IsOffset offset.now }
+    requires others { AreOthers records.now }
+    ensures correction { result ≡ correction_by N plan.now m offset.now period records.now i }
+    ensures range { IsReading result }
+{
+    let Some(record) = records.get(i as usize) else {
+        return 0;
+    };
+    let readings = readings(plan, records.len() as u8, offset, period, i);
+    match record.mode {
+        Mode::Full => correction(&record.members, &record.sync, Some(i), &readings, m),
+        Mode::Joining => correction(&record.members, &record.sync, None, &readings, m),
+        Mode::Cold => 0,
+    }
+}
+
+/// By how much all nodes correct their clocks.
+fn corrections<const N: usize>(
+    plan: &ClockPlan<N>,
+    records: &[NodeRecord<N>],
+    offset: &[i64; N],
+    period: u32,
+    m: u8,
+) -> [i64; N]
+    requires capacity { IsCapacity N }
+    requires clock { IsClock N plan.now }
+    requires nodes { length records.now ≡ plan.now.nodes }
+    requires offsets { All IsOffset offset.now }
+    requires others { AreOthers records.now }
+    ensures corrections { result ≡ map (correction_by N plan.now m offset.now period records.now) (ids_below N) }
+    ensures range { All IsReading result }
+{
+    let mut corrections = [0; N];
+    for i in 0..N as u8 {
+        corrections[i as usize] = correction_of(plan, records, offset, period, m, i);
+    }
+    corrections
+}
+
+/// The offset of node `i` after a period, by its correction and its drift. It is 0 of a node that isn't in use.
+fn moved<const N: usize>(
+    plan: &ClockPlan<N>,
+    nodes: u8,
+    offset: &[i64; N],
+    correction: &[i64; N],
+    period: u32,
+    i: u8,
+) -> i64
+    requires capacity { IsCapacity N }
+    requires clock { IsClock N plan.now }
+    requires nodes { nodes ≡ plan.now.nodes }
+    requires offsets { All IsOffset offset.now }
+    requires corrections { All IsReading correction.now }
+    ensures { result ≡ moved plan.now nodes offset.now correction.now period i }
+{
+    if i >= nodes {
+        return 0;
+    }
+    offset[i as usize] + correction[i as usize] + plan.drift_of(i, period)
+}
+
+/// The offsets of all nodes after a period.
+fn all_moved<const N: usize>(
+    plan: &ClockPlan<N>,
+    nodes: u8,
+    offset: &[i64; N],
+    correction: &[i64; N],
+    period: u32,
+) -> [i64; N]
+    requires capacity { IsCapacity N }
+    requires clock { IsClock N plan.now }
+    requires nodes { nodes ≡ plan.now.nodes }
+    requires offsets { All IsOffset offset.now }
+    requires corrections { All IsReading correction.now }
+    ensures { result ≡ map (moved plan.now nodes offset.now correction.now period) (ids_below N) }
+{
+    let mut after = [0; N];
+    for i in 0..N as u8 {
+        after[i as usize] = moved(plan, nodes, offset, correction, period, i);
+    }
+    after
+}
+
+/// The clocks before the first period; none where the scenario has none.
+pub(crate) fn first_clocks<const N: usize>(scenario: &Scenario<N>) -> Option<ClockRecord<N>>
+    requires { IsCapacity N }
+    ensures { offsets_kept (option_map clock_shown result) ≡ offsets_before scenario.now 0 }
+{
+    let Some(plan) = scenario.clock() else {
+        return None;
+    };
+    Some(ClockRecord {
+        correction: [0; N],
+        offset: starts(plan, scenario.config().nodes),
+    })
+}
+
+/// The clocks of a period, from those before it and from what all nodes recorded; none where the scenario has none.
+pub(crate) fn next_clocks<const N: usize>(
+    scenario: &Scenario<N>,
+    period: u32,
+    records: &[NodeRecord<N>],
+    before: Option<ClockRecord<N>>,
+) -> Option<ClockRecord<N>>
+    requires capacity { IsCapacity N }
+    requires more { period < scenario.now.periods }
+    requires records { records.now ≡ map (λ i. outcome_of (view (run_of (system_of scenario.now)) i period)) (ids_below scenario.now.config.nodes) }
+    requires offsets { offsets_kept (option_map clock_shown before) ≡ offsets_before scenario.now period }
+    ensures { option_map clock_shown result ≡ option_map (λ c. clock_in (system_of scenario.now) c period) scenario.now.clock }
+{
+    offsets();
+    let Some(plan) = scenario.clock() else {
+        return None;
+    };
+    let Some(before) = before else {
+        return None;
+    };
+    let config = scenario.config();
+    let correction = corrections(plan, records, &before.offset, period, config.m);
+    let offset = all_moved(plan, config.nodes, &before.offset, &correction, period);
+    Some(ClockRecord { correction, offset })
+}
