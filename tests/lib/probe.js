@@ -1,6 +1,7 @@
 // Drives the page of view/replay.html over the drawings of a check, and puts what is wrong into the title.
 // A drawing has: text, perhaps scenario, periods, nodes, and cells; a cell has at (period, node), words, absent (words), and pixels
-// (x and y within the cell, and a colour). A place is a pixel of a period: x, the lane and y within it, and a colour. A refusal has text and the words that must be told.
+// (x and y within the cell, and a colour). A place is a pixel of a period: x, the lane and y within it, and a colour. A refusal has text and the words that must be told. What is readable
+// must be drawn at all.
 "use strict";
 const wrong = [];
 let checked = 0;
@@ -72,6 +73,7 @@ try {
   for (const refusal of refusals) checkRefusal(refusal);
   injections.forEach(checkInjection);
   checkContrasts();
+  for (const [name, text] of readable) { show(text); demand(window.shown, name + ": " + document.getElementById("problem").textContent); }
   clear(); drop("drop");
   demand(window.shown && window.shown.periods === drawings[0].periods, "a text that is dropped on the page is not drawn");
   demand(getComputedStyle(document.getElementById("labels")).position === "sticky", "the names of the rows scroll away");
