@@ -1,3 +1,4 @@
 pub mod Joining
 pub mod Lists
 pub mod Sending
+pub mod Ranges

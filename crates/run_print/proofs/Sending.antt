@@ -1,8 +1,7 @@
 -- What a printer and its sink have after a piece of text.
-use Rattle.std.proofs.Common.{◌≡◌, ℕ, Bool, true, false, List, [], ◌++◌, arith, refl, sym, ap, subst, ◌∙◌, append_assoc, append-nil, Option, Result, Ok, Err}
+use Rattle.std.proofs.Common.{◌≡◌, ℕ, Bool, true, false, List, [], ◌++◌, arith, sym, ap, subst, ◌∙◌, append_assoc, append-nil, Option, Result, Ok, Err}
 use Rattle.std.specs.Prelude.{is_err}
 use Rattle.std.proofs.KnownBytes.{Appends-trans}
-use Rattle.std.specs.Io.KnownBytes.{Appends}
 use Rattle.span_io.specs.Causes.{Writes, AppendsPrefix}
 use Rattle.span_io.specs.Progress.{front, back}
 use Rattle.run_print.specs.Printing.{Gathers, Fails, PrintedIf}

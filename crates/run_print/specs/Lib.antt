@@ -2,6 +2,7 @@ pub mod Printing
 pub mod Text
 pub mod NodeText
 pub mod PeriodText
+pub mod ClockText
 pub mod TraceText
 pub mod StormText
 pub use Rattle.span_io.specs.Causes

@@ -1,5 +1,5 @@
 -- The printed frames of a period: what each node is delivered, by slot, sender and receiver.
-use Rattle.std.specs.Prelude.{◌≡◌, ◌<◌, ℕ, ◌+◌, ◌*◌, ◌==◌, Bool, true, false, List, [], ◌∷◌, ◌++◌, codes, decimal, if◌then◌else◌}
+use Rattle.std.specs.Prelude.{◌≡◌, ◌<◌, ℕ, ◌+◌, ◌*◌, ◌==◌, Bool, List, [], ◌∷◌, ◌++◌, codes, decimal, if◌then◌else◌}
 use Rattle.std.specs.List.{flat_map}
 use Rattle.hex.specs.Hex.{encode_lower}
 use Rattle.node_grid.specs.NodeSet.{ids_below}
@@ -8,6 +8,7 @@ use Rattle.fault_classes.specs.Plan.{Plan}
 use Rattle.fault_link.specs.Arrival.{delivered_of}
 use Rattle.cluster_step.specs.Record.{PeriodView, frame_at}
 use Rattle.run_print.specs.PeriodText.{head_text, nodes_text}
+use Rattle.run_print.specs.ClockText.{clock_text}
 
 -- bytes in hexadecimal; no bytes are `-`
 abbrev pub bytes_text : List ℕ → List ℕ
@@ -40,6 +41,6 @@ pub record IsPlanOf (plan : Plan) (t : PeriodView) : Type 0 where
   pub rounds : plan.rounds ≡ t.m
   pub periods : t.period < plan.periods
 
--- all lines of a period, the frames only with a trace
+-- all lines of a period: that of its clocks where it has some, and the frames only with a trace
 abbrev pub period_text : Plan → Bool → PeriodView → List ℕ
-period_text plan trace t = head_text t ++ nodes_text t ++ (if trace then frames_text plan t else [])
+period_text plan trace t = head_text t ++ nodes_text t ++ clock_text t t.clock ++ (if trace then frames_text plan t else [])

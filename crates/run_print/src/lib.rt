@@ -1,6 +1,7 @@
 //! The printed texts of a run: periods, nodes, frames, the summary of a storm, the end, and refusals. Nothing here takes memory.
 #![tactic(auto)]
 
+mod clock;
 mod node;
 mod period;
 mod printer;

@@ -103,6 +103,8 @@ impl Printer {
 
 /// Writes a period's number and the lines of one node, with `-` in place of a class.
 ///
+/// `nodes` must be at most `N`. It and `retire` are those of the configuration.
+///
 /// # Errors
 /// `WriteFault` comes only where the sink's count of faults rose. A prefix of the lines was written then.
 pub fn write_alone<const N: usize, K: Sink>(

@@ -98,7 +98,11 @@ pub fn write_head<const N: usize, K: Sink>(
     printer.finish(sink)
 }
 
-/// Writes all lines of a period, the period line first, and with `trace` also the line of each frame that is delivered.
+/// Writes all lines of a period, the period line first: the lines of each node, the line of the clocks where the period
+/// has clocks, and with `trace` the line of each frame that is delivered.
+///
+/// The record must be one of at most `N` nodes, as those of a cluster are. With `trace`, the plan must be made for its
+/// nodes and relay rounds, and for more periods than its number.
 ///
 /// # Errors
 /// `WriteFault` comes only where the sink's count of faults rose. A prefix of the lines was written then.
@@ -116,6 +120,7 @@ pub fn write_period<const N: usize, K: Sink>(
     let mut printer = Printer::new();
     printer.head(sink, shown);
     printer.nodes(sink, shown);
+    printer.clock(sink, shown);
     printer.traced(sink, shown, plan, trace);
     printer.finish(sink)
 }

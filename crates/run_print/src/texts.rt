@@ -5,6 +5,7 @@ ghost use Rattle.omh_paths.specs.declared.wrapped.Wrapped.TheVariants.{Fault};
 ghost use Rattle.list_scheduler.specs.Copies.{works};
 ghost use Rattle.node_core.specs.Outcome.{mode_of};
 ghost use Rattle.run_print.specs.Printing.{Prints};
+ghost use Rattle.run_print.specs.ClockText.{signed_text};
 ghost use Rattle.run_print.specs.Text.{joined, numbers_text, set_text, separator_at, yes_no, mode_text, run_text, runs_text, vote_text, vote_item, votes_text, claim_text, row_text, done_item, rows_item};
 
 use crate::printer::Printer;
@@ -51,6 +52,16 @@ impl Printer {
         for (k, n) in numbers.iter().enumerate() {
             self.separator(sink, k, b",");
             self.number(sink, *n as u64);
+        }
+    }
+
+    /// Prints numbers with signs, joined by commas.
+    pub(crate) fn signed_numbers<K: Sink>(&mut self, sink: &mut K, numbers: &[i64])
+        ensures { Prints self.old (K.written sink.old) (K.faults sink.old) self.new (K.written sink.new) (K.faults sink.new) (signed_text numbers.now) }
+    {
+        for (k, n) in numbers.iter().enumerate() {
+            self.separator(sink, k, b",");
+            self.signed(sink, *n);
         }
     }
 

@@ -1,4 +1,4 @@
-use Rattle.std.proofs.Common.{◌≡◌, ◌+◌, ◌*◌, ◌<◌, ◌++◌, ℕ, length, take, drop, arith, sym, ap, ◌∙◌, refl}
+use Rattle.std.proofs.Common.{◌≡◌, ◌+◌, ◌*◌, ◌<◌, ◌++◌, length, take, drop, arith, sym, ap, ◌∙◌, refl}
 use Rattle.std.proofs.lemmas.List.{take-append-drop, drop-drop, length-drop}
 use Rattle.hex.specs.Hex.{encode_lower, lower_digits}
 use Rattle.run_print.proofs.Joining.{then, nothing}

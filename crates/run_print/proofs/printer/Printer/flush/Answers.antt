@@ -1,5 +1,4 @@
-use Rattle.std.proofs.Common.{◌≡◌, ℕ, List, [], ◌++◌, refl, append-nil, Option}
-use Rattle.span_io.specs.Causes.{Writes}
+use Rattle.std.proofs.Common.{[], refl, append-nil}
 use Rattle.run_print.proofs.Sending.{sent, dropped}
 use Rattle.run_print.proofs.printer.Printer.flush.Goals as goal
 use Rattle.run_print.proofs.printer.Printer.flush.Goals.{then-not-self, else-not-self}

@@ -1,4 +1,4 @@
-use Rattle.std.proofs.Common.{◌≤◌, length, take, map}
+use Rattle.std.proofs.Common.{take, map}
 use Rattle.std.specs.Prelude.{codes, decimal}
 use Rattle.run_print.specs.Printing.{Prints}
 use Rattle.run_print.specs.Text.{joined}

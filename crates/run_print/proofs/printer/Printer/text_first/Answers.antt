@@ -1,4 +1,3 @@
-use Rattle.std.proofs.Common.{◌≡◌, [], ap, ◌∙◌}
 use Rattle.run_print.proofs.Sending.{sent_alone}
 use Rattle.run_print.proofs.printer.Printer.text_first.Goals as goal
 

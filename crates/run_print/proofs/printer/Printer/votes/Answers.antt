@@ -1,9 +1,8 @@
-use Rattle.std.proofs.Common.{◌≡◌, ◌<◌, ◌∷◌, [], ℕ, List, length, map, take, get_or, arith, sym, ◌∙◌}
+use Rattle.std.proofs.Common.{◌≡◌, ◌<◌, ◌∷◌, [], ℕ, List, length, map, take, get_or, arith}
 use Rattle.std.specs.Prelude.{codes}
 use Rattle.std.proofs.lemmas.List.{take_more, map-append, length-map, length-take-le}
 use Rattle.run_print.specs.Text.{vote_item}
 use Rattle.run_print.proofs.Joining.{further}
-use Rattle.run_print.proofs.Lists.{some_votes}
 use Rattle.run_print.proofs.printer.Printer.votes.Goals as goal
 
 pub loop-k-preserved : goal.loop-k-preserved

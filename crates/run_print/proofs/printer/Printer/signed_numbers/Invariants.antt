@@ -1,0 +1,11 @@
+use Rattle.std.specs.Fmt.{signed_decimal}
+use Rattle.std.proofs.Common.{take, map}
+use Rattle.std.specs.Prelude.{codes}
+use Rattle.run_print.specs.Printing.{Prints}
+use Rattle.run_print.specs.Text.{joined}
+use Rattle.run_print.proofs.printer.Printer.signed_numbers.Given as goal
+
+abbrev pub invariant-loop-k : goal.invariant-loop-k
+invariant-loop-k g l =
+    Prints l.initial.self (g.K.Sink.written l.initial.sink) (g.K.Sink.faults l.initial.sink) l.self (g.K.Sink.written l.sink) (g.K.Sink.faults l.sink)
+    (joined (codes ",") (map signed_decimal (take l.k l.numbers)))
