@@ -10,7 +10,7 @@ use Rattle.std.proofs.lemmas.List.{map-append}
 use Rattle.node_grid.specs.NodeSet.{ids_below, has_id, mask_of}
 use Rattle.task_graph.specs.Graph.{task_at}
 use Rattle.mme_vote.specs.declared.channel.Channel.{Channel}
-use Rattle.mme_vote.specs.declared.channel.Channel.TheVariants.{State, Sensor}
+use Rattle.mme_vote.specs.declared.channel.Channel.TheVariants.{State, Sensor, Copy}
 use Rattle.omh_paths.specs.declared.wrapped.Wrapped.{Wrapped}
 use Rattle.omh_paths.specs.declared.wrapped.Wrapped.TheVariants.{Plain, Fault}
 use Rattle.omh_paths.specs.Wrapped.{same, is_error}
@@ -35,6 +35,7 @@ use Rattle.capacities.proofs.Standings.{wide_standing, same_standing}
 abbrev pub wide_channel : {c : ℕ} (k : ℕ) → Channel c → Channel (c + k)
 wide_channel k (State delta start step) = State delta (start ++ replicate k (pos 0)) step
 wide_channel k (Sensor delta task) = Sensor delta task
+wide_channel k (Copy delta task lies) = Copy delta task lies
 
 abbrev pub wide_config : {c : ℕ} (k : ℕ) → Config c → Config (c + k)
 wide_config k g = record {

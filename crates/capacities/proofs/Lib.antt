@@ -7,6 +7,7 @@ pub mod Frames
 pub mod Views
 pub mod Talks
 pub mod Runs
+pub mod Clocks
 pub mod Scenarios
 pub mod Periods
 pub mod Texts

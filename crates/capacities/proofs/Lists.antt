@@ -2,13 +2,14 @@
 use Rattle.std.proofs.Common.{ℕ, zero, suc, ◌≡◌, ◌<◌, ◌≤◌, ◌+◌, Bool, true, false, ◌==◌, List, [], ◌∷◌, ◌++◌, map, length, take, replicate, get_or, refl, sym, ap, ◌∙◌, inl, inr, arith, nat_le, length-append}
 use Rattle.std.proofs.Math.Path.{fun_ext}
 use Rattle.std.specs.Prelude.{if◌then◌else◌}
-use Rattle.std.specs.List.{range_with_len}
+use Rattle.std.specs.List.{filter, range_with_len}
 use Rattle.std.specs.Cmp.Lexicographic.{pointwise}
 use Rattle.std.proofs.lemmas.Bool.{cases_Bool, cases_lt, cond-true, cond-false}
 use Rattle.std.proofs.lemmas.List.{take-append-le, append_cancel_right}
 use Rattle.std.proofs.lemmas.List.FromFn.{length-map-range_with_len}
 use Rattle.std.proofs.lemmas.Slice.Eq.{bytes_eq-Decides}
-use Rattle.node_grid.specs.NodeSet.{ids_below}
+use Rattle.node_grid.specs.NodeSet.{ids_below, ids_where}
+use Rattle.node_grid.specs.NodeSetLaws.{filter_none}
 use Rattle.node_grid.specs.Count.{count, bit}
 
 -- ---- lists of anything
@@ -56,6 +57,16 @@ tab_from f g z k a (suc c) same rest =
 pub tab_padded : {X : Type 0} (f g : ℕ → X) (z : X) (c k : ℕ) → ((j : ℕ) → j < c → g j ≡ f j) → ((j : ℕ) → c ≤ j → g j ≡ z)
     → map g (ids_below (c + k)) ≡ map f (ids_below c) ++ replicate k z
 tab_padded f g z c k same rest = tab_from f g z k 0 c (λ j l u. same j (omega arith)) (λ j l. rest j (omega arith))
+
+-- the same numbers pass a test that none from c on passes
+where_from : (test : ℕ → Bool) (a c k : ℕ) → ((j : ℕ) → a + c ≤ j → test j ≡ false) → filter test (range_with_len a (c + k)) ≡ filter test (range_with_len a c)
+where_from test a zero k none = filter_none test a (zero + k) (λ j l u. none j (omega arith))
+where_from test a (suc c) k none =
+    let n : suc c + k ≡ suc (c + k) = omega arith in
+    rw n (ap (λ xs. if test a then a ∷ xs else xs) (where_from test (a + 1) c k (λ j l. none j (omega arith))))
+
+pub where_longer : (test : ℕ → Bool) (c k : ℕ) → ((j : ℕ) → c ≤ j → test j ≡ false) → ids_where test (c + k) ≡ ids_where test c
+where_longer test c k none = where_from test 0 c k (λ j l. none j (omega arith))
 
 -- ---- lists of numbers
 

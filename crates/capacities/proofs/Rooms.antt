@@ -1,8 +1,9 @@
 -- One scenario, read with room for more nodes and for less, has the same texts.
-use Rattle.std.proofs.Common.{ℕ, ◌≡◌, ◌≤◌, ◌+◌, true, false, List, ◌++◌, None, refl, sym, ap, subst, ◌∙◌}
+use Rattle.std.proofs.Common.{ℕ, ◌≡◌, ◌≤◌, ◌+◌, true, false, List, ◌++◌, Option, None, refl, sym, ap, subst, ◌∙◌}
 use Rattle.std.proofs.Math.Path.{fun_ext}
 use Rattle.std.specs.List.{flat_map}
 use Rattle.node_grid.specs.NodeSet.{ids_below}
+use Rattle.clock_skew.specs.Clock.{ClockView}
 use Rattle.fault_classes.specs.Plan.{Plan}
 use Rattle.protocol.specs.Run.{System}
 use Rattle.scenario.specs.Parts.{ScenarioParts}
@@ -14,26 +15,41 @@ use Rattle.cluster_step.specs.Record.{PeriodView, period_record}
 use Rattle.run_print.specs.PeriodText.{end_text}
 use Rattle.capacities.specs.Texts.{Shows, replayed, traced, checked, text_of, HaveSameTexts}
 use Rattle.capacities.specs.Laws.{MoreRoomLaw, LessRoomLaw, SameRefusalLaw}
-use Rattle.capacities.proofs.Scenarios.{nodes_fit, few_nodes, refusal_same, system_longer}
-use Rattle.capacities.proofs.Periods.{wide_record, period_wide}
+use Rattle.capacities.proofs.Bodies.{wide_config}
+use Rattle.capacities.proofs.Talks.{system_over}
+use Rattle.capacities.proofs.Scenarios.{nodes_fit, few_nodes, refusal_same, system_longer, clock_wide}
+use Rattle.capacities.proofs.Periods.{wide_record, HasRoom, period_wide, has_room}
 use Rattle.capacities.proofs.Texts.{head_wide, period_text_wide}
 
 module _ (c k : ℕ) (p : ScenarioParts) (h : refusal c p ≡ None) where
-  record_longer : (q : ℕ) → period_record (system_of (scenario_of (c + k) p)) q ≡ wide_record k (period_record (system_of (scenario_of c p)) q)
-  record_longer q =
-      let few : natural p.nodes ≤ c = few_nodes c p (nodes_fit c p h) in
-      ap (λ (sys : System). period_record sys q) (system_longer c k p h) ∙ period_wide k (config_of c p) few few (plan_in p) (inputs_of (scenario_of c p)) q
+  abbrev less : ScenarioView c
+  less = scenario_of c p
 
-  text_longer : (shown : Shows) → ((plan : Plan) (t : PeriodView) → shown plan (wide_record k t) ≡ shown plan t) → text_of shown (scenario_of c p) ≡ text_of shown (scenario_of (c + k) p)
+  abbrev more : ScenarioView (c + k)
+  more = scenario_of (c + k) p
+
+  few : natural p.nodes ≤ c
+  few = few_nodes c p (nodes_fit c p h)
+
+  room : (q : ℕ) → HasRoom (period_record (system_of less) less.clock q)
+  room q = has_room k (config_of c p) few few (plan_in p) (inputs_of less) less.clock q
+
+  record_longer : (q : ℕ) → period_record (system_of more) more.clock q ≡ wide_record k (period_record (system_of less) less.clock q)
+  record_longer q =
+      ap (λ (sys : System). period_record sys more.clock q) (system_longer c k p h)
+      ∙ ap (λ (clock : Option ClockView). period_record (system_over (wide_config k (config_of c p)) (plan_in p) (inputs_of less)) clock q) (clock_wide c k p h)
+      ∙ period_wide k (config_of c p) few few (plan_in p) (inputs_of less) less.clock q
+
+  text_longer : (shown : Shows) → ((plan : Plan) (t : PeriodView) → HasRoom t → shown plan (wide_record k t) ≡ shown plan t) → text_of shown less ≡ text_of shown more
   text_longer shown still = sym (
       ap (λ (f : ℕ → List ℕ). flat_map f (ids_below (natural p.periods)) ++ end_text (natural p.periods))
-      (fun_ext (λ q. ap (shown (plan_in p)) (record_longer q) ∙ still (plan_in p) (period_record (system_of (scenario_of c p)) q))))
+      (fun_ext (λ q. ap (shown (plan_in p)) (record_longer q) ∙ still (plan_in p) (period_record (system_of less) less.clock q) (room q))))
 
-  same_texts : HaveSameTexts (scenario_of c p) (scenario_of (c + k) p)
+  same_texts : HaveSameTexts less more
   same_texts = record {
-    replay = text_longer replayed (λ plan t. period_text_wide k t plan false);
-    trace = text_longer traced (λ plan t. period_text_wide k t plan true);
-    check = text_longer checked (λ plan t. head_wide k t);
+    replay = text_longer replayed (λ plan t h. period_text_wide k t h plan false);
+    trace = text_longer traced (λ plan t h. period_text_wide k t h plan true);
+    check = text_longer checked (λ plan t h. head_wide k t);
   }
 
 pub same_refusal_law : SameRefusalLaw

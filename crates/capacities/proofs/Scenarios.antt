@@ -1,25 +1,28 @@
 -- What the parts of a scenario say to types with places for further nodes, and that the same rule refuses them.
-use Rattle.std.proofs.Common.{ℕ, ◌≡◌, ◌≤◌, ◌+◌, ◌-◌, min, Bool, true, false, not, ◌&&◌, ◌==◌, List, [], ◌∷◌, ◌++◌, map, length, replicate, get_or, Option, None, Some, refl, sym, ap, ◌∙◌, arith, eqb-true, nat_lt}
+use Rattle.std.proofs.Common.{ℕ, ◌≡◌, ◌≤◌, ◌+◌, ◌-◌, ◌^◌, min, Bool, true, false, not, ◌&&◌, ◌==◌, List, [], ◌∷◌, ◌++◌, map, length, replicate, get_or, Option, None, Some, refl, sym, ap, ◌∙◌, arith, eqb-true, nat_lt}
 use Rattle.std.proofs.Math.Path.{fun_ext}
 use Rattle.std.specs.Prelude.{if◌then◌else◌, ℤ, pos, negsuc}
 use Rattle.std.specs.List.{list_all}
-use Rattle.std.specs.Option.{option_or}
+use Rattle.std.specs.Option.{option_map, option_or}
 use Rattle.std.proofs.lemmas.Bool.{and_parts}
 use Rattle.std.proofs.lemmas.List.{append_assoc, length-map, replicate-append-replicate}
 use Rattle.node_grid.specs.Version.{most_nodes}
 use Rattle.mme_vote.specs.declared.channel.Channel.{Channel}
 use Rattle.mme_vote.specs.declared.channel.Channel.TheVariants.{State}
+use Rattle.clock_skew.specs.Clock.{ClockView}
+use Rattle.fault_classes.specs.Plan.{Plan}
 use Rattle.agreed_state.specs.declared.config.Config.{Config}
 use Rattle.agreed_state.specs.declared.config.Inputs.{Inputs}
-use Rattle.scenario.specs.Parts.{ChannelParts, TaskParts, ScenarioParts}
-use Rattle.scenario.specs.Parts.ChannelParts.{state, sensor}
+use Rattle.scenario.specs.Parts.{ChannelParts, TaskParts, ClockParts, ScenarioParts}
+use Rattle.scenario.specs.Parts.ChannelParts.{state, sensor, copy}
 use Rattle.scenario.specs.Numbers.{is_within, is_below, natural, is_ascending, are_below}
-use Rattle.scenario.specs.Given.{padded, channel_of, config_of, plan_in, time_of, times_of, scenario_of}
+use Rattle.scenario.specs.Given.{padded, channel_of, config_of, plan_in, time_of, times_of, clock_in, scenario_of}
 use Rattle.scenario.specs.Scenario.{reading_at, inputs_of, system_of}
-use Rattle.scenario.specs.Rules.{unless, at_place, first_bad, version_of, is_of_version, has_nodes, has_rounds, is_policy, is_channel, fits_channel, closes, is_task, fits_task, sizes_refusal, lengths_refusal, numbers_refusal, channels_refusal, tasks_refusal, cycles_refusal, plan_refusal, early_refusal, refusal}
+use Rattle.scenario.specs.Rules.{unless, at_place, first_bad, version_of, is_of_version, has_nodes, has_rounds, is_policy, is_channel, fits_channel, closes, is_task, fits_task, sizes_refusal, lengths_refusal, numbers_refusal, channels_refusal, tasks_refusal, cycles_refusal, plan_refusal, are_rows, are_up_to, is_drift, is_clock, clock_refused, clock_refusal, early_refusal, refusal}
 use Rattle.capacities.proofs.Lists.{get_padded, tab_padded}
 use Rattle.capacities.proofs.Bodies.{wide_channel, wide_config}
 use Rattle.capacities.proofs.Talks.{system_over}
+use Rattle.capacities.proofs.Clocks.{longer, wide_clock}
 
 -- ---- rules that don't refuse
 
@@ -45,7 +48,7 @@ good test k x xs false e h = let bad : Some k ≡ None = sym (ap (λ t. if t the
 
 module _ (c : ℕ) (p : ScenarioParts) (h : refusal c p ≡ None) where
   early : early_refusal c p ≡ None
-  early = first_none (early_refusal c p) (option_or (cycles_refusal p) (plan_refusal p)) h
+  early = first_none (early_refusal c p) (option_or (cycles_refusal p) (option_or (plan_refusal p) (clock_refusal p))) h
 
   lists : option_or (channels_refusal p) (tasks_refusal p) ≡ None
   lists = second_none (numbers_refusal c p) (option_or (channels_refusal p) (tasks_refusal p)) early
@@ -63,10 +66,13 @@ module _ (c : ℕ) (p : ScenarioParts) (h : refusal c p ≡ None) where
   pub channels_fit : first_bad (fits_channel (natural p.nodes) (length p.tasks)) 0 p.channels ≡ None
   channels_fit =
       let ranges = at_place 6 (first_bad (fits_channel (natural p.nodes) (length p.tasks)) 0 p.channels) in
-      nowhere 6 _ (first_none ranges (at_place 7 (first_bad closes 0 p.channels)) (first_none (channels_refusal p) (tasks_refusal p) lists))
+      nowhere 6 _ (first_none ranges (at_place 7 (first_bad (closes (natural p.nodes) p.tasks) 0 p.channels)) (first_none (channels_refusal p) (tasks_refusal p) lists))
 
   pub tasks_fit : first_bad (fits_task (natural p.nodes) (length p.tasks)) 0 p.tasks ≡ None
   tasks_fit = nowhere 8 _ (second_none (channels_refusal p) (tasks_refusal p) lists)
+
+  pub clock_fits : clock_refusal p ≡ None
+  clock_fits = second_none (plan_refusal p) (clock_refusal p) (second_none (cycles_refusal p) (option_or (plan_refusal p) (clock_refusal p)) (second_none (early_refusal c p) (option_or (cycles_refusal p) (option_or (plan_refusal p) (clock_refusal p))) h))
 
 -- ---- how many nodes there are
 
@@ -89,7 +95,7 @@ within_same c k most (negsuc n) h = refl
 pub refusal_same : (c k : ℕ) (p : ScenarioParts) → natural p.nodes ≤ c → refusal (c + k) p ≡ refusal c p
 refusal_same c k p h =
     ap (λ b. option_or (option_or (option_or (option_or (unless (is_of_version p) 1 0) (option_or (unless (is_within (pos 1) (pos 2) p.version) 2 1) (option_or (unless b 2 0) (unless (has_rounds p) 3 0))))
-    (option_or (lengths_refusal p) (unless (is_policy (version_of p) p.policy) 5 0))) (option_or (channels_refusal p) (tasks_refusal p))) (option_or (cycles_refusal p) (plan_refusal p)))
+    (option_or (lengths_refusal p) (unless (is_policy (version_of p) p.policy) 5 0))) (option_or (channels_refusal p) (tasks_refusal p))) (option_or (cycles_refusal p) (option_or (plan_refusal p) (clock_refusal p))))
     (within_same c k (most_nodes (version_of p)) p.nodes h)
 
 -- ---- channels
@@ -110,6 +116,7 @@ channel_longer c k nodes tasks (state delta start step) few h =
     within : (n : ℕ) → n ≡ nodes → n ≤ c
     within n e = omega arith
 channel_longer c k nodes tasks (sensor delta task rows) few h = refl
+channel_longer c k nodes tasks (copy delta task lies rows) few h = refl
 
 channels_longer : (c k nodes tasks i : ℕ) (cs : List ChannelParts) → nodes ≤ c → first_bad (fits_channel nodes tasks) i cs ≡ None → map (channel_of (c + k)) cs ≡ map (wide_channel k) (map (channel_of c) cs)
 channels_longer c k nodes tasks i [] few h = refl
@@ -151,6 +158,36 @@ times_same c k nodes tasks n (t ∷ ts) i few h =
     ap (λ x. x ∷ map (λ row. get_or row i 0) (map (times_of (c + k)) ts)) (time_same c k nodes tasks t i few (and_parts (nat_lt n 32) (is_task nodes tasks t) g.0).1)
     ∙ ap (λ xs. get_or (times_of c t) i 0 ∷ xs) (times_same c k nodes tasks (n + 1) ts i few g.1)
 
+-- ---- clocks
+
+module _ (c k nodes : ℕ) (few : nodes ≤ c) where
+  row_longer : (most : ℤ) (row : List ℤ) → are_up_to nodes most row ≡ true → padded (c + k) row ≡ longer k (padded c row)
+  row_longer most row h =
+      let long : length row ≡ nodes = eqb-true (length row) nodes (and_parts (length row == nodes) _ h).0 in
+      padded_longer c k row (omega arith)
+
+  rows_longer : (test : List ℤ → Bool) → ((row : List ℤ) → test row ≡ true → padded (c + k) row ≡ longer k (padded c row))
+      → (rows : List (List ℤ)) → list_all test rows ≡ true → map (padded (c + k)) rows ≡ map (longer k) (map (padded c) rows)
+  rows_longer test is [] h = refl
+  rows_longer test is (row ∷ rows) h =
+      let parts = and_parts (test row) (list_all test rows) h in
+      ap (λ x. x ∷ map (padded (c + k)) rows) (is row parts.0)
+      ∙ ap (λ xs. longer k (padded c row) ∷ xs) (rows_longer test is rows parts.1)
+
+  clock_longer : (o : Option ClockParts) (plan : Plan) → clock_refused nodes plan o ≡ None → option_map (clock_in (c + k) nodes) o ≡ option_map (wide_clock k) (option_map (clock_in c nodes) o)
+  clock_longer None plan h = refl
+  clock_longer (Some o) plan h =
+      let a : is_clock nodes o ≡ true = holds (is_clock nodes o) 18 0 (first_none (unless (is_clock nodes o) 18 0) _ h) in
+      let errors = and_parts _ (are_rows (are_up_to nodes o.epsilon) o.errors) a in
+      let drifts = and_parts _ (are_rows (is_drift nodes o.drift) o.drifts) errors.0 in
+      let start = and_parts _ (are_up_to nodes (pos (2 ^ 40)) o.start) drifts.0 in
+      let told = λ (s : List ℤ) (d e : List (List ℤ)). let v : ClockView = record (clock_in c nodes o) { start = s; drifts = d; errors = e } in Some v in
+      ap (λ s. told s (map (padded (c + k)) o.drifts) (map (padded (c + k)) o.errors)) (row_longer (pos (2 ^ 40)) o.start start.1)
+      ∙ ap (λ d. told (longer k (padded c o.start)) d (map (padded (c + k)) o.errors))
+      (rows_longer (is_drift nodes o.drift) (λ row is. row_longer (pos (2 ^ 20)) row (and_parts (are_up_to nodes (pos (2 ^ 20)) row) _ is).0) o.drifts (and_parts _ (list_all (is_drift nodes o.drift) o.drifts) drifts.1).1)
+      ∙ ap (λ e. told (longer k (padded c o.start)) (map (longer k) (map (padded c) o.drifts)) e)
+      (rows_longer (are_up_to nodes o.epsilon) (row_longer o.epsilon) o.errors (and_parts _ (list_all (are_up_to nodes o.epsilon) o.errors) errors.1).1)
+
 -- ---- what the parts say
 
 module _ (c k : ℕ) (p : ScenarioParts) (h : refusal c p ≡ None) where
@@ -174,3 +211,7 @@ module _ (c k : ℕ) (p : ScenarioParts) (h : refusal c p ≡ None) where
   system_longer =
       ap (λ (g : Config (c + k)). system_over g (plan_in p) (inputs_of (scenario_of (c + k) p))) config_longer
       ∙ ap (system_over (wide_config k (config_of c p)) (plan_in p)) inputs_same
+
+  pub clock_wide : (scenario_of (c + k) p).clock ≡ option_map (wide_clock k) (scenario_of c p).clock
+  unfolding clock_refusal
+  clock_wide = clock_longer c k (natural p.nodes) few p.clock (plan_in p) (clock_fits c p h)

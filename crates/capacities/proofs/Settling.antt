@@ -4,13 +4,14 @@ use Rattle.std.proofs.Math.Path.{fun_ext}
 use Rattle.std.specs.Prelude.{if◌then◌else◌, nat_lt}
 use Rattle.std.specs.Option.{option_map}
 use Rattle.node_grid.specs.NodeSet.{ids_below, has_id}
-use Rattle.node_grid.specs.Count.{count}
+use Rattle.node_grid.specs.Count.{bit, count}
 use Rattle.omh_paths.specs.declared.wrapped.Wrapped.{Wrapped}
 use Rattle.omh_paths.specs.declared.wrapped.Wrapped.TheVariants.{Plain, Fault}
 use Rattle.omh_paths.specs.Wrapped.{wrapped, unwrapped, same, is_error}
 use Rattle.omh_paths.specs.Majority.{has_majority, first_majority, majority}
 use Rattle.omh_paths.specs.Paths.{outside, same_nodes}
 use Rattle.omh.specs.Omh.{own_term, settled_within, settled_at, settled_from}
+use Rattle.equivocation.specs.Conviction.{is_present, disagrees, tolerated, is_convicted, relays_of, convicts}
 use Rattle.protocol.specs.Arrival.{Arrival, is_bad, said}
 use Rattle.protocol.specs.Arrival.Arrival.{Bad, Good}
 use Rattle.protocol.specs.Heard.{looked_up, with_entries, entry, Rounds, heard_back, heard, rounds_bad}
@@ -126,6 +127,32 @@ module _ {V W : Type 0} (f : V → W) where
     majority_each : (all : List (Wrapped V)) → majority eq' (map (each_wrapped f) all) ≡ each_wrapped f (majority eq all)
     unfolding majority
     majority_each all = first_each all all
+
+    -- ---- whom a node convicts
+
+    present_each : (x : Wrapped V) → is_present (each_wrapped f x) ≡ is_present x
+    present_each x = ap not (error_each x)
+
+    disagrees_each : (own x : Wrapped V) → disagrees eq' (each_wrapped f own) (each_wrapped f x) ≡ disagrees eq own x
+    disagrees_each own x =
+        ap (λ b. b && not (same eq' (each_wrapped f x) (wrapped (each_wrapped f own)))) (present_each x)
+        ∙ ap (λ w. is_present x && not (same eq' (each_wrapped f x) w)) (wrapped_each own)
+        ∙ ap (λ b. is_present x && not b) (same_each x (wrapped own))
+
+    convicted_each : (own : Wrapped V) (relays : List (Wrapped V)) (counted : Bool) (m : ℕ) → is_convicted eq' (each_wrapped f own) (map (each_wrapped f) relays) counted m ≡ is_convicted eq own relays counted m
+    convicted_each own relays counted m =
+        ap (λ n. nat_lt 0 m && nat_lt (tolerated (n + bit counted) m) (count (disagrees eq' (each_wrapped f own)) (map (each_wrapped f) relays)))
+        (count_mapped is_present (each_wrapped f) relays ∙ ap (λ (test : Wrapped V → Bool). count test relays) (fun_ext present_each))
+        ∙ ap (λ n. nat_lt 0 m && nat_lt (tolerated (count is_present relays + bit counted) m) n)
+        (count_mapped (disagrees eq' (each_wrapped f own)) (each_wrapped f) relays ∙ ap (λ (test : Wrapped V → Bool). count test relays) (fun_ext (disagrees_each own)))
+
+    pub convicts_each : (m i : ℕ) (full : Bool) (members : List ℕ) (x : Rounds V) (c : ℕ) → convicts eq' (ear_of m i full members (each_round f x)) c ≡ convicts eq (ear_of m i full members x) c
+    convicts_each m i full members x c =
+        ap (λ w. is_convicted eq' w (relays_of (ear_of m i full members (each_round f x)) c) (full && has_id members i) m) (heard_each x (c ∷ []))
+        ∙ ap (λ ws. is_convicted eq' (each_wrapped f (heard x (c ∷ []))) ws (full && has_id members i) m)
+        (ap (λ (h : ℕ → Wrapped W). map h (outside members (c ∷ i ∷ []))) (fun_ext (λ q. heard_each x (c ∷ q ∷ [])))
+        ∙ sym (map_twice (each_wrapped f) (λ q. heard x (c ∷ q ∷ [])) (outside members (c ∷ i ∷ []))))
+        ∙ convicted_each (heard x (c ∷ [])) (relays_of (ear_of m i full members x) c) (full && has_id members i) m
 
     -- ---- what a node settles
 

@@ -1,10 +1,12 @@
 -- What is printed of a period has no places for further nodes.
-use Rattle.std.proofs.Common.{ℕ, zero, suc, ◌≡◌, Bool, ◌==◌, List, [], ◌∷◌, ◌++◌, map, take, Option, None, Some, refl, ap, ◌∙◌}
+use Rattle.std.proofs.Common.{ℕ, zero, suc, ◌≡◌, ◌≤◌, Bool, ◌==◌, List, [], ◌∷◌, ◌++◌, map, length, take, replicate, Option, None, Some, refl, ap, ◌∙◌}
 use Rattle.std.proofs.Math.Path.{fun_ext}
-use Rattle.std.specs.Prelude.{if◌then◌else◌, codes, decimal, slice_get, slice_index_or}
+use Rattle.std.specs.Prelude.{if◌then◌else◌, ℤ, pos, codes, decimal, slice_get, slice_index_or}
 use Rattle.std.specs.List.{flat_map}
 use Rattle.std.specs.Option.{option_map}
+use Rattle.std.proofs.lemmas.List.{take-append-le}
 use Rattle.node_grid.specs.NodeSet.{ids_below}
+use Rattle.node_grid.specs.declared.class.Class.{Class}
 use Rattle.node_grid.specs.declared.class.Class.TheVariants.{N}
 use Rattle.node_grid.specs.Matrix.{row_at}
 use Rattle.omh_paths.specs.declared.wrapped.Wrapped.{Wrapped}
@@ -13,17 +15,19 @@ use Rattle.list_scheduler.specs.Copies.{CopyTable}
 use Rattle.fault_classes.specs.Plan.{Plan}
 use Rattle.agreed_state.specs.Agreed.{AgreedView}
 use Rattle.node_core.specs.Outcome.{Outcome}
-use Rattle.cluster_step.specs.Record.{PeriodView}
+use Rattle.cluster_step.specs.Record.{ClockShown, PeriodView}
 use Rattle.run_print.specs.Text.{joined, numbers_text, set_text, class_text, claim_text, row_text, done_item, rows_item, mode_text, run_text, runs_text, votes_text}
 use Rattle.run_print.specs.NodeText.{left_text, state_text, settled_text, beliefs_text, node_text}
 use Rattle.run_print.specs.PeriodText.{head_text, recorded_text, nodes_text}
+use Rattle.run_print.specs.ClockText.{sound_numbers, range_of, spread_text, signed_text, clock_text}
 use Rattle.run_print.specs.TraceText.{frames_text, period_text}
 use Rattle.capacities.proofs.Lists.{get_padded, wide, take_wide}
 use Rattle.capacities.proofs.Copies.{wide_copies, copies_wide, works_same}
 use Rattle.capacities.proofs.Standings.{wide_rows, row_wide}
 use Rattle.capacities.proofs.Bodies.{wide_agreed}
 use Rattle.capacities.proofs.Views.{wide_claims}
-use Rattle.capacities.proofs.Periods.{wide_outcome, wide_record}
+use Rattle.capacities.proofs.Clocks.{longer}
+use Rattle.capacities.proofs.Periods.{wide_outcome, wide_shown, wide_record, HasClockRoom, HasRoom}
 
 module _ (n k : ℕ) where
   runs_wide : (copies : CopyTable) → runs_text n (wide_copies k copies) ≡ runs_text n copies
@@ -91,5 +95,15 @@ module _ (k : ℕ) (t : PeriodView) where
   pub head_wide : head_text (wide_record k t) ≡ head_text t
   head_wide = refl
 
-  pub period_text_wide : (plan : Plan) (trace : Bool) → period_text plan trace (wide_record k t) ≡ period_text plan trace t
-  period_text_wide plan trace = ap (λ x. head_text t ++ x ++ (if trace then frames_text plan t else [])) nodes_wide
+  clock_wide : t.nodes ≤ length t.classes → (o : Option ClockShown) → HasClockRoom t.nodes o → clock_text (wide_record k t) (option_map (wide_shown k) o) ≡ clock_text t o
+  clock_wide room None h = refl
+  clock_wide room (Some s) h =
+      let told = λ (classes : List Class) (offset : List ℤ).
+      codes "clock skew " ++ spread_text (range_of (sound_numbers classes offset)) ++ codes " offsets " ++ signed_text offset ++ codes "\n" in
+      ap (λ xs. told xs (take t.nodes (longer k s.offset))) (take-append-le t.nodes t.classes (replicate k N) room)
+      ∙ ap (told (take t.nodes t.classes)) (take-append-le t.nodes s.offset (replicate k (pos 0)) h)
+
+  pub period_text_wide : HasRoom t → (plan : Plan) (trace : Bool) → period_text plan trace (wide_record k t) ≡ period_text plan trace t
+  period_text_wide room plan trace =
+      ap (λ x. head_text t ++ x ++ clock_text (wide_record k t) (wide_record k t).clock ++ (if trace then frames_text plan t else [])) nodes_wide
+      ∙ ap (λ x. head_text t ++ nodes_text t ++ x ++ (if trace then frames_text plan t else [])) (clock_wide room.classes t.clock room.clock)

@@ -2,46 +2,49 @@
 use Rattle.std.proofs.Common.{ℕ, zero, suc, ◌≡◌, ◌≤◌, ◌+◌, Bool, true, false, not, ◌&&◌, ◌||◌, ◌==◌, List, ◌∷◌, ◌++◌, map, length, replicate, get_or, Option, None, Some, refl, sym, ap, ◌∙◌, arith, le-ltb}
 use Rattle.std.proofs.Math.Path.{fun_ext}
 use Rattle.std.specs.Prelude.{if◌then◌else◌, nat_lt, nat_eq, ℤ, pos}
-use Rattle.std.specs.List.{list_any}
+use Rattle.std.specs.List.{list_any, filter_map}
 use Rattle.std.specs.Option.{option_map}
 use Rattle.std.specs.Int.{bit_at}
 use Rattle.std.specs.Cmp.Lexicographic.{pointwise}
 use Rattle.std.proofs.lemmas.List.{length-map, length-replicate, map-append, replicate-append-replicate}
 use Rattle.node_grid.specs.NodeSet.{ids_below, ids_where, has_id, mask_of}
 use Rattle.node_grid.specs.Version.{kind_count}
-use Rattle.node_grid.specs.Kinds.{no_claim}
+use Rattle.node_grid.specs.Kinds.{no_claim, equivocate}
 use Rattle.node_grid.specs.NodeSetLaws.{hasnt-filter, filter_every}
 use Rattle.omh_paths.specs.declared.wrapped.Wrapped.{Wrapped}
 use Rattle.omh_paths.specs.declared.wrapped.Wrapped.TheVariants.{Plain, Fault}
 use Rattle.mme_vote.specs.declared.channel.Channel.{Channel}
-use Rattle.mme_vote.specs.declared.channel.Channel.TheVariants.{State, Sensor}
-use Rattle.mme_vote.specs.Channel.{delta_of}
-use Rattle.list_scheduler.specs.Copies.{CopyTable}
+use Rattle.mme_vote.specs.declared.channel.Channel.TheVariants.{State, Sensor, Copy}
+use Rattle.mme_vote.specs.Channel.{delta_of, is_judged}
+use Rattle.mme_vote.specs.Vote.{vote_of}
+use Rattle.list_scheduler.specs.Copies.{CopyTable, copy_at, is_passed}
+use Rattle.list_scheduler.specs.declared.copies.CopyState.{CopyState}
 use Rattle.list_scheduler.specs.declared.schedule.Verdict.{Verdict}
 use Rattle.list_scheduler.specs.Schedule.{claim_of, verdict, finished, copies_completed, copies_after}
 use Rattle.error_reports.specs.Charge.{charged_mask}
 use Rattle.membership.specs.Members.{Standing, standing_after}
 use Rattle.agreed_state.specs.declared.config.Config.{Config}
 use Rattle.agreed_state.specs.declared.config.Inputs.{Inputs}
-use Rattle.agreed_state.specs.Agreed.{AgreedView, first_agreed, standing_by, agreed_after, finished_now}
+use Rattle.agreed_state.specs.Agreed.{AgreedView, first_agreed, standing_by, agreed_after, finished_now, passed_after}
 use Rattle.agreed_state.specs.Body.{body}
 use Rattle.agreed_state.specs.Adoption.{adopted}
 use Rattle.protocol.specs.Arrival.{Arrival, is_bad}
 use Rattle.protocol.specs.Heard.{rounds_bad}
 use Rattle.protocol.specs.Settled.{ear_of, plain, settled_items}
 use Rattle.omh.specs.Omh.{settled_from}
-use Rattle.protocol.specs.View.{Setting, no_further, channel_room, Kept, nothing, first_kept, Received, content, bodies_for, adopted_by, claim_at, own_claim, as_claim, claims_settled, channel, no_channel, is_due, due_channels, own_from, own_value, own_values, votes_on, is_far, value_in, value_at, deviates, other_body, by_kind, is_further, noted, row_by, empty_row, carried_by, View, through, cold_view, joined, view_from, opened}
+use Rattle.protocol.specs.View.{Setting, channel_room, Kept, nothing, first_kept, Received, content, bodies_for, adopted_by, synced_by, claim_at, own_claim, as_claim, claims_settled, channel, no_channel, is_due, due_channels, own_from, own_value, own_values, value_from, voters, tolerated, votes_on, is_far, value_in, value_at, deviates, other_body, by_kind, is_further, noted, row_by, empty_row, carried_by, View, through, cold_view, joined, view_from, opened}
 use Rattle.protocol.specs.View.Mode.{Full, Joining}
-use Rattle.capacities.proofs.Lists.{get_padded, get_mapped, tab_padded, wide, wide_long, get_wide, tab_wide, eq_wide}
+use Rattle.protocol.specs.FurtherKinds.{convicts_member, convictions}
+use Rattle.capacities.proofs.Lists.{get_padded, get_mapped, tab_padded, where_longer, wide, wide_long, get_wide, tab_wide, eq_wide}
 use Rattle.capacities.proofs.Copies.{wide_copies, copies_wide, AreBelow, works_same, finished_same, verdict_same, after_wide, after_narrow, done_wide, first_wide, first_narrow}
 use Rattle.capacities.proofs.Standings.{wide_rows, mask_wide, wide_standing, standing_wide, first_standing_wide}
 use Rattle.capacities.proofs.Bodies.{wide_channel, wide_config, wide_agreed, same_agreed, IsBelow, IsBelowIf, body_wide, adopted_below, adopted_wide}
-use Rattle.capacities.proofs.Settling.{each_round, rounds_each, items_each}
+use Rattle.capacities.proofs.Settling.{each_round, rounds_each, convicts_each, items_each}
 
 -- ---- what all nodes run under, and what a node keeps, receives and believes
 
 abbrev pub setting_of : {c : ℕ} → Config c → Setting
-setting_of {c} g = record { capacity = c; config = g; further = no_further }
+setting_of {c} g = record { capacity = c; config = g; further = convictions g.m }
 
 abbrev pub wide_claims : ℕ → List (Wrapped ℕ) → List (Wrapped ℕ)
 wide_claims k done = done ++ replicate k (Fault 0)
@@ -56,6 +59,7 @@ abbrev pub wide_view : ℕ → ℕ → View → View
 wide_view n k v = record {
   mode = v.mode;
   before = option_map (wide_agreed n k) v.before;
+  sync = v.sync;
   done = wide_claims k v.done;
   due = v.due;
   own = v.own;
@@ -70,10 +74,11 @@ same_kept {a} {a'} {b} {b'} {v} {o} e f =
     ap (λ y. let x : Kept = record { state = y; carried = b; votes = v; owns = o } in x) e ∙ ap (λ y. let x : Kept = record { state = a'; carried = y; votes = v; owns = o } in x) f
 
 -- a view of a node that goes through the period
-abbrev viewed : Bool → AgreedView → List (Wrapped ℕ) → List ℕ → List (Option ℤ) → List (Option ℤ) → List ℕ → List (Option (List ℕ)) → AgreedView → List ℕ → View
-viewed full a done due own votes found rows after carried = record {
+abbrev viewed : Bool → AgreedView → List ℕ → List (Wrapped ℕ) → List ℕ → List (Option ℤ) → List (Option ℤ) → List ℕ → List (Option (List ℕ)) → AgreedView → List ℕ → View
+viewed full a sync done due own votes found rows after carried = record {
   mode = if full then Full else Joining;
   before = Some a;
+  sync = sync;
   done = done;
   due = due;
   own = own;
@@ -83,17 +88,17 @@ viewed full a done due own votes found rows after carried = record {
   kept = record { state = Some after; carried = carried; votes = votes; owns = own };
 }
 
-same_viewed : (full : Bool) (a : AgreedView) {d d' : List (Wrapped ℕ)} {u u' : List ℕ} {o o' v v' : List (Option ℤ)} {f f' : List ℕ} {r r' : List (Option (List ℕ))} {t t' : AgreedView} {y y' : List ℕ}
-    → d ≡ d' → u ≡ u' → o ≡ o' → v ≡ v' → f ≡ f' → r ≡ r' → t ≡ t' → y ≡ y' → viewed full a d u o v f r t y ≡ viewed full a d' u' o' v' f' r' t' y'
-same_viewed full a {d} {d'} {u} {u'} {o} {o'} {v} {v'} {f} {f'} {r} {r'} {t} {t'} {y} {y'} ed eu eo ev ef er et ey =
-    ap (λ x. viewed full a x u o v f r t y) ed
-    ∙ ap (λ x. viewed full a d' x o v f r t y) eu
-    ∙ ap (λ x. viewed full a d' u' x v f r t y) eo
-    ∙ ap (λ x. viewed full a d' u' o' x f r t y) ev
-    ∙ ap (λ x. viewed full a d' u' o' v' x r t y) ef
-    ∙ ap (λ x. viewed full a d' u' o' v' f' x t y) er
-    ∙ ap (λ x. viewed full a d' u' o' v' f' r' x y) et
-    ∙ ap (λ x. viewed full a d' u' o' v' f' r' t' x) ey
+same_viewed : (full : Bool) (a : AgreedView) (s : List ℕ) {d d' : List (Wrapped ℕ)} {u u' : List ℕ} {o o' v v' : List (Option ℤ)} {f f' : List ℕ} {r r' : List (Option (List ℕ))} {t t' : AgreedView} {y y' : List ℕ}
+    → d ≡ d' → u ≡ u' → o ≡ o' → v ≡ v' → f ≡ f' → r ≡ r' → t ≡ t' → y ≡ y' → viewed full a s d u o v f r t y ≡ viewed full a s d' u' o' v' f' r' t' y'
+same_viewed full a s {d} {d'} {u} {u'} {o} {o'} {v} {v'} {f} {f'} {r} {r'} {t} {t'} {y} {y'} ed eu eo ev ef er et ey =
+    ap (λ x. viewed full a s x u o v f r t y) ed
+    ∙ ap (λ x. viewed full a s d' x o v f r t y) eu
+    ∙ ap (λ x. viewed full a s d' u' x v f r t y) eo
+    ∙ ap (λ x. viewed full a s d' u' o' x f r t y) ev
+    ∙ ap (λ x. viewed full a s d' u' o' v' x r t y) ef
+    ∙ ap (λ x. viewed full a s d' u' o' v' f' x t y) er
+    ∙ ap (λ x. viewed full a s d' u' o' v' f' r' x y) et
+    ∙ ap (λ x. viewed full a s d' u' o' v' f' r' t' x) ey
 
 pub zeros_wide : (c n k : ℕ) → n ≤ c → replicate (c + k) 0 ≡ wide n k (replicate c 0)
 zeros_wide c n k h = sym (replicate-append-replicate c k 0) ∙ sym (wide_long n k (replicate c 0) (omega (arith, length-replicate {A = ℕ} c 0)))
@@ -164,11 +169,14 @@ module _ (c k : ℕ) (g : Config c) (few : g.nodes ≤ c) (few_graph : g.graph.n
   channel_wide : (j : ℕ) → channel (setting_of (wide_config k g)) j ≡ wide_channel k (channel (setting_of g) j)
   channel_wide j = get_mapped (wide_channel k) g.channels.items j no_channel
 
+  completed_wide : (a : AgreedView) → IsBelow c a → (done : List (Wrapped ℕ)) → copies_completed (c + k) g.graph a.standing.members (wide_copies k a.copies) (wide_claims k done) ≡ wide_copies k (copies_completed c g.graph a.standing.members a.copies done)
+  completed_wide a below done = done_wide c k g.graph a.standing.members a.copies (wide_claims k done) done below.members (claim_wide done) below.copies
+
   module _ (a : AgreedView) (below : IsBelow c a) (done : List (Wrapped ℕ)) where
     now_wide : (t : ℕ) → finished_now (c + k) (wide_config k g) (wide_agreed g.nodes k a) (wide_claims k done) t ≡ finished_now c g a done t
     now_wide t =
         ap (λ b. not b && finished g.graph (copies_completed (c + k) g.graph a.standing.members (wide_copies k a.copies) (wide_claims k done)) t) (finished_same (wide_copies k a.copies) a.copies (copies_wide k a.copies) g.graph t)
-        ∙ ap (λ (z : CopyTable). not (finished g.graph a.copies t) && finished g.graph z t) (done_wide c k g.graph a.standing.members a.copies (wide_claims k done) done below.members (claim_wide done) below.copies)
+        ∙ ap (λ (z : CopyTable). not (finished g.graph a.copies t) && finished g.graph z t) (completed_wide a below done)
         ∙ ap (λ b. not (finished g.graph a.copies t) && b)
         (finished_same (wide_copies k (copies_completed c g.graph a.standing.members a.copies done)) (copies_completed c g.graph a.standing.members a.copies done) (copies_wide k (copies_completed c g.graph a.standing.members a.copies done)) g.graph t)
 
@@ -176,6 +184,7 @@ module _ (c k : ℕ) (g : Config c) (few : g.nodes ≤ c) (few_graph : g.graph.n
     due_wide (State delta start step) = refl
     due_wide (Sensor delta None) = refl
     due_wide (Sensor delta (Some t)) = now_wide t
+    due_wide (Copy delta t lies) = now_wide t
 
     pub channels_wide : due_channels (setting_of (wide_config k g)) (wide_agreed g.nodes k a) (wide_claims k done) ≡ due_channels (setting_of g) a done
     channels_wide =
@@ -190,6 +199,8 @@ module _ (c k : ℕ) (g : Config c) (few : g.nodes ≤ c) (few_graph : g.graph.n
   own_from_wide i (suc p) inp x j (State delta start step) = refl
   own_from_wide i zero inp x j (Sensor delta task) = refl
   own_from_wide i (suc p) inp x j (Sensor delta task) = refl
+  own_from_wide i zero inp x j (Copy delta task lies) = refl
+  own_from_wide i (suc p) inp x j (Copy delta task lies) = refl
 
   own_value_wide : (i p : ℕ) (inp : Inputs) (x : Kept) (j : ℕ) → own_value (setting_of (wide_config k g)) i p inp (wide_kept g.nodes k x) j ≡ own_value (setting_of g) i p inp x j
   unfolding own_value
@@ -200,21 +211,43 @@ module _ (c k : ℕ) (g : Config c) (few : g.nodes ≤ c) (few_graph : g.graph.n
       ap (λ n. map (λ j. if nat_lt j n then Some (own_value (setting_of (wide_config k g)) i p inp (wide_kept g.nodes k x) j) else None) (ids_below channel_room)) (length-map g.channels.items (wide_channel k))
       ∙ ap (λ (f : ℕ → ℤ). map (λ j. if nat_lt j (length g.channels.items) then Some (f j) else None) (ids_below channel_room)) (fun_ext (own_value_wide i p inp x))
 
-  pub votes_wide : (i : ℕ) (full : Bool) (a : AgreedView) (due : List ℕ) (own : List (Option ℤ)) (x : Received)
-      → votes_on (setting_of (wide_config k g)) i full (wide_agreed g.nodes k a) due own (wide_received g.nodes k x) ≡ votes_on (setting_of g) i full a due own x
-  unfolding votes_on
-  votes_wide i full a due own x = refl
+  module _ (a : AgreedView) (below : IsBelow c a) (done : List (Wrapped ℕ)) where
+    passed_wide : (t : ℕ) → passed_after (c + k) (wide_config k g) (wide_agreed g.nodes k a) (wide_claims k done) t ≡ passed_after c g a done t
+    passed_wide t =
+        let after : CopyTable = copies_completed c g.graph a.standing.members a.copies done in
+        ap (λ (z : CopyTable). ids_where (λ q. has_id a.standing.members q && is_passed (copy_at z t q)) (c + k)) (completed_wide a below done)
+        ∙ ap (λ (z : ℕ → ℕ → CopyState). ids_where (λ q. has_id a.standing.members q && is_passed (z t q)) (c + k)) (copies_wide k after)
+        ∙ where_longer (λ q. has_id a.standing.members q && is_passed (copy_at after t q)) c k (λ q l. ap (λ b. b && is_passed (copy_at after t q)) (below.members q l))
+
+    pub votes_wide : (i : ℕ) (full : Bool) (due : List ℕ) (own : List (Option ℤ)) (x : Received)
+        → votes_on (setting_of (wide_config k g)) i full (wide_agreed g.nodes k a) (wide_claims k done) due own (wide_received g.nodes k x) ≡ votes_on (setting_of g) i full a done due own x
+    unfolding votes_on
+    votes_wide i full due own x =
+        ap (λ (f : ℕ → Option ℤ). map (λ j. if has_id due j then f j else None) (ids_below channel_room))
+        (fun_ext (λ j.
+        ap (λ (ch : Channel (c + k)). vote_of (filter_map (value_from i full due own x j) (voters (setting_of (wide_config k g)) (wide_agreed g.nodes k a) (wide_claims k done) ch)) (tolerated (setting_of (wide_config k g)) ch)) (channel_wide j)
+        ∙ by j (channel (setting_of g) j)))
+      where
+        by : (j : ℕ) (ch : Channel c)
+            → vote_of (filter_map (value_from i full due own x j) (voters (setting_of (wide_config k g)) (wide_agreed g.nodes k a) (wide_claims k done) (wide_channel k ch))) (tolerated (setting_of (wide_config k g)) (wide_channel k ch))
+            ≡ vote_of (filter_map (value_from i full due own x j) (voters (setting_of g) a done ch)) (tolerated (setting_of g) ch)
+        by j (State delta start step) = refl
+        by j (Sensor delta task) = refl
+        by j (Copy delta t lies) = ap (λ ms. vote_of (filter_map (value_from i full due own x j) ms) lies) (passed_wide t)
 
   -- ---- a node's own row
 
-  delta_wide : (ch : Channel c) → delta_of (wide_channel k ch) ≡ delta_of ch
-  delta_wide (State delta start step) = refl
-  delta_wide (Sensor delta task) = refl
+  far_wide : (ch : Channel c) (value vote : Option ℤ) → (is_judged (wide_channel k ch) && is_far (delta_of (wide_channel k ch)) value vote) ≡ (is_judged ch && is_far (delta_of ch) value vote)
+  far_wide (State delta start step) value vote = refl
+  far_wide (Sensor delta task) value vote = refl
+  far_wide (Copy delta task lies) value vote = refl
 
   deviates_wide : (due : List ℕ) (votes : List (Option ℤ)) (x : Received) (j : ℕ) → deviates (setting_of (wide_config k g)) due votes (wide_received g.nodes k x) j ≡ deviates (setting_of g) due votes x j
   deviates_wide due votes x j =
-      ap (λ (f : ℕ → ℤ). list_any (λ ch. is_far (f ch) (value_in due (x.values j) ch) (value_at votes ch)) due)
-      (fun_ext (λ ch. ap delta_of (channel_wide ch) ∙ delta_wide (channel (setting_of g) ch)))
+      ap (λ (f : ℕ → Bool). list_any f due)
+      (fun_ext (λ ch.
+      ap (λ (z : Channel (c + k)). is_judged z && is_far (delta_of z) (value_in due (x.values j) ch) (value_at votes ch)) (channel_wide ch)
+      ∙ far_wide (channel (setting_of g) ch) (value_in due (x.values j) ch) (value_at votes ch)))
 
   noted_wide : (i : ℕ) (a : AgreedView) (y : Kept) (done : List (Wrapped ℕ)) (due : List ℕ) (votes : List (Option ℤ)) (x : Received) (j kd : ℕ)
       → noted (setting_of (wide_config k g)) i (wide_agreed g.nodes k a) (wide_kept g.nodes k y) (wide_claims k done) due votes (wide_received g.nodes k x) j kd
@@ -222,7 +255,7 @@ module _ (c k : ℕ) (g : Config c) (few : g.nodes ≤ c) (few_graph : g.graph.n
   unfolding noted
   noted_wide i a y done due votes x j kd =
       let told = λ (mask : ℕ) (own : List ℕ) (v : Verdict) (far : Bool).
-      is_bad (x.sync j) kd || (rounds_bad g.m x.done j kd || (is_bad (x.values j) kd || ((bit_at mask kd == 1) || ((false && is_further kd)
+      is_bad (x.sync j) kd || (rounds_bad g.m x.done j kd || (is_bad (x.values j) kd || ((bit_at mask kd == 1) || (((kd == equivocate && convicts_member nat_eq (ear_of g.m i true a.standing.members x.done) j) && is_further kd)
       || by_kind (other_body own (x.sync j)) v.claim v.overrun far kd)))) in
       ap (λ z. told z (body (wide_config k g) (wide_agreed g.nodes k a)) (verdict g.graph a.standing.members (wide_copies k a.copies) (wide_claims k done) j) (deviates (setting_of (wide_config k g)) due votes (wide_received g.nodes k x) j)) (get_wide g.nodes k y.carried j)
       ∙ ap (λ z. told (get_or y.carried j 0) z (verdict g.graph a.standing.members (wide_copies k a.copies) (wide_claims k done) j) (deviates (setting_of (wide_config k g)) due votes (wide_received g.nodes k x) j)) (body_wide c k g a)
@@ -241,7 +274,10 @@ module _ (c k : ℕ) (g : Config c) (few : g.nodes ≤ c) (few_graph : g.graph.n
   found_wide i false f f' e = zeros_wide c g.nodes k few
 
   carried_wide : (i : ℕ) (full : Bool) (a : AgreedView) (x : Received) → carried_by (setting_of (wide_config k g)) i full (wide_agreed g.nodes k a) (wide_received g.nodes k x) ≡ wide g.nodes k (carried_by (setting_of g) i full a x)
-  carried_wide i full a x = row_wide i _ _ (fun_ext (λ j. fun_ext (λ kd. ap (λ b. b || (false && is_further kd)) (rounds_each (wide g.nodes k) g.m x.report j kd))))
+  carried_wide i full a x = row_wide i _ _ (fun_ext (λ j. fun_ext (λ kd.
+      ap (λ b. b || ((kd == equivocate && convicts_member (pointwise ◌==◌) (ear_of g.m i full a.standing.members (each_round (wide g.nodes k) x.report)) j) && is_further kd)) (rounds_each (wide g.nodes k) g.m x.report j kd)
+      ∙ ap (λ b. rounds_bad g.m x.report j kd || ((kd == equivocate && (has_id a.standing.members j && b)) && is_further kd))
+      (convicts_each (wide g.nodes k) (pointwise ◌==◌) (pointwise ◌==◌) (eq_wide g.nodes k) g.m i full a.standing.members x.report j))))
 
   -- ---- the state after a period
 
@@ -285,9 +321,10 @@ module _ (c k : ℕ) (g : Config c) (few : g.nodes ≤ c) (few_graph : g.graph.n
       let own : List (Option ℤ) = own_values s i p inp y in
       let own' : List (Option ℤ) = own_values s' i p inp y' in
       let e_own : own' ≡ own = own_wide i p inp y in
-      let votes : List (Option ℤ) = votes_on s i full a due own x in
-      let votes' : List (Option ℤ) = votes_on s' i full a' due' own' x' in
-      let e_votes : votes' ≡ votes = ap (λ u. votes_on s' i full a' u own' x') e_due ∙ ap (λ o. votes_on s' i full a' due o x') e_own ∙ votes_wide i full a due own x in
+      let votes : List (Option ℤ) = votes_on s i full a done due own x in
+      let votes' : List (Option ℤ) = votes_on s' i full a' done' due' own' x' in
+      let e_votes : votes' ≡ votes = ap (λ d. votes_on s' i full a' d due' own' x') e_done ∙ ap (λ u. votes_on s' i full a' (wide_claims k done) u own' x') e_due ∙ ap (λ o. votes_on s' i full a' (wide_claims k done) due o x') e_own
+      ∙ votes_wide a below done i full due own x in
       let e_noted : noted s' i a' y' done' due' votes' x' ≡ noted s i a y done due votes x =
       ap (λ d. noted s' i a' y' d due' votes' x') e_done ∙ ap (λ u. noted s' i a' y' (wide_claims k done) u votes' x') e_due ∙ ap (λ v. noted s' i a' y' (wide_claims k done) due v x') e_votes
       ∙ fun_ext (λ j. fun_ext (noted_wide i a y done due votes x j)) in
@@ -301,14 +338,14 @@ module _ (c k : ℕ) (g : Config c) (few : g.nodes ≤ c) (few_graph : g.graph.n
       ∙ items_each (wide n k) (pointwise ◌==◌) (pointwise ◌==◌) (eq_wide n k) g.m i full a.standing.members x.report c k found below.members in
       let e_after : agreed_after (c + k) (wide_config k g) p a' done' rows' ≡ wide_agreed n k (agreed_after c g p a done rows) =
       ap (λ d. agreed_after (c + k) (wide_config k g) p a' d rows') e_done ∙ ap (agreed_after (c + k) (wide_config k g) p a' (wide_claims k done)) e_rows ∙ agreed_wide p a below done rows in
-      same_viewed full a' e_done e_due e_own e_votes e_found e_rows e_after (carried_wide i full a x)
+      same_viewed full a' (synced_by s i x) e_done e_due e_own e_votes e_found e_rows e_after (carried_wide i full a x)
 
-  cold_wide : cold_view (setting_of (wide_config k g)) ≡ wide_view g.nodes k (cold_view (setting_of g))
-  cold_wide =
-      ap (λ (x : List (Wrapped ℕ)). let v : View = record (cold_view (setting_of (wide_config k g))) { done = x } in v) (sym (replicate-append-replicate c k (Fault 0)))
-      ∙ ap (λ (x : List ℕ). let v : View = record (cold_view (setting_of (wide_config k g))) { done = wide_claims k (replicate c (Fault 0)); found = x } in v) (zeros_wide c g.nodes k few)
-      ∙ ap (λ (x : List (Option (List ℕ))). let v : View = record (cold_view (setting_of (wide_config k g))) { done = wide_claims k (replicate c (Fault 0)); found = wide g.nodes k (replicate c 0); rows = x } in v) (rows_wide)
-      ∙ ap (λ (x : Kept). let v : View = record (cold_view (setting_of (wide_config k g))) { done = wide_claims k (replicate c (Fault 0)); found = wide g.nodes k (replicate c 0); rows = wide_rows g.nodes k (replicate c None); kept = x } in v) nothing_wide
+  cold_wide : (i : ℕ) (x : Received) → cold_view (setting_of (wide_config k g)) i (wide_received g.nodes k x) ≡ wide_view g.nodes k (cold_view (setting_of g) i x)
+  cold_wide i x =
+      ap (λ (z : List (Wrapped ℕ)). let v : View = record (cold_view (setting_of (wide_config k g)) i (wide_received g.nodes k x)) { done = z } in v) (sym (replicate-append-replicate c k (Fault 0)))
+      ∙ ap (λ (z : List ℕ). let v : View = record (cold_view (setting_of (wide_config k g)) i (wide_received g.nodes k x)) { done = wide_claims k (replicate c (Fault 0)); found = z } in v) (zeros_wide c g.nodes k few)
+      ∙ ap (λ (z : List (Option (List ℕ))). let v : View = record (cold_view (setting_of (wide_config k g)) i (wide_received g.nodes k x)) { done = wide_claims k (replicate c (Fault 0)); found = wide g.nodes k (replicate c 0); rows = z } in v) (rows_wide)
+      ∙ ap (λ (z : Kept). let v : View = record (cold_view (setting_of (wide_config k g)) i (wide_received g.nodes k x)) { done = wide_claims k (replicate c (Fault 0)); found = wide g.nodes k (replicate c 0); rows = wide_rows g.nodes k (replicate c None); kept = z } in v) nothing_wide
     where
       none_mapped : (j : ℕ) → map (option_map (wide g.nodes k)) (replicate j None) ≡ replicate j None
       none_mapped zero = refl
@@ -320,7 +357,7 @@ module _ (c k : ℕ) (g : Config c) (few : g.nodes ≤ c) (few_graph : g.graph.n
   module _ (i p : ℕ) (inp : Inputs) (y : Kept) (x : Received) where
     joined_wide : (o : Option AgreedView) → IsBelowIf c o
         → joined (setting_of (wide_config k g)) i p inp (wide_kept g.nodes k y) (wide_received g.nodes k x) (option_map (wide_agreed g.nodes k) o) ≡ wide_view g.nodes k (joined (setting_of g) i p inp y x o)
-    joined_wide None below = cold_wide
+    joined_wide None below = cold_wide i x
     joined_wide (Some a) below = through_wide i p inp y x false a below
 
     pub view_wide : (o : Option AgreedView) → IsBelowIf c o

@@ -24,7 +24,7 @@ checked plan t = head_text t
 
 -- the text of a run: its periods in order, and the end
 abbrev pub text_of : {capacity : ℕ} → Shows → ScenarioView capacity → List ℕ
-text_of shown sc = flat_map (λ p. shown sc.plan (period_record (system_of sc) p)) (ids_below sc.periods) ++ end_text sc.periods
+text_of shown sc = flat_map (λ p. shown sc.plan (period_record (system_of sc) sc.clock p)) (ids_below sc.periods) ++ end_text sc.periods
 
 -- two scenarios, over any capacities, whose runs have the same texts
 pub record HaveSameTexts {N M : ℕ} (a : ScenarioView N) (b : ScenarioView M) : Type 0 where
