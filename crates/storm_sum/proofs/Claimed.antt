@@ -1,5 +1,5 @@
 -- The summary of a storm.
-use Rattle.std.proofs.Common.{◌≡◌, ℕ, zero, suc, ◌+◌, Bool, true, List, map, Option, Some, Result, Ok, Err, refl, sym, ap, subst, ◌∙◌, arith}
+use Rattle.std.proofs.Common.{◌≡◌, ℕ, zero, suc, ◌+◌, Bool, true, List, map, Option, None, Some, Result, Ok, Err, refl, sym, ap, subst, ◌∙◌, arith}
 use Rattle.std.specs.Prelude.{IfOk, slice_index}
 use Rattle.std.specs.List.{range_with_len}
 use Rattle.node_grid.specs.NodeSet.{ids_below, has_id}
@@ -24,7 +24,7 @@ every_period f n h = all_counted f 0 n h
 
 claimed_at : ClaimLaw → (sys : System) → Weathers sys → (p : ℕ) → claim_at sys p ≡ true
 unfolding claim_at
-claimed_at claims sys w p = (claims sys p).claim.1 (w.periods p).claimed
+claimed_at claims sys w p = (claims sys None p).claim.1 (w.periods p).claimed
 
 -- what node 0 of 8 records
 abbrev records : System → ℕ → List Outcome

@@ -1,7 +1,8 @@
 -- One period more, and all of them.
-use Rattle.std.proofs.Common.{◌≡◌, ℕ, suc, ◌+◌, ◌-◌, ◌<◌, ◌≤◌, List, length, Some, sym, ap, ◌∙◌, subst, arith}
+use Rattle.std.proofs.Common.{◌≡◌, ℕ, suc, ◌+◌, ◌-◌, ◌<◌, ◌≤◌, List, length, Option, Some, sym, ap, ◌∙◌, subst, arith}
 use Rattle.node_grid.specs.Count.{bit}
 use Rattle.node_grid.specs.ListLaws.{bit_le}
+use Rattle.clock_skew.specs.Clock.{ClockView}
 use Rattle.protocol.specs.Run.{System, members_in}
 use Rattle.scenario.specs.Scenario.{ScenarioView, system_of}
 use Rattle.run_print.specs.StormText.{StormView}
@@ -37,9 +38,9 @@ sums_first sys s a b d = record {
 same_period : (p q : ℕ) → p + 1 ≡ suc q → p ≡ q
 same_period p q e = omega arith
 
-pub sums_more : (sys : System) (p : ℕ) (old new : Sums) (shown : PeriodView) → shown ≡ period_record sys p → Adds old new shown → AreSums sys p old → AreSums sys (p + 1) new
+pub sums_more : (sys : System) (clock : Option ClockView) (p : ℕ) (old new : Sums) (shown : PeriodView) → shown ≡ period_record sys clock p → Adds old new shown → AreSums sys p old → AreSums sys (p + 1) new
 unfolding claim_at excluded_at readmitted_at state_at
-sums_more sys p old new shown is a s =
+sums_more sys clock p old new shown is a s =
     let here : bit shown.claim ≡ bit (claim_at sys p) = ap (λ (r : PeriodView). bit r.claim) is in
     let gone : excluded shown ≡ excluded_at sys p = ap excluded is in
     let back : readmitted shown ≡ readmitted_at sys p = ap readmitted is in
@@ -63,8 +64,8 @@ sums_more sys p old new shown is a s =
     }
 
 -- the reference node of a period is in use
-pub reference_shown : (sys : System) (p : ℕ) (shown : PeriodView) → shown ≡ period_record sys p → (r : ℕ) → shown.reference ≡ Some r → r < shown.nodes
-reference_shown sys p shown is r e = subst (λ (v : PeriodView). r < v.nodes) (sym is) (reference_low sys p r (sym (ap (λ (v : PeriodView). v.reference) is) ∙ e))
+pub reference_shown : (sys : System) (clock : Option ClockView) (p : ℕ) (shown : PeriodView) → shown ≡ period_record sys clock p → (r : ℕ) → shown.reference ≡ Some r → r < shown.nodes
+reference_shown sys clock p shown is r e = subst (λ (v : PeriodView). r < v.nodes) (sym is) (reference_low sys p r (sym (ap (λ (v : PeriodView). v.reference) is) ∙ e))
 
 -- ---- all periods
 

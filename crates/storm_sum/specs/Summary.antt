@@ -50,19 +50,19 @@ abbrev pub counts_in : Option AgreedView → List ℕ
 counts_in None = replicate 8 0
 counts_in (Some a) = a.standing.counts
 
--- ---- of a run
+-- ---- of a run. Clocks change nothing of it
 
 unfoldable pub claim_at : System → ℕ → Bool
-claim_at sys p = (period_record sys p).claim
+claim_at sys p = (period_record sys None p).claim
 
 unfoldable pub excluded_at : System → ℕ → ℕ
-excluded_at sys p = excluded (period_record sys p)
+excluded_at sys p = excluded (period_record sys None p)
 
 unfoldable pub readmitted_at : System → ℕ → ℕ
-readmitted_at sys p = readmitted (period_record sys p)
+readmitted_at sys p = readmitted (period_record sys None p)
 
 unfoldable pub state_at : System → ℕ → Option AgreedView
-state_at sys p = state_after (period_record sys p)
+state_at sys p = state_after (period_record sys None p)
 
 -- the summary of a scenario that was made from this number
 abbrev pub summary_of : ℕ → ScenarioView 8 → StormView
