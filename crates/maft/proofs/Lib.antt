@@ -3,3 +3,4 @@ pub mod Printed
 pub mod Rest
 pub mod Words
 pub mod Rooms
+pub mod Logs

@@ -17,7 +17,7 @@ use Rattle.maft.specs.Run.{printed, shown_text}
 use Rattle.maft.specs.Alone.{log_printed}
 
 pub printed_is : {N : ℕ} (form f : Form) (sc run : ScenarioView N) (plan : Plan) (t : PeriodView) (p : ℕ)
-    → form ≡ f → run ≡ sc → plan ≡ sc.plan → t ≡ period_record (system_of run) p → shown_text f plan t ≡ printed form sc p
+    → form ≡ f → run ≡ sc → plan ≡ sc.plan → t ≡ period_record (system_of run) run.clock p → shown_text f plan t ≡ printed form sc p
 unfolding printed
 printed_is form f sc run plan t p e same g h = rw (e, g, h, same) refl
 

@@ -1,5 +1,5 @@
 -- What is printed of one node alone, by its log.
-use Rattle.std.specs.Prelude.{ℕ, List, ◌++◌, Option, Result, OnOk, IsErrOf}
+use Rattle.std.specs.Prelude.{◌≡◌, ℕ, List, ◌++◌, Option, Result, OnOk, IsErrOf}
 use Rattle.std.specs.List.{flat_map}
 use Rattle.std.specs.Io.KnownBytes.{Appends, Keeps}
 use Rattle.node_grid.specs.NodeSet.{ids_below}
@@ -22,5 +22,6 @@ log_text log = flat_map (log_printed log) (ids_below log.scenario.periods) ++ en
 -- The text of the log was written; or a prefix of it, where the count of faults rose; or there was no memory, and nothing was written.
 pub record IsLogRun {N : ℕ} (log : RecordView N) (old new : Option (List ℕ)) (before now : ℕ) (result : Result (Unit {0}) ReplayError) : Type 0 where
   pub written : OnOk result (Appends old new (log_text log))
+  pub faultless : OnOk result (now ≡ before)
   pub write_fault : IsErrOf result WriteFault → AppendsPrefix old new (log_text log) × Rose before now
-  pub no_memory : IsErrOf result NoMemory → Keeps old new
+  pub no_memory : IsErrOf result NoMemory → Keeps old new × (now ≡ before)

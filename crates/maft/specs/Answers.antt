@@ -83,9 +83,9 @@ pub record IsUntouched (left_old left_new : Option (List ℕ)) (given_old given_
   pub given : given_new ≡ given_old
   pub written : Keeps written_old written_new
 
--- the text was written, or a prefix of it where the count of faults rose
+-- the text was written and no fault was counted, or a prefix of it where the count of faults rose
 abbrev pub WritesSome : Option (List ℕ) → Option (List ℕ) → ℕ → ℕ → List ℕ → Type 0
-WritesSome old new before now text = (Appends old new text) ⊎ (AppendsPrefix old new text × Rose before now)
+WritesSome old new before now text = (Appends old new text × (now ≡ before)) ⊎ (AppendsPrefix old new text × Rose before now)
 
 -- what must be answered of these bytes, if not that there was no memory, where neither count of faults rose
 pub record Decides (reading : Reading) (bytes : List ℕ) (before now : ℕ) (status : Status) : Type 0 where
@@ -101,20 +101,20 @@ IsDecided (Storm seed) left source_before source_now before now status = ¬ Rose
 
 -- what is answered of the bytes of an input that is not too long, and written
 abbrev pub Answers : Reading → List ℕ → Option (List ℕ) → Option (List ℕ) → ℕ → ℕ → Status → Type 0
-Answers reading bytes old new before now Done = (text : List ℕ) × HasTextOf reading bytes text × Appends old new text
+Answers reading bytes old new before now Done = (text : List ℕ) × HasTextOf reading bytes text × Appends old new text × (now ≡ before)
 Answers reading bytes old new before now WriteFault = (text : List ℕ) × HasTextOf reading bytes text × AppendsPrefix old new text × Rose before now
-Answers reading bytes old new before now Unreadable = IsUnreadable bytes × Keeps old new
+Answers reading bytes old new before now Unreadable = IsUnreadable bytes × Keeps old new × (now ≡ before)
 Answers reading bytes old new before now Refused = (rule : ℕ) × (place : ℕ) × IsRefused reading bytes rule place × WritesSome old new before now (refused_text rule place)
-Answers reading bytes old new before now NoMemory = Keeps old new
+Answers reading bytes old new before now NoMemory = Keeps old new × (now ≡ before)
 Answers reading bytes old new before now Usage = ⊥
 Answers reading bytes old new before now ReadFault = ⊥
 Answers reading bytes old new before now TooLong = ⊥
 
 -- what is answered of a storm, and written
 abbrev pub AnswersStorm : ℕ → Option (List ℕ) → Option (List ℕ) → ℕ → ℕ → Status → Type 0
-AnswersStorm seed old new before now Done = IsStormSummary (storm_summary seed) × Weathers (storm_system seed) × Appends old new (storm_text (storm_summary seed))
+AnswersStorm seed old new before now Done = IsStormSummary (storm_summary seed) × Weathers (storm_system seed) × Appends old new (storm_text (storm_summary seed)) × (now ≡ before)
 AnswersStorm seed old new before now WriteFault = IsStormSummary (storm_summary seed) × Weathers (storm_system seed) × AppendsPrefix old new (storm_text (storm_summary seed)) × Rose before now
-AnswersStorm seed old new before now NoMemory = Keeps old new
+AnswersStorm seed old new before now NoMemory = Keeps old new × (now ≡ before)
 AnswersStorm seed old new before now Usage = ⊥
 AnswersStorm seed old new before now Unreadable = ⊥
 AnswersStorm seed old new before now Refused = ⊥

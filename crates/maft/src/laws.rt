@@ -1,15 +1,16 @@
 //! What holds of the runs that the program prints, over the definitions alone. Each function's promise is its law.
-ghost use Rattle.maft.specs.Laws.{SafeRunLaw, OrderLaw, OneTextLaw};
+ghost use Rattle.maft.specs.Laws.{SafeRunLaw, OrderLaw, OneTextLaw, AloneTextLaw};
 
 use capacities::laws as rooms;
 use cluster_step::laws;
 
-/// Each claimed period of an accepted scenario is safe, and its line says so exactly where it is claimed.
+/// Each claimed period of an accepted scenario keeps what is promised of it, and its line says `claim yes` exactly where
+/// it is claimed.
 pub fn safe_runs()
     ensures { SafeRunLaw }
 {
     laws::claims();
-    laws::safe();
+    laws::promises();
 }
 
 /// Scenarios that differ only in the node whose frames are delivered first have the same text.
@@ -25,4 +26,12 @@ pub fn one_text()
 {
     rooms::more_room();
     rooms::less_room();
+}
+
+/// Where the log of a node holds what a run delivers to it, the text of the log is that node's lines of the run's replay, but
+/// for the class.
+pub fn alone_text()
+    ensures { AloneTextLaw }
+{
+    node_alone::laws::alone();
 }

@@ -32,6 +32,9 @@
 //! is the one free answer; each other answer says its cause, and the bytes decide it where no device failed.
 #![tactic(auto)]
 
+ghost use Rattle.std.specs.Prelude.{◌≡◌, drop, IfOk};
+ghost use Rattle.std.specs.Vec.Iter.{into_iter_items};
+
 mod alone;
 mod form;
 pub mod laws;
@@ -44,13 +47,22 @@ pub use program::maft;
 pub use replay::{ReplayError, replay_at};
 use span_io::{StdSink, StdSource};
 pub use status::Status;
+use std::alloc::{AllocError, Global};
+use std::env::{self, Args};
 use std::process::ExitCode;
-use std::{env, io};
 
-/// The words after the program's name.
-fn words_of(rt: &HostRuntime) -> io::Result<Vec<String>> {
-    let mut words = Vec::new(rt.alloc());
-    for word in env::args(rt)?.skip(1) {
+/// The words after the first, which is the program's name.
+///
+/// # Errors
+///
+/// `AllocError` may come at any time: no word is left out.
+fn words_after_name(alloc: Global, arguments: Args) -> Result<Vec<String>, AllocError>
+    ensures { IfOk result (λ words. words.items ≡ drop 1 (into_iter_items arguments)) }
+{
+    let mut words = Vec::new(alloc);
+    let mut rest = arguments;
+    let _name = rest.next();
+    while let Some(word) = rest.next() {
         words.push(word)?;
     }
     Ok(words)
@@ -60,7 +72,10 @@ fn words_of(rt: &HostRuntime) -> io::Result<Vec<String>> {
 mod tests;
 
 fn main(rt: HostRuntime) -> ExitCode {
-    let Ok(words) = words_of(&rt) else {
+    let Ok(arguments) = env::args(&rt) else {
+        return ExitCode::from(1);
+    };
+    let Ok(words) = words_after_name(rt.alloc(), arguments) else {
         return ExitCode::from(1);
     };
     let mut source = StdSource::new(rt.stdin());

@@ -8,11 +8,12 @@ ghost use Rattle.maft.specs.declared.form.Reading.TheVariants.{Scenario as SpecS
 ghost use Rattle.maft.specs.declared.form.Command.{Command as SpecCommand};
 ghost use Rattle.maft.specs.declared.form.Command.TheVariants.{Read as SpecRead};
 ghost use Rattle.maft.specs.Words.{texts, Calls};
+ghost use Rattle.maft.specs.Run.{IsRun};
 ghost use Rattle.maft.specs.Answers.{limit, IsRefused, IsUnreadable, IsWhole, IsRead, IsUntouched, WritesSome, HasText, IsDecided, Answers, AnswersStorm};
 
 use crate::alone::write_log;
 use crate::form::command_of;
-use crate::replay::write_form;
+use crate::replay::{check_at, replay_at};
 use crate::{Command, Form, Reading, ReplayError, Status};
 use node_alone::Record;
 use run_print::{WriteFault, write_refused, write_storm};
@@ -25,6 +26,26 @@ const LIMIT: usize = 4_194_304;
 
 /// How many nodes a scenario that is read has room for.
 const CAPACITY: usize = 16;
+
+/// Runs a scenario, and writes the text that this form has of it.
+///
+/// # Errors
+///
+/// As `replay_at`.
+fn write_form<K: Sink>(
+    alloc: Global,
+    scenario: &Scenario<CAPACITY>,
+    form: Form,
+    sink: &mut K,
+) -> Result<(), ReplayError>
+    ensures { IsRun form scenario.now (K.written sink.old) (K.written sink.new) (K.faults sink.old) (K.faults sink.new) result }
+{
+    match form {
+        Form::Replay => replay_at(alloc, scenario, false, sink),
+        Form::Trace => replay_at(alloc, scenario, true, sink),
+        Form::Check => check_at(alloc, scenario, sink),
+    }
+}
 
 /// Answers the bytes of a scenario.
 fn answer_scenario<K: Sink>(alloc: Global, form: Form, bytes: &[u8], sink: &mut K) -> Status
@@ -107,8 +128,10 @@ pub fn maft<S: Source, K: Sink>(
     ensures read_fault { result ≡ Status.ReadFault →
         Rose (S.faults source.old) (S.faults source.new) × Keeps (K.written sink.old) (K.written sink.new) }
 
-    // A source whose count of faults changed is answered so, also where it gave bytes after the fault.
+    // A source whose count of faults changed is answered so, also where it gave bytes after the fault; and a sink, where
+    // it took bytes after the fault, but where the line of a refusal was to be written.
     ensures faults { (result ≡ Status.ReadFault) ⊎ (S.faults source.new ≡ S.faults source.old) }
+    ensures sink_faults { (result ≡ Status.WriteFault) ⊎ ((result ≡ Status.Refused) ⊎ (K.faults sink.new ≡ K.faults sink.old)) }
     ensures too_long { result ≡ Status.TooLong → IfSome (S.left source.old) (λ bytes. limit < length bytes)
         × GivenPast limit (S.given source.old) (S.given source.new) × Keeps (K.written sink.old) (K.written sink.new) }
     ensures unreadable { result ≡ Status.Unreadable → (bytes : List ℕ) × IsWhole (S.left source.old) (S.left source.new) bytes

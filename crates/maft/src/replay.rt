@@ -72,7 +72,7 @@ fn write_run<const N: usize, K: Sink>(
 /// # Errors
 ///
 /// As `replay_at`.
-pub(crate) fn write_form<const N: usize, K: Sink>(
+fn run_and_write<const N: usize, K: Sink>(
     alloc: Global,
     scenario: &Scenario<N>,
     form: Form,
@@ -109,5 +109,21 @@ pub fn replay_at<const N: usize, K: Sink>(
     ensures { IsRun (traced trace) scenario.now (K.written sink.old) (K.written sink.new) (K.faults sink.old) (K.faults sink.new) result }
 {
     let form = if trace { Form::Trace } else { Form::Replay };
-    write_form(alloc, scenario, form, sink)
+    run_and_write(alloc, scenario, form, sink)
+}
+
+/// Runs a scenario, and writes of each period its line, and then the end line.
+///
+/// # Errors
+///
+/// As `replay_at`.
+pub(crate) fn check_at<const N: usize, K: Sink>(
+    alloc: Global,
+    scenario: &Scenario<N>,
+    sink: &mut K,
+) -> Result<(), ReplayError>
+    requires { IsCapacity N }
+    ensures { IsRun Form.Check scenario.now (K.written sink.old) (K.written sink.new) (K.faults sink.old) (K.faults sink.new) result }
+{
+    run_and_write(alloc, scenario, Form::Check, sink)
 }

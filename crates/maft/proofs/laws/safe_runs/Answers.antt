@@ -3,6 +3,6 @@ use Rattle.maft.proofs.laws.safe_runs.Goals as goal
 
 pub returns : goal.returns
 returns c N sc is = record {
-  safe = λ p claim. c.safe.ensures N sc p is ((c.claims.ensures (system_of sc) p).claim.1 claim);
-  told = λ p. (c.claims.ensures (system_of sc) p).claim;
+  promised = λ p claim. c.promises.ensures N sc p is ((c.claims.ensures (system_of sc) sc.clock p).claim.1 claim);
+  told = λ p. (c.claims.ensures (system_of sc) sc.clock p).claim;
 }

@@ -1,6 +1,6 @@
 use Rattle.std.proofs.Common.{inl, inr, lit<}
 use Rattle.maft.proofs.Printed.{is_ok, other_error}
-use Rattle.maft.proofs.replay.write_form.Goals as goal
+use Rattle.maft.proofs.replay.run_and_write.Goals as goal
 
 pub drop-cluster-inside-requires-room-T-Destruct : goal.drop-cluster-inside-requires-room-T-Destruct
 drop-cluster-inside-requires-room-T-Destruct g c κs = elim c.requires [ inl e ↦ rw e (lit< tt) | inr e ↦ rw e (lit< tt) ]
@@ -11,6 +11,7 @@ drop-cluster-inside-requires-2-room-T-Destruct g c κs = elim c.requires [ inl e
 pub returns : goal.returns
 returns g c = record {
   written = c.in-Ok-write_run.ensures.whole;
+  faultless = c.in-Ok-write_run.ensures.faultless;
   safe = c.safe_runs.ensures g.row.N c.args.scenario.now c.periods-periods.ensures.scenario;
   write_fault = λ e. absurd (is_ok _ _ e);
   no_memory = λ e. absurd (is_ok _ _ e);
@@ -20,6 +21,7 @@ pub returns-in_default-write_run : goal.returns-in_default-write_run
 returns-in_default-write_run g c = record {
   safe = c.safe_runs.ensures g.row.N c.args.scenario.now c.periods-periods.ensures.scenario;
   written = tt;
+  faultless = tt;
   write_fault = λ e. (c.in_default-write_run.ensures.prefix, c.in_default-write_run.ensures.failed);
   no_memory = λ e. absurd (other_error e);
 }
