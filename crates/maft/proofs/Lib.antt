@@ -4,3 +4,4 @@ pub mod Rest
 pub mod Words
 pub mod Rooms
 pub mod Logs
+pub mod Gathering
