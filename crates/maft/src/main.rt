@@ -3,7 +3,11 @@
 //! n > 2a + 2s + b + m with a at most m, the sound nodes hold equal penalty counts, memberships and schedules; no node
 //! that was nonfaulty throughout is penalised or excluded; what every nonfaulty member reports of a node raises its count
 //! by the configured weights, up to the cap; and votes lie within the nonfaulty members' own values, at most half of their
-//! spread apart, rounded up. It holds of the run whose text was written.
+//! spread apart, rounded up. Besides, no sound node convicts a member that isn't asymmetric of telling different things, and
+//! each convicts one of which enough nonfaulty members heard something else than it did; votes of a task's copies lie
+//! within the values of the nonfaulty nodes of their group, as near as that, where the group keeps its own bound; and the
+//! clocks of sound nodes are, after the period, at most half as far apart as those of the nonfaulty members were, rounded
+//! up, and twice epsilon and drift. It holds of the run whose text was written.
 //!
 //! Premise by premise, with the file in which each word is defined:
 //!
@@ -11,7 +15,7 @@
 //! |---|---|
 //! | the words are `replay`, `replay trace` or `check`, and the answer is Done | `Calls` in specs/Words |
 //! | the bytes are all bytes of the source, where it tells them | `IsRead` and `IsWhole` in specs/Answers |
-//! | the text that was written is that of a scenario, whose claimed periods are safe | `HasText` in specs/Answers, `IsSafeRun` in specs/Run |
+//! | the text that was written is that of a scenario, whose claimed periods keep what is promised | `HasText` in specs/Answers, `IsSafeRun` in specs/Run, `Promises` in cluster_step/specs/Laws |
 //! | accepted scenario: the bytes are JSON text of parts that no rule refuses | `IsAccepted` in specs/Answers; in scenario/specs `Reads` of Reading, `parts_of` of Keys, `refusal` of Rules |
 //! | what the scenario says | `scenario_of` in scenario/specs/Given, `system_of` in scenario/specs/Scenario |
 //! | its run: what all nodes send, hear, settle and keep | `run` in protocol/specs/Run, `view` in protocol/specs/Cluster and View |
@@ -20,13 +24,16 @@
 //! | equal counts, memberships and schedules | `Equal` in protocol/specs/Safe |
 //! | neither penalised nor excluded | `Unpunished` there |
 //! | raises its count | `FullyCharged` there; of a nonfaulty member it needs a relay round |
-//! | votes | `VotesClose` there |
+//! | votes; votes of copies, their group | `VotesClose`, `CopiesClose`, `group_at` there |
+//! | convicts; enough nonfaulty members | `convicts` in equivocation/specs/Conviction; `ConvictsWell` in safety/specs/Convictions |
+//! | clocks; half as far apart | `offsets`, `ClocksNear` in protocol/specs/Clocks |
 //! | the text of the run | `run_text` in specs/Run; `period_record` in cluster_step/specs/Record; run_print/specs PeriodText, NodeText, TraceText |
 //! | a period's line says `claim yes` exactly where the period is claimed | `told` of `IsSafeRun` in specs/Run |
 //!
 //! For `storm SEED` nothing is read, and all periods of that storm are claimed and safe (`Weathers` in storm/specs/Laws). For
 //! `node I` the text is what the node believed by its log (`view_alone` in node_alone/specs/View); of it nothing is claimed
-//! but that, and law `alone` of node_alone: a log of what a run delivers has the run's beliefs.
+//! but that, and law `alone_text`: a log of what a run delivers has the text of that node's lines in the run's replay, but for
+//! the class.
 //!
 //! Nothing else is assumed. A source and a sink that don't tell their bytes are promised nothing of bytes. Want of memory
 //! is the one free answer; each other answer says its cause, and the bytes decide it where no device failed.
