@@ -1,5 +1,5 @@
 -- What is written of a period is its printed text.
-use Rattle.std.proofs.Common.{◌≡◌, ℕ, refl, Result, Ok, Err}
+use Rattle.std.proofs.Common.{◌≡◌, ℕ, refl, ap, ◌∙◌, Result, Ok, Err}
 use Rattle.fault_classes.specs.Plan.{Plan}
 use Rattle.scenario.specs.Scenario.{ScenarioView, system_of}
 use Rattle.cluster_step.specs.Record.{PeriodView, period_record}
@@ -16,10 +16,14 @@ use Rattle.maft.specs.declared.replay.ReplayError.TheVariants.{WriteFault, NoMem
 use Rattle.maft.specs.Run.{printed, shown_text}
 use Rattle.maft.specs.Alone.{log_printed}
 
+same_shown : (f form : Form) (plan q : Plan) (t u : PeriodView) → form ≡ f → plan ≡ q → t ≡ u → shown_text f plan t ≡ shown_text form q u
+same_shown f form plan q t u e g h = rw (e, g, h) refl
+
 pub printed_is : {N : ℕ} (form f : Form) (sc run : ScenarioView N) (plan : Plan) (t : PeriodView) (p : ℕ)
     → form ≡ f → run ≡ sc → plan ≡ sc.plan → t ≡ period_record (system_of run) run.clock p → shown_text f plan t ≡ printed form sc p
 unfolding printed
-printed_is form f sc run plan t p e same g h = rw (e, g, h, same) refl
+printed_is {N} form f sc run plan t p e same g h =
+    same_shown f form plan sc.plan t (period_record (system_of sc) sc.clock p) e g (h ∙ ap (λ (s : ScenarioView N). period_record (system_of s) s.clock p) same)
 
 -- what is Ok is no error
 pub is_ok : {T E : Type 0} (x : T) (e : E) → ◌≡◌ {A = Result T E} (Ok x) (Err e) → ⊥
