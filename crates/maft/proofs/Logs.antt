@@ -1,5 +1,5 @@
 -- The text of a log is that of its node's lines in the replay of the run.
-use Rattle.std.proofs.Common.{◌≡◌, ℕ, zero, suc, ◌+◌, ◌<◌, ◌≤◌, List, [], ◌∷◌, ◌++◌, Option, None, Some, length, map, arith, refl, sym, ap, ap₂, ◌∙◌}
+use Rattle.std.proofs.Common.{◌≡◌, ℕ, zero, suc, ◌+◌, ◌<◌, ◌≤◌, List, ◌++◌, Option, None, Some, map, arith, refl, sym, ap, ap₂, ◌∙◌}
 use Rattle.std.specs.Prelude.{codes, decimal, slice_get, slice_index_or}
 use Rattle.std.specs.List.{flat_map, range_with_len}
 use Rattle.std.proofs.lemmas.Option.{slice_get-get_or}
@@ -13,7 +13,6 @@ use Rattle.node_core.specs.Stages.{outcome_of}
 use Rattle.scenario.specs.Scenario.{ScenarioView, system_of}
 use Rattle.cluster_step.specs.Record.{PeriodView}
 use Rattle.run_print.specs.Text.{class_text}
-use Rattle.run_print.specs.NodeText.{node_text}
 use Rattle.run_print.specs.PeriodText.{recorded_text, alone_text, end_text}
 use Rattle.node_alone.specs.Log.{RecordView}
 use Rattle.node_alone.specs.View.{view_alone}
