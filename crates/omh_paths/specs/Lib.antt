@@ -4,6 +4,7 @@ pub mod Paths
 pub mod MajorityLaws
 pub mod PathLaws
 pub mod PathLists
+pub mod Tables
 pub mod Layout
 pub mod MemberLaws
 pub use Rattle.node_grid.specs.Count

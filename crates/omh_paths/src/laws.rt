@@ -3,6 +3,7 @@
 ghost use Rattle.omh_paths.specs.Wrapped.{IsExact};
 ghost use Rattle.omh_paths.specs.Majority.{MajorityLaw};
 ghost use Rattle.omh_paths.specs.Paths.{PathsLaw, RanksLaw};
+ghost use Rattle.omh_paths.specs.Tables.{TablesLaw};
 
 /// What the majority is: the value at more than half of the places that hold no error, or `Fault(1)`.
 pub fn majorities<V: Copy + Eq>()
@@ -18,4 +19,9 @@ pub fn paths()
 /// The place of a path in that list and the path at a place undo each other.
 pub fn ranks()
     ensures { RanksLaw }
+{}
+
+/// The paths without one member are those of all paths that it isn't on, in the same order.
+pub fn tables()
+    ensures { TablesLaw }
 {}
