@@ -15,8 +15,6 @@ mod line;
 mod plan;
 mod rules;
 mod standing;
-#[cfg(test)]
-mod tests;
 
 pub use budget::Budget;
 pub use effect::Effect;

@@ -75,9 +75,6 @@ fn words_after_name(alloc: Global, arguments: Args) -> Result<Vec<String>, Alloc
     Ok(words)
 }
 
-#[cfg(test)]
-mod tests;
-
 fn main(rt: HostRuntime) -> ExitCode {
     let Ok(arguments) = env::args(&rt) else {
         return ExitCode::from(1);
