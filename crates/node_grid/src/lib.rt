@@ -52,7 +52,7 @@ mod tests {
         set.put(15);
         let both = set.union(&NodeSet::full(2));
         assert!(rt; both.len() == 4 && both.place(15) == 3 && both.place(2) == 2);
-        assert!(rt; both.nth(2) == Some(3) && both.nth(4) == None);
+        assert!(rt; both.nth(2) == Some(3) && both.nth(4) == None && both.at(2) == 3);
         assert_eq!(rt; both.minus(&NodeSet::full(1)), both.rest());
     }
 

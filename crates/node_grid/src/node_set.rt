@@ -1,4 +1,4 @@
-ghost use Rattle.std.specs.Prelude.{◌≡◌, ℕ, ◌+◌, ◌^◌, ◌<◌, ◌≤◌, List, [], ◌∷◌, ◌++◌, length, slice_get, drop, IfSome, IsTrue, ◌↔◌, ◌==◌, All};
+ghost use Rattle.std.specs.Prelude.{◌≡◌, ℕ, ◌+◌, ◌^◌, ◌<◌, ◌≤◌, List, [], ◌∷◌, ◌++◌, length, slice_get, slice_index, drop, IfSome, IsTrue, ◌↔◌, ◌==◌, All};
 ghost use Rattle.node_grid.specs.NodeSet.{ids_below, has_id, with_id, without_id, union_of, minus_of, place_of, bits_set, mask_of, IsIdSet};
 ghost use Rattle.std.specs.Cmp.Lexicographic.{pointwise};
 ghost use Rattle.std.specs.Cmp.Rules.{comparing};
@@ -127,6 +127,14 @@ impl<const N: usize> NodeSet<N> {
             left = left.rest();
         }
         left.least()
+    }
+
+    /// The member at a place, in ascending order; there must be more members than that.
+    pub fn at(&self, place: u8) -> u8
+        requires { place < length self.now }
+        ensures { result ≡ slice_index self.now place }
+    {
+        self.nth(place).unwrap()
     }
 
     /// The number of members.
