@@ -9,9 +9,6 @@ ghost use Rattle.fault_classes.specs.Line.{effect_at};
 ghost use Rattle.fault_classes.specs.Plan.{slot_count};
 ghost use Rattle.fault_link.specs.Arrival.{delivered_of, patched};
 
-#[cfg(test)]
-mod tests;
-
 use fault_classes::{Effect, FaultPlan};
 
 /// The tick at which a frame arrives, where no line sets another one.

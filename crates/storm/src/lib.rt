@@ -11,6 +11,3 @@ mod spell;
 
 pub use making::make;
 pub use spell::Spell;
-
-#[cfg(test)]
-mod tests;
