@@ -56,49 +56,4 @@ mod tests {
         let none: [Wrapped<u8>; 0] = [];
         assert_eq!(rt; majority(&none), Wrapped::Fault(1));
     }
-
-    // Whether the path is the one at a place among those of sixteen nodes.
-    fn stands_at(path: &Path, place: usize) -> bool {
-        let all: NodeSet<16> = NodeSet::full(16);
-        let len = path.len();
-        if place >= count_paths(16, len) {
-            return false;
-        }
-        let found = unrank(&all, len, place);
-        found == *path && rank(&all, &found) == place
-    }
-
-    #[test]
-    fn every_path_of_sixteen_nodes(rt: HostRuntime) {
-        let mut places = [0usize; 4];
-        for a in 0..16u8 {
-            let one = Path::root(a);
-            assert!(rt; stands_at(&one, places[0]));
-            places[0] = places[0].wrapping_add(1);
-            for b in 0..16u8 {
-                if one.has(b) {
-                    continue;
-                }
-                let two = one.then(b);
-                assert!(rt; stands_at(&two, places[1]));
-                places[1] = places[1].wrapping_add(1);
-                for c in 0..16u8 {
-                    if two.has(c) {
-                        continue;
-                    }
-                    let three = two.then(c);
-                    assert!(rt; stands_at(&three, places[2]));
-                    places[2] = places[2].wrapping_add(1);
-                    for d in 0..16u8 {
-                        if three.has(d) {
-                            continue;
-                        }
-                        assert!(rt; stands_at(&three.then(d), places[3]));
-                        places[3] = places[3].wrapping_add(1);
-                    }
-                }
-            }
-        }
-        assert!(rt; places == [16, 240, 3_360, 43_680]);
-    }
 }
