@@ -1,0 +1,2 @@
+mod EchoLaws
+mod EchoesKept
