@@ -14,7 +14,7 @@ use Rattle.fault_classes.specs.Line.{effect_at}
 use Rattle.fault_classes.specs.Plan.{Plan, slot_count, nodes_of, restarts_at, each_in_slot, each_frame, is_clean, is_symmetric_at, steady, recovers_in, sound_before, class_of}
 use Rattle.fault_classes.specs.ClassLaws.{nonfaulty_is, sound_is, steady_if, joins_if, benign_if, symmetric_if, four_parts}
 use Rattle.fault_classes.specs.Laws.{CleanLaw, BenignLaw, SymmetricLaw, RecoveryLaw, SoundnessLaw, is_stray}
-use Rattle.fault_classes.proofs.Loops.{not_all_ids}
+use Rattle.node_grid.specs.NodeSetLaws.{not_all_ids}
 use Rattle.fault_classes.proofs.Sets.{count_same}
 
 -- what passes for all numbers passes for each

@@ -3,27 +3,18 @@ use Rattle.std.proofs.Common.{◌≡◌, ◌≢◌, ℕ, zero, suc, ◌+◌, ◌
 use Rattle.std.specs.Prelude.{◌==◌}
 use Rattle.std.specs.List.{list_all, range_with_len}
 use Rattle.std.specs.Option.{option_map, is_some}
-use Rattle.std.proofs.lemmas.Bool.{and_from, and_left, and_right, or_cases, or_left, or_right, cases_eq, ne_eqb, or_from}
+use Rattle.std.proofs.lemmas.Bool.{and_from, or_cases, or_left, or_right, ne_eqb, or_from}
 use Rattle.node_grid.specs.NodeSet.{ids_below}
 use Rattle.fault_classes.specs.Change.{Change, is_untouched, same_effect}
 use Rattle.fault_classes.specs.ChangeLaws.{same_effect-refl, same_effect_is}
+use Rattle.node_grid.specs.NodeSetLaws.{not_all_ids}
 
 all_range : (f : ℕ → Bool) (a n : ℕ) → ((k : ℕ) → a ≤ k → k < a + n → f k ≡ true) → list_all f (range_with_len a n) ≡ true
 all_range f a zero h = refl
 all_range f a (suc n) h = and_from _ _ (h a (omega arith) (omega arith)) (all_range f (a + 1) n (λ k l u. h k (omega arith) (omega arith)))
 
-not_all_range : (f : ℕ → Bool) (a n k : ℕ) → a ≤ k → k < a + n → f k ≡ false → list_all f (range_with_len a n) ≡ false
-not_all_range f a zero k l u fails = absurd (omega arith)
-not_all_range f a (suc n) k l u fails = elim (cases_eq k a) [
-  | inl e ↦ and_left (f a) _ (ap f (sym e) ∙ fails)
-  | inr ne ↦ and_right (f a) _ (not_all_range f (a + 1) n k (omega arith) (omega arith) fails)
-]
-
 pub all_ids : (f : ℕ → Bool) (n : ℕ) → ((k : ℕ) → k < n → f k ≡ true) → list_all f (ids_below n) ≡ true
 all_ids f n h = all_range f 0 n (λ k l u. h k (omega arith))
-
-pub not_all_ids : (f : ℕ → Bool) (n k : ℕ) → k < n → f k ≡ false → list_all f (ids_below n) ≡ false
-not_all_ids f n k u fails = not_all_range f 0 n k (omega arith) (omega arith) fails
 
 pub touched : {X : Type 0} (f : X → Change) (o : Option X) (e : Option Change) → option_map f o ≡ e → is_some o ≡ true → is_untouched e ≡ false
 touched f None e h s = cc

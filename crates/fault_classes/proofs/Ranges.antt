@@ -1,6 +1,6 @@
 -- What it says of a line that it is in range, and where the cells of its frames lie.
 use Rattle.node_grid.specs.ListLaws.{all_at}
-use Rattle.std.proofs.Common.{◌≡◌, ℕ, ◌+◌, ◌*◌, ◌^◌, ◌<◌, ◌≤◌, true, false, List, inl, inr, arith, ltb-true, leb-true}
+use Rattle.std.proofs.Common.{◌≡◌, ℕ, ◌+◌, ◌*◌, ◌^◌, ◌<◌, ◌≤◌, true, false, List, arith, ltb-true, leb-true}
 use Rattle.std.specs.Prelude.{nat_lt}
 use Rattle.std.proofs.lemmas.Bool.{and_parts, not-true}
 use Rattle.std.proofs.lemmas.Nat.{mul-add-lt}
@@ -9,7 +9,7 @@ use Rattle.node_grid.specs.NodeSet.{has_id}
 use Rattle.fault_classes.specs.Line.{Line}
 use Rattle.fault_classes.specs.Rules.{is_line, are_below, is_change}
 use Rattle.fault_classes.specs.Cells.{IsShape}
-use Rattle.node_grid.specs.Capacity.{IsCapacity}
+use Rattle.node_grid.specs.CapacityLaws.{capacity-le}
 
 pub below_from : (n : ℕ) (xs : List ℕ) (k : ℕ) → are_below n xs ≡ true → has_id xs k ≡ true → k < n
 below_from n xs k h on = ltb-true k n (all_at (λ x. nat_lt x n) xs k (and_parts _ _ h).1 on)
@@ -61,9 +61,5 @@ whole_small nodes slots periods a b d =
     let z : periods * nodes * slots * nodes ≤ 1024 * 16 * 10 * 16 = mul-le-mul y a in
     omega (arith, z)
 
-pub at_most_16 : (n : ℕ) → IsCapacity n → n ≤ 16
-at_most_16 n (inl e) = omega arith
-at_most_16 n (inr e) = omega arith
-
 pub few_nodes : (n nodes slots periods : ℕ) → IsShape n nodes slots periods → nodes ≤ 16
-few_nodes n nodes slots periods h = omega (arith, at_most_16 n h.capacity, h.few_nodes)
+few_nodes n nodes slots periods h = omega (arith, capacity-le n h.capacity, h.few_nodes)

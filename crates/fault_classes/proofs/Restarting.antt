@@ -10,6 +10,7 @@ use Rattle.fault_classes.specs.declared.line.Restart.{Restart}
 use Rattle.fault_classes.specs.Plan.{is_restart_of}
 use Rattle.fault_classes.specs.Rules.{is_restart, comes_after, first_bad_restart}
 use Rattle.fault_classes.specs.Index.{IsRestarting}
+use Rattle.node_grid.specs.ListLaws.{eqb_sym}
 
 first_good : (nodes periods : ℕ) (before : Option Restart) (k : ℕ) (r : Restart) (rs : List Restart) → first_bad_restart nodes periods before k (r ∷ rs) ≡ None
     → (is_restart nodes periods r ≡ true) × (first_bad_restart nodes periods (Some r) (k + 1) rs ≡ None)
@@ -47,12 +48,6 @@ restarting_push n periods xs r sets new h within e = record {
   ];
 }
   where
-    turned : (a b : ℕ) → (a == b) ≡ (b == a)
-    turned a b = elim (cases_eq a b) [
-      | inl e ↦ eq-eqb a b e ∙ sym (eq-eqb b a (sym e))
-      | inr ne ↦ ne_eqb a b ne ∙ sym (ne_eqb b a (λ e. ne (sym e)))
-    ]
-
     swap : (a b : Bool) → (a || b) ≡ (b || (a && true || false))
     swap true true = refl
     swap true false = refl
@@ -61,7 +56,7 @@ restarting_push n periods xs r sets new h within e = record {
 
     joins : (k : ℕ) → (k == r.node || list_any (is_restart_of k r.period) xs) ≡ list_any (is_restart_of k r.period) (xs ++ r ∷ [])
     joins k =
-        let t : (k == r.node) ≡ (r.node == k) = turned k r.node in
+        let t : (k == r.node) ≡ (r.node == k) = eqb_sym k r.node in
         let z : (r.period == r.period) ≡ true = eq-eqb r.period r.period refl in
         rw (t, list_any-append (is_restart_of k r.period) xs (r ∷ []), z) (swap (r.node == k) (list_any (is_restart_of k r.period) xs))
 

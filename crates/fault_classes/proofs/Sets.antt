@@ -1,37 +1,10 @@
 -- Sets of the nodes that pass a test, and how many and which pass it.
-use Rattle.std.proofs.Common.{◌≡◌, ℕ, zero, suc, ◌+◌, ◌<◌, ◌≤◌, Bool, true, false, ◌&&◌, List, [], ◌∷◌, length, slice_get, refl, sym, ap, ap₂, ◌∙◌, inl, inr, arith}
-use Rattle.std.specs.Prelude.{nat_lt}
+use Rattle.std.proofs.Common.{◌≡◌, ℕ, zero, suc, ◌+◌, ◌<◌, ◌≤◌, Bool, true, false, List, [], ◌∷◌, length, slice_get, refl, sym, ap, ap₂, ◌∙◌, inl, inr, arith}
 use Rattle.std.specs.List.{filter, find, range_with_len}
-use Rattle.std.proofs.lemmas.Bool.{cases_Bool, lt-ltb, le-ltb}
+use Rattle.std.proofs.lemmas.Bool.{cases_Bool}
 use Rattle.node_grid.specs.NodeSet.{has_id, with_id, ids_where, ids_where_below, ids_below}
-use Rattle.node_grid.specs.NodeSetLaws.{filter_none, filter_every, has-filter, ids_where_more_yes, ids_where_more_no}
+use Rattle.node_grid.specs.NodeSetLaws.{filter_every, has-filter, ids_where_more_yes, ids_where_more_no, ids_where-within}
 use Rattle.node_grid.specs.Count.{bit, count}
-
-cut_range : (f : ℕ → Bool) (a n m : ℕ) → filter (λ k. nat_lt k (a + n) && f k) (range_with_len a (n + m)) ≡ filter f (range_with_len a n)
-cut_range f a zero m = filter_none (λ k. nat_lt k (a + 0) && f k) a (0 + m) (λ k l u. rw (le-ltb k (a + 0) (omega arith)) refl)
-cut_range f a (suc n) m =
-    let long : suc n + m ≡ suc (n + m) = omega arith in
-    let end : a + suc n ≡ a + 1 + n = omega arith in
-    let low : nat_lt a (a + suc n) ≡ true = lt-ltb a (a + suc n) (omega arith) in
-    let rest : filter (λ k. nat_lt k (a + suc n) && f k) (range_with_len (a + 1) (n + m)) ≡ filter f (range_with_len (a + 1) n) =
-    ap (λ e. filter (λ k. nat_lt k e && f k) (range_with_len (a + 1) (n + m))) end ∙ cut_range f (a + 1) n m
-    in
-    rw (long, low, rest) refl
-
-pub below_all : (f : ℕ → Bool) (n cap : ℕ) → n ≤ cap → ids_where_below f cap n ≡ ids_where f n
-below_all f n cap h =
-    let rest : (m : ℕ) × (cap ≡ n + m) = more n cap h in
-    ap (λ c. filter (λ k. nat_lt k n && f k) (range_with_len 0 c)) rest.1
-    ∙ ap (λ e. filter (λ k. nat_lt k e && f k) (range_with_len 0 (n + rest.0))) (zero_add n)
-    ∙ cut_range f 0 n rest.0
-  where
-    more : (n cap : ℕ) → n ≤ cap → (m : ℕ) × (cap ≡ n + m)
-    more zero cap h = (cap, omega arith)
-    more (suc n) zero h = absurd (omega arith)
-    more (suc n) (suc cap) h = let r = more n cap (omega arith) in (r.0, omega (arith, r.1))
-
-    zero_add : (n : ℕ) → n ≡ 0 + n
-    zero_add n = omega arith
 
 -- a loop that builds such a set
 pub where_yes : (f : ℕ → Bool) (cap k : ℕ) (found new : List ℕ) → found ≡ ids_where_below f cap k → f k ≡ true → new ≡ with_id cap found k → new ≡ ids_where_below f cap (k + 1)
@@ -41,7 +14,7 @@ pub where_no : (f : ℕ → Bool) (cap k : ℕ) (found : List ℕ) → found ≡
 where_no f cap k found h n = h ∙ sym (ids_where_more_no f cap k n)
 
 pub where_end : (f : ℕ → Bool) (cap n k : ℕ) (found : List ℕ) → found ≡ ids_where_below f cap k → n ≤ cap → k ≡ n → found ≡ ids_where f n
-where_end f cap n k found h few e = h ∙ ap (ids_where_below f cap) e ∙ below_all f n cap few
+where_end f cap n k found h few e = h ∙ ap (ids_where_below f cap) e ∙ ids_where-within f cap n few
 
 pub has_where : (f : ℕ → Bool) (n k : ℕ) → k < n → has_id (ids_where f n) k ≡ f k
 has_where f n k h = has-filter f n k h
@@ -62,19 +35,6 @@ length_filter f (x ∷ xs) = elim (cases_Bool (f x)) [
 
 pub length_where : (f : ℕ → Bool) (n : ℕ) → length (ids_where f n) ≡ count f (ids_below n)
 length_where f n = length_filter f (ids_below n)
-
-count_last : (f : ℕ → Bool) (a n : ℕ) → count f (range_with_len a (n + 1)) ≡ count f (range_with_len a n) + bit (f (a + n))
-count_last f a zero = let e : a + 0 ≡ a = omega arith in rw e (omega arith)
-count_last f a (suc n) =
-    let long : suc n + 1 ≡ suc (n + 1) = omega arith in
-    let end : a + suc n ≡ a + 1 + n = omega arith in
-    rw (long, end) (omega (arith, count_last f (a + 1) n))
-
-pub count_more : (f : ℕ → Bool) (n : ℕ) → count f (ids_below (n + 1)) ≡ count f (ids_below n) + bit (f n)
-count_more f n = count_last f 0 n ∙ ap (λ k. count f (ids_below n) + bit (f k)) (zero_add n)
-  where
-    zero_add : (n : ℕ) → 0 + n ≡ n
-    zero_add n = omega arith
 
 count_range : (f g : ℕ → Bool) (a n : ℕ) → ((k : ℕ) → a ≤ k → k < a + n → f k ≡ g k) → count f (range_with_len a n) ≡ count g (range_with_len a n)
 count_range f g a zero h = refl

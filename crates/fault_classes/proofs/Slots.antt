@@ -13,6 +13,7 @@ use Rattle.node_grid.specs.NodeSetLaws.{mask_of-bits_set, has-bits_set, bits_set
 use Rattle.fault_classes.specs.Line.{slots_in}
 use Rattle.fault_classes.specs.Rules.{are_below}
 use Rattle.node_grid.specs.ListLaws.{all_at}
+use Rattle.std.proofs.Math.Bool.{and-true}
 
 -- all that a filter of a range keeps
 all_kept : (p f : ℕ → Bool) (a n : ℕ) → ((k : ℕ) → a ≤ k → k < a + n → p k ≡ true → f k ≡ true) → list_all f (filter p (range_with_len a n)) ≡ true
@@ -76,8 +77,4 @@ slots_low k mask h = ap₂ (λ a b. a && b) (some_bits 16 mask h) (below_bits 16
 pub slots_wide : (k mask : ℕ) → 16 ≤ k → mask < 2 ^ 16 → are_below k (slots_in mask) ≡ not (mask == 0)
 slots_wide k mask wide h =
     let z : (mask / 2 ^ k == 0) ≡ true = eq-eqb (mask / 2 ^ k) 0 (div-eq_of_lt (within_bits 16 k mask wide h)) in
-    slots_low k mask h ∙ rw z (and_true (not (mask == 0)))
-  where
-    and_true : (b : Bool) → (b && true) ≡ b
-    and_true true = refl
-    and_true false = refl
+    slots_low k mask h ∙ rw z (and-true (not (mask == 0)))

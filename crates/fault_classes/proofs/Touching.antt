@@ -8,6 +8,7 @@ use Rattle.node_grid.specs.NodeSetLaws.{has_bit}
 use Rattle.fault_classes.specs.Line.{Line, slots_in}
 use Rattle.fault_classes.specs.Cells.{in_row, in_block, block_of, slot_of, touches_cell}
 use Rattle.fault_classes.proofs.Marking.{digits_below, digits_none, digits_yes, digits_no, digits_all, digits_here}
+use Rattle.std.proofs.Math.Bool.{and-true}
 
 over_and : (a b c : Bool) → ((a || b) && c) ≡ ((a && c) || (b && c))
 over_and true true true = refl
@@ -88,10 +89,6 @@ module _ (nodes slots : ℕ) (l : Line) where
       or_false true = refl
       or_false false = refl
 
-      and_true : (b : Bool) → (b && true) ≡ b
-      and_true true = refl
-      and_true false = refl
-
       parts : (d : ℕ) (b e : Bool) → (d ≡ q * nodes + l.from) ⊎ (d ≢ q * nodes + l.from)
           → (l.from == d % nodes && (b && (e && (nat_le l.first (d / nodes) && nat_lt (d / nodes) (q + 1)))))
           ≡ ((l.from == d % nodes && (b && (e && (nat_le l.first (d / nodes) && nat_lt (d / nodes) q)))) || ((d == q * nodes + l.from && e) && b))
@@ -103,7 +100,7 @@ module _ (nodes slots : ℕ) (l : Line) where
           let lo : nat_le l.first q ≡ true = grind arith in
           let hi : nat_lt q (q + 1) ≡ true = grind arith in
           let not_yet : nat_lt q q ≡ false = grind arith in
-          rw (p, r, t, z, lo, hi, not_yet, and_true) (here b e)
+          rw (p, r, t, z, lo, hi, not_yet, and-true) (here b e)
       parts d b e (inr ne) =
           let t : (d == q * nodes + l.from) ≡ false = ne_eqb d (q * nodes + l.from) ne in
           rw t (apart (cases_eq (d % nodes) l.from) (cases_eq (d / nodes) q))

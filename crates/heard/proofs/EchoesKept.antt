@@ -8,7 +8,8 @@ use Rattle.node_grid.specs.NodeSet.{has_id}
 use Rattle.node_grid.specs.Count.{Distinct}
 use Rattle.omh_paths.specs.Wrapped.{wrapped}
 use Rattle.omh_paths.specs.Paths.{IsPath}
-use Rattle.omh_paths.specs.PathLaws.{has_push, off_longer}
+use Rattle.node_grid.specs.ListLaws.{has_push}
+use Rattle.omh_paths.specs.PathLaws.{off_longer}
 use Rattle.omh_paths.specs.PathLists.{has-of-without}
 use Rattle.heard.specs.Keep.{Parts, set_at, root, base, cell, place_of, first_node, wrapped_times, IsStored}
 use Rattle.heard.specs.Places.{on-at, front-last, front-listed}

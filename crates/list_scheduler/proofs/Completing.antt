@@ -1,7 +1,7 @@
 -- Completion goes member by member.
-use Rattle.std.proofs.Common.{◌≡◌, ℕ, ◌<◌, Bool, true, false, ◌≤◌, List, [], ◌∷◌, ◌++◌, length, set, Option, None, Some, refl, sym, ap, ap₂, ◌∙◌, inl, inr, arith, eqb-true, eq-eqb, ne_eqb}
+use Rattle.std.proofs.Common.{◌≡◌, ℕ, ◌<◌, Bool, false, ◌≤◌, List, [], ◌∷◌, ◌++◌, length, set, Option, None, Some, refl, sym, ap, ap₂, ◌∙◌, inl, inr, arith, eqb-true, eq-eqb, ne_eqb}
 use Rattle.std.specs.Prelude.{◌==◌, if◌then◌else◌, replicate}
-use Rattle.std.proofs.lemmas.Bool.{cases_Bool, cases_lt, cond-true, cond-false}
+use Rattle.std.proofs.lemmas.Bool.{cases_Bool, cases_lt, cond-true, cond-false, eqb-false}
 use Rattle.node_grid.specs.NodeSet.{has_id}
 use Rattle.omh_paths.specs.declared.wrapped.Wrapped.{Wrapped}
 use Rattle.task_graph.specs.Graph.{GraphView}
@@ -11,7 +11,6 @@ use Rattle.list_scheduler.specs.Copies.{CopyTable, copy_at, table, IsTable, with
 use Rattle.list_scheduler.specs.declared.copies.CopyState.TheVariants.{Idle, Running, Passed, Failed}
 use Rattle.list_scheduler.specs.CopyLaws.{at_table, table_same, put_copy, works_same, works_runs, works_none, map_range, map_same, set_map_range}
 use Rattle.list_scheduler.specs.ScheduleLaws.{runs_listed}
-use Rattle.node_grid.specs.Capacity.{IsCapacity}
 use Rattle.list_scheduler.specs.Schedule.{claim_of, no_verdict, verdict_at, verdict, worked_on, completed_at, completed}
 use Rattle.list_scheduler.specs.OneNode.{completed_by, verdicts}
 use Rattle.list_scheduler.proofs.Members.{IsNext, has_this, has_other}
@@ -40,14 +39,11 @@ completed_more n graph ys old c new settled node claim is next says step = step 
       cond-true (q == node) _ _ on
       ∙ rw (e, mine, work, says) (sym (cond-true (has_id (ys ++ node ∷ []) node) _ _ (has_this ys node)))
   | inr off ↦
-      let ne : (node == q) ≡ false = ne_eqb node q (λ d. same_not q node off (sym d)) in
+      let ne : (node == q) ≡ false = ne_eqb node q (λ d. eqb-false q node off (sym d)) in
       cond-false (q == node) _ _ off
       ∙ ap (λ (x : CopyTable). copy_at x t q) is ∙ at_table n (completed graph ys old settled) t q ht hq
       ∙ completed_told graph ys (ys ++ node ∷ []) old settled t q (sym (has_other ys node q ne))
 ])
-  where
-    same_not : (a b : ℕ) → (a == b) ≡ false → a ≡ b → ⊥
-    same_not a b f e = let z : (a == b) ≡ true = eq-eqb a b e in cc
 
 -- ---- verdicts
 
@@ -67,12 +63,9 @@ verdicts_more n graph ys old c settled node claim vs v is next says found so_far
           let e : q ≡ node = eqb-true q node on in
           cond-true (q == node) _ _ on ∙ this ∙ rw e (sym (cond-true (has_id (ys ++ node ∷ []) node) _ _ (has_this ys node)))
       | inr off ↦
-          let ne : (node == q) ≡ false = ne_eqb node q (λ d. same_not q node off (sym d)) in
+          let ne : (node == q) ≡ false = ne_eqb node q (λ d. eqb-false q node off (sym d)) in
           cond-false (q == node) _ _ off ∙ verdict_told graph ys (ys ++ node ∷ []) old settled q (sym (has_other ys node q ne))
     ])
-  where
-    same_not : (a b : ℕ) → (a == b) ≡ false → a ≡ b → ⊥
-    same_not a b f e = let z : (a == b) ≡ true = eq-eqb a b e in cc
 
 -- ---- one member's part
 
@@ -119,9 +112,6 @@ works_within graph copies q is none = works_none copies q (λ u h. elim (cases_l
     past u m Passed e = refl
     past u m Failed e = refl
     past u m (Running k) e = absurd (omega (arith, runs_listed graph copies u q k is e))
-
-pub capacity_few : (n : ℕ) → IsCapacity n → n ≤ 16
-capacity_few n h = elim h [ inl e ↦ omega arith | inr e ↦ omega arith ]
 
 pub works_few : (copies : CopyTable) (q t e : ℕ) → works copies q ≡ Some (t, e) → t < 32
 works_few copies q t e h = (works_runs copies q (t, e) h).1

@@ -1,8 +1,10 @@
 -- Loops over the members of a set: what was yielded, and that the next member is a new one.
-use Rattle.std.proofs.Common.{cond, ◌≡◌, ℕ, zero, suc, ◌+◌, ◌<◌, ◌≤◌, Bool, true, false, ◌||◌, List, [], ◌∷◌, ◌++◌, refl, sym, ap, ◌∙◌, arith, eq-eqb, ne_eqb, append_assoc}
+use Rattle.std.proofs.Common.{cond, ◌≡◌, ℕ, zero, suc, ◌+◌, ◌<◌, ◌≤◌, Bool, true, false, List, [], ◌∷◌, ◌++◌, refl, sym, ◌∙◌, arith, eq-eqb, ne_eqb, append_assoc}
 use Rattle.std.specs.Prelude.{◌==◌}
 use Rattle.std.specs.List.{filter, range_with_len}
 use Rattle.node_grid.specs.NodeSet.{has_id, IsIdSet}
+use Rattle.std.proofs.Math.Bool.{or-false, or-true}
+use Rattle.node_grid.specs.ListLaws.{has_push}
 
 -- the next member of a set, where these were yielded
 pub record IsNext (n : ℕ) (yielded : List ℕ) (node : ℕ) : Type 0 where
@@ -39,31 +41,11 @@ next_member n members ys x zs set split =
     record { fresh = r.0; within = omega arith }
 
 -- what the list with one more has
-pub has_one_more : (ys : List ℕ) (x q : ℕ) → has_id (ys ++ x ∷ []) q ≡ (has_id ys q || (x == q))
-has_one_more [] x q = or_false (x == q)
-  where
-    or_false : (b : Bool) → (b || false) ≡ b
-    or_false true = refl
-    or_false false = refl
-has_one_more (y ∷ ys) x q = ap (λ b. (y == q) || b) (has_one_more ys x q) ∙ regroup (y == q) (has_id ys q) (x == q)
-  where
-    regroup : (a b c : Bool) → (a || (b || c)) ≡ ((a || b) || c)
-    regroup true b c = refl
-    regroup false b c = refl
-
 pub has_this : (ys : List ℕ) (x : ℕ) → has_id (ys ++ x ∷ []) x ≡ true
-has_this ys x = has_one_more ys x x ∙ rw (eq-eqb x x refl) (or_true (has_id ys x))
-  where
-    or_true : (b : Bool) → (b || true) ≡ true
-    or_true true = refl
-    or_true false = refl
+has_this ys x = has_push ys x x ∙ rw (eq-eqb x x refl) (or-true (has_id ys x))
 
 pub has_other : (ys : List ℕ) (x q : ℕ) → (x == q) ≡ false → has_id (ys ++ x ∷ []) q ≡ has_id ys q
-has_other ys x q ne = has_one_more ys x q ∙ rw ne (or_false (has_id ys q))
-  where
-    or_false : (b : Bool) → (b || false) ≡ b
-    or_false true = refl
-    or_false false = refl
+has_other ys x q ne = has_push ys x q ∙ rw ne (or-false (has_id ys q))
 
 -- the split of a set after one more step
 pub one_more : (members ys : List ℕ) (x : ℕ) (zs : List ℕ) → members ≡ ys ++ x ∷ zs → members ≡ (ys ++ x ∷ []) ++ zs

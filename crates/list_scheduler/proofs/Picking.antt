@@ -16,6 +16,8 @@ use Rattle.list_scheduler.specs.Schedule.{finished, is_eligible, pick_of, is_it,
 use Rattle.list_scheduler.specs.ScheduleLaws.{picks_is}
 use Rattle.list_scheduler.specs.OneNode.{starts}
 use Rattle.list_scheduler.proofs.Members.{IsNext, has_this, has_other}
+use Rattle.node_grid.specs.ListLaws.{bit_le, has_at}
+use Rattle.node_grid.specs.NodeSetLaws.{count-below}
 
 -- ---- lists with the same answers
 
@@ -159,23 +161,9 @@ starts_none graph copies q w is free off =
 
 -- ---- counting passed copies node by node
 
-count_more_from : (f : ℕ → Bool) (a n : ℕ) → count f (range_with_len a (suc n)) ≡ count f (range_with_len a n) + bit (f (a + n))
-count_more_from f a zero = let e : a + 0 ≡ a = omega arith in rw e (omega arith)
-count_more_from f a (suc n) =
-    let e : (a + 1) + n ≡ a + suc n = omega arith in
-    let rest = rw e at (count_more_from f (a + 1) n) in
-    omega arith
-
-pub count_more : (f : ℕ → Bool) (n : ℕ) → count f (ids_below (n + 1)) ≡ count f (ids_below n) + bit (f n)
-count_more f n = let e : n + 1 ≡ suc n = omega arith in let z : 0 + n ≡ n = omega arith in rw e (count_more_from f 0 n ∙ ap (λ k. count f (ids_below n) + bit (f k)) z)
-
 pub count_few : (f : ℕ → Bool) (n : ℕ) → count f (ids_below n) ≤ n
 count_few f zero = omega arith
-count_few f (suc n) = let e : n + 1 ≡ suc n = omega arith in let m = rw e at (count_more f n) in omega (arith, count_few f n, bit_few (f n))
-  where
-    bit_few : (b : Bool) → bit b ≤ 1
-    bit_few true = omega arith
-    bit_few false = omega arith
+count_few f (suc n) = let e : n + 1 ≡ suc n = omega arith in let m = rw e at (count-below f n) in omega (arith, count_few f n, bit_le (f n))
 
 -- ---- eligibility, test by test
 
@@ -185,11 +173,6 @@ eligible_from graph copies q t on idle all = sym (ap₂ ◌&&◌ (ap₂ ◌&&◌
 
 pub all_more : (f : ℕ → Bool) (xs : List ℕ) (i : ℕ) → i < length xs → list_all f (take i xs) ≡ true → f (get_or xs i 0) ≡ true → list_all f (take (i + 1) xs) ≡ true
 all_more f xs i l before here = list_all_more f xs i 0 l ∙ ap₂ ◌&&◌ before here
-
-has_at : (xs : List ℕ) (i : ℕ) → i < length xs → has_id xs (get_or xs i 0) ≡ true
-has_at [] i l = absurd (omega arith)
-has_at (x ∷ xs) zero l = or_left _ _ (eq-eqb x x refl)
-has_at (x ∷ xs) (suc i) l = or_right _ _ (has_at xs i (omega arith))
 
 -- a predecessor is a task
 pub before_listed : (n : ℕ) (graph : GraphView) (t i : ℕ) → IsGraph n graph → t < length graph.tasks → i < length (task_at graph.tasks t).after → get_or (task_at graph.tasks t).after i 0 < length graph.tasks

@@ -1,8 +1,8 @@
 -- Tables of copies: what stands in them, when two are the same, and which task runs on a node.
-use Rattle.std.proofs.Common.{◌≡◌, ℕ, zero, suc, ◌+◌, ◌<◌, ◌≤◌, Bool, true, ◌&&◌, ◌||◌, List, [], ◌∷◌, map, set, Option, None, Some, refl, sym, ap, ap₂, subst, ◌∙◌, ◌⊎◌, inl, inr, arith, eqb-true, eq-eqb, ne_eqb}
+use Rattle.std.proofs.Common.{◌≡◌, ℕ, zero, suc, ◌+◌, ◌<◌, ◌≤◌, true, ◌&&◌, ◌||◌, List, [], ◌∷◌, map, set, Option, None, Some, refl, sym, ap, ap₂, subst, ◌∙◌, ◌⊎◌, inl, inr, arith, eqb-true, eq-eqb, ne_eqb}
 use Rattle.std.specs.Prelude.{◌==◌, slice_index_or, if◌then◌else◌, replicate}
 use Rattle.std.specs.List.{range_with_len}
-use Rattle.std.proofs.lemmas.Bool.{cases_Bool, cases_eq, cases_lt, or_left, or_right, or_cases, and_parts, both_ways, cond-true, cond-false}
+use Rattle.std.proofs.lemmas.Bool.{cases_Bool, cases_eq, cases_lt, or_left, or_right, or_cases, and_parts, both_ways, cond-true, cond-false, and_from}
 use Rattle.std.proofs.lemmas.List.{get_or_past}
 use Rattle.std.proofs.lemmas.List.FromFn.{get_or-map-range_with_len, length-map-range_with_len}
 use Rattle.node_grid.specs.NodeSet.{ids_below, has_id}
@@ -10,6 +10,7 @@ use Rattle.list_scheduler.specs.declared.copies.CopyState.{CopyState}
 use Rattle.list_scheduler.specs.declared.copies.CopyState.TheVariants.{Idle, Running, Passed, Failed}
 use Rattle.list_scheduler.specs.Copies.{CopyTable, copy_at, table, IsTable, with_copy, running, at_work, works_among, works}
 use Rattle.list_scheduler.specs.Schedule.{all_idle}
+use Rattle.node_grid.specs.NodeSetLaws.{has-range}
 
 -- ---- tables of any size
 
@@ -137,13 +138,6 @@ range_below a (suc n) q h = elim (or_cases (a == q) _ h) [
   | inr later ↦ let l = range_below (a + 1) n q later in omega arith
 ]
 
-pub has_range : (a n k : ℕ) → a ≤ k → k < a + n → has_id (range_with_len a n) k ≡ true
-has_range a zero k l u = absurd (omega arith)
-has_range a (suc n) k l u = elim (cases_eq a k) [
-  | inl e ↦ or_left _ _ (eq-eqb a k e)
-  | inr ne ↦ or_right (a == k) _ (has_range (a + 1) n k (omega arith) (omega arith))
-]
-
 -- the task that a node works at runs there
 pub works_runs : (copies : CopyTable) (q : ℕ) (w : ℕ × ℕ) → works copies q ≡ Some w → (copy_at copies w.0 q ≡ Running w.1) × (w.0 < 32)
 unfolding works
@@ -166,7 +160,7 @@ nothing_among copies q t e (u ∷ ts) none on h = elim (cases_Bool (u == t)) [
 
 pub nothing_runs : (copies : CopyTable) (q t e : ℕ) → works copies q ≡ None → t < 32 → copy_at copies t q ≡ Running e → ⊥
 unfolding works
-nothing_runs copies q t e none l h = nothing_among copies q t e (ids_below 32) none (has_range 0 32 t (omega arith) l) h
+nothing_runs copies q t e none l h = nothing_among copies q t e (ids_below 32) none (has-range 0 32 t (omega arith) l) h
 
 -- what a node works at is told by its own copies
 works_among_same : (c d : CopyTable) (q : ℕ) (ts : List ℕ) → ((t : ℕ) → has_id ts t ≡ true → copy_at c t q ≡ copy_at d t q) → works_among c q ts ≡ works_among d q ts
@@ -219,11 +213,8 @@ put_copy n c f g task node s is here others = table_same n (with_copy c task nod
       cond-true ((t == task) && (q == node)) _ _ on ∙ sym (here t q ht hq (eqb-true _ _ p.0) (eqb-true _ _ p.1))
   | inr off ↦
       cond-false ((t == task) && (q == node)) _ _ off ∙ ap (λ (x : CopyTable). copy_at x t q) is ∙ at_table n f t q ht hq
-      ∙ sym (others t q ht hq (λ d e. both_ways _ off (both_true _ _ (eq-eqb t task d) (eq-eqb q node e))))
+      ∙ sym (others t q ht hq (λ d e. both_ways _ off (and_from _ _ (eq-eqb t task d) (eq-eqb q node e))))
 ])
-  where
-    both_true : (x y : Bool) → x ≡ true → y ≡ true → (x && y) ≡ true
-    both_true x y h k = let z : (x && y) ≡ (true && true) = cc in z
 
 -- the table of idle copies, as rows of equal copies
 pub map_same : {X : Type 0} (x : X) (a n : ℕ) → map (λ q. x) (range_with_len a n) ≡ replicate n x

@@ -1,7 +1,7 @@
 -- Entries in the order of their slots.
 use Rattle.std.proofs.Common.{ℕ, zero, suc, ◌≡◌, ◌<◌, ◌≤◌, ◌+◌, ◌==◌, ◌⊎◌, Bool, true, false, if◌then◌else◌, List, [], ◌∷◌, map, filter, get_or, drop, refl, sym, ap, ap₂, ◌∙◌, inl, inr, arith, eq-eqb, ne_eqb}
 use Rattle.std.specs.Prelude.{All, not, ◌&&◌, ◌||◌, nat_lt}
-use Rattle.std.proofs.lemmas.Bool.{cases_eq, cases_lt, cases_Bool, cond-true, cond-false, lt-ltb, le-ltb, true≢false, eqb-true, and_parts, not_from_true, not_from_false, false_from_ne_true, true_from_ne_false}
+use Rattle.std.proofs.lemmas.Bool.{cases_eq, cases_lt, cases_Bool, cond-true, cond-false, lt-ltb, le-ltb, true≢false, eqb-true, and_parts, not_from_true, not_from_false, false_from_ne_true, true_from_ne_false, not-true, not-false}
 use Rattle.std.proofs.lemmas.List.Elements.{All-cons, All-head, All-tail, All-weaker, filter_passes}
 use Rattle.std.proofs.lemmas.List.Kept.{AllPairs-cons}
 use Rattle.node_alone.specs.Log.{Entry, is_at, is_before, arriving, arrivals}
@@ -107,14 +107,6 @@ module _ {X : Type 0} (q : X → Bool) where
   filter_none [] h = refl
   filter_none (x ∷ xs) h = cond-false (q x) (x ∷ filter q xs) (filter q xs) (All-head (λ x. q x ≡ false) x xs h) ∙ filter_none xs (All-tail (λ x. q x ≡ false) x xs h)
 
-pub not_false : (b : Bool) → not b ≡ true → b ≡ false
-not_false true h = absurd (true≢false (sym h))
-not_false false h = refl
-
-not_true : (b : Bool) → not b ≡ false → b ≡ true
-not_true true h = refl
-not_true false h = absurd (true≢false h)
-
 -- all entries are from the first slot on
 none_before_first : (e : Entry) → not (is_before 0 0 e) ≡ true
 none_before_first e = not_from_false (is_before 0 0 e) (not_before_if 0 0 e (elim (cases_eq e.period 0) [ inl z ↦ inr (z, omega arith) | inr n ↦ inl (omega (arith, n)) ]))
@@ -124,13 +116,13 @@ from_first es = filter_all (λ e. not (is_before 0 0 e)) es (λ k d l. none_befo
 
 -- those of a slot are those of it among the ones from it on
 pub at_from : (p t : ℕ) (es : List Entry) → filter (is_at p t) (from_slot p t es) ≡ filter (is_at p t) es
-at_from p t es = filter_through (is_at p t) (λ e. not (is_before p t e)) (λ e h. early_not_at p t e (not_true (is_before p t e) h)) es
+at_from p t es = filter_through (is_at p t) (λ e. not (is_before p t e)) (λ e h. early_not_at p t e (not-false (is_before p t e) h)) es
 
 pub from_next : (p t : ℕ) (es : List Entry) → from_slot p (t + 1) (from_slot p t es) ≡ from_slot p (t + 1) es
-from_next p t es = filter_through (λ e. not (is_before p (t + 1) e)) (λ e. not (is_before p t e)) (λ e h. not_from_true _ (early_still p t e (not_true (is_before p t e) h))) es
+from_next p t es = filter_through (λ e. not (is_before p (t + 1) e)) (λ e. not (is_before p t e)) (λ e h. not_from_true _ (early_still p t e (not-false (is_before p t e) h))) es
 
 pub none_before : (p t : ℕ) (es : List Entry) → All (λ e. is_before p t e ≡ false) (from_slot p t es)
-none_before p t es = All-weaker (λ e. not (is_before p t e) ≡ true) (λ e. is_before p t e ≡ false) (λ e h. not_false (is_before p t e) h) (from_slot p t es) (filter_passes (λ e. not (is_before p t e)) es)
+none_before p t es = All-weaker (λ e. not (is_before p t e) ≡ true) (λ e. is_before p t e ≡ false) (λ e h. not-true (is_before p t e) h) (from_slot p t es) (filter_passes (λ e. not (is_before p t e)) es)
 
 -- the slots of a period are all that is of it
 pub from_period : (nodes slots periods id p : ℕ) (es : List Entry) → All (IsPlaced nodes slots periods id) es → from_slot p slots es ≡ from_slot (suc p) 0 es

@@ -1,4 +1,5 @@
 pub mod Capacity
+pub mod CapacityLaws
 pub mod Version
 pub mod Kinds
 pub mod NodeSet

@@ -3,6 +3,7 @@ use Rattle.std.proofs.Common.{◌≡◌, ◌≢◌, ℕ, zero, suc, ◌+◌, ◌
 use Rattle.std.specs.Prelude.{◌==◌}
 use Rattle.std.specs.List.{filter, list_any}
 use Rattle.std.specs.Int.{bit_at, w16}
+use Rattle.std.proofs.Math.Bool.{or-false}
 use Rattle.std.proofs.lemmas.Bool.{cases_lt}
 use Rattle.std.proofs.lemmas.List.{map-id}
 use Rattle.std.proofs.lemmas.List.FromFn.{filter_of_map_range_with_len_more, map-range_with_len_more}
@@ -83,11 +84,7 @@ mask-has p (suc n) k few within =
 any_more : (p : ℕ → Bool) (n : ℕ) → list_any p (ids_below (n + 1)) ≡ (list_any p (ids_below n) || p n)
 any_more p n =
     ap (list_any p) (sym (map-id (ids_below (n + 1))) ∙ map-range_with_len_more (λ x. x) 0 n n (omega arith) ∙ ap (λ xs. xs ++ n ∷ []) (map-id (ids_below n)))
-    ∙ list_any-append p (ids_below n) (n ∷ []) ∙ ap (λ b. list_any p (ids_below n) || b) (or_false (p n))
-  where
-    or_false : (b : Bool) → (b || false) ≡ b
-    or_false true = refl
-    or_false false = refl
+    ∙ list_any-append p (ids_below n) (n ∷ []) ∙ ap (λ b. list_any p (ids_below n) || b) (or-false (p n))
 
 positive : (m : ℕ) → 0 < m → (m == 0) ≡ false
 positive m h = grind arith

@@ -2,10 +2,11 @@
 use Rattle.std.proofs.Common.{◌≡◌, ◌≢◌, ℕ, zero, suc, ◌+◌, ◌-◌, ◌*◌, ◌/◌, ◌%◌, ◌^◌, ◌<◌, ◌≤◌, min, max, Bool, true, false, cond, not, ◌&&◌, ◌||◌, List, [], ◌∷◌, length, drop, refl, sym, ap, ◌∙◌, arith, eq-eqb, bit_and, bit_or, inl, inr, subst}
 use Rattle.std.specs.Prelude.{◌==◌, nat_lt}
 use Rattle.std.specs.Int.RustNames.{count_ones}
-use Rattle.std.specs.List.{filter, range_with_len, sum_by, count_by, All}
+use Rattle.std.specs.List.{filter, range_with_len, sum_by, count_by, list_all, All}
 use Rattle.std.specs.Int.{bit_at, bit_not, w16, trailing_zeros}
 use Rattle.std.specs.Int.Count.{ones_step}
-use Rattle.std.proofs.lemmas.Bool.{cases_lt, ne_eqb, eqb-true, lt-ltb, le-ltb}
+use Rattle.std.proofs.Math.Bool.{and-true, and-false}
+use Rattle.std.proofs.lemmas.Bool.{cases_lt, cases_eq, and_left, and_right, ne_eqb, eqb-true, lt-ltb, le-ltb}
 use Rattle.std.proofs.lemmas.List.Sums.{sum_by-cons, length-filter, count_by-le-length}
 use Rattle.std.proofs.lemmas.List.FromFn.{length-range_with_len}
 use Rattle.std.proofs.lemmas.List.Elements.{All-filter, All-same, All-nil, All-cons}
@@ -16,6 +17,7 @@ use Rattle.std.proofs.Math.Pow.{pow_mono, pow-lt, ones_lt}
 use Rattle.std.proofs.lemmas.Nat.{or_lt, and_le_l}
 use Rattle.std.specs.Cmp.Lexicographic.{pointwise}
 use Rattle.std.proofs.lemmas.Slice.Eq.{bytes_eq-Decides}
+use Rattle.node_grid.specs.Count.{bit, count}
 use Rattle.node_grid.specs.NodeSet.{ids_below, has_id, with_id, without_id, bits_set, mask_of, IsIdSet, ids_where, ids_where_below, union_of, minus_of, place_of}
 
 by_le : {P : Type 0} (a b : ℕ) → (a ≤ b → P) → (b < a → P) → P
@@ -69,7 +71,7 @@ filter_filter p q (x ∷ xs) =
     ]
 
 -- a range has the numbers in it
-has-range : (a n x : ℕ) → a ≤ x → x < a + n → has_id (range_with_len a n) x ≡ true
+pub has-range : (a n x : ℕ) → a ≤ x → x < a + n → has_id (range_with_len a n) x ≡ true
 has-range a zero x l u = absurd (omega arith)
 has-range a (suc n) x l u =
     elim (a == x) as (λ b. (a == x) ≡ b → (b || has_id (range_with_len (a + 1) n) x) ≡ true) [
@@ -80,14 +82,6 @@ has-range a (suc n) x l u =
 hasnt-range : (a n x : ℕ) → a + n ≤ x → has_id (range_with_len a n) x ≡ false
 hasnt-range a zero x l = refl
 hasnt-range a (suc n) x l = rw (ne_eqb a x (λ s. omega arith)) (hasnt-range (a + 1) n x (omega arith))
-
-and-true : (b : Bool) → (b && true) ≡ b
-and-true true = refl
-and-true false = refl
-
-and-false : (b : Bool) → (b && false) ≡ false
-and-false true = refl
-and-false false = refl
 
 has_filtered : (p : ℕ → Bool) (xs : List ℕ) (x : ℕ) → has_id (filter p xs) x ≡ (p x && has_id xs x)
 has_filtered p xs x = any-filter_same (λ y. y == x) p (p x) (λ k e. ap p (eqb-true k x e)) xs
@@ -243,7 +237,7 @@ put_fits n mask x few l h = or_lt n mask (1 * 2 ^ x % 2 ^ 16) h
 
 -- ---- two sets together, and one without another
 
-either_bit : (x y : ℕ) → x < 2 → y < 2 → (max x y == 1) ≡ ((x == 1) || (y == 1))
+pub either_bit : (x y : ℕ) → x < 2 → y < 2 → (max x y == 1) ≡ ((x == 1) || (y == 1))
 either_bit x y h l = grind arith
 
 both_bits : (x y : ℕ) → x < 2 → y < 2 → (min x (1 - y) == 1) ≡ ((x == 1) && not (y == 1))
@@ -261,9 +255,6 @@ bits_set-minus n a b few h =
     rw (bit_at_and a (bit_not w16 b) k, bit_at_not w16 b k (omega arith) (omega arith), has-bits_set n b k (omega arith))
     (both_bits (bit_at a k) (bit_at b k) (bit_at-lt a k) (bit_at-lt b k)))
     ∙ sym (filter_filter (λ k. bit_at a k == 1) (λ k. not (has_id (bits_set n b) k)) (ids_below n))
-
-pub union_fits : (n a b : ℕ) → a < 2 ^ n → b < 2 ^ n → bit_or a b < 2 ^ n
-union_fits n a b h l = or_lt n a b h l
 
 -- ---- the members below a number
 
@@ -427,6 +418,43 @@ ids_where_more_yes p n i e = filter_range (λ k. nat_lt k (i + 1) && p k) (λ k.
     (λ s. let f : p k ≡ true = ap p (sym s) ∙ e in let t : (k == i) ≡ true = eq-eqb k i (sym s) in rw (f, t, lt-ltb k (i + 1) (omega arith)) refl)
     (λ ne. let t : (k == i) ≡ false = ne_eqb k i (λ q. ne (sym q)) in
     rw (next_test k i ne, t) (sym (has-filter (λ j. nat_lt j i && p j) n k (omega arith)))))
+
+filter_within : (p : ℕ → Bool) (a m n i : ℕ) → m ≤ n → a + m ≡ i → filter (λ k. nat_lt k i && p k) (range_with_len a n) ≡ filter p (range_with_len a m)
+filter_within p a zero n i h e = filter_none (λ k. nat_lt k i && p k) a n (λ k l u. rw (le-ltb k i (omega arith)) refl)
+filter_within p a (suc m) zero i h e = absurd (omega arith)
+filter_within p a (suc m) (suc n) i h e =
+    let rest = filter_within p (a + 1) m n i (omega arith) (omega arith) in
+    rw (lt-ltb a i (omega arith), rest) refl
+
+-- a loop that ends before the bound
+pub ids_where-within : (p : ℕ → Bool) (n i : ℕ) → i ≤ n → ids_where_below p n i ≡ ids_where p i
+ids_where-within p n i h = filter_within p 0 i n i h (omega arith)
+
+-- ---- tests of all numbers below a bound
+
+not_all_range : (p : ℕ → Bool) (a n k : ℕ) → a ≤ k → k < a + n → p k ≡ false → list_all p (range_with_len a n) ≡ false
+not_all_range p a zero k l u fails = absurd (omega arith)
+not_all_range p a (suc n) k l u fails = elim (cases_eq k a) [
+  | inl e ↦ and_left (p a) _ (ap p (sym e) ∙ fails)
+  | inr ne ↦ and_right (p a) _ (not_all_range p (a + 1) n k (omega arith) (omega arith) fails)
+]
+
+pub not_all_ids : (p : ℕ → Bool) (n k : ℕ) → k < n → p k ≡ false → list_all p (ids_below n) ≡ false
+not_all_ids p n k u fails = not_all_range p 0 n k (omega arith) (omega arith) fails
+
+-- how many numbers below a bound pass
+count-range : (p : ℕ → Bool) (a n : ℕ) → count p (range_with_len a (suc n)) ≡ count p (range_with_len a n) + bit (p (a + n))
+count-range p a zero = let e : a + 0 ≡ a = omega arith in rw e (omega arith)
+count-range p a (suc n) =
+    let e : (a + 1) + n ≡ a + suc n = omega arith in
+    let rest = rw e at (count-range p (a + 1) n) in
+    omega arith
+
+pub count-below : (p : ℕ → Bool) (n : ℕ) → count p (ids_below (n + 1)) ≡ count p (ids_below n) + bit (p n)
+count-below p n =
+    let e : n + 1 ≡ suc n = omega arith in
+    let z : 0 + n ≡ n = omega arith in
+    rw e (count-range p 0 n ∙ ap (λ k. count p (ids_below n) + bit (p k)) z)
 
 -- ---- a loop over the members
 

@@ -1,7 +1,7 @@
 -- The sections of a flat list of all paths, and the places in them.
-use Rattle.std.proofs.Common.{ℕ, map, ne_eqb, zero, suc, ◌≡◌, ◌≢◌, ◌<◌, ◌≤◌, ◌+◌, ◌-◌, ◌==◌, ◌||◌, ◌&&◌, Bool, true, false, not, List, [], ◌∷◌, ◌++◌, length, get_or, set, take, drop, replicate, refl, sym, ap, ap₂, subst, ◌∙◌, inl, inr, arith, eq-eqb, append-nil}
+use Rattle.std.proofs.Common.{ℕ, map, zero, suc, ◌≡◌, ◌≢◌, ◌<◌, ◌≤◌, ◌+◌, ◌-◌, ◌==◌, ◌||◌, ◌&&◌, Bool, true, false, not, List, [], ◌∷◌, ◌++◌, length, get_or, set, take, drop, replicate, refl, sym, ap, ap₂, subst, ◌∙◌, inl, inr, arith, eq-eqb, append-nil}
 use Rattle.std.specs.Prelude.{filter, if◌then◌else◌}
-use Rattle.std.proofs.lemmas.Bool.{cases_Bool, cases_eq, cases_lt, cond-true, cond-false, both_ways, or_left}
+use Rattle.std.proofs.lemmas.Bool.{cases_Bool, cases_lt, cond-true, cond-false, both_ways, or_left}
 use Rattle.std.proofs.lemmas.List.{get_or-set_same, get_or-set_other, take_more, get_or-replicate, get_or_past, length-replicate, take_all, drop_all}
 use Rattle.std.proofs.lemmas.List.Edits.{map_over_more}
 use Rattle.std.proofs.Math.Nat.{mul-le-mul}
@@ -11,23 +11,17 @@ use Rattle.node_grid.specs.Count.{Distinct}
 use Rattle.omh_paths.specs.declared.wrapped.Wrapped.{Wrapped}
 use Rattle.omh_paths.specs.declared.wrapped.Wrapped.TheVariants.{Fault}
 use Rattle.omh_paths.specs.Paths.{same_nodes, outside, paths_of_length, path_count, place_in, path_at, index_in}
-use Rattle.omh_paths.specs.PathLaws.{has_push}
 use Rattle.omh_paths.specs.PathLists.{same_nodes-tells, same_nodes-finds, length-paths, place-lt, path_at-place, place-cons, index_in-lt, length-without, Distinct-without, has-without-left}
 use Rattle.omh.specs.Heard.{entry, heard_paths, nothing_heard, with_heard}
 use Rattle.omh.specs.HeardLaws.{IsHeardPath, entries_with}
 use Rattle.omh.specs.Flat.{section_at, flat_place, flat_heard, heard_flat, laid_own, forgotten}
+use Rattle.node_grid.specs.ListLaws.{eqb_sym, has_push}
 
 -- ---- the members outside a path that grows
 
 not_either : (a b : Bool) → not (a || b) ≡ (not a && not b)
 not_either true b = refl
 not_either false b = refl
-
-eqb_sym : (x y : ℕ) → (x == y) ≡ (y == x)
-eqb_sym x y = elim (cases_eq x y) [
-  | inl e ↦ eq-eqb x y e ∙ sym (eq-eqb y x (sym e))
-  | inr ne ↦ ne_eqb x y ne ∙ sym (ne_eqb y x (λ e. ne (sym e)))
-]
 
 pub outside-push : (s path : List ℕ) (q : ℕ) → outside s (path ++ q ∷ []) ≡ without_id (outside s path) q
 outside-push s path q =

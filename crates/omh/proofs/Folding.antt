@@ -12,7 +12,8 @@ use Rattle.omh_paths.specs.Wrapped.{wrapped, unwrapped}
 use Rattle.omh_paths.specs.Majority.{majority}
 use Rattle.omh_paths.specs.Paths.{outside, paths_of_length, path_count, place_in, path_at, index_in, IsListed}
 use Rattle.omh_paths.specs.PathLaws.{map_alike, all_outside, off_from}
-use Rattle.omh_paths.specs.MemberLaws.{capacity-le, path_count-few}
+use Rattle.node_grid.specs.CapacityLaws.{capacity-le}
+use Rattle.omh_paths.specs.MemberLaws.{path_count-few}
 use Rattle.omh_paths.specs.PathLists.{index_in-lt, path_at-push, path_count-last, IsListed-at, length-outside, index_in-at, at-index_in, has-at, Distinct-filter, place-path_at, path_at-place, length-paths}
 use Rattle.omh.specs.Omh.{Ear, own_term, settled_within, settled_at, term_at}
 use Rattle.omh.specs.Flat.{relay_path, SettledAt, AreSettled, laid_own, section_at, IsStation, IsRoom, flat_place, flat_heard, path_settled, flat_ear}

@@ -14,6 +14,7 @@ use Rattle.node_grid.specs.declared.class.Class.{Class}
 use Rattle.node_grid.specs.declared.class.Class.TheVariants.{N, J, B, S, A}
 use Rattle.omh_paths.specs.MajorityLaws.{same_itself, majority_is}
 use Rattle.omh_paths.specs.PathLaws.{count-outside}
+use Rattle.node_grid.specs.ListLaws.{bit_le}
 
 class_bits : (c : Class) → bit (is_nonfaulty c) + bit (is_silent c) + bit (is_symmetric c) + bit (is_asymmetric c) ≡ 1
 class_bits N = refl
@@ -33,19 +34,15 @@ pub record TermFits {V : Type 0} (class_of : ℕ → Class) (term : ℕ → Wrap
   pub says : class_of q ≡ N → term q ≡ v
   pub silent : is_silent (class_of q) ≡ true → term q ≡ Fault 0
 
-bit-le : (b : Bool) → bit b ≤ 1
-bit-le true = omega arith
-bit-le false = omega arith
-
 step : {V : Type 0} {eq : V → V → Bool} → IsExact eq → (v t : Wrapped V) → is_error v ≡ false → (c : Class) → (c ≡ N → t ≡ v) → (is_silent c ≡ true → t ≡ Fault 0)
     → bit (not (is_error t)) + bit (is_nonfaulty c) ≤ 2 * bit (same eq v t) + bit (is_asymmetric c) + bit (is_symmetric c)
 step {V} {eq} x v t ok N says silent =
     let e : bit (same eq v t) ≡ 1 = ap bit (subst (λ (u : Wrapped V). same eq v u ≡ true) (sym (says refl)) (same_itself x v)) in
-    omega (arith, bit-le (not (is_error t)))
+    omega (arith, bit_le (not (is_error t)))
 step {V} x v t ok J says silent = let e : bit (not (is_error t)) ≡ 0 = ap (λ (u : Wrapped V). bit (not (is_error u))) (silent refl) in omega arith
 step {V} x v t ok B says silent = let e : bit (not (is_error t)) ≡ 0 = ap (λ (u : Wrapped V). bit (not (is_error u))) (silent refl) in omega arith
-step x v t ok S says silent = omega (arith, bit-le (not (is_error t)))
-step x v t ok A says silent = omega (arith, bit-le (not (is_error t)))
+step x v t ok S says silent = omega (arith, bit_le (not (is_error t)))
+step x v t ok A says silent = omega (arith, bit_le (not (is_error t)))
 
 terms : {V : Type 0} {eq : V → V → Bool} → IsExact eq → (class_of : ℕ → Class) (term : ℕ → Wrapped V) (v : Wrapped V) → is_error v ≡ false → (qs : List ℕ) → AllByRecursion (TermFits class_of term v) qs
     → count (λ t. not (is_error t)) (map term qs) + count (λ q. is_nonfaulty (class_of q)) qs

@@ -11,7 +11,8 @@ use Rattle.omh_paths.specs.declared.wrapped.Wrapped.TheVariants.{Fault}
 use Rattle.omh_paths.specs.Wrapped.{wrapped, unwrapped}
 use Rattle.omh_paths.specs.Majority.{majority}
 use Rattle.omh_paths.specs.Paths.{same_nodes, outside, paths_of_length, path_count, place_in, path_at, IsListed}
-use Rattle.omh_paths.specs.PathLaws.{map_alike, all_outside, Distinct-push, off_from, has_push}
+use Rattle.node_grid.specs.ListLaws.{has_push}
+use Rattle.omh_paths.specs.PathLaws.{map_alike, all_outside, Distinct-push, off_from}
 use Rattle.omh_paths.specs.PathLists.{same_nodes-tells, has-without, has-of-without, length-paths, place-lt, IsListed-at, Distinct-without}
 use Rattle.omh.specs.Omh.{Ear, own_term, settled_within, settled_at}
 use Rattle.omh.specs.Heard.{heard_in, paths_up_to, heard_paths, entry, with_heard}

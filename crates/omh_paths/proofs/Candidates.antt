@@ -1,6 +1,6 @@
 -- The candidate for the majority of what was seen, and by how many places it leads.
-use Rattle.node_grid.specs.ListLaws.{count-more}
-use Rattle.std.proofs.Common.{ℕ, ◌≡◌, ◌<◌, ◌≤◌, ◌+◌, ◌-◌, ◌*◌, ◌/◌, ap₂, ltb-true, ltb-false, Bool, true, false, not, ◌&&◌, List, [], ◌∷◌, ◌++◌, take, get_or, length, refl, sym, ap, subst, ◌∙◌, inl, inr, arith}
+use Rattle.node_grid.specs.ListLaws.{count-more, half_less}
+use Rattle.std.proofs.Common.{ℕ, ◌≡◌, ◌<◌, ◌≤◌, ◌+◌, ◌-◌, ◌*◌, ◌/◌, ap₂, ltb-true, Bool, true, false, not, ◌&&◌, List, [], ◌∷◌, ◌++◌, take, get_or, length, refl, sym, ap, subst, ◌∙◌, inl, inr, arith}
 use Rattle.std.proofs.lemmas.Bool.{cases_Bool, and_parts, both_ways, not-true}
 use Rattle.std.proofs.lemmas.Bool.Decides.{nat_tests}
 use Rattle.std.specs.Prelude.{nat_lt}
@@ -15,7 +15,7 @@ use Rattle.omh_paths.specs.MajorityLaws.{same_tells, majority_is, majority_none}
 abbrev pub votes : {V : Type 0} → List (Wrapped V) → ℕ
 votes seen = count (λ y. not (is_error y)) seen
 
--- no value but c can stand at more than half of the votes so far
+-- no value but c can stand at more than half_less of the votes so far
 pub record Leads {V : Type 0} (eq : V → V → Bool) (seen : List (Wrapped V)) (c : Wrapped V) (n : ℕ) : Type 0 where
   pub good : is_error c ≡ false
   pub own : 2 * count (same eq c) seen ≤ votes seen + n
@@ -43,7 +43,7 @@ module _ {V : Type 0} {eq : V → V → Bool} (exact : IsExact eq) where
     | inr d ↦ d
   ]
 
-  -- each value that leads by nothing is at half of the votes at most
+  -- each value that leads by nothing is at half_less of the votes at most
   level : (seen : List (Wrapped V)) (c y : Wrapped V) → Leads eq seen c 0 → is_error y ≡ false → 2 * count (same eq y) seen ≤ votes seen
   level seen c y h ok = elim (cases_Bool (same eq y c)) [
     | inl s ↦ let e : count (same eq y) seen ≡ count (same eq c) seen = ap (λ (x : Wrapped V). count (same eq x) seen) (same_tells exact y c s) in omega (arith, h.own)
@@ -99,24 +99,11 @@ module _ {V : Type 0} {eq : V → V → Bool} (exact : IsExact eq) where
 
 -- ---- counts in a loop
 
-pub count_next : {X : Type 0} (test : X → Bool) (xs : List X) (i : ℕ) (x : X) → i < length xs → x ≡ get_or xs i x → count test (take (i + 1) xs) ≡ count test (take i xs) + bit (test x)
-count_next test xs i x here is =
-    ap (count test) (take_more xs i x here) ∙ count-more test (take i xs) (get_or xs i x) ∙ ap (λ y. count test (take i xs) + bit (test y)) (sym is)
-
-half : (v s : ℕ) → nat_lt (v / 2) s ≡ nat_lt v (2 * s)
-half v s = by_test (nat_lt (v / 2) s) refl (nat_lt v (2 * s)) refl
-  where
-    by_test : (a : Bool) → nat_lt (v / 2) s ≡ a → (b : Bool) → nat_lt v (2 * s) ≡ b → a ≡ b
-    by_test true p true q = refl
-    by_test false p false q = refl
-    by_test true p false q = absurd (omega (arith, ltb-true (v / 2) s p, ltb-false v (2 * s) q))
-    by_test false p true q = absurd (omega (arith, ltb-false (v / 2) s p, ltb-true v (2 * s) q))
-
 pub has_majority_from : {V : Type 0} (eq : V → V → Bool) (all : List (Wrapped V)) (x : Wrapped V) (v s i : ℕ) → is_error x ≡ false → length all ≤ i
     → v ≡ votes (take i all) → s ≡ count (same eq x) (take i all) → nat_lt (v / 2) s ≡ has_majority eq all x
 has_majority_from eq all x v s i good past hv hs =
     let t : take i all ≡ all = take_all i all past in
-    half v s ∙ ap₂ (λ a b. nat_lt a (2 * b)) (hv ∙ ap votes t) (hs ∙ ap (count (same eq x)) t) ∙ ap (λ b. not b && nat_lt (votes all) (2 * count (same eq x) all)) (sym good)
+    half_less v s ∙ ap₂ (λ a b. nat_lt a (2 * b)) (hv ∙ ap votes t) (hs ∙ ap (count (same eq x)) t) ∙ ap (λ b. not b && nat_lt (votes all) (2 * count (same eq x) all)) (sym good)
 
 pub leads_none : {V : Type 0} (eq : V → V → Bool) → Leads eq [] (Fault 1) 0
 leads_none eq = record { good = refl; own = omega arith; others = λ y ok d. omega arith }

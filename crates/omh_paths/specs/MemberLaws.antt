@@ -10,6 +10,8 @@ use Rattle.node_grid.specs.Count.{Distinct}
 use Rattle.std.proofs.Math.Nat.{mul-le-mul, pow-suc}
 use Rattle.omh_paths.specs.Paths.{path_count, index_in}
 use Rattle.omh_paths.specs.PathLists.{Distinct-filter}
+use Rattle.std.proofs.Math.Bool.{and-false}
+use Rattle.node_grid.specs.CapacityLaws.{capacity-le}
 
 hasnt_range : (a b n : ℕ) → a < b → has_id (range_with_len b n) a ≡ false
 hasnt_range a b zero h = refl
@@ -30,10 +32,6 @@ member-lt n s q h on = elim (cases_lt q n) [
   | inl l ↦ l
   | inr m ↦ absurd (both_ways _ (hasnt-above n s q h m) on)
 ]
-
-pub capacity-le : (n : ℕ) → IsCapacity n → n ≤ 16
-capacity-le n (inl e) = omega arith
-capacity-le n (inr e) = omega arith
 
 pub few_ids : (n : ℕ) (s : List ℕ) → IsCapacity n → IsIdSet n s → length s ≤ 16
 few_ids n s h ids = omega (arith, capacity-le n h, length-ids n s ids)
@@ -66,11 +64,7 @@ path_count-few n r h l = bound_four (path_count n r) r l (path_count-le n r h)
 -- ---- the place of a member is how many members are below it
 
 none_below : (p : ℕ → Bool) (a n q : ℕ) → q ≤ a → place_of (filter p (range_with_len a n)) q ≡ 0
-none_below p a n q h = ap length (filter_filter p (λ k. nat_lt k q) (range_with_len a n) ∙ filter_none (λ k. p k && nat_lt k q) a n (λ k l u. ap (λ (b : Bool). p k && b) (le-ltb k q (omega arith)) ∙ and_no (p k)))
-  where
-    and_no : (b : Bool) → (b && false) ≡ false
-    and_no true = refl
-    and_no false = refl
+none_below p a n q h = ap length (filter_filter p (λ k. nat_lt k q) (range_with_len a n) ∙ filter_none (λ k. p k && nat_lt k q) a n (λ k l u. ap (λ (b : Bool). p k && b) (le-ltb k q (omega arith)) ∙ and-false (p k)))
 
 place_in_range : (p : ℕ → Bool) (a n q : ℕ) → p q ≡ true → a ≤ q → q < a + n → place_of (filter p (range_with_len a n)) q ≡ index_in (filter p (range_with_len a n)) q
 place_in_range p a zero q on l u = absurd (omega arith)

@@ -6,18 +6,8 @@ use Rattle.std.proofs.lemmas.List.{length_push}
 use Rattle.node_grid.specs.Count.{bit, count, Distinct}
 use Rattle.node_grid.specs.NodeSet.{has_id}
 use Rattle.omh_paths.specs.Paths.{outside, IsPath}
-
-or_false : (b : Bool) → (b || false) ≡ b
-or_false true = refl
-or_false false = refl
-
-or_assoc : (a b c : Bool) → (a || (b || c)) ≡ ((a || b) || c)
-or_assoc true b c = refl
-or_assoc false b c = refl
-
-pub has_push : (xs : List ℕ) (q i : ℕ) → has_id (xs ++ q ∷ []) i ≡ (has_id xs i || (q == i))
-has_push [] q i = or_false (q == i)
-has_push (x ∷ xs) q i = ap (λ b. (x == i) || b) (has_push xs q i) ∙ or_assoc (x == i) (has_id xs i) (q == i)
+use Rattle.std.proofs.Math.Bool.{or-false}
+use Rattle.node_grid.specs.ListLaws.{has_push}
 
 -- off the longer path, both ways
 pub off_longer : (path : List ℕ) (q i : ℕ) → has_id (path ++ q ∷ []) i ≡ false → (has_id path i ≡ false) × (q ≢ i)
@@ -87,7 +77,7 @@ count-outside test (x ∷ xs) path q d off =
           omega arith
       | inr other ↦
           let k1 : bit (not (has_id (path ++ q ∷ []) x) && test x) ≡ bit (not (has_id path x) && test x) =
-          ap (λ b. bit (not b && test x)) (has_push path q x ∙ ap (λ b. has_id path x || b) (ne_eqb q x (λ e. eqb-false x q other (sym e))) ∙ or_false (has_id path x)) in
+          ap (λ b. bit (not b && test x)) (has_push path q x ∙ ap (λ b. has_id path x || b) (ne_eqb q x (λ e. eqb-false x q other (sym e))) ∙ or-false (has_id path x)) in
           let k3 : bit ((x == q || has_id xs q) && test q) ≡ bit (has_id xs q && test q) = ap (λ b. bit ((b || has_id xs q) && test q)) other in
           omega arith
     ]

@@ -2,13 +2,15 @@
 use Rattle.std.proofs.Common.{ℕ, zero, suc, ◌≡◌, ◌≢◌, ◌<◌, ◌+◌, ◌-◌, ◌*◌, ◌/◌, ◌%◌, Bool, true, false, not, ◌&&◌, ◌||◌, ◌==◌, List, [], ◌∷◌, ◌++◌, map, length, get_or, refl, sym, ap, ap₂, subst, ◌∙◌, inl, inr, arith, eq-eqb, eqb-true, ne_eqb}
 use Rattle.std.specs.Prelude.{filter}
 use Rattle.std.specs.List.{flat_map}
-use Rattle.std.proofs.lemmas.Bool.{cases_Bool, cases_eq, eqb-false, cond-true, cond-false, and_parts, or_cases, or_parts, or_left, or_right, not-true, both_ways}
+use Rattle.std.proofs.lemmas.Bool.{cases_Bool, eqb-false, cond-true, cond-false, and_parts, or_cases, or_parts, or_left, or_right, not-true, both_ways}
 use Rattle.std.proofs.lemmas.List.{get_or_append_left, get_or-append-add, length-append}
-use Rattle.std.proofs.Math.Nat.{mod-add-div', mod-lt, div-lt_iff_lt-mul, mul_assoc}
+use Rattle.std.proofs.Math.Nat.{mod-add-div', mul_assoc}
 use Rattle.node_grid.specs.NodeSet.{has_id, without_id}
 use Rattle.node_grid.specs.NodeSetLaws.{filter_filter, has-without_id}
 use Rattle.node_grid.specs.Count.{Distinct}
 use Rattle.omh_paths.specs.Paths.{same_nodes, outside, paths_avoiding, paths_of_length, path_count, place_in, path_at, index_in, IsListed}
+use Rattle.std.proofs.lemmas.Nat.{mod_below, div_below}
+use Rattle.node_grid.specs.ListLaws.{eqb_sym, has_some}
 
 -- ---- two paths are the same
 
@@ -28,12 +30,6 @@ same_nodes-tells (x ∷ a) (y ∷ b) h =
 
 filter_same : (p q : ℕ → Bool) (xs : List ℕ) → ((k : ℕ) → p k ≡ q k) → filter p xs ≡ filter q xs
 filter_same p q xs e = ap (λ (t : ℕ → Bool). filter t xs) (λ i k. e k i)
-
-eqb_sym : (x y : ℕ) → (x == y) ≡ (y == x)
-eqb_sym x y = elim (cases_eq x y) [
-  | inl e ↦ eq-eqb x y e ∙ sym (eq-eqb y x (sym e))
-  | inr ne ↦ ne_eqb x y ne ∙ sym (ne_eqb y x (λ e. ne (sym e)))
-]
 
 pub outside_nothing : (xs : List ℕ) → outside xs [] ≡ xs
 outside_nothing [] = refl
@@ -106,14 +102,10 @@ length-without (x ∷ xs) q d h =
           omega arith
       | inr n ↦
           let on : has_id xs q ≡ true = ap (λ (b : Bool). b || has_id xs q) (sym n) ∙ h in
-          let some : 0 < length xs = has-some xs q on in
+          let some : 0 < length xs = has_some xs q on in
           let k : length (without_id (x ∷ xs) q) ≡ suc (length (without_id xs q)) = ap length (cond-true (not (x == q)) (x ∷ without_id xs q) (without_id xs q) (ap not n)) in
           omega (arith, length-without xs q d.1 on)
     ]
-  where
-    has-some : (xs : List ℕ) (q : ℕ) → has_id xs q ≡ true → 0 < length xs
-    has-some [] q h = absurd (cc)
-    has-some (y ∷ ys) q h = omega arith
 
 pub has-without : (s : List ℕ) (q x : ℕ) → x ≢ q → has_id s x ≡ true → has_id (without_id s q) x ≡ true
 has-without s q x ne on = has-without_id s q x ∙ ap₂ (λ (a b : Bool). not a && b) (ne_eqb x q ne) on
@@ -225,12 +217,6 @@ path_at-cons s r a b d distinct low within =
 div-mod : (i w : ℕ) → 0 < w → i ≡ i / w * w + i % w
 div-mod i w some = omega (arith, mod-add-div' i w)
 
-mod_lt : (i w : ℕ) → 0 < w → i % w < w
-mod_lt i w some = mod-lt i some
-
-div-lt-of : (i n w : ℕ) → 0 < w → i < n * w → i / w < n
-div-lt-of i n w some h = (div-lt_iff_lt-mul some).1 h
-
 -- a product's digits
 pub digits : (i n w : ℕ) → i < n * w → 0 < w
 digits i n zero h = absurd (omega arith)
@@ -242,7 +228,7 @@ path_at-step s r i d distinct low =
     let w : ℕ = path_count (length s - 1) r in
     let some : 0 < w = digits i (length s) w low in
     let split : i ≡ i / w * w + i % w = omega (arith, div-mod i w some) in
-    ap (path_at (paths_of_length s (suc r))) split ∙ path_at-cons s r (i / w) (i % w) d distinct (div-lt-of i (length s) w some low) (mod_lt i w some)
+    ap (path_at (paths_of_length s (suc r))) split ∙ path_at-cons s r (i / w) (i % w) d distinct (div_below i w (length s) some low) (mod_below i w some)
 
 -- a path's place: that of its first node among the members, and that of the rest among the paths of the others
 place-here : (c : ℕ) (cs : List ℕ) (ps rest : List (List ℕ)) → place_in ps cs < length ps → place_in (map (λ path. c ∷ path) ps ++ rest) (c ∷ cs) ≡ place_in ps cs
@@ -350,10 +336,10 @@ IsListed-at s (suc r) i d low =
     let w : ℕ = path_count (length s - 1) r in
     let some : 0 < w = digits i (length s) w low in
     let q : ℕ = get_or s (i / w) 0 in
-    let on : has_id s q ≡ true = has-at s (i / w) 0 (div-lt-of i (length s) w some low) in
+    let on : has_id s q ≡ true = has-at s (i / w) 0 (div_below i w (length s) some low) in
     subst (IsListed s (suc r)) (sym (path_at-step s r i 0 d low))
     (IsListed-cons s r q (path_at (paths_of_length (without_id s q) r) (i % w)) on
-    (IsListed-at (without_id s q) r (i % w) (Distinct-without s q d) (subst (λ (n : ℕ). i % w < path_count n r) (sym (length-without s q d on)) (mod_lt i w some))))
+    (IsListed-at (without_id s q) r (i % w) (Distinct-without s q d) (subst (λ (n : ℕ). i % w < path_count n r) (sym (length-without s q d on)) (mod_below i w some))))
 
 -- the place of the path at a place is that place
 pub place-path_at : (s : List ℕ) (r i : ℕ) → Distinct s → i < path_count (length s) r → place_in (paths_of_length s r) (path_at (paths_of_length s r) i) ≡ i
@@ -362,13 +348,13 @@ place-path_at s zero (suc i) d low = absurd (omega arith)
 place-path_at s (suc r) i d low =
     let w : ℕ = path_count (length s - 1) r in
     let some : 0 < w = digits i (length s) w low in
-    let a-low : i / w < length s = div-lt-of i (length s) w some low in
+    let a-low : i / w < length s = div_below i w (length s) some low in
     let q : ℕ = get_or s (i / w) 0 in
     let on : has_id s q ≡ true = has-at s (i / w) 0 a-low in
     let rest : List ℕ = path_at (paths_of_length (without_id s q) r) (i % w) in
     let b : place_in (paths_of_length (without_id s q) r) rest ≡ i % w =
-    place-path_at (without_id s q) r (i % w) (Distinct-without s q d) (subst (λ (n : ℕ). i % w < path_count n r) (sym (length-without s q d on)) (mod_lt i w some)) in
-    let b-low : place_in (paths_of_length (without_id s q) r) rest < w = omega (arith, b, mod_lt i w some) in
+    place-path_at (without_id s q) r (i % w) (Distinct-without s q d) (subst (λ (n : ℕ). i % w < path_count n r) (sym (length-without s q d on)) (mod_below i w some)) in
+    let b-low : place_in (paths_of_length (without_id s q) r) rest < w = omega (arith, b, mod_below i w some) in
     let a : index_in s q * w ≡ i / w * w = ap (λ (n : ℕ). n * w) (index_in-at s (i / w) 0 d a-low) in
     ap (place_in (paths_of_length s (suc r))) (path_at-step s r i 0 d low) ∙ place-cons s r q rest d on b-low ∙ omega (arith, a, b, div-mod i w some)
 
@@ -411,8 +397,8 @@ path_at-push s (suc r) i j d low within =
     let some : 0 < w = digits i n w low in
     let a : ℕ = i / w in
     let b : ℕ = i % w in
-    let a-low : a < n = div-lt-of i n w some low in
-    let b-low : b < w = mod_lt i w some in
+    let a-low : a < n = div_below i w n some low in
+    let b-low : b < w = mod_below i w some in
     let q : ℕ = get_or s a 0 in
     let on : has_id s q ≡ true = has-at s a 0 a-low in
     let t : List ℕ = without_id s q in

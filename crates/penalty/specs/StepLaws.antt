@@ -6,6 +6,7 @@ use Rattle.std.proofs.lemmas.List.{ext_get_or, get_or_past}
 use Rattle.std.proofs.lemmas.List.FromFn.{length-map-range_with_len, get_or-map-range_with_len}
 use Rattle.penalty.specs.declared.Policy.{Policy}
 use Rattle.penalty.specs.Step.{for_nodes, penalty, count_after, streak_after, counts_after, streaks_after, IsCounted}
+use Rattle.std.proofs.Math.Nat.{min-le_left}
 
 pub length-for_nodes : (nodes : ℕ) (value : ℕ → ℕ) (xs : List ℕ) → length (for_nodes nodes value xs) ≡ length xs
 length-for_nodes nodes value xs = length-map-range_with_len _ 0 (length xs)
@@ -53,14 +54,11 @@ for_nodes-more i value xs within =
 
 -- ---- counts stay within the cap, and streaks below a full one
 
-least_capped : (a b : ℕ) → min a b ≤ a
-least_capped a b = omega arith
-
 pub count-capped : (policy : Policy) (mask count streak : ℕ) → count ≤ policy.cap → count_after policy mask count streak ≤ policy.cap
 count-capped policy mask count streak capped =
     elim (mask == 0) as (λ b. cond b (cond (streak + 1 == policy.streak) (count - policy.credit) count) (min policy.cap (count + penalty policy.weights mask)) ≤ policy.cap) [
       | true ↦ elim (streak + 1 == policy.streak) as (λ b. cond b (count - policy.credit) count ≤ policy.cap) [ true ↦ omega arith | false ↦ capped ]
-      | false ↦ least_capped policy.cap (count + penalty policy.weights mask)
+      | false ↦ min-le_left policy.cap (count + penalty policy.weights mask)
     ]
 
 pub streak-unfilled : (policy : Policy) (mask streak : ℕ) → streak < policy.streak → streak_after policy mask streak < policy.streak

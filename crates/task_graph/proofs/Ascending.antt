@@ -1,8 +1,9 @@
 -- A list whose every number is less than the next, by places.
-use Rattle.std.proofs.Common.{◌≡◌, ℕ, zero, suc, ◌+◌, ◌-◌, ◌<◌, ◌≤◌, Bool, true, false, ◌&&◌, List, [], ◌∷◌, length, get_or, refl, sym, inl, inr, arith}
+use Rattle.std.proofs.Common.{◌≡◌, ℕ, zero, suc, ◌+◌, ◌-◌, ◌<◌, ◌≤◌, true, false, List, [], ◌∷◌, length, get_or, refl, sym, inl, inr, arith}
 use Rattle.std.proofs.lemmas.Bool.{cases_lt, lt-ltb, le-ltb}
 use Rattle.std.specs.Prelude.{nat_lt}
 use Rattle.task_graph.specs.Graph.{is_ascending}
+use Rattle.std.proofs.Math.Bool.{and-false}
 
 pub ascends_throughout : (xs : List ℕ) → ((j : ℕ) → suc j < length xs → get_or xs j 0 < get_or xs (suc j) 0) → is_ascending xs ≡ true
 ascends_throughout [] h = refl
@@ -18,11 +19,7 @@ falls_somewhere (x ∷ []) j l h = absurd (omega arith)
 falls_somewhere (x ∷ y ∷ ys) zero l h = rw (le-ltb x y h) refl
 falls_somewhere (x ∷ y ∷ ys) (suc j) l h =
     let rest : is_ascending (y ∷ ys) ≡ false = falls_somewhere (y ∷ ys) j (omega arith) h in
-    rw rest (both_false (nat_lt x y))
-  where
-    both_false : (b : Bool) → (b && false) ≡ false
-    both_false true = refl
-    both_false false = refl
+    rw rest (and-false (nat_lt x y))
 
 -- what the loop finds at place k
 pub falls_at : (xs : List ℕ) (k : ℕ) → 1 ≤ k → k < length xs → get_or xs k 0 ≤ get_or xs (k - 1) 0 → false ≡ is_ascending xs

@@ -1,5 +1,5 @@
 -- How the closure goes on: after step k the masks have the chains whose inner tasks lie up to k.
-use Rattle.std.proofs.Common.{◌≡◌, ◌≢◌, ℕ, zero, suc, ◌+◌, ◌*◌, ◌/◌, ◌%◌, ◌^◌, ◌<◌, ◌≤◌, Bool, true, false, ◌&&◌, ◌||◌, List, length, get_or, set, take, max, bit_and, bit_or, refl, sym, ap, ap₂, ◌∙◌, inl, inr, arith, eq-eqb, ne_eqb, get_or-set_same, get_or-set_other, w32}
+use Rattle.std.proofs.Common.{◌≡◌, ◌≢◌, ℕ, suc, ◌+◌, ◌*◌, ◌/◌, ◌%◌, ◌^◌, ◌<◌, ◌≤◌, true, false, ◌&&◌, ◌||◌, List, length, get_or, set, take, bit_and, bit_or, sym, ap, ap₂, ◌∙◌, inl, inr, arith, eq-eqb, ne_eqb, get_or-set_same, get_or-set_other, w32}
 use Rattle.std.specs.Prelude.{◌==◌}
 use Rattle.std.specs.Int.{bit_at}
 use Rattle.std.proofs.lemmas.Bool.{cases_lt, cases_eq}
@@ -8,6 +8,8 @@ use Rattle.std.proofs.lemmas.Nat.Bits.{bit_at_or, bit_at-lt, bit_at-zero, bit_at
 use Rattle.node_grid.specs.NodeSet.{has_id}
 use Rattle.task_graph.specs.Graph.{TaskView}
 use Rattle.task_graph.specs.Reach.{reaches, has_bit, AreReached}
+use Rattle.std.proofs.Math.Bool.{or-true, or-false}
+use Rattle.node_grid.specs.NodeSetLaws.{either_bit}
 
 -- ---- masks
 
@@ -19,16 +21,7 @@ pub no_bit_test : (mask k : ℕ) → bit_and (mask / 2 ^ k) 1 ≢ 1 → has_bit 
 no_bit_test mask k h = ne_eqb _ _ (λ e. h (shr_and_one mask k ∙ e))
 
 has_bit-or : (a b u : ℕ) → has_bit (bit_or a b) u ≡ (has_bit a u || has_bit b u)
-has_bit-or a b u = ap (λ n. n == 1) (bit_at_or a b u) ∙ of_bits (bit_at a u) (bit_at b u) (bit_at-lt a u) (bit_at-lt b u)
-  where
-    of_bits : (x y : ℕ) → x < 2 → y < 2 → (max x y == 1) ≡ ((x == 1) || (y == 1))
-    of_bits zero zero p q = refl
-    of_bits zero (suc zero) p q = refl
-    of_bits zero (suc (suc y)) p q = absurd (omega arith)
-    of_bits (suc zero) zero p q = refl
-    of_bits (suc zero) (suc zero) p q = refl
-    of_bits (suc zero) (suc (suc y)) p q = absurd (omega arith)
-    of_bits (suc (suc x)) y p q = absurd (omega arith)
+has_bit-or a b u = ap (λ n. n == 1) (bit_at_or a b u) ∙ either_bit (bit_at a u) (bit_at b u) (bit_at-lt a u) (bit_at-lt b u)
 
 pub no_bits : (u : ℕ) → has_bit 0 u ≡ false
 no_bits u = ap (λ n. n == 1) (bit_at-zero u)
@@ -42,20 +35,12 @@ mask_more xs mask i t l e few before u h =
       | inl same ↦
           let a : has_bit (bit_or mask (1 * 2 ^ t % 2 ^ 32)) u ≡ true = rw same (ap (λ n. n == 1) (bit_at_set_same w32 mask t few)) in
           let b : (get_or xs i 0 == u) ≡ true = eq-eqb _ _ (sym e ∙ sym same) in
-          a ∙ sym (more ∙ rw b (or_true (has_id (take i xs) u)))
+          a ∙ sym (more ∙ rw b (or-true (has_id (take i xs) u)))
       | inr other ↦
           let a : has_bit (bit_or mask (1 * 2 ^ t % 2 ^ 32)) u ≡ has_bit mask u = ap (λ n. n == 1) (bit_at_set_other w32 mask t few u other) in
           let b : (get_or xs i 0 == u) ≡ false = ne_eqb _ _ (λ d. other (sym (e ∙ d))) in
-          a ∙ before u h ∙ sym (more ∙ rw b (or_false (has_id (take i xs) u)))
+          a ∙ before u h ∙ sym (more ∙ rw b (or-false (has_id (take i xs) u)))
     ]
-  where
-    or_true : (b : Bool) → (b || true) ≡ true
-    or_true true = refl
-    or_true false = refl
-
-    or_false : (b : Bool) → (b || false) ≡ b
-    or_false true = refl
-    or_false false = refl
 
 -- ---- the closure
 
@@ -97,11 +82,7 @@ reached_without tasks k t masks hk h off = record {
     | inr at ↦
         let e : i ≡ t = omega arith in
         let no : reaches tasks k t k ≡ false = sym (h.left t k (omega arith) (omega arith) hk) ∙ off in
-        rw e (h.left t u (omega arith) (omega arith) hu ∙ sym (rw no (or_false (reaches tasks k t u))))
+        rw e (h.left t u (omega arith) (omega arith) hu ∙ sym (rw no (or-false (reaches tasks k t u))))
   ];
   left = λ i u above hi hu. h.left i u (omega arith) hi hu;
 }
-  where
-    or_false : (b : Bool) → (b || false) ≡ b
-    or_false true = refl
-    or_false false = refl

@@ -1,19 +1,16 @@
 -- What a loop over tasks or members knows of ranges.
-use Rattle.std.proofs.Common.{◌≡◌, ℕ, zero, suc, ◌<◌, ◌≤◌, Bool, true, false, ◌&&◌, List, [], ◌∷◌, ◌++◌, length, get_or, refl, ◌∙◌, arith}
+use Rattle.std.proofs.Common.{◌≡◌, ℕ, zero, suc, ◌<◌, ◌≤◌, true, false, List, [], ◌∷◌, ◌++◌, length, get_or, refl, ◌∙◌, arith}
 use Rattle.std.specs.Prelude.{nat_lt}
 use Rattle.std.proofs.lemmas.Bool.{both_ways, and_parts, lt-ltb, le-ltb, ltb-true}
 use Rattle.std.proofs.lemmas.List.Folds.{list_all-append}
 use Rattle.task_graph.specs.Graph.{TaskView, task_at, all_below, is_in_range, IsOut, IsLeast}
+use Rattle.std.proofs.Math.Bool.{and-false}
 
 pub below_and_one : (n : ℕ) (xs : List ℕ) (x : ℕ) → all_below n xs ≡ true → x < n → all_below n (xs ++ x ∷ []) ≡ true
 below_and_one n xs x h l = list_all-append (λ y. nat_lt y n) xs (x ∷ []) ∙ rw (h, lt-ltb x n l) refl
 
 pub one_above : (n : ℕ) (xs : List ℕ) (x : ℕ) (rest : List ℕ) → n ≤ x → all_below n (xs ++ x ∷ rest) ≡ false
-one_above n xs x rest l = list_all-append (λ y. nat_lt y n) xs (x ∷ rest) ∙ rw (le-ltb x n l) (both_false (all_below n xs))
-  where
-    both_false : (b : Bool) → (b && false) ≡ false
-    both_false true = refl
-    both_false false = refl
+one_above n xs x rest l = list_all-append (λ y. nat_lt y n) xs (x ∷ rest) ∙ rw (le-ltb x n l) (and-false (all_below n xs))
 
 -- the tasks below t are in range
 abbrev pub AllInRange : ℕ → List TaskView → ℕ → Type 0

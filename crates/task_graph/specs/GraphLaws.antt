@@ -1,7 +1,7 @@
 -- What is known of a graph: its tasks are in range and few, and a task comes after itself exactly where a test says so.
-use Rattle.std.proofs.Common.{◌≡◌, ℕ, zero, suc, ◌<◌, ◌≤◌, Bool, true, false, ◌&&◌, List, [], ◌∷◌, ◌++◌, length, ap, inl, inr, arith, subst}
+use Rattle.std.proofs.Common.{◌≡◌, ℕ, zero, suc, ◌<◌, ◌≤◌, true, false, List, [], ◌∷◌, ◌++◌, length, ap, inl, inr, arith, subst}
 use Rattle.std.specs.Prelude.{nat_lt}
-use Rattle.std.proofs.lemmas.Bool.{cases_Bool, cases_lt, and_parts, both_ways, or_left, or_right, or_cases, ltb-true, leb-true}
+use Rattle.std.proofs.lemmas.Bool.{cases_Bool, cases_lt, and_parts, both_ways, or_left, or_right, or_cases, ltb-true, leb-true, and_from}
 use Rattle.std.proofs.lemmas.List.{get_or_past}
 use Rattle.node_grid.specs.NodeSet.{has_id}
 use Rattle.node_grid.specs.ListLaws.{all_at}
@@ -98,9 +98,6 @@ chain_of_reach tasks (suc k) t u h = elim (or_cases _ _ h) [
       (a.0 ++ k ∷ b.0, chain_joined tasks t a.0 k b.0 u a.1 b.1)
 ]
 
-and_both : (x y : Bool) → x ≡ true → y ≡ true → (x && y) ≡ true
-and_both x y h k = let a : (x && y) ≡ (true && true) = cc in a
-
 reach_more : (tasks : List TaskView) (k t u : ℕ) → reaches tasks k t u ≡ true → reaches tasks (suc k) t u ≡ true
 reach_more tasks k t u h = or_left _ _ h
 
@@ -115,18 +112,18 @@ reach_through tasks (suc k) t v u l a b = elim (cases_lt v k) [
   | inl below ↦ elim (or_cases _ _ a) [
     | inl a1 ↦ elim (or_cases _ _ b) [
       | inl b1 ↦ or_left _ _ (reach_through tasks k t v u below a1 b1)
-      | inr b2 ↦ let q = and_parts _ _ b2 in or_right _ _ (and_both _ _ (reach_through tasks k t v k below a1 q.0) q.1)
+      | inr b2 ↦ let q = and_parts _ _ b2 in or_right _ _ (and_from _ _ (reach_through tasks k t v k below a1 q.0) q.1)
     ]
     | inr a2 ↦ let p = and_parts _ _ a2 in elim (or_cases _ _ b) [
-      | inl b1 ↦ or_right _ _ (and_both _ _ p.0 (reach_through tasks k k v u below p.1 b1))
-      | inr b2 ↦ or_right _ _ (and_both _ _ p.0 (and_parts _ _ b2).1)
+      | inl b1 ↦ or_right _ _ (and_from _ _ p.0 (reach_through tasks k k v u below p.1 b1))
+      | inr b2 ↦ or_right _ _ (and_from _ _ p.0 (and_parts _ _ b2).1)
     ]
   ]
   | inr above ↦
       let e : v ≡ k = omega arith in
       let a' : reaches tasks k t k ≡ true = first (subst (λ (x : ℕ). reaches tasks (suc k) t x ≡ true) e a) in
       let b' : reaches tasks k k u ≡ true = second (subst (λ (x : ℕ). reaches tasks (suc k) x u ≡ true) e b) in
-      or_right _ _ (and_both _ _ a' b')
+      or_right _ _ (and_from _ _ a' b')
 ]
   where
     first : reaches tasks (suc k) t k ≡ true → reaches tasks k t k ≡ true

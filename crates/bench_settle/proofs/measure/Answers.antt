@@ -1,5 +1,6 @@
 use Rattle.std.proofs.Common.{ℕ, ◌<◌, ◌+◌, ◌*◌, ap, arith}
-use Rattle.omh_paths.specs.MemberLaws.{capacity-le, member-lt}
+use Rattle.node_grid.specs.CapacityLaws.{capacity-le}
+use Rattle.omh_paths.specs.MemberLaws.{member-lt}
 use Rattle.bench_settle.proofs.Settings.{at_capacity}
 use Rattle.bench_settle.proofs.measure.Goals as goal
 use prog.Memory

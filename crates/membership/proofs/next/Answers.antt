@@ -1,9 +1,8 @@
 use Rattle.std.proofs.Common.{◌≡◌, ℕ, Bool, length, get_or, refl, sym, ap, ◌∙◌, arith, rules}
 use Rattle.node_grid.specs.NodeSet.{with_id, ids_where}
-use Rattle.node_grid.specs.NodeSetLaws.{ids_where_more_yes, ids_where_more_no}
+use Rattle.node_grid.specs.NodeSetLaws.{ids_where_more_yes, ids_where_more_no, ids_where-within}
 use Rattle.penalty.specs.StepLaws.{for_nodes-none, for_nodes-more, for_nodes-past}
 use Rattle.membership.specs.Members.{stays, leaves, times_after, left_after}
-use Rattle.membership.proofs.Within.{ids_where-within}
 use Rattle.membership.proofs.Staying.{leaves-not_stays}
 use Rattle.membership.proofs.next.Goals as goal
 use Rattle.membership.proofs.next.Goals.{then-stays, else-stays}

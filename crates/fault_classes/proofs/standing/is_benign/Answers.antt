@@ -1,7 +1,8 @@
 use Rattle.std.proofs.Common.{sym, ◌∙◌, arith}
 use Rattle.fault_classes.specs.Change.{is_manifest}
 use Rattle.fault_classes.specs.Plan.{slot_count, each_in_slot}
-use Rattle.fault_classes.proofs.Loops.{all_ids, not_all_ids}
+use Rattle.node_grid.specs.NodeSetLaws.{not_all_ids}
+use Rattle.fault_classes.proofs.Loops.{all_ids}
 use Rattle.fault_classes.proofs.standing.is_benign.Goals as goal
 
 pub returns-then-not-is_benign_at : goal.returns-then-not-is_benign_at

@@ -2,7 +2,8 @@ use Rattle.std.proofs.Common.{◌≡◌, false, sym, ◌∙◌, arith, ◌||◌}
 use Rattle.std.specs.Prelude.{◌==◌}
 use Rattle.fault_classes.specs.Change.{is_untouched}
 use Rattle.fault_classes.specs.Line.{effect_at}
-use Rattle.fault_classes.proofs.Loops.{all_ids, not_all_ids, touched, other_fails}
+use Rattle.node_grid.specs.NodeSetLaws.{not_all_ids}
+use Rattle.fault_classes.proofs.Loops.{all_ids, touched, other_fails}
 use Rattle.fault_classes.proofs.standing.is_clean_at.Goals as goal
 
 pub returns-then-is_some : goal.returns-then-is_some

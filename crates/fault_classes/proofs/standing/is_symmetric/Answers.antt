@@ -1,6 +1,7 @@
 use Rattle.std.proofs.Common.{sym, ◌∙◌, arith}
 use Rattle.fault_classes.specs.Plan.{slot_count, is_symmetric_at}
-use Rattle.fault_classes.proofs.Loops.{all_ids, not_all_ids}
+use Rattle.node_grid.specs.NodeSetLaws.{not_all_ids}
+use Rattle.fault_classes.proofs.Loops.{all_ids}
 use Rattle.fault_classes.proofs.standing.is_symmetric.Goals as goal
 
 pub returns-then-not-is_symmetric_at : goal.returns-then-not-is_symmetric_at

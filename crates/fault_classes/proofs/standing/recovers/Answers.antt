@@ -5,7 +5,8 @@ use Rattle.node_grid.specs.Count.{bit, count}
 use Rattle.fault_classes.specs.Change.{is_manifest}
 use Rattle.fault_classes.specs.Line.{effect_at}
 use Rattle.fault_classes.specs.Plan.{sound_before, steady}
-use Rattle.fault_classes.proofs.Sets.{has_in, length_where, count_more, count_same}
+use Rattle.node_grid.specs.NodeSetLaws.{count-below}
+use Rattle.fault_classes.proofs.Sets.{has_in, length_where, count_same}
 use Rattle.fault_classes.proofs.standing.recovers.Goals as goal
 use Rattle.fault_classes.proofs.standing.recovers.Goals.{then-is_stray, else-is_stray}
 
@@ -13,7 +14,7 @@ pub loop-other-preserved : goal.loop-other-preserved
 loop-other-preserved g c =
     let k = c.loop-other.other in
     let stray : ℕ → Bool = λ j. not (j == c.args.node) && (not (has_id c.args.good.now j) && not (is_manifest (effect_at c.args.index.now.lines c.args.period 0 j c.args.node))) in
-    let more : count stray (ids_below (k + 1)) ≡ count stray (ids_below k) + bit (stray k) = count_more stray k in
+    let more : count stray (ids_below (k + 1)) ≡ count stray (ids_below k) + bit (stray k) = count-below stray k in
     elim c.if-is_stray.branch [
       | then-is_stray w ↦
           let on : bit (stray k) ≡ 1 = ap bit (sym c.is_stray.ensures ∙ w.if-is_stray.true) in

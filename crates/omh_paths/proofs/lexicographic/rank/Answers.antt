@@ -4,7 +4,8 @@ use Rattle.node_grid.specs.NodeSet.{without_id}
 use Rattle.omh_paths.specs.Paths.{index_in}
 use Rattle.omh_paths.specs.PathLists.{index_in-lt, length-without, place-lt}
 use Rattle.omh_paths.proofs.Ranks.{IsRanked, ranked_start, ranked_at, ranked_more, head_within, place_bound, product_small, ranked_end}
-use Rattle.omh_paths.specs.MemberLaws.{Distinct-ids, capacity-le, few_ids, place-index}
+use Rattle.node_grid.specs.CapacityLaws.{capacity-le}
+use Rattle.omh_paths.specs.MemberLaws.{Distinct-ids, few_ids, place-index}
 use Rattle.omh_paths.proofs.lexicographic.rank.Goals as goal
 
 pub loop-k-init : goal.loop-k-init

@@ -5,7 +5,8 @@ use Rattle.omh_paths.specs.Paths.{path_count, path_at, paths_of_length, IsListed
 use Rattle.omh_paths.specs.PathLists.{length-without, has-at, IsListed-at}
 use Rattle.omh_paths.specs.Layout.{zeros_after}
 use Rattle.omh_paths.proofs.Ranks.{IsUnranked, unranked_start, unranked_at, unranked_more, unranked_end, distinct_end, first_place, behind_is}
-use Rattle.omh_paths.specs.MemberLaws.{capacity-le, Distinct-ids}
+use Rattle.node_grid.specs.CapacityLaws.{capacity-le}
+use Rattle.omh_paths.specs.MemberLaws.{Distinct-ids}
 use Rattle.omh_paths.proofs.lexicographic.unrank.Goals as goal
 
 pub loop-k-init : goal.loop-k-init

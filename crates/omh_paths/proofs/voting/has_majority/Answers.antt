@@ -1,9 +1,10 @@
-use Rattle.std.proofs.Common.{◌≡◌, ◌+◌, ◌≤◌, ◌<◌, Bool, true, false, not, length, sym, ap, ◌∙◌, arith}
+use Rattle.std.proofs.Common.{◌≡◌, ◌+◌, ◌<◌, not, length, sym, ap, ◌∙◌, arith}
 use Rattle.node_grid.specs.Count.{bit}
 use Rattle.omh_paths.specs.Wrapped.{is_error, same}
-use Rattle.omh_paths.proofs.Candidates.{count_next, has_majority_from}
+use Rattle.omh_paths.proofs.Candidates.{has_majority_from}
 use Rattle.omh_paths.proofs.voting.has_majority.Goals as goal
 use Rattle.omh_paths.proofs.voting.has_majority.Goals.{then-not-is_error, else-not-is_error, then-is, else-is}
+use Rattle.node_grid.specs.ListLaws.{bit_le, count_next}
 
 pub loop-other-preserved : goal.loop-other-preserved
 loop-other-preserved g c =
@@ -27,13 +28,9 @@ loop-other-preserved g c =
     record {
       votes = omega (arith, voted, v, c.loop-other.invariant.votes);
       support = omega (arith, supported, s, c.loop-other.invariant.support);
-      few_votes = omega (arith, voted, bit_one (not (is_error c.other-item.result)), c.loop-other.invariant.few_votes);
-      few_support = omega (arith, supported, bit_one (same g.V.PartialEq.eq c.args.value c.other-item.result), c.loop-other.invariant.few_support);
+      few_votes = omega (arith, voted, bit_le (not (is_error c.other-item.result)), c.loop-other.invariant.few_votes);
+      few_support = omega (arith, supported, bit_le (same g.V.PartialEq.eq c.args.value c.other-item.result), c.loop-other.invariant.few_support);
     }
-  where
-    bit_one : (b : Bool) → bit b ≤ 1
-    bit_one true = omega arith
-    bit_one false = omega arith
 
 pub returns : goal.returns
 returns g c =

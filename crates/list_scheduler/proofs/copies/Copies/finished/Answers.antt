@@ -2,8 +2,9 @@ use Rattle.std.proofs.Common.{◌≡◌, ◌<◌, ◌≤◌, ◌+◌, sym, ap, �
 use Rattle.node_grid.specs.NodeSet.{ids_below}
 use Rattle.node_grid.specs.Count.{bit, count}
 use Rattle.list_scheduler.specs.Copies.{copy_at, is_passed}
-use Rattle.list_scheduler.proofs.Completing.{capacity_few}
-use Rattle.list_scheduler.proofs.Picking.{count_more, count_few}
+use Rattle.node_grid.specs.CapacityLaws.{capacity-le}
+use Rattle.node_grid.specs.NodeSetLaws.{count-below}
+use Rattle.list_scheduler.proofs.Picking.{count_few}
 use Rattle.list_scheduler.proofs.copies.Copies.finished.Goals as goal
 use Rattle.list_scheduler.proofs.copies.Copies.finished.Goals.{then-is_passed, else-is_passed}
 
@@ -12,7 +13,7 @@ overflow_add-passed g c =
     let few = count_few (λ q. is_passed (copy_at c.args.self.now c.args.t q)) c.loop-node.node in
     let so_far : c.loop-node.passed ≡ count (λ q. is_passed (copy_at c.args.self.now c.args.t q)) (ids_below c.loop-node.node) = c.loop-node.invariant in
     let nodes : c.args.graph.now.nodes ≤ g.row.N = c.nodes-node-end.ensures.graph.few_nodes in
-    let capacity = capacity_few g.row.N c.requires.capacity in
+    let capacity = capacity-le g.row.N c.requires.capacity in
     let end : c.nodes-node-end.result ≡ c.args.graph.now.nodes = c.nodes-node-end.ensures.count in
     let below : c.loop-node.node < c.nodes-node-end.result = c.loop-node-test.true in
     let fits : c.loop-node.passed + 1 < 256 = omega arith in
@@ -20,7 +21,7 @@ overflow_add-passed g c =
 
 pub loop-node-preserved : goal.loop-node-preserved
 loop-node-preserved g c =
-    let more = count_more (λ q. is_passed (copy_at c.args.self.now c.args.t q)) c.loop-node.node in
+    let more = count-below (λ q. is_passed (copy_at c.args.self.now c.args.t q)) c.loop-node.node in
     let so_far : c.loop-node.passed ≡ count (λ q. is_passed (copy_at c.args.self.now c.args.t q)) (ids_below c.loop-node.node) = c.loop-node.invariant in
     let told : c.is_passed.result ≡ is_passed (copy_at c.args.self.now c.args.t c.loop-node.node) = c.is_passed.ensures ∙ ap is_passed c.at.ensures.copy in
     elim c.if-is_passed.branch [

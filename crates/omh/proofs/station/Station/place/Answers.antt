@@ -1,5 +1,6 @@
 use Rattle.std.proofs.Common.{◌≡◌, ◌-◌, length, ap, ◌∙◌, arith}
-use Rattle.omh_paths.specs.MemberLaws.{path_count-few, capacity-le}
+use Rattle.node_grid.specs.CapacityLaws.{capacity-le}
+use Rattle.omh_paths.specs.MemberLaws.{path_count-few}
 use Rattle.omh.specs.Flat.{section_at}
 use Rattle.omh.proofs.Flats.{place_within_len}
 use Rattle.omh.proofs.station.Station.place.Goals as goal

@@ -1,0 +1,7 @@
+-- What a capacity is at most.
+use Rattle.std.proofs.Common.{ℕ, ◌≤◌, inl, inr, arith}
+use Rattle.node_grid.specs.Capacity.{IsCapacity}
+
+pub capacity-le : (n : ℕ) → IsCapacity n → n ≤ 16
+capacity-le n (inl e) = omega arith
+capacity-le n (inr e) = omega arith
