@@ -40,6 +40,7 @@ class Row:
     readmitted: int = 0
     to_exclude: list[int] = dataclasses.field(default_factory=list)
     to_return: list[int] = dataclasses.field(default_factory=list)
+    skew: int | None = None
 
 
 @dataclasses.dataclass(frozen=True)
@@ -87,6 +88,7 @@ def judge(program: str, job: Job) -> Row:
         row.lost, row.terms = run.loss.period, "+".join(run.loss.terms)
     margins = [it for it in run.margins if it is not None]
     row.margin = min(margins) if margins else None
+    row.skew = max((it for it in run.skews[: run.claimed] if it is not None), default=None)
     for story in run.stories:
         row.charges += len(story.charged)
         row.excluded += len(story.left)
@@ -193,6 +195,9 @@ def page(rows: list[Row]) -> str:
     margins = [it.margin for it in good if it.margin is not None]
     if margins:
         lines.append(f"least margin of the bound: {min(margins)} to {max(margins)}, in the middle {statistics.median(margins):g}")
+    skews = [it.skew for it in good if it.skew is not None]
+    if skews:
+        lines.append(f"greatest clock skew of sound nodes in claimed periods: {min(skews)} to {max(skews)}, in the middle {statistics.median(skews):g}")
     lines.append(f"from the first charge until exclusion: {_distribution([n for it in good for n in it.to_exclude])}")
     lines.append(f"from exclusion until the node was back: {_distribution([n for it in good for n in it.to_return])}")
     return "\n".join(lines) + "\n"

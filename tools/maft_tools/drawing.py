@@ -5,6 +5,7 @@ import copy
 import dataclasses
 import random
 
+from . import plan
 from .plan import VALUE_LIMIT, Json, WordsError
 from .scenario import Scenario
 
@@ -28,16 +29,36 @@ class Options:
     length: int = 3
     restart: int = 2
     seed: int = 0
-    base: str = ""
+    clock: bool = False
+    copies: bool = False
+
+
+def clock_of(nodes: int) -> Json:
+    """Clocks that start up to 12 apart, drift up to 2 a period, and are read up to 1 wrong."""
+    drifts = [[(node + row) % 3 for node in range(nodes)] for row in range(3)]
+    errors = [[(node + row) % 3 - 1 for node in range(nodes)] for row in range(3)]
+    return {"epsilon": 1, "drift": 2, "start": [5 * node % 13 for node in range(nodes)], "drifts": drifts, "errors": errors, "lies": []}
+
+
+def add_copies(data: Json, nodes: int) -> None:
+    """A task with a copy on up to five nodes in each period, and a channel of what the copies come to."""
+    group = list(range(min(nodes, 5)))
+    data["frame"] = 1
+    data["tasks"] = [{"after": [], "nodes": group, "need": len(group) // 2 + 1, "min": 1, "max": 1, "run": [1] * len(group)}]
+    data["channels"].append({"kind": "copy", "delta": 4, "task": 0, "lies": 1, "readings": [[40 + node % 4 for node in range(nodes)]]})
 
 
 def base_of(options: Options) -> Json:
     """The cluster that faults are drawn onto: one sensor, and a policy that excludes at the second bad period."""
-    version = 2 if options.nodes > 8 or options.m > 2 else 1
+    version = 2 if options.nodes > 8 or options.m > 2 or options.clock or options.copies else 1
     data: Json = {"version": 2} if version == 2 else {}
     policy = {"weights": [5] * (8 * version), "exclude": 10, "readmit": 4, "credit": 5, "streak": 1, "cap": 20}
     readings = [[100 + (3 * node + row) % 5 for node in range(options.nodes)] for row in range(3)]
     data.update(nodes=options.nodes, m=options.m, periods=options.periods, policy=policy, channels=[{"kind": "sensor", "delta": 4, "readings": readings}])
+    if options.clock:
+        data["clock"] = clock_of(options.nodes)
+    if options.copies:
+        add_copies(data, options.nodes)
     return data
 
 
@@ -57,28 +78,40 @@ def _value(draw: random.Random) -> int:
     return max(-VALUE_LIMIT, min(VALUE_LIMIT, _below(draw, 4001) - 2000))
 
 
-def _benign(s: Scenario, draw: random.Random, node: int, span: tuple[int, int], voted: bool) -> None:
+def _tells(s: Scenario, draw: random.Random, node: int, span: tuple[int, int], to: list[int] | None, places: list[int]) -> None:
+    """A wrong value of one of the channels that are due in every period, by their places among the due ones."""
+    place = places[_below(draw, len(places))] if len(places) > 1 else places[0]
+    s.fault(node, {"set": {"at": plan.value_at(place), "hex": plan.value_hex(_value(draw))}}, span, to, [plan.data_slot(s.m)])
+
+
+def _benign(s: Scenario, draw: random.Random, node: int, span: tuple[int, int], places: list[int]) -> None:
     (s.silent, s.late, s.twice)[_below(draw, 3)](node, span)
 
 
-def _symmetric(s: Scenario, draw: random.Random, node: int, span: tuple[int, int], voted: bool) -> None:
-    if voted and draw.random() < 0.5:
-        s.tells(node, _value(draw), 0, span)
+def _symmetric(s: Scenario, draw: random.Random, node: int, span: tuple[int, int], places: list[int]) -> None:
+    if places and draw.random() < 0.5:
+        _tells(s, draw, node, span, None, places)
     else:
         accused = (node + 1 + _below(draw, s.nodes - 1)) % s.nodes
         s.accuses(node, accused, ["deviate"], span)
+    if "clock" in s.data:
+        s.clock_lies(node, _value(draw), span)
 
 
-def _asymmetric(s: Scenario, draw: random.Random, node: int, span: tuple[int, int], voted: bool) -> None:
+def _asymmetric(s: Scenario, draw: random.Random, node: int, span: tuple[int, int], places: list[int]) -> None:
     others = [it for it in range(s.nodes) if it != node]
     some = _some(draw, others)
-    if voted and draw.random() < 0.5:
-        s.tells(node, _value(draw), 0, span, some)
-        s.tells(node, _value(draw), 0, span, [it for it in others if it not in some])
+    rest = [it for it in others if it not in some]
+    if places and draw.random() < 0.5:
+        _tells(s, draw, node, span, some, places)
+        _tells(s, draw, node, span, rest, places)
     elif draw.random() < 0.5:
         s.silent(node, span, some)
     else:
         s.accuses(node, others[_below(draw, len(others))], ["deviate", "missing"], span, some)
+    if "clock" in s.data:
+        s.clock_lies(node, _value(draw), span, some)
+        s.clock_lies(node, _value(draw), span, rest)
 
 
 _ILL = {"benign": _benign, "symmetric": _symmetric, "asymmetric": _asymmetric}
@@ -96,7 +129,9 @@ def drawn(options: Options, index: int, base: Json | None = None) -> Json:
     draw = random.Random(f"{options.seed}/{index}")
     s = Scenario(copy.deepcopy(base) if base is not None else base_of(options))
     channels = s.data.get("channels", [])
-    voted = bool(channels) and (channels[0].get("kind") == "state" or channels[0].get("kind") == "sensor" and "task" not in channels[0])
+    places = [0] if channels and plan.is_always_due(channels[0]) else []
+    if base is None and options.copies:
+        places.append(1)
     for node in _chosen(draw, s.nodes, options.faulty):
         ill = _ILL[options.classes[_below(draw, len(options.classes))]]
         period = 1
@@ -105,7 +140,7 @@ def drawn(options: Options, index: int, base: Json | None = None) -> Json:
                 period += 1
                 continue
             last = min(period + _below(draw, options.length), s.periods - 1)
-            ill(s, draw, node, (period, last), voted)
+            ill(s, draw, node, (period, last), places)
             if not options.restart:
                 break
             if last + options.restart < s.periods:
