@@ -1,6 +1,7 @@
 //! Laws of the grammar, over its definitions alone. Each function's promise is its law.
 
 ghost use Rattle.frames.specs.Laws.{ReadsExactly, IsSpeltOnce, ReadsBack, ReadsInRange, HasNoFront, HasNoPrefix, ReadsCold, IsShort};
+ghost use Rattle.frames.specs.Runs.{RunsLaw};
 
 /// Reading gives a content exactly where the bytes are a frame that says it.
 pub fn reads_exactly()
@@ -40,4 +41,9 @@ pub fn reads_cold()
 /// Where the sizes are those for which types are laid out, what is sent is short enough for the length field.
 pub fn is_short()
     ensures { IsShort }
+{}
+
+/// The runs of pieces of one width are these pieces, each so many times.
+pub fn runs()
+    ensures { RunsLaw }
 {}

@@ -13,6 +13,8 @@ mod kind;
 mod known;
 pub mod laws;
 mod pieces;
+mod relay;
+mod runs;
 mod values;
 
 pub use bound::frame_bound;
@@ -22,4 +24,6 @@ pub use encoding::encode;
 pub use filling::fill_entries;
 pub use frame::{Body, Expect, Frame, Head, StateBody};
 pub use known::decode_known;
+pub use relay::{end_claims, end_rows, put_claims, put_rows};
+pub use runs::{are_runs, has_firsts};
 pub use values::{Values, put_value};
