@@ -11,7 +11,8 @@ use Rattle.node_grid.specs.NodeSet.{ids_below}
 use Rattle.fault_classes.specs.Change.{is_untouched, is_manifest, same_effect}
 use Rattle.fault_classes.specs.ChangeLaws.{untouched_is, same_effect_is}
 use Rattle.fault_classes.specs.Line.{effect_at}
-use Rattle.fault_classes.specs.Plan.{Plan, slot_count, nodes_of, restarts_at, each_in_slot, each_frame, is_clean, is_symmetric_at, steady, recovers_in, sound_before, class_of}
+use Rattle.slot_plan.specs.Slots.{slot_count}
+use Rattle.fault_classes.specs.Plan.{Plan, nodes_of, restarts_at, each_in_slot, each_frame, is_clean, is_symmetric_at, steady, recovers_in, sound_before, class_of}
 use Rattle.fault_classes.specs.ClassLaws.{nonfaulty_is, sound_is, steady_if, joins_if, benign_if, symmetric_if, four_parts}
 use Rattle.fault_classes.specs.Laws.{CleanLaw, BenignLaw, SymmetricLaw, RecoveryLaw, SoundnessLaw, is_stray}
 use Rattle.node_grid.specs.NodeSetLaws.{not_all_ids}

@@ -4,7 +4,8 @@ use Rattle.std.specs.List.{list_all}
 use Rattle.std.proofs.lemmas.Bool.{cases_Bool, lt-ltb, le-ltb, and_from}
 use Rattle.fault_classes.specs.declared.error.PlanError.TheVariants.{Range, Overlap, Restart, TooMany}
 use Rattle.fault_classes.specs.Line.{Line}
-use Rattle.fault_classes.specs.Plan.{Plan, slot_count}
+use Rattle.slot_plan.specs.Slots.{slot_count}
+use Rattle.fault_classes.specs.Plan.{Plan}
 use Rattle.fault_classes.specs.Rules.{is_line, first_bad_line, first_overlap, first_bad_restart, refusal_of}
 
 pub all_good : (nodes slots periods k : ℕ) (xs : List Line) → first_bad_line nodes slots periods k xs ≡ None → list_all (is_line nodes slots periods) xs ≡ true

@@ -3,7 +3,8 @@ use Rattle.std.specs.Prelude.{◌≡◌, ℕ, ◌^◌, ◌<◌, ◌≤◌, [], L
 use Rattle.std.specs.List.{slice_index_or, list_any}
 use Rattle.fault_classes.specs.declared.line.Restart.{Restart}
 use Rattle.node_grid.specs.NodeSet.{ids_where}
-use Rattle.fault_classes.specs.Plan.{Plan, slot_count, is_restart_of}
+use Rattle.slot_plan.specs.Slots.{slot_count}
+use Rattle.fault_classes.specs.Plan.{Plan, is_restart_of}
 use Rattle.fault_classes.specs.Rules.{refusal_of}
 use Rattle.fault_classes.specs.Cells.{IsShape, IsTable}
 

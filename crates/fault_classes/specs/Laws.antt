@@ -6,7 +6,8 @@ use Rattle.node_grid.specs.Count.{count}
 use Rattle.fault_classes.specs.declared.budget.Budget.{Budget}
 use Rattle.fault_classes.specs.Change.{is_manifest}
 use Rattle.fault_classes.specs.Line.{effect_at}
-use Rattle.fault_classes.specs.Plan.{Plan, slot_count, nodes_of, restarts_at, class_of}
+use Rattle.slot_plan.specs.Slots.{slot_count}
+use Rattle.fault_classes.specs.Plan.{Plan, nodes_of, restarts_at, class_of}
 use Rattle.fault_classes.specs.Budget.{IsBudget, Holds}
 
 -- no line touches the frames of a sound node

@@ -10,6 +10,8 @@ pub mod ClassLaws
 pub mod Budget
 pub mod BudgetLaws
 pub mod Laws
+pub use Rattle.slot_plan.specs.Slots
+pub use Rattle.slot_plan.specs.Ticks
 pub use Rattle.node_grid.specs.Capacity
 pub use Rattle.node_grid.specs.NodeSet
 pub use Rattle.node_grid.specs.Count

@@ -1,9 +1,10 @@
 -- What the lines and restarts of a plan make of each node in each period.
-use Rattle.std.specs.Prelude.{ℕ, zero, suc, ◌+◌, ◌*◌, Bool, true, not, ◌&&◌, ◌||◌, ◌==◌, nat_lt, List, Option, if◌then◌else◌}
+use Rattle.std.specs.Prelude.{ℕ, zero, suc, Bool, true, not, ◌&&◌, ◌||◌, ◌==◌, nat_lt, List, Option, if◌then◌else◌}
 use Rattle.std.specs.List.{find, list_all, list_any}
 use Rattle.node_grid.specs.NodeSet.{ids_below}
 use Rattle.node_grid.specs.Count.{count}
 use Rattle.node_grid.specs.Class.{is_nonfaulty}
+use Rattle.slot_plan.specs.Slots.{slot_count}
 use Rattle.node_grid.specs.declared.class.Class.{Class}
 use Rattle.node_grid.specs.declared.class.Class.TheVariants.{N, J, B, S, A}
 use Rattle.fault_classes.specs.declared.line.Restart.{Restart}
@@ -19,10 +20,6 @@ pub record Plan : Type 0 where
 
 abbrev pub plan_of : ℕ → ℕ → ℕ → List Line → List Restart → Plan
 plan_of nodes rounds periods lines restarts = record { nodes = nodes; rounds = rounds; periods = periods; lines = lines; restarts = restarts }
-
--- a period has 2m + 4 slots
-abbrev pub slot_count : ℕ → ℕ
-slot_count rounds = 2 * rounds + 4
 
 abbrev pub nodes_of : Plan → List ℕ
 nodes_of plan = ids_below plan.nodes

@@ -10,7 +10,9 @@ use Rattle.fault_classes.specs.declared.error.PlanError.TheVariants as error
 use Rattle.fault_classes.specs.Change.{Change}
 use Rattle.fault_classes.specs.Change.Change.{Drop, Cut, Twice, Time, Set, Raw}
 use Rattle.fault_classes.specs.Line.{Line, shares}
-use Rattle.fault_classes.specs.Plan.{Plan, slot_count}
+use Rattle.slot_plan.specs.Slots.{slot_count}
+use Rattle.slot_plan.specs.Ticks.{is_off_time}
+use Rattle.fault_classes.specs.Plan.{Plan}
 
 abbrev pub is_within : ℕ → ℕ → ℕ → Bool
 is_within low high x = nat_le low x && nat_le x high
@@ -19,7 +21,7 @@ abbrev pub is_change : Change → Bool
 is_change Drop = true
 is_change (Cut k) = is_within 1 4096 k
 is_change Twice = true
-is_change (Time t) = nat_le t 30 && not (is_within 10 20 t)
+is_change (Time t) = is_off_time t
 is_change (Set at bytes) = nat_le at 4095 && is_within 1 4096 (length bytes)
 is_change (Raw bytes) = nat_le (length bytes) 4096
 

@@ -1,7 +1,8 @@
 ghost use Rattle.std.specs.Prelude.{◌≡◌, ℕ, ◌^◌, ◌<◌, ◌≤◌, ◌⊎◌, None, Some, IfOk, MatchResult, IsTrue, map, length, option_map};
 ghost use Rattle.fault_classes.specs.Change.{change_of};
 ghost use Rattle.fault_classes.specs.Line.{line_of, effect_at, touches};
-ghost use Rattle.fault_classes.specs.Plan.{plan_of, slot_count, restarts_at};
+ghost use Rattle.slot_plan.specs.Slots.{slot_count};
+ghost use Rattle.fault_classes.specs.Plan.{plan_of, restarts_at};
 ghost use Rattle.fault_classes.specs.Rules.{refusal_of, first_bad_restart};
 ghost use Rattle.fault_classes.specs.Cells.{IsShape, entry_of};
 ghost use Rattle.fault_classes.specs.Index.{IsRestarting};
@@ -11,6 +12,7 @@ use crate::cells::{Shape, cells_of};
 use crate::rules::{first_bad_line, first_bad_restart};
 use crate::{Effect, FaultLine, PlanError, Restart};
 use node_grid::NodeSet;
+use slot_plan::slot_count;
 use std::alloc::{AllocError, Global};
 use std::marker::Model;
 
@@ -79,7 +81,7 @@ impl<const N: usize> PlanIndex<N> {
     {
         let shape = Shape {
             nodes,
-            slots: 2 * m + 4,
+            slots: slot_count(m),
             periods,
         };
         if let Some(place) = first_bad_line(lines.as_slice(), &shape) {

@@ -2,7 +2,8 @@ ghost use Rattle.std.specs.Prelude.{◌≡◌, ◌≢◌, ℕ, ◌^◌, ◌<◌,
 ghost use Rattle.node_grid.specs.Capacity.{IsCapacity};
 ghost use Rattle.fault_classes.specs.Change.{change_of};
 ghost use Rattle.fault_classes.specs.Line.{line_of, effect_at};
-ghost use Rattle.fault_classes.specs.Plan.{plan_of, slot_count, restarts_at, is_clean, is_sound_in, class_of, reference_of};
+ghost use Rattle.slot_plan.specs.Slots.{slot_count};
+ghost use Rattle.fault_classes.specs.Plan.{plan_of, restarts_at, is_clean, is_sound_in, class_of, reference_of};
 ghost use Rattle.fault_classes.specs.Rules.{IsPlan, refusal_of};
 ghost use Rattle.fault_classes.specs.Budget.{IsBudget};
 

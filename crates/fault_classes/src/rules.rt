@@ -6,6 +6,7 @@ ghost use Rattle.fault_classes.specs.Rules.{is_change, are_below, is_line, first
 use crate::cells::Shape;
 use crate::{Effect, FaultLine, Restart};
 use node_grid::NodeSet;
+use slot_plan::is_off_time;
 
 /// The most bytes that a line may cut off, put into a frame or send in its place.
 const MOST_BYTES: usize = 4096;
@@ -17,7 +18,7 @@ fn is_effect(effect: &Effect) -> bool
     match effect {
         Effect::Drop | Effect::Twice => true,
         Effect::Cut(count) => 1 <= *count && *count <= 4096,
-        Effect::Time(tick) => *tick <= 30 && !(10 <= *tick && *tick <= 20),
+        Effect::Time(tick) => is_off_time(*tick),
         Effect::Set { at, bytes } => *at <= 4095 && 1 <= bytes.len() && bytes.len() <= MOST_BYTES,
         Effect::Raw(bytes) => bytes.len() <= MOST_BYTES,
     }

@@ -4,7 +4,8 @@ ghost use Rattle.node_grid.specs.NodeSet.{has_id, ids_where};
 ghost use Rattle.node_grid.specs.Class.{is_sound};
 ghost use Rattle.fault_classes.specs.Change.{change_of, is_untouched, is_manifest, same_change, same_effect};
 ghost use Rattle.fault_classes.specs.Line.{effect_at};
-ghost use Rattle.fault_classes.specs.Plan.{slot_count, each_in_slot, each_frame, is_symmetric_at, is_symmetric_in, is_clean, steady, sound_before, recovers_in, joins_in, class_of};
+ghost use Rattle.slot_plan.specs.Slots.{slot_count};
+ghost use Rattle.fault_classes.specs.Plan.{each_in_slot, each_frame, is_symmetric_at, is_symmetric_in, is_clean, steady, sound_before, recovers_in, joins_in, class_of};
 ghost use Rattle.fault_classes.specs.Standing.{IsStanding, AreStandings};
 
 use crate::Effect;

@@ -6,13 +6,11 @@
 ghost use Rattle.std.specs.Prelude.{◌≡◌, ◌≢◌, ℕ, ◌^◌, ◌<◌, length, replicate, option_map};
 ghost use Rattle.fault_classes.specs.Change.{change_of};
 ghost use Rattle.fault_classes.specs.Line.{effect_at};
-ghost use Rattle.fault_classes.specs.Plan.{slot_count};
+ghost use Rattle.slot_plan.specs.Slots.{slot_count};
 ghost use Rattle.fault_link.specs.Arrival.{delivered_of, patched};
 
 use fault_classes::{Effect, FaultPlan};
-
-/// The tick at which a frame arrives, where no line sets another one.
-const ON_TIME: u8 = 15;
+use slot_plan::ON_TIME;
 
 /// What arrives at one receiver of one frame: so many copies, all alike.
 #[derive(Clone, Copy, Debug)]

@@ -6,7 +6,8 @@ use Rattle.std.proofs.lemmas.Bool.{and_from, and_parts, or_from, or_parts, or_le
 use Rattle.node_grid.specs.NodeSet.{has_id}
 use Rattle.fault_classes.specs.declared.line.Restart.{Restart}
 use Rattle.fault_classes.specs.Line.{Line, shares}
-use Rattle.fault_classes.specs.Plan.{Plan, slot_count}
+use Rattle.slot_plan.specs.Slots.{slot_count}
+use Rattle.fault_classes.specs.Plan.{Plan}
 use Rattle.fault_classes.specs.Rules.{is_line, first_bad_line, first_overlap, is_restart, comes_after, first_bad_restart, refusal_of}
 use Rattle.storm.specs.declared.spell.Spell.{Spell}
 use Rattle.storm.specs.Storm.{Block, lines_of, restart_of, restarts_of}

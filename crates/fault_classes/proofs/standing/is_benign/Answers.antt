@@ -1,6 +1,7 @@
 use Rattle.std.proofs.Common.{sym, ◌∙◌, arith}
 use Rattle.fault_classes.specs.Change.{is_manifest}
-use Rattle.fault_classes.specs.Plan.{slot_count, each_in_slot}
+use Rattle.slot_plan.specs.Slots.{slot_count}
+use Rattle.fault_classes.specs.Plan.{each_in_slot}
 use Rattle.node_grid.specs.NodeSetLaws.{not_all_ids}
 use Rattle.fault_classes.proofs.Loops.{all_ids}
 use Rattle.fault_classes.proofs.standing.is_benign.Goals as goal

@@ -1,5 +1,6 @@
 use Rattle.std.proofs.Common.{sym, ◌∙◌, arith}
-use Rattle.fault_classes.specs.Plan.{slot_count, is_symmetric_at}
+use Rattle.slot_plan.specs.Slots.{slot_count}
+use Rattle.fault_classes.specs.Plan.{is_symmetric_at}
 use Rattle.node_grid.specs.NodeSetLaws.{not_all_ids}
 use Rattle.fault_classes.proofs.Loops.{all_ids}
 use Rattle.fault_classes.proofs.standing.is_symmetric.Goals as goal

@@ -2,7 +2,8 @@ use Rattle.std.proofs.Common.{◌≡◌, ◌*◌, ◌<◌, map, length, ap, ◌�
 use Rattle.std.specs.Prelude.{slice_index}
 use Rattle.std.proofs.lemmas.List.{get_or_read}
 use Rattle.fault_classes.specs.Line.{touches, line_of}
-use Rattle.fault_classes.specs.Plan.{Plan, slot_count}
+use Rattle.slot_plan.specs.Slots.{slot_count}
+use Rattle.fault_classes.specs.Plan.{Plan}
 use Rattle.fault_classes.specs.Cells.{cell_at, entry_of, touches_cell}
 use Rattle.fault_classes.proofs.Entries.{cell_below, cell_digits, same_entry}
 use Rattle.fault_classes.proofs.index.PlanIndex.number.Goals as goal
