@@ -5,6 +5,7 @@ ghost use Rattle.frames.specs.Content.{kind, kind_in};
 ghost use Rattle.frames.specs.Seen.{content, number_of};
 
 use crate::frame::Body;
+use slot_plan::Slot;
 
 /// The kind of a frame, by its number.
 #[derive(Clone, Copy, Debug, PartialEq, Eq)]
@@ -63,20 +64,14 @@ impl Kind {
         requires { m ≤ 3 }
         ensures { number_of result ≡ kind_in m slot }
     {
-        if slot == 0 {
-            Kind::State
-        } else if slot == 1 {
-            Kind::Done0
-        } else if slot <= m + 1 {
-            Kind::DoneRelay
-        } else if slot == m + 2 {
-            Kind::Data
-        } else if slot == m + 3 {
-            Kind::Report0
-        } else if slot <= 2 * m + 3 {
-            Kind::ReportRelay
-        } else {
-            Kind::Cold
+        match Slot::at(m, slot) {
+            Some(Slot::Sync) => Kind::State,
+            Some(Slot::Claims(0)) => Kind::Done0,
+            Some(Slot::Claims(_)) => Kind::DoneRelay,
+            Some(Slot::Data) => Kind::Data,
+            Some(Slot::Rows(0)) => Kind::Report0,
+            Some(Slot::Rows(_)) => Kind::ReportRelay,
+            None => Kind::Cold,
         }
     }
 }
