@@ -14,7 +14,7 @@ use Rattle.omh_paths.specs.PathLists.{Distinct-filter}
 use Rattle.omh.specs.Omh.{Ear, own_term, settled_within, settled_at}
 use Rattle.heard.specs.Echo.{IsEchoBut, IsBackedAt, EchoLaw}
 use Rattle.heard.specs.Counts.{count_all, count-filter, count-me, count-add}
-use Rattle.heard.specs.OneReceiverLaws.{TermIs, majority_backed, outside-push, length-outside-push}
+use Rattle.heard.proofs.OneReceiverLaws.{TermIs, majority_backed, outside-push, length-outside-push}
 
 module _ {V : Type 0} (eq : V → V → Bool) (exact : IsExact eq) (x : Ear V) (least : ℕ) (doubted : List ℕ) (distinct : Distinct x.members) (told : IsEchoBut x least doubted) where
   agrees : ℕ → Bool

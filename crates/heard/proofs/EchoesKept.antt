@@ -13,7 +13,7 @@ use Rattle.omh_paths.specs.PathLaws.{off_longer}
 use Rattle.omh_paths.specs.PathLists.{has-of-without}
 use Rattle.heard.specs.Keep.{Parts, set_at, root, base, cell, place_of, first_node, wrapped_times, IsStored}
 use Rattle.heard.specs.Places.{on-at, front-last, front-listed}
-use Rattle.heard.specs.Members.{behind-last, in-behind}
+use Rattle.heard.proofs.Members.{behind-last, in-behind}
 use Rattle.heard.specs.Doubts.{AreHit, IsAllDoubted}
 use Rattle.heard.specs.OneReceiver.{IsExpectedBut}
 use Rattle.heard.specs.Echo.{IsEchoBut}

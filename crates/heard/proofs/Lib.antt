@@ -1,2 +1,13 @@
+mod OneReceiverLaws
 mod EchoLaws
 mod EchoesKept
+mod Readings
+mod Members
+mod Behind
+mod FrameBlocks
+mod Folds
+mod SeenLaws
+mod Methods
+mod Settles
+mod PassingLaws
+mod Convictions

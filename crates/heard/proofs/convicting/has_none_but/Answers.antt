@@ -1,4 +1,4 @@
-use Rattle.heard.specs.Convicting.{none_but}
+use Rattle.heard.proofs.Convictions.{none_but}
 use Rattle.heard.proofs.convicting.has_none_but.Goals as goal
 
 pub returns : goal.returns

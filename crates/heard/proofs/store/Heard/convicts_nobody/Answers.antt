@@ -2,7 +2,7 @@ use Rattle.std.proofs.Common.{◌≡◌, sym, ap, ◌∙◌, true, get_or, arith
 use Rattle.omh_paths.specs.declared.wrapped.Wrapped.TheVariants.{Fault}
 use Rattle.node_grid.specs.NodeSet.{has_id}
 use Rattle.heard.specs.Keep.{parts, set_at}
-use Rattle.heard.specs.Methods.{nobody_convicted, nobody_without, nodes_fit}
+use Rattle.heard.proofs.Methods.{nobody_convicted, nobody_without, nodes_fit}
 use Rattle.heard.proofs.store.Heard.convicts_nobody.Goals as goal
 
 pub returns-then-self-eq0 : goal.returns-then-self-eq0
