@@ -16,7 +16,7 @@ pub use row_builder::RowBuilder;
 #[cfg(test)]
 mod tests {
     use super::{RowBuilder, charged, charged_all};
-    use node_grid::kind::{COLD, DEVIATE, MISSING};
+    use node_grid::kind::{DEVIATE, MISSING};
     use node_grid::{Matrix, NodeSet, Row};
 
     // The row that accuses node 3 alone.
@@ -67,9 +67,9 @@ mod tests {
 
     #[test]
     fn a_period_carries_over(rt: HostRuntime) {
-        let mut builder: RowBuilder<8> = RowBuilder::new();
+        let mut builder: RowBuilder<8> = RowBuilder::new(4, 0, 8);
         builder.note(2, MISSING);
-        builder.note(2, COLD);
+        builder.note_each(|j| if j == 2 { 8 } else { 0 });
         builder.carry(3, DEVIATE);
         assert!(rt; builder.row().masks[2] == 9 && builder.row().masks[3] == 0);
         builder.next_period();
