@@ -2,7 +2,7 @@
 use Rattle.std.proofs.Common.{◌≡◌, ℕ, zero, suc, ◌+◌, ◌-◌, ◌*◌, ◌^◌, ◌<◌, ◌≤◌, max, Bool, true, false, List, length, replicate, refl, sym, ap, ◌∙◌, arith, subst, inl, inr, lit<, lit≤, ◌⊎◌}
 use Rattle.std.specs.Prelude.{◌==◌, pos, if◌then◌else◌}
 use Rattle.std.specs.List.{All, flat_map, filter}
-use Rattle.std.proofs.lemmas.Bool.{cases_lt}
+use Rattle.std.proofs.lemmas.Bool.{cases_lt, eq-eqb, ne_eqb, le-leb, lt-leb}
 use Rattle.std.proofs.Math.Nat.{mul_comm}
 use Rattle.std.proofs.lemmas.Nat.{mul-le}
 use Rattle.std.proofs.lemmas.List.{length-replicate, drop-replicate}
@@ -18,7 +18,6 @@ use Rattle.frames.specs.Spelling.{claim_spelling, relayed_row_spelling, value_sp
 use Rattle.frames.specs.Reading.{claim_in, relayed_row_in, value_in}
 use Rattle.frames.specs.Laws.{IsLaidOut}
 use Rattle.frames.specs.Bound.{most_entries, HasSizes, IsGreatest}
-use Rattle.frames.specs.TestLaws.{eq_holds, eq_fails, le_holds, le_fails}
 use Rattle.frames.specs.PieceLaws.{length_spelt}
 use Rattle.frames.specs.EntryLaws.{claim_format, value_format, row_long, relayed_row_format}
 use Rattle.frames.specs.ReadingLaws.{body_length, is_short, round_within}
@@ -45,22 +44,22 @@ more_paths j k (suc r) h = mul-le j (path_count (j - 1) r) k (path_count (k - 1)
 
 -- a relay slot is the first slot of no item
 not_first : (m slot : ℕ) → (slot ≡ 0) ⊎ (slot ≡ 1) → (kind_in m slot ≡ 1) ⊎ (kind_in m slot ≡ 2)
-not_first m slot (inl h) = inl (rw (eq_holds slot 0 h) refl)
-not_first m slot (inr h) = inr (rw (eq_fails slot 0 (omega arith), eq_holds slot 1 h) refl)
+not_first m slot (inl h) = inl (rw (eq-eqb slot 0 h) refl)
+not_first m slot (inr h) = inr (rw (ne_eqb slot 0 (omega arith), eq-eqb slot 1 h) refl)
 
 between : (m slot : ℕ) → m + 1 < slot → slot ≤ m + 3 → (kind_in m slot ≡ 4) ⊎ (kind_in m slot ≡ 5)
 between m slot h l = elim (cases_lt (m + 2) slot) [
-  | inl late ↦ inr (rw (eq_fails slot 0 (omega arith), eq_fails slot 1 (omega arith), le_fails slot (m + 1) h, eq_fails slot (m + 2) (omega arith), eq_holds slot (m + 3) (omega arith)) refl)
-  | inr early ↦ inl (rw (eq_fails slot 0 (omega arith), eq_fails slot 1 (omega arith), le_fails slot (m + 1) h, eq_holds slot (m + 2) (omega arith)) refl)
+  | inl late ↦ inr (rw (ne_eqb slot 0 (omega arith), ne_eqb slot 1 (omega arith), lt-leb slot (m + 1) h, ne_eqb slot (m + 2) (omega arith), eq-eqb slot (m + 3) (omega arith)) refl)
+  | inr early ↦ inl (rw (ne_eqb slot 0 (omega arith), ne_eqb slot 1 (omega arith), lt-leb slot (m + 1) h, eq-eqb slot (m + 2) (omega arith)) refl)
 ]
 
 relay_round : (m slot k : ℕ) → k ≡ kind_in m slot → (k ≡ 3) ⊎ (k ≡ 6) → 0 < round_in m slot
 relay_round m slot k h l = elim (cases_lt slot 2) [
   | inl first ↦ absurd (not_relay (not_first m slot (first_two slot first)))
   | inr some ↦ elim (cases_lt (m + 1) slot) [
-    | inr early ↦ rw (le_holds slot (m + 1) early) (omega arith)
+    | inr early ↦ rw (le-leb slot (m + 1) early) (omega arith)
     | inl late ↦ elim (cases_lt (m + 3) slot) [
-      | inl later ↦ rw (le_fails slot (m + 1) late) (omega arith)
+      | inl later ↦ rw (lt-leb slot (m + 1) late) (omega arith)
       | inr mid ↦ absurd (not_relay_mid (between m slot late mid))
     ]
   ]
@@ -81,7 +80,7 @@ relay_entries : (e : Expectation) (nodes m k : ℕ) → m < nodes → e.m ≡ m 
 relay_entries e nodes m k fewer mi ids p l =
     let low : 0 < round_in e.m e.slot = relay_round e.m e.slot k p l in
     let high : round_in e.m e.slot ≤ e.m = round_within e.m e.slot k p (omega arith) in
-    let some : (m == 0) ≡ false = eq_fails m 0 (omega arith) in
+    let some : (m == 0) ≡ false = ne_eqb m 0 (omega arith) in
     let a : path_count (length e.members - 1) (round_in e.m e.slot) ≤ path_count (nodes - 1) (round_in e.m e.slot) = more_paths (length e.members - 1) (nodes - 1) (round_in e.m e.slot) (omega (arith, length-ids nodes e.members ids)) in
     let b : path_count (nodes - 1) (round_in e.m e.slot) ≤ path_count (nodes - 1) m = longer_paths (nodes - 1) (round_in e.m e.slot) m (omega arith) (omega arith) in
     rw some (chosen (has_id e.members e.sender) (path_count (length e.members - 1) (round_in e.m e.slot)) (path_count (nodes - 1) m) (omega arith))
@@ -161,7 +160,7 @@ values_reached nodes m state_len due h =
     let zero_fits : IsValue (pos 0) = record { low = record { le = tt }; high = record { le = tt } } in
     let all : All IsValue (replicate due (pos 0)) = All-replicate IsValue due (pos 0) zero_fits in
     reached_by nodes m state_len due (m + 2) (8 * due) (Data (replicate due (pos 0))) h
-    (sym (rw (eq_fails (m + 2) 0 (omega arith), eq_fails (m + 2) 1 (omega arith), le_fails (m + 2) (m + 1) (omega arith), eq_holds (m + 2) (m + 2) refl) refl))
+    (sym (rw (ne_eqb (m + 2) 0 (omega arith), ne_eqb (m + 2) 1 (omega arith), lt-leb (m + 2) (m + 1) (omega arith), eq-eqb (m + 2) (m + 2) refl) refl))
     (length-replicate due (pos 0), all)
     (length_spelt 8 value_spelling value_in IsValue value_format (replicate due (pos 0)) all ∙ ap (λ x. 8 * x) (length-replicate due (pos 0)))
 
@@ -169,23 +168,23 @@ row_reached : (nodes m state_len due : ℕ) → IsLimited nodes m state_len due 
 row_reached nodes m state_len due h =
     let row : IsRow 2 nodes nodes (replicate nodes 0) = record { room = omega arith; whole = length-replicate nodes 0; within = All-replicate (λ mask. mask < mask_bound 2) nodes 0 (lit< tt); rest = drop-replicate nodes nodes 0 } in
     reached_by nodes m state_len due (m + 3) (2 * nodes) (Report0 (replicate nodes 0)) h
-    (sym (rw (eq_fails (m + 3) 0 (omega arith), eq_fails (m + 3) 1 (omega arith), le_fails (m + 3) (m + 1) (omega arith), eq_fails (m + 3) (m + 2) (omega arith), eq_holds (m + 3) (m + 3) refl) refl))
+    (sym (rw (ne_eqb (m + 3) 0 (omega arith), ne_eqb (m + 3) 1 (omega arith), lt-leb (m + 3) (m + 1) (omega arith), ne_eqb (m + 3) (m + 2) (omega arith), eq-eqb (m + 3) (m + 3) refl) refl))
     row (row_long 2 nodes nodes (replicate nodes 0) row)
 
 rows_reached : (nodes m state_len due : ℕ) → IsLimited nodes m state_len due → 0 < m → IsReached nodes m state_len due (most_entries nodes m * (1 + 2 * nodes))
 rows_reached nodes m state_len due h some =
     let slot : ℕ = 2 * m + 3 in
-    let round : round_in m slot ≡ m = rw (le_fails slot (m + 1) (omega arith)) (omega arith) in
+    let round : round_in m slot ≡ m = rw (lt-leb slot (m + 1) (omega arith)) (omega arith) in
     let n : ℕ = most_entries nodes m in
     let e : Expectation = expects nodes m state_len due slot in
     let has : has_id (ids_below nodes) 0 ≡ true = first_has nodes (omega (arith, h.fewer)) in
     let ids : length (ids_below nodes) ≡ nodes = length-range_with_len 0 nodes in
-    let isnt : (m == 0) ≡ false = eq_fails m 0 (omega arith) in
+    let isnt : (m == 0) ≡ false = ne_eqb m 0 (omega arith) in
     let due_is : entries_due e ≡ n = rw (has, isnt) (ap (λ k. path_count (k - 1) (round_in m slot)) ids ∙ ap (path_count (nodes - 1)) round) in
     let one : IsEntry (IsRow 2 nodes nodes) (round_in m slot) (Fault 1) = (lit< tt, omega arith) in
     let all : All (IsEntry (IsRow 2 nodes nodes) (round_in m slot)) (replicate n (Fault 1)) = All-replicate (IsEntry (IsRow 2 nodes nodes) (round_in m slot)) n (Fault 1) one in
     reached_by nodes m state_len due slot (n * (1 + 2 * nodes)) (ReportRelay (replicate n (Fault 1))) h
-    (sym (rw (eq_fails slot 0 (omega arith), eq_fails slot 1 (omega arith), le_fails slot (m + 1) (omega arith), eq_fails slot (m + 2) (omega arith), eq_fails slot (m + 3) (omega arith), le_holds slot (2 * m + 3) (omega arith)) refl))
+    (sym (rw (ne_eqb slot 0 (omega arith), ne_eqb slot 1 (omega arith), lt-leb slot (m + 1) (omega arith), ne_eqb slot (m + 2) (omega arith), ne_eqb slot (m + 3) (omega arith), le-leb slot (2 * m + 3) (omega arith)) refl))
     (length-replicate n (Fault 1) ∙ sym due_is, all)
     (length_spelt (1 + 2 * nodes) (relayed_row_spelling nodes) (relayed_row_in nodes nodes) (IsEntry (IsRow 2 nodes nodes) (round_in m slot)) (relayed_row_format 2 nodes nodes (round_in m slot)) (replicate n (Fault 1)) all
     ∙ ap (λ x. (1 + 2 * nodes) * x) (length-replicate n (Fault 1)) ∙ mul_comm (1 + 2 * nodes) n)

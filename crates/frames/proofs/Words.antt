@@ -4,13 +4,12 @@ use Rattle.std.specs.Prelude.{◌==◌}
 use Rattle.std.specs.Int.{w64, from_be_bytes}
 use Rattle.std.specs.Int.Bits.{and_zero_r}
 use Rattle.std.specs.List.{list_all}
-use Rattle.std.proofs.lemmas.Bool.{cases_lt, cases_Bool, and_parts}
+use Rattle.std.proofs.lemmas.Bool.{cases_lt, cases_Bool, and_parts, eqb-true, eq-eqb}
 use Rattle.std.proofs.lemmas.Nat.{and_block, and_mask, le-div}
 use Rattle.std.proofs.Math.Nat.{mul-add, mul-one}
 use Rattle.std.proofs.lemmas.List.{drop-drop, drop-take, take-take}
 use Rattle.frames.specs.Checks.{are_masks, are_zero}
 use Rattle.frames.specs.Reading.{piece, cut}
-use Rattle.frames.specs.TestLaws.{eq_told, eq_holds}
 use Rattle.frames.specs.PieceLaws.{AreBytes, AreBytes-take, AreBytes-drop, get_or-piece, piece_within, each_passes, one_fails}
 use Rattle.frames.specs.EntryLaws.{large_mask}
 
@@ -51,7 +50,7 @@ byte_at bytes k i n l e = get_or-piece 8 bytes k i l ∙ ap (λ x. get_or bytes 
 
 pub zeros_told : (bytes : List ℕ) → are_zero bytes ≡ true → (i : ℕ) → get_or bytes i 0 ≡ 0
 zeros_told [] h i = refl
-zeros_told (b ∷ bs) h zero = eq_told b 0 (and_parts _ _ h).0
+zeros_told (b ∷ bs) h zero = eqb-true b 0 (and_parts _ _ h).0
 zeros_told (b ∷ bs) h (suc i) = zeros_told bs (and_parts _ _ h).1 i
 
 -- a number that isn't 0 has a byte that isn't
@@ -86,7 +85,7 @@ pub zeros_rest : (n : ℕ) (bytes : List ℕ) → ((i : ℕ) → i < n → get_o
 zeros_rest zero bytes h = refl
 zeros_rest (suc n) [] h = refl
 zeros_rest (suc n) (b ∷ bs) h =
-    let z : (b == 0) ≡ true = eq_holds b 0 (h 0 (omega arith)) in
+    let z : (b == 0) ≡ true = eq-eqb b 0 (h 0 (omega arith)) in
     zeros_rest n bs (λ i l. h (suc i) (omega arith)) ∙ rw z refl
 
 -- ---- masks below 256

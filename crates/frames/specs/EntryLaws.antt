@@ -1,6 +1,6 @@
 -- The spellings of claims, masks, values and rows, one piece each.
 use Rattle.std.proofs.Common.{◌≡◌, ℕ, zero, suc, ◌+◌, ◌-◌, ◌*◌, ◌/◌, ◌%◌, ◌^◌, ◌<◌, ◌≤◌, ◌≢◌, Bool, true, false, List, [], ◌∷◌, ◌++◌, length, take, drop, map, replicate, refl, sym, ap, ◌∙◌, arith, get_or, lit<, add-zero, set}
-use Rattle.std.proofs.lemmas.Bool.{and_parts}
+use Rattle.std.proofs.lemmas.Bool.{and_parts, eqb-true, eq-eqb, ne_eqb, leb-true, le-leb, le-ltb}
 use Rattle.std.specs.Prelude.{◌==◌, nat_le, nat_lt, ℤ, pos, negsuc, neg_ℤ, ◌≤ℤ◌, int_le, if◌then◌else◌}
 use Rattle.std.specs.Int.{w16, w64, to_be_bytes, from_be_bytes, cast_unsigned, cast_signed}
 use Rattle.std.specs.List.{flat_map, All, list_all, range_with_len}
@@ -20,8 +20,10 @@ use Rattle.frames.specs.Content.{IsClaim, IsRow, IsValue, IsEntry}
 use Rattle.frames.specs.Spelling.{claim_spelling, row_spelling, relayed_row_spelling, value_spelling}
 use Rattle.frames.specs.Reading.{piece, cut, claim_in, claims_in, rows_in, values_in, row_in, relayed_row_in, value_in, fits_claim, fits_value}
 use Rattle.frames.specs.Checks.{is_written, are_written, is_claim_entry, is_mask, are_masks, are_zero, is_row_entry, is_value}
-use Rattle.frames.specs.TestLaws.{above_zero, eq_told, eq_holds, eq_fails, le_told, le_holds, lt_fails}
 use Rattle.frames.specs.PieceLaws.{get_or-piece, each_passes, one_fails, AreBytes, AreBytes-drop, IsFormat, IsTest, read_spelt, length_spelt, test_spelt, restored}
+
+above_zero : (k : ℕ) → (suc k == 0) ≡ false
+above_zero k = grind arith
 
 -- ---- claims
 
@@ -49,13 +51,13 @@ claim_test tasks r = record { passes = passes; valid = valid; restores = restore
     passes : (x : Wrapped ℕ) → IsEntry (IsClaim tasks) r x → is_claim_entry tasks r (claim_spelling x) ≡ true
     passes (Plain t) h = claim_fits tasks t h
     passes (Fault zero) h = absurd (omega (arith, h.0))
-    passes (Fault (suc k)) h = let e : nat_le (suc k) r ≡ true = le_holds (suc k) r h.1 in rw (above_zero k, e) refl
+    passes (Fault (suc k)) h = let e : nat_le (suc k) r ≡ true = le-leb (suc k) r h.1 in rw (above_zero k, e) refl
 
     valid : (b : List ℕ) → length b ≡ 2 → AreBytes b → is_claim_entry tasks r b ≡ true → IsEntry (IsClaim tasks) r (claim_in b)
     valid (zero ∷ y ∷ []) l _ h = claim_valid tasks y h
     valid (suc k ∷ y ∷ []) l _ h =
         let t = rw (above_zero k) at h in
-        rw (above_zero k) (omega arith, le_told (suc k) r (and_parts _ _ t).0)
+        rw (above_zero k) (omega arith, leb-true (suc k) r (and_parts _ _ t).0)
     valid [] l _ h = absurd (omega arith)
     valid (x ∷ []) l _ h = absurd (omega arith)
     valid (x ∷ y ∷ z ∷ rest) l _ h = absurd (omega arith)
@@ -64,7 +66,7 @@ claim_test tasks r = record { passes = passes; valid = valid; restores = restore
     restores (zero ∷ y ∷ []) l _ h = refl
     restores (suc k ∷ y ∷ []) l _ h =
         let t = rw (above_zero k) at h in
-        let e : y ≡ 0 = eq_told y 0 (and_parts _ _ t).1 in
+        let e : y ≡ 0 = eqb-true y 0 (and_parts _ _ t).1 in
         rw (above_zero k, e) refl
     restores [] l _ h = absurd (omega arith)
     restores (x ∷ []) l _ h = absurd (omega arith)
@@ -125,22 +127,22 @@ masks_pass : (version : ℕ) (bytes : List ℕ) → ((k : ℕ) → k < length by
 masks_pass version bytes h = each_passes (is_mask version) 2 bytes (λ k l. mask_at version bytes k ∙ (Decides-ltb (mask_of bytes k) (mask_bound version)).1 (h k l))
 
 masks_fail : (version : ℕ) (bytes : List ℕ) (k : ℕ) → k < length bytes / 2 → mask_bound version ≤ mask_of bytes k → are_masks version bytes ≡ false
-masks_fail version bytes k l h = one_fails (is_mask version) 2 bytes k l (mask_at version bytes k ∙ lt_fails (mask_of bytes k) (mask_bound version) h)
+masks_fail version bytes k l h = one_fails (is_mask version) 2 bytes k l (mask_at version bytes k ∙ le-ltb (mask_of bytes k) (mask_bound version) h)
 
 -- any two bytes are a mask of version 2, and one of version 1 where the first is 0
 pub all_masks : (version : ℕ) (bytes : List ℕ) → AreBytes bytes → version ≢ 1 → are_masks version bytes ≡ true
 all_masks version bytes b h =
-    let bound : mask_bound version ≡ 65536 = rw (eq_fails version 1 h) refl in
+    let bound : mask_bound version ≡ 65536 = rw (ne_eqb version 1 h) refl in
     masks_pass version bytes (λ k l. let high : get_or bytes (2 * k) 0 < 256 = b (2 * k) in let low : get_or bytes (2 * k + 1) 0 < 256 = b (2 * k + 1) in rw bound (omega arith))
 
 pub small_masks : (version : ℕ) (bytes : List ℕ) → AreBytes bytes → version ≡ 1 → ((k : ℕ) → k < length bytes / 2 → get_or bytes (2 * k) 0 ≡ 0) → are_masks version bytes ≡ true
 small_masks version bytes b h zeros =
-    let bound : mask_bound version ≡ 256 = rw (eq_holds version 1 h) refl in
+    let bound : mask_bound version ≡ 256 = rw (eq-eqb version 1 h) refl in
     masks_pass version bytes (λ k l. let high : get_or bytes (2 * k) 0 ≡ 0 = zeros k l in let low : get_or bytes (2 * k + 1) 0 < 256 = b (2 * k + 1) in rw bound (omega arith))
 
 pub large_mask : (version : ℕ) (bytes : List ℕ) (k : ℕ) → k < length bytes / 2 → version ≡ 1 → get_or bytes (2 * k) 0 ≢ 0 → are_masks version bytes ≡ false
 large_mask version bytes k l h some =
-    let bound : mask_bound version ≡ 256 = rw (eq_holds version 1 h) refl in
+    let bound : mask_bound version ≡ 256 = rw (eq-eqb version 1 h) refl in
     masks_fail version bytes k l (rw bound (omega arith))
 
 -- ---- values
@@ -192,7 +194,7 @@ all_zeros [] zero l h = refl
 all_zeros [] (suc n) l h = absurd (omega arith)
 all_zeros (b ∷ bs) zero l h = absurd (omega arith)
 all_zeros (b ∷ bs) (suc n) l h =
-    let e : b ≡ 0 = eq_told b 0 (and_parts _ _ h).0 in
+    let e : b ≡ 0 = eqb-true b 0 (and_parts _ _ h).0 in
     let r : bs ≡ replicate n 0 = all_zeros bs n (omega arith) (and_parts _ _ h).1 in
     rw (e, r) refl
 
@@ -302,14 +304,14 @@ module _ (version capacity nodes : ℕ) where
       passes : (x : Wrapped (List ℕ)) → IsEntry (IsRow version capacity nodes) r x → is_row_entry version r (relayed_row_spelling nodes x) ≡ true
       passes (Plain masks) h = row_passes masks h
       passes (Fault zero) h = absurd (omega (arith, h.0))
-      passes (Fault (suc k)) h = let e : nat_le (suc k) r ≡ true = le_holds (suc k) r h.1 in let z : are_zero (replicate (2 * nodes) 0) ≡ true = zeros_pass (2 * nodes) in rw (above_zero k, e, z) refl
+      passes (Fault (suc k)) h = let e : nat_le (suc k) r ≡ true = le-leb (suc k) r h.1 in let z : are_zero (replicate (2 * nodes) 0) ≡ true = zeros_pass (2 * nodes) in rw (above_zero k, e, z) refl
 
       valid : (b : List ℕ) → length b ≡ 1 + 2 * nodes → AreBytes b → is_row_entry version r b ≡ true → IsEntry (IsRow version capacity nodes) r (relayed_row_in capacity nodes b)
       valid [] l b h = absurd (omega arith)
       valid (zero ∷ rest) l b h = row_valid rest few (omega arith) (AreBytes-drop 1 (zero ∷ rest) b) h
       valid (suc k ∷ rest) l b h =
           let t = rw (above_zero k) at h in
-          rw (above_zero k) (omega arith, le_told (suc k) r (and_parts _ _ t).0)
+          rw (above_zero k) (omega arith, leb-true (suc k) r (and_parts _ _ t).0)
 
       restores : (b : List ℕ) → length b ≡ 1 + 2 * nodes → AreBytes b → is_row_entry version r b ≡ true → relayed_row_spelling nodes (relayed_row_in capacity nodes b) ≡ b
       restores [] l b h = absurd (omega arith)
@@ -345,7 +347,7 @@ any_claim = record { passes = passes; valid = λ b l h t. tt; restores = restore
     restores (zero ∷ y ∷ []) l _ h = refl
     restores (suc k ∷ y ∷ []) l _ h =
         let t = rw (above_zero k) at h in
-        let e : y ≡ 0 = eq_told y 0 (and_parts _ _ t).0 in
+        let e : y ≡ 0 = eqb-true y 0 (and_parts _ _ t).0 in
         rw (above_zero k, e) refl
     restores [] l _ h = absurd (omega arith)
     restores (x ∷ []) l _ h = absurd (omega arith)

@@ -3,7 +3,6 @@ pub mod Content
 pub mod Spelling
 pub mod Reading
 pub mod Laws
-pub mod TestLaws
 pub mod PieceLaws
 pub mod Checks
 pub mod EntryLaws

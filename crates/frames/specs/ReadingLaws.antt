@@ -6,7 +6,7 @@ use Rattle.std.specs.Int.{w32, to_be_bytes, from_be_bytes}
 use Rattle.std.specs.List.{list_all, All}
 use Rattle.std.specs.Cmp.Lexicographic.{pointwise}
 use Rattle.std.proofs.lemmas.Bool.Decides.{nat_tests, Decides-eqb, Decides-ltb, Decides-and, Decides-or, Decides-by_and}
-use Rattle.std.proofs.lemmas.Bool.{cases_lt, and_parts, and_from}
+use Rattle.std.proofs.lemmas.Bool.{cases_lt, and_parts, and_from, ne_eqb, leb-true, le-leb, lt-leb}
 use Rattle.node_grid.specs.NodeSet.{has_id}
 use Rattle.node_grid.specs.Version.{mask_bound}
 use Rattle.std.proofs.lemmas.Slice.Eq.{bytes_eq-Decides}
@@ -21,7 +21,6 @@ use Rattle.frames.specs.Content.{Expectation, Content, State, Done0, DoneRelay, 
 use Rattle.frames.specs.Spelling.{claim_spelling, relayed_row_spelling, value_spelling, body_spelling, header_spelling, spelling, head_of, IsInRange, IsFrame}
 use Rattle.frames.specs.Reading.{claim_in, relayed_row_in, value_in, said_in, fits_claim, fits_row, fits_value, fits_entry, fits_sizes, fits, answer_if, confirmed, reading}
 use Rattle.frames.specs.Laws.{ReadsExactly, IsSpeltOnce, ReadsBack, ReadsInRange, HasNoFront, HasNoPrefix, ReadsCold, IsLaidOut, IsShort}
-use Rattle.frames.specs.TestLaws.{eq_fails, le_told, le_holds, le_fails}
 use Rattle.frames.specs.PieceLaws.{read_spelt, length_spelt}
 use Rattle.frames.specs.EntryLaws.{claim_format, claim_fits, claim_valid, value_format, value_fits, value_valid, row_back, row_long, relayed_row_format}
 
@@ -79,7 +78,7 @@ value_decided : (number : ℤ) → Decides (fits_value number) (IsValue number)
 value_decided number = (value_valid number, value_fits number)
 
 le_decided : (a b : ℕ) → Decides (nat_le a b) (a ≤ b)
-le_decided a b = (le_told a b, le_holds a b)
+le_decided a b = (leb-true a b, le-leb a b)
 
 all_decided : {V : Type 0} (test : V → Bool) (P : V → Type 0) → ((v : V) → Decides (test v) (P v)) → (xs : List V) → Decides (list_all test xs) (All P xs)
 all_decided test P each xs = Decides-by_and test P (list_all test) each refl (λ _ _. refl) xs
@@ -239,7 +238,7 @@ round_within m slot k h l = elim (cases_lt (2 * m + 3) slot) [
   where
     no_slot : (m slot : ℕ) → 2 * m + 3 < slot → kind_in m slot ≡ 7
     no_slot m slot h =
-        rw (eq_fails slot 0 (omega arith), eq_fails slot 1 (omega arith), le_fails slot (m + 1) (omega arith), eq_fails slot (m + 2) (omega arith), eq_fails slot (m + 3) (omega arith), le_fails slot (2 * m + 3) h) refl
+        rw (ne_eqb slot 0 (omega arith), ne_eqb slot 1 (omega arith), lt-leb slot (m + 1) (omega arith), ne_eqb slot (m + 2) (omega arith), ne_eqb slot (m + 3) (omega arith), lt-leb slot (2 * m + 3) h) refl
 
     early_round : (m slot : ℕ) → slot ≤ 2 * m + 3 → round_in m slot ≤ m
     early_round m slot h = grind (arith, nat_tests)
