@@ -1,5 +1,6 @@
 pub mod FrameKinds
 pub mod Content
+pub mod SlotKinds
 pub mod Spelling
 pub mod Reading
 pub mod Laws

@@ -1,5 +1,6 @@
 //! Laws of the grammar, over its definitions alone. Each function's promise is its law.
 
+ghost use Rattle.frames.specs.SlotKinds.{SlotLaw};
 ghost use Rattle.frames.specs.Laws.{ReadsExactly, IsSpeltOnce, ReadsBack, ReadsInRange, HasNoFront, HasNoPrefix, ReadsCold, IsShort};
 ghost use Rattle.frames.specs.Runs.{RunsLaw};
 
@@ -46,4 +47,9 @@ pub fn is_short()
 /// The runs of pieces of one width are these pieces, each so many times.
 pub fn runs()
     ensures { RunsLaw }
+{}
+
+/// The kind that has its place in a slot, and the relay round of a slot, are those of what the slot is.
+pub fn slots()
+    ensures { SlotLaw }
 {}
