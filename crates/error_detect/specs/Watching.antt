@@ -1,5 +1,5 @@
 -- What a watch keeps of a slot's deliveries, and what it finds by that.
-use Rattle.std.specs.Prelude.{◌≡◌, ℕ, ◌<◌, ◌≤◌, All, IsSome, IfSome, ◌==◌, ◌||◌, Bool, true, false, List, [], ◌∷◌, Option, Some, None, nat_lt, nat_le, length, map, replicate, slice_set, if◌then◌else◌}
+use Rattle.std.specs.Prelude.{◌≡◌, ℕ, suc, ◌<◌, ◌≤◌, All, IsSome, IfSome, ◌==◌, ◌||◌, Bool, true, false, List, [], ◌∷◌, Option, Some, None, nat_lt, nat_le, length, map, replicate, slice_set, if◌then◌else◌}
 use Rattle.node_grid.specs.Capacity.{IsCapacity}
 use Rattle.node_grid.specs.NodeSet.{has_id}
 use Rattle.std.specs.List.{slice_index_or, range_with_len}
@@ -7,6 +7,7 @@ use Rattle.frames.specs.Content.{Expectation, Content}
 use Rattle.frames.specs.Spelling.{spelling, head_of, IsInRange}
 use Rattle.error_detect.specs.declared.finding.Finding.{Finding}
 use Rattle.error_detect.specs.declared.finding.Finding.TheVariants.{Good, Missing, Malformed, Timing}
+use Rattle.error_detect.specs.Guessing.{said_by, is_guessed_of}
 use Rattle.error_detect.specs.Finding.{is_in_window, is_good, finding, told}
 
 -- what arrived from one sender: nothing, one delivery with its bytes or with more than any frame has, or several
@@ -16,12 +17,41 @@ pub data Arrival : Type 0 where
   too_long : ℕ → Arrival
   several : Arrival
 
--- the room for the bytes of one sender, and what arrived from it
+-- what is held of what arrived from one sender: of a delivery of the guessed bytes its tick alone
+pub data Held : Type 0 where
+  held_none : Held
+  held_bytes : ℕ → List ℕ → Held
+  held_same : ℕ → Held
+  held_long : ℕ → Held
+  held_many : Held
+
+-- the room for the bytes of one sender, and what is held of what arrived from it
 pub record Box : Type 0 where
   pub room : ℕ
-  pub arrival : Arrival
+  pub held : Held
 
--- the numbers of a watch, what was expected in its last slot, whether that is open, and what arrived, by sender
+abbrev pub is_same : Held → Bool
+is_same held_none = false
+is_same (held_bytes t b) = false
+is_same (held_same t) = true
+is_same (held_long t) = false
+is_same held_many = false
+
+-- what arrived, by what is held and what the sender was guessed to send
+abbrev pub arrival_at : List ℕ → Held → Arrival
+arrival_at bytes held_none = nothing
+arrival_at bytes (held_bytes t b) = one t b
+arrival_at bytes (held_same t) = one t bytes
+arrival_at bytes (held_long t) = too_long t
+arrival_at bytes held_many = several
+
+-- the same of senders from k on
+abbrev pub arrivals : (ℕ → List ℕ) → ℕ → List Box → List Arrival
+arrivals f k [] = []
+arrivals f k (b ∷ bs) = arrival_at (f k) b.held ∷ arrivals f (suc k) bs
+
+-- the numbers of a watch, what was expected in its last slot, whether that is open, what arrived, by sender, and what is guessed:
+-- a state, or the entries of a round of relays over all members
 pub record Watch : Type 0 where
   pub nodes : ℕ
   pub me : ℕ
@@ -29,6 +59,7 @@ pub record Watch : Type 0 where
   pub expect : Option Expectation
   pub is_open : Bool
   pub arrived : List Arrival
+  pub guess : Option Content
 
 abbrev pub first_delivery : ℕ → ℕ → List ℕ → Arrival
 first_delivery room tick bytes = if nat_lt room (length bytes) then too_long tick else one tick bytes
@@ -40,22 +71,36 @@ with_delivery room (one t b) tick bytes = several
 with_delivery room (too_long t) tick bytes = several
 with_delivery room several tick bytes = several
 
+abbrev pub with_held : ℕ → Held → ℕ → List ℕ → Held
+with_held room held_none tick bytes = if nat_lt room (length bytes) then held_long tick else held_bytes tick bytes
+with_held room (held_bytes t b) tick bytes = held_many
+with_held room (held_same t) tick bytes = held_many
+with_held room (held_long t) tick bytes = held_many
+with_held room held_many tick bytes = held_many
+
+abbrev pub with_same : Held → ℕ → Held
+with_same held_none tick = held_same tick
+with_same (held_bytes t b) tick = held_many
+with_same (held_same t) tick = held_many
+with_same (held_long t) tick = held_many
+with_same held_many tick = held_many
+
 abbrev pub filled : Box → ℕ → List ℕ → Box
-filled b tick bytes = record { room = b.room; arrival = with_delivery b.room b.arrival tick bytes }
+filled b tick bytes = record { room = b.room; held = with_held b.room b.held tick bytes }
+
+abbrev pub filled_same : Box → ℕ → Box
+filled_same b tick = record { room = b.room; held = with_same b.held tick }
 
 abbrev pub emptied : Box → Box
-emptied b = record { room = b.room; arrival = nothing }
-
-abbrev pub arrival_of : Box → Arrival
-arrival_of b = b.arrival
+emptied b = record { room = b.room; held = held_none }
 
 -- a watch that saw no slot yet
 abbrev pub fresh : ℕ → ℕ → ℕ → Watch
-fresh nodes me frame_max = record { nodes = nodes; me = me; frame_max = frame_max; expect = None; is_open = false; arrived = replicate nodes nothing }
+fresh nodes me frame_max = record { nodes = nodes; me = me; frame_max = frame_max; expect = None; is_open = false; arrived = replicate nodes nothing; guess = None }
 
 -- a watch whose slot has just been opened
 abbrev pub opened : Watch → Expectation → Watch
-opened w e = record { nodes = w.nodes; me = w.me; frame_max = w.frame_max; expect = Some e; is_open = true; arrived = replicate w.nodes nothing }
+opened w e = record { nodes = w.nodes; me = w.me; frame_max = w.frame_max; expect = Some e; is_open = true; arrived = replicate w.nodes nothing; guess = None }
 
 -- and one delivery later
 abbrev pub delivered : Watch → ℕ → ℕ → List ℕ → Watch
@@ -67,10 +112,15 @@ delivered w from tick bytes =
       expect = w.expect;
       is_open = w.is_open;
       arrived = slice_set w.arrived from (with_delivery w.frame_max (slice_index_or w.arrived from nothing) tick bytes);
+      guess = w.guess;
     }
 
 abbrev pub closed : Watch → Watch
-closed w = record { nodes = w.nodes; me = w.me; frame_max = w.frame_max; expect = w.expect; is_open = false; arrived = w.arrived }
+closed w = record { nodes = w.nodes; me = w.me; frame_max = w.frame_max; expect = w.expect; is_open = false; arrived = w.arrived; guess = w.guess }
+
+-- and with this guessed of its frames
+abbrev pub guessing : Watch → Content → Watch
+guessing w c = record { nodes = w.nodes; me = w.me; frame_max = w.frame_max; expect = w.expect; is_open = w.is_open; arrived = w.arrived; guess = Some c }
 
 -- what is expected of another sender
 abbrev pub of_sender : ℕ → Expectation → Expectation
@@ -138,7 +188,52 @@ pub record AreInboxes (n nodes room : ℕ) (expect : Option Expectation) (boxes 
 abbrev pub AreMarked : ℕ → Watch → List ℕ → Type 0
 AreMarked n w good = w.is_open ≡ false → IsSome w.expect → (j : ℕ) → j < n → has_id good j ≡ is_good (finding_at w j)
 
--- what holds of the inside of a watch: its inboxes, and its marks
+-- the frame that a sender is guessed to send
+abbrev pub frame_in : Option Expectation → Option Content → ℕ → List ℕ
+frame_in None g j = []
+frame_in (Some e) None j = []
+frame_in (Some e) (Some c) j = spelling e.nodes (head_of (of_sender j e)) (said_by e j c)
+
+-- whether there is one
+abbrev pub guesses : Option Expectation → Option Content → ℕ → Bool
+guesses None g j = false
+guesses (Some e) None j = false
+guesses (Some e) (Some c) j = is_guessed_of e j c
+
+-- what it says
+abbrev pub said_in : Option Expectation → Option Content → ℕ → Option Content
+said_in None g j = None
+said_in (Some e) None j = None
+said_in (Some e) (Some c) j = Some (said_by e j c)
+
+abbrev pub frame_at : Watch → ℕ → List ℕ
+frame_at w j = frame_in w.expect w.guess j
+
+abbrev pub guesses_at : Watch → ℕ → Bool
+guesses_at w j = guesses w.expect w.guess j
+
+abbrev pub said_at : Watch → ℕ → Option Content
+said_at w j = said_in w.expect w.guess j
+
+-- how a watch is seen
+abbrev pub watch_of : ℕ → ℕ → ℕ → Option Expectation → Bool → List Box → Option Content → Watch
+watch_of nodes me room e shown boxes g = record { nodes = nodes; me = me; frame_max = room; expect = e; is_open = shown; arrived = arrivals (frame_in e g) 0 boxes; guess = g }
+
+-- each frame that is guessed can be sent
+abbrev pub IsMeant : Option Expectation → Option Content → Type 0
+IsMeant o g = (e : Expectation) (c : Content) → o ≡ Some e → g ≡ Some c → (j : ℕ) → is_guessed_of e j c ≡ true → IsInRange (of_sender j e) (said_by e j c)
+
+abbrev pub no_box : Box
+no_box = record { room = 0; held = held_none }
+
+-- only what is guessed is held as the same
+abbrev pub AreSame : Option Expectation → Option Content → List Box → Type 0
+AreSame o g boxes = (j : ℕ) → is_same (slice_index_or boxes j no_box).held ≡ true → guesses o g j ≡ true
+
+-- what holds of the inside of a watch: its inboxes, its marks, and what it guesses
 pub record IsKept (n : ℕ) (w : Watch) (boxes : List Box) (good : List ℕ) : Type 0 where
   pub inboxes : AreInboxes n w.nodes w.frame_max w.expect boxes
   pub marked : AreMarked n w good
+  pub room : (e : Expectation) → w.expect ≡ Some e → HasRoom w.frame_max e
+  pub meant : IsMeant w.expect w.guess
+  pub same : AreSame w.expect w.guess boxes

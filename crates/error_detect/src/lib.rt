@@ -9,10 +9,12 @@ ghost use Rattle.frames.specs.Seen.{expected};
 
 mod arrival;
 mod finding;
+mod guess;
 pub mod laws;
 mod watch;
 
 pub use finding::Finding;
+pub use guess::Form;
 pub use watch::SlotWatch;
 
 #[cfg(test)]
@@ -78,7 +80,7 @@ mod tests {
             (&[(21, &[7; 65])], Finding::Timing),
         ];
         for (deliveries, finding) in &rows {
-            let mut watch = SlotWatch::open(rt.alloc(), 4, 0, frame_bound(4, 0, 18, 0))?;
+            let mut watch = SlotWatch::open(rt.alloc(), 4, 0, frame_bound(4, 0, 18, 0), 0)?;
             let (seen, said) = found(&mut watch, deliveries);
             assert!(rt; seen == *finding);
             assert!(rt; said == (seen == Finding::Good));

@@ -1,15 +1,18 @@
 //! What arrived from each sender in a slot.
 
-ghost use Rattle.std.specs.Prelude.{◌≡◌, ◌≢◌, ◌<◌, ◌≤◌, true, false, IfOk, IfSome, IsSome, option_map, map, replicate};
+ghost use Rattle.std.specs.Prelude.{◌≡◌, ◌≢◌, ◌<◌, ◌≤◌, true, false, None, IfOk, IfSome, IfNone, IsSome, option_map, map, replicate};
 ghost use Rattle.node_grid.specs.Capacity.{IsCapacity};
 ghost use Rattle.frames.specs.Seen.{content, expected, HasWidth};
 ghost use Rattle.frames.specs.Spelling.{head_of};
 ghost use Rattle.node_grid.specs.NodeSet.{ids_where};
 ghost use Rattle.error_detect.specs.Finding.{is_good_at};
-ghost use Rattle.error_detect.specs.Watching.{nothing, emptied, fresh, opened, delivered, closed, of_sender, HasRoom, finding_at, findings, told_at};
+ghost use Rattle.error_detect.specs.Watching.{nothing, held_none, emptied, fresh, opened, delivered, closed, of_sender, HasRoom, finding_at, findings, told_at, guessing, guesses_at, frame_at, said_at};
+ghost use Rattle.error_detect.specs.Guessing.{IsGuessable};
+ghost use Rattle.error_detect.specs.Inside.{said_as};
 
 use crate::arrival::Inbox;
 use crate::finding::Finding;
+use crate::guess::{Form, Guess};
 use frames::{Expect, Frame};
 use node_grid::{NoMemory, NodeSet};
 use std::alloc::{AllocError, Global};
@@ -25,24 +28,26 @@ pub struct SlotWatch<const N: usize> {
     is_open: bool,
     inboxes: Vec<Inbox>,
     good: NodeSet<N>,
+    guess: Guess,
 }
 
-// Clauses see the numbers given to `open`, what was expected in the last slot, whether it is open, and what arrived, by sender.
+// Clauses see the numbers given to `open`, what was expected in the last slot, whether it is open, what arrived, by sender, and what is guessed.
 impl<const N: usize> Model for SlotWatch<N> {
-    ghost use Rattle.std.specs.Prelude.{◌≡◌, ◌≤◌, map, option_map};
+    ghost use Rattle.std.specs.Prelude.{option_map};
     ghost use Rattle.frames.specs.Seen.{expected};
-    ghost use Rattle.error_detect.specs.Watching.{Watch, arrival_of, IsKept};
+    ghost use Rattle.error_detect.specs.Watching.{Watch, watch_of, IsKept};
+    ghost use Rattle.error_detect.specs.Inside.{meaning};
 
     ghost Value = { Watch };
 
-    ghost view = { λ w. record { nodes = w.nodes; me = w.me; frame_max = w.frame_max; expect = option_map expected w.expect; is_open = w.is_open; arrived = map arrival_of w.inboxes.items } };
+    ghost view = { λ w. watch_of w.nodes w.me w.frame_max (option_map expected w.expect) w.is_open w.inboxes.items (meaning N w.nodes w.guess) };
 
-    ghost invariant = { λ w. IsKept N (record { nodes = w.nodes; me = w.me; frame_max = w.frame_max; expect = option_map expected w.expect; is_open = w.is_open; arrived = map arrival_of w.inboxes.items }) w.inboxes.items w.good };
+    ghost invariant = { λ w. IsKept N (watch_of w.nodes w.me w.frame_max (option_map expected w.expect) w.is_open w.inboxes.items (meaning N w.nodes w.guess)) w.inboxes.items w.good };
 }
 
 /// Empty inboxes, one for each node.
 fn open_inboxes(alloc: Global, nodes: u8, room: usize) -> Result<Vec<Inbox>, AllocError>
-    ensures { IfOk result (λ v. v.items ≡ replicate nodes (record { room = room; arrival = nothing })) }
+    ensures { IfOk result (λ v. v.items ≡ replicate nodes (record { room = room; held = held_none })) }
 {
     let mut inboxes = Vec::new(alloc);
     for _ in 0..nodes {
@@ -75,7 +80,7 @@ fn good_nodes<const N: usize>(found: &[Finding; N]) -> NodeSet<N>
 }
 
 impl<const N: usize> SlotWatch<N> {
-    /// A watch of node `me` over so many nodes, for frames of at most `frame_max` bytes.
+    /// A watch of node `me` over so many nodes, for frames of at most `frame_max` bytes, and guesses of at most `guess_max`.
     ///
     /// Answers NoMemory where the inboxes can't be had. No other call takes memory.
     pub fn open(
@@ -83,12 +88,16 @@ impl<const N: usize> SlotWatch<N> {
         nodes: u8,
         me: u8,
         frame_max: usize,
+        guess_max: usize,
     ) -> Result<SlotWatch<N>, NoMemory>
         requires capacity { IsCapacity N }
         requires nodes { nodes ≤ N }
         ensures { IfOk result (λ w. w ≡ fresh nodes me frame_max) }
     {
         let Ok(inboxes) = open_inboxes(alloc, nodes, frame_max) else {
+            return Err(NoMemory);
+        };
+        let Ok(guess) = Guess::open(alloc, guess_max) else {
             return Err(NoMemory);
         };
         Ok(SlotWatch {
@@ -99,6 +108,7 @@ impl<const N: usize> SlotWatch<N> {
             is_open: false,
             inboxes,
             good: NodeSet::empty(),
+            guess,
         })
     }
 
@@ -112,6 +122,7 @@ impl<const N: usize> SlotWatch<N> {
     {
         self.expect = Some(*expect);
         self.is_open = true;
+        self.guess.forget();
         forget_all(self.inboxes.as_mut_slice());
     }
 
@@ -123,6 +134,37 @@ impl<const N: usize> SlotWatch<N> {
         ensures { self.new ≡ delivered self.old from tick bytes.now }
     {
         self.inboxes[from as usize].take(tick, bytes);
+    }
+
+    /// Guesses what the slot's frames say, before any has come, and answers whether there was room for that.
+    pub fn guess(&mut self, form: Form, bytes: &[u8]) -> bool
+        requires before { self.old.arrived ≡ replicate self.old.nodes nothing }
+        requires guessable { IfSome self.old.expect (λ e. IsGuessable e (said_as N self.old.nodes form bytes.now)) }
+        ensures yes { result ≡ true → self.new ≡ guessing self.old (said_as N self.old.nodes form bytes.now) }
+        ensures no { result ≡ false → self.new ≡ self.old }
+    {
+        self.guess.put(form, bytes)
+    }
+
+    /// The bytes of what is guessed of the slot's frames, and in which form; None where nothing is guessed.
+    pub fn guessed(&self) -> Option<(Form, &[u8])>
+        ensures { option_map (λ p. said_as N self.now.nodes p.0 p.1.now) result ≡ self.now.guess }
+    {
+        match self.guess.form() {
+            Some(form) => Some((form, self.guess.bytes())),
+            None => None,
+        }
+    }
+
+    /// A delivery from another node, of the frame that it is guessed to send: its bytes aren't looked at.
+    pub fn deliver_same(&mut self, from: u8, tick: u8)
+        requires open { self.old.is_open ≡ true }
+        requires node { from < self.old.nodes }
+        requires other { from ≢ self.old.me }
+        requires guessed { guesses_at self.old from ≡ true }
+        ensures { self.new ≡ delivered self.old from tick (frame_at self.old from) }
+    {
+        self.inboxes[from as usize].take_same(tick);
     }
 
     /// The finding of a node; Good for the watch's own, and where there is no node.
@@ -165,25 +207,52 @@ impl<const N: usize> SlotWatch<N> {
         found
     }
 
-    /// The frame of a node in the slot that was closed last, exactly where its finding was Good.
+    /// What a node told in the slot that was closed last: None where it says what it was guessed to say, and else its
+    /// frame, exactly where its finding was Good.
+    pub fn told(&self, from: u8) -> Option<Option<Frame<'_, N>>>
+        requires closed { self.now.is_open ≡ false }
+        requires some_slot { IsSome self.now.expect }
+        requires node { from < self.now.nodes }
+        requires other { from ≢ self.now.me }
+        ensures head { IfSome result (λ o. IfSome o (λ f. IfSome self.now.expect (λ e. f.head ≡ head_of (of_sender from e)))) }
+        ensures widths { IfSome result (λ o. IfSome o (λ f. HasWidth self.now.nodes f.body)) }
+        ensures told { IfSome result (λ o. option_map (λ f. content self.now.nodes f.body) o ≡ told_at self.now from) }
+        ensures same { IfNone result ((guesses_at self.now from ≡ true) × (told_at self.now from ≡ said_at self.now from)) }
+    {
+        if !self.good.has(from) {
+            return Some(None);
+        }
+        match &self.expect {
+            None => Some(None),
+            Some(expect) => {
+                let expect = Expect {
+                    sender: from,
+                    ..*expect
+                };
+                let inbox = &self.inboxes[from as usize];
+                if inbox.is_same() {
+                    return None;
+                }
+                Some(Some(inbox.good_frame(&expect)))
+            }
+        }
+    }
+
+    /// The frame of a node in the slot that was closed last, exactly where its finding was Good, of a slot in which
+    /// nothing was guessed.
     pub fn frame(&self, from: u8) -> Option<Frame<'_, N>>
         requires closed { self.now.is_open ≡ false }
         requires some_slot { IsSome self.now.expect }
         requires node { from < self.now.nodes }
         requires other { from ≢ self.now.me }
+        requires unguessed { self.now.guess ≡ None }
         ensures head { IfSome result (λ f. IfSome self.now.expect (λ e. f.head ≡ head_of (of_sender from e))) }
         ensures widths { IfSome result (λ f. HasWidth self.now.nodes f.body) }
         ensures told { option_map (λ f. content self.now.nodes f.body) result ≡ told_at self.now from }
     {
-        if !self.good.has(from) {
-            return None;
-        }
-        match &self.expect {
+        match self.told(from) {
+            Some(frame) => frame,
             None => None,
-            Some(expect) => Some(self.inboxes[from as usize].good_frame(&Expect {
-                sender: from,
-                ..*expect
-            })),
         }
     }
 }
