@@ -15,7 +15,8 @@ use Rattle.frames.specs.declared.frame.Head.{Head}
 use Rattle.frames.specs.Spelling.{relayed_row_spelling, body_spelling, header_spelling, spelling, head_of, IsInRange}
 use Rattle.frames.specs.Reading.{reading}
 use Rattle.frames.specs.ReadingLaws.{reads_back, reads_only}
-use Rattle.error_detect.specs.Finding.{Delivery, is_in_window, found_of, finding, told_of, told, kind_of}
+use Rattle.slot_plan.specs.Ticks.{is_in_window}
+use Rattle.error_detect.specs.Finding.{Delivery, found_of, finding, told_of, told, kind_of}
 use Rattle.error_detect.specs.declared.finding.Finding.TheVariants.{Timing}
 use Rattle.fault_classes.specs.Change.{Change}
 use Rattle.fault_link.specs.Arrival.{delivered_of}

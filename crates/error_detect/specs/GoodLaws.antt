@@ -1,14 +1,14 @@
 -- A frame that is found Good is of the kind that has its place in the slot, and has its sizes.
 use Rattle.std.proofs.Common.{ℕ, ◌≡◌, ◌<◌, ◌==◌, ◌||◌, Bool, true, false, if◌then◌else◌, refl, sym, ap, subst, ◌∙◌, inl, inr, arith, ne_eqb, Option, None, Some}
 use Rattle.std.specs.Prelude.{nat_le, ◌⊎◌, slice_index_or}
-use Rattle.std.proofs.lemmas.Bool.{cond-false}
-use Rattle.std.proofs.lemmas.Bool.Decides.{nat_tests}
+use Rattle.std.proofs.lemmas.Bool.{cond-false, lt-leb}
 use Rattle.frames.specs.Content.{Content, Expectation, kind_in, State, Done0, DoneRelay, Data, Report0, ReportRelay, Cold}
 use Rattle.frames.specs.Spelling.{IsInRange}
 use Rattle.frames.specs.Reading.{reading}
 use Rattle.frames.specs.ReadingLaws.{reads_in_range}
 use Rattle.error_detect.specs.declared.finding.Finding.TheVariants.{Good, Malformed, Timing}
-use Rattle.error_detect.specs.Finding.{is_in_window, found_of, told_of, kind_of}
+use Rattle.slot_plan.specs.Ticks.{is_in_window}
+use Rattle.error_detect.specs.Finding.{found_of, told_of, kind_of}
 use Rattle.error_detect.specs.Watching.{Arrival, nothing, one, too_long, several, of_sender, found_by, found_in, told_by, told_in, finding_at, told_at}
 use Rattle.error_detect.specs.Good.{IsToldWith, GoodFits}
 
@@ -43,11 +43,8 @@ arrival_fits e several = refl
 pub good_fits : GoodFits
 good_fits w e j is low ne =
     let a : Arrival = slice_index_or w.arrived j nothing in
-    let other : ((j == w.me) || nat_le w.nodes j) ≡ false = ap (λ (b : Bool). b || nat_le w.nodes j) (ne_eqb j w.me ne) ∙ gt w.nodes j low in
+    let other : ((j == w.me) || nat_le w.nodes j) ≡ false = ap (λ (b : Bool). b || nat_le w.nodes j) (ne_eqb j w.me ne) ∙ lt-leb w.nodes j low in
     let found : finding_at w j ≡ found_by (of_sender j e) a = cond-false _ Good (found_in w.expect j a) other ∙ ap (λ o. found_in o j a) is in
     let told : told_at w j ≡ told_by (of_sender j e) a = ap (λ o. told_in o j a) is in
     subst (λ (x : Option Content). IsToldWith (of_sender j e) (kind_of (finding_at w j)) x) (sym told)
     (subst (λ (k : Option ℕ). IsToldWith (of_sender j e) k (told_by (of_sender j e) a)) (sym (ap kind_of found)) (arrival_fits (of_sender j e) a))
-  where
-    gt : (m n : ℕ) → n < m → nat_le m n ≡ false
-    gt m n h = grind (arith, nat_tests)

@@ -8,7 +8,8 @@ use Rattle.frames.specs.Spelling.{spelling, head_of, IsInRange}
 use Rattle.error_detect.specs.declared.finding.Finding.{Finding}
 use Rattle.error_detect.specs.declared.finding.Finding.TheVariants.{Good, Missing, Malformed, Timing}
 use Rattle.error_detect.specs.Guessing.{said_by, is_guessed_of}
-use Rattle.error_detect.specs.Finding.{is_in_window, is_good, finding, told}
+use Rattle.slot_plan.specs.Ticks.{is_in_window}
+use Rattle.error_detect.specs.Finding.{is_good, finding, told}
 
 -- what arrived from one sender: nothing, one delivery with its bytes or with more than any frame has, or several
 pub data Arrival : Type 0 where

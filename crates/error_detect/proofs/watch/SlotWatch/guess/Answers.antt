@@ -49,10 +49,10 @@ invariant_of-self g c =
             marked = subst (λ w. AreMarked g.row.N w c.self.inside.good) (ap shown (sym free)) c.self.invariant.marked;
             room = c.self.invariant.room;
             meant = λ e y some there j on.
-              (let s : IsGuessable e said = subst (λ p. IfSome p (λ x. IsGuessable x said)) some can in
-              let all : Some said ≡ Some y = sym is ∙ there in
-              let same : said ≡ y = cc in
-              guessed_sent e y (subst (IsGuessable e) same s) j on);
+                (let s : IsGuessable e said = subst (λ p. IfSome p (λ x. IsGuessable x said)) some can in
+                let all : Some said ≡ Some y = sym is ∙ there in
+                let same : said ≡ y = cc in
+                guessed_sent e y (subst (IsGuessable e) same s) j on);
             same = λ j held. absurd (let no : true ≡ false = sym held ∙ none_before (frame_in o old) 0 c.args.self.now.nodes j boxes before in cc);
           }
       | inr undone ↦
