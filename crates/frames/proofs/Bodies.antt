@@ -6,7 +6,7 @@ use Rattle.std.specs.Bool.{Decides}
 use Rattle.std.proofs.Math.Nat.{add-mul-div_left, div-eq_of_lt, mul-mod_right}
 use Rattle.std.specs.List.{list_all, All, flat_map}
 use Rattle.std.proofs.lemmas.List.{length-map, take-append-drop, length-drop, length-take}
-use Rattle.std.proofs.lemmas.Bool.Decides.{Decides-eqb}
+use Rattle.std.proofs.lemmas.Bool.Decides.{Decides-eqb, not_from_Decides}
 use Rattle.frames.specs.declared.kind.Kind.{Kind}
 use Rattle.frames.specs.Seen.{number_of}
 use Rattle.frames.specs.Content.{Expectation, Content, State, Done0, DoneRelay, Data, Report0, ReportRelay, Cold, kind, kind_in, round_in, entries_due, IsClaim, IsRow, IsValue, IsEntry}
@@ -79,17 +79,21 @@ nothing_said e k bytes h c b =
     let P : Content → Type 0 = λ x. IsSaid e x bytes in
     h (subst P (sym same) b.said)
 
-pub nothing_of : (e : Expectation) (k n : ℕ) (bytes : List ℕ) (x : Content) → k ≡ n → said_in e n bytes ≡ x → (IsSaid e x bytes → ⊥) → (c : Content) → IsBody e k c bytes → ⊥
-nothing_of e k n bytes x s t h c b =
-    let P : Content → Type 0 = λ y. IsSaid e y bytes in
-    nothing_said e k bytes (λ said. h (subst P (ap (λ i. said_in e i bytes) s ∙ t) said)) c b
-
--- a body of the kind that has its place
-pub body_placed : (e : Expectation) (k : ℕ) (bytes : List ℕ) (p : Kind) (num : ℕ) (c : Content) → k ≡ num → num ≡ number_of p → number_of p ≡ kind_in e.m e.slot → kind c ≡ k → IsSaid e c bytes → IsBody e k c bytes
-body_placed e k bytes p num c a b d is said = record { is = is; placed = inl (is ∙ a ∙ b ∙ d); said = said }
-
+-- the kind of a header, by the kind that has its place
 pub kind_told : (k num : ℕ) (p q : Kind) → k ≡ num → num ≡ number_of p → p ≡ q → k ≡ number_of q
 kind_told k num p q a b e = a ∙ b ∙ ap number_of e
+
+-- where a test fails that decides of the kind that has its place, nothing is said
+pub nothing_told : (e : Expectation) (k num : ℕ) (p q : Kind) (bytes : List ℕ) (x : Content) (test : Bool) → k ≡ num → num ≡ number_of p → p ≡ q → said_in e (number_of q) bytes ≡ x
+    → Decides test (IsSaid e x bytes) → test ≡ false → (c : Content) → IsBody e k c bytes → ⊥
+nothing_told e k num p q bytes x test a b is candidate decided fails c body =
+    let same : said_in e k bytes ≡ x = ap (λ i. said_in e i bytes) (kind_told k num p q a b is) ∙ candidate in
+    nothing_said e k bytes (λ said. not_from_Decides test decided fails (subst (λ y. IsSaid e y bytes) same said)) c body
+
+-- a body of the kind that has its place
+pub body_told : (e : Expectation) (k num : ℕ) (p q : Kind) (c : Content) (bytes : List ℕ) → k ≡ num → num ≡ number_of p → number_of p ≡ kind_in e.m e.slot → p ≡ q → kind c ≡ number_of q
+    → IsSaid e c bytes → IsBody e k c bytes
+body_told e k num p q c bytes a b placed is same said = record { is = same ∙ sym (kind_told k num p q a b is); placed = inl (same ∙ sym (ap number_of is) ∙ placed); said = said }
 
 pub whole_rows : (e : Expectation) (bytes : List ℕ) (width : ℕ) → width ≡ 1 + 2 * e.nodes → has_rows e bytes ≡ true → length bytes % width ≡ 0
 whole_rows e bytes width w h =
