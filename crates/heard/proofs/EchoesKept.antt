@@ -50,26 +50,26 @@ module _ {V : Type 0} (p : Parts V) where
       let k : length path - 1 ≡ r = omega arith in
       cond-false _ _ _ (gt_test (length path) 1 (omega arith)) ∙ ap (λ (n : ℕ). echoed p n path) k
 
-  echoed_clean : (r : ℕ) (path : List ℕ) → has_id (set_at p.clean (suc r)) (get_or path (suc r) 0) ≡ true → echoed p (suc r) path ≡ wrapped (echoed p r (take (suc r) path))
+  echoed_clean : (r : ℕ) (path : List ℕ) → has_id (set_at p.as_expected (suc r)) (get_or path (suc r) 0) ≡ true → echoed p (suc r) path ≡ wrapped (echoed p r (take (suc r) path))
   echoed_clean r path h = cond-true _ _ _ h
 
-  echoed_odd : (r : ℕ) (path : List ℕ) → has_id (set_at p.clean (suc r)) (get_or path (suc r) 0) ≡ false → has_id (set_at p.odd (suc r)) (get_or path (suc r) 0) ≡ true
+  echoed_odd : (r : ℕ) (path : List ℕ) → has_id (set_at p.as_expected (suc r)) (get_or path (suc r) 0) ≡ false → has_id (set_at p.in_cells (suc r)) (get_or path (suc r) 0) ≡ true
       → echoed p (suc r) path ≡ cell p (suc r) (get_or path (suc r) 0) (place_of p (suc r) (get_or path (suc r) 0) path)
   echoed_odd r path h k = cond-false _ _ _ h ∙ cond-true _ _ _ k
 
   -- ---- frames that echo
 
-  pub echo_but : (rounds me : ℕ) (full : Bool) (least : ℕ) (doubted : List ℕ) → 0 < least → (least ≡ 1 → (c : ℕ) → has_id p.members c ≡ true → base p c ≡ root p c)
-      → ((q r : ℕ) → has_id p.members q ≡ true → has_id doubted q ≡ false → least ≤ r → r ≤ rounds → has_id (set_at p.clean r) q ≡ true)
-      → IsEchoBut (echo_ear p rounds me full) least doubted
-  echo_but rounds me full least doubted some same clean = record { says = λ front q real away above room on off ne good. go (length front - 1) front q real (omega arith) above room on good }
+  pub echo_but : (least : ℕ) (doubted : List ℕ) → 0 < least → (least ≡ 1 → (c : ℕ) → has_id p.members c ≡ true → base p c ≡ root p c)
+      → ((q r : ℕ) → has_id p.members q ≡ true → has_id doubted q ≡ false → least ≤ r → r ≤ p.rounds → has_id (set_at p.as_expected r) q ≡ true)
+      → IsEchoBut (echo_ear p) least doubted
+  echo_but least doubted some same clean = record { says = λ front q real away above room on off ne good. go (length front - 1) front q real (omega arith) above room on good }
     where
-      go : (r : ℕ) (front : List ℕ) (q : ℕ) → IsPath p.members rounds front → length front ≡ suc r → least ≤ length front → length front ≤ rounds → has_id p.members q ≡ true → has_id doubted q ≡ false
+      go : (r : ℕ) (front : List ℕ) (q : ℕ) → IsPath p.members p.rounds front → length front ≡ suc r → least ≤ length front → length front ≤ p.rounds → has_id p.members q ≡ true → has_id doubted q ≡ false
           → kept_echo p (front ++ q ∷ []) ≡ wrapped (kept_echo p front)
       go r front q real long above room on good =
           let more : length (front ++ q ∷ []) ≡ suc r + 1 = omega (arith, length_push front q) in
           let last : get_or (front ++ q ∷ []) (suc r) 0 ≡ q = get_last front (suc r) q long in
-          let bit : has_id (set_at p.clean (suc r)) (get_or (front ++ q ∷ []) (suc r) 0) ≡ true = ap (has_id (set_at p.clean (suc r))) last ∙ clean q (suc r) on good (omega arith) (omega arith) in
+          let bit : has_id (set_at p.as_expected (suc r)) (get_or (front ++ q ∷ []) (suc r) 0) ≡ true = ap (has_id (set_at p.as_expected (suc r))) last ∙ clean q (suc r) on good (omega arith) (omega arith) in
           let before : echoed p r front ≡ kept_echo p front = elim (cases_lt 0 r) [
             | inl later ↦ sym (kept_more front r (omega arith) later)
             | inr first ↦
@@ -83,9 +83,9 @@ module _ {V : Type 0} (p : Parts V) where
 
   -- ---- a commander of whose paths the doubted ones are known
 
-  module _ (capacity rounds me : ℕ) (h : IsStored capacity rounds p) (doubted : List (List ℕ)) (hit : AreHit me p doubted)
-      (c : ℕ) (all : List ℕ) (doubts : IsAllDoubted capacity rounds p.members p.clean p.odd (set_at doubted c) all) where
-    echo_back : (r : ℕ) (path : List ℕ) → length path ≡ suc r → first_node path ≡ c → Distinct path → ((x : ℕ) → has_id path x ≡ true → has_id p.members x ≡ true) → has_id path me ≡ false → r ≤ rounds
+  module _ (capacity : ℕ) (h : IsStored capacity p) (doubted : List (List ℕ)) (hit : AreHit p doubted)
+      (c : ℕ) (all : List ℕ) (doubts : IsAllDoubted capacity p (set_at doubted c) all) where
+    echo_back : (r : ℕ) (path : List ℕ) → length path ≡ suc r → first_node path ≡ c → Distinct path → ((x : ℕ) → has_id path x ≡ true → has_id p.members x ≡ true) → has_id path p.me ≡ false → r ≤ p.rounds
         → ((x : ℕ) → has_id (drop 1 path) x ≡ true → has_id all x ≡ false) → echoed p r path ≡ wrapped_times r (base p c)
     echo_back zero path long first d within off room good = ap (base p) first
     echo_back (suc r) path long first d within off room good =
@@ -101,27 +101,27 @@ module _ {V : Type 0} (p : Parts V) where
         let low = h.low q member in
         let come = doubts.come q (omega arith) member (good q last) (suc r) (omega arith) room in
         let front_first : first_node front ≡ c = get_or-take (suc r) path 0 0 (omega arith) ∙ first in
-        let front_off : has_id front me ≡ false = (off_longer front q me (ap (λ (xs : List ℕ). has_id xs me) whole ∙ off)).0 in
-        elim (cases_Bool (has_id (set_at p.clean (suc r)) q)) [
+        let front_off : has_id front p.me ≡ false = (off_longer front q p.me (ap (λ (xs : List ℕ). has_id xs p.me) whole ∙ off)).0 in
+        elim (cases_Bool (has_id (set_at p.as_expected (suc r)) q)) [
           | inl clean ↦
               echoed_clean r path clean
               ∙ ap wrapped (echo_back r front short front_first listed.distinct (λ x x-on. has-of-without p.members q x (listed.within x x-on)) front_off (omega arith)
               (λ x x-on. good x (subst (λ (xs : List ℕ). has_id (drop 1 xs) x ≡ true) whole (behind-more front q x x-on))))
           | inr dirty ↦
-              let odd : has_id (set_at p.odd (suc r)) q ≡ true = come_odd (has_id (set_at p.clean (suc r)) q) (has_id (set_at p.odd (suc r)) q) come dirty in
+              let odd : has_id (set_at p.in_cells (suc r)) q ≡ true = come_odd (has_id (set_at p.as_expected (suc r)) q) (has_id (set_at p.in_cells (suc r)) q) come dirty in
               echoed_odd r path dirty odd
               ∙ hit path (suc r) (omega arith) (omega arith) d within off odd
               (λ x x-on. let l = h.low x (within x (in-behind path x x-on)) in let m = h.nodes_ok in ap (λ (k : ℕ). has_id (set_at doubted k) x) first ∙ doubts.kept x (omega arith) (good x x-on))
               ∙ ap (λ (k : ℕ). wrapped_times (suc r) (base p k)) first
         ]
 
-    pub echo_expected : (full : Bool) → c ≢ me → base p c ≡ root p c → IsExpectedBut (echo_ear p rounds me full) c all
-    echo_expected full other same = record { says = λ back real off good. go back real off good }
+    pub echo_expected : c ≢ p.me → base p c ≡ root p c → IsExpectedBut (echo_ear p) c all
+    echo_expected other same = record { says = λ back real off good. go back real off good }
       where
-        apart : (back : List ℕ) → has_id back me ≡ false → has_id (c ∷ back) me ≡ false
-        apart back off = ap₂ (λ (s t : Bool). s || t) (ne_eqb c me other) off
+        apart : (back : List ℕ) → has_id back p.me ≡ false → has_id (c ∷ back) p.me ≡ false
+        apart back off = ap₂ (λ (s t : Bool). s || t) (ne_eqb c p.me other) off
 
-        go : (back : List ℕ) → IsPath p.members rounds (c ∷ back) → has_id back me ≡ false → ((q : ℕ) → has_id back q ≡ true → has_id all q ≡ false)
+        go : (back : List ℕ) → IsPath p.members p.rounds (c ∷ back) → has_id back p.me ≡ false → ((q : ℕ) → has_id back q ≡ true → has_id all q ≡ false)
             → kept_echo p (c ∷ back) ≡ wrapped_times (length back) (kept_echo p (c ∷ []))
         go [] real off good = refl
         go (x ∷ xs) real off good =
@@ -133,7 +133,7 @@ module _ {V : Type 0} (p : Parts V) where
 
 -- the law, as the specs state it
 pub echoes_kept_law : {V : Type 0} → EchoesKeptLaw V
-echoes_kept_law capacity rounds me full p = record {
-  echo = echo_but p rounds me full;
-  expected = λ h doubted hit c all doubts other same. echo_expected p capacity rounds me h doubted hit c all doubts full other same;
+echoes_kept_law capacity p = record {
+  echo = echo_but p;
+  expected = λ h doubted hit c all doubts other same. echo_expected p capacity h doubted hit c all doubts other same;
 }

@@ -1,23 +1,17 @@
 -- A frame, commander by commander.
-use Rattle.std.proofs.Common.{ℕ, zero, suc, ◌≡◌, ◌≢◌, ◌<◌, ◌≤◌, ◌+◌, ◌-◌, ◌*◌, ◌==◌, true, false, List, [], ◌∷◌, ◌++◌, length, get_or, refl, sym, ap, ap₂, subst, ◌∙◌, inl, inr, arith, eq-eqb}
-use Rattle.std.proofs.lemmas.Bool.{cases_lt, both_ways, or_left}
-use Rattle.std.proofs.lemmas.List.{get_or_default}
-use Rattle.node_grid.specs.NodeSet.{has_id, with_id, IsIdSet}
-use Rattle.node_grid.specs.NodeSetLaws.{has-with_id}
+use Rattle.std.proofs.Common.{ℕ, ◌≡◌, ◌≢◌, ◌<◌, ◌≤◌, ◌+◌, ◌-◌, ◌*◌, true, List, [], ◌∷◌, ◌++◌, length, get_or, sym, ap, subst, ◌∙◌, inl, inr, arith}
+use Rattle.std.proofs.lemmas.Bool.{cases_lt, both_ways}
+use Rattle.node_grid.specs.NodeSet.{has_id, IsIdSet}
 use Rattle.node_grid.specs.Count.{Distinct}
 use Rattle.omh_paths.specs.declared.wrapped.Wrapped.{Wrapped}
 use Rattle.omh_paths.specs.declared.wrapped.Wrapped.TheVariants.{Fault}
 use Rattle.omh_paths.specs.Paths.{paths_of_length, path_at, path_count}
-use Rattle.omh_paths.specs.PathLists.{path_at-cons, IsListed-at, has-at}
-use Rattle.omh_paths.specs.MemberLaws.{Distinct-ids, member-lt, path_count-few}
+use Rattle.omh_paths.specs.PathLists.{has-at}
+use Rattle.omh_paths.specs.MemberLaws.{Distinct-ids, member-lt}
 use Rattle.heard.specs.Keep.{first_node, wrapped_times}
-use Rattle.heard.specs.Places.{on-at, row_le}
-use Rattle.heard.specs.Doubts.{IsTrusted, AreSaidUpTo, AreSaidBut, IsHitAs, IsHitAt, DoubtsMore}
-use Rattle.heard.proofs.Members.{hit_more, not_after}
-use Rattle.heard.specs.Blocks.{in_block, block_fits, next_block, first_on, first_in}
-
-pub value_is : {V : Type 0} (values : List (Wrapped V)) (k : ℕ) (x : Wrapped V) → k < length values → x ≡ get_or values k x → get_or values k (Fault 0) ≡ x
-value_is values k x low e = sym (e ∙ get_or_default values k x (Fault 0) low)
+use Rattle.heard.specs.Doubts.{IsTrusted, AreSaidUpTo, IsHitAs, IsHitAt, DoubtsMore}
+use Rattle.heard.proofs.Members.{hit_more}
+use Rattle.heard.specs.Blocks.{in_block, block_fits, next_block, first_on}
 
 -- ---- one commander more
 
@@ -38,18 +32,6 @@ module _ {V : Type 0} (n me r w : ℕ) (others : List ℕ) (said entries : List 
   pub commander_low : c < n
   commander_low = member-lt n others c ids commander_in
 
-  -- where it deviates
-  pub said_but_it : (found new : List ℕ) → new ≡ with_id n found c → AreSaidUpTo me r others said entries found (i * w) → AreSaidUpTo me r others said entries new ((i + 1) * w)
-  said_but_it found new e was k l off away = elim (cases_lt k (i * w)) [
-    | inl before ↦
-        let first : ℕ = first_node (path_at (paths_of_length others r) k) in
-        let lo : first < n = member-lt n others first ids (first_in others r k d some (fits k (omega (arith, next_block i w)))) in
-        was k before off (not_after n found c first lo (sym (ap (λ (s : List ℕ). has_id s first) e) ∙ away)).1
-    | inr here ↦
-        let at : first_node (path_at (paths_of_length others r) k) ≡ c = block_first k here (omega (arith, next_block i w)) in
-        absurd (both_ways _ away (ap₂ (λ (s : List ℕ) (x : ℕ). has_id s x) e at ∙ has-with_id n found c c commander_low ∙ or_left (c == c) (has_id found c) (eq-eqb c c refl)))
-  ]
-
   -- and where it does not
   pub said_and_it : (found new : List ℕ) (base : Wrapped V) → new ≡ found → base ≡ get_or said c (Fault 0)
       → (c ≢ me → (k : ℕ) → i * w ≤ k → k < i * w + w → get_or entries k (Fault 0) ≡ wrapped_times r base)
@@ -66,17 +48,6 @@ module _ {V : Type 0} (n me r w : ℕ) (others : List ℕ) (said entries : List 
   -- ---- doubts
 
   module _ (q : ℕ) (sender : q < n) where
-    -- where the commander is no deviant
-    pub hit_as_said : (deviants : List ℕ) (doubted new : List (List ℕ)) → has_id deviants c ≡ false → new ≡ doubted → AreSaidBut me r others said entries deviants
-        → ((k : ℕ) → k < i * w → IsHitAt me r q others said entries doubted k) → (k : ℕ) → k < (i + 1) * w → IsHitAt me r q others said entries new k
-    hit_as_said deviants doubted new off e rest was k l out trusted = elim (cases_lt k (i * w)) [
-      | inl before ↦ was k before out (subst (λ (ds : List (List ℕ)). IsTrusted ds (path_at (paths_of_length others r) k ++ q ∷ [])) e trusted)
-      | inr here ↦
-          let below : k < i * w + w = omega (arith, next_block i w) in
-          let at : first_node (path_at (paths_of_length others r) k) ≡ c = block_first k here below in
-          rest k (omega (arith, fits k below, count)) out (ap (has_id deviants) at ∙ off)
-    ]
-
     -- and where nodes were doubted
     pub hit_or_doubted : (doubted new now : List (List ℕ)) (base expected : Wrapped V) → now ≡ new → DoubtsMore n doubted new → base ≡ get_or said c (Fault 0) → expected ≡ wrapped_times r base
         → ((k : ℕ) → i * w ≤ k → k < i * w + w → IsHitAs me r q others entries new expected k)
@@ -90,3 +61,11 @@ module _ {V : Type 0} (n me r w : ℕ) (others : List ℕ) (said entries : List 
               let at : first_node (path_at (paths_of_length others r) k) ≡ c = block_first k here below in
               hits k here below out trusts ∙ x ∙ ap (wrapped_times r) b ∙ ap (λ (y : ℕ). wrapped_times r (get_or said y (Fault 0))) (sym at)
         ]
+
+    -- where it says what is expected
+    pub hit_or_said : (doubted now : List (List ℕ)) (base expected : Wrapped V) → now ≡ doubted → base ≡ get_or said c (Fault 0) → expected ≡ wrapped_times r base
+        → (c ≢ me → (k : ℕ) → i * w ≤ k → k < i * w + w → get_or entries k (Fault 0) ≡ expected)
+        → ((k : ℕ) → k < i * w → IsHitAt me r q others said entries doubted k) → (k : ℕ) → k < (i + 1) * w → IsHitAt me r q others said entries now k
+    hit_or_said doubted now base expected e b x told =
+        hit_or_doubted doubted doubted now base expected e (λ y z l on. on) b x
+        (λ k above below off trusted. told (λ f. both_ways _ off (ap (has_id (path_at (paths_of_length others r) k)) (sym (block_first k above below ∙ f)) ∙ first_on others r k d some (fits k below))) k above below)

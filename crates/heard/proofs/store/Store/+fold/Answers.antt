@@ -1,0 +1,138 @@
+use Rattle.std.proofs.Common.{◌≡◌, ◌<◌, ◌≤◌, ◌+◌, ◌-◌, length, map, take, refl, sym, ap, subst, ◌∙◌, arith, rules}
+use Rattle.std.proofs.lemmas.List.{take_all, length_push}
+use Rattle.node_grid.specs.NodeSet.{has_id}
+use Rattle.omh_paths.specs.Paths.{outside}
+use Rattle.omh_paths.specs.PathLists.{has-at}
+use Rattle.omh_paths.specs.PathLaws.{off_from}
+use Rattle.omh_paths.specs.MemberLaws.{few_ids}
+use Rattle.omh_paths.specs.MajorityLaws.{majority_sound}
+use Rattle.std.specs.Prelude.{if◌then◌else◌}
+use Rattle.omh_paths.specs.declared.wrapped.Wrapped.TheVariants.{Fault}
+use Rattle.omh_paths.specs.Wrapped.{wrapped}
+use Rattle.omh.specs.Omh.{settled_at}
+use Rattle.heard.specs.Keep.{IsStored, kept_ear}
+use Rattle.heard.specs.Doubts.{term_in}
+use Rattle.heard.proofs.Members.{has_outside, push_within}
+use Rattle.heard.proofs.Folds.{fold_end, fold_later, term_me, term_other, terms_more}
+use Rattle.heard.proofs.store.Store.+fold.Goals.{then-q-self, else-q-self}
+use Rattle.heard.proofs.store.Store.+fold.Goals as goal
+
+pub returns-then-len-self : goal.returns-then-len-self
+returns-then-len-self g t c =
+    let s = c.self.inside in
+    let k = c.args.self.now in
+    let v = c.self.view_is in
+    let h : IsStored g.row.N k = subst (IsStored g.row.N) v c.self.invariant in
+    let path = c.args.path.now in
+    fold_end g.V.PartialEq.eq (kept_ear k) path c.at-heard.result (omega (arith, c.if-len-self.true, c.len.ensures.count, ap (λ x. x.rounds) v)) c.at-heard.ensures.kept
+
+pub outside-others-requires : goal.outside-others-requires
+outside-others-requires g t c =
+    let s = c.self.inside in
+    let k = c.args.self.now in
+    let v = c.self.view_is in
+    let h : IsStored g.row.N k = subst (IsStored g.row.N) v c.self.invariant in
+    let path = c.args.path.now in
+    (omega arith, λ q on. let l = h.low q (c.requires.path.within q on) in let n = h.nodes_ok in omega arith)
+
+pub then-requires-clause-off : goal.then-requires-clause-off
+then-requires-clause-off g t c =
+    let s = c.self.inside in
+    let k = c.args.self.now in
+    let v = c.self.view_is in
+    let h : IsStored g.row.N k = subst (IsStored g.row.N) v c.self.invariant in
+    let path = c.args.path.now in
+    let here : c.loop-k.k < length c.outside-others.result = omega (arith, c.loop-k-test.true, c.len-count.ensures.count) in
+    let o : c.outside-others.result ≡ outside k.members path = c.outside-others.ensures ∙ ap (λ x. outside x.members path) v in
+    let out = has_outside k.members path c.member_at-q.result (ap (λ t. has_id t c.member_at-q.result) (sym o) ∙ ap (has_id c.outside-others.result) c.member_at-q.ensures ∙ has-at c.outside-others.result c.loop-k.k 0 here) in
+    out.1
+
+pub fold-term-requires : goal.fold-term-requires
+fold-term-requires g t c =
+    let s = c.self.inside in
+    let k = c.args.self.now in
+    let v = c.self.view_is in
+    let h : IsStored g.row.N k = subst (IsStored g.row.N) v c.self.invariant in
+    let path = c.args.path.now in
+    let here : c.loop-k.k < length c.outside-others.result = omega (arith, c.loop-k-test.true, c.len-count.ensures.count) in
+    let o : c.outside-others.result ≡ outside k.members path = c.outside-others.ensures ∙ ap (λ x. outside x.members path) v in
+    let out = has_outside k.members path c.member_at-q.result (ap (λ t. has_id t c.member_at-q.result) (sym o) ∙ ap (has_id c.outside-others.result) c.member_at-q.ensures ∙ has-at c.outside-others.result c.loop-k.k 0 here) in
+    let deep : length path ≤ k.rounds = omega (arith, c.if-len-self.false, c.len.ensures.count, ap (λ x. x.rounds) v) in
+    let l : length c.then.result ≡ length path + 1 = ap length c.then.ensures ∙ length_push path c.member_at-q.result in
+    λ κs e. (
+      omega (arith, c.decreases, l, deep),
+      (
+        search rules,
+        (
+          search rules,
+          (
+            omega arith,
+            (
+              c.requires.exact,
+              (
+                record {
+                  within = push_within k.members path c.then.result c.member_at-q.result c.requires.path.within out.0 c.then.ensures;
+                  other = ap (λ p. has_id p k.me) c.then.ensures ∙ off_from path c.member_at-q.result k.me c.requires.path.other (λ same. c.if-q-self.false (same ∙ sym (ap (λ x. x.me) v)));
+                  short = omega (arith, l, deep);
+                },
+                omega (arith, c.loop-k.auto.rest, c.split_at_mut-terms.ensures.back_len, c.requires.room, l, deep),
+              ),
+            ),
+          ),
+        ),
+      ),
+    )
+
+pub set_value-requires : goal.set_value-requires
+set_value-requires g t c =
+    let s = c.self.inside in
+    let k = c.args.self.now in
+    let v = c.self.view_is in
+    let h : IsStored g.row.N k = subst (IsStored g.row.N) v c.self.invariant in
+    let path = c.args.path.now in
+    let few = few_ids g.row.N c.outside-others.result h.capacity_ok c.len-count.ensures.ids in
+    omega (arith, few, c.len-count.ensures.count, c.loop-k-test.true, c.loop-k.auto.terms, c.split_at_mut-terms.ensures.front_len)
+
+pub loop-k-preserved : goal.loop-k-preserved
+loop-k-preserved g t c =
+    let s = c.self.inside in
+    let k = c.args.self.now in
+    let v = c.self.view_is in
+    let h : IsStored g.row.N k = subst (IsStored g.row.N) v c.self.invariant in
+    let path = c.args.path.now in
+    let deep : length path ≤ k.rounds = omega (arith, c.if-len-self.false, c.len.ensures.count, ap (λ x. x.rounds) v) in
+    let x = kept_ear k in
+    let f = term_in g.V.PartialEq.eq x (k.rounds - length path) path in
+    let q = c.member_at-q.result in
+    let few = few_ids g.row.N c.outside-others.result h.capacity_ok c.len-count.ensures.ids in
+    let here : c.loop-k.k < length c.outside-others.result = omega (arith, c.loop-k-test.true, c.len-count.ensures.count) in
+    let room : c.loop-k.k < length c.loop-k.terms = omega (arith, few, c.len-count.ensures.count, c.loop-k-test.true, c.loop-k.auto.terms, c.split_at_mut-terms.ensures.front_len) in
+    let is : c.if-q-self.term ≡ f q =
+    elim c.if-q-self.branch [
+      | then-q-self w ↦
+          w.term-is ∙ w.own_term-term.ensures ∙ ap (λ b. if b then wrapped c.at-heard.result else Fault 0) (ap (λ y. y.full) v)
+          ∙ term_me g.V.PartialEq.eq x (k.rounds - length path) q path _ c.at-heard.result (w.if-q-self.true ∙ ap (λ y. y.me) v) c.at-heard.ensures.kept refl
+      | else-q-self w ↦
+          w.term-is ∙ term_other g.V.PartialEq.eq x (k.rounds - length path) q path w.fold-term.result (λ same. w.if-q-self.false (same ∙ sym (ap (λ y. y.me) v))) (omega arith)
+          (w.fold-term.ensures ∙ ap (settled_at g.V.PartialEq.eq x) w.then.ensures)
+    ] in
+    ap (take (c.loop-k.k + 1)) c.set_value.ensures ∙ terms_more f c.loop-k.terms c.outside-others.result c.loop-k.k q c.if-q-self.term room here c.member_at-q.ensures c.loop-k.invariant is
+
+pub unwrap-requires : goal.unwrap-requires
+unwrap-requires g t c =
+    λ e. majority_sound g.V.PartialEq.eq _ (sym c.majority.ensures ∙ e)
+
+pub returns : goal.returns
+returns g t c =
+    let s = c.self.inside in
+    let k = c.args.self.now in
+    let v = c.self.view_is in
+    let h : IsStored g.row.N k = subst (IsStored g.row.N) v c.self.invariant in
+    let path = c.args.path.now in
+    let deep : length path ≤ k.rounds = omega (arith, c.if-len-self.false, c.len.ensures.count, ap (λ x. x.rounds) v) in
+    let x = kept_ear k in
+    let n : take c.loop-k.k c.loop-k.terms ≡ take c.len-count.result c.loop-k.terms = ap (λ i. take i c.loop-k.terms) (omega (arith, c.loop-k-test.false, c.loop-k.auto.k-end)) in
+    let all : take c.loop-k.k c.outside-others.result ≡ outside k.members path =
+    take_all c.loop-k.k c.outside-others.result (omega (arith, c.loop-k-test.false, c.len-count.ensures.count)) ∙ c.outside-others.ensures ∙ ap (λ y. outside y.members path) v in
+    fold_later g.V.PartialEq.eq x path (take c.len-count.result c.loop-k.terms) c.majority.result c.unwrap.result deep
+    (sym n ∙ c.loop-k.invariant ∙ ap (map (term_in g.V.PartialEq.eq x (k.rounds - length path) path)) all) c.majority.ensures c.unwrap.ensures

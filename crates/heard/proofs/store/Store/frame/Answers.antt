@@ -1,0 +1,38 @@
+use Rattle.std.proofs.Common.{◌≡◌, length, ap, subst, ◌∙◌, arith}
+use Rattle.node_grid.specs.NodeSet.{without_id}
+use Rattle.omh_paths.specs.MemberLaws.{few_ids}
+use Rattle.heard.specs.Keep.{IsStored}
+use Rattle.heard.proofs.Readings.{member_in, frame_count}
+use Rattle.heard.proofs.store.Store.frame.Goals as goal
+
+pub invariant_of-result : goal.invariant_of-result
+invariant_of-result g c =
+    let s = c.self.inside in
+    let k = c.args.self.now in
+    let v = c.self.view_is in
+    let h : IsStored g.row.N k = subst (IsStored g.row.N) v c.self.invariant in
+    let o : c.cut.new.self ≡ without_id k.members c.args.q = c.cut.ensures ∙ ap (λ x. without_id x.members c.args.q) v in
+    record {
+      fits = record {
+        few_others = few_ids g.row.N c.cut.new.self h.capacity_ok c.len-ids.ensures.ids;
+        sender = member_in g.row.N k h c.args.q c.requires.sender;
+        some = c.requires.round.0;
+        few = omega (arith, c.requires.round.1, h.rounds_ok);
+        others_ok = c.len-ids.ensures.ids;
+        count_ok = frame_count g.row.N k h c.args.q c.requires.sender c.args.r (length c.args.values.now) c.cut.new.self o c.requires.count;
+      };
+    }
+
+pub returns-clause-is : goal.returns-clause-is
+returns-clause-is g c =
+    let s = c.self.inside in
+    let k = c.args.self.now in
+    let v = c.self.view_is in
+    let h : IsStored g.row.N k = subst (IsStored g.row.N) v c.self.invariant in
+    record {
+      sender = c.requires.sender;
+      some = c.requires.round.0;
+      short = c.requires.round.1;
+      others_are = c.cut.ensures ∙ ap (λ x. without_id x.members c.args.q) v;
+      count_ok = c.requires.count;
+    }

@@ -1,0 +1,18 @@
+use Rattle.std.proofs.Common.{◌<◌, ◌||◌, length, sym, ap, subst, ◌∙◌, arith}
+use Rattle.node_grid.specs.NodeSet.{has_id}
+use Rattle.heard.specs.Keep.{IsStored, set_at}
+use Rattle.heard.proofs.Members.{came, came_at}
+use Rattle.heard.proofs.store.Store.missing.Goals as goal
+
+pub returns : goal.returns
+returns g c =
+    let s = c.self.inside in
+    let k = c.args.self.now in
+    let v = c.self.view_is in
+    let h : IsStored g.row.N k = subst (IsStored g.row.N) v c.self.invariant in
+    let low : c.args.r < length s.as_expected.items = omega (arith, c.requires.round, h.rounds_ok, h.as_expected_ok, ap (λ x. length x.as_expected) v) in
+    let low' : c.args.r < length s.in_cells.items = omega (arith, c.requires.round, h.rounds_ok, h.in_cells_ok, ap (λ x. length x.in_cells) v) in
+    λ x on off.
+    sym (ap (λ y. has_id (set_at y.as_expected c.args.r) x || has_id (set_at y.in_cells c.args.r) x) v)
+    ∙ came_at s.as_expected.items s.in_cells.items c.args.r x c.index.result.now c.index-2.result.now low low' c.index.ensures c.index-2.ensures
+    (came s.members c.index.result.now c.index-2.result.now c.minus-late.result c.minus.result x c.minus-late.ensures c.minus.ensures (ap (λ y. has_id y.members x) v ∙ on) off)

@@ -1,0 +1,265 @@
+//! What one node heard, and what it settles from that.
+
+ghost use Rattle.std.specs.Prelude.{ℕ, List, ◌≡◌, ◌≢◌, ◌+◌, ◌-◌, ◌<◌, ◌≤◌, ◌∷◌, [], map, length, true, false, IfOk, All};
+ghost use Rattle.node_grid.specs.Capacity.{IsCapacity};
+ghost use Rattle.node_grid.specs.NodeSet.{has_id, without_id};
+ghost use Rattle.omh_paths.specs.declared.wrapped.Wrapped.{Wrapped};
+ghost use Rattle.omh_paths.specs.declared.wrapped.Wrapped.TheVariants.{Fault};
+ghost use Rattle.omh_paths.specs.Paths.{path_count};
+ghost use Rattle.omh_paths.specs.Wrapped.{wrapped, IsExact};
+ghost use Rattle.omh.specs.Omh.{settled_from};
+ghost use Rattle.equivocation.specs.Conviction.{convicts};
+ghost use Rattle.omh.specs.Heard.{ear_of, heard_in, heard_paths, nothing_heard, with_heard};
+ghost use Rattle.heard.specs.Keep.{IsSmall, wrapped_times};
+ghost use Rattle.heard.specs.Passing.{IsAllExpected};
+ghost use Rattle.heard.specs.Seen.{with_frame, as_written, SaysExpected};
+
+use crate::doubts::doubt_of_all;
+use crate::places::{are_one, clear, no_sets, unheard, wrapped_by};
+use crate::store::Store;
+use node_grid::{NoMemory, NodeSet};
+use omh_paths::{Path, Wrapped, count_paths};
+use std::alloc::Global;
+use std::marker::Model;
+
+/// What one node heard of the relays of an item, frame by frame, and what it settles from that.
+///
+/// All its memory is taken by [`Heard::open`]. A frame that says what is expected costs one bit:
+/// what was heard of each commander itself, wrapped once by each relay. Only the values of other
+/// frames are kept one by one, and of each commander it is kept which nodes may have said something
+/// else.
+#[derive(Drop)]
+pub struct Heard<V, const N: usize> {
+    store: Store<V, N>,
+    own: Wrapped<V>,
+    any_frame: bool,
+    doubted: Vec<NodeSet<N>>,
+    scratch: Vec<Wrapped<V>>,
+}
+
+// Clauses see what was heard by path.
+impl<V, const N: usize> Model for Heard<V, N> {
+    ghost use Rattle.omh.specs.Heard.{Hearing};
+
+    ghost Value = { Hearing V };
+
+    ghost use Rattle.heard.specs.Seen.{hearing_of, IsKept};
+
+    ghost view = { λ s. hearing_of s.store s.own };
+
+    ghost invariant = { λ s. IsKept N s.store s.any_frame s.doubted.items s.scratch.items };
+}
+
+impl<V: Copy + Eq + Drop, const N: usize> Heard<V, N> {
+    /// A store for members out of `nodes` nodes and `m` relay rounds, with no members yet.
+    pub fn open(alloc: Global, nodes: u8, m: u8) -> Result<Heard<V, N>, NoMemory>
+        requires capacity { IsCapacity N }
+        requires nodes { nodes ≤ N }
+        requires rounds { m ≤ 3 }
+        ensures { IfOk result (λ t. t ≡ record { nodes = nodes; rounds = m; members = []; me = 0; full = false; own = Fault 0; heard = nothing_heard [] 0 m }) }
+    {
+        let Ok(store) = Store::open(alloc, nodes, m) else {
+            return Err(NoMemory);
+        };
+        let Ok(doubted) = no_sets(alloc, nodes as usize) else {
+            return Err(NoMemory);
+        };
+        let Ok(scratch) = unheard(alloc, 48) else {
+            return Err(NoMemory);
+        };
+        Ok(Heard {
+            store,
+            own: Wrapped::Fault(0),
+            any_frame: false,
+            doubted,
+            scratch,
+        })
+    }
+
+    /// Forgets all that was heard, and takes up the members, the node itself, whether it is Full,
+    /// and its own item.
+    pub fn start(&mut self, members: &NodeSet<N>, me: u8, full: bool, own: Wrapped<V>)
+        requires members { (q : ℕ) → has_id members.now q ≡ true → q < self.old.nodes }
+        requires me { me < self.old.nodes }
+        ensures { self.new ≡ record { nodes = self.old.nodes; rounds = self.old.rounds; members = members.now; me = me; full = full; own = own; heard = nothing_heard members.now me self.old.rounds } }
+    {
+        self.store.start(members, me, full);
+        clear(self.doubted.as_mut_slice());
+        self.own = own;
+        self.any_frame = false;
+    }
+
+    /// Sets what was heard of a member itself, in place of what was heard of it before.
+    pub fn put_root(&mut self, c: u8, value: Wrapped<V>)
+        requires member { has_id self.old.members c ≡ true }
+        requires small { IsSmall 3 value }
+        ensures { self.new ≡ record self.old { heard = map (with_heard (c ∷ []) value) self.old.heard } }
+    {
+        if self.any_frame {
+            self.store.put_root(c, value);
+            return;
+        }
+        self.store.put_expected(c, value);
+    }
+
+    /// Takes up the values of member `q`'s frame of relay round `r`: for each path of `r` of the
+    /// other members, in lexicographic order, what `q` relays of it.
+    pub fn hear_frame(&mut self, q: u8, r: u8, values: &[Wrapped<V>])
+        requires exact { IsExact V.eq }
+        requires sender { has_id self.old.members q ≡ true }
+        requires some { 0 < r }
+        requires round { r ≤ self.old.rounds }
+        requires count { length values.now ≡ path_count (length self.old.members - 1) r }
+        requires small { All (IsSmall 3) values.now }
+        ensures is { self.new ≡ record self.old { heard = map (with_frame r q (as_written self.old.members q r values.now)) self.old.heard } }
+        ensures paths { map (λ e. e.path) self.old.heard ≡ heard_paths self.old.members self.old.me self.old.rounds }
+    {
+        let frame = self.store.frame(q, r, values);
+        let deviates = self.store.doubt(&frame, self.doubted.as_mut_slice());
+        self.any_frame = true;
+        if !deviates {
+            self.store.take_expected(q, r);
+            return;
+        }
+        self.store.take_cells(&frame);
+    }
+
+    /// Whether a value is what a frame of relay round `r` is expected to say of member `c`: what
+    /// was heard of it itself, wrapped by each relay. Of the node itself all is.
+    pub fn expects(&self, c: u8, r: u8, value: Wrapped<V>) -> bool
+        requires exact { IsExact V.eq }
+        requires member { has_id self.now.members c ≡ true }
+        requires round { r ≤ self.now.rounds }
+        ensures { result ≡ true → c ≢ self.now.me → value ≡ wrapped_times r (heard_in self.now.heard (c ∷ [])) }
+    {
+        if c == self.store.me() {
+            return true;
+        }
+        are_one(value, wrapped_by(self.store.root(c), r))
+    }
+
+    /// How many values a frame of relay round `r` has for each commander.
+    pub fn values_each(&self, r: u8) -> usize
+        requires some { 0 < r }
+        requires round { r ≤ self.now.rounds }
+        ensures count { result ≡ path_count (length self.now.members - 2) (r - 1) }
+        ensures short { r ≤ 3 }
+        ensures few { length self.now.members ≤ 16 }
+    {
+        count_paths(self.store.members().len().saturating_sub(2), r - 1)
+    }
+
+    /// Takes up member `q`'s frame of relay round `r`, whose values are what is expected, without
+    /// reading it. Answers false, and takes up nothing, where the frame has to be read.
+    pub fn hear_expected(&mut self, q: u8, r: u8) -> bool
+        requires exact { IsExact V.eq }
+        requires sender { has_id self.old.members q ≡ true }
+        requires some { 0 < r }
+        requires round { r ≤ self.old.rounds }
+        ensures is { result ≡ true → (values : List (Wrapped V)) → length values ≡ path_count (length self.old.members - 1) r → SaysExpected self.old.me r (without_id self.old.members q) self.old.heard values (length values) →
+            self.new ≡ record self.old { heard = map (with_frame r q (as_written self.old.members q r values)) self.old.heard } }
+        ensures left { result ≡ false → self.new ≡ self.old }
+        ensures paths { map (λ e. e.path) self.old.heard ≡ heard_paths self.old.members self.old.me self.old.rounds }
+    {
+        if !self.store.agrees() {
+            return false;
+        }
+        self.any_frame = true;
+        self.store.take_expected(q, r);
+        true
+    }
+
+    /// Takes up that member `q`'s frame of relay round `r` didn't come.
+    pub fn miss_frame(&mut self, q: u8, r: u8)
+        requires sender { has_id self.old.members q ≡ true }
+        requires some { 0 < r }
+        requires round { r ≤ self.old.rounds }
+        ensures is { self.new ≡ record self.old { heard = map (with_frame r q (λ path. Fault 0)) self.old.heard } }
+        ensures paths { map (λ e. e.path) self.old.heard ≡ heard_paths self.old.members self.old.me self.old.rounds }
+    {
+        self.store.take_nothing(q, r);
+        doubt_of_all(q, self.doubted.as_mut_slice());
+    }
+
+    /// What the node passes on of a path: what it heard for it, wrapped.
+    pub fn relay(&self, path: &Path) -> Wrapped<V>
+        requires members { (q : ℕ) → has_id path.now q ≡ true → has_id self.now.members q ≡ true }
+        requires others { has_id path.now self.now.me ≡ false }
+        requires short { length path.now ≤ self.now.rounds + 1 }
+        ensures { result ≡ wrapped (heard_in self.now.heard path.now) }
+    {
+        let _len = path.len();
+        self.store.at(path).wrap()
+    }
+
+    /// Whether all that the node passes on in relay round `r` is what is expected: for each path of
+    /// `r` of the others what was heard of its first node, wrapped by each relay. False may be said
+    /// where it is, too.
+    pub fn relays_expected(&self, r: u8) -> bool
+        requires exact { IsExact V.eq }
+        requires some { 0 < r }
+        requires round { r ≤ self.now.rounds }
+        ensures { result ≡ true → IsAllExpected self.now r }
+    {
+        if r == 1 {
+            return true;
+        }
+        self.store.are_as_expected(r - 1)
+    }
+
+    /// What was heard of one of the others itself, after `r` relays passed it on.
+    pub fn relayed(&self, c: u8, r: u8) -> Wrapped<V>
+        requires other { has_id (without_id self.now.members self.now.me) c ≡ true }
+        requires round { r ≤ self.now.rounds }
+        ensures { result ≡ wrapped_times r (heard_in self.now.heard (c ∷ [])) }
+    {
+        wrapped_by(self.store.root(c), r)
+    }
+
+    /// What the node settles for the item of a member: its own item where it is Full and that
+    /// member, and else what follows from what it heard. All that was heard stays.
+    pub fn settle(&mut self, commander: u8) -> Wrapped<V>
+        requires exact { IsExact V.eq }
+        requires member { has_id self.old.members commander ≡ true }
+        ensures settled { result ≡ settled_from V.eq (ear_of self.old) self.old.own commander }
+        ensures kept { self.new ≡ self.old }
+    {
+        if commander == self.store.me() {
+            return if self.store.is_full() {
+                self.own
+            } else {
+                Wrapped::Fault(0)
+            };
+        }
+        if self
+            .store
+            .is_backed(commander, &self.doubted[commander as usize])
+        {
+            return self.store.root(commander);
+        }
+        self.store
+            .fold(&Path::root(commander), self.scratch.as_mut_slice())
+    }
+
+    /// Whether the node convicts nobody, since no other node's frame of the first relay round says
+    /// something else than is expected. False may be said where it convicts nobody, too. No value
+    /// of a frame is read.
+    pub fn convicts_nobody(&self) -> bool
+        requires exact { IsExact V.eq }
+        ensures { result ≡ true → (c : ℕ) → has_id self.now.members c ≡ true → c ≢ self.now.me → convicts V.eq (ear_of self.now) c ≡ false }
+    {
+        self.store.is_unopposed()
+    }
+
+    /// Whether the node convicts another member of telling different things. All that was heard
+    /// stays.
+    pub fn convicts(&mut self, commander: u8) -> bool
+        requires exact { IsExact V.eq }
+        requires member { has_id self.old.members commander ≡ true }
+        requires other { commander ≢ self.old.me }
+        ensures convicted { result ≡ convicts V.eq (ear_of self.old) commander }
+        ensures kept { self.new ≡ self.old }
+    {
+        self.store.convicts(commander, self.scratch.as_mut_slice())
+    }
+}

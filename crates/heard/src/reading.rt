@@ -1,0 +1,72 @@
+//! What was heard for a path.
+
+ghost use Rattle.std.specs.Prelude.{◌≡◌, ◌-◌, ◌≤◌, true, length};
+ghost use Rattle.node_grid.specs.NodeSet.{has_id};
+ghost use Rattle.omh_paths.specs.Paths.{path_count};
+ghost use Rattle.omh_paths.specs.Wrapped.{IsExact};
+ghost use Rattle.heard.specs.Keep.{kept, IsSmall, IsOwnPath, IsRound, IsFrameOf};
+ghost use Rattle.heard.specs.Passing.{AreExpected};
+
+use crate::frame::Frame;
+use crate::places::{frame_at, front_of, wrapped_by};
+use crate::store::Store;
+use omh_paths::{Path, Wrapped, rank};
+
+impl<V: Copy + Eq + Drop, const N: usize> Store<V, N> {
+    /// What was heard for a path.
+    pub fn at(&self, path: &Path) -> Wrapped<V>
+        requires path { IsOwnPath self.now path.now }
+        ensures kept { result ≡ kept self.now path.now }
+        ensures small { IsSmall 6 result }
+    {
+        let r = path.len() - 1;
+        let c = path.at(0);
+        if r == 0 {
+            return self.cells[c as usize];
+        }
+        let q = path.at(r);
+        if self.as_expected[r as usize].has(q) {
+            return wrapped_by(self.expected[c as usize], r);
+        }
+        if !self.in_cells[r as usize].has(q) {
+            return Wrapped::Fault(0);
+        }
+        let mut others = self.members;
+        others.cut(q);
+        self.cells[frame_at(self.nodes, r, q) + rank(&others, &front_of(path))]
+    }
+
+    /// The frame of relay round `r` with these values that member `q` sent.
+    pub fn frame<'a>(&self, q: u8, r: u8, values: &'a [Wrapped<V>]) -> Frame<'a, V, N>
+        requires sender { has_id self.now.members q ≡ true }
+        requires round { IsRound self.now r }
+        requires count { length values.now ≡ path_count (length self.now.members - 1) r }
+        ensures sender { result.sender ≡ q }
+        ensures relays { result.relays ≡ r }
+        ensures values { result.values.now ≡ values.now }
+        ensures is { IsFrameOf self.now q r (length values.now) result.others }
+    {
+        let mut others = self.members;
+        others.cut(q);
+        let _ids = others.len();
+        Frame {
+            sender: q,
+            relays: r,
+            others,
+            values,
+        }
+    }
+
+    /// Whether the frames of `r` relays of all other members say what is expected, and what was
+    /// heard of each member itself is that.
+    pub fn are_as_expected(&self, r: u8) -> bool
+        requires exact { IsExact V.eq }
+        requires round { r ≤ self.now.rounds }
+        ensures { result ≡ true → AreExpected self.now r }
+    {
+        let mut others = self.members;
+        others.cut(self.me);
+        let late = others.minus(&self.as_expected[r as usize]);
+        late.is_empty() && self.agrees()
+    }
+}
