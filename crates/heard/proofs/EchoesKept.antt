@@ -1,8 +1,6 @@
 -- What is kept for a path, where a frame among the clean ones says what was heard for the shorter path.
 use Rattle.std.proofs.Common.{ℕ, zero, suc, ◌≡◌, ◌≢◌, ◌<◌, ◌≤◌, ◌+◌, ◌-◌, ◌==◌, ◌||◌, Bool, true, false, List, [], ◌∷◌, ◌++◌, length, take, drop, get_or, refl, sym, ap, ap₂, subst, ◌∙◌, inl, inr, arith, ne_eqb}
-use Rattle.std.specs.Prelude.{nat_le}
 use Rattle.std.proofs.lemmas.Bool.{cases_Bool, cases_lt, cond-true, cond-false, or_left}
-use Rattle.std.proofs.lemmas.Bool.Decides.{nat_tests}
 use Rattle.std.proofs.lemmas.List.{length_push, get_or-take, take-append-le, take_all}
 use Rattle.node_grid.specs.NodeSet.{has_id}
 use Rattle.node_grid.specs.Count.{Distinct}
@@ -13,20 +11,12 @@ use Rattle.omh_paths.specs.PathLaws.{off_longer}
 use Rattle.omh_paths.specs.PathLists.{has-of-without}
 use Rattle.heard.specs.Keep.{Parts, set_at, root, base, cell, place_of, first_node, wrapped_times, IsStored}
 use Rattle.heard.specs.Places.{on-at, front-last, front-listed}
-use Rattle.heard.proofs.Members.{behind-last, in-behind}
+use Rattle.heard.proofs.Members.{behind-last, come_odd, in-behind}
+use Rattle.heard.proofs.Readings.{gt_test, le_test}
 use Rattle.heard.specs.Doubts.{AreHit, IsAllDoubted}
 use Rattle.heard.specs.OneReceiver.{IsExpectedBut}
 use Rattle.heard.specs.Echo.{IsEchoBut}
 use Rattle.heard.specs.EchoKept.{echoed, kept_echo, echo_ear, EchoesKeptLaw}
-
-le_test : (a b : ℕ) → a ≤ b → nat_le a b ≡ true
-le_test a b h = grind (arith, nat_tests)
-
-gt_test : (a b : ℕ) → b < a → nat_le a b ≡ false
-gt_test a b h = grind (arith, nat_tests)
-
-come_odd : (a b : Bool) → (a || b) ≡ true → a ≡ false → b ≡ true
-come_odd a b h off = ap (λ (t : Bool). t || b) (sym off) ∙ h
 
 behind-more : (xs : List ℕ) (q x : ℕ) → has_id (drop 1 xs) x ≡ true → has_id (drop 1 (xs ++ q ∷ [])) x ≡ true
 behind-more [] q x h = absurd (cc)

@@ -7,7 +7,7 @@ use Rattle.omh_paths.specs.declared.wrapped.Wrapped.{Wrapped}
 use Rattle.omh_paths.specs.declared.wrapped.Wrapped.TheVariants.{Fault}
 use Rattle.omh_paths.specs.Paths.{paths_of_length, path_at, path_count}
 use Rattle.omh_paths.specs.PathLists.{has-at}
-use Rattle.omh_paths.specs.MemberLaws.{Distinct-ids, member-lt}
+use Rattle.omh_paths.specs.MemberLaws.{Distinct-ids}
 use Rattle.heard.specs.Keep.{first_node, wrapped_times}
 use Rattle.heard.specs.Doubts.{IsTrusted, AreSaidUpTo, IsHitAs, IsHitAt, DoubtsMore}
 use Rattle.heard.proofs.Members.{hit_more}
@@ -28,9 +28,6 @@ module _ {V : Type 0} (n me r w : ℕ) (others : List ℕ) (said entries : List 
 
   pub commander_in : has_id others c ≡ true
   commander_in = ap (has_id others) is ∙ has-at others i 0 low
-
-  pub commander_low : c < n
-  commander_low = member-lt n others c ids commander_in
 
   -- and where it does not
   pub said_and_it : (found new : List ℕ) (base : Wrapped V) → new ≡ found → base ≡ get_or said c (Fault 0)
