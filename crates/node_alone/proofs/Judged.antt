@@ -1,7 +1,7 @@
 -- Entries that no rule refuses: their numbers, and their order.
 use Rattle.std.proofs.Common.{ℕ, ◌≡◌, ◌≢◌, ◌<◌, ◌+◌, ◌==◌, ◌∙◌, ℤ, pos, negsuc, Bool, true, false, if◌then◌else◌, List, [], ◌∷◌, ◌++◌, map, length, get_or, take, drop, refl, sym, ap, ap₂, subst, arith, Option, None, Some, eq-eqb}
 use Rattle.std.specs.Prelude.{All, not, ◌&&◌}
-use Rattle.std.proofs.lemmas.Bool.{true≢false, ltb-true, and_parts}
+use Rattle.std.proofs.lemmas.Bool.{true≢false, ltb-true, and_parts, not-true}
 use Rattle.std.proofs.lemmas.List.{map_push, map_more, get_or_default}
 use Rattle.std.proofs.lemmas.List.Elements.{All-nil, All-cons, All-weaker}
 use Rattle.scenario.specs.declared.error.ScenarioError.{ScenarioError}
@@ -15,14 +15,14 @@ use Rattle.node_alone.specs.Seen.{part_view, entry_view, IsPlaced, Ascends}
 use Rattle.node_alone.specs.declared.entry.Entry.{Entry as Kept}
 use Rattle.node_alone.specs.declared.reading.EntryPart.{EntryPart}
 use Rattle.node_alone.proofs.Collect.{drop-here}
-use Rattle.node_alone.proofs.Ordering.{follows, not_false, ascends_more}
+use Rattle.node_alone.proofs.Ordering.{follows, ascends_more}
 
 pub below : (n : ℕ) (z : ℤ) → is_below n z ≡ true → natural z < n
 below n (pos k) h = ltb-true k n h
 below n (negsuc k) h = absurd (true≢false (sym h))
 
 pub apart : (a b : ℕ) → not (a == b) ≡ true → a ≢ b
-apart a b h e = true≢false (sym (eq-eqb a b e) ∙ not_false (a == b) h)
+apart a b h e = true≢false (sym (eq-eqb a b e) ∙ not-true (a == b) h)
 
 pub placed : (l : Limits) (e : EntryParts) → is_placed l e ≡ true → IsPlaced l.nodes l.slots l.periods l.id (entry_of e)
 placed l e h =
@@ -40,7 +40,7 @@ first_good l p t k e es h = go (is_entry l e && not (is_before p t (entry_of e))
   rest = first_bad_entry l (entry_of e).period (entry_of e).slot (k + 1) es
 
   go : (b : Bool) → is_entry l e && not (is_before p t (entry_of e)) ≡ b → (is_entry l e ≡ true) × (is_before p t (entry_of e) ≡ false) × (rest ≡ None)
-  go true q = let w = and_parts (is_entry l e) (not (is_before p t (entry_of e))) q in (w.0, not_false (is_before p t (entry_of e)) w.1, sym (ap (λ (b : Bool). if b then rest else Some k) q) ∙ h)
+  go true q = let w = and_parts (is_entry l e) (not (is_before p t (entry_of e))) q in (w.0, not-true (is_before p t (entry_of e)) w.1, sym (ap (λ (b : Bool). if b then rest else Some k) q) ∙ h)
   go false q = let bad : Some k ≡ None = sym (ap (λ (b : Bool). if b then rest else Some k) q) ∙ h in cc
 
 pub all_placed : (l : Limits) (p t k : ℕ) (es : List EntryParts) → first_bad_entry l p t k es ≡ None → All (IsPlaced l.nodes l.slots l.periods l.id) (map entry_of es)
