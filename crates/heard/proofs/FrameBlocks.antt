@@ -1,17 +1,18 @@
 -- A frame, commander by commander.
 use Rattle.std.proofs.Common.{ℕ, ◌≡◌, ◌≢◌, ◌<◌, ◌≤◌, ◌+◌, ◌-◌, ◌*◌, true, List, [], ◌∷◌, ◌++◌, length, get_or, sym, ap, subst, ◌∙◌, inl, inr, arith}
 use Rattle.std.proofs.lemmas.Bool.{cases_lt, both_ways}
-use Rattle.node_grid.specs.NodeSet.{has_id, IsIdSet}
+use Rattle.node_grid.specs.NodeSet.{has_id, without_id, IsIdSet}
 use Rattle.node_grid.specs.Count.{Distinct}
 use Rattle.omh_paths.specs.declared.wrapped.Wrapped.{Wrapped}
 use Rattle.omh_paths.specs.declared.wrapped.Wrapped.TheVariants.{Fault}
 use Rattle.omh_paths.specs.Paths.{paths_of_length, path_at, path_count}
-use Rattle.omh_paths.specs.PathLists.{has-at}
-use Rattle.omh_paths.specs.MemberLaws.{Distinct-ids}
-use Rattle.heard.specs.Keep.{first_node, wrapped_times}
+use Rattle.omh_paths.specs.PathLists.{has-at, has-of-without, length-without}
+use Rattle.omh_paths.specs.MemberLaws.{Distinct-ids, path_count-few}
+use Rattle.heard.specs.Keep.{Parts, IsFrame, IsFrameOf, IsBlock, first_node, wrapped_times}
 use Rattle.heard.specs.Doubts.{IsTrusted, AreSaidUpTo, IsHitAs, IsHitAt, DoubtsMore}
 use Rattle.heard.proofs.Members.{hit_more}
-use Rattle.heard.specs.Blocks.{in_block, block_fits, next_block, first_on}
+use Rattle.heard.specs.Blocks.{in_block, block_fits, block_small, next_block, first_on}
+use Rattle.heard.proofs.Behind.{block_at, row_fits}
 
 -- ---- one commander more
 
@@ -25,9 +26,6 @@ module _ {V : Type 0} (n me r w : ℕ) (others : List ℕ) (said entries : List 
 
   pub block_first : (k : ℕ) → i * w ≤ k → k < i * w + w → first_node (path_at (paths_of_length others r) k) ≡ c
   block_first k above below = in_block others r i w k d some wide low above below ∙ sym is
-
-  pub commander_in : has_id others c ≡ true
-  commander_in = ap (has_id others) is ∙ has-at others i 0 low
 
   -- and where it does not
   pub said_and_it : (found new : List ℕ) (base : Wrapped V) → new ≡ found → base ≡ get_or said c (Fault 0)
@@ -66,3 +64,31 @@ module _ {V : Type 0} (n me r w : ℕ) (others : List ℕ) (said entries : List 
     hit_or_said doubted now base expected e b x told =
         hit_or_doubted doubted doubted now base expected e (λ y z l on. on) b x
         (λ k above below off trusted. told (λ f. both_ways _ off (ap (has_id (path_at (paths_of_length others r) k)) (sym (block_first k above below ∙ f)) ∙ first_on others r k d some (fits k below))) k above below)
+
+-- ---- a frame that is taken up
+
+module _ {n q r count : ℕ} {others : List ℕ} (fits : IsFrame n q r count others) where
+  -- the values of one commander
+  pub block_in : {w i : ℕ} → w ≡ path_count (length others - 1) (r - 1) → i < length others → (i * w + w ≤ count) × (count ≤ 65536)
+  block_in {w} {i} wide low = block_small (length others) r w i count fits.few_others fits.few fits.some wide fits.count_ok low
+
+  -- those of a commander that go on with one of the free nodes
+  pub line_in : {c begin w j : ℕ} {free : List ℕ} → IsBlock r others c begin → free ≡ without_id others c → 1 < r → w ≡ path_count (length free - 1) (r - 2) → j < length free → (begin + (j * w + w) ≤ count) × (count ≤ 65536)
+  line_in {c} {begin} {w} {j} {free} block o behind wide low =
+      let m : length free ≡ length others - 1 = ap length o ∙ length-without others c (Distinct-ids n others fits.others_ok) block.commander in
+      let within : begin + path_count (length free) (r - 1) ≤ count = omega (arith, block.fits, fits.count_ok, ap (λ (i : ℕ). path_count i (r - 1)) m) in
+      (row_fits (length free) r w j begin count behind wide low within, omega (arith, fits.count_ok, path_count-few (length others) r fits.few_others (omega (arith, fits.few))))
+
+  module _ {V : Type 0} {p : Parts V} (of : IsFrameOf p q r count others) {w i c : ℕ} (wide : w ≡ path_count (length others - 1) (r - 1)) (low : i < length others) (is : c ≡ get_or others i 0) where
+    on : has_id others c ≡ true
+    on = ap (has_id others) is ∙ has-at others i 0 low
+
+    pub commander_member : has_id p.members c ≡ true
+    commander_member = has-of-without p.members q c (ap (λ (t : List ℕ). has_id t c) (sym of.others_are) ∙ on)
+
+    pub commander_block : IsBlock r others c (i * w)
+    commander_block = record {
+      commander = on;
+      fits = let fit = block_in wide low in omega (arith, fit.0, fits.count_ok, wide);
+      paths = block_at n r w others fits.others_ok fits.some wide i c low is;
+    }
