@@ -15,7 +15,7 @@ ghost use Rattle.cluster_step.specs.Clocking.{IsOffset, AreOthers, start_of, rea
 
 use clock_skew::{ClockPlan, correction};
 use node_core::{Mode, NodeRecord};
-use safety::laws::offsets;
+use safety::laws::clocks::offsets;
 use scenario::Scenario;
 
 /// The clocks of all nodes in a period. Behind the nodes in use all numbers are 0.

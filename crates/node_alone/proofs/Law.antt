@@ -15,7 +15,7 @@ use Rattle.protocol.specs.Heard.{paths_of, with_entries}
 use Rattle.protocol.specs.View.{Kept, Received, opened}
 use Rattle.protocol.specs.Cluster.{kept, begins, view}
 use Rattle.protocol.specs.Run.{System, members_in, expectation, run, deliveries}
-use Rattle.safety.specs.Runs.{DeliveryLaw}
+use Rattle.safety.specs.Talk.{DeliveryLaw}
 use Rattle.node_core.specs.Fresh.{newly_open}
 use Rattle.node_core.specs.Parts.{NodeView}
 use Rattle.node_core.specs.Steps.{setting_of, begun}

@@ -1,8 +1,9 @@
 -- No sound node convicts a node that tells all alike, so the kind of convictions spares those that were nonfaulty throughout.
-use Rattle.std.proofs.Common.{ℕ, zero, suc, ◌≡◌, ◌≢◌, ◌≤◌, Bool, true, false, ◌&&◌, ◌==◌, List, Some, refl, sym, ap, ap₂, subst, ◌∙◌, inl, inr, arith}
+use Rattle.std.proofs.Common.{ℕ, zero, suc, ◌≡◌, ◌≢◌, ◌≤◌, Bool, true, false, ◌&&◌, ◌==◌, List, refl, sym, ap, ap₂, subst, ◌∙◌, inl, inr, arith}
 use Rattle.std.specs.Prelude.{nat_eq, is_some}
 use Rattle.std.specs.Cmp.Lexicographic.{pointwise}
 use Rattle.std.proofs.lemmas.Bool.{cases_Bool, cond-true}
+use Rattle.std.proofs.lemmas.Option.{same_Some}
 use Rattle.node_grid.specs.declared.class.Class.{Class}
 use Rattle.node_grid.specs.declared.class.Class.TheVariants.{N, J, A}
 use Rattle.node_grid.specs.Class.{is_nonfaulty, is_sound, IsWithin}
@@ -24,12 +25,12 @@ use Rattle.protocol.specs.Run.{members_in, run, classes}
 use Rattle.node_grid.specs.Kinds.{equivocate}
 use Rattle.protocol.specs.FurtherKinds.{convicts_member, convictions}
 use Rattle.protocol.specs.Safe.{Classing, Claim, IsContinuous, CopiesClose, Safe}
-use Rattle.safety.specs.Told.{Told}
+use Rattle.safety.specs.Talk.{Told}
 use Rattle.safety.specs.Given.{IsGiven, Started, IsHere, AllSparing}
-use Rattle.safety.specs.Laws.{StartLaw, StepLaw}
+use Rattle.safety.specs.Views.{StartLaw, StepLaw}
 use Rattle.safety.specs.Runs.{ReceptionLaw, SparingLaw, RunLaw, RunCopiesLaw}
 use Rattle.safety.specs.ClockLaws.{SparingClockLaw, RunClockLaw}
-use Rattle.safety.specs.Convictions.{ConvictsWell, ConvictionsHold, ConvictionsLaw, RunConvictionsLaw}
+use Rattle.safety.specs.Convictions.{ConvictsWell, ConvictionsHold, ConvictionsLaw, SparedLaw, RunConvictionsLaw}
 use Rattle.safety.proofs.Worlds.{world, fits}
 use Rattle.safety.proofs.Sync.{bytes_exact}
 use Rattle.safety.proofs.Period.{Here, before_is, within, reference_is, members_are, claim_item, row_item, told_done, told_rows, by_kind_named, row_without, carried_without}
@@ -130,7 +131,7 @@ module _ (cl : Cluster) (class_of : Classing) (given : IsGiven cl class_of) (are
       ∙ not_given (pointwise ◌==◌) (ear_of cl.setting.config.m i (is_nonfaulty (class_of p i)) (started p (omega arith)).state.standing.members (cl.received i p).report) j k
       (λ on. (rows_convict cl class_of p h).spares i j (given.classing.sound_before p i n) on (nonfaulty_tells_alike (class_of p j) nj) ne))
 
-  pub convictions_spare : AllSparing cl class_of
+  convictions_spare : AllSparing cl class_of
   convictions_spare p claim started i j k n always ne high =
       let h : Here cl class_of p = here cl class_of p (record { given = given; start = started p (omega arith); budget = claim p (omega arith) }) in
       let nj = always p (omega arith) in
@@ -141,6 +142,9 @@ module _ (cl : Cluster) (class_of : Classing) (given : IsGiven cl class_of) (are
       ∙ (claims_convict cl class_of p h).spares i j (ap is_sound n) on (nonfaulty_tells_alike (class_of p j) nj) ne))
       (by_kind_named _ _ _ _ k high)
 
+pub spared_law : SparedLaw
+spared_law = convictions_spare
+
 -- ---- a run
 
 pub run_law : ReceptionLaw → SparingLaw → RunLaw
@@ -149,11 +153,8 @@ run_law reception sparing sys given are = sparing sys given (convictions_spare (
 pub run_copies_law : RunLaw → RunCopiesLaw
 run_copies_law law sys given are p claim i j c a delta t lies si sj goes due e =
     let safe : Safe (run sys) (classes sys) p = law sys given are p claim in
-    let same : safe.equal.before ≡ a = some_is safe.equal.before a (sym (safe.equal.goes i si) ∙ goes) in
+    let same : safe.equal.before ≡ a = same_Some safe.equal.before a (sym (safe.equal.goes i si) ∙ goes) in
     subst (λ (b : AgreedView). CopiesClose (run sys) (classes sys) p b i j c t lies) same (safe.copies i j c delta t lies si sj due e)
-  where
-    some_is : (x y : AgreedView) → Some x ≡ Some y → x ≡ y
-    some_is x y e = cc
 
 pub run_convictions_law : ReceptionLaw → StartLaw → StepLaw → RunConvictionsLaw
 run_convictions_law reception start next sys given are p claim =

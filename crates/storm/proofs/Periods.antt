@@ -9,9 +9,9 @@ use Rattle.protocol.specs.Run.{System, members_in, run, classes}
 use Rattle.protocol.specs.Accepted.{IsAccepted}
 use Rattle.protocol.specs.Safe.{reference, members_from, members_at, Budget, Safe}
 use Rattle.safety.specs.Given.{IsGiven, IsSparing, Started}
-use Rattle.safety.specs.Laws.{StartLaw, StepLaw}
+use Rattle.safety.specs.Views.{StartLaw, StepLaw}
 use Rattle.safety.specs.Runs.{ReceptionLaw}
-use Rattle.safety.proofs.Convictions.{convictions_spare}
+use Rattle.safety.specs.Convictions.{SparedLaw}
 use Rattle.storm.specs.Draws.{generator_of}
 use Rattle.storm.specs.Storm.{Block, blocks, storm, restart_of}
 use Rattle.storm.specs.Laws.{HasOneFaulty, IsWeathered, Weathers, StormLaw}
@@ -66,14 +66,14 @@ module _ (bs : List Block) (are : AreBlocks 0 bs) where
       (λ q low. (start.innocent q (λ r l. low_nodes r q low)).member) (λ q h. (off_high 0 bs p q are h).0) (λ x y h k. one_off 0 bs p x y are h k)
       (λ q on not_off. nonfaulty bs are p q (member-lt 8 start.state.standing.members q start.valid.standing.set on) not_off))
 
-  module _ (given : IsGiven (run (system_by bs)) (classes (system_by bs))) (start : StartLaw) (step : StepLaw) where
+  module _ (given : IsGiven (run (system_by bs)) (classes (system_by bs))) (start : StartLaw) (step : StepLaw) (spared : SparedLaw) where
     -- the premise of a period, where all periods up to it have theirs
     safe_here : (p : ℕ) → ((q : ℕ) → q ≤ p → Started (run (system_by bs)) (classes (system_by bs)) q)
         → Safe (run (system_by bs)) (classes (system_by bs)) p × Started (run (system_by bs)) (classes (system_by bs)) (suc p)
     safe_here p before =
         let s = before p (omega arith) in
         let spares : IsSparing (run (system_by bs)) (classes (system_by bs)) p =
-        convictions_spare (run (system_by bs)) (classes (system_by bs)) given refl p (λ q l. budget q (before q l)) before in
+        spared (run (system_by bs)) (classes (system_by bs)) given refl p (λ q l. budget q (before q l)) before in
         step (run (system_by bs)) (classes (system_by bs)) p (record { given = given; start = s; budget = budget p s }) spares
 
     all_started : (p : ℕ) → (q : ℕ) → q ≤ p → Started (run (system_by bs)) (classes (system_by bs)) q
@@ -117,20 +117,20 @@ what_is_given reception sys given = record {
   reception = (reception sys given).1;
 }
 
-storm_by : ReceptionLaw → StartLaw → StepLaw → (bs : List Block) → length bs ≡ 64 → AreBlocks 0 bs → Weathers (system_by bs)
-storm_by reception start step bs long are =
+storm_by : ReceptionLaw → StartLaw → StepLaw → SparedLaw → (bs : List Block) → length bs ≡ 64 → AreBlocks 0 bs → Weathers (system_by bs)
+storm_by reception start step spared bs long are =
     let given = accepted_by bs long are in
     record {
       accepted = given;
       few_lines = (let few = few_lines 0 bs are in omega arith);
       restarts = length-map bs restart_of ∙ long;
-      periods = weathered bs are (what_is_given reception (system_by bs) given) start step;
+      periods = weathered bs are (what_is_given reception (system_by bs) given) start step spared;
     }
 
-pub storm_law : ReceptionLaw → StartLaw → StepLaw → StormLaw
+pub storm_law : ReceptionLaw → StartLaw → StepLaw → SparedLaw → StormLaw
 unfolding storm
-storm_law reception start step seed =
+storm_law reception start step spared seed =
     let long = length-blocks 64 0 (generator_of seed) in
     let are = blocks_are 64 0 (generator_of seed) in
     let bs = (blocks 64 0 (generator_of seed)).0 in
-    subst Weathers (sym (given_is bs long are)) (storm_by reception start step bs long are)
+    subst Weathers (sym (given_is bs long are)) (storm_by reception start step spared bs long are)

@@ -12,7 +12,8 @@ pub fn unrefused()
 pub fn weathered()
     ensures { StormLaw }
 {
-    safety::laws::reception();
-    safety::laws::start();
-    safety::laws::step();
+    safety::laws::talk::reception();
+    safety::laws::views::start();
+    safety::laws::views::step();
+    safety::laws::views::spared();
 }

@@ -1,5 +1,0 @@
-use Rattle.safety.proofs.Clocking.{sparing_clock_law}
-use Rattle.safety.proofs.laws.sparing_clocks.Goals as goal
-
-pub returns : goal.returns
-returns c = sparing_clock_law c.reception.ensures c.claimed_clocks.ensures
