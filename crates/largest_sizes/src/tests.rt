@@ -20,7 +20,7 @@ fn what_was_heard(rt: HostRuntime) {
 fn a_watch_of_the_longest_frames(rt: HostRuntime) {
     let longest = frame_bound(16, 3, 1090, 8);
     assert_eq!(rt; longest, 90_104);
-    let watch: Result<SlotWatch<16>, _> = SlotWatch::open(rt.alloc(), 16, 15, longest);
+    let watch: Result<SlotWatch<16>, _> = SlotWatch::open(rt.alloc(), 16, 15, longest, longest);
     assert!(rt; watch.is_ok());
 }
 
