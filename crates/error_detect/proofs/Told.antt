@@ -1,32 +1,49 @@
--- What is held of a node whose finding was Good.
-use Rattle.std.proofs.Common.{◌≡◌, ◌≢◌, ℕ, ◌<◌, ◌≤◌, Bool, true, false, List, length, get_or, Option, Some, refl, sym, ap, ◌∙◌, subst, arith}
+-- What is told of a node whose finding was Good, by what is held of it.
+use Rattle.std.proofs.Common.{◌≡◌, ◌≢◌, ℕ, ◌<◌, ◌≤◌, Bool, true, false, List, [], length, get_or, Option, Some, refl, sym, ap, ◌∙◌, subst, arith}
 use Rattle.std.specs.Prelude.{IsSome, IfSome}
 use Rattle.node_grid.specs.NodeSet.{has_id}
 use Rattle.frames.specs.Content.{Expectation, Content}
 use Rattle.error_detect.specs.declared.finding.Finding.TheVariants.{Good}
-use Rattle.error_detect.specs.Watching.{Box, Watch, watch_of, frame_in, arrival_at, of_sender, finding_at, found_by, IsKept}
-use Rattle.error_detect.proofs.Boxes.{found_at, good_is}
+use Rattle.error_detect.specs.Watching.{Box, Watch, watch_of, frame_in, guesses, guesses_at, said_at, arrival_at, is_same, of_sender, finding_at, found_by, told_by, told_at, IsKept}
+use Rattle.error_detect.proofs.Boxes.{at_same, found_at, told_from, told_said, good_is, seen_alike}
+use Rattle.error_detect.proofs.Guesses.{IsRead, read_same}
 
--- what is known of what is held
-pub record IsHeld (nodes : ℕ) (o : Option Expectation) (boxes : List Box) (x : Option Content) (e : Expectation) (j : ℕ) (b : Box) : Type 0 where
-  pub within : j < length boxes
-  pub found : found_by (of_sender j e) (arrival_at (frame_in o x j) b.held) ≡ Good
-  pub readable : (e.nodes ≡ nodes) × (0 < e.nodes) × (e.m ≤ 3)
+-- a frame that is held as the guessed one was told as guessed, and another by its bytes
+pub record IsHeld (w : Watch) (e : Expectation) (j : ℕ) (b : Box) : Type 0 where
+  pub readable : (e.nodes ≡ w.nodes) × (0 < e.nodes) × (e.m ≤ 3)
+  pub same : is_same b.held ≡ true → (guesses_at w j ≡ true) × (told_at w j ≡ said_at w j)
+  pub found : is_same b.held ≡ false → found_by (of_sender j e) (arrival_at [] b.held) ≡ Good
+  pub told : is_same b.held ≡ false → told_by (of_sender j e) (arrival_at [] b.held) ≡ told_at w j
 
 -- where the node is marked in a closed watch
-pub held_good : (n nodes me room : ℕ) (o : Option Expectation) (shown : Bool) (boxes : List Box) (x : Option Content) (marks : List ℕ) (w : Watch) (e : Expectation) (j : ℕ) (b : Box)
-    → IsKept n (watch_of nodes me room o shown boxes x) boxes marks → watch_of nodes me room o shown boxes x ≡ w → o ≡ Some e
-    → w.is_open ≡ false → IsSome w.expect → j < w.nodes → j ≢ w.me → has_id marks j ≡ true → b ≡ get_or boxes j b → IsHeld nodes o boxes x e j b
-held_good n nodes me room o shown boxes x marks w e j b kept seen expects closed some_slot node other marked box =
-    let v : Watch = watch_of nodes me room o shown boxes x in
-    let low : j < nodes = subst (λ k. j < k) (sym (ap (λ (y : Watch). y.nodes) seen)) node in
-    let within : j < length boxes = omega (arith, kept.inboxes.each, low) in
-    let apart : j ≢ me = λ y. other (y ∙ ap (λ (y : Watch). y.me) seen) in
-    let shut : shown ≡ false = ap (λ (y : Watch). y.is_open) seen ∙ closed in
-    let some : IsSome o = subst IsSome (sym (ap (λ (y : Watch). y.expect) seen)) some_slot in
-    let good : finding_at v j ≡ Good = good_is (finding_at v j) (sym (kept.marked shut some j (omega (arith, low, kept.inboxes.few))) ∙ marked) in
+held_good : (n nodes me room : ℕ) (o : Option Expectation) (shown : Bool) (boxes : List Box) (x : Option Content) (marks : List ℕ) (e : Expectation) (j : ℕ) (b : Box) (some : o ≡ Some e)
+    → IsKept n (watch_of nodes me room o shown boxes x) boxes marks → shown ≡ false → IsSome o → j < nodes → j ≢ me → has_id marks j ≡ true → b ≡ get_or boxes j b
+    → IsHeld (watch_of nodes me room o shown boxes x) e j b
+held_good n nodes me room o shown boxes x marks e j b some kept shut has node other marked box =
+    let w : Watch = watch_of nodes me room o shown boxes x in
+    let within : j < length boxes = omega (arith, kept.inboxes.each, node) in
+    let good : finding_at w j ≡ Good = good_is (finding_at w j) (sym (kept.marked shut has j (omega (arith, node, kept.inboxes.few))) ∙ marked) in
+    let found : found_by (of_sender j e) (arrival_at (frame_in o x j) b.held) ≡ Good = sym (found_at w e (frame_in o x) boxes j b other node some refl within box) ∙ good in
+    let told : told_at w j ≡ told_by (of_sender j e) (arrival_at (frame_in o x j) b.held) = told_from w e (frame_in o x) boxes j b some refl within box in
     record {
-      within = within;
-      found = sym (found_at v e (frame_in o x) boxes j b apart low expects refl within box) ∙ good;
-      readable = subst (λ q. IfSome q (λ (y : Expectation). (y.nodes ≡ nodes) × (0 < y.nodes) × (y.m ≤ 3))) expects kept.inboxes.readable;
+      readable = subst (λ q. IfSome q (λ (y : Expectation). (y.nodes ≡ nodes) × (0 < y.nodes) × (y.m ≤ 3))) some kept.inboxes.readable;
+      same = λ held.
+      (let there : guesses o x j ≡ true = at_same o x boxes j b kept.same within box held in
+      let r : IsRead o x e j = read_same o x e j some kept.meant there in
+      (there, told ∙ told_said (of_sender j e) b.held (frame_in o x j) r.said held found r.read r.warm ∙ sym r.told));
+      found = λ held. ap (found_by (of_sender j e)) (seen_alike b.held [] (frame_in o x j) held) ∙ found;
+      told = λ held. ap (told_by (of_sender j e)) (seen_alike b.held [] (frame_in o x j) held) ∙ sym told;
     }
+
+-- the same of the watch as it is seen
+pub held_as_seen : (n nodes me room : ℕ) (o : Option Expectation) (shown : Bool) (boxes : List Box) (x : Option Content) (marks : List ℕ) (w : Watch) (e : Expectation) (j : ℕ) (b : Box) (some : o ≡ Some e)
+    → IsKept n (watch_of nodes me room o shown boxes x) boxes marks → watch_of nodes me room o shown boxes x ≡ w → w.is_open ≡ false → IsSome w.expect → j < w.nodes → j ≢ w.me
+    → has_id marks j ≡ true → b ≡ get_or boxes j b → IsHeld w e j b
+held_as_seen n nodes me room o shown boxes x marks w e j b some kept seen shut has node other marked box =
+    subst (λ (v : Watch). IsHeld v e j b) seen
+    (held_good n nodes me room o shown boxes x marks e j b some kept
+    (ap (λ (y : Watch). y.is_open) seen ∙ shut)
+    (subst IsSome (sym (ap (λ (y : Watch). y.expect) seen)) has)
+    (subst (λ k. j < k) (sym (ap (λ (y : Watch). y.nodes) seen)) node)
+    (λ y. other (y ∙ ap (λ (y : Watch). y.me) seen))
+    marked box)
