@@ -1,4 +1,4 @@
-use Rattle.std.proofs.Common.{ℕ, List, suc, ◌≡◌, ◌≢◌, ◌<◌, ◌≤◌, ◌+◌, ◌-◌, ◌*◌, ◌&&◌, ◌||◌, ◌∷◌, ◌++◌, [], true, false, not, length, get_or, set, map, take, refl, sym, ap, ap₂, subst, ◌∙◌, inl, inr, arith, rules}
+use Rattle.std.proofs.Common.{◌≡◌, true, false, length, ap, subst, ◌∙◌, arith}
 use Rattle.heard.specs.Doubts.{DoubtsMore}
 use Rattle.heard.proofs.Methods.{written, clean_seen, clean_kept, odd_seen, odd_kept, doubting_more, in_round, is_member, count_is, paths_seen, same_small, same_frame, same_said, same_cells, same_hits}
 use Rattle.heard.proofs.hearing.Heard.hear_frame.Goals as goal

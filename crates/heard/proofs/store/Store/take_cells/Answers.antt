@@ -1,4 +1,4 @@
-use Rattle.std.proofs.Common.{ℕ, List, suc, ◌≡◌, ◌≢◌, ◌<◌, ◌≤◌, ◌+◌, ◌-◌, ◌*◌, ◌&&◌, ◌||◌, ◌∷◌, ◌++◌, [], true, false, not, length, get_or, set, map, take, refl, sym, ap, ap₂, subst, ◌∙◌, inl, inr, arith, rules}
+use Rattle.std.proofs.Common.{length, set, sym, ap, ap₂, subst, ◌∙◌, arith}
 use Rattle.node_grid.specs.NodeSet.{with_id, without_id}
 use Rattle.heard.specs.Keep.{IsFrameOf, pasted, set_at}
 use Rattle.heard.proofs.SeenLaws.{frame_fits}
