@@ -24,10 +24,6 @@ column : (n : ℕ) (graph : GraphView) (ys : List ℕ) (old c : CopyTable) (sett
 column n graph ys old c settled node is next t ht =
     ap (λ (x : CopyTable). copy_at x t node) is ∙ at_table n (completed graph ys old settled) t node ht next.within ∙ cond-false (has_id ys node) _ _ next.fresh
 
--- before the first member
-pub completed_none : (n : ℕ) (graph : GraphView) (old : CopyTable) (settled : List (Wrapped ℕ)) → IsTable n old → old ≡ table n (completed graph [] old settled)
-completed_none n graph old settled shape = shape
-
 pub completed_more : (n : ℕ) (graph : GraphView) (ys : List ℕ) (old c new : CopyTable) (settled : List (Wrapped ℕ)) (node : ℕ) (claim : Wrapped ℕ)
     → c ≡ table n (completed graph ys old settled) → IsNext n ys node → claim ≡ claim_of settled node → new ≡ table n (completed_by graph node c claim)
     → new ≡ table n (completed graph (ys ++ node ∷ []) old settled)

@@ -1,22 +1,16 @@
 -- A node leaves task by task.
-use Rattle.std.proofs.Common.{◌≡◌, ℕ, ◌+◌, ◌<◌, ◌≤◌, false, refl, sym, ap, ◌∙◌, inl, inr, arith, eq-eqb, ne_eqb}
+use Rattle.std.proofs.Common.{◌≡◌, ℕ, ◌+◌, ◌<◌, false, refl, sym, ap, ◌∙◌, inl, inr, arith, eq-eqb, ne_eqb}
 use Rattle.std.specs.Prelude.{◌==◌, nat_lt, if◌then◌else◌}
 use Rattle.std.proofs.lemmas.Bool.{cases_eq, cases_lt, cond-true, cond-false, lt-ltb, le-ltb}
 use Rattle.list_scheduler.specs.declared.copies.CopyState.{CopyState}
 use Rattle.list_scheduler.specs.declared.copies.CopyState.TheVariants.{Idle, Running, Passed, Failed}
-use Rattle.list_scheduler.specs.Copies.{CopyTable, copy_at, table, IsTable, with_copy}
+use Rattle.list_scheduler.specs.Copies.{CopyTable, copy_at, table, with_copy}
 use Rattle.list_scheduler.specs.CopyLaws.{at_table, table_same, put_copy}
 use Rattle.list_scheduler.specs.Schedule.{left_copy, left_by}
 
 -- the copies of tasks below i have left
 abbrev pub left_up_to : ℕ → ℕ → CopyTable → ℕ → ℕ → CopyState
 left_up_to i node old t q = if nat_lt t i then left_by node old t q else copy_at old t q
-
-pub left_none : (n node : ℕ) (old : CopyTable) → IsTable n old → old ≡ table n (left_up_to 0 node old)
-left_none n node old shape = shape ∙ table_same n _ _ (λ t q ht hq. sym (cond-false (nat_lt t 0) _ _ (le-ltb t 0 (omega arith))))
-
-pub left_all : (n node : ℕ) (old c : CopyTable) (i : ℕ) → 32 ≤ i → c ≡ table n (left_up_to i node old) → c ≡ table n (left_by node old)
-left_all n node old c i l is = is ∙ table_same n _ _ (λ t q ht hq. cond-true (nat_lt t i) _ _ (lt-ltb t i (omega arith)))
 
 -- another task's copies, and another node's, stay as they are in a step
 same_elsewhere : (i node : ℕ) (old : CopyTable) (t q : ℕ) → (t ≡ i → q ≡ node → ⊥) → left_up_to (i + 1) node old t q ≡ left_up_to i node old t q

@@ -10,7 +10,7 @@ use Rattle.task_graph.specs.Graph.{GraphView, task_at, IsGraph}
 use Rattle.task_graph.specs.GraphLaws.{task_ranged, few_tasks}
 use Rattle.list_scheduler.specs.declared.copies.CopyState.{CopyState}
 use Rattle.list_scheduler.specs.declared.copies.CopyState.TheVariants.{Idle, Running, Passed, Failed}
-use Rattle.list_scheduler.specs.Copies.{CopyTable, copy_at, table, IsTable, with_copy, is_passed, is_idle, works}
+use Rattle.list_scheduler.specs.Copies.{CopyTable, copy_at, table, with_copy, is_passed, is_idle, works}
 use Rattle.list_scheduler.specs.CopyLaws.{at_table, table_same, put_copy, works_same, range_below}
 use Rattle.list_scheduler.specs.Schedule.{finished, is_eligible, pick_of, is_it, picks, picked}
 use Rattle.list_scheduler.specs.ScheduleLaws.{picks_is}
@@ -102,9 +102,6 @@ this_node graph ys old node t =
 
 yielded_node : (graph : GraphView) (ys : List ℕ) (old : CopyTable) (node t : ℕ) → has_id ys node ≡ false → picked graph ys old t node ≡ copy_at old t node
 yielded_node graph ys old node t fresh = cond-false (picks graph ys old t node) _ _ (not_yet graph ys old node t fresh)
-
-pub picked_none : (n : ℕ) (graph : GraphView) (old : CopyTable) → IsTable n old → old ≡ table n (picked graph [] old)
-picked_none n graph old shape = shape
 
 pub picked_without : (n : ℕ) (graph : GraphView) (ys : List ℕ) (old c : CopyTable) (node : ℕ) → c ≡ table n (picked graph ys old) → IsNext n ys node → starts graph old node ≡ None
     → c ≡ table n (picked graph (ys ++ node ∷ []) old)

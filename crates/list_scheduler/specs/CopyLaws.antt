@@ -88,17 +88,6 @@ table_same n f g h = grid_same 32 n f g h
 pub IsTable-table : (n : ℕ) (f : ℕ → ℕ → CopyState) → IsTable n (table n f)
 IsTable-table n f = table_same n f (copy_at (table n f)) (λ t q ht hq. sym (at_table n f t q ht hq))
 
--- two tables with the same copies are the same
-pub same_copies : (n : ℕ) (c d : CopyTable) → IsTable n c → IsTable n d → ((t q : ℕ) → t < 32 → q < n → copy_at c t q ≡ copy_at d t q) → c ≡ d
-same_copies n c d hc hd h = hc ∙ table_same n (copy_at c) (copy_at d) h ∙ sym hd
-
--- a copy that runs stands within the table
-pub runs_within : (n : ℕ) (c : CopyTable) (t q e : ℕ) → IsTable n c → copy_at c t q ≡ Running e → (t < 32) × (q < n)
-runs_within n c t q e shape h = elim (in_table n (copy_at c) t q) [
-  | inl p ↦ (p.1, p.2)
-  | inr i ↦ let z : Running e ≡ Idle = sym h ∙ ap (λ (x : CopyTable). copy_at x t q) shape ∙ i in absurd (let y : ⊥ = cc in y)
-]
-
 -- what the code's write leaves
 pub set_copy : (n : ℕ) (c : CopyTable) (t q : ℕ) (s : CopyState) → IsTable n c → t < 32 → q < n → set c t (set (slice_index_or c t []) q s) ≡ table n (with_copy c t q s)
 unfolding table

@@ -14,7 +14,7 @@ use Rattle.list_scheduler.specs.declared.copies.CopyState.TheVariants.{Idle, Run
 use Rattle.list_scheduler.specs.declared.schedule.Verdict.{Verdict}
 use Rattle.list_scheduler.specs.Copies.{CopyTable, copy_at, table, IsTable, works, IsCopies, MembersRun}
 use Rattle.list_scheduler.specs.CopyLaws.{in_table, IsTable-table, works_runs, nothing_runs}
-use Rattle.list_scheduler.specs.Schedule.{claims, no_verdict, verdict_at, worked_on, completed_at, completed, left_copy, left_by, left, all_idle, frame_ended, is_eligible, pick_of, is_it, picks, picked, copies_after, first_copies}
+use Rattle.list_scheduler.specs.Schedule.{claims, no_verdict, verdict_at, worked_on, completed_at, completed, left_copy, left, all_idle, frame_ended, is_eligible, pick_of, is_it, picks, picked, first_copies}
 
 -- ---- the tasks' bounds, as each graph has them
 
@@ -129,11 +129,6 @@ completed_kept n graph members copies settled ordered is = table_copies n graph 
     (λ t q e h. (came graph members copies settled t q e ordered is h).bounds)
     (λ t u q e g h k. let r = came graph members copies settled t q e ordered is h in let s = came graph members copies settled u q g ordered is k in is.one t u q r.at s.at r.was s.was)
 
-pub completed_members : (n : ℕ) (graph : GraphView) (members : List ℕ) (copies : CopyTable) (settled : List (Wrapped ℕ)) → IsOrdered graph → IsCopies graph copies → MembersRun members copies
-    → MembersRun members (table n (completed graph members copies settled))
-completed_members n graph members copies settled ordered is run = table_members n members (completed graph members copies settled)
-    (λ t q e h. let r = came graph members copies settled t q e ordered is h in run t q r.at r.was)
-
 -- ---- leaving
 
 pub left_still : (c : CopyState) (e : ℕ) → left_copy c ≡ Running e → ⊥
@@ -160,22 +155,6 @@ left_kept n graph after copies is = table_copies n graph (left after copies)
 -- from then on only members' copies run, whoever ran before
 pub left_members : (n : ℕ) (after : List ℕ) (copies : CopyTable) → MembersRun after (table n (left after copies))
 left_members n after copies = table_members n after (left after copies) (λ t q e h. (left_stays after copies t q e h).0)
-
--- where one node leaves
-left_by_stays : (node : ℕ) (copies : CopyTable) (t q e : ℕ) → left_by node copies t q ≡ Running e → copy_at copies t q ≡ Running e
-left_by_stays node copies t q e h = elim (cases_Bool (q == node)) [
-  | inl on ↦ absurd (left_still (copy_at copies t q) e (sym (cond-true (q == node) _ _ on) ∙ h))
-  | inr off ↦ sym (cond-false (q == node) _ _ off) ∙ h
-]
-
-pub left_by_kept : (n : ℕ) (graph : GraphView) (node : ℕ) (copies : CopyTable) → IsCopies graph copies → IsCopies graph (table n (left_by node copies))
-left_by_kept n graph node copies is = table_copies n graph (left_by node copies)
-    (λ t q off. elim (cases_Bool (q == node)) [
-      | inl on ↦ cond-true (q == node) _ _ on ∙ ap left_copy (is.allowed t q off)
-      | inr none ↦ cond-false (q == node) _ _ none ∙ is.allowed t q off
-    ])
-    (λ t q e h. is.early t q e (left_by_stays node copies t q e h))
-    (λ t u q e g h k. is.one t u q e g (left_by_stays node copies t q e h) (left_by_stays node copies u q g k))
 
 -- ---- the frame's end
 
@@ -289,28 +268,7 @@ picked_members n graph members copies run = table_members n members (picked grap
     by_ran t q e (New p one) = p.member
     by_ran t q e (Old was) = run t q e was
 
--- ---- a whole period
-
-pub copies_kept : (n : ℕ) (graph : GraphView) (frame p : ℕ) (before after : List ℕ) (copies : CopyTable) (settled : List (Wrapped ℕ)) → IsOrdered graph → IsCopies graph copies
-    → IsCopies graph (copies_after n graph frame p before after copies settled)
-unfolding copies_after
-copies_kept n graph frame p before after copies settled ordered is =
-    let done = table n (completed graph before copies settled) in
-    let gone = table n (left after done) in
-    let over = table n (frame_ended frame p gone) in
-    picked_kept n graph after over ordered (ended_kept n graph frame p gone (left_kept n graph after done (completed_kept n graph before copies settled ordered is)))
-
-pub copies_members : (n : ℕ) (graph : GraphView) (frame p : ℕ) (before after : List ℕ) (copies : CopyTable) (settled : List (Wrapped ℕ)) → MembersRun after (copies_after n graph frame p before after copies settled)
-unfolding copies_after
-copies_members n graph frame p before after copies settled =
-    let done = table n (completed graph before copies settled) in
-    let gone = table n (left after done) in
-    let over = table n (frame_ended frame p gone) in
-    picked_members n graph after over (ended_members n frame p after gone (left_members n after done))
-
-pub copies_shape : (n : ℕ) (graph : GraphView) (frame p : ℕ) (before after : List ℕ) (copies : CopyTable) (settled : List (Wrapped ℕ)) → IsTable n (copies_after n graph frame p before after copies settled)
-unfolding copies_after
-copies_shape n graph frame p before after copies settled = IsTable-table n _
+-- ---- the copies of the first state
 
 pub first_kept : (n : ℕ) (graph : GraphView) (members : List ℕ) → IsOrdered graph → IsCopies graph (first_copies n graph members)
 unfolding first_copies
