@@ -12,7 +12,7 @@ ghost use Rattle.equivocation.specs.Conviction.{convicts};
 ghost use Rattle.omh.specs.Heard.{ear_of, heard_in, heard_paths, nothing_heard, with_heard};
 ghost use Rattle.heard.specs.Keep.{IsSmall, wrapped_times};
 ghost use Rattle.heard.specs.Passing.{IsAllExpected};
-ghost use Rattle.heard.specs.Seen.{with_frame, as_written, SaysExpected};
+ghost use Rattle.heard.specs.Seen.{with_frame, as_written, SaysExpected, SaysEcho};
 
 use crate::doubts::doubt_of_all;
 use crate::places::{are_one, clear, no_sets, unheard, wrapped_by};
@@ -25,7 +25,8 @@ use std::marker::Model;
 /// What one node heard of the relays of an item, frame by frame, and what it settles from that.
 ///
 /// All its memory is taken by [`Heard::open`]. A frame that says what is expected costs one bit:
-/// what was heard of each commander itself, wrapped once by each relay. Only the values of other
+/// what was heard of each commander itself, wrapped once by each relay. So does one that says what
+/// the node itself passes on. Only the values of other
 /// frames are kept one by one, and of each commander it is kept which nodes may have said something
 /// else.
 #[derive(Drop)]
@@ -114,6 +115,7 @@ impl<V: Copy + Eq + Drop, const N: usize> Heard<V, N> {
         ensures is { self.new ≡ record self.old { heard = map (with_frame r q (as_written self.old.members q r values.now)) self.old.heard } }
         ensures paths { map (λ e. e.path) self.old.heard ≡ heard_paths self.old.members self.old.me self.old.rounds }
     {
+        self.store.lay_later(r, self.doubted.as_mut_slice());
         let frame = self.store.frame(q, r, values);
         let deviates = self.store.doubt(&frame, self.doubted.as_mut_slice());
         self.any_frame = true;
@@ -164,8 +166,34 @@ impl<V: Copy + Eq + Drop, const N: usize> Heard<V, N> {
         if !self.store.agrees() {
             return false;
         }
+        if !self.store.is_newest(r) {
+            return false;
+        }
         self.any_frame = true;
         self.store.take_expected(q, r);
+        true
+    }
+
+    /// Takes up member `q`'s frame of relay round `r`, whose values are what the node itself passes on for each path: what it
+    /// heard for it, wrapped; without reading it. Answers false, and takes up nothing, where the frame has to be read.
+    pub fn hear_echo(&mut self, q: u8, r: u8) -> bool
+        requires exact { IsExact V.eq }
+        requires sender { has_id self.old.members q ≡ true }
+        requires some { 0 < r }
+        requires round { r ≤ self.old.rounds }
+        ensures is { result ≡ true → (values : List (Wrapped V)) → length values ≡ path_count (length self.old.members - 1) r → SaysEcho self.old.me r (without_id self.old.members q) self.old.heard values (length values) →
+            self.new ≡ record self.old { heard = map (with_frame r q (as_written self.old.members q r values)) self.old.heard } }
+        ensures left { result ≡ false → self.new ≡ self.old }
+        ensures paths { map (λ e. e.path) self.old.heard ≡ heard_paths self.old.members self.old.me self.old.rounds }
+    {
+        if !self.store.is_newest(r) {
+            return false;
+        }
+        if r == 1 {
+            return self.hear_expected(q, r);
+        }
+        self.any_frame = true;
+        self.store.take_echo(q, r);
         true
     }
 
@@ -177,6 +205,8 @@ impl<V: Copy + Eq + Drop, const N: usize> Heard<V, N> {
         ensures is { self.new ≡ record self.old { heard = map (with_frame r q (λ path. Fault 0)) self.old.heard } }
         ensures paths { map (λ e. e.path) self.old.heard ≡ heard_paths self.old.members self.old.me self.old.rounds }
     {
+        self.store.lay_later(r, self.doubted.as_mut_slice());
+        self.any_frame = true;
         self.store.take_nothing(q, r);
         doubt_of_all(q, self.doubted.as_mut_slice());
     }

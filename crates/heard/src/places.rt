@@ -61,7 +61,7 @@ pub fn wrapped_by<V: Copy + Eq>(value: Wrapped<V>, times: u8) -> Wrapped<V>
     requires small { IsSmall 3 value }
     requires few { times ≤ 3 }
     ensures wrapped { result ≡ wrapped_times times value }
-    ensures small { IsSmall 6 result }
+    ensures small { IsSmall (3 + times) result }
 {
     match value {
         Wrapped::Plain(v) => Wrapped::Plain(v),

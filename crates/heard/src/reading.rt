@@ -1,6 +1,6 @@
 //! What was heard for a path.
 
-ghost use Rattle.std.specs.Prelude.{◌≡◌, ◌-◌, ◌≤◌, true, length};
+ghost use Rattle.std.specs.Prelude.{◌≡◌, ◌+◌, ◌-◌, ◌≤◌, true, length};
 ghost use Rattle.node_grid.specs.NodeSet.{has_id};
 ghost use Rattle.omh_paths.specs.Paths.{path_count};
 ghost use Rattle.omh_paths.specs.Wrapped.{IsExact};
@@ -8,9 +8,8 @@ ghost use Rattle.heard.specs.Keep.{kept, IsSmall, IsOwnPath, IsRound, IsFrameOf}
 ghost use Rattle.heard.specs.Passing.{AreExpected};
 
 use crate::frame::Frame;
-use crate::places::{frame_at, front_of, wrapped_by};
 use crate::store::Store;
-use omh_paths::{Path, Wrapped, rank};
+use omh_paths::{Path, Wrapped};
 
 impl<V: Copy + Eq + Drop, const N: usize> Store<V, N> {
     /// What was heard for a path.
@@ -19,21 +18,10 @@ impl<V: Copy + Eq + Drop, const N: usize> Store<V, N> {
         ensures kept { result ≡ kept self.now path.now }
         ensures small { IsSmall 6 result }
     {
-        let r = path.len() - 1;
-        let c = path.at(0);
-        if r == 0 {
-            return self.cells[c as usize];
+        if path.len() == 1 {
+            return self.cells[path.at(0) as usize];
         }
-        let q = path.at(r);
-        if self.as_expected[r as usize].has(q) {
-            return wrapped_by(self.expected[c as usize], r);
-        }
-        if !self.in_cells[r as usize].has(q) {
-            return Wrapped::Fault(0);
-        }
-        let mut others = self.members;
-        others.cut(q);
-        self.cells[frame_at(self.nodes, r, q) + rank(&others, &front_of(path))]
+        self.relayed(path)
     }
 
     /// The frame of relay round `r` with these values that member `q` sent.

@@ -12,7 +12,7 @@ loop-r-preserved g c =
     let parts = λ (x : ℕ) (low : x < g.row.N) (off : has_id c.union-all.result x ≡ false). not_either_set g.row.N c.loop-r.all c.missing.result c.union-all.result x low c.union-all.ensures off in
     record {
       kept = λ x low off. inv.kept x low (parts x low off).0;
-      come = λ x low on off j some less. hit_next (λ i. 0 < i → (has_id (set_at k.as_expected i) x || has_id (set_at k.in_cells i) x) ≡ true) r
+      come = λ x low on off j some less. hit_next (λ i. 0 < i → (has_id (set_at k.as_expected i) x || (has_id (set_at k.echoes i) x || has_id (set_at k.in_cells i) x)) ≡ true) r
           (λ i under above. inv.come x low on (parts x low off).0 i above under)
           (λ above. c.missing.ensures x on (parts x low off).1) j less some;
     }

@@ -1,0 +1,184 @@
+use Rattle.std.proofs.Common.{ℕ, ◌≡◌, ◌+◌, ◌-◌, length, get_or, take, refl, sym, ap, subst, ◌∙◌, arith, rules}
+use Rattle.std.proofs.lemmas.List.{length-take-le}
+use Rattle.omh_paths.specs.declared.wrapped.Wrapped.TheVariants.{Fault}
+use Rattle.omh_paths.specs.PathLists.{has-of-without}
+use Rattle.node_grid.specs.NodeSet.{has_id, without_id}
+use Rattle.heard.specs.Keep.{IsStored, IsSmall, relayed, first_node, frame_at}
+use Rattle.heard.specs.Places.{small_more, frames_before-few, front-listed}
+use Rattle.heard.proofs.Readings.{node_low, nodes_few, base_low, base_read, read_clean, read_none, cell_low, read_odd, front_others, relayed_small, said_small, first_low}
+use Rattle.heard.proofs.store.Store.+relayed.Goals as goal
+
+pub index-requires : goal.index-requires
+index-requires g t c =
+    let s = c.self.inside in
+    let k = c.args.self.now in
+    let v = c.self.view_is in
+    let h : IsStored g.row.N k = subst (IsStored g.row.N) v c.self.invariant in
+    omega (arith, base_low g.row.N k h c.args.path.now c.len-r.ensures.distinct (omega (arith, c.len-r.ensures.count, c.len-r.ensures.some)) c.requires.within c.requires.short c.at-c.result c.at-c.ensures, ap (λ x. length x.expected) v, s.expected.ok.0)
+
+pub returns-then-r-eq0-clause-is : goal.returns-then-r-eq0-clause-is
+returns-then-r-eq0-clause-is g t c =
+    let s = c.self.inside in
+    let k = c.args.self.now in
+    let v = c.self.view_is in
+    let h : IsStored g.row.N k = subst (IsStored g.row.N) v c.self.invariant in
+    let back : c.len-r.result - 1 ≡ length c.args.path.now - 1 = omega (arith, c.len-r.ensures.count) in
+    let none : 0 ≡ length c.args.path.now - 1 = omega (arith, c.len-r.ensures.count, c.if-r-eq0.true) in
+    (base_read g.row.N k h c.args.path.now c.len-r.ensures.distinct (omega (arith, c.len-r.ensures.count, c.len-r.ensures.some)) c.requires.within c.requires.short c.at-c.result c.index.result.now c.at-c.ensures (c.index.ensures ∙ ap (λ x. get_or x.expected c.at-c.result c.index.result.now) v)) ∙ ap (λ (n : ℕ). relayed k n (get_or c.args.path.now n 0) c.args.path.now) none
+
+pub returns-then-r-eq0-clause-small : goal.returns-then-r-eq0-clause-small
+returns-then-r-eq0-clause-small g t c =
+    let s = c.self.inside in
+    let k = c.args.self.now in
+    let v = c.self.view_is in
+    let h : IsStored g.row.N k = subst (IsStored g.row.N) v c.self.invariant in
+    subst (IsSmall (2 + length c.args.path.now)) (sym (base_read g.row.N k h c.args.path.now c.len-r.ensures.distinct (omega (arith, c.len-r.ensures.count, c.len-r.ensures.some)) c.requires.within c.requires.short c.at-c.result c.index.result.now c.at-c.ensures (c.index.ensures ∙ ap (λ x. get_or x.expected c.at-c.result c.index.result.now) v)))
+    (small_more 3 (2 + length c.args.path.now) _ (omega (arith, c.len-r.ensures.count, c.len-r.ensures.some)) (said_small g.row.N k h (first_node c.args.path.now) (first_low g.row.N k h c.args.path.now (omega (arith, c.len-r.ensures.count, c.len-r.ensures.some)) c.requires.within)))
+
+pub index-requires-then-has : goal.index-requires-then-has
+index-requires-then-has g t c =
+    let s = c.self.inside in
+    let k = c.args.self.now in
+    let v = c.self.view_is in
+    let h : IsStored g.row.N k = subst (IsStored g.row.N) v c.self.invariant in
+    omega (arith, base_low g.row.N k h c.args.path.now c.len-r.ensures.distinct (omega (arith, c.len-r.ensures.count, c.len-r.ensures.some)) c.requires.within c.requires.short c.at-c.result c.at-c.ensures, ap (λ x. length x.expected) v, s.expected.ok.0)
+
+pub wrapped_by-requires-clause-small : goal.wrapped_by-requires-clause-small
+wrapped_by-requires-clause-small g t c =
+    let s = c.self.inside in
+    let k = c.args.self.now in
+    let v = c.self.view_is in
+    let h : IsStored g.row.N k = subst (IsStored g.row.N) v c.self.invariant in
+    subst (IsSmall 3) (sym (base_read g.row.N k h c.args.path.now c.len-r.ensures.distinct (omega (arith, c.len-r.ensures.count, c.len-r.ensures.some)) c.requires.within c.requires.short c.at-c.result c.index-then-has.result.now c.at-c.ensures (c.index-then-has.ensures ∙ ap (λ x. get_or x.expected c.at-c.result c.index-then-has.result.now) v)))
+    (said_small g.row.N k h (first_node c.args.path.now) (first_low g.row.N k h c.args.path.now (omega (arith, c.len-r.ensures.count, c.len-r.ensures.some)) c.requires.within))
+
+pub returns-then-has-clause-is : goal.returns-then-has-clause-is
+returns-then-has-clause-is g t c =
+    let s = c.self.inside in
+    let k = c.args.self.now in
+    let v = c.self.view_is in
+    let h : IsStored g.row.N k = subst (IsStored g.row.N) v c.self.invariant in
+    let long : length c.args.path.now ≡ c.len-r.result - 1 + 1 = omega (arith, c.len-r.ensures.count, c.len-r.ensures.some) in
+    let back : c.len-r.result - 1 ≡ length c.args.path.now - 1 = omega (arith, c.len-r.ensures.count) in
+    read_clean g.row.N k h c.args.path.now c.len-r.ensures.distinct (omega (arith, c.len-r.ensures.count, c.len-r.ensures.some)) c.requires.within c.requires.short (c.len-r.result - 1) c.at-q.result c.index-2.result.now c.index-then-has.result.now c.wrapped_by.result long (omega (arith, c.if-r-eq0.false)) c.at-q.ensures
+    (c.index-2.ensures ∙ ap (λ x. get_or x.as_expected (c.len-r.result - 1) c.index-2.result.now) v) (sym c.has.ensures ∙ c.if-has.true)
+    (base_read g.row.N k h c.args.path.now c.len-r.ensures.distinct (omega (arith, c.len-r.ensures.count, c.len-r.ensures.some)) c.requires.within c.requires.short c.at-c.result c.index-then-has.result.now c.at-c.ensures (c.index-then-has.ensures ∙ ap (λ x. get_or x.expected c.at-c.result c.index-then-has.result.now) v))
+    c.wrapped_by.ensures.wrapped ∙ ap (λ (n : ℕ). relayed k n (get_or c.args.path.now n 0) c.args.path.now) back
+
+pub relayed-requires : goal.relayed-requires
+relayed-requires g t c κs within =
+    let s = c.self.inside in
+    let k = c.args.self.now in
+    let v = c.self.view_is in
+    let h : IsStored g.row.N k = subst (IsStored g.row.N) v c.self.invariant in
+    let long : length c.args.path.now ≡ c.len-r.result - 1 + 1 = omega (arith, c.len-r.ensures.count, c.len-r.ensures.some) in
+    let fl : length c.args.path.now - 1 ≡ c.len-r.result - 1 = omega (arith, c.len-r.ensures.count) in
+    let front = c.front_of.ensures in
+    let listed = front-listed k.members c.args.path.now (c.len-r.result - 1) (omega arith) c.len-r.ensures.distinct c.requires.within in
+    let size : length c.front_of.result ≡ length c.args.path.now - 1 = ap length front ∙ length-take-le (length c.args.path.now - 1) c.args.path.now (omega arith) in (
+      omega (arith, size),
+      (
+        search rules,
+        (
+          search rules,
+          (
+            omega arith,
+            (
+              λ q on. has-of-without k.members (get_or c.args.path.now (c.len-r.result - 1) 0) q (listed.within q (ap (λ xs. has_id xs q) (sym (front ∙ ap (λ (n : ℕ). take n c.args.path.now) fl)) ∙ on)),
+              omega (arith, size, c.requires.short),
+            ),
+          ),
+        ),
+      ),
+    )
+
+pub returns-then-not-has-clause-is : goal.returns-then-not-has-clause-is
+returns-then-not-has-clause-is g t c =
+    let s = c.self.inside in
+    let k = c.args.self.now in
+    let v = c.self.view_is in
+    let h : IsStored g.row.N k = subst (IsStored g.row.N) v c.self.invariant in
+    let long : length c.args.path.now ≡ c.len-r.result - 1 + 1 = omega (arith, c.len-r.ensures.count, c.len-r.ensures.some) in
+    let back : c.len-r.result - 1 ≡ length c.args.path.now - 1 = omega (arith, c.len-r.ensures.count) in
+    read_none g.row.N k h c.args.path.now c.len-r.ensures.distinct (omega (arith, c.len-r.ensures.count, c.len-r.ensures.some)) c.requires.within c.requires.short (c.len-r.result - 1) c.at-q.result c.index-2.result.now c.index-3.result.now c.index-4.result.now (Fault 0) long (omega (arith, c.if-r-eq0.false)) c.at-q.ensures
+    (c.index-2.ensures ∙ ap (λ x. get_or x.as_expected (c.len-r.result - 1) c.index-2.result.now) v) (sym c.has.ensures ∙ c.if-has.false) (c.index-3.ensures ∙ ap (λ x. get_or x.echoes (c.len-r.result - 1) c.index-3.result.now) v) (sym c.has-2.ensures ∙ c.if-has-2.false) (c.index-4.ensures ∙ ap (λ x. get_or x.in_cells (c.len-r.result - 1) c.index-4.result.now) v) (sym c.has-3.ensures ∙ c.if-not-has.true) refl ∙ ap (λ (n : ℕ). relayed k n (get_or c.args.path.now n 0) c.args.path.now) back
+
+pub cut-requires : goal.cut-requires
+cut-requires g t c =
+    let s = c.self.inside in
+    let k = c.args.self.now in
+    let v = c.self.view_is in
+    let h : IsStored g.row.N k = subst (IsStored g.row.N) v c.self.invariant in
+    let long : length c.args.path.now ≡ c.len-r.result - 1 + 1 = omega (arith, c.len-r.ensures.count, c.len-r.ensures.some) in
+    let low = node_low g.row.N k h c.args.path.now (c.len-r.result - 1) (omega arith) c.requires.within in
+    let n = h.nodes_ok in
+    (omega arith, omega (arith, c.at-q.ensures))
+
+pub frame_at-requires-clause-node : goal.frame_at-requires-clause-node
+frame_at-requires-clause-node g t c =
+    let s = c.self.inside in
+    let k = c.args.self.now in
+    let v = c.self.view_is in
+    let h : IsStored g.row.N k = subst (IsStored g.row.N) v c.self.invariant in
+    let long : length c.args.path.now ≡ c.len-r.result - 1 + 1 = omega (arith, c.len-r.ensures.count, c.len-r.ensures.some) in
+    omega (arith, c.at-q.ensures, node_low g.row.N k h c.args.path.now (c.len-r.result - 1) (omega arith) c.requires.within, ap (λ x. x.nodes) v)
+
+pub rank-requires : goal.rank-requires
+rank-requires g t c =
+    let s = c.self.inside in
+    let k = c.args.self.now in
+    let v = c.self.view_is in
+    let h : IsStored g.row.N k = subst (IsStored g.row.N) v c.self.invariant in
+    let long : length c.args.path.now ≡ c.len-r.result - 1 + 1 = omega (arith, c.len-r.ensures.count, c.len-r.ensures.some) in
+    let fl : length c.args.path.now - 1 ≡ c.len-r.result - 1 = omega (arith, c.len-r.ensures.count) in
+    (omega arith, (h.capacity_ok, front_others g.row.N k h c.args.path.now c.len-r.ensures.distinct (omega (arith, c.len-r.ensures.count, c.len-r.ensures.some)) c.requires.within c.requires.short (c.len-r.result - 1) c.at-q.result c.cut.new.self c.front_of-2.result long c.at-q.ensures (c.cut.ensures ∙ ap (λ x. without_id x.members c.at-q.result) v) (c.front_of-2.ensures ∙ ap (λ (n : ℕ). take n c.args.path.now) fl)))
+
+pub overflow_add-frame_at : goal.overflow_add-frame_at
+overflow_add-frame_at g t c =
+    let s = c.self.inside in
+    let k = c.args.self.now in
+    let v = c.self.view_is in
+    let h : IsStored g.row.N k = subst (IsStored g.row.N) v c.self.invariant in
+    let long : length c.args.path.now ≡ c.len-r.result - 1 + 1 = omega (arith, c.len-r.ensures.count, c.len-r.ensures.some) in
+    let fl : length c.args.path.now - 1 ≡ c.len-r.result - 1 = omega (arith, c.len-r.ensures.count) in
+    let low = cell_low g.row.N k h c.args.path.now c.len-r.ensures.distinct (omega (arith, c.len-r.ensures.count, c.len-r.ensures.some)) c.requires.within c.requires.short (c.len-r.result - 1) c.at-q.result c.frame_at.result c.rank.result c.cut.new.self c.front_of-2.result long c.at-q.ensures (c.frame_at.ensures.begins ∙ ap (λ x. frame_at x.nodes (c.len-r.result - 1) c.at-q.result) v) (c.cut.ensures ∙ ap (λ x. without_id x.members c.at-q.result) v) (c.front_of-2.ensures ∙ ap (λ (n : ℕ). take n c.args.path.now) fl) c.rank.ensures.place in
+    omega (arith, low, h.cells_ok, frames_before-few k.nodes (k.rounds + 1) (nodes_few g.row.N k h) (omega (arith, h.rounds_ok)))
+
+pub index-requires-5 : goal.index-requires-5
+index-requires-5 g t c =
+    let s = c.self.inside in
+    let k = c.args.self.now in
+    let v = c.self.view_is in
+    let h : IsStored g.row.N k = subst (IsStored g.row.N) v c.self.invariant in
+    let long : length c.args.path.now ≡ c.len-r.result - 1 + 1 = omega (arith, c.len-r.ensures.count, c.len-r.ensures.some) in
+    let fl : length c.args.path.now - 1 ≡ c.len-r.result - 1 = omega (arith, c.len-r.ensures.count) in
+    omega (arith, cell_low g.row.N k h c.args.path.now c.len-r.ensures.distinct (omega (arith, c.len-r.ensures.count, c.len-r.ensures.some)) c.requires.within c.requires.short (c.len-r.result - 1) c.at-q.result c.frame_at.result c.rank.result c.cut.new.self c.front_of-2.result long c.at-q.ensures (c.frame_at.ensures.begins ∙ ap (λ x. frame_at x.nodes (c.len-r.result - 1) c.at-q.result) v) (c.cut.ensures ∙ ap (λ x. without_id x.members c.at-q.result) v) (c.front_of-2.ensures ∙ ap (λ (n : ℕ). take n c.args.path.now) fl) c.rank.ensures.place, ap (λ x. length x.cells) v, s.cells.ok.0)
+
+pub returns-clause-is : goal.returns-clause-is
+returns-clause-is g t c =
+    let s = c.self.inside in
+    let k = c.args.self.now in
+    let v = c.self.view_is in
+    let h : IsStored g.row.N k = subst (IsStored g.row.N) v c.self.invariant in
+    let back : c.len-r.result - 1 ≡ length c.args.path.now - 1 = omega (arith, c.len-r.ensures.count) in
+    let long : length c.args.path.now ≡ c.len-r.result - 1 + 1 = omega (arith, c.len-r.ensures.count, c.len-r.ensures.some) in
+    let fl : length c.args.path.now - 1 ≡ c.len-r.result - 1 = omega (arith, c.len-r.ensures.count) in
+    read_odd g.row.N k h c.args.path.now c.len-r.ensures.distinct (omega (arith, c.len-r.ensures.count, c.len-r.ensures.some)) c.requires.within c.requires.short (c.len-r.result - 1) c.at-q.result c.frame_at.result c.rank.result c.cut.new.self c.front_of-2.result c.index-2.result.now c.index-3.result.now c.index-4.result.now c.index-5.result.now long (omega (arith, c.if-r-eq0.false)) c.at-q.ensures
+    (c.frame_at.ensures.begins ∙ ap (λ x. frame_at x.nodes (c.len-r.result - 1) c.at-q.result) v) (c.cut.ensures ∙ ap (λ x. without_id x.members c.at-q.result) v) (c.front_of-2.ensures ∙ ap (λ (n : ℕ). take n c.args.path.now) fl) c.rank.ensures.place
+    (c.index-2.ensures ∙ ap (λ x. get_or x.as_expected (c.len-r.result - 1) c.index-2.result.now) v) (sym c.has.ensures ∙ c.if-has.false) (c.index-3.ensures ∙ ap (λ x. get_or x.echoes (c.len-r.result - 1) c.index-3.result.now) v) (sym c.has-2.ensures ∙ c.if-has-2.false)
+    (c.index-4.ensures ∙ ap (λ x. get_or x.in_cells (c.len-r.result - 1) c.index-4.result.now) v) (sym c.has-3.ensures ∙ c.if-not-has.false) (c.index-5.ensures ∙ ap (λ x. get_or x.cells (c.frame_at.result + c.rank.result) c.index-5.result.now) v) ∙ ap (λ (n : ℕ). relayed k n (get_or c.args.path.now n 0) c.args.path.now) back
+
+pub returns-clause-small : goal.returns-clause-small
+returns-clause-small g t c =
+    let s = c.self.inside in
+    let k = c.args.self.now in
+    let v = c.self.view_is in
+    let h : IsStored g.row.N k = subst (IsStored g.row.N) v c.self.invariant in
+    let long : length c.args.path.now ≡ c.len-r.result - 1 + 1 = omega (arith, c.len-r.ensures.count, c.len-r.ensures.some) in
+    let fl : length c.args.path.now - 1 ≡ c.len-r.result - 1 = omega (arith, c.len-r.ensures.count) in
+    let is : c.index-5.result.now ≡ relayed k (c.len-r.result - 1) (get_or c.args.path.now (c.len-r.result - 1) 0) c.args.path.now =
+    read_odd g.row.N k h c.args.path.now c.len-r.ensures.distinct (omega (arith, c.len-r.ensures.count, c.len-r.ensures.some)) c.requires.within c.requires.short (c.len-r.result - 1) c.at-q.result c.frame_at.result c.rank.result c.cut.new.self c.front_of-2.result c.index-2.result.now c.index-3.result.now c.index-4.result.now c.index-5.result.now long (omega (arith, c.if-r-eq0.false)) c.at-q.ensures
+    (c.frame_at.ensures.begins ∙ ap (λ x. frame_at x.nodes (c.len-r.result - 1) c.at-q.result) v) (c.cut.ensures ∙ ap (λ x. without_id x.members c.at-q.result) v) (c.front_of-2.ensures ∙ ap (λ (n : ℕ). take n c.args.path.now) fl) c.rank.ensures.place
+    (c.index-2.ensures ∙ ap (λ x. get_or x.as_expected (c.len-r.result - 1) c.index-2.result.now) v) (sym c.has.ensures ∙ c.if-has.false) (c.index-3.ensures ∙ ap (λ x. get_or x.echoes (c.len-r.result - 1) c.index-3.result.now) v) (sym c.has-2.ensures ∙ c.if-has-2.false)
+    (c.index-4.ensures ∙ ap (λ x. get_or x.in_cells (c.len-r.result - 1) c.index-4.result.now) v) (sym c.has-3.ensures ∙ c.if-not-has.false) (c.index-5.ensures ∙ ap (λ x. get_or x.cells (c.frame_at.result + c.rank.result) c.index-5.result.now) v) in
+    subst (IsSmall (2 + length c.args.path.now)) (sym is) (small_more (3 + (c.len-r.result - 1)) (2 + length c.args.path.now) _ (omega arith) (relayed_small g.row.N k h (c.len-r.result - 1) c.args.path.now long (omega (arith, c.requires.short)) c.len-r.ensures.distinct c.requires.within))
