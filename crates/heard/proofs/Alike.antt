@@ -54,14 +54,6 @@ module _ (sets : List (List ℕ)) (r q : ℕ) (low : r < length sets) where
     | inl e ↦ ap (λ (k : ℕ). has_id (set_at sets k) n) e ∙ has-of-without (set_at sets r) q n (sym (same_set (without_id (set_at sets r) q) s n e) ∙ on)
   ]
 
-  pub cut_none : ((s : ℕ) → set_at sets s ≡ []) → (s : ℕ) → set_at (set sets r (without_id (set_at sets r) q)) s ≡ []
-  cut_none none s = elim (cases_eq s r) [
-    | inr ne ↦ get_or-set_other sets r s (without_id (set_at sets r) q) [] ne ∙ none s
-    | inl e ↦
-        ap (λ (k : ℕ). set_at (set sets r (without_id (set_at sets r) q)) k) e
-        ∙ get_or-set_same sets r (without_id (set_at sets r) q) [] low ∙ ap (λ (t : List ℕ). without_id t q) (none r)
-  ]
-
 -- a store with other frames
 abbrev pub changed : {V : Type 0} → Parts V → List (List ℕ) → List (List ℕ) → List (List ℕ) → List (Wrapped V) → List (Wrapped V) → Parts V
 changed p as_expected echoes in_cells cells expected = record p { as_expected = as_expected; echoes = echoes; in_cells = in_cells; cells = cells; expected = expected }

@@ -26,9 +26,8 @@ use std::marker::Model;
 ///
 /// All its memory is taken by [`Heard::open`]. A frame that says what is expected costs one bit:
 /// what was heard of each commander itself, wrapped once by each relay. So does one that says what
-/// the node itself passes on. Only the values of other
-/// frames are kept one by one, and of each commander it is kept which nodes may have said something
-/// else.
+/// the node itself passes on. Only the values of other frames are kept one by one, and of each
+/// commander it is kept which nodes may have said something else.
 #[derive(Drop)]
 pub struct Heard<V, const N: usize> {
     store: Store<V, N>,

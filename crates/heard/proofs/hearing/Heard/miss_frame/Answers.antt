@@ -1,8 +1,6 @@
 use Rattle.std.proofs.Common.{true, ◌≡◌, length, sym, ap, subst, ◌∙◌, arith}
 use Rattle.heard.specs.Doubts.{AreHit, DoubtsMore}
-use Rattle.heard.specs.Seen.{IsNewest}
-use Rattle.heard.proofs.LaidOut.{hearing_laid}
-use Rattle.heard.proofs.Methods.{written, laid_kept, few_rounds, doubting_more, missed_seen, missed_kept, in_round, is_member, node_in, paths_seen}
+use Rattle.heard.proofs.Methods.{written, later, few_rounds, doubting_more, missed_seen, missed_kept, in_round, is_member, node_in, paths_seen}
 use Rattle.heard.proofs.hearing.Heard.miss_frame.Goals as goal
 
 pub lay_later-requires : goal.lay_later-requires
@@ -11,13 +9,9 @@ lay_later-requires g c =
 
 pub take_nothing-requires : goal.take_nothing-requires
 take_nothing-requires g c =
-    let s0 = c.self.inside in
-    let laid = c.lay_later.ensures.laid in
-    let first = written s0.doubted.items c.as_mut_slice.result.now c.lay_later.new.doubted s0.doubted.len s0.doubted.ok.0 c.as_mut_slice.ensures.value c.lay_later.auto.doubted in
-    let size : length c.lay_later.new.doubted ≡ length s0.doubted.items = c.lay_later.auto.doubted ∙ ap length c.as_mut_slice.ensures.value in
-    let inv = laid_kept g.row.N s0.store c.lay_later.new.self s0.any_frame s0.doubted.items c.lay_later.new.doubted s0.scratch.items c.self.invariant laid c.lay_later.ensures.stored c.lay_later.ensures.hit size in
-    let view = hearing_laid g.row.N s0.store c.lay_later.new.self s0.own c.self.invariant.stored laid ∙ c.self.view_is in
-    let newest : IsNewest c.lay_later.new.self.rounds c.lay_later.new.self c.args.r = subst (λ n. IsNewest n c.lay_later.new.self c.args.r) (sym (ap (λ x. x.rounds) laid.is)) c.lay_later.ensures.newest in
+    let laid = later c.self.invariant c.self.view_is c.lay_later.ensures.laid c.lay_later.ensures.stored c.lay_later.ensures.newest c.lay_later.ensures.hit (c.lay_later.auto.doubted ∙ ap length c.as_mut_slice.ensures.value) in
+    let inv = laid.inv in
+    let view = laid.view in
     (omega arith, (is_member inv view c.args.q c.requires.sender, in_round inv view c.args.r c.requires.some c.requires.round))
 
 pub doubt_of_all-requires : goal.doubt_of_all-requires
@@ -26,13 +20,12 @@ doubt_of_all-requires g c =
 
 pub invariant_of-self : goal.invariant_of-self
 invariant_of-self g c =
+    let laid = later c.self.invariant c.self.view_is c.lay_later.ensures.laid c.lay_later.ensures.stored c.lay_later.ensures.newest c.lay_later.ensures.hit (c.lay_later.auto.doubted ∙ ap length c.as_mut_slice.ensures.value) in
+    let inv = laid.inv in
+    let view = laid.view in
     let s0 = c.self.inside in
-    let laid = c.lay_later.ensures.laid in
     let first = written s0.doubted.items c.as_mut_slice.result.now c.lay_later.new.doubted s0.doubted.len s0.doubted.ok.0 c.as_mut_slice.ensures.value c.lay_later.auto.doubted in
     let size : length c.lay_later.new.doubted ≡ length s0.doubted.items = c.lay_later.auto.doubted ∙ ap length c.as_mut_slice.ensures.value in
-    let inv = laid_kept g.row.N s0.store c.lay_later.new.self s0.any_frame s0.doubted.items c.lay_later.new.doubted s0.scratch.items c.self.invariant laid c.lay_later.ensures.stored c.lay_later.ensures.hit size in
-    let view = hearing_laid g.row.N s0.store c.lay_later.new.self s0.own c.self.invariant.stored laid ∙ c.self.view_is in
-    let newest : IsNewest c.lay_later.new.self.rounds c.lay_later.new.self c.args.r = subst (λ n. IsNewest n c.lay_later.new.self c.args.r) (sym (ap (λ x. x.rounds) laid.is)) c.lay_later.ensures.newest in
     let len2 = s0.doubted.ok.0 ∙ sym size ∙ sym (ap length first) in
     let seen = c.as_mut_slice-2.ensures.value ∙ first in
     doubting_more g.row.N _ true c.lay_later.new.doubted c.doubt_of_all.new.doubted _ s0.scratch.items (missed_kept inv view c.args.q c.args.r c.requires.sender c.requires.some c.requires.round c.take_nothing.new.self c.take_nothing.ensures)
@@ -41,14 +34,10 @@ invariant_of-self g c =
 
 pub returns-clause-is : goal.returns-clause-is
 returns-clause-is g c =
-    let s0 = c.self.inside in
-    let laid = c.lay_later.ensures.laid in
-    let first = written s0.doubted.items c.as_mut_slice.result.now c.lay_later.new.doubted s0.doubted.len s0.doubted.ok.0 c.as_mut_slice.ensures.value c.lay_later.auto.doubted in
-    let size : length c.lay_later.new.doubted ≡ length s0.doubted.items = c.lay_later.auto.doubted ∙ ap length c.as_mut_slice.ensures.value in
-    let inv = laid_kept g.row.N s0.store c.lay_later.new.self s0.any_frame s0.doubted.items c.lay_later.new.doubted s0.scratch.items c.self.invariant laid c.lay_later.ensures.stored c.lay_later.ensures.hit size in
-    let view = hearing_laid g.row.N s0.store c.lay_later.new.self s0.own c.self.invariant.stored laid ∙ c.self.view_is in
-    let newest : IsNewest c.lay_later.new.self.rounds c.lay_later.new.self c.args.r = subst (λ n. IsNewest n c.lay_later.new.self c.args.r) (sym (ap (λ x. x.rounds) laid.is)) c.lay_later.ensures.newest in
-    missed_seen inv view c.args.q c.args.r c.requires.sender c.requires.some c.requires.round c.take_nothing.new.self c.take_nothing.ensures newest
+    let laid = later c.self.invariant c.self.view_is c.lay_later.ensures.laid c.lay_later.ensures.stored c.lay_later.ensures.newest c.lay_later.ensures.hit (c.lay_later.auto.doubted ∙ ap length c.as_mut_slice.ensures.value) in
+    let inv = laid.inv in
+    let view = laid.view in
+    missed_seen inv view c.args.q c.args.r c.requires.sender c.requires.some c.requires.round c.take_nothing.new.self c.take_nothing.ensures laid.newest
 
 pub returns-clause-paths : goal.returns-clause-paths
 returns-clause-paths g c =
