@@ -28,9 +28,9 @@ held_good n nodes me room o shown boxes x marks e j b some kept shut has node ot
     record {
       readable = subst (λ q. IfSome q (λ (y : Expectation). (y.nodes ≡ nodes) × (0 < y.nodes) × (y.m ≤ 3))) some kept.inboxes.readable;
       same = λ held.
-      (let there : guesses o x j ≡ true = at_same o x boxes j b kept.same within box held in
-      let r : IsRead o x e j = read_same o x e j some kept.meant there in
-      (there, told ∙ told_said (of_sender j e) b.held (frame_in o x j) r.said held found r.read r.warm ∙ sym r.told));
+          (let there : guesses o x j ≡ true = at_same o x boxes j b kept.same within box held in
+          let r : IsRead o x e j = read_same o x e j some kept.meant there in
+          (there, told ∙ told_said (of_sender j e) b.held (frame_in o x j) r.said held found r.read r.warm ∙ sym r.told));
       found = λ held. ap (found_by (of_sender j e)) (seen_alike b.held [] (frame_in o x j) held) ∙ found;
       told = λ held. ap (told_by (of_sender j e)) (seen_alike b.held [] (frame_in o x j) held) ∙ sym told;
     }
