@@ -2,8 +2,8 @@
 use Rattle.std.proofs.Common.{ℕ, zero, suc, ◌≡◌, ◌<◌, ◌≤◌, Bool, true, false, not, ◌&&◌, List, map, length, Option, None, Some, ℤ, pos, ◌+ℤ◌, ◌-ℤ◌, refl, sym, ap, ap₂, subst, ◌∙◌, inl, inr, arith, eq-eqb, lt-ltb, le-ltb, nat_lt}
 use Rattle.std.specs.Prelude.{All, ◌==◌, if◌then◌else◌, slice_get, option_map}
 use Rattle.std.proofs.lemmas.Int.{ints}
-use Rattle.std.proofs.lemmas.Bool.{cases_Bool, cases_lt, cond-true, cond-false}
-use Rattle.std.proofs.lemmas.Option.{slice_get-get_or, slice_get_past}
+use Rattle.std.proofs.lemmas.Bool.{cases_Bool, cases_lt, cond-true, cond-false, ltb-true}
+use Rattle.std.proofs.lemmas.Option.{same_Some, slice_get_past}
 use Rattle.std.proofs.lemmas.List.FromFn.{get_or-map-range_with_len, length-map-range_with_len}
 use Rattle.node_grid.specs.NodeSet.{ids_below, has_id}
 use Rattle.node_grid.specs.NodeSetLaws.{passes_where}
@@ -21,8 +21,7 @@ use Rattle.node_core.specs.Stages.{outcome_of}
 use Rattle.scenario.specs.Scenario.{ScenarioView, system_of}
 use Rattle.cluster_step.specs.Record.{ClockShown, by_node, offsets_in, clock_in}
 use Rattle.cluster_step.specs.Clocking.{IsOffset, start_of, read_by, corrects_by, correction_by, AreOthers, moved, offsets_kept, offsets_before}
-use Rattle.cluster_step.proofs.Members.{some_same}
-use Rattle.cluster_step.proofs.Claims.{lt_is}
+use Rattle.cluster_step.specs.RecordLaws.{recorded}
 use Rattle.cluster_step.proofs.Listed.{map_ids, all_ids}
 
 -- ---- whose frames were good, as nodes recorded it
@@ -54,11 +53,6 @@ not_own cl i p = elim (cases_Bool (has_id (view cl i p).sync i)) [
 -- ---- records, by node
 
 module _ (f : ℕ → Outcome) (nodes : ℕ) where
-  recorded : (i : ℕ) → i < nodes → slice_get (map f (ids_below nodes)) i ≡ Some (f i)
-  recorded i low =
-      slice_get-get_or (map f (ids_below nodes)) i (f i) (omega (arith, length-map-range_with_len f 0 nodes))
-      ∙ ap Some (get_or-map-range_with_len f 0 nodes i i (f i) low (omega arith))
-
   unrecorded : (i : ℕ) → nodes ≤ i → slice_get (map f (ids_below nodes)) i ≡ None
   unrecorded i high = slice_get_past (map f (ids_below nodes)) i (omega (arith, length-map-range_with_len f 0 nodes))
 
@@ -102,7 +96,7 @@ module _ (sys : System) (c : ClockView) where
 
   pub others : (p : ℕ) → AreOthers (map (outcome_at p) (ids_below nodes))
   others p i o e = elim (cases_lt i nodes) [
-    | inl low ↦ let same : outcome_at p i ≡ o = some_same (outcome_at p i) o (sym (recorded (outcome_at p) nodes i low) ∙ e) in ap (λ (x : Outcome). has_id x.sync i) (sym same) ∙ not_own cl i p
+    | inl low ↦ let same : outcome_at p i ≡ o = same_Some (outcome_at p i) o (sym (recorded (outcome_at p) nodes i low) ∙ e) in ap (λ (x : Outcome). has_id x.sync i) (sym same) ∙ not_own cl i p
     | inr high ↦ absurd (none_is o (sym (unrecorded (outcome_at p) nodes i high) ∙ e))
   ]
 
@@ -114,7 +108,7 @@ module _ (sys : System) (c : ClockView) where
     reads_are : (i : ℕ) → i < nodes → map (read_by c nodes before p i) (ids_below capacity) ≡ readings_at sys.setting c (offsets cl c p) p i
     reads_are i low = map_ids (read_by c nodes before p i) (λ j. if nat_lt j nodes then reading_at c (offsets cl c p) p i j else pos 0) capacity 0
         (λ j l. if_alike (nat_lt j nodes) (reading_at c (number_at before) p i j) (reading_at c (offsets cl c p) p i j) (pos 0)
-        (λ e. ap₂ (λ (x y : ℤ). (x -ℤ y) +ℤ error_at c i j p +ℤ lie_at c j i p) (number_in (offsets cl c p) j few (lt_is j nodes e)) (number_in (offsets cl c p) i few low)))
+        (λ e. ap₂ (λ (x y : ℤ). (x -ℤ y) +ℤ error_at c i j p +ℤ lie_at c j i p) (number_in (offsets cl c p) j few (ltb-true j nodes e)) (number_in (offsets cl c p) i few low)))
 
     abbrev correct : ℕ → ℤ
     correct i = correction_at cl c (offsets cl c p) p i
@@ -140,7 +134,7 @@ module _ (sys : System) (c : ClockView) where
     moved_are = map_ids (moved c nodes before (by_node sys correct) p) (λ i. if nat_lt i nodes then offsets cl c (suc p) i else pos 0) capacity 0
         (λ i l. if_alike (nat_lt i nodes) (number_at before i +ℤ number_at (by_node sys correct) i +ℤ drift_at c i p) (offsets cl c (suc p) i) (pos 0)
         (λ e.
-        let low : i < nodes = lt_is i nodes e in
+        let low : i < nodes = ltb-true i nodes e in
         ap₂ (λ (x y : ℤ). x +ℤ y +ℤ drift_at c i p) (number_in (offsets cl c p) i few low) (number_in correct i few low) ∙ sym (offsets_next cl c p i)))
 
     within_limit : (z : ℤ) → p ≤ 1024 → IsUpTo (offset_limit p) z → IsOffset z
@@ -166,7 +160,7 @@ kept_next sc p q e = go sc.clock where
 pub offsets_there : {N : ℕ} (sc : ScenarioView N) (p : ℕ) (before : Option ClockShown) (b : ClockShown) (c : ClockView) → before ≡ Some b → sc.clock ≡ Some c
     → offsets_kept before ≡ offsets_before sc p → b.offset ≡ offsets_in (system_of sc) c p
 offsets_there sc p before b c is has kept =
-    some_same b.offset (offsets_in (system_of sc) c p) (sym (ap offsets_kept is) ∙ kept ∙ ap (option_map (λ k. offsets_in (system_of sc) k p)) has)
+    same_Some b.offset (offsets_in (system_of sc) c p) (sym (ap offsets_kept is) ∙ kept ∙ ap (option_map (λ k. offsets_in (system_of sc) k p)) has)
 
 -- a node of this mode corrects its clock as its record says
 pub corrects_there : (m i : ℕ) (readings reads : List ℤ) (records : List Outcome) (o now : Outcome) (mode : Mode) → o ≡ now → slice_get records i ≡ Some now → readings ≡ reads → o.mode ≡ mode

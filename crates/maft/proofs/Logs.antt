@@ -1,17 +1,16 @@
 -- The text of a log is that of its node's lines in the replay of the run.
-use Rattle.std.proofs.Common.{◌≡◌, ℕ, zero, suc, ◌+◌, ◌<◌, ◌≤◌, List, ◌++◌, Option, None, Some, map, arith, refl, sym, ap, ap₂, ◌∙◌}
+use Rattle.std.proofs.Common.{◌≡◌, ℕ, zero, suc, ◌+◌, ◌<◌, ◌≤◌, List, ◌++◌, Option, None, Some, arith, refl, sym, ap, ap₂, ◌∙◌}
 use Rattle.std.specs.Prelude.{codes, decimal, slice_get, slice_index_or}
 use Rattle.std.specs.List.{flat_map, range_with_len}
-use Rattle.std.proofs.lemmas.Option.{slice_get-get_or}
-use Rattle.std.proofs.lemmas.List.FromFn.{get_or-map-range_with_len, length-map-range_with_len}
 use Rattle.node_grid.specs.NodeSet.{ids_below}
 use Rattle.node_grid.specs.declared.class.Class.TheVariants.{N}
 use Rattle.protocol.specs.Cluster.{view}
 use Rattle.protocol.specs.Run.{run}
 use Rattle.node_core.specs.Outcome.{Outcome}
 use Rattle.node_core.specs.Stages.{outcome_of}
-use Rattle.scenario.specs.Scenario.{ScenarioView, system_of}
+use Rattle.scenario.specs.Scenario.{system_of}
 use Rattle.cluster_step.specs.Record.{PeriodView}
+use Rattle.cluster_step.specs.RecordLaws.{recorded}
 use Rattle.run_print.specs.Text.{class_text}
 use Rattle.run_print.specs.PeriodText.{recorded_text, alone_text, end_text}
 use Rattle.node_alone.specs.Log.{RecordView}
@@ -29,13 +28,6 @@ recorded_is : (t : PeriodView) (i : ℕ) (o : Option Outcome) → recorded_text 
 recorded_is t i None = refl
 recorded_is t i (Some r) = refl
 
--- the record of a node in use
-recorded : {capacity : ℕ} (sc : ScenarioView capacity) (p i : ℕ) → i < sc.config.nodes → slice_get (replayed sc p).records i ≡ Some (outcome_of (view (run (system_of sc)) i p))
-recorded sc p i low =
-    let f = λ (j : ℕ). outcome_of (view (run (system_of sc)) j p) in
-    slice_get-get_or (map f (ids_below sc.config.nodes)) i (f i) (omega (arith, low, length-map-range_with_len f 0 sc.config.nodes))
-    ∙ ap Some (get_or-map-range_with_len f 0 sc.config.nodes i i (f i) (omega (arith, low)) (omega arith))
-
 pub node_of_replay : {capacity : ℕ} (log : RecordView capacity) → log.id < log.scenario.config.nodes
     → ((p : ℕ) → p < log.scenario.periods → outcome_of (view_alone log p) ≡ outcome_of (view (run (system_of log.scenario)) log.id p)) → IsNodeOfReplay log
 unfolding log_printed
@@ -46,5 +38,5 @@ node_of_replay log low same = record {
   text = ap (λ (text : List ℕ). text ++ end_text log.scenario.periods)
       (texts_below (log_printed log) (λ p. codes "period " ++ decimal p ++ codes "\n" ++ lines_of (replayed log.scenario p) (codes "-") log.id) 0 log.scenario.periods
       (λ p l u. ap (alone_text p log.id log.scenario.config.nodes log.scenario.config.policy.retire) (same p (omega arith))
-      ∙ ap (λ (o : Option Outcome). codes "period " ++ decimal p ++ codes "\n" ++ lines_with (replayed log.scenario p) log.id (codes "-") o) (sym (recorded log.scenario p log.id low))));
+      ∙ ap (λ (o : Option Outcome). codes "period " ++ decimal p ++ codes "\n" ++ lines_with (replayed log.scenario p) log.id (codes "-") o) (sym (recorded (λ j. outcome_of (view (run (system_of log.scenario)) j p)) log.scenario.config.nodes log.id low))));
 }

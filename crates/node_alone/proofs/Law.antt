@@ -26,7 +26,8 @@ use Rattle.scenario.specs.Scenario.{inputs_of, system_of, IsScenario}
 use Rattle.node_alone.specs.Log.{RecordView, arrivals, entries_at}
 use Rattle.node_alone.specs.View.{received, kept_alone, begins_alone, view_alone}
 use Rattle.node_alone.specs.Laws.{IsOfRun, IsRunPeriod, AloneLaw}
-use Rattle.node_alone.proofs.Told.{before_is, due_is, told, served_by, HasRooms, Valid, valid_begins}
+use Rattle.protocol.specs.ViewLaws.{goes_before, goes_due, IsValid}
+use Rattle.node_alone.proofs.Told.{told, served_by, HasRooms, valid_begins}
 
 module _ {N : ℕ} (log : RecordView N) (is : IsScenario log.scenario) (of_run : IsOfRun log) (law : PeriodLaw) (delivery : DeliveryLaw) where
   abbrev config : Config N
@@ -64,7 +65,7 @@ module _ {N : ℕ} (log : RecordView N) (is : IsScenario log.scenario) (of_run :
     comes t j slot low ne = sym (of_run.each p t j more slot low ne)
 
     members_are : (a : AgreedView) → goes config i p g k x ≡ Some a → members_in (view (run sys) i p).before ≡ a.standing.members
-    members_are a e = ap members_in (before_is (setting_of config) i p g k x k.state ∙ e)
+    members_are a e = ap members_in (goes_before (setting_of config) i p g k x k.state ∙ e)
 
     told_by_run : Told config i p g k x ds
     told_by_run =
@@ -81,7 +82,7 @@ module _ {N : ℕ} (log : RecordView N) (is : IsScenario log.scenario) (of_run :
           };
           values = λ a e. record {
             each = λ j low ne. d.values j
-                ∙ ap₂ (λ (ms due : List ℕ). arrival values_in (expectation sys p (config.m + 2) j ms (length due)) (deliveries sys p (config.m + 2) j i)) (members_are a e) (due_is config i p g k x a e)
+                ∙ ap₂ (λ (ms due : List ℕ). arrival values_in (expectation sys p (config.m + 2) j ms (length due)) (deliveries sys p (config.m + 2) j i)) (members_are a e) (goes_due (setting_of config) i p g k x k.state a e)
                 ∙ ap (arrival values_in (expectation sys p (config.m + 2) j a.standing.members (length (due_of config i p g k x a)))) (comes (config.m + 2) j (omega arith) low ne);
           };
           row = λ a e. record {
@@ -106,12 +107,12 @@ module _ {N : ℕ} (log : RecordView N) (is : IsScenario log.scenario) (of_run :
         (served_by config is.system.capacity is.system.config i p g (begins_alone log p) (received log p (begins_alone log p)) room ds (rooms p g (begins_alone log p) (received log p (begins_alone log p))) (told log p (begins_alone log p))
         (valid_begins log is.system.capacity is.system.config p)) refl refl).over
 
-    by_run : Valid config is.system.capacity is.system.config k.state → IsOver (end k) (view (run sys) i p)
+    by_run : IsValid (setting_of config) k.state → IsOver (end k) (view (run sys) i p)
     by_run valid = (law N config i p g k x room ds (node k) (served_by config is.system.capacity is.system.config i p g k x room ds (rooms p g k x) told_by_run valid) refl refl).over
 
     same_after : begins_alone log p ≡ k → ((view_alone log p).kept ≡ (view (run sys) i p).kept) × (outcome_of (view_alone log p) ≡ outcome_of (view (run sys) i p))
     same_after e =
-        let there = by_run (subst (λ (y : Kept). Valid config is.system.capacity is.system.config y.state) e (valid_begins log is.system.capacity is.system.config p)) in (
+        let there = by_run (subst (λ (y : Kept). IsValid (setting_of config) y.state) e (valid_begins log is.system.capacity is.system.config p)) in (
           sym by_log.kept ∙ ap (λ (y : Kept). (end y).kept) e ∙ there.kept,
           sym by_log.outcome ∙ ap (λ (y : Kept). (end y).outcome) e ∙ there.outcome,
         )

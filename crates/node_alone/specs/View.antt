@@ -1,8 +1,9 @@
 -- What a node believes in each period, by its own log. Nothing of it names another node's state.
-use Rattle.std.specs.Prelude.{ℕ, zero, suc, ◌+◌, List, [], length, Option}
+use Rattle.std.specs.Prelude.{ℕ, ◌+◌, List, [], length, Option}
 use Rattle.node_grid.specs.Kinds.{missing}
 use Rattle.frames.specs.Content.{Content}
 use Rattle.fault_classes.specs.Plan.{restarts_at}
+use Rattle.protocol.specs.Steps.{after_steps}
 use Rattle.protocol.specs.Arrival.{Arrival, arrival, state_in, claim_in, claims_in, values_in, row_in, rows_in}
 use Rattle.protocol.specs.Arrival.Arrival.{Bad}
 use Rattle.protocol.specs.Heard.{paths_of, with_entries}
@@ -63,10 +64,13 @@ module _ {N : ℕ} (log : RecordView N) (p : ℕ) (k : Kept) where
 abbrev pub opened_alone : {N : ℕ} → RecordView N → ℕ → Kept → Kept
 opened_alone log p k = opened (system_of log.scenario).setting (restarts_at log.scenario.plan log.id p) k
 
+-- what it keeps after period p, where it kept this before it
+abbrev pub keeps_alone_after : {N : ℕ} → RecordView N → ℕ → Kept → Kept
+keeps_alone_after log p before = (period_alone log p (opened_alone log p before)).kept
+
 -- what it keeps from the periods before p
 unfoldable pub kept_alone : {N : ℕ} → RecordView N → ℕ → Kept
-kept_alone log zero = first_kept (system_of log.scenario).setting
-kept_alone log (suc p) = (period_alone log p (opened_alone log p (kept_alone log p))).kept
+kept_alone log p = after_steps (keeps_alone_after log) p (first_kept (system_of log.scenario).setting)
 
 abbrev pub begins_alone : {N : ℕ} → RecordView N → ℕ → Kept
 begins_alone log p = opened_alone log p (kept_alone log p)
