@@ -5,6 +5,7 @@ use Rattle.std.proofs.lemmas.Int.{ints}
 use Rattle.std.proofs.lemmas.Bool.{cases_Bool, cases_lt, cond-true, cond-false, ltb-true}
 use Rattle.std.proofs.lemmas.Option.{same_Some, slice_get_past}
 use Rattle.std.proofs.lemmas.List.FromFn.{get_or-map-range_with_len, length-map-range_with_len}
+use Rattle.node_grid.specs.Capacity.{IsCapacity}
 use Rattle.node_grid.specs.NodeSet.{ids_below, has_id}
 use Rattle.node_grid.specs.NodeSetLaws.{passes_where}
 use Rattle.clock_skew.specs.Clock.{ClockView, IsClock, number_at, drift_at, error_at, lie_at, IsUpTo}
@@ -13,14 +14,14 @@ use Rattle.agreed_state.specs.Agreed.{AgreedView}
 use Rattle.protocol.specs.Arrival.{is_good}
 use Rattle.protocol.specs.View.{Setting, Mode, Kept, Received, adopted_by, synced_by, through, joined, view_from}
 use Rattle.protocol.specs.Cluster.{Cluster, begins, view}
-use Rattle.protocol.specs.Run.{System, run}
-use Rattle.protocol.specs.Clocks.{reading_at, readings_at, corrects, correction_at, corrected, offsets, offset_limit}
+use Rattle.protocol.specs.Run.{System, run, classes}
+use Rattle.protocol.specs.Clocks.{AreClocks, reading_at, readings_at, corrects, correction_at, corrected, offsets, offset_limit}
 use Rattle.safety.specs.ClockLaws.{OffsetLaw}
 use Rattle.node_core.specs.Outcome.{Outcome}
 use Rattle.node_core.specs.Stages.{outcome_of}
-use Rattle.scenario.specs.Scenario.{ScenarioView, system_of}
+use Rattle.scenario.specs.Scenario.{ScenarioView, system_of, IsScenario}
 use Rattle.cluster_step.specs.Record.{ClockShown, by_node, offsets_in, clock_in}
-use Rattle.cluster_step.specs.Clocking.{IsOffset, start_of, read_by, corrects_by, correction_by, AreOthers, moved, offsets_kept, offsets_before}
+use Rattle.cluster_step.specs.Clocking.{IsOffset, AreSteady, start_of, read_by, corrects_by, correction_by, AreOthers, moved, offsets_kept, offsets_before}
 use Rattle.cluster_step.specs.RecordLaws.{recorded}
 use Rattle.cluster_step.proofs.Listed.{map_ids, all_ids}
 
@@ -141,7 +142,7 @@ module _ (sys : System) (c : ClockView) where
     within_limit z early h = let h0 = h.0 in let h1 = h.1 in (omega (arith, ints), omega (arith, ints))
 
     -- they are far from wrapping
-    pub offsets_fit : OffsetLaw → IsClock capacity c → c.nodes ≡ nodes → p ≤ 1024 → All IsOffset before
+    offsets_fit : OffsetLaw → IsClock capacity c → c.nodes ≡ nodes → p ≤ 1024 → All IsOffset before
     offsets_fit law clock same early = all_ids IsOffset (λ i. if nat_lt i nodes then offsets cl c p i else pos 0) capacity 0 (λ i l. elim (cases_lt i nodes) [
       | inl low ↦ subst IsOffset (sym (cond-true (nat_lt i nodes) (offsets cl c p i) (pos 0) (lt-ltb i nodes low))) (within_limit (offsets cl c p i) early (law cl c clock same p i (omega (arith, same, low))))
       | inr high ↦ subst IsOffset (sym (cond-false (nat_lt i nodes) (offsets cl c p i) (pos 0) (le-ltb i nodes high))) (omega (arith, ints), omega (arith, ints))
@@ -157,10 +158,35 @@ kept_next sc p q e = go sc.clock where
 -- ---- in code
 
 -- the offsets that are kept are those before the period
-pub offsets_there : {N : ℕ} (sc : ScenarioView N) (p : ℕ) (before : Option ClockShown) (b : ClockShown) (c : ClockView) → before ≡ Some b → sc.clock ≡ Some c
+offsets_there : {N : ℕ} (sc : ScenarioView N) (p : ℕ) (before : Option ClockShown) (b : ClockShown) (c : ClockView) → before ≡ Some b → sc.clock ≡ Some c
     → offsets_kept before ≡ offsets_before sc p → b.offset ≡ offsets_in (system_of sc) c p
 offsets_there sc p before b c is has kept =
     same_Some b.offset (offsets_in (system_of sc) c p) (sym (ap offsets_kept is) ∙ kept ∙ ap (option_map (λ k. offsets_in (system_of sc) k p)) has)
+
+-- what a period of a scenario's clocks is computed from
+pub record AreAtHand {N : ℕ} (sc : ScenarioView N) (p : ℕ) (c : ClockView) (nodes : ℕ) (offset : List ℤ) : Type 0 where
+  pub steady : AreSteady N c nodes offset
+  pub kept : offset ≡ offsets_in (system_of sc) c p
+
+pub at_hand : {N : ℕ} (sc : ScenarioView N) (p : ℕ) (before : Option ClockShown) (b : ClockShown) (c : ClockView) (nodes : ℕ) → IsScenario sc → IsCapacity N → p < sc.periods → OffsetLaw → nodes ≡ sc.config.nodes
+    → before ≡ Some b → Some c ≡ sc.clock → offsets_kept before ≡ offsets_before sc p → AreAtHand sc p c nodes b.offset
+at_hand {N} sc p before b c nodes accepted capacity more law many is has kept =
+    let clocks : AreClocks (run (system_of sc)) (classes (system_of sc)) c = accepted.clock c (sym has) in
+    let same : b.offset ≡ offsets_in (system_of sc) c p = offsets_there sc p before b c is (sym has) kept in
+    let early : p ≤ 1024 = omega (arith, accepted.few_periods, more) in
+    record {
+      steady = record {
+        capacity = capacity;
+        clock = clocks.clock;
+        nodes = many ∙ sym clocks.nodes;
+        offsets = subst (All IsOffset) (sym same) (offsets_fit (system_of sc) c accepted.system.config.few_nodes p law clocks.clock clocks.nodes early);
+      };
+      kept = same;
+    }
+
+-- readings among so many nodes
+pub read_alike : (c : ClockView) (a b : ℕ) (offset : List ℤ) (p i capacity : ℕ) → a ≡ b → map (read_by c a offset p i) (ids_below capacity) ≡ map (read_by c b offset p i) (ids_below capacity)
+read_alike c a b offset p i capacity e = ap (λ (n : ℕ). map (read_by c n offset p i) (ids_below capacity)) e
 
 -- a node of this mode corrects its clock as its record says
 pub corrects_there : (m i : ℕ) (readings reads : List ℤ) (records : List Outcome) (o now : Outcome) (mode : Mode) → o ≡ now → slice_get records i ≡ Some now → readings ≡ reads → o.mode ≡ mode

@@ -1,7 +1,8 @@
 -- What the clocks of a period are computed from: those before it, and what each node recorded of it.
-use Rattle.std.specs.Prelude.{◌≡◌, ℕ, ◌^◌, ℤ, pos, ◌+ℤ◌, false, nat_lt, List, map, length, Option, None, Some, option_map, if◌then◌else◌, slice_get}
+use Rattle.std.specs.Prelude.{◌≡◌, ℕ, ◌^◌, ℤ, pos, ◌+ℤ◌, false, nat_lt, All, List, map, length, Option, None, Some, option_map, if◌then◌else◌, slice_get}
+use Rattle.node_grid.specs.Capacity.{IsCapacity}
 use Rattle.node_grid.specs.NodeSet.{ids_below, has_id}
-use Rattle.clock_skew.specs.Clock.{ClockView, number_at, drift_at, IsUpTo}
+use Rattle.clock_skew.specs.Clock.{ClockView, IsClock, number_at, drift_at, IsUpTo}
 use Rattle.protocol.specs.Clocks.{reading_at, corrects}
 use Rattle.node_core.specs.Outcome.{Outcome}
 use Rattle.scenario.specs.Scenario.{ScenarioView, system_of}
@@ -10,6 +11,13 @@ use Rattle.cluster_step.specs.Record.{ClockShown, offsets_in}
 -- an offset with which no sum of a period wraps
 abbrev pub IsOffset : ℤ → Type 0
 IsOffset z = IsUpTo (pos (2 ^ 51)) z
+
+-- clocks of so many nodes, and offsets of them with which no sum of a period wraps
+pub record AreSteady (N : ℕ) (c : ClockView) (used : ℕ) (offset : List ℤ) : Type 0 where
+  pub capacity : IsCapacity N
+  pub clock : IsClock N c
+  pub nodes : used ≡ c.nodes
+  pub offsets : All IsOffset offset
 
 -- where the clock of a node starts, and 0 of one that isn't in use
 abbrev pub start_of : ClockView → ℕ → ℕ → ℤ

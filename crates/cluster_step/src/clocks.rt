@@ -3,7 +3,6 @@
 ghost use Rattle.std.specs.Prelude.{◌≡◌, ◌<◌, false, All, None, map, length, slice_get, option_map};
 ghost use Rattle.node_grid.specs.Capacity.{IsCapacity};
 ghost use Rattle.node_grid.specs.NodeSet.{ids_below};
-ghost use Rattle.clock_skew.specs.Clock.{IsClock};
 ghost use Rattle.clock_skew.specs.Correction.{IsReading};
 ghost use Rattle.protocol.specs.Cluster.{view};
 ghost use Rattle.protocol.specs.Run.{run as run_of};
@@ -11,7 +10,7 @@ ghost use Rattle.node_core.specs.Stages.{outcome_of};
 ghost use Rattle.scenario.specs.Scenario.{system_of};
 ghost use Rattle.cluster_step.specs.Record.{clock_in};
 ghost use Rattle.cluster_step.specs.Shown.{clock_shown};
-ghost use Rattle.cluster_step.specs.Clocking.{IsOffset, AreOthers, start_of, read_by, correction_by, moved, offsets_kept, offsets_before};
+ghost use Rattle.cluster_step.specs.Clocking.{AreSteady, AreOthers, start_of, read_by, correction_by, moved, offsets_kept, offsets_before};
 
 use clock_skew::{ClockPlan, correction};
 use node_core::{Mode, NodeRecord};
@@ -48,147 +47,103 @@ fn starts<const N: usize>(plan: &ClockPlan<N>, nodes: u8) -> [i64; N]
     offset
 }
 
-/// What node `i` reads of node `j` in a period: how far that clock is ahead of its own, with an error and a lie. It is 0
-/// of a node that isn't in use.
-fn reading<const N: usize>(
-    plan: &ClockPlan<N>,
+/// The clocks before a period: where they stand, and what the plan makes of them.
+#[derive(Clone, Copy)]
+struct Clocks<'a, const N: usize> {
+    plan: &'a ClockPlan<N>,
     nodes: u8,
-    offset: &[i64; N],
+    offset: &'a [i64; N],
     period: u32,
-    i: u8,
-    j: u8,
-) -> i64
-    requires capacity { IsCapacity N }
-    requires clock { IsClock N plan.now }
-    requires nodes { nodes ≡ plan.now.nodes }
-    requires offsets { All IsOffset offset.now }
-    requires reader { i < nodes }
-    ensures reading { result ≡ read_by plan.now nodes offset.now period i j }
-    ensures range { IsReading result }
-{
-    if j >= nodes {
-        return 0;
-    }
-    let ahead = offset[j as usize] - offset[i as usize];
-    ahead + plan.error(i, j, period) + plan.lie(j, i, period)
 }
 
-/// What node `i` reads of all nodes in a period.
-fn readings<const N: usize>(
-    plan: &ClockPlan<N>,
-    nodes: u8,
-    offset: &[i64; N],
-    period: u32,
-    i: u8,
-) -> [i64; N]
-    requires capacity { IsCapacity N }
-    requires clock { IsClock N plan.now }
-    requires nodes { nodes ≡ plan.now.nodes }
-    requires offsets { All IsOffset offset.now }
-    requires reader { i < nodes }
-    ensures readings { result ≡ map (read_by plan.now nodes offset.now period i) (ids_below N) }
-    ensures range { All IsReading result }
-{
-    let mut readings = [0; N];
-    for j in 0..N as u8 {
-        readings[j as usize] = reading(plan, nodes, offset, period, i, j);
+impl<'a, const N: usize> Clocks<'a, N> {
+    /// What node `i` reads of node `j`: how far that clock is ahead of its own, with an error and a lie. It is 0 of a
+    /// node that isn't in use.
+    fn reading(&self, i: u8, j: u8) -> i64
+        requires steady { AreSteady N self.now.plan.now self.now.nodes self.now.offset.now }
+        requires reader { i < self.now.nodes }
+        ensures reading { result ≡ read_by self.now.plan.now self.now.nodes self.now.offset.now self.now.period i j }
+        ensures range { IsReading result }
+    {
+        if j >= self.nodes {
+            return 0;
+        }
+        let ahead = self.offset[j as usize] - self.offset[i as usize];
+        ahead + self.plan.error(i, j, self.period) + self.plan.lie(j, i, self.period)
     }
-    readings
-}
 
-/// By how much node `i` corrects its clock, by what it recorded of a period. It is 0 of a node that isn't in use.
-fn correction_of<const N: usize>(
-    plan: &ClockPlan<N>,
-    records: &[NodeRecord<N>],
-    offset: &[i64; N],
-    period: u32,
-    m: u8,
-    i: u8,
-) -> i64
-    requires capacity { IsCapacity N }
-    requires clock { IsClock N plan.now }
-    requires nodes { length records.now ≡ plan.now.nodes }
-    requires offsets { All IsOffset offset.now }
-    requires others { AreOthers records.now }
-    ensures correction { result ≡ correction_by N plan.now m offset.now period records.now i }
-    ensures range { IsReading result }
-{
-    let Some(record) = records.get(i as usize) else {
-        return 0;
-    };
-    let readings = readings(plan, records.len() as u8, offset, period, i);
-    match record.mode {
-        Mode::Full => correction(&record.members, &record.sync, Some(i), &readings, m),
-        Mode::Joining => correction(&record.members, &record.sync, None, &readings, m),
-        Mode::Cold => 0,
+    /// What node `i` reads of all nodes.
+    fn readings(&self, i: u8) -> [i64; N]
+        requires steady { AreSteady N self.now.plan.now self.now.nodes self.now.offset.now }
+        requires reader { i < self.now.nodes }
+        ensures readings { result ≡ map (read_by self.now.plan.now self.now.nodes self.now.offset.now self.now.period i) (ids_below N) }
+        ensures range { All IsReading result }
+    {
+        let mut readings = [0; N];
+        for j in 0..N as u8 {
+            readings[j as usize] = self.reading(i, j);
+        }
+        readings
     }
-}
 
-/// By how much all nodes correct their clocks.
-fn corrections<const N: usize>(
-    plan: &ClockPlan<N>,
-    records: &[NodeRecord<N>],
-    offset: &[i64; N],
-    period: u32,
-    m: u8,
-) -> [i64; N]
-    requires capacity { IsCapacity N }
-    requires clock { IsClock N plan.now }
-    requires nodes { length records.now ≡ plan.now.nodes }
-    requires offsets { All IsOffset offset.now }
-    requires others { AreOthers records.now }
-    ensures corrections { result ≡ map (correction_by N plan.now m offset.now period records.now) (ids_below N) }
-    ensures range { All IsReading result }
-{
-    let mut corrections = [0; N];
-    for i in 0..N as u8 {
-        corrections[i as usize] = correction_of(plan, records, offset, period, m, i);
+    /// By how much node `i` corrects its clock, by what it recorded. It is 0 of a node that isn't in use.
+    fn correction_of(&self, records: &[NodeRecord<N>], m: u8, i: u8) -> i64
+        requires steady { AreSteady N self.now.plan.now self.now.nodes self.now.offset.now }
+        requires each { length records.now ≡ self.now.nodes }
+        requires others { AreOthers records.now }
+        ensures correction { result ≡ correction_by N self.now.plan.now m self.now.offset.now self.now.period records.now i }
+        ensures range { IsReading result }
+    {
+        let Some(record) = records.get(i as usize) else {
+            return 0;
+        };
+        let readings = self.readings(i);
+        match record.mode {
+            Mode::Full => correction(&record.members, &record.sync, Some(i), &readings, m),
+            Mode::Joining => correction(&record.members, &record.sync, None, &readings, m),
+            Mode::Cold => 0,
+        }
     }
-    corrections
-}
 
-/// The offset of node `i` after a period, by its correction and its drift. It is 0 of a node that isn't in use.
-fn moved<const N: usize>(
-    plan: &ClockPlan<N>,
-    nodes: u8,
-    offset: &[i64; N],
-    correction: &[i64; N],
-    period: u32,
-    i: u8,
-) -> i64
-    requires capacity { IsCapacity N }
-    requires clock { IsClock N plan.now }
-    requires nodes { nodes ≡ plan.now.nodes }
-    requires offsets { All IsOffset offset.now }
-    requires corrections { All IsReading correction.now }
-    ensures { result ≡ moved plan.now nodes offset.now correction.now period i }
-{
-    if i >= nodes {
-        return 0;
+    /// By how much all nodes correct their clocks.
+    fn corrections(&self, records: &[NodeRecord<N>], m: u8) -> [i64; N]
+        requires steady { AreSteady N self.now.plan.now self.now.nodes self.now.offset.now }
+        requires each { length records.now ≡ self.now.nodes }
+        requires others { AreOthers records.now }
+        ensures corrections { result ≡ map (correction_by N self.now.plan.now m self.now.offset.now self.now.period records.now) (ids_below N) }
+        ensures range { All IsReading result }
+    {
+        let mut corrections = [0; N];
+        for i in 0..N as u8 {
+            corrections[i as usize] = self.correction_of(records, m, i);
+        }
+        corrections
     }
-    offset[i as usize] + correction[i as usize] + plan.drift_of(i, period)
-}
 
-/// The offsets of all nodes after a period.
-fn all_moved<const N: usize>(
-    plan: &ClockPlan<N>,
-    nodes: u8,
-    offset: &[i64; N],
-    correction: &[i64; N],
-    period: u32,
-) -> [i64; N]
-    requires capacity { IsCapacity N }
-    requires clock { IsClock N plan.now }
-    requires nodes { nodes ≡ plan.now.nodes }
-    requires offsets { All IsOffset offset.now }
-    requires corrections { All IsReading correction.now }
-    ensures { result ≡ map (moved plan.now nodes offset.now correction.now period) (ids_below N) }
-{
-    let mut after = [0; N];
-    for i in 0..N as u8 {
-        after[i as usize] = moved(plan, nodes, offset, correction, period, i);
+    /// The offset of node `i` after the period, by its correction and its drift. It is 0 of a node that isn't in use.
+    fn moved(&self, correction: &[i64; N], i: u8) -> i64
+        requires steady { AreSteady N self.now.plan.now self.now.nodes self.now.offset.now }
+        requires corrections { All IsReading correction.now }
+        ensures { result ≡ moved self.now.plan.now self.now.nodes self.now.offset.now correction.now self.now.period i }
+    {
+        if i >= self.nodes {
+            return 0;
+        }
+        self.offset[i as usize] + correction[i as usize] + self.plan.drift_of(i, self.period)
     }
-    after
+
+    /// The offsets of all nodes after the period.
+    fn all_moved(&self, correction: &[i64; N]) -> [i64; N]
+        requires steady { AreSteady N self.now.plan.now self.now.nodes self.now.offset.now }
+        requires corrections { All IsReading correction.now }
+        ensures { result ≡ map (moved self.now.plan.now self.now.nodes self.now.offset.now correction.now self.now.period) (ids_below N) }
+    {
+        let mut after = [0; N];
+        for i in 0..N as u8 {
+            after[i as usize] = self.moved(correction, i);
+        }
+        after
+    }
 }
 
 /// The clocks before the first period; none where the scenario has none.
@@ -226,7 +181,13 @@ pub(crate) fn next_clocks<const N: usize>(
         return None;
     };
     let config = scenario.config();
-    let correction = corrections(plan, records, &before.offset, period, config.m);
-    let offset = all_moved(plan, config.nodes, &before.offset, &correction, period);
+    let clocks = Clocks {
+        plan,
+        nodes: config.nodes,
+        offset: &before.offset,
+        period,
+    };
+    let correction = clocks.corrections(records, config.m);
+    let offset = clocks.all_moved(&correction);
     Some(ClockRecord { correction, offset })
 }

@@ -1,45 +1,38 @@
-use Rattle.std.proofs.Common.{ℕ, suc, ◌≡◌, ◌≤◌, List, map, length, ℤ, sym, ap, ap₂, subst, ◌∙◌, arith, Some, inl, inr, lit<}
-use Rattle.std.specs.Prelude.{All, option_map}
+use Rattle.std.proofs.Common.{ℕ, suc, ◌≡◌, ◌≤◌, List, map, length, ℤ, sym, ap, ap₂, subst, ◌∙◌, Some, inl, inr, lit<}
+use Rattle.std.specs.Prelude.{option_map}
 use Rattle.std.proofs.lemmas.List.FromFn.{length-map-range_with_len}
 use Rattle.node_grid.specs.NodeSet.{ids_below}
 use Rattle.clock_skew.specs.Clock.{ClockView}
 use Rattle.agreed_state.specs.declared.config.Config.{Config}
 use Rattle.protocol.specs.Cluster.{view}
-use Rattle.protocol.specs.Run.{System, run, classes}
-use Rattle.protocol.specs.Clocks.{AreClocks, correction_at, offsets}
+use Rattle.protocol.specs.Run.{System, run}
+use Rattle.protocol.specs.Clocks.{correction_at, offsets}
 use Rattle.node_core.specs.Outcome.{Outcome}
 use Rattle.node_core.specs.Stages.{outcome_of}
-use Rattle.scenario.specs.Scenario.{ScenarioView, system_of, IsScenario}
+use Rattle.scenario.specs.Scenario.{ScenarioView, system_of}
 use Rattle.cluster_step.specs.Record.{ClockShown, by_node, offsets_in, clock_in}
 use Rattle.cluster_step.specs.Shown.{clock_shown}
-use Rattle.cluster_step.specs.Clocking.{IsOffset, AreOthers, correction_by, moved}
-use Rattle.cluster_step.proofs.Clocking.{others, corrections_are, moved_are, offsets_fit, offsets_there}
+use Rattle.cluster_step.specs.Clocking.{AreOthers, correction_by, moved}
+use Rattle.cluster_step.proofs.Clocking.{AreAtHand, at_hand, others, corrections_are, moved_are}
 use Rattle.cluster_step.proofs.clocks.next_clocks.Goals as goal
 
 pub corrections-correction-requires : goal.corrections-correction-requires
 corrections-correction-requires g c =
     let sc : ScenarioView g.row.N = c.args.scenario.now in
-    let sys : System = system_of sc in
     let p : ℕ = c.args.period in
     let k : ClockView = c.in-Some.plan.now in
-    let wf : IsScenario sc = c.config-config.ensures.scenario in
-    let has : sc.clock ≡ Some k = sym c.in-Some.ensures.clock in
-    let fit : AreClocks (run sys) (classes sys) k = wf.clock k has in
-    let kept : c.in-Some-before.before.offset ≡ offsets_in sys k p = offsets_there sc p (option_map clock_shown c.args.before) (clock_shown c.in-Some-before.before) k (ap (option_map clock_shown) c.in-Some-before.is) has c.requires.offsets in
-    let early : p ≤ 1024 = omega (arith, wf.few_periods, c.requires.more) in (
-      elim c.requires.capacity [ inl e ↦ rw e (lit< tt) | inr e ↦ rw e (lit< tt) ],
+    let h : AreAtHand sc p k c.config-config.result.now.nodes c.in-Some-before.before.offset =
+    at_hand sc p (option_map clock_shown c.args.before) (clock_shown c.in-Some-before.before) k c.config-config.result.now.nodes c.config-config.ensures.scenario c.requires.capacity c.requires.more c.offsets.ensures (ap (λ (y : Config g.row.N). y.nodes) c.config-config.ensures.config) (ap (option_map clock_shown) c.in-Some-before.is) c.in-Some.ensures.clock c.requires.offsets in (
+      lit< tt,
       (
         elim c.requires.capacity [ inl e ↦ rw e (lit< tt) | inr e ↦ rw e (lit< tt) ],
         (
           elim c.requires.capacity [ inl e ↦ rw e (lit< tt) | inr e ↦ rw e (lit< tt) ],
           (
-            c.requires.capacity,
+            h.steady,
             (
-              fit.clock,
-              (
-                ap length c.requires.records ∙ length-map-range_with_len (λ i. outcome_of (view (run sys) i p)) 0 sc.config.nodes ∙ sym fit.nodes,
-                (subst (All IsOffset) (sym kept) (offsets_fit sys k wf.system.config.few_nodes p c.offsets.ensures fit.clock fit.nodes early), subst AreOthers (sym c.requires.records) (others sys k p)),
-              ),
+              ap length c.requires.records ∙ length-map-range_with_len (λ i. outcome_of (view (run (system_of sc)) i p)) 0 sc.config.nodes ∙ sym (ap (λ (y : Config g.row.N). y.nodes) c.config-config.ensures.config),
+              subst AreOthers (sym c.requires.records) (others (system_of sc) k p),
             ),
           ),
         ),
@@ -49,29 +42,10 @@ corrections-correction-requires g c =
 pub all_moved-offset-requires : goal.all_moved-offset-requires
 all_moved-offset-requires g c =
     let sc : ScenarioView g.row.N = c.args.scenario.now in
-    let sys : System = system_of sc in
     let p : ℕ = c.args.period in
     let k : ClockView = c.in-Some.plan.now in
-    let wf : IsScenario sc = c.config-config.ensures.scenario in
-    let has : sc.clock ≡ Some k = sym c.in-Some.ensures.clock in
-    let fit : AreClocks (run sys) (classes sys) k = wf.clock k has in
-    let kept : c.in-Some-before.before.offset ≡ offsets_in sys k p = offsets_there sc p (option_map clock_shown c.args.before) (clock_shown c.in-Some-before.before) k (ap (option_map clock_shown) c.in-Some-before.is) has c.requires.offsets in
-    let early : p ≤ 1024 = omega (arith, wf.few_periods, c.requires.more) in (
-      elim c.requires.capacity [ inl e ↦ rw e (lit< tt) | inr e ↦ rw e (lit< tt) ],
-      (
-        elim c.requires.capacity [ inl e ↦ rw e (lit< tt) | inr e ↦ rw e (lit< tt) ],
-        (
-          c.requires.capacity,
-          (
-            fit.clock,
-            (
-              ap (λ (y : Config g.row.N). y.nodes) c.config-config.ensures.config ∙ sym fit.nodes,
-              (subst (All IsOffset) (sym kept) (offsets_fit sys k wf.system.config.few_nodes p c.offsets.ensures fit.clock fit.nodes early), c.corrections-correction.ensures.range),
-            ),
-          ),
-        ),
-      ),
-    )
+    let h : AreAtHand sc p k c.config-config.result.now.nodes c.in-Some-before.before.offset =
+    at_hand sc p (option_map clock_shown c.args.before) (clock_shown c.in-Some-before.before) k c.config-config.result.now.nodes c.config-config.ensures.scenario c.requires.capacity c.requires.more c.offsets.ensures (ap (λ (y : Config g.row.N). y.nodes) c.config-config.ensures.config) (ap (option_map clock_shown) c.in-Some-before.is) c.in-Some.ensures.clock c.requires.offsets in (lit< tt, (elim c.requires.capacity [ inl e ↦ rw e (lit< tt) | inr e ↦ rw e (lit< tt) ], (h.steady, c.corrections-correction.ensures.range)))
 
 pub returns : goal.returns
 returns g c =
@@ -79,19 +53,18 @@ returns g c =
     let sys : System = system_of sc in
     let p : ℕ = c.args.period in
     let k : ClockView = c.in-Some.plan.now in
-    let wf : IsScenario sc = c.config-config.ensures.scenario in
-    let has : sc.clock ≡ Some k = sym c.in-Some.ensures.clock in
-    let few : sc.config.nodes ≤ g.row.N = wf.system.config.few_nodes in
-    let kept : c.in-Some-before.before.offset ≡ offsets_in sys k p = offsets_there sc p (option_map clock_shown c.args.before) (clock_shown c.in-Some-before.before) k (ap (option_map clock_shown) c.in-Some-before.is) has c.requires.offsets in
+    let h : AreAtHand sc p k c.config-config.result.now.nodes c.in-Some-before.before.offset =
+    at_hand sc p (option_map clock_shown c.args.before) (clock_shown c.in-Some-before.before) k c.config-config.result.now.nodes c.config-config.ensures.scenario c.requires.capacity c.requires.more c.offsets.ensures (ap (λ (y : Config g.row.N). y.nodes) c.config-config.ensures.config) (ap (option_map clock_shown) c.in-Some-before.is) c.in-Some.ensures.clock c.requires.offsets in
+    let few : sc.config.nodes ≤ g.row.N = c.config-config.ensures.scenario.system.config.few_nodes in
     let corrected : c.corrections-correction.result ≡ by_node sys (λ i. correction_at (run sys) k (offsets (run sys) k p) p i) =
     c.corrections-correction.ensures.corrections
     ∙ ap (λ (y : Config g.row.N). map (correction_by g.row.N k y.m c.in-Some-before.before.offset p c.args.records.now) (ids_below g.row.N)) c.config-config.ensures.config
-    ∙ ap₂ (λ (xs : List ℤ) (rs : List Outcome). map (correction_by g.row.N k sc.config.m xs p rs) (ids_below g.row.N)) kept c.requires.records
+    ∙ ap₂ (λ (xs : List ℤ) (rs : List Outcome). map (correction_by g.row.N k sc.config.m xs p rs) (ids_below g.row.N)) h.kept c.requires.records
     ∙ corrections_are sys k few p in
     let later : c.all_moved-offset.result ≡ offsets_in sys k (suc p) =
     c.all_moved-offset.ensures
     ∙ ap (λ (y : Config g.row.N). map (moved k y.nodes c.in-Some-before.before.offset c.corrections-correction.result p) (ids_below g.row.N)) c.config-config.ensures.config
-    ∙ ap₂ (λ (xs ys : List ℤ). map (moved k sc.config.nodes xs ys p) (ids_below g.row.N)) kept corrected
+    ∙ ap₂ (λ (xs ys : List ℤ). map (moved k sc.config.nodes xs ys p) (ids_below g.row.N)) h.kept corrected
     ∙ moved_are sys k few p in
     let made : ClockShown → ClockShown = λ x. x in
     ap₂ (λ (xs ys : List ℤ). Some (made (record { correction = xs; offset = ys }))) corrected later ∙ ap (option_map (λ (x : ClockView). clock_in sys x p)) c.in-Some.ensures.clock
