@@ -1,6 +1,7 @@
 //! What relay frames say of an item of each node, and what a node passes on of it: once for all items.
 #![tactic(auto)]
 
+mod hearing;
 mod item;
 
 pub use item::Item;

@@ -1,0 +1,5 @@
+pub mod Putting
+pub mod Slots
+pub mod Lengths
+pub mod Entries
+pub mod Expected

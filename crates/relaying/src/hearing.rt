@@ -1,0 +1,341 @@
+//! What the relay frame of another member says, put into what was heard.
+
+ghost use Rattle.std.specs.Prelude.{ℕ, ◌≡◌, ◌≢◌, ◌+◌, ◌-◌, ◌*◌, ◌<◌, ◌≤◌, List, ◌∷◌, [], true, false};
+ghost use Rattle.std.specs.Prelude.{length, take, slice_index_or, slice_set, IfSome, option_map, None};
+ghost use Rattle.node_grid.specs.Capacity.{IsCapacity};
+ghost use Rattle.node_grid.specs.NodeSet.{has_id, IsIdSet};
+ghost use Rattle.omh_paths.specs.Paths.{path_count};
+ghost use Rattle.omh_paths.specs.declared.wrapped.Wrapped.TheVariants.{Fault};
+ghost use Rattle.omh.specs.Heard.{heard_in};
+ghost use Rattle.heard.specs.Keep.{wrapped_times};
+ghost use Rattle.heard.specs.Seen.{SaysExpected};
+ghost use Rattle.frames.specs.Seen.{content, HasWidth};
+ghost use Rattle.protocol.specs.Arrival.{arrived};
+ghost use Rattle.node_grid.specs.Count.{Distinct};
+ghost use Rattle.protocol.specs.Arrival.Arrival.{Good};
+ghost use Rattle.relaying.specs.Hearing.{Brings, FitsIn, read_out, with_told, IsByPath};
+ghost use Rattle.relaying.specs.Hearing.{IsHeardBy, brought, told_from, after_round};
+ghost use Rattle.relaying.specs.Items.{entries_in as entries_of};
+
+use crate::item::{Item, cells};
+use error_detect::SlotWatch;
+use frames::{Cells, Frame};
+use heard::Heard;
+use node_grid::NodeSet;
+use omh_paths::Wrapped;
+
+/// The member at a place, in ascending order.
+pub(crate) fn member_at<const N: usize>(set: &NodeSet<N>, place: u8) -> u8
+    requires { place < length set.now }
+    ensures { result ≡ slice_index_or set.now place 0 }
+{
+    set.nth(place).unwrap()
+}
+
+/// Sets the entry at a place.
+pub(crate) fn set_entry<V: Copy>(entries: &mut [Wrapped<V>], place: usize, value: Wrapped<V>)
+    requires { place < length entries.old }
+    ensures { entries.new ≡ slice_set entries.old place value }
+{
+    entries[place] = value;
+}
+
+/// Takes what was read of the relay frame of a member: so many entries, or that no such frame came.
+pub(crate) fn take_frame<V: Item<N>, const N: usize>(
+    table: &mut Heard<V, N>,
+    sender: u8,
+    round: u8,
+    entries: &[Wrapped<V>],
+    read: Option<usize>,
+)
+    requires sender { has_id table.old.members sender ≡ true }
+    requires some_round { 0 < round }
+    requires round { round ≤ table.old.rounds }
+    requires within { IfSome read (λ count. count ≤ length entries.now) }
+    requires brings { Brings (path_count (length table.old.members - 1) round) (read_out read entries.now) }
+    ensures is { table.new ≡ with_told round sender (read_out read entries.now) table.old }
+    ensures paths { IsByPath table.old }
+{
+    match read {
+        Some(count) => table.hear_frame(sender, round, &entries[..count]),
+        None => table.miss_frame(sender, round),
+    }
+}
+
+/// Copies the entries of a relay frame to the front of `entries`, and answers how many they are.
+fn copy_entries<V: Item<N>, const N: usize>(
+    cells: &Cells<'_>,
+    nodes: u8,
+    entries: &mut [Wrapped<V>],
+) -> usize
+    requires capacity { IsCapacity N }
+    requires nodes { nodes ≤ N }
+    requires wide { cells.now.width ≡ V.width nodes }
+    requires room { length (entries_of (V.read nodes) (V.width nodes) cells.now.bytes.now) ≤ length entries.old }
+    ensures count { result ≡ length (entries_of (V.read nodes) (V.width nodes) cells.now.bytes.now) }
+    ensures copied { take (length (entries_of (V.read nodes) (V.width nodes) cells.now.bytes.now)) entries.new ≡
+        entries_of (V.read nodes) (V.width nodes) cells.now.bytes.now }
+    ensures length { length entries.new ≡ length entries.old }
+{
+    let count = cells.len();
+    for k in 0..count {
+        set_entry(entries, k, V::at(cells, nodes, k));
+    }
+    count
+}
+
+/// Reads the entries of a relay frame to the front of `entries`, and answers how many they are, or
+/// None where there is no such frame.
+fn read_entries<V: Item<N>, const N: usize>(
+    frame: &Option<Frame<'_, N>>,
+    nodes: u8,
+    entries: &mut [Wrapped<V>],
+) -> Option<usize>
+    requires capacity { IsCapacity N }
+    requires nodes { nodes ≤ N }
+    requires widths { IfSome frame.now (λ f. HasWidth nodes f.body) }
+    requires room { FitsIn (length entries.old)
+        (arrived V.form.relay_in None (option_map (λ f. content nodes f.body) frame.now)) }
+    ensures read { arrived V.form.relay_in None (option_map (λ f. content nodes f.body) frame.now) ≡
+        read_out result entries.new }
+    ensures within { IfSome result (λ count. count ≤ length entries.new) }
+    ensures length { length entries.new ≡ length entries.old }
+{
+    let Some(frame) = frame else {
+        return None;
+    };
+    let Some(cells) = cells::<V, N>(&frame.body, nodes) else {
+        return None;
+    };
+    Some(copy_entries(&cells, nodes, entries))
+}
+
+/// Whether the entries of a relay frame from one place up to another are what a frame is expected
+/// to say of member `c`.
+fn are_expected<V: Item<N>, const N: usize>(
+    table: &Heard<V, N>,
+    cells: &Cells<'_>,
+    nodes: u8,
+    c: u8,
+    round: u8,
+    from: usize,
+    until: usize,
+) -> bool
+    requires capacity { IsCapacity N }
+    requires nodes { nodes ≤ N }
+    requires wide { cells.now.width ≡ V.width nodes }
+    requires member { has_id table.now.members c ≡ true }
+    requires round { round ≤ table.now.rounds }
+    requires some { from < until }
+    requires within { until ≤ length (entries_of (V.read nodes) (V.width nodes) cells.now.bytes.now) }
+    ensures { result ≡ true → c ≢ table.now.me → (k : ℕ) → from ≤ k → k < until →
+        slice_index_or (entries_of (V.read nodes) (V.width nodes) cells.now.bytes.now) k (Fault 0) ≡
+        wrapped_times round (heard_in table.now.heard (c ∷ [])) }
+{
+    if !table.expects(c, round, V::at(cells, nodes, from)) {
+        return false;
+    }
+    V::are_alike(cells, nodes, from, until)
+}
+
+/// Whether the entries of a relay frame are what a frame is expected to say of these other members.
+fn says_expected<V: Item<N>, const N: usize>(
+    table: &Heard<V, N>,
+    cells: &Cells<'_>,
+    nodes: u8,
+    others: &NodeSet<N>,
+    round: u8,
+) -> bool
+    requires capacity { IsCapacity N }
+    requires nodes { nodes ≤ N }
+    requires wide { cells.now.width ≡ V.width nodes }
+    requires others { IsIdSet N others.now }
+    requires members { (q : ℕ) → has_id others.now q ≡ true → has_id table.now.members q ≡ true }
+    requires all { length others.now ≡ length table.now.members - 1 }
+    requires some_round { 0 < round }
+    requires round { round ≤ table.now.rounds }
+    requires count { length (entries_of (V.read nodes) (V.width nodes) cells.now.bytes.now) ≡
+        path_count (length others.now) round }
+    ensures { result ≡ true → SaysExpected table.now.me round others.now table.now.heard
+        (entries_of (V.read nodes) (V.width nodes) cells.now.bytes.now)
+        (length (entries_of (V.read nodes) (V.width nodes) cells.now.bytes.now)) }
+{
+    let width = table.values_each(round);
+    if width == 0 {
+        return false;
+    }
+    for i in 0..others.len() {
+        let c = member_at(others, i);
+        let from = i as usize * width;
+        if !are_expected(table, cells, nodes, c, round, from, from + width) {
+            return false;
+        }
+    }
+    true
+}
+
+/// Takes the entries of a member's relay frame without reading them one by one, where they are
+/// what is expected, and answers whether it took them.
+fn take_expected<V: Item<N>, const N: usize>(
+    table: &mut Heard<V, N>,
+    cells: &Cells<'_>,
+    nodes: u8,
+    members: &NodeSet<N>,
+    round: u8,
+    sender: u8,
+) -> bool
+    requires capacity { IsCapacity N }
+    requires nodes { nodes ≤ N }
+    requires wide { cells.now.width ≡ V.width nodes }
+    requires members { members.now ≡ table.old.members }
+    requires sender { has_id table.old.members sender ≡ true }
+    requires some_round { 0 < round }
+    requires round { round ≤ table.old.rounds }
+    requires count { length (entries_of (V.read nodes) (V.width nodes) cells.now.bytes.now) ≡
+        path_count (length table.old.members - 1) round }
+    ensures is { result ≡ true →
+        table.new ≡ with_told round sender
+            (Good (entries_of (V.read nodes) (V.width nodes) cells.now.bytes.now)) table.old }
+    ensures left { result ≡ false → table.new ≡ table.old }
+    ensures paths { result ≡ true → IsByPath table.old }
+{
+    let mut others = *members;
+    let _ids = others.len();
+    others.cut(sender);
+    let _others = others.len();
+    if !says_expected(table, cells, nodes, &others, round) {
+        return false;
+    }
+    table.hear_expected(sender, round)
+}
+
+/// Takes what the relay frame of another member says of entries without reading it, where it says
+/// what is expected, and answers whether it took it.
+fn hear_expected<V: Item<N>, const N: usize>(
+    table: &mut Heard<V, N>,
+    frame: &Option<Frame<'_, N>>,
+    members: &NodeSet<N>,
+    nodes: u8,
+    round: u8,
+    sender: u8,
+) -> bool
+    requires capacity { IsCapacity N }
+    requires nodes { nodes ≤ N }
+    requires widths { IfSome frame.now (λ f. HasWidth nodes f.body) }
+    requires members { members.now ≡ table.old.members }
+    requires sender { has_id table.old.members sender ≡ true }
+    requires some_round { 0 < round }
+    requires round { round ≤ table.old.rounds }
+    requires brings { Brings (path_count (length table.old.members - 1) round)
+        (arrived V.form.relay_in None (option_map (λ f. content nodes f.body) frame.now)) }
+    ensures is { result ≡ true →
+        table.new ≡ with_told round sender
+            (arrived V.form.relay_in None (option_map (λ f. content nodes f.body) frame.now)) table.old }
+    ensures left { result ≡ false → table.new ≡ table.old }
+    ensures paths { result ≡ true → IsByPath table.old }
+{
+    let Some(frame) = frame else {
+        return false;
+    };
+    let Some(cells) = cells::<V, N>(&frame.body, nodes) else {
+        return false;
+    };
+    take_expected(table, &cells, nodes, members, round, sender)
+}
+
+/// Takes what the relay frame of another member says of items: None where no frame was told.
+fn hear_told<V: Item<N>, const N: usize>(
+    table: &mut Heard<V, N>,
+    entries: &mut [Wrapped<V>],
+    frame: &Option<Frame<'_, N>>,
+    members: &NodeSet<N>,
+    nodes: u8,
+    round: u8,
+    sender: u8,
+)
+    requires capacity { IsCapacity N }
+    requires nodes { nodes ≤ N }
+    requires widths { IfSome frame.now (λ f. HasWidth nodes f.body) }
+    requires members { members.now ≡ table.old.members }
+    requires sender { has_id table.old.members sender ≡ true }
+    requires some_round { 0 < round }
+    requires round { round ≤ table.old.rounds }
+    requires brings { Brings (path_count (length table.old.members - 1) round)
+        (arrived V.form.relay_in None (option_map (λ f. content nodes f.body) frame.now)) }
+    requires room { path_count (length table.old.members - 1) round ≤ length entries.old }
+    ensures is { table.new ≡ with_told round sender
+        (arrived V.form.relay_in None (option_map (λ f. content nodes f.body) frame.now)) table.old }
+    ensures paths { IsByPath table.old }
+    ensures length { length entries.new ≡ length entries.old }
+{
+    if hear_expected(table, frame, members, nodes, round, sender) {
+        return;
+    }
+    let read = read_entries(frame, nodes, entries);
+    take_frame(table, sender, round, entries, read);
+}
+
+/// Takes what the relay frame of another member says of items, in a slot in which nothing was
+/// guessed.
+fn hear_from<V: Item<N>, const N: usize>(
+    table: &mut Heard<V, N>,
+    entries: &mut [Wrapped<V>],
+    watch: &SlotWatch<N>,
+    members: &NodeSet<N>,
+    nodes: u8,
+    round: u8,
+    sender: u8,
+)
+    requires capacity { IsCapacity N }
+    requires distinct { Distinct table.old.members }
+    requires members { members.now ≡ table.old.members }
+    requires watching { IsHeardBy watch.now nodes table.old.me }
+    requires unguessed { watch.now.guess ≡ None }
+    requires low { sender < nodes }
+    requires nodes { nodes ≤ N }
+    requires sender { has_id table.old.members sender ≡ true }
+    requires other { sender ≢ table.old.me }
+    requires some_round { 0 < round }
+    requires round { round ≤ table.old.rounds }
+    requires brings { Brings (path_count (length table.old.members - 1) round)
+        (brought V.form watch.now sender) }
+    requires room { path_count (length table.old.members - 1) round ≤ length entries.old }
+    ensures heard { table.new ≡ told_from V.form watch.now round sender table.old }
+    ensures length { length entries.new ≡ length entries.old }
+{
+    let frame = watch.frame(sender);
+    hear_told(table, entries, &frame, members, nodes, round, sender);
+}
+
+/// Takes what the relay frames of all other members say of items in a round, in a slot in which
+/// nothing was guessed.
+pub fn hear_round<V: Item<N>, const N: usize>(
+    table: &mut Heard<V, N>,
+    entries: &mut [Wrapped<V>],
+    watch: &SlotWatch<N>,
+    members: &NodeSet<N>,
+    me: u8,
+    nodes: u8,
+    round: u8,
+)
+    requires capacity { IsCapacity N }
+    requires distinct { Distinct members.now }
+    requires members { members.now ≡ table.old.members }
+    requires me { me ≡ table.old.me }
+    requires watching { IsHeardBy watch.now nodes me }
+    requires unguessed { watch.now.guess ≡ None }
+    requires nodes { nodes ≤ N }
+    requires some_round { 0 < round }
+    requires round { round ≤ table.old.rounds }
+    requires brings { (j : ℕ) → has_id members.now j ≡ true →
+        Brings (path_count (length members.now - 1) round) (brought V.form watch.now j) }
+    requires room { path_count (length members.now - 1) round ≤ length entries.old }
+    ensures heard { table.new ≡ after_round V.form nodes watch.now round table.old }
+    ensures length { length entries.new ≡ length entries.old }
+{
+    for q in 0..nodes {
+        if q != me && members.has(q) {
+            hear_from(table, entries, watch, members, nodes, round, q);
+        }
+    }
+}
