@@ -3,3 +3,4 @@ pub mod Slots
 pub mod Lengths
 pub mod Entries
 pub mod Expected
+pub mod Tables

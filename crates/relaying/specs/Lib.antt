@@ -1,3 +1,4 @@
 pub mod Items
 pub mod ItemLaws
 pub mod Hearing
+pub mod Table

@@ -3,5 +3,7 @@
 
 mod hearing;
 mod item;
+mod table;
 
 pub use item::Item;
+pub use table::{write_table, write_without};
