@@ -4,3 +4,5 @@ pub mod Lengths
 pub mod Entries
 pub mod Expected
 pub mod Tables
+pub mod Marks
+pub mod Steps

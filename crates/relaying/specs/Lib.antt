@@ -2,3 +2,4 @@ pub mod Items
 pub mod ItemLaws
 pub mod Hearing
 pub mod Table
+pub mod Comparing

@@ -1,9 +1,11 @@
 //! What relay frames say of an item of each node, and what a node passes on of it: once for all items.
 #![tactic(auto)]
 
+mod comparing;
 mod hearing;
 mod item;
 mod table;
 
+pub use comparing::is_without;
 pub use item::Item;
 pub use table::{write_table, write_without};
