@@ -195,7 +195,7 @@ fn take_expected<V: Item<N>, const N: usize>(
         path_count (length table.old.members - 1) round }
     ensures is { result ≡ true →
         table.new ≡ with_told round sender
-        (Good (entries_of (V.read nodes) (V.width nodes) cells.now.bytes.now)) table.old }
+            (Good (entries_of (V.read nodes) (V.width nodes) cells.now.bytes.now)) table.old }
     ensures left { result ≡ false → table.new ≡ table.old }
     ensures paths { result ≡ true → IsByPath table.old }
 {
@@ -230,7 +230,7 @@ fn hear_expected<V: Item<N>, const N: usize>(
         (arrived V.form.relay_in None (option_map (λ f. content nodes f.body) frame.now)) }
     ensures is { result ≡ true →
         table.new ≡ with_told round sender
-        (arrived V.form.relay_in None (option_map (λ f. content nodes f.body) frame.now)) table.old }
+            (arrived V.form.relay_in None (option_map (λ f. content nodes f.body) frame.now)) table.old }
     ensures left { result ≡ false → table.new ≡ table.old }
     ensures paths { result ≡ true → IsByPath table.old }
 {

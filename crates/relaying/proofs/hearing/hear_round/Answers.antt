@@ -46,49 +46,8 @@ hear_from-requires g c =
     let is : ◌≡◌ {A = Hearing g.row.V.Denot} c.loop-q.table (told (all_told c.args.table.now.members c.args.table.now.me r q) (heard (slot_rounds g.V.Item.form c.args.table.now.members w)) c.args.table.now) = c.loop-q.invariant.0 in
     let members : ◌≡◌ {A = List ℕ} c.args.members.now c.loop-q.table.members = c.requires.members ∙ sym (ap (λ (h : Hearing g.row.V.Denot). h.members) is) in
     let me : ◌≡◌ {A = ℕ} c.args.me c.loop-q.table.me = c.requires.me ∙ sym (ap (λ (h : Hearing g.row.V.Denot). h.me) is) in
-    let on : has_id c.args.members.now q ≡ true = sym c.has.ensures ∙ c.if-has.true in (
-      omega arith,
-      (
-        omega arith,
-        (
-          lit< tt,
-          (
-            c.requires.capacity,
-            (
-              subst Distinct members c.requires.distinct,
-              (
-                members,
-                (
-                  subst (IsHeardBy w c.args.nodes) me c.requires.watching,
-                  (
-                    c.requires.unguessed,
-                    (
-                      omega (arith, c.loop-q-test.true),
-                      (
-                        c.requires.nodes,
-                        (
-                          subst (λ (ms : List ℕ). has_id ms q ≡ true) members on,
-                          (
-                            (λ e. c.if-q-me.true (e ∙ sym me)),
-                            (
-                              c.requires.some_round,
-                              (
-                                subst (λ (h : Hearing g.row.V.Denot). r ≤ h.rounds) (sym is) c.requires.round,
-                                (
-                                  subst (λ (ms : List ℕ). Brings (path_count (length ms - 1) r) (brought g.V.Item.form w q)) members (c.requires.brings q on),
-                                  subst (λ (n : ℕ). path_count (length c.loop-q.table.members - 1) r ≤ n) (sym c.loop-q.invariant.1) (subst (λ (ms : List ℕ). path_count (length ms - 1) r ≤ length c.args.entries.now) members c.requires.room),
-                                ),
-                              ),
-                            ),
-                          ),
-                        ),
-                      ),
-                    ),
-                  ),
-                ),
-              ),
-            ),
-          ),
-        ),
-      ),
-    )
+    let on : has_id c.args.members.now q ≡ true = sym c.has.ensures ∙ c.if-has.true in
+    (omega arith, (omega arith, (lit< tt, (c.requires.capacity, (subst Distinct members c.requires.distinct, (members, (subst (IsHeardBy w c.args.nodes) me c.requires.watching, (c.requires.unguessed, (omega (arith, c.loop-q-test.true), (c.requires.nodes,
+    (subst (λ (ms : List ℕ). has_id ms q ≡ true) members on, ((λ e. c.if-q-me.true (e ∙ sym me)), (c.requires.some_round, (subst (λ (h : Hearing g.row.V.Denot). r ≤ h.rounds) (sym is) c.requires.round,
+    (subst (λ (ms : List ℕ). Brings (path_count (length ms - 1) r) (brought g.V.Item.form w q)) members (c.requires.brings q on),
+    subst (λ (n : ℕ). path_count (length c.loop-q.table.members - 1) r ≤ n) (sym c.loop-q.invariant.1) (subst (λ (ms : List ℕ). path_count (length ms - 1) r ≤ length c.args.entries.now) members c.requires.room))))))))))))))))
