@@ -56,13 +56,13 @@ shape_told members me r q p d h =
     (kept_listed (λ x. not (has_id x me)) (pushed members r q) p h)
 
 -- a path that ends in a node, without it
-record Behind (members : List ℕ) (r q : ℕ) (p : List ℕ) : Type 0 where
-  front : List ℕ
-  is : p ≡ front ++ q ∷ []
-  long : length front ≡ r
-  placed : place_in (paths_of_length (without_id members q) r) front < length (paths_of_length (without_id members q) r)
+pub record Behind (members : List ℕ) (r q : ℕ) (p : List ℕ) : Type 0 where
+  pub front : List ℕ
+  pub is : p ≡ front ++ q ∷ []
+  pub long : length front ≡ r
+  pub placed : place_in (paths_of_length (without_id members q) r) front < length (paths_of_length (without_id members q) r)
 
-behind : (members : List ℕ) (me rounds r q : ℕ) (p : List ℕ) → Distinct members → IsHeardPath members me rounds p → length p ≡ r + 1 → last_node p ≡ q → Behind members r q p
+pub behind : (members : List ℕ) (me rounds r q : ℕ) (p : List ℕ) → Distinct members → IsHeardPath members me rounds p → length p ≡ r + 1 → last_node p ≡ q → Behind members r q p
 behind members me rounds r q p d real long end =
     let c : Split p = split p real.some in
     let last : c.last ≡ q = sym (last-push c.front c.last) ∙ ap last_node (sym c.is) ∙ end in
@@ -114,11 +114,11 @@ says_heard {V} form members w me rounds r q p d real on some long end =
 
 -- ---- the table after a frame
 
-each_entry : {V : Type 0} (P : List ℕ → Type 0) (es : List (Entry V)) → AllByRecursion P (map (λ (e : Entry V). e.path) es) → AllByRecursion (λ (e : Entry V). P e.path) es
+pub each_entry : {V : Type 0} (P : List ℕ → Type 0) (es : List (Entry V)) → AllByRecursion P (map (λ (e : Entry V). e.path) es) → AllByRecursion (λ (e : Entry V). P e.path) es
 each_entry P [] h = tt
 each_entry P (e ∷ es) h = (h.0, each_entry P es h.1)
 
-where_all : {X : Type 0} (P Q : X → Type 0) (xs : List X) → AllByRecursion P xs → ((x : X) → P x → Q x) → AllByRecursion Q xs
+pub where_all : {X : Type 0} (P Q : X → Type 0) (xs : List X) → AllByRecursion P xs → ((x : X) → P x → Q x) → AllByRecursion Q xs
 where_all P Q [] a h = tt
 where_all P Q (x ∷ xs) a h = (h x a.0, where_all P Q xs a.1 h)
 

@@ -6,3 +6,5 @@ pub mod Expected
 pub mod Tables
 pub mod Marks
 pub mod Steps
+pub mod Guesses
+pub mod Filling

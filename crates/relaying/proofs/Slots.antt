@@ -101,7 +101,7 @@ length_told members me r q p d h = elim (cases_Bool (has_id members q && not (q 
   | inr n ↦ absurd (let e : false ≡ true = ap (λ (ys : List (List ℕ)). has_path ys p) (sym (cond-false _ (paths_from members me r q) [] n)) ∙ h in cc)
 ]
 
-length_all : (members : List ℕ) (me r n : ℕ) (p : List ℕ) → Distinct members → has_path (all_told members me r n) p ≡ true → length p ≡ suc r
+pub length_all : (members : List ℕ) (me r n : ℕ) (p : List ℕ) → Distinct members → has_path (all_told members me r n) p ≡ true → length p ≡ suc r
 length_all members me r zero p d h = cc
 length_all members me r (suc n) p d h = elim (or_cases (has_path (all_told members me r n) p) (has_path (paths_told members me r n) p) (sym (has_path-append (all_told members me r n) (paths_told members me r n) p) ∙ h)) [
   | inl a ↦ length_all members me r n p d a

@@ -3,3 +3,4 @@ pub mod ItemLaws
 pub mod Hearing
 pub mod Table
 pub mod Comparing
+pub mod Guessed

@@ -3,18 +3,21 @@
 ghost use Rattle.std.specs.Prelude.{ℕ, ◌≡◌, ◌≢◌, ◌+◌, ◌-◌, ◌*◌, ◌<◌, ◌≤◌, List, ◌∷◌, [], true, false};
 ghost use Rattle.std.specs.Prelude.{length, take, slice_index_or, slice_set, IfSome, option_map, None};
 ghost use Rattle.node_grid.specs.Capacity.{IsCapacity};
-ghost use Rattle.node_grid.specs.NodeSet.{has_id, IsIdSet};
+ghost use Rattle.node_grid.specs.NodeSet.{has_id, without_id, IsIdSet};
 ghost use Rattle.omh_paths.specs.Paths.{path_count};
+ghost use Rattle.omh_paths.specs.declared.wrapped.Wrapped.{Wrapped};
 ghost use Rattle.omh_paths.specs.declared.wrapped.Wrapped.TheVariants.{Fault};
+ghost use Rattle.omh_paths.specs.Wrapped.{wrapped};
 ghost use Rattle.omh.specs.Heard.{heard_in};
 ghost use Rattle.heard.specs.Keep.{wrapped_times};
-ghost use Rattle.heard.specs.Seen.{SaysExpected};
+ghost use Rattle.heard.specs.Seen.{SaysExpected, SaysEcho};
 ghost use Rattle.frames.specs.Seen.{content, HasWidth};
 ghost use Rattle.protocol.specs.Arrival.{arrived};
 ghost use Rattle.node_grid.specs.Count.{Distinct};
 ghost use Rattle.protocol.specs.Arrival.Arrival.{Good};
 ghost use Rattle.relaying.specs.Hearing.{Brings, FitsIn, read_out, with_told, IsByPath};
 ghost use Rattle.relaying.specs.Hearing.{IsHeardBy, brought, told_from, after_round};
+ghost use Rattle.relaying.specs.Guessed.{AreSmall, IsFilled, IsEchoed};
 ghost use Rattle.relaying.specs.Items.{entries_in as entries_of};
 
 use crate::item::{Item, cells};
@@ -22,7 +25,7 @@ use error_detect::SlotWatch;
 use frames::{Cells, Frame};
 use heard::Heard;
 use node_grid::NodeSet;
-use omh_paths::Wrapped;
+use omh_paths::{Path, Wrapped, count_paths, unrank};
 
 /// The member at a place, in ascending order.
 pub(crate) fn member_at<const N: usize>(set: &NodeSet<N>, place: u8) -> u8
@@ -275,67 +278,166 @@ fn hear_told<V: Item<N>, const N: usize>(
     take_frame(table, sender, round, entries, read);
 }
 
-/// Takes what the relay frame of another member says of items, in a slot in which nothing was
-/// guessed.
-fn hear_from<V: Item<N>, const N: usize>(
+/// What the node itself passes on of a path, and the error where it is on the path itself.
+fn passed_on<V: Item<N>, const N: usize>(table: &Heard<V, N>, path: &Path, me: u8) -> Wrapped<V>
+    requires me { me ≡ table.now.me }
+    requires within { (q : ℕ) → has_id path.now q ≡ true → has_id table.now.members q ≡ true }
+    requires short { length path.now ≤ table.now.rounds + 1 }
+    ensures off { has_id path.now table.now.me ≡ false →
+        result ≡ wrapped (heard_in table.now.heard path.now) }
+    ensures on { has_id path.now table.now.me ≡ true → result ≡ Fault 0 }
+{
+    if path.has(me) {
+        return Wrapped::Fault(0);
+    }
+    table.relay(path)
+}
+
+/// Writes to the front of `entries` what the node itself passes on of the paths of these members,
+/// and answers how many they are.
+fn fill_echo<V: Item<N>, const N: usize>(
+    table: &Heard<V, N>,
+    entries: &mut [Wrapped<V>],
+    others: &NodeSet<N>,
+    me: u8,
+    round: u8,
+) -> usize
+    requires capacity { IsCapacity N }
+    requires me { me ≡ table.now.me }
+    requires within { (q : ℕ) → has_id others.now q ≡ true → has_id table.now.members q ≡ true }
+    requires some_round { 0 < round }
+    requires round { round ≤ table.now.rounds }
+    requires room { path_count (length others.now) round ≤ length entries.old }
+    ensures count { result ≡ path_count (length others.now) round }
+    ensures filled { IsFilled round others.now table.now entries.new result }
+    ensures length { length entries.new ≡ length entries.old }
+{
+    let _few = table.values_each(round);
+    let count = count_paths(others.len(), round);
+    for k in 0..count {
+        let path = unrank(others, round, k);
+        set_entry(entries, k, passed_on(table, &path, me));
+    }
+    count
+}
+
+/// Takes a member's relay frame, which says what the node itself passes on for each path, without
+/// reading it.
+fn hear_guessed<V: Item<N>, const N: usize>(
     table: &mut Heard<V, N>,
     entries: &mut [Wrapped<V>],
-    watch: &SlotWatch<N>,
     members: &NodeSet<N>,
-    nodes: u8,
+    me: u8,
     round: u8,
     sender: u8,
 )
     requires capacity { IsCapacity N }
     requires distinct { Distinct table.old.members }
     requires members { members.now ≡ table.old.members }
-    requires watching { IsHeardBy watch.now nodes table.old.me }
-    requires unguessed { watch.now.guess ≡ None }
-    requires low { sender < nodes }
-    requires nodes { nodes ≤ N }
+    requires me { me ≡ table.old.me }
     requires sender { has_id table.old.members sender ≡ true }
-    requires other { sender ≢ table.old.me }
     requires some_round { 0 < round }
     requires round { round ≤ table.old.rounds }
-    requires brings { Brings (path_count (length table.old.members - 1) round)
-        (brought V.form watch.now sender) }
     requires room { path_count (length table.old.members - 1) round ≤ length entries.old }
-    ensures heard { table.new ≡ told_from V.form watch.now round sender table.old }
+    requires small { AreSmall round (without_id table.old.members sender) table.old }
+    ensures is { (values : List (Wrapped V)) →
+        length values ≡ path_count (length table.old.members - 1) round →
+        SaysEcho table.old.me round (without_id table.old.members sender) table.old.heard values
+            (length values) →
+        table.new ≡ with_told round sender (Good values) table.old }
+    ensures paths { IsByPath table.old }
     ensures length { length entries.new ≡ length entries.old }
 {
-    let frame = watch.frame(sender);
-    hear_told(table, entries, &frame, members, nodes, round, sender);
+    if table.hear_echo(sender, round) {
+        return;
+    }
+    let mut others = *members;
+    let _ids = others.len();
+    others.cut(sender);
+    let count = fill_echo(table, entries, &others, me, round);
+    table.hear_frame(sender, round, &entries[..count]);
 }
 
-/// Takes what the relay frames of all other members say of items in a round, in a slot in which
-/// nothing was guessed.
+/// A relay round, as one of so many nodes hears it.
+#[derive(Clone, Copy)]
+pub struct Round {
+    /// The node that hears.
+    pub me: u8,
+    /// The number of nodes.
+    pub nodes: u8,
+    /// The round, from 1 on.
+    pub number: u8,
+}
+
+/// Takes what the relay frame of another member says of items.
+fn hear_from<V: Item<N>, const N: usize>(
+    table: &mut Heard<V, N>,
+    entries: &mut [Wrapped<V>],
+    watch: &SlotWatch<N>,
+    members: &NodeSet<N>,
+    round: Round,
+    sender: u8,
+)
+    requires capacity { IsCapacity N }
+    requires distinct { Distinct table.old.members }
+    requires members { members.now ≡ table.old.members }
+    requires me { round.me ≡ table.old.me }
+    requires watching { IsHeardBy watch.now round.nodes table.old.me }
+    requires echoed { IsEchoed V.form round.number watch.now table.old }
+    requires low { sender < round.nodes }
+    requires nodes { round.nodes ≤ N }
+    requires sender { has_id table.old.members sender ≡ true }
+    requires other { sender ≢ table.old.me }
+    requires some_round { 0 < round.number }
+    requires round { round.number ≤ table.old.rounds }
+    requires brings { Brings (path_count (length table.old.members - 1) round.number)
+        (brought V.form watch.now sender) }
+    requires room { path_count (length table.old.members - 1) round.number ≤ length entries.old }
+    ensures heard { table.new ≡ told_from V.form watch.now round.number sender table.old }
+    ensures length { length entries.new ≡ length entries.old }
+{
+    match watch.told(sender) {
+        None => hear_guessed(table, entries, members, round.me, round.number, sender),
+        Some(frame) => hear_told(
+            table,
+            entries,
+            &frame,
+            members,
+            round.nodes,
+            round.number,
+            sender,
+        ),
+    }
+}
+
+/// Takes what the relay frames of all other members say of items in a round. Where something is
+/// guessed of them, it is what the node itself passes on.
 pub fn hear_round<V: Item<N>, const N: usize>(
     table: &mut Heard<V, N>,
     entries: &mut [Wrapped<V>],
     watch: &SlotWatch<N>,
     members: &NodeSet<N>,
-    me: u8,
-    nodes: u8,
-    round: u8,
+    round: Round,
 )
     requires capacity { IsCapacity N }
     requires distinct { Distinct members.now }
     requires members { members.now ≡ table.old.members }
-    requires me { me ≡ table.old.me }
-    requires watching { IsHeardBy watch.now nodes me }
-    requires unguessed { watch.now.guess ≡ None }
-    requires nodes { nodes ≤ N }
-    requires some_round { 0 < round }
-    requires round { round ≤ table.old.rounds }
+    requires me { round.me ≡ table.old.me }
+    requires watching { IsHeardBy watch.now round.nodes round.me }
+    requires echoed { IsEchoed V.form round.number watch.now table.old }
+    requires nodes { round.nodes ≤ N }
+    requires some_round { 0 < round.number }
+    requires round { round.number ≤ table.old.rounds }
     requires brings { (j : ℕ) → has_id members.now j ≡ true →
-        Brings (path_count (length members.now - 1) round) (brought V.form watch.now j) }
-    requires room { path_count (length members.now - 1) round ≤ length entries.old }
-    ensures heard { table.new ≡ after_round V.form nodes watch.now round table.old }
+        Brings (path_count (length members.now - 1) round.number) (brought V.form watch.now j) }
+    requires room { path_count (length members.now - 1) round.number ≤ length entries.old }
+    ensures heard { table.new ≡
+        after_round V.form round.nodes watch.now round.number table.old }
     ensures length { length entries.new ≡ length entries.old }
 {
-    for q in 0..nodes {
-        if q != me && members.has(q) {
-            hear_from(table, entries, watch, members, nodes, round, q);
+    for q in 0..round.nodes {
+        if q != round.me && members.has(q) {
+            hear_from(table, entries, watch, members, round, q);
         }
     }
 }

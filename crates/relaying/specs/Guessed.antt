@@ -1,0 +1,47 @@
+-- What is guessed of the relay frames of a round: what the node itself passes on.
+use Rattle.std.specs.Prelude.{ℕ, ◌≡◌, ◌-◌, ◌<◌, true, false, slice_index_or, List, Option, Some, map, length}
+use Rattle.node_grid.specs.NodeSet.{has_id, without_id}
+use Rattle.omh_paths.specs.declared.wrapped.Wrapped.{Wrapped}
+use Rattle.omh_paths.specs.declared.wrapped.Wrapped.TheVariants.{Fault}
+use Rattle.omh_paths.specs.Paths.{paths_of_length, path_at, path_count}
+use Rattle.omh_paths.specs.Wrapped.{wrapped}
+use Rattle.omh.specs.Heard.{Hearing, heard_in}
+use Rattle.heard.specs.Keep.{IsSmall}
+use Rattle.heard.specs.Seen.{SaysEcho}
+use Rattle.frames.specs.Content.{Expectation, Content}
+use Rattle.error_detect.specs.Guessing.{said_by}
+use Rattle.error_detect.specs.Watching.{Watch}
+use Rattle.protocol.specs.Arrival.{Form}
+use Rattle.protocol.specs.Arrival.Arrival.{Good}
+use Rattle.relaying.specs.Hearing.{brought}
+
+-- a guess of the frames of relay round r: of each sender's an entry for each path of the others, which of a path without the
+-- node itself is what the node passes on of it
+pub record IsEchoOf {V : Type 0} (form : Form V) (r : ℕ) (e : Expectation) (c : Content) (h : Hearing V) : Type 0 where
+  pub of : List ℕ → Wrapped V
+  pub said : (q : ℕ) → form.relay_in (said_by e q c) ≡ Some (map of (paths_of_length (without_id h.members q) r))
+  pub passed_on : (p : List ℕ) → has_id p h.me ≡ false → length p ≡ r → of p ≡ wrapped (heard_in h.heard p)
+
+-- what is guessed in a slot, if anything, is that
+abbrev pub IsEchoed : {V : Type 0} → Form V → ℕ → Watch → Hearing V → Type 0
+IsEchoed form r w h = (e : Expectation) (c : Content) → w.expect ≡ Some e → w.guess ≡ Some c → IsEchoOf form r e c h
+
+-- what a sender's frame brings is what the node itself passes on
+pub record BringsEcho {V : Type 0} (form : Form V) (r q : ℕ) (w : Watch) (h : Hearing V) : Type 0 where
+  pub values : List (Wrapped V)
+  pub are : brought form w q ≡ Good values
+  pub long : length values ≡ path_count (length h.members - 1) r
+  pub echo : SaysEcho h.me r (without_id h.members q) h.heard values (length values)
+
+-- what the node passes on of the paths of r of these others was wrapped at most three times
+abbrev pub AreSmall : {V : Type 0} → ℕ → List ℕ → Hearing V → Type 0
+AreSmall r others h =
+    (k : ℕ) → k < path_count (length others) r → has_id (path_at (paths_of_length others r) k) h.me ≡ false
+    → IsSmall 3 (wrapped (heard_in h.heard (path_at (paths_of_length others r) k)))
+
+-- so many values are what the node passes on of those paths, and the error where it is on the path
+abbrev pub IsFilled : {V : Type 0} → ℕ → List ℕ → Hearing V → List (Wrapped V) → ℕ → Type 0
+IsFilled r others h values until =
+    (k : ℕ) → k < until
+    → (has_id (path_at (paths_of_length others r) k) h.me ≡ false → slice_index_or values k (Fault 0) ≡ wrapped (heard_in h.heard (path_at (paths_of_length others r) k)))
+    × (has_id (path_at (paths_of_length others r) k) h.me ≡ true → slice_index_or values k (Fault 0) ≡ Fault 0)
