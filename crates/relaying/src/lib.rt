@@ -7,7 +7,6 @@ mod item;
 mod table;
 
 pub use comparing::is_without;
-
 pub use hearing::{Round, hear_round};
 pub use item::Item;
 pub use table::{write_table, write_without};
