@@ -1,13 +1,16 @@
 //! Whether a frame is the one that its sender is guessed to send.
 
-ghost use Rattle.std.specs.Prelude.{◌≡◌, ◌≢◌, ◌<◌, ◌≤◌, ◌+◌, ◌*◌, true, IfSome, IfNone, length, replicate, false};
+ghost use Rattle.std.specs.Prelude.{◌≡◌, ◌≢◌, ◌<◌, ◌≤◌, ◌+◌, ◌*◌, ◌^◌, true, IfSome, IfNone, length, replicate, false};
 ghost use Rattle.std.specs.Bool.{Decides};
 ghost use Rattle.node_grid.specs.Capacity.{IsCapacity};
 ghost use Rattle.node_grid.specs.NodeSet.{has_id};
 ghost use Rattle.omh_paths.specs.Paths.{paths_of_length};
 ghost use Rattle.error_detect.specs.Guessing.{pieces_without};
-ghost use Rattle.relaying.specs.Comparing.{marks, IsOver, IsOdd, HasEntries};
+ghost use Rattle.frames.specs.Seen.{expected};
+ghost use Rattle.frames.specs.Spelling.{header_spelling};
+ghost use Rattle.relaying.specs.Comparing.{marks, frame_without, IsOver, IsOdd, HasEntries};
 
+use frames::{Expect, Head};
 use node_grid::NodeSet;
 use omh_paths::count_paths;
 
@@ -180,4 +183,75 @@ pub fn is_without<const N: usize>(
         None => false,
         Some(left) => is_same(left.body, &left.table[..left.pending]),
     }
+}
+
+/// The number of bytes before a frame's body.
+const HEADER: usize = 14;
+
+/// The first bytes of a frame, up to its body of `size` bytes.
+fn header(head: Head, kind: u8, size: u32) -> [u8; 14]
+    ensures { result ≡ header_spelling head kind size }
+{
+    let period = head.period.to_be_bytes();
+    let size = size.to_be_bytes();
+    [
+        b'M',
+        b'F',
+        head.version,
+        kind,
+        period[0],
+        period[1],
+        period[2],
+        period[3],
+        head.sender,
+        head.slot,
+        size[0],
+        size[1],
+        size[2],
+        size[3],
+    ]
+}
+
+/// Whether bytes are the header of a body of `size` bytes.
+fn is_header(front: &[u8], head: Head, kind: u8, size: usize) -> bool
+    requires { size < 2 ^ 32 }
+    ensures { Decides result (front.now ≡ header_spelling head kind size) }
+{
+    is_same(front, &header(head, kind, size as u32))
+}
+
+/// Whether a sender's frame of this kind is a table of round `r`, of entries of one width, without those of the paths
+/// that the sender is on.
+pub fn is_frame_without<const N: usize>(
+    bytes: &[u8],
+    expect: &Expect<N>,
+    kind: u8,
+    width: usize,
+    table: &[u8],
+    from: u8,
+    r: u8,
+) -> bool
+    requires capacity { IsCapacity N }
+    requires some { 0 < r }
+    requires few { r ≤ 3 }
+    requires sender { has_id expect.now.members from ≡ true }
+    requires whole { width * length (paths_of_length expect.now.members r) ≡ length table.now }
+    requires short { length table.now < 2 ^ 32 }
+    ensures { Decides result (bytes.now ≡ frame_without (expected expect.now) kind width from r table.now) }
+{
+    if bytes.len() < HEADER {
+        return false;
+    }
+    let (front, body) = bytes.split_at(HEADER);
+    if body.len() > table.len() {
+        return false;
+    }
+    let head = Head {
+        sender: from,
+        ..expect.head()
+    };
+    if !is_header(front, head, kind, body.len()) {
+        return false;
+    }
+    is_without(body, table, width, from, &expect.members, r)
 }

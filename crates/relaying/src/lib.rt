@@ -6,7 +6,7 @@ mod hearing;
 mod item;
 mod table;
 
-pub use comparing::is_without;
+pub use comparing::{is_frame_without, is_without};
 pub use hearing::{Round, hear_round};
 pub use item::Item;
 pub use table::{write_table, write_without};
