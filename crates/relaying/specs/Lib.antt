@@ -4,3 +4,4 @@ pub mod Hearing
 pub mod Table
 pub mod Comparing
 pub mod Guessed
+pub mod EchoLaws

@@ -1,7 +1,8 @@
 //! What the relay frame of another member says, put into what was heard.
 
-ghost use Rattle.std.specs.Prelude.{ℕ, ◌≡◌, ◌≢◌, ◌+◌, ◌-◌, ◌*◌, ◌<◌, ◌≤◌, List, ◌∷◌, [], true, false};
-ghost use Rattle.std.specs.Prelude.{length, take, slice_index_or, slice_set, IfSome, option_map, None};
+ghost use Rattle.std.specs.Prelude.{ℕ, ◌≡◌, ◌≢◌, ◌+◌, ◌-◌, ◌*◌, ◌<◌, ◌≤◌, List, ◌∷◌, []};
+ghost use Rattle.std.specs.Prelude.{true, false, length, take, slice_index_or, slice_set};
+ghost use Rattle.std.specs.Prelude.{IfSome, option_map, None};
 ghost use Rattle.node_grid.specs.Capacity.{IsCapacity};
 ghost use Rattle.node_grid.specs.NodeSet.{has_id, without_id, IsIdSet};
 ghost use Rattle.omh_paths.specs.Paths.{path_count};
@@ -55,7 +56,8 @@ pub(crate) fn take_frame<V: Item<N>, const N: usize>(
     requires some_round { 0 < round }
     requires round { round ≤ table.old.rounds }
     requires within { IfSome read (λ count. count ≤ length entries.now) }
-    requires brings { Brings (path_count (length table.old.members - 1) round) (read_out read entries.now) }
+    requires brings { Brings (path_count (length table.old.members - 1) round)
+        (read_out read entries.now) }
     ensures is { table.new ≡ with_told round sender (read_out read entries.now) table.old }
     ensures paths { IsByPath table.old }
 {
@@ -74,9 +76,12 @@ fn copy_entries<V: Item<N>, const N: usize>(
     requires capacity { IsCapacity N }
     requires nodes { nodes ≤ N }
     requires wide { cells.now.width ≡ V.width nodes }
-    requires room { length (entries_of (V.read nodes) (V.width nodes) cells.now.bytes.now) ≤ length entries.old }
-    ensures count { result ≡ length (entries_of (V.read nodes) (V.width nodes) cells.now.bytes.now) }
-    ensures copied { take (length (entries_of (V.read nodes) (V.width nodes) cells.now.bytes.now)) entries.new ≡
+    requires room { length (entries_of (V.read nodes) (V.width nodes) cells.now.bytes.now) ≤
+        length entries.old }
+    ensures count { result ≡
+        length (entries_of (V.read nodes) (V.width nodes) cells.now.bytes.now) }
+    ensures copied { take (length (entries_of (V.read nodes) (V.width nodes) cells.now.bytes.now))
+        entries.new ≡
         entries_of (V.read nodes) (V.width nodes) cells.now.bytes.now }
     ensures length { length entries.new ≡ length entries.old }
 {
@@ -130,7 +135,8 @@ fn are_expected<V: Item<N>, const N: usize>(
     requires member { has_id table.now.members c ≡ true }
     requires round { round ≤ table.now.rounds }
     requires some { from < until }
-    requires within { until ≤ length (entries_of (V.read nodes) (V.width nodes) cells.now.bytes.now) }
+    requires within { until ≤
+        length (entries_of (V.read nodes) (V.width nodes) cells.now.bytes.now) }
     ensures { result ≡ true → c ≢ table.now.me → (k : ℕ) → from ≤ k → k < until →
         slice_index_or (entries_of (V.read nodes) (V.width nodes) cells.now.bytes.now) k (Fault 0) ≡
         wrapped_times round (heard_in table.now.heard (c ∷ [])) }
@@ -198,7 +204,7 @@ fn take_expected<V: Item<N>, const N: usize>(
         path_count (length table.old.members - 1) round }
     ensures is { result ≡ true →
         table.new ≡ with_told round sender
-            (Good (entries_of (V.read nodes) (V.width nodes) cells.now.bytes.now)) table.old }
+        (Good (entries_of (V.read nodes) (V.width nodes) cells.now.bytes.now)) table.old }
     ensures left { result ≡ false → table.new ≡ table.old }
     ensures paths { result ≡ true → IsByPath table.old }
 {
@@ -233,7 +239,8 @@ fn hear_expected<V: Item<N>, const N: usize>(
         (arrived V.form.relay_in None (option_map (λ f. content nodes f.body) frame.now)) }
     ensures is { result ≡ true →
         table.new ≡ with_told round sender
-            (arrived V.form.relay_in None (option_map (λ f. content nodes f.body) frame.now)) table.old }
+        (arrived V.form.relay_in None (option_map (λ f. content nodes f.body) frame.now))
+        table.old }
     ensures left { result ≡ false → table.new ≡ table.old }
     ensures paths { result ≡ true → IsByPath table.old }
 {
@@ -267,7 +274,8 @@ fn hear_told<V: Item<N>, const N: usize>(
         (arrived V.form.relay_in None (option_map (λ f. content nodes f.body) frame.now)) }
     requires room { path_count (length table.old.members - 1) round ≤ length entries.old }
     ensures is { table.new ≡ with_told round sender
-        (arrived V.form.relay_in None (option_map (λ f. content nodes f.body) frame.now)) table.old }
+        (arrived V.form.relay_in None (option_map (λ f. content nodes f.body) frame.now))
+        table.old }
     ensures paths { IsByPath table.old }
     ensures length { length entries.new ≡ length entries.old }
 {
@@ -343,7 +351,7 @@ fn hear_guessed<V: Item<N>, const N: usize>(
     ensures is { (values : List (Wrapped V)) →
         length values ≡ path_count (length table.old.members - 1) round →
         SaysEcho table.old.me round (without_id table.old.members sender) table.old.heard values
-            (length values) →
+        (length values) →
         table.new ≡ with_told round sender (Good values) table.old }
     ensures paths { IsByPath table.old }
     ensures length { length entries.new ≡ length entries.old }

@@ -1,6 +1,7 @@
 //! Items that are told and relayed.
 
-ghost use Rattle.std.specs.Prelude.{◌≡◌, ◌≢◌, ℕ, ◌+◌, ◌*◌, ◌/◌, ◌<◌, ◌≤◌, ◌==◌, Bool, true, List, length, slice_index_or, IfSome, option_map};
+ghost use Rattle.std.specs.Prelude.{◌≡◌, ◌≢◌, ℕ, ◌+◌, ◌*◌, ◌/◌, ◌<◌, ◌≤◌, ◌==◌, Bool, true};
+ghost use Rattle.std.specs.Prelude.{List, length, slice_index_or, IfSome, option_map};
 ghost use Rattle.node_grid.specs.Capacity.{IsCapacity};
 ghost use Rattle.omh_paths.specs.declared.wrapped.Wrapped.{Wrapped};
 ghost use Rattle.omh_paths.specs.declared.wrapped.Wrapped.TheVariants.{Fault};
@@ -17,7 +18,8 @@ ghost use Rattle.frames.specs.Content.{kind as kind_of};
 ghost use Rattle.frames.specs.FrameKinds.{claim_relay_kind, row_relay_kind};
 ghost use Rattle.frames.specs.declared.frame.Body.{Body};
 ghost use Rattle.relaying.specs.Items.{entries_in, cells_in, width_in, told_entries, AreAlike};
-ghost use Rattle.relaying.specs.ItemLaws.{numbers_exact, rows_exact, claims_told, rows_told, claims_wide, rows_wide};
+ghost use Rattle.relaying.specs.ItemLaws.{numbers_exact, rows_exact, claims_told, rows_told};
+ghost use Rattle.relaying.specs.ItemLaws.{claims_wide, rows_wide};
 
 use frames::{Body, Cells, put_done, put_row};
 use node_grid::Row;
@@ -57,14 +59,16 @@ pub trait Item<const N: usize>: Copy + Eq + Drop {
         requires nodes { nodes ≤ N }
         requires wide { cells.now.width ≡ width nodes }
         requires within { k < length cells.now.bytes.now / cells.now.width }
-        ensures { result ≡ slice_index_or (entries_in (read nodes) (width nodes) cells.now.bytes.now) k result };
+        ensures { result ≡
+            slice_index_or (entries_in (read nodes) (width nodes) cells.now.bytes.now) k result };
 
     /// Whether all entries from one place up to another are the same as the first of them.
     fn are_alike(cells: &Cells<'_>, nodes: u8, from: usize, until: usize) -> bool
         requires wide { cells.now.width ≡ width nodes }
         requires some { from < until }
         requires within { until ≤ length cells.now.bytes.now / cells.now.width }
-        ensures { result ≡ true → AreAlike (entries_in (read nodes) (width nodes) cells.now.bytes.now) from until };
+        ensures { result ≡ true →
+            AreAlike (entries_in (read nodes) (width nodes) cells.now.bytes.now) from until };
 
     /// Writes entry `k`, and leaves all else.
     fn put(out: &mut [u8], nodes: u8, k: usize, value: &Wrapped<Self>)
@@ -79,7 +83,8 @@ pub trait Item<const N: usize>: Copy + Eq + Drop {
 
     /// A frame of that kind has such entries.
     ghost told: { (nodes : ℕ) (b : Body N) →
-        told_entries (kind_of (content nodes b) == kind) (read nodes) (width nodes) (cells_in b) ≡ form.relay_in (content nodes b) };
+        told_entries (kind_of (content nodes b) == kind) (read nodes) (width nodes) (cells_in b) ≡
+        form.relay_in (content nodes b) };
 
     /// They have the width of such entries.
     ghost wide: { (nodes : ℕ) (b : Body N) → HasWidth nodes b → kind_of (content nodes b) ≡ kind →
@@ -212,7 +217,8 @@ pub(crate) fn cells<'a, V: Item<N>, const N: usize>(
     nodes: u8,
 ) -> Option<Cells<'a>>
     requires { HasWidth nodes body.now }
-    ensures said { option_map (λ c. entries_in (V.read nodes) (V.width nodes) c.bytes.now) result ≡ V.form.relay_in (content nodes body.now) }
+    ensures said { option_map (λ c. entries_in (V.read nodes) (V.width nodes) c.bytes.now) result ≡
+        V.form.relay_in (content nodes body.now) }
     ensures wide { IfSome result (λ c. c.width ≡ V.width nodes) }
 {
     if kind_of(body, nodes) == V::relay_kind() {

@@ -18,9 +18,37 @@ hear_guessed-requires g c =
     let r : ℕ = c.args.round.number in
     let w = c.args.watch.now in
     let same : (guesses_at w q ≡ true) × (told_at w q ≡ said_at w q) = if_none c.told.result c.in-None.is c.told.ensures.same in
-    let b : BringsEcho g.V.Item.form r q w t = brings_echo g.V.Item.form r q w t c.requires.distinct c.requires.sender c.requires.echoed same.0 same.1 in
-    (omega arith, (lit< tt, (c.requires.capacity, (c.requires.distinct, (c.requires.members, (c.requires.me, (c.requires.sender, (c.requires.some_round, (c.requires.round, (c.requires.room,
-    echo_small g.V.Item.form r q _ w t c.requires.distinct c.requires.sender b c.requires.brings))))))))))
+    let b : BringsEcho g.V.Item.form r q w t = brings_echo g.V.Item.form r q w t c.requires.distinct c.requires.sender c.requires.echoed same.0 same.1 in (
+      omega arith,
+      (
+        lit< tt,
+        (
+          c.requires.capacity,
+          (
+            c.requires.distinct,
+            (
+              c.requires.members,
+              (
+                c.requires.me,
+                (
+                  c.requires.sender,
+                  (
+                    c.requires.some_round,
+                    (
+                      c.requires.round,
+                      (
+                        c.requires.room,
+                        echo_small g.V.Item.form r q _ w t c.requires.distinct c.requires.sender b c.requires.brings,
+                      ),
+                    ),
+                  ),
+                ),
+              ),
+            ),
+          ),
+        ),
+      ),
+    )
 
 pub returns-in-None-clause-heard : goal.returns-in-None-clause-heard
 returns-in-None-clause-heard g c =

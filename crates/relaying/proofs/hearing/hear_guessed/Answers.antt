@@ -23,10 +23,28 @@ fill_echo-count-requires g c =
     let r : ℕ = c.args.round in
     let same : ◌≡◌ {A = Hearing g.row.V.Denot} c.hear_echo.new.self c.args.table.now = c.hear_echo.ensures.left c.if-hear_echo.false in
     let long : length c.cut.new.self ≡ length c.args.table.now.members - 1 = ap length (c.cut.ensures ∙ ap (λ (ms : List ℕ). without_id ms c.args.sender) c.requires.members) ∙ length-without c.args.table.now.members c.args.sender c.requires.distinct c.requires.sender in
-    let inside : (x : ℕ) → has_id c.cut.new.self x ≡ true → has_id c.args.table.now.members x ≡ true = others_in c.args.members.now c.args.table.now.members c.cut.new.self c.args.sender c.requires.members c.cut.ensures in
-    (omega arith, (lit< tt, (c.requires.capacity, (subst (λ (h : Hearing g.row.V.Denot). c.args.me ≡ h.me) (sym same) c.requires.me,
-    (subst (λ (h : Hearing g.row.V.Denot). (x : ℕ) → has_id c.cut.new.self x ≡ true → has_id h.members x ≡ true) (sym same) inside, (c.requires.some_round, (subst (λ (h : Hearing g.row.V.Denot). r ≤ h.rounds) (sym same) c.requires.round,
-    subst (λ (n : ℕ). path_count n r ≤ length c.args.entries.now) (sym long) c.requires.room)))))))
+    let inside : (x : ℕ) → has_id c.cut.new.self x ≡ true → has_id c.args.table.now.members x ≡ true = others_in c.args.members.now c.args.table.now.members c.cut.new.self c.args.sender c.requires.members c.cut.ensures in (
+      omega arith,
+      (
+        lit< tt,
+        (
+          c.requires.capacity,
+          (
+            subst (λ (h : Hearing g.row.V.Denot). c.args.me ≡ h.me) (sym same) c.requires.me,
+            (
+              subst (λ (h : Hearing g.row.V.Denot). (x : ℕ) → has_id c.cut.new.self x ≡ true → has_id h.members x ≡ true) (sym same) inside,
+              (
+                c.requires.some_round,
+                (
+                  subst (λ (h : Hearing g.row.V.Denot). r ≤ h.rounds) (sym same) c.requires.round,
+                  subst (λ (n : ℕ). path_count n r ≤ length c.args.entries.now) (sym long) c.requires.room,
+                ),
+              ),
+            ),
+          ),
+        ),
+      ),
+    )
 
 pub hear_frame-requires : goal.hear_frame-requires
 hear_frame-requires g c =
@@ -40,11 +58,26 @@ hear_frame-requires g c =
     let others : c.cut.new.self ≡ without_id t.members q = c.cut.ensures ∙ ap (λ (ms : List ℕ). without_id ms q) c.requires.members in
     let long : length c.cut.new.self ≡ length t.members - 1 = ap length others ∙ length-without t.members q c.requires.distinct c.requires.sender in
     let count : n ≡ path_count (length t.members - 1) r = c.fill_echo-count.ensures.count ∙ ap (λ (k : ℕ). path_count k r) long in
-    let room : n ≤ length xs = (let l = c.fill_echo-count.ensures.length in let m = c.requires.room in omega arith) in
-    (omega arith, (g.met.V.Item.exact, (subst (λ (h : Hearing g.row.V.Denot). has_id h.members q ≡ true) (sym same) c.requires.sender, (c.requires.some_round, (subst (λ (h : Hearing g.row.V.Denot). r ≤ h.rounds) (sym same) c.requires.round,
-    (subst (λ (h : Hearing g.row.V.Denot). length (take n xs) ≡ path_count (length h.members - 1) r) (sym same) (length-take-le n xs room ∙ count),
-    filled_small u r n c.cut.new.self xs room c.fill_echo-count.ensures.count
-    (subst (λ (s : List ℕ). AreSmall r s u) (sym others) (subst (λ (h : Hearing g.row.V.Denot). AreSmall r (without_id t.members q) h) (sym same) c.requires.small)) c.fill_echo-count.ensures.filled))))))
+    let room : n ≤ length xs = (let l = c.fill_echo-count.ensures.length in let m = c.requires.room in omega arith) in (
+      omega arith,
+      (
+        g.met.V.Item.exact,
+        (
+          subst (λ (h : Hearing g.row.V.Denot). has_id h.members q ≡ true) (sym same) c.requires.sender,
+          (
+            c.requires.some_round,
+            (
+              subst (λ (h : Hearing g.row.V.Denot). r ≤ h.rounds) (sym same) c.requires.round,
+              (
+                subst (λ (h : Hearing g.row.V.Denot). length (take n xs) ≡ path_count (length h.members - 1) r) (sym same) (length-take-le n xs room ∙ count),
+                filled_small u r n c.cut.new.self xs room c.fill_echo-count.ensures.count
+                    (subst (λ (s : List ℕ). AreSmall r s u) (sym others) (subst (λ (h : Hearing g.row.V.Denot). AreSmall r (without_id t.members q) h) (sym same) c.requires.small)) c.fill_echo-count.ensures.filled,
+              ),
+            ),
+          ),
+        ),
+      ),
+    )
 
 pub returns-clause-is : goal.returns-clause-is
 returns-clause-is g c values count says =

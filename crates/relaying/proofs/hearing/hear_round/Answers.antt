@@ -49,8 +49,52 @@ hear_from-requires g c =
     let members : ◌≡◌ {A = List ℕ} c.args.members.now c.loop-q.table.members = c.requires.members ∙ sym (ap (λ (h : Hearing g.row.V.Denot). h.members) is) in
     let me : ◌≡◌ {A = ℕ} c.args.round.me c.loop-q.table.me = c.requires.me ∙ sym (ap (λ (h : Hearing g.row.V.Denot). h.me) is) in
     let on : has_id c.args.members.now q ≡ true = sym c.has.ensures ∙ c.if-has.true in
-    let still : IsEchoed g.V.Item.form r w c.loop-q.table = subst (IsEchoed g.V.Item.form r w) (sym is) (still_echoed g.V.Item.form r q w (heard (slot_rounds g.V.Item.form c.args.table.now.members w)) c.args.table.now (subst Distinct c.requires.members c.requires.distinct) c.requires.echoed) in
-    (omega arith, (omega arith, (lit< tt, (c.requires.capacity, (subst Distinct members c.requires.distinct, (members, (me, (subst (IsHeardBy w c.args.round.nodes) me c.requires.watching, (still, (omega (arith, c.loop-q-test.true), (c.requires.nodes,
-    (subst (λ (ms : List ℕ). has_id ms q ≡ true) members on, ((λ e. c.if-q-round.true (e ∙ sym me)), (c.requires.some_round, (subst (λ (h : Hearing g.row.V.Denot). r ≤ h.rounds) (sym is) c.requires.round,
-    (subst (λ (ms : List ℕ). Brings (path_count (length ms - 1) r) (brought g.V.Item.form w q)) members (c.requires.brings q on),
-    subst (λ (n : ℕ). path_count (length c.loop-q.table.members - 1) r ≤ n) (sym c.loop-q.invariant.1) (subst (λ (ms : List ℕ). path_count (length ms - 1) r ≤ length c.args.entries.now) members c.requires.room)))))))))))))))))
+    let still : IsEchoed g.V.Item.form r w c.loop-q.table = subst (IsEchoed g.V.Item.form r w) (sym is) (still_echoed g.V.Item.form r q w (heard (slot_rounds g.V.Item.form c.args.table.now.members w)) c.args.table.now (subst Distinct c.requires.members c.requires.distinct) c.requires.echoed) in (
+      omega arith,
+      (
+        omega arith,
+        (
+          lit< tt,
+          (
+            c.requires.capacity,
+            (
+              subst Distinct members c.requires.distinct,
+              (
+                members,
+                (
+                  me,
+                  (
+                    subst (IsHeardBy w c.args.round.nodes) me c.requires.watching,
+                    (
+                      still,
+                      (
+                        omega (arith, c.loop-q-test.true),
+                        (
+                          c.requires.nodes,
+                          (
+                            subst (λ (ms : List ℕ). has_id ms q ≡ true) members on,
+                            (
+                              (λ e. c.if-q-round.true (e ∙ sym me)),
+                              (
+                                c.requires.some_round,
+                                (
+                                  subst (λ (h : Hearing g.row.V.Denot). r ≤ h.rounds) (sym is) c.requires.round,
+                                  (
+                                    subst (λ (ms : List ℕ). Brings (path_count (length ms - 1) r) (brought g.V.Item.form w q)) members (c.requires.brings q on),
+                                    subst (λ (n : ℕ). path_count (length c.loop-q.table.members - 1) r ≤ n) (sym c.loop-q.invariant.1) (subst (λ (ms : List ℕ). path_count (length ms - 1) r ≤ length c.args.entries.now) members c.requires.room),
+                                  ),
+                                ),
+                              ),
+                            ),
+                          ),
+                        ),
+                      ),
+                    ),
+                  ),
+                ),
+              ),
+            ),
+          ),
+        ),
+      ),
+    )

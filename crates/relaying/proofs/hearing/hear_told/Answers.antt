@@ -21,9 +21,22 @@ read_entries-read-requires g c =
 pub take_frame-requires : goal.take_frame-requires
 take_frame-requires g c =
     let r : ℕ = c.args.round in
-    let same : ◌≡◌ {A = Hearing g.row.V.Denot} c.hear_expected.new.table c.args.table.now = c.hear_expected.ensures.left c.if-hear_expected.false in
-    (omega arith, (subst (λ (h : Hearing g.row.V.Denot). has_id h.members c.args.sender ≡ true) (sym same) c.requires.sender, (c.requires.some_round, (subst (λ (h : Hearing g.row.V.Denot). r ≤ h.rounds) (sym same) c.requires.round, (c.read_entries-read.ensures.within,
-    subst (λ (h : Hearing g.row.V.Denot). Brings (path_count (length h.members - 1) r) (read_out c.read_entries-read.result c.read_entries-read.new.entries)) (sym same) (subst (Brings _) c.read_entries-read.ensures.read c.requires.brings))))))
+    let same : ◌≡◌ {A = Hearing g.row.V.Denot} c.hear_expected.new.table c.args.table.now = c.hear_expected.ensures.left c.if-hear_expected.false in (
+      omega arith,
+      (
+        subst (λ (h : Hearing g.row.V.Denot). has_id h.members c.args.sender ≡ true) (sym same) c.requires.sender,
+        (
+          c.requires.some_round,
+          (
+            subst (λ (h : Hearing g.row.V.Denot). r ≤ h.rounds) (sym same) c.requires.round,
+            (
+              c.read_entries-read.ensures.within,
+              subst (λ (h : Hearing g.row.V.Denot). Brings (path_count (length h.members - 1) r) (read_out c.read_entries-read.result c.read_entries-read.new.entries)) (sym same) (subst (Brings _) c.read_entries-read.ensures.read c.requires.brings),
+            ),
+          ),
+        ),
+      ),
+    )
 
 pub returns-clause-is : goal.returns-clause-is
 returns-clause-is g c =
