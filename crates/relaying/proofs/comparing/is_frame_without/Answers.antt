@@ -1,4 +1,4 @@
-use Rattle.std.proofs.Common.{ℕ, List, ◌≡◌, ◌≤◌, ◌<◌, length, ap, arith}
+use Rattle.std.proofs.Common.{ℕ, List, ◌≤◌, length, ap, arith}
 use Rattle.omh_paths.specs.Paths.{paths_of_length}
 use Rattle.frames.specs.Seen.{expected}
 use Rattle.error_detect.specs.Guessing.{pieces_without}
