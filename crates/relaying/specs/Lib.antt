@@ -6,3 +6,5 @@ pub mod Comparing
 pub mod FrameLaws
 pub mod Guessed
 pub mod EchoLaws
+pub mod TableLaws
+pub mod Guessable
