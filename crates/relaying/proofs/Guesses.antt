@@ -1,5 +1,5 @@
 -- What a guessed frame makes of what a node heard.
-use Rattle.std.proofs.Common.{ℕ, ◌≡◌, ◌<◌, ◌+◌, ◌-◌, ◌==◌, ◌||◌, ◌&&◌, Bool, true, false, List, [], ◌∷◌, ◌++◌, length, map, take, get_or, Option, None, Some, refl, sym, ap, subst, ◌∙◌, inl, inr, arith, eqb-true}
+use Rattle.std.proofs.Common.{ℕ, ◌≡◌, ◌<◌, ◌+◌, ◌==◌, ◌&&◌, Bool, true, false, List, [], ◌∷◌, ◌++◌, length, map, take, Option, None, Some, refl, sym, ap, subst, ◌∙◌, inl, inr, arith, eqb-true}
 use Rattle.std.specs.Prelude.{slice_index_or, IfNone}
 use Rattle.std.specs.List.{AllByRecursion}
 use Rattle.std.proofs.lemmas.Bool.{cases_Bool, cond-true, cond-false, both_ways, and_parts, or_left}
@@ -12,7 +12,7 @@ use Rattle.omh_paths.specs.Wrapped.{wrapped}
 use Rattle.omh_paths.specs.Paths.{same_nodes, paths_of_length, path_at, path_count, place_in}
 use Rattle.omh_paths.specs.PathLaws.{map_alike}
 use Rattle.omh_paths.specs.PathLists.{same_nodes-tells, length-paths, length-without, IsListed-at, Distinct-without, path_at-place}
-use Rattle.omh.specs.Heard.{Entry, Hearing, heard_in, heard_paths}
+use Rattle.omh.specs.Heard.{Entry, Hearing, heard_in}
 use Rattle.omh.specs.HeardLaws.{IsHeardPath, all_heard_paths}
 use Rattle.heard.specs.Keep.{IsSmall, last_node}
 use Rattle.heard.specs.Seen.{with_frame, as_written, SaysEcho}
@@ -20,7 +20,7 @@ use Rattle.frames.specs.Content.{Expectation, Content}
 use Rattle.error_detect.specs.Watching.{Watch, told_at, guesses, guesses_at, said_in, said_at}
 use Rattle.protocol.specs.Arrival.{Form, arrived, read_as}
 use Rattle.protocol.specs.Arrival.Arrival.{Good}
-use Rattle.relaying.specs.Hearing.{has_path, told_to, all_told, frame_says, with_told, IsByPath, Brings, AreEntries, brought}
+use Rattle.relaying.specs.Hearing.{has_path, told_to, all_told, with_told, IsByPath, Brings, AreEntries, brought}
 use Rattle.relaying.specs.Guessed.{IsEchoOf, IsEchoed, BringsEcho, AreSmall}
 use Rattle.relaying.proofs.Lengths.{take-front}
 use Rattle.relaying.proofs.Putting.{told, mapped, map_at}

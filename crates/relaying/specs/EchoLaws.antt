@@ -1,6 +1,6 @@
 -- A guess that is the table of the round is what the node passes on.
-use Rattle.std.proofs.Common.{ℕ, suc, ◌≡◌, Bool, true, false, not, List, [], ◌∷◌, map, take, Some, refl, sym, ap, subst, ◌∙◌, inl, inr}
-use Rattle.std.specs.Prelude.{Option, filter, if◌then◌else◌}
+use Rattle.std.proofs.Common.{ℕ, suc, ◌≡◌, false, not, List, [], ◌∷◌, map, take, Some, refl, sym, ap, ◌∙◌, inl, inr}
+use Rattle.std.specs.Prelude.{filter}
 use Rattle.std.proofs.lemmas.Bool.{cases_Bool, cond-true, cond-false}
 use Rattle.node_grid.specs.NodeSet.{has_id, without_id}
 use Rattle.omh_paths.specs.declared.wrapped.Wrapped.{Wrapped}
@@ -8,9 +8,9 @@ use Rattle.omh_paths.specs.Paths.{paths_of_length}
 use Rattle.omh_paths.specs.Tables.{tables_law}
 use Rattle.omh_paths.specs.Wrapped.{wrapped}
 use Rattle.omh.specs.Heard.{Hearing, heard_in}
-use Rattle.frames.specs.Content.{Expectation, Content, DoneRelay, ReportRelay, round_in}
-use Rattle.error_detect.specs.Guessing.{entries_without, said_by}
-use Rattle.protocol.specs.Arrival.{Form, claim_form, row_form}
+use Rattle.frames.specs.Content.{Expectation, DoneRelay, ReportRelay, round_in}
+use Rattle.error_detect.specs.Guessing.{entries_without}
+use Rattle.protocol.specs.Arrival.{claim_form, row_form}
 use Rattle.relaying.specs.Guessed.{IsEchoOf}
 use Rattle.relaying.specs.Table.{passed, table}
 

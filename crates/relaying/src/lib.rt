@@ -1,4 +1,5 @@
-//! What relay frames say of an item of each node, and what a node passes on of it: once for all items.
+//! What relay frames say of an item of each node, and what a node passes on of it, once for claims
+//! and rows.
 #![tactic(auto)]
 
 mod comparing;

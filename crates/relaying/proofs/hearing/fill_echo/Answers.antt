@@ -1,7 +1,6 @@
-use Rattle.std.proofs.Common.{ℕ, ◌≡◌, ◌<◌, ◌≤◌, length, refl, sym, ap, subst, ◌∙◌, arith}
+use Rattle.std.proofs.Common.{ℕ, ◌≡◌, ◌<◌, length, refl, ap, ◌∙◌, arith}
 use Rattle.omh_paths.specs.Paths.{path_count}
 use Rattle.omh_paths.specs.MemberLaws.{few_ids}
-use Rattle.relaying.specs.Guessed.{IsFilled}
 use Rattle.relaying.proofs.Filling.{filled_more}
 use Rattle.relaying.proofs.hearing.fill_echo.Goals as goal
 

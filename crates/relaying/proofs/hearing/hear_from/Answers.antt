@@ -1,7 +1,6 @@
-use Rattle.std.proofs.Common.{ℕ, List, ◌≡◌, sym, ap, subst, ◌∙◌, Option, None, Some, true, arith, lit<}
+use Rattle.std.proofs.Common.{ℕ, List, ◌≡◌, sym, ap, subst, ◌∙◌, None, true, arith, lit<}
 use Rattle.std.specs.Prelude.{option_map, IfSome}
 use Rattle.omh_paths.specs.declared.wrapped.Wrapped.{Wrapped}
-use Rattle.omh.specs.Heard.{Hearing}
 use Rattle.frames.specs.Seen.{content, HasWidth}
 use Rattle.error_detect.specs.Watching.{told_at, said_at, guesses_at}
 use Rattle.protocol.specs.Arrival.{Arrival, arrived}

@@ -1,15 +1,14 @@
-use Rattle.std.proofs.Common.{ℕ, List, ◌≡◌, ◌≢◌, ◌<◌, ◌≤◌, ◌-◌, true, false, length, take, sym, ap, subst, ◌∙◌, arith, lit<}
+use Rattle.std.proofs.Common.{ℕ, List, ◌≡◌, ◌≤◌, ◌-◌, true, length, take, sym, ap, subst, ◌∙◌, arith, lit<}
 use Rattle.std.proofs.lemmas.List.{length-take-le}
 use Rattle.node_grid.specs.NodeSet.{has_id, without_id}
-use Rattle.omh_paths.specs.declared.wrapped.Wrapped.{Wrapped}
 use Rattle.omh_paths.specs.Paths.{path_count}
 use Rattle.omh_paths.specs.PathLists.{length-without}
 use Rattle.omh_paths.specs.MemberLaws.{member-lt}
 use Rattle.omh.specs.Heard.{Hearing}
 use Rattle.heard.specs.Seen.{SaysEcho}
 use Rattle.protocol.specs.Arrival.Arrival.{Good}
-use Rattle.relaying.specs.Hearing.{with_told, IsByPath}
-use Rattle.relaying.specs.Guessed.{AreSmall, IsFilled}
+use Rattle.relaying.specs.Hearing.{with_told}
+use Rattle.relaying.specs.Guessed.{AreSmall}
 use Rattle.relaying.proofs.Expected.{others_in}
 use Rattle.relaying.proofs.Guesses.{same_echo}
 use Rattle.relaying.proofs.Filling.{filled_says, filled_small}
