@@ -1,18 +1,18 @@
 -- A guess that is the table of the round is what the node passes on.
-use Rattle.std.proofs.Common.{ℕ, suc, ◌≡◌, false, not, List, [], ◌∷◌, map, take, Some, refl, sym, ap, ◌∙◌, inl, inr}
+use Rattle.std.proofs.Common.{ℕ, suc, ◌≡◌, not, List, [], ◌∷◌, map, Some, refl, sym, ap, ◌∙◌, inl, inr}
 use Rattle.std.specs.Prelude.{filter}
 use Rattle.std.proofs.lemmas.Bool.{cases_Bool, cond-true, cond-false}
 use Rattle.node_grid.specs.NodeSet.{has_id, without_id}
 use Rattle.omh_paths.specs.declared.wrapped.Wrapped.{Wrapped}
 use Rattle.omh_paths.specs.Paths.{paths_of_length}
 use Rattle.omh_paths.specs.Tables.{tables_law}
-use Rattle.omh_paths.specs.Wrapped.{wrapped}
-use Rattle.omh.specs.Heard.{Hearing, heard_in}
+use Rattle.omh.specs.Heard.{Hearing}
 use Rattle.frames.specs.Content.{Expectation, DoneRelay, ReportRelay, round_in}
 use Rattle.error_detect.specs.Guessing.{entries_without}
 use Rattle.protocol.specs.Arrival.{claim_form, row_form}
 use Rattle.relaying.specs.Guessed.{IsEchoOf}
 use Rattle.relaying.specs.Table.{passed, table}
+use Rattle.relaying.specs.TableLaws.{passed_off}
 
 by_filter : {V : Type 0} → (f : List ℕ → V) (q : ℕ) (ps : List (List ℕ)) → entries_without q ps (map f ps) ≡ map f (filter (λ path. not (has_id path q)) ps)
 by_filter f q [] = refl
@@ -36,15 +36,12 @@ part {V} e own h q r members round =
     ∙ by_filter (passed own h r) q (paths_of_length h.members r)
     ∙ ap (map (passed own h r)) (sym (tables_law h.members q r))
 
-off_path : {V : Type 0} (own : Wrapped V) (h : Hearing V) (r : ℕ) (p : List ℕ) → has_id p h.me ≡ false → passed own h (suc r) p ≡ wrapped (heard_in h.heard p)
-off_path own h r p off = cond-false (has_id p h.me) (wrapped (passed own h r (take r p))) (wrapped (heard_in h.heard p)) off
-
 -- the table of a round of claims
 pub claims_echoed : (e : Expectation) (own : Wrapped ℕ) (h : Hearing ℕ) (r : ℕ) → e.members ≡ h.members → round_in e.m e.slot ≡ suc r → IsEchoOf claim_form (suc r) e (DoneRelay (table own h (suc r))) h
 claims_echoed e own h r members round = record {
   of = passed own h (suc r);
   said = λ q. ap Some (part e own h q (suc r) members round);
-  passed_on = λ p off long. off_path own h r p off;
+  passed_on = λ p off long. passed_off own h r p off;
 }
 
 -- and of rows
@@ -52,5 +49,5 @@ pub rows_echoed : (e : Expectation) (own : Wrapped (List ℕ)) (h : Hearing (Lis
 rows_echoed e own h r members round = record {
   of = passed own h (suc r);
   said = λ q. ap Some (part e own h q (suc r) members round);
-  passed_on = λ p off long. off_path own h r p off;
+  passed_on = λ p off long. passed_off own h r p off;
 }

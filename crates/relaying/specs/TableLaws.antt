@@ -1,5 +1,5 @@
 -- What the table of a round says of each sender, and that its entries are in range.
-use Rattle.std.proofs.Common.{ℕ, zero, suc, ◌≡◌, ◌<◌, ◌≤◌, ◌+◌, ◌-◌, ◌*◌, List, [], ◌∷◌, ◌++◌, Bool, true, false, not, if◌then◌else◌, length, map, filter, take, drop, get_or, refl, sym, ap, ap₂, subst, ◌∙◌, inl, inr, arith}
+use Rattle.std.proofs.Common.{ℕ, zero, suc, ◌≡◌, ◌<◌, ◌≤◌, List, [], ◌∷◌, ◌++◌, false, not, length, map, filter, take, drop, refl, sym, ap, ap₂, subst, ◌∙◌, inl, inr, arith}
 use Rattle.std.specs.Prelude.{All}
 use Rattle.std.specs.List.{flat_map}
 use Rattle.std.proofs.lemmas.Bool.{cases_Bool, cond-true, cond-false}
@@ -11,7 +11,7 @@ use Rattle.node_grid.specs.Count.{Distinct}
 use Rattle.omh_paths.specs.declared.wrapped.Wrapped.{Wrapped}
 use Rattle.omh_paths.specs.declared.wrapped.Wrapped.TheVariants.{Plain, Fault}
 use Rattle.omh_paths.specs.Wrapped.{wrapped}
-use Rattle.omh_paths.specs.Paths.{paths_of_length, path_at, path_count}
+use Rattle.omh_paths.specs.Paths.{paths_of_length, path_at}
 use Rattle.omh_paths.specs.PathLists.{length-paths, IsListed-at}
 use Rattle.omh_paths.specs.Tables.{tables_law}
 use Rattle.omh.specs.Heard.{Hearing, heard_in}

@@ -28,14 +28,6 @@ use heard::Heard;
 use node_grid::NodeSet;
 use omh_paths::{Path, Wrapped, count_paths, unrank};
 
-/// The member at a place, in ascending order.
-pub(crate) fn member_at<const N: usize>(set: &NodeSet<N>, place: u8) -> u8
-    requires { place < length set.now }
-    ensures { result ≡ slice_index_or set.now place 0 }
-{
-    set.nth(place).unwrap()
-}
-
 /// Sets the entry at a place.
 pub(crate) fn set_entry<V: Copy>(entries: &mut [Wrapped<V>], place: usize, value: Wrapped<V>)
     requires { place < length entries.old }
@@ -174,7 +166,7 @@ fn says_expected<V: Item<N>, const N: usize>(
         return false;
     }
     for i in 0..others.len() {
-        let c = member_at(others, i);
+        let c = others.at(i);
         let from = i as usize * width;
         if !are_expected(table, cells, nodes, c, round, from, from + width) {
             return false;
