@@ -176,10 +176,12 @@ def write_rows(rows: Iterable[Row], out: Callable[[str], object]) -> None:
         writer.writerow([" ".join(map(str, it)) if isinstance(it, list) else "" if it is None else it for it in cells])
 
 
+def _spread(values: list[int], unit: str = "") -> str:
+    return f"{min(values)} to {max(values)}{unit}, in the middle {statistics.median(values):g}"
+
+
 def _distribution(values: list[int]) -> str:
-    if not values:
-        return "none"
-    return f"{len(values)} times, {min(values)} to {max(values)} periods, in the middle {statistics.median(values):g}"
+    return f"{len(values)} times, {_spread(values, ' periods')}" if values else "none"
 
 
 def page(rows: list[Row]) -> str:
@@ -194,10 +196,10 @@ def page(rows: list[Row]) -> str:
         lines.append(f"  ended with status {status}: {count}, as {next(it.name for it in rows if it.status == status)}")
     margins = [it.margin for it in good if it.margin is not None]
     if margins:
-        lines.append(f"least margin of the bound: {min(margins)} to {max(margins)}, in the middle {statistics.median(margins):g}")
+        lines.append(f"least margin of the bound: {_spread(margins)}")
     skews = [it.skew for it in good if it.skew is not None]
     if skews:
-        lines.append(f"greatest clock skew of sound nodes in claimed periods: {min(skews)} to {max(skews)}, in the middle {statistics.median(skews):g}")
+        lines.append(f"greatest clock skew of sound nodes in claimed periods: {_spread(skews)}")
     lines.append(f"from the first charge until exclusion: {_distribution([n for it in good for n in it.to_exclude])}")
     lines.append(f"from exclusion until the node was back: {_distribution([n for it in good for n in it.to_return])}")
     return "\n".join(lines) + "\n"

@@ -1,12 +1,10 @@
 """Draws scenarios by a seed. The same options and seed give the same scenarios on every machine."""
 from __future__ import annotations
 
-import copy
 import dataclasses
 import random
 
-from . import plan
-from .plan import VALUE_LIMIT, Json, WordsError
+from .plan import VALUE_LIMIT, Json, WordsError, is_always_due
 from .scenario import Scenario
 
 CLASSES = ("benign", "symmetric", "asymmetric")
@@ -78,19 +76,19 @@ def _value(draw: random.Random) -> int:
     return max(-VALUE_LIMIT, min(VALUE_LIMIT, _below(draw, 4001) - 2000))
 
 
-def _tells(s: Scenario, draw: random.Random, node: int, span: tuple[int, int], to: list[int] | None, places: list[int]) -> None:
-    """A wrong value of one of the channels that are due in every period, by their places among the due ones."""
-    place = places[_below(draw, len(places))] if len(places) > 1 else places[0]
-    s.fault(node, {"set": {"at": plan.value_at(place), "hex": plan.value_hex(_value(draw))}}, span, to, [plan.data_slot(s.m)])
+def _tells(s: Scenario, draw: random.Random, node: int, span: tuple[int, int], to: list[int] | None, channels: list[int]) -> None:
+    """A wrong value on one of these channels."""
+    channel = channels[_below(draw, len(channels))] if len(channels) > 1 else channels[0]
+    s.tells(node, _value(draw), channel, span, to)
 
 
-def _benign(s: Scenario, draw: random.Random, node: int, span: tuple[int, int], places: list[int]) -> None:
+def _benign(s: Scenario, draw: random.Random, node: int, span: tuple[int, int], channels: list[int]) -> None:
     (s.silent, s.late, s.twice)[_below(draw, 3)](node, span)
 
 
-def _symmetric(s: Scenario, draw: random.Random, node: int, span: tuple[int, int], places: list[int]) -> None:
-    if places and draw.random() < 0.5:
-        _tells(s, draw, node, span, None, places)
+def _symmetric(s: Scenario, draw: random.Random, node: int, span: tuple[int, int], channels: list[int]) -> None:
+    if channels and draw.random() < 0.5:
+        _tells(s, draw, node, span, None, channels)
     else:
         accused = (node + 1 + _below(draw, s.nodes - 1)) % s.nodes
         s.accuses(node, accused, ["deviate"], span)
@@ -98,13 +96,13 @@ def _symmetric(s: Scenario, draw: random.Random, node: int, span: tuple[int, int
         s.clock_lies(node, _value(draw), span)
 
 
-def _asymmetric(s: Scenario, draw: random.Random, node: int, span: tuple[int, int], places: list[int]) -> None:
+def _asymmetric(s: Scenario, draw: random.Random, node: int, span: tuple[int, int], channels: list[int]) -> None:
     others = [it for it in range(s.nodes) if it != node]
     some = _some(draw, others)
     rest = [it for it in others if it not in some]
-    if places and draw.random() < 0.5:
-        _tells(s, draw, node, span, some, places)
-        _tells(s, draw, node, span, rest, places)
+    if channels and draw.random() < 0.5:
+        _tells(s, draw, node, span, some, channels)
+        _tells(s, draw, node, span, rest, channels)
     elif draw.random() < 0.5:
         s.silent(node, span, some)
     else:
@@ -127,11 +125,13 @@ def drawn(options: Options, index: int, base: Json | None = None) -> Json:
     if any(it not in CLASSES for it in options.classes) or not options.classes:
         raise WordsError(f"the classes are {', '.join(CLASSES)}")
     draw = random.Random(f"{options.seed}/{index}")
-    s = Scenario(copy.deepcopy(base) if base is not None else base_of(options))
-    channels = s.data.get("channels", [])
-    places = [0] if channels and plan.is_always_due(channels[0]) else []
-    if base is None and options.copies:
-        places.append(1)
+    if base is None:
+        s = Scenario(base_of(options), lambda data, period: list(range(len(data["channels"]))))
+        told = list(range(len(s.data["channels"])))
+    else:
+        s = Scenario(base)
+        channels = s.data.get("channels", [])
+        told = [0] if channels and is_always_due(channels[0]) else []
     for node in _chosen(draw, s.nodes, options.faulty):
         ill = _ILL[options.classes[_below(draw, len(options.classes))]]
         period = 1
@@ -140,7 +140,7 @@ def drawn(options: Options, index: int, base: Json | None = None) -> Json:
                 period += 1
                 continue
             last = min(period + _below(draw, options.length), s.periods - 1)
-            ill(s, draw, node, (period, last), places)
+            ill(s, draw, node, (period, last), told)
             if not options.restart:
                 break
             if last + options.restart < s.periods:
