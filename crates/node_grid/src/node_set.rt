@@ -77,6 +77,16 @@ impl<const N: usize> NodeSet<N> {
         self.mask = mask & !(1 << id);
     }
 
+    /// The set without `id`.
+    pub fn without(&self, id: u8) -> NodeSet<N>
+        requires { id < N }
+        ensures { result ≡ without_id self.now id }
+    {
+        let mut rest = *self;
+        rest.cut(id);
+        rest
+    }
+
     /// The members of the two sets together.
     pub fn union(&self, other: &NodeSet<N>) -> NodeSet<N>
         ensures { result ≡ union_of N self.now other.now }
