@@ -1,8 +1,8 @@
 //! What one node heard, and what it settles from that.
 
-ghost use Rattle.std.specs.Prelude.{ℕ, List, ◌≡◌, ◌≢◌, ◌+◌, ◌-◌, ◌<◌, ◌≤◌, ◌∷◌, [], map, length, true, false, IfOk, All};
+ghost use Rattle.std.specs.Prelude.{ℕ, List, ◌≡◌, ◌≢◌, ◌+◌, ◌-◌, ◌<◌, ◌≤◌, ◌∷◌, [], map, length, true, false, IfOk, All, if◌then◌else◌};
 ghost use Rattle.node_grid.specs.Capacity.{IsCapacity};
-ghost use Rattle.node_grid.specs.NodeSet.{has_id, without_id};
+ghost use Rattle.node_grid.specs.NodeSet.{has_id, without_id, IsIdSet};
 ghost use Rattle.omh_paths.specs.declared.wrapped.Wrapped.{Wrapped};
 ghost use Rattle.omh_paths.specs.declared.wrapped.Wrapped.TheVariants.{Fault};
 ghost use Rattle.omh_paths.specs.Paths.{path_count};
@@ -74,6 +74,44 @@ impl<V: Copy + Eq + Drop, const N: usize> Heard<V, N> {
             doubted,
             scratch,
         })
+    }
+
+    /// The members.
+    pub fn members(&self) -> NodeSet<N>
+        ensures members { result ≡ self.now.members }
+        ensures ids { IsIdSet N result }
+        ensures low { (q : ℕ) → has_id result q ≡ true → q < self.now.nodes }
+        ensures rounds { self.now.rounds ≤ 3 }
+    {
+        self.store.members()
+    }
+
+    /// The number of nodes, which are at most the capacity.
+    pub fn nodes(&self) -> u8
+        ensures nodes { result ≡ self.now.nodes }
+        ensures capacity { IsCapacity N }
+        ensures few { result ≤ N }
+    {
+        self.store.nodes
+    }
+
+    /// The node that hears.
+    pub fn me(&self) -> u8
+        ensures me { result ≡ self.now.me }
+        ensures low { result < N }
+    {
+        self.store.me()
+    }
+
+    /// What the node told of itself: its own item where it is Full, and else nothing.
+    pub fn told(&self) -> Wrapped<V>
+        ensures { result ≡ if self.now.full then self.now.own else Fault 0 }
+    {
+        if self.store.is_full() {
+            self.own
+        } else {
+            Wrapped::Fault(0)
+        }
     }
 
     /// Forgets all that was heard, and takes up the members, the node itself, whether it is Full,
