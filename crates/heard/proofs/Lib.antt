@@ -1,3 +1,5 @@
+mod Counts
+mod Backing
 mod OneReceiverLaws
 mod EchoLaws
 mod Readings

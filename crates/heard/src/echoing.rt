@@ -12,10 +12,11 @@ ghost use Rattle.heard.specs.Laid.{IsLaidUpTo, IsLaidOut, laid_parts};
 use crate::doubts::doubt_of_all;
 use crate::places::{cut_node, frame_at, front_of, put_node, set_value, wrapped_by};
 use crate::store::Store;
+use crate::value::Value;
 use node_grid::NodeSet;
 use omh_paths::{Path, Wrapped, count_paths, rank, unrank};
 
-impl<V: Copy + Eq + Drop, const N: usize> Store<V, N> {
+impl<V: Value, const N: usize> Store<V, N> {
     /// What came from the last node of a path for it. Without a relay it is what frames are expected to say.
     pub fn relayed(&self, path: &Path) -> Wrapped<V>
         requires within { (q : ℕ) → has_id path.now q ≡ true → has_id self.now.members q ≡ true }

@@ -3,9 +3,9 @@
 ghost use Rattle.std.specs.Prelude.{ℕ, ◌≡◌, ◌+◌, ◌-◌, ◌<◌, ◌≤◌, true, length, slice_index_or};
 ghost use Rattle.omh_paths.specs.declared.wrapped.Wrapped.TheVariants.{Fault};
 ghost use Rattle.omh_paths.specs.Paths.{path_count};
-ghost use Rattle.omh_paths.specs.Wrapped.{IsExact};
 ghost use Rattle.heard.specs.Keep.{IsFrame};
 
+use crate::value::Value;
 use crate::places::are_one;
 use node_grid::NodeSet;
 use omh_paths::{Wrapped, count_paths};
@@ -22,20 +22,19 @@ pub struct Frame<'a, V, const N: usize> {
 }
 
 /// How many values such a frame has for each commander.
-pub fn width_of<V: Copy + Eq, const N: usize>(frame: &Frame<V, N>) -> usize
+pub fn width_of<V: Value, const N: usize>(frame: &Frame<V, N>) -> usize
     ensures { result ≡ path_count (length frame.now.others - 1) (frame.now.relays - 1) }
 {
     count_paths(frame.others.len().saturating_sub(1), frame.relays - 1)
 }
 
 /// Whether all values from one place up to another are the expected one.
-pub fn are_expected<V: Copy + Eq>(
+pub fn are_expected<V: Value>(
     values: &[Wrapped<V>],
     from: usize,
     until: usize,
     expected: Wrapped<V>,
 ) -> bool
-    requires exact { IsExact V.eq }
     requires within { until ≤ length values.now }
     ensures { result ≡ true → (k : ℕ) → from ≤ k → k < until → slice_index_or values.now k (Fault 0) ≡ expected }
 {

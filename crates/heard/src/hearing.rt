@@ -1,12 +1,13 @@
 //! What one node heard, and what it settles from that.
 
-ghost use Rattle.std.specs.Prelude.{ℕ, List, ◌≡◌, ◌≢◌, ◌+◌, ◌-◌, ◌<◌, ◌≤◌, ◌∷◌, [], map, length, true, false, IfOk, All, if◌then◌else◌};
+ghost use Rattle.std.specs.Prelude.{ℕ, List, ◌≡◌, ◌≢◌, ◌+◌, ◌-◌, ◌<◌, ◌≤◌, ◌&&◌, ◌∷◌, [], map, length};
+ghost use Rattle.std.specs.Prelude.{true, false, IfOk, All, if◌then◌else◌};
 ghost use Rattle.node_grid.specs.Capacity.{IsCapacity};
 ghost use Rattle.node_grid.specs.NodeSet.{has_id, without_id, IsIdSet};
 ghost use Rattle.omh_paths.specs.declared.wrapped.Wrapped.{Wrapped};
 ghost use Rattle.omh_paths.specs.declared.wrapped.Wrapped.TheVariants.{Fault};
 ghost use Rattle.omh_paths.specs.Paths.{path_count};
-ghost use Rattle.omh_paths.specs.Wrapped.{wrapped, IsExact};
+ghost use Rattle.omh_paths.specs.Wrapped.{wrapped};
 ghost use Rattle.omh.specs.Omh.{settled_from};
 ghost use Rattle.equivocation.specs.Conviction.{convicts};
 ghost use Rattle.omh.specs.Heard.{ear_of, heard_in, heard_paths, nothing_heard, with_heard};
@@ -17,6 +18,7 @@ ghost use Rattle.heard.specs.Seen.{with_frame, as_written, SaysExpected, SaysEch
 use crate::doubts::doubt_of_all;
 use crate::places::{are_one, clear, no_sets, unheard, wrapped_by};
 use crate::store::Store;
+use crate::value::Value;
 use node_grid::{NoMemory, NodeSet};
 use omh_paths::{Path, Wrapped, count_paths};
 use std::alloc::Global;
@@ -50,13 +52,15 @@ impl<V, const N: usize> Model for Heard<V, N> {
     ghost invariant = { λ s. IsKept N s.store s.any_frame s.doubted.items s.scratch.items };
 }
 
-impl<V: Copy + Eq + Drop, const N: usize> Heard<V, N> {
+impl<V: Value, const N: usize> Heard<V, N> {
     /// A store for members out of `nodes` nodes and `m` relay rounds, with no members yet.
     pub fn open(alloc: Global, nodes: u8, m: u8) -> Result<Heard<V, N>, NoMemory>
         requires capacity { IsCapacity N }
         requires nodes { nodes ≤ N }
         requires rounds { m ≤ 3 }
-        ensures { IfOk result (λ t. t ≡ record { nodes = nodes; rounds = m; members = []; me = 0; full = false; own = Fault 0; heard = nothing_heard [] 0 m }) }
+        ensures { IfOk result (λ t. t ≡ record {
+            nodes = nodes; rounds = m; members = []; me = 0; full = false; own = Fault 0;
+            heard = nothing_heard [] 0 m }) }
     {
         let Ok(store) = Store::open(alloc, nodes, m) else {
             return Err(NoMemory);
@@ -119,7 +123,9 @@ impl<V: Copy + Eq + Drop, const N: usize> Heard<V, N> {
     pub fn start(&mut self, members: &NodeSet<N>, me: u8, full: bool, own: Wrapped<V>)
         requires members { (q : ℕ) → has_id members.now q ≡ true → q < self.old.nodes }
         requires me { me < self.old.nodes }
-        ensures { self.new ≡ record { nodes = self.old.nodes; rounds = self.old.rounds; members = members.now; me = me; full = full; own = own; heard = nothing_heard members.now me self.old.rounds } }
+        ensures { self.new ≡ record {
+            nodes = self.old.nodes; rounds = self.old.rounds; members = members.now; me = me;
+            full = full; own = own; heard = nothing_heard members.now me self.old.rounds } }
     {
         self.store.start(members, me, full);
         clear(self.doubted.as_mut_slice());
@@ -127,12 +133,16 @@ impl<V: Copy + Eq + Drop, const N: usize> Heard<V, N> {
         self.any_frame = false;
     }
 
-    /// Sets what was heard of a member itself, in place of what was heard of it before.
+    /// Sets what was heard of a member itself, in place of what was heard of it before. Nothing is
+    /// kept of a node that is no member.
     pub fn put_root(&mut self, c: u8, value: Wrapped<V>)
-        requires member { has_id self.old.members c ≡ true }
         requires small { IsSmall 3 value }
-        ensures { self.new ≡ record self.old { heard = map (with_heard (c ∷ []) value) self.old.heard } }
+        ensures { self.new ≡
+            record self.old { heard = map (with_heard (c ∷ []) value) self.old.heard } }
     {
+        if !self.store.has(c) {
+            return;
+        }
         if self.any_frame {
             self.store.put_root(c, value);
             return;
@@ -141,17 +151,21 @@ impl<V: Copy + Eq + Drop, const N: usize> Heard<V, N> {
     }
 
     /// Takes up the values of member `q`'s frame of relay round `r`: for each path of `r` of the
-    /// other members, in lexicographic order, what `q` relays of it.
+    /// other members, in lexicographic order, what `q` relays of it. Nothing is kept of a node that
+    /// is no member, nor of a round that there isn't.
     pub fn hear_frame(&mut self, q: u8, r: u8, values: &[Wrapped<V>])
-        requires exact { IsExact V.eq }
-        requires sender { has_id self.old.members q ≡ true }
         requires some { 0 < r }
-        requires round { r ≤ self.old.rounds }
         requires count { length values.now ≡ path_count (length self.old.members - 1) r }
         requires small { All (IsSmall 3) values.now }
-        ensures is { self.new ≡ record self.old { heard = map (with_frame r q (as_written self.old.members q r values.now)) self.old.heard } }
-        ensures paths { map (λ e. e.path) self.old.heard ≡ heard_paths self.old.members self.old.me self.old.rounds }
+        ensures is { self.new ≡ record self.old {
+            heard = map (with_frame r q (as_written self.old.members q r values.now)) self.old.heard
+        } }
+        ensures paths { map (λ e. e.path) self.old.heard ≡
+            heard_paths self.old.members self.old.me self.old.rounds }
     {
+        if !self.store.hears(q, r) {
+            return;
+        }
         self.store.lay_later(r, self.doubted.as_mut_slice());
         let frame = self.store.frame(q, r, values);
         let deviates = self.store.doubt(&frame, self.doubted.as_mut_slice());
@@ -164,42 +178,49 @@ impl<V: Copy + Eq + Drop, const N: usize> Heard<V, N> {
     }
 
     /// Whether a value is what a frame of relay round `r` is expected to say of member `c`: what
-    /// was heard of it itself, wrapped by each relay. Of the node itself all is.
+    /// was heard of it itself, wrapped by each relay. Of the node itself all is, and nothing of a
+    /// node that is no member, nor of a round that there isn't.
     pub fn expects(&self, c: u8, r: u8, value: Wrapped<V>) -> bool
-        requires exact { IsExact V.eq }
-        requires member { has_id self.now.members c ≡ true }
-        requires round { r ≤ self.now.rounds }
-        ensures { result ≡ true → c ≢ self.now.me → value ≡ wrapped_times r (heard_in self.now.heard (c ∷ [])) }
+        ensures { result ≡ true → c ≢ self.now.me →
+            value ≡ wrapped_times r (heard_in self.now.heard (c ∷ [])) }
     {
         if c == self.store.me() {
             return true;
+        }
+        if !self.store.hears(c, r) {
+            return false;
         }
         are_one(value, wrapped_by(self.store.root(c), r))
     }
 
     /// How many values a frame of relay round `r` has for each commander.
     pub fn values_each(&self, r: u8) -> usize
-        requires some { 0 < r }
         requires round { r ≤ self.now.rounds }
         ensures count { result ≡ path_count (length self.now.members - 2) (r - 1) }
         ensures short { r ≤ 3 }
         ensures few { length self.now.members ≤ 16 }
     {
-        count_paths(self.store.members().len().saturating_sub(2), r - 1)
+        count_paths(self.store.members().len().saturating_sub(2), r.saturating_sub(1))
     }
 
     /// Takes up member `q`'s frame of relay round `r`, whose values are what is expected, without
     /// reading it. Answers false, and takes up nothing, where the frame has to be read.
     pub fn hear_expected(&mut self, q: u8, r: u8) -> bool
-        requires exact { IsExact V.eq }
-        requires sender { has_id self.old.members q ≡ true }
         requires some { 0 < r }
-        requires round { r ≤ self.old.rounds }
-        ensures is { result ≡ true → (values : List (Wrapped V)) → length values ≡ path_count (length self.old.members - 1) r → SaysExpected self.old.me r (without_id self.old.members q) self.old.heard values (length values) →
-            self.new ≡ record self.old { heard = map (with_frame r q (as_written self.old.members q r values)) self.old.heard } }
+        ensures is { result ≡ true → (values : List (Wrapped V)) →
+            length values ≡ path_count (length self.old.members - 1) r →
+            SaysExpected self.old.me r (without_id self.old.members q) self.old.heard
+                values (length values) →
+            self.new ≡ record self.old {
+                heard = map (with_frame r q (as_written self.old.members q r values)) self.old.heard
+            } }
         ensures left { result ≡ false → self.new ≡ self.old }
-        ensures paths { map (λ e. e.path) self.old.heard ≡ heard_paths self.old.members self.old.me self.old.rounds }
+        ensures paths { map (λ e. e.path) self.old.heard ≡
+            heard_paths self.old.members self.old.me self.old.rounds }
     {
+        if !self.store.hears(q, r) {
+            return false;
+        }
         if !self.store.agrees() {
             return false;
         }
@@ -211,18 +232,25 @@ impl<V: Copy + Eq + Drop, const N: usize> Heard<V, N> {
         true
     }
 
-    /// Takes up member `q`'s frame of relay round `r`, whose values are what the node itself passes on for each path: what it
-    /// heard for it, wrapped; without reading it. Answers false, and takes up nothing, where the frame has to be read.
+    /// Takes up member `q`'s frame of relay round `r`, whose values are what the node itself passes
+    /// on for each path: what it heard for it, wrapped; without reading it. Answers false, and takes
+    /// up nothing, where the frame has to be read.
     pub fn hear_echo(&mut self, q: u8, r: u8) -> bool
-        requires exact { IsExact V.eq }
-        requires sender { has_id self.old.members q ≡ true }
         requires some { 0 < r }
-        requires round { r ≤ self.old.rounds }
-        ensures is { result ≡ true → (values : List (Wrapped V)) → length values ≡ path_count (length self.old.members - 1) r → SaysEcho self.old.me r (without_id self.old.members q) self.old.heard values (length values) →
-            self.new ≡ record self.old { heard = map (with_frame r q (as_written self.old.members q r values)) self.old.heard } }
+        ensures is { result ≡ true → (values : List (Wrapped V)) →
+            length values ≡ path_count (length self.old.members - 1) r →
+            SaysEcho self.old.me r (without_id self.old.members q) self.old.heard
+                values (length values) →
+            self.new ≡ record self.old {
+                heard = map (with_frame r q (as_written self.old.members q r values)) self.old.heard
+            } }
         ensures left { result ≡ false → self.new ≡ self.old }
-        ensures paths { map (λ e. e.path) self.old.heard ≡ heard_paths self.old.members self.old.me self.old.rounds }
+        ensures paths { map (λ e. e.path) self.old.heard ≡
+            heard_paths self.old.members self.old.me self.old.rounds }
     {
+        if !self.store.hears(q, r) {
+            return false;
+        }
         if !self.store.is_newest(r) {
             return false;
         }
@@ -234,59 +262,60 @@ impl<V: Copy + Eq + Drop, const N: usize> Heard<V, N> {
         true
     }
 
-    /// Takes up that member `q`'s frame of relay round `r` didn't come.
+    /// Takes up that member `q`'s frame of relay round `r` didn't come. Nothing changes where `q` is
+    /// no member, or where there is no such round.
     pub fn miss_frame(&mut self, q: u8, r: u8)
-        requires sender { has_id self.old.members q ≡ true }
         requires some { 0 < r }
-        requires round { r ≤ self.old.rounds }
-        ensures is { self.new ≡ record self.old { heard = map (with_frame r q (λ path. Fault 0)) self.old.heard } }
-        ensures paths { map (λ e. e.path) self.old.heard ≡ heard_paths self.old.members self.old.me self.old.rounds }
+        ensures is { self.new ≡
+            record self.old { heard = map (with_frame r q (λ path. Fault 0)) self.old.heard } }
+        ensures paths { map (λ e. e.path) self.old.heard ≡
+            heard_paths self.old.members self.old.me self.old.rounds }
     {
+        if !self.store.hears(q, r) {
+            return;
+        }
         self.store.lay_later(r, self.doubted.as_mut_slice());
         self.any_frame = true;
         self.store.take_nothing(q, r);
         doubt_of_all(q, self.doubted.as_mut_slice());
     }
 
-    /// What the node passes on of a path: what it heard for it, wrapped.
+    /// What the node passes on of a path: what it heard for it, wrapped. For a path that isn't one
+    /// of other members, or has more relays than there are rounds, it heard the error.
     pub fn relay(&self, path: &Path) -> Wrapped<V>
-        requires members { (q : ℕ) → has_id path.now q ≡ true → has_id self.now.members q ≡ true }
-        requires others { has_id path.now self.now.me ≡ false }
-        requires short { length path.now ≤ self.now.rounds + 1 }
         ensures { result ≡ wrapped (heard_in self.now.heard path.now) }
     {
         let _len = path.len();
+        if !self.store.hears_for(path) {
+            return Wrapped::Fault(1);
+        }
         self.store.at(path).wrap()
     }
 
-    /// Whether all that the node passes on in relay round `r` is what is expected: for each path of
-    /// `r` of the others what was heard of its first node, wrapped by each relay. False may be said
-    /// where it is, too.
+    /// Whether all that the node passes on up to relay round `r` is what is expected: for each path
+    /// of up to `r` of the others what was heard of its first node, wrapped by each relay. False may
+    /// be said where it is, too.
     pub fn relays_expected(&self, r: u8) -> bool
-        requires exact { IsExact V.eq }
-        requires some { 0 < r }
-        requires round { r ≤ self.now.rounds }
-        ensures { result ≡ true → IsAllExpected self.now r }
+        ensures { result ≡ true → (s : ℕ) → 0 < s → s ≤ r → IsAllExpected self.now s }
     {
-        if r == 1 {
+        if r <= 1 {
             return true;
         }
         self.store.are_as_expected(r - 1)
     }
 
-    /// What was heard of one of the others itself, after `r` relays passed it on.
+    /// What was heard of a node itself, after `r` relays passed it on; the error of all but the
+    /// others.
     pub fn relayed(&self, c: u8, r: u8) -> Wrapped<V>
-        requires other { has_id (without_id self.now.members self.now.me) c ≡ true }
         requires round { r ≤ self.now.rounds }
         ensures { result ≡ wrapped_times r (heard_in self.now.heard (c ∷ [])) }
     {
-        wrapped_by(self.store.root(c), r)
+        wrapped_by(self.store.heard_of(c), r)
     }
 
     /// What the node settles for the item of a member: its own item where it is Full and that
     /// member, and else what follows from what it heard. All that was heard stays.
     pub fn settle(&mut self, commander: u8) -> Wrapped<V>
-        requires exact { IsExact V.eq }
         requires member { has_id self.old.members commander ≡ true }
         ensures settled { result ≡ settled_from V.eq (ear_of self.old) self.old.own commander }
         ensures kept { self.new ≡ self.old }
@@ -312,21 +341,22 @@ impl<V: Copy + Eq + Drop, const N: usize> Heard<V, N> {
     /// something else than is expected. False may be said where it convicts nobody, too. No value
     /// of a frame is read.
     pub fn convicts_nobody(&self) -> bool
-        requires exact { IsExact V.eq }
-        ensures { result ≡ true → (c : ℕ) → has_id self.now.members c ≡ true → c ≢ self.now.me → convicts V.eq (ear_of self.now) c ≡ false }
+        ensures { result ≡ true → (c : ℕ) → has_id self.now.members c ≡ true → c ≢ self.now.me →
+            convicts V.eq (ear_of self.now) c ≡ false }
     {
         self.store.is_unopposed()
     }
 
-    /// Whether the node convicts another member of telling different things. All that was heard
-    /// stays.
+    /// Whether a node is another member that the node convicts of telling different things. All
+    /// that was heard stays.
     pub fn convicts(&mut self, commander: u8) -> bool
-        requires exact { IsExact V.eq }
-        requires member { has_id self.old.members commander ≡ true }
-        requires other { commander ≢ self.old.me }
-        ensures convicted { result ≡ convicts V.eq (ear_of self.old) commander }
+        ensures convicted { result ≡ (has_id (without_id self.old.members self.old.me) commander &&
+            convicts V.eq (ear_of self.old) commander) }
         ensures kept { self.new ≡ self.old }
     {
+        if !self.store.hears_of(commander) {
+            return false;
+        }
         self.store.convicts(commander, self.scratch.as_mut_slice())
     }
 }

@@ -4,9 +4,9 @@ ghost use Rattle.std.specs.Prelude.{ℕ, ◌≡◌, ◌+◌, ◌-◌, ◌*◌, �
 ghost use Rattle.node_grid.specs.Capacity.{IsCapacity};
 ghost use Rattle.node_grid.specs.NodeSet.{with_id, without_id};
 ghost use Rattle.omh_paths.specs.declared.wrapped.Wrapped.TheVariants.{Fault};
-ghost use Rattle.omh_paths.specs.Wrapped.{IsExact};
 ghost use Rattle.heard.specs.Keep.{frames_before, frame_at, wrapped_times, set_at, IsSmall};
 
+use crate::value::Value;
 use node_grid::NodeSet;
 use omh_paths::{Path, Wrapped, count_paths};
 use std::alloc::{AllocError, Global};
@@ -57,7 +57,7 @@ pub fn front_of(path: &Path) -> Path
 }
 
 /// The value after so many relays passed it on.
-pub fn wrapped_by<V: Copy + Eq>(value: Wrapped<V>, times: u8) -> Wrapped<V>
+pub fn wrapped_by<V: Value>(value: Wrapped<V>, times: u8) -> Wrapped<V>
     requires small { IsSmall 3 value }
     requires few { times ≤ 3 }
     ensures wrapped { result ≡ wrapped_times times value }
@@ -104,7 +104,7 @@ pub fn no_sets<const N: usize>(alloc: Global, len: usize) -> Result<Vec<NodeSet<
 }
 
 /// So many values of which nothing was heard.
-pub fn unheard<V: Copy + Eq>(alloc: Global, len: usize) -> Result<Vec<Wrapped<V>>, AllocError>
+pub fn unheard<V: Value>(alloc: Global, len: usize) -> Result<Vec<Wrapped<V>>, AllocError>
     ensures { IfOk result (λ v. v.items ≡ replicate len (Fault 0)) }
 {
     let mut values = Vec::with_capacity(alloc, len)?;
@@ -125,15 +125,14 @@ pub fn clear<const N: usize>(sets: &mut [NodeSet<N>])
 }
 
 /// Whether two values are one.
-pub fn are_one<V: Copy + Eq>(value: Wrapped<V>, expected: Wrapped<V>) -> bool
-    requires { IsExact V.eq }
+pub fn are_one<V: Value>(value: Wrapped<V>, expected: Wrapped<V>) -> bool
     ensures { result ≡ true → value ≡ expected }
 {
     value == expected
 }
 
 /// Puts a value in place of another one.
-pub fn set_value<V: Copy + Eq>(values: &mut [Wrapped<V>], place: usize, value: Wrapped<V>)
+pub fn set_value<V: Value>(values: &mut [Wrapped<V>], place: usize, value: Wrapped<V>)
     requires { place < length values.old }
     ensures { values.new ≡ slice_set values.old place value }
 {

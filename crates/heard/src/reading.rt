@@ -1,17 +1,38 @@
 //! What was heard for a path.
 
-ghost use Rattle.std.specs.Prelude.{◌≡◌, ◌+◌, ◌-◌, ◌≤◌, true, length};
+ghost use Rattle.std.specs.Prelude.{◌≡◌, ◌+◌, ◌-◌, ◌≤◌, true, false, length};
 ghost use Rattle.node_grid.specs.NodeSet.{has_id};
 ghost use Rattle.omh_paths.specs.Paths.{path_count};
-ghost use Rattle.omh_paths.specs.Wrapped.{IsExact};
 ghost use Rattle.heard.specs.Keep.{kept, IsSmall, IsOwnPath, IsRound, IsFrameOf};
 ghost use Rattle.heard.specs.Passing.{AreExpected};
 
 use crate::frame::Frame;
 use crate::store::Store;
+use crate::value::Value;
 use omh_paths::{Path, Wrapped};
 
-impl<V: Copy + Eq + Drop, const N: usize> Store<V, N> {
+impl<V: Value, const N: usize> Store<V, N> {
+    /// Whether something is heard for a path: whether it is one of other members, and has no more
+    /// relays than there are rounds.
+    pub fn hears_for(&self, path: &Path) -> bool
+        ensures yes { result ≡ true → IsOwnPath self.now path.now }
+        ensures none { result ≡ false → IsOwnPath self.now path.now → ⊥ }
+    {
+        let relays = path.len() - 1;
+        if relays > self.rounds {
+            return false;
+        }
+        if path.has(self.me) {
+            return false;
+        }
+        for k in 0..path.len() {
+            if !self.members.has(path.at(k)) {
+                return false;
+            }
+        }
+        true
+    }
+
     /// What was heard for a path.
     pub fn at(&self, path: &Path) -> Wrapped<V>
         requires path { IsOwnPath self.now path.now }
@@ -34,8 +55,7 @@ impl<V: Copy + Eq + Drop, const N: usize> Store<V, N> {
         ensures values { result.values.now ≡ values.now }
         ensures is { IsFrameOf self.now q r (length values.now) result.others }
     {
-        let mut others = self.members;
-        others.cut(q);
+        let others = self.members.without(q);
         let _ids = others.len();
         Frame {
             sender: q,
@@ -45,16 +65,21 @@ impl<V: Copy + Eq + Drop, const N: usize> Store<V, N> {
         }
     }
 
-    /// Whether the frames of `r` relays of all other members say what is expected, and what was
-    /// heard of each member itself is that.
+    /// Whether the frames of 1 to `r` relays of all other members say what is expected, and what
+    /// was heard of each member itself is that.
     pub fn are_as_expected(&self, r: u8) -> bool
-        requires exact { IsExact V.eq }
-        requires round { r ≤ self.now.rounds }
         ensures { result ≡ true → AreExpected self.now r }
     {
-        let mut others = self.members;
-        others.cut(self.me);
-        let late = others.minus(&self.as_expected[r as usize]);
-        late.is_empty() && self.agrees()
+        if r > self.rounds {
+            return false;
+        }
+        let others = self.members.without(self.me);
+        for before in 0..r {
+            let late = others.minus(&self.as_expected[before as usize + 1]);
+            if !late.is_empty() {
+                return false;
+            }
+        }
+        self.agrees()
     }
 }

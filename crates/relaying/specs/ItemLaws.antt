@@ -1,9 +1,6 @@
--- Items are equal only where they are the same, and a relay frame of a kind has such entries.
-use Rattle.std.proofs.Common.{ℕ, List, ◌==◌, ◌≡◌, refl, eq-eqb, eqb-true, ◌+◌, ◌*◌}
+-- A relay frame of a kind has such entries.
+use Rattle.std.proofs.Common.{ℕ, List, ◌==◌, ◌≡◌, refl, ◌+◌, ◌*◌}
 use Rattle.std.specs.Prelude.{IfSome}
-use Rattle.std.specs.Cmp.Lexicographic.{pointwise}
-use Rattle.std.proofs.lemmas.Slice.Eq.{bytes_eq-Decides}
-use Rattle.omh_paths.specs.Wrapped.{IsExact}
 use Rattle.frames.specs.declared.frame.Body.{Body}
 use Rattle.frames.specs.declared.frame.Body.TheVariants as body
 use Rattle.frames.specs.Content.{kind}
@@ -12,12 +9,6 @@ use Rattle.frames.specs.Reading.{claim_in, relayed_row_in}
 use Rattle.frames.specs.Seen.{content, HasWidth}
 use Rattle.protocol.specs.Arrival.{claim_form, row_form}
 use Rattle.relaying.specs.Items.{cells_in, width_in, told_entries}
-
-pub numbers_exact : IsExact {V = ℕ} ◌==◌
-numbers_exact = record { finds = λ x. eq-eqb x x refl; tells = λ x y h. eqb-true x y h }
-
-pub rows_exact : IsExact {V = List ℕ} (pointwise {A = ℕ} ◌==◌)
-rows_exact = record { finds = λ xs. (bytes_eq-Decides xs xs).1 refl; tells = λ xs ys h. (bytes_eq-Decides xs ys).0 h }
 
 pub claims_told : {N : ℕ} (nodes : ℕ) (b : Body N) → told_entries (kind (content nodes b) == claim_relay_kind) claim_in 2 (cells_in b) ≡ claim_form.relay_in (content nodes b)
 claims_told nodes (body.State bytes) = refl

@@ -5,7 +5,6 @@ ghost use Rattle.std.specs.Prelude.{List, length, slice_index_or, IfSome, option
 ghost use Rattle.node_grid.specs.Capacity.{IsCapacity};
 ghost use Rattle.omh_paths.specs.declared.wrapped.Wrapped.{Wrapped};
 ghost use Rattle.omh_paths.specs.declared.wrapped.Wrapped.TheVariants.{Fault};
-ghost use Rattle.omh_paths.specs.Wrapped.{IsExact};
 ghost use Rattle.frames.specs.Reading.{claim_in, relayed_row_in};
 ghost use Rattle.frames.specs.Spelling.{claim_spelling, relayed_row_spelling};
 ghost use Rattle.frames.specs.Writing.{pasted};
@@ -18,15 +17,16 @@ ghost use Rattle.frames.specs.Content.{kind as kind_of};
 ghost use Rattle.frames.specs.FrameKinds.{claim_relay_kind, row_relay_kind};
 ghost use Rattle.frames.specs.declared.frame.Body.{Body};
 ghost use Rattle.relaying.specs.Items.{entries_in, cells_in, width_in, told_entries, AreAlike};
-ghost use Rattle.relaying.specs.ItemLaws.{numbers_exact, rows_exact, claims_told, rows_told};
+ghost use Rattle.relaying.specs.ItemLaws.{claims_told, rows_told};
 ghost use Rattle.relaying.specs.ItemLaws.{claims_wide, rows_wide};
 
 use frames::{Body, Cells, put_done, put_row};
+use heard::Value;
 use node_grid::Row;
 use omh_paths::Wrapped;
 
 /// An item that each node tells of itself, and passes on of the others.
-pub trait Item<const N: usize>: Copy + Eq + Drop {
+pub trait Item<const N: usize>: Value {
     /// How it is told.
     ghost form: { Form Self };
 
@@ -78,9 +78,6 @@ pub trait Item<const N: usize>: Copy + Eq + Drop {
         requires some { value.now ≢ Fault 0 }
         ensures { out.new ≡ pasted (width nodes * k) (spelling nodes value.now) out.old };
 
-    /// Items are equal only where they are the same.
-    ghost exact: { IsExact Self.PartialEq.eq };
-
     /// A frame of that kind has such entries.
     ghost told: { (nodes : ℕ) (b : Body N) →
         told_entries (kind_of (content nodes b) == kind) (read nodes) (width nodes) (cells_in b) ≡
@@ -97,8 +94,6 @@ pub trait Item<const N: usize>: Copy + Eq + Drop {
 
 impl<const N: usize> Item<N> for u8 {
     ghost form = { claim_form };
-
-    ghost exact = { numbers_exact };
 
     ghost width = { λ nodes. 2 };
 
@@ -143,8 +138,6 @@ impl<const N: usize> Item<N> for u8 {
 
 impl<const N: usize> Item<N> for Row<N> {
     ghost form = { row_form };
-
-    ghost exact = { rows_exact };
 
     ghost width = { λ nodes. 1 + 2 * nodes };
 

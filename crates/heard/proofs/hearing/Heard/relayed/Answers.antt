@@ -1,10 +1,8 @@
-use Rattle.std.proofs.Common.{arith}
-use Rattle.heard.proofs.PassingLaws.{other_member, other_relayed, few_relays}
+use Rattle.std.proofs.Common.{ap, ◌∙◌}
+use Rattle.heard.specs.Keep.{wrapped_times}
+use Rattle.heard.proofs.Methods.{heard_alone}
+use Rattle.heard.proofs.PassingLaws.{few_relays}
 use Rattle.heard.proofs.hearing.Heard.relayed.Goals as goal
-
-pub root-requires : goal.root-requires
-root-requires g c =
-    (omega arith, other_member c.self.invariant c.self.view_is c.args.c c.requires.other)
 
 pub wrapped_by-requires-clause-few : goal.wrapped_by-requires-clause-few
 wrapped_by-requires-clause-few g c =
@@ -12,4 +10,4 @@ wrapped_by-requires-clause-few g c =
 
 pub returns : goal.returns
 returns g c =
-    other_relayed c.self.invariant c.self.view_is c.args.c c.args.r c.root.result c.wrapped_by.result c.requires.other c.root.ensures.root c.wrapped_by.ensures.wrapped
+    c.wrapped_by.ensures.wrapped ∙ ap (wrapped_times c.args.r) (heard_alone c.self.invariant c.self.view_is c.args.c c.heard_of.result c.heard_of.ensures.heard c.heard_of.ensures.none)

@@ -26,7 +26,7 @@ index-requires g c =
 
 pub is_backed-requires : goal.is_backed-requires
 is_backed-requires g c =
-    (omega arith, (omega arith, (c.requires.exact, is_member c.self.invariant c.self.view_is c.args.commander c.requires.member)))
+    (omega arith, (omega arith, is_member c.self.invariant c.self.view_is c.args.commander c.requires.member))
 
 pub root-requires : goal.root-requires
 root-requires g c =
@@ -41,14 +41,14 @@ returns-then-is_backed-clause-settled g c =
     let doubted : c.index.result.now ≡ set_at s.doubted.items c' = set_read s.doubted.items c' c.index.result.now (omega (arith, node_low c.self.invariant c.self.view_is c' c.requires.member, c.self.invariant.doubted_ok)) c.index.ensures in
     let once : IsAtOnce g.row.N s.store c' (set_at s.doubted.items c') = subst (IsAtOnce g.row.N s.store c') doubted (c.is_backed.ensures c.if-is_backed.true) in
     other_settled c.self.invariant c.self.view_is g.V.PartialEq.eq c' c.root.result ne c.requires.member
-    (settled_backed g.row.N s.store c.self.invariant.stored s.doubted.items c.self.invariant.hit c' once.all once.doubts ne once.same g.V.PartialEq.eq c.requires.exact member once.enough c.root.result c.root.ensures.root)
+    (settled_backed g.row.N s.store c.self.invariant.stored s.doubted.items c.self.invariant.hit c' once.all once.doubts ne once.same g.V.PartialEq.eq g.met.V.Value.exact member once.enough c.root.result c.root.ensures.root)
 
 pub fold-requires : goal.fold-requires
 fold-requires g c =
     let s = c.self.inside in
     let ne : c.args.commander ≢ s.store.me = λ e. c.if-commander-me.false (e ∙ sym c.me.ensures) in
     let t = rounds_few c.self.invariant c.self.view_is in
-    (omega arith, (c.requires.exact, (own_root c.self.invariant c.self.view_is c.args.commander c.root-2.result c.root-2.ensures c.requires.member ne, omega (arith, t, ap length c.root-2.ensures, room c.self.invariant c.self.view_is c.as_mut_slice.result.now c.as_mut_slice.ensures.value))))
+    (omega arith, (own_root c.self.invariant c.self.view_is c.args.commander c.root-2.result c.root-2.ensures c.requires.member ne, omega (arith, t, ap length c.root-2.ensures, room c.self.invariant c.self.view_is c.as_mut_slice.result.now c.as_mut_slice.ensures.value)))
 
 pub returns-clause-settled : goal.returns-clause-settled
 returns-clause-settled g c =

@@ -68,15 +68,12 @@ fold-term-requires g t c =
           (
             omega arith,
             (
-              c.requires.exact,
-              (
-                record {
-                  within = push_within k.members path c.then.result c.member_at-q.result c.requires.path.within out.0 c.then.ensures;
-                  other = ap (λ p. has_id p k.me) c.then.ensures ∙ off_from path c.member_at-q.result k.me c.requires.path.other (λ same. c.if-q-self.false (same ∙ sym (ap (λ x. x.me) v)));
-                  short = omega (arith, l, deep);
-                },
-                omega (arith, c.loop-k.auto.rest, c.split_at_mut-terms.ensures.back_len, c.requires.room, l, deep),
-              ),
+              record {
+                within = push_within k.members path c.then.result c.member_at-q.result c.requires.path.within out.0 c.then.ensures;
+                other = ap (λ p. has_id p k.me) c.then.ensures ∙ off_from path c.member_at-q.result k.me c.requires.path.other (λ same. c.if-q-self.false (same ∙ sym (ap (λ x. x.me) v)));
+                short = omega (arith, l, deep);
+              },
+              omega (arith, c.loop-k.auto.rest, c.split_at_mut-terms.ensures.back_len, c.requires.room, l, deep),
             ),
           ),
         ),

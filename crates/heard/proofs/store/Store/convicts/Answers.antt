@@ -24,7 +24,7 @@ pub agrees_on-requires : goal.agrees_on-requires
 agrees_on-requires g c =
     let k = c.args.self.now in
     let h : IsStored g.row.N k = subst (IsStored g.row.N) c.self.view_is c.self.invariant in
-    (omega arith, (c.requires.exact, (other_member g.row.N k h c.args.c c.requires.other).0))
+    (omega arith, (other_member g.row.N k h c.args.c c.requires.other).0)
 
 pub then-requires-clause-off : goal.then-requires-clause-off
 then-requires-clause-off g c =
@@ -166,7 +166,7 @@ returns g c =
     let own_is : c.root-2.result ≡ kept k (a.c ∷ []) = c.root-2.ensures.root ∙ sym (kept_root k (a.c ∷ []) (omega arith)) in
     let read_is : c.to_read-read.result ≡ (if c.agrees_on.result then minus_of c.cut-2.new.self (set_at k.as_expected 1) else c.cut-2.new.self) =
     c.to_read-read.ensures ∙ ap (λ t. if c.agrees_on.result then minus_of c.cut-2.new.self t else c.cut-2.new.self) as_expected_is in
-    let less : IsFewer g.V.PartialEq.eq (kept k (a.c ∷ [])) f c.cut-2.new.self c.to_read-read.result = read_fewer g.V.PartialEq.eq c.requires.exact k a.c c.cut-2.new.self c.to_read-read.result c.agrees_on.result (λ t. sym (c.agrees_on.ensures t)) read_is in
+    let less : IsFewer g.V.PartialEq.eq (kept k (a.c ∷ [])) f c.cut-2.new.self c.to_read-read.result = read_fewer g.V.PartialEq.eq g.met.V.Value.exact k a.c c.cut-2.new.self c.to_read-read.result c.agrees_on.result (λ t. sym (c.agrees_on.ensures t)) read_is in
     let m : take c.len-count.result c.loop-k.scratch ≡ take c.loop-k.k c.loop-k.scratch = ap (λ i. take i c.loop-k.scratch) (omega (arith, c.loop-k-test.false, c.loop-k.auto.k-end)) in
     let all : take c.loop-k.k c.to_read-read.result ≡ c.to_read-read.result = take_all c.loop-k.k c.to_read-read.result (omega (arith, c.loop-k-test.false, c.len-count.ensures.count)) in
     let voice : c.if-self.counted ≡ (k.full && has_id k.members k.me) = elim c.if-self.branch [

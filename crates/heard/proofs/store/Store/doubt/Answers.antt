@@ -37,7 +37,7 @@ pub deviates-requires : goal.deviates-requires
 deviates-requires g c =
     let f = c.args.frame.now in
     let low : c.loop-i.i < length f.others = omega (arith, c.loop-i-test.true, c.len-i-end.ensures.count) in
-    (omega arith, (omega arith, (c.requires.exact, commander_block f.fits c.requires.frame c.width_of-width.ensures low c.member_at-c.ensures)))
+    (omega arith, (omega arith, commander_block f.fits c.requires.frame c.width_of-width.ensures low c.member_at-c.ensures))
 
 pub doubt_commander-requires : goal.doubt_commander-requires
 doubt_commander-requires g c =
@@ -46,7 +46,7 @@ doubt_commander-requires g c =
     let k = c.args.self.now in
     let h : IsStored g.row.N k = subst (IsStored g.row.N) c.self.view_is c.self.invariant in
     let l = h.low c.member_at-c.result (commander_member f.fits c.requires.frame c.width_of-width.ensures low c.member_at-c.ensures) in
-    (omega arith, (omega arith, (omega arith, (c.requires.exact, (omega (arith, c.loop-i.auto.doubted, c.requires.sets), commander_block f.fits c.requires.frame c.width_of-width.ensures low c.member_at-c.ensures)))))
+    (omega arith, (omega arith, (omega arith, (omega (arith, c.loop-i.auto.doubted, c.requires.sets), commander_block f.fits c.requires.frame c.width_of-width.ensures low c.member_at-c.ensures))))
 
 pub loop-i-preserved : goal.loop-i-preserved
 loop-i-preserved g c =

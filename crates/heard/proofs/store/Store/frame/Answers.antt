@@ -11,15 +11,15 @@ invariant_of-result g c =
     let k = c.args.self.now in
     let v = c.self.view_is in
     let h : IsStored g.row.N k = subst (IsStored g.row.N) v c.self.invariant in
-    let o : c.cut.new.self ≡ without_id k.members c.args.q = c.cut.ensures ∙ ap (λ x. without_id x.members c.args.q) v in
+    let o : c.without-others.result ≡ without_id k.members c.args.q = c.without-others.ensures ∙ ap (λ x. without_id x.members c.args.q) v in
     record {
       fits = record {
-        few_others = few_ids g.row.N c.cut.new.self h.capacity_ok c.len-ids.ensures.ids;
+        few_others = few_ids g.row.N c.without-others.result h.capacity_ok c.len-ids.ensures.ids;
         sender = member_in g.row.N k h c.args.q c.requires.sender;
         some = c.requires.round.0;
         few = omega (arith, c.requires.round.1, h.rounds_ok);
         others_ok = c.len-ids.ensures.ids;
-        count_ok = frame_count g.row.N k h c.args.q c.requires.sender c.args.r (length c.args.values.now) c.cut.new.self o c.requires.count;
+        count_ok = frame_count g.row.N k h c.args.q c.requires.sender c.args.r (length c.args.values.now) c.without-others.result o c.requires.count;
       };
     }
 
@@ -33,6 +33,6 @@ returns-clause-is g c =
       sender = c.requires.sender;
       some = c.requires.round.0;
       short = c.requires.round.1;
-      others_are = c.cut.ensures ∙ ap (λ x. without_id x.members c.args.q) v;
+      others_are = c.without-others.ensures ∙ ap (λ x. without_id x.members c.args.q) v;
       count_ok = c.requires.count;
     }

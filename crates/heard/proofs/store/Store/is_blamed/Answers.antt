@@ -11,7 +11,7 @@ pub is_else-requires : goal.is_else-requires
 is_else-requires g c =
     let none : c.args.frame.now.relays - 2 ≡ 0 = omega (arith, c.if-frame-eq2.true) in
     let one : path_count (length c.args.free.now - 1) (c.args.frame.now.relays - 2) ≡ 1 = ap (path_count (length c.args.free.now - 1)) none in
-    (omega arith, (omega arith, (omega arith, (c.requires.exact, omega (arith, one, c.requires.line.fits)))))
+    (omega arith, (omega arith, (omega arith, omega (arith, one, c.requires.line.fits))))
 
 pub returns-then-frame-eq2 : goal.returns-then-frame-eq2
 returns-then-frame-eq2 g c =
@@ -31,7 +31,7 @@ is_any_else-requires g c =
     let count : length c.cut.new.self ≡ length a.free.now - 1 = ap length c.cut.ensures ∙ length-without a.free.now a.x (Distinct-ids g.row.N a.free.now c.requires.line.free_ok) c.requires.line.node in
     let r : a.frame.now.relays - 2 ≡ 1 = omega (arith, c.if-frame-eq2.false, c.requires.behind, a.frame.now.fits.few) in
     let one : path_count (length a.free.now - 1) (a.frame.now.relays - 2) ≡ (length a.free.now - 1) * 1 = ap (path_count (length a.free.now - 1)) r in
-    (omega arith, (omega arith, (omega arith, (c.requires.exact, omega (arith, count, one, c.requires.line.fits)))))
+    (omega arith, (omega arith, (omega arith, omega (arith, count, one, c.requires.line.fits))))
 
 pub returns : goal.returns
 returns g c =

@@ -46,7 +46,7 @@ is_blamed-requires g c =
     let low : c.loop-j.j < length free = omega (arith, c.loop-j-test.true, c.len-j-end.ensures.count) in
     let fit = line_in f.fits c.requires.block c.cut.ensures c.requires.behind wide low in (
       omega arith,
-      (omega arith, (omega arith, (c.requires.exact, (c.requires.behind, record { free_ok = c.len.ensures.ids; node = ap (has_id free) c.member_at-x.ensures ∙ has-at free c.loop-j.j 0 low; fits = omega (arith, fit.0, wide) })))),
+      (omega arith, (omega arith, (c.requires.behind, record { free_ok = c.len.ensures.ids; node = ap (has_id free) c.member_at-x.ensures ∙ has-at free c.loop-j.j 0 low; fits = omega (arith, fit.0, wide) }))),
     )
 
 pub put-requires : goal.put-requires
