@@ -12,12 +12,12 @@ ghost use Rattle.protocol.specs.FurtherKinds.{convicts_member};
 ghost use Rattle.node_core.specs.Notes.{noted_row};
 
 use crate::notes::{all_kinds, flag};
-use heard::Heard;
+use heard::{Heard, Value};
 use node_grid::kind::EQUIVOCATE;
 use node_grid::{NodeSet, Row};
 
 /// Whether the node convicts another node, which it does of members alone.
-fn is_convicted<V: Copy + Eq + Drop, const N: usize>(
+fn is_convicted<V: Value, const N: usize>(
     table: &mut Heard<V, N>,
     members: &NodeSet<N>,
     me: u8,
@@ -39,7 +39,7 @@ fn is_convicted<V: Copy + Eq + Drop, const N: usize>(
 }
 
 /// The members that the node convicts by what it heard of an item, where a row has room for that kind.
-pub fn convicted<V: Copy + Eq + Drop, const N: usize>(
+pub fn convicted<V: Value, const N: usize>(
     table: &mut Heard<V, N>,
     members: &NodeSet<N>,
     me: u8,
