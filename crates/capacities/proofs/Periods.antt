@@ -19,8 +19,8 @@ use Rattle.protocol.specs.Cluster.{begins, view}
 use Rattle.protocol.specs.Run.{System, members_in, run, sent, classes}
 use Rattle.protocol.specs.Clocks.{correction_at, offsets}
 use Rattle.protocol.specs.Safe.{reference, members_from, members_at}
-use Rattle.node_core.specs.Outcome.{Outcome}
-use Rattle.node_core.specs.Stages.{outcome_of}
+use Rattle.node_steps.specs.Outcome.{Outcome}
+use Rattle.node_steps.specs.Stages.{outcome_of}
 use Rattle.cluster_step.specs.Record.{ClockShown, PeriodView, holds, budget_in, within_in, claimed_before, class_shown, clock_in, period_record}
 use Rattle.capacities.proofs.Lists.{wide, map_twice, tab_padded}
 use Rattle.capacities.proofs.Standings.{wide_rows}

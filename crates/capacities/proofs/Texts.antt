@@ -14,7 +14,7 @@ use Rattle.omh_paths.specs.declared.wrapped.Wrapped.TheVariants.{Fault}
 use Rattle.list_scheduler.specs.Copies.{CopyTable}
 use Rattle.fault_classes.specs.Plan.{Plan}
 use Rattle.agreed_state.specs.Agreed.{AgreedView}
-use Rattle.node_core.specs.Outcome.{Outcome}
+use Rattle.node_steps.specs.Outcome.{Outcome}
 use Rattle.cluster_step.specs.Record.{ClockShown, PeriodView}
 use Rattle.run_print.specs.Text.{joined, numbers_text, set_text, class_text, claim_text, row_text, done_item, rows_item, mode_text, run_text, runs_text, votes_text}
 use Rattle.run_print.specs.NodeText.{left_text, state_text, settled_text, beliefs_text, node_text}

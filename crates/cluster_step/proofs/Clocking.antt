@@ -17,8 +17,8 @@ use Rattle.protocol.specs.Cluster.{Cluster, begins, view}
 use Rattle.protocol.specs.Run.{System, run, classes}
 use Rattle.protocol.specs.Clocks.{AreClocks, reading_at, readings_at, corrects, correction_at, corrected, offsets, offset_limit}
 use Rattle.safety.specs.ClockLaws.{OffsetLaw}
-use Rattle.node_core.specs.Outcome.{Outcome}
-use Rattle.node_core.specs.Stages.{outcome_of}
+use Rattle.node_steps.specs.Outcome.{Outcome}
+use Rattle.node_steps.specs.Stages.{outcome_of}
 use Rattle.scenario.specs.Scenario.{ScenarioView, system_of, IsScenario}
 use Rattle.cluster_step.specs.Record.{ClockShown, by_node, offsets_in, clock_in}
 use Rattle.cluster_step.specs.Clocking.{IsOffset, AreSteady, start_of, read_by, corrects_by, correction_by, AreOthers, moved, offsets_kept, offsets_before}

@@ -4,7 +4,7 @@ use Rattle.node_grid.specs.Capacity.{IsCapacity}
 use Rattle.node_grid.specs.NodeSet.{ids_below, has_id}
 use Rattle.clock_skew.specs.Clock.{ClockView, IsClock, number_at, drift_at, IsUpTo}
 use Rattle.protocol.specs.Clocks.{reading_at, corrects}
-use Rattle.node_core.specs.Outcome.{Outcome}
+use Rattle.node_steps.specs.Outcome.{Outcome}
 use Rattle.scenario.specs.Scenario.{ScenarioView, system_of}
 use Rattle.cluster_step.specs.Record.{ClockShown, offsets_in}
 

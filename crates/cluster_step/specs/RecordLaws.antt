@@ -4,7 +4,7 @@ use Rattle.std.specs.Prelude.{slice_get}
 use Rattle.std.proofs.lemmas.Option.{slice_get-get_or}
 use Rattle.std.proofs.lemmas.List.FromFn.{get_or-map-range_with_len, length-map-range_with_len}
 use Rattle.node_grid.specs.NodeSet.{ids_below}
-use Rattle.node_core.specs.Outcome.{Outcome}
+use Rattle.node_steps.specs.Outcome.{Outcome}
 
 pub recorded : (f : ℕ → Outcome) (nodes i : ℕ) → i < nodes → slice_get (map f (ids_below nodes)) i ≡ Some (f i)
 recorded f nodes i low =

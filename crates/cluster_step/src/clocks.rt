@@ -6,7 +6,7 @@ ghost use Rattle.node_grid.specs.NodeSet.{ids_below};
 ghost use Rattle.clock_skew.specs.Correction.{IsReading};
 ghost use Rattle.protocol.specs.Cluster.{view};
 ghost use Rattle.protocol.specs.Run.{run as run_of};
-ghost use Rattle.node_core.specs.Stages.{outcome_of};
+ghost use Rattle.node_steps.specs.Stages.{outcome_of};
 ghost use Rattle.scenario.specs.Scenario.{system_of};
 ghost use Rattle.cluster_step.specs.Record.{clock_in};
 ghost use Rattle.cluster_step.specs.Shown.{clock_shown};

@@ -6,8 +6,8 @@ use Rattle.node_grid.specs.NodeSet.{ids_below}
 use Rattle.node_grid.specs.declared.class.Class.TheVariants.{N}
 use Rattle.protocol.specs.Cluster.{view}
 use Rattle.protocol.specs.Run.{run}
-use Rattle.node_core.specs.Outcome.{Outcome}
-use Rattle.node_core.specs.Stages.{outcome_of}
+use Rattle.node_steps.specs.Outcome.{Outcome}
+use Rattle.node_steps.specs.Stages.{outcome_of}
 use Rattle.scenario.specs.Scenario.{system_of}
 use Rattle.cluster_step.specs.Record.{PeriodView}
 use Rattle.cluster_step.specs.RecordLaws.{recorded}

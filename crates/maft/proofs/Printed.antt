@@ -4,8 +4,8 @@ use Rattle.fault_classes.specs.Plan.{Plan}
 use Rattle.scenario.specs.Scenario.{ScenarioView, system_of}
 use Rattle.cluster_step.specs.Record.{PeriodView, period_record}
 use Rattle.agreed_state.specs.declared.config.Config.{Config}
-use Rattle.node_core.specs.Outcome.{Outcome}
-use Rattle.node_core.specs.Stages.{outcome_of}
+use Rattle.node_steps.specs.Outcome.{Outcome}
+use Rattle.node_steps.specs.Stages.{outcome_of}
 use Rattle.run_print.specs.PeriodText.{alone_text}
 use Rattle.node_alone.specs.Log.{RecordView}
 use Rattle.node_alone.specs.Stepping.{AloneView}

@@ -4,7 +4,7 @@ use Rattle.std.specs.List.{flat_map}
 use Rattle.serde_json.specs.Data.{Data}
 use Rattle.node_grid.specs.NodeSet.{ids_below}
 use Rattle.node_grid.specs.declared.class.Class.TheVariants.{N}
-use Rattle.node_core.specs.Outcome.{Outcome}
+use Rattle.node_steps.specs.Outcome.{Outcome}
 use Rattle.scenario.specs.Scenario.{ScenarioView, IsScenario, system_of}
 use Rattle.scenario.specs.Verdict.{IsAcceptedValue}
 use Rattle.cluster_step.specs.Record.{PeriodView, period_record}

@@ -16,12 +16,13 @@ use Rattle.protocol.specs.View.{Kept, Received, opened}
 use Rattle.protocol.specs.Cluster.{kept, begins, view}
 use Rattle.protocol.specs.Run.{System, members_in, expectation, run, deliveries}
 use Rattle.safety.specs.Talk.{DeliveryLaw}
-use Rattle.node_core.specs.Fresh.{newly_open}
-use Rattle.node_core.specs.Parts.{NodeView}
-use Rattle.node_core.specs.Steps.{setting_of, begun}
-use Rattle.node_core.specs.Stages.{due_of, outcome_of}
-use Rattle.node_core.specs.Period.{slots_run, expect_at, goes, Told, IsOver}
-use Rattle.node_core.specs.Sending.{PeriodLaw}
+use Rattle.node_steps.specs.Fresh.{newly_open}
+use Rattle.node_steps.specs.Parts.{NodeView}
+use Rattle.protocol.specs.Configured.{setting_of}
+use Rattle.node_steps.specs.Steps.{begun}
+use Rattle.node_steps.specs.Stages.{due_of, outcome_of}
+use Rattle.node_steps.specs.Period.{slots_run, expect_at, goes, Told, IsOver}
+use Rattle.node_steps.specs.Sending.{PeriodLaw}
 use Rattle.scenario.specs.Scenario.{inputs_of, system_of, IsScenario}
 use Rattle.node_alone.specs.Log.{RecordView, arrivals, entries_at}
 use Rattle.node_alone.specs.View.{received, kept_alone, begins_alone, view_alone}

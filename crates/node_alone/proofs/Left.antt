@@ -3,8 +3,8 @@ use Rattle.std.proofs.Common.{ℕ, ◌≡◌, zero, suc, ◌<◌, ◌≤◌, ◌
 use Rattle.std.specs.Prelude.{All}
 use Rattle.std.proofs.lemmas.List.{drop-map}
 use Rattle.std.proofs.lemmas.List.Elements.{All-head, All-tail}
-use Rattle.node_core.specs.Parts.{NodeView}
-use Rattle.node_core.specs.Steps.{given_frame}
+use Rattle.node_steps.specs.Parts.{NodeView}
+use Rattle.node_steps.specs.Steps.{given_frame}
 use Rattle.node_alone.specs.Log.{Entry, is_before, arriving, arrivals}
 use Rattle.node_alone.specs.Seen.{Ascends, entry_view}
 use Rattle.node_alone.specs.Stepping.{handed, from_slot, IsFromOther, IsReady}

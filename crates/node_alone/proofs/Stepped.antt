@@ -8,12 +8,13 @@ use Rattle.fault_classes.specs.Plan.{restarts_at}
 use Rattle.agreed_state.specs.declared.config.Config.{Config}
 use Rattle.agreed_state.specs.declared.config.Inputs.{Inputs}
 use Rattle.protocol.specs.View.{Kept, nothing, opened}
-use Rattle.node_core.specs.Fresh.{IsFresh}
-use Rattle.node_core.specs.Parts.{NodeView}
-use Rattle.node_core.specs.Steps.{setting_of, restarted}
-use Rattle.node_core.specs.Stages.{outcome_of}
-use Rattle.node_core.specs.Period.{slots_run, expect_at}
-use Rattle.node_core.specs.Sending.{Fixed, fixed, fixed_of, GoesThrough, PeriodLaw}
+use Rattle.node_steps.specs.Fresh.{IsFresh}
+use Rattle.node_steps.specs.Parts.{NodeView}
+use Rattle.protocol.specs.Configured.{setting_of}
+use Rattle.node_steps.specs.Steps.{restarted}
+use Rattle.node_steps.specs.Stages.{outcome_of}
+use Rattle.node_steps.specs.Period.{slots_run, expect_at}
+use Rattle.node_steps.specs.Sending.{Fixed, fixed, fixed_of, GoesThrough, PeriodLaw}
 use Rattle.scenario.specs.Scenario.{inputs_of, IsScenario}
 use Rattle.node_alone.specs.Log.{Entry, RecordView, arriving, arrivals}
 use Rattle.node_alone.specs.View.{received, kept_alone, begins_alone, view_alone}

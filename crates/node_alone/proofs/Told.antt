@@ -13,14 +13,13 @@ use Rattle.agreed_state.specs.Agreed.{AgreedView, IsAgreed}
 use Rattle.agreed_state.specs.AgreedLaws.{first-agreed}
 use Rattle.protocol.specs.Arrival.{arrival, claim_in, claims_in, values_in, row_in, rows_in}
 use Rattle.protocol.specs.Heard.{paths_of, with_entries}
-use Rattle.protocol.specs.View.{Kept, Received}
+use Rattle.protocol.specs.View.{Kept, Received, goes_with}
 use Rattle.protocol.specs.ViewLaws.{due_same, goes_before, goes_due, IsValid, opened_valid, goes_valid, kept_valid}
 use Rattle.protocol.specs.Run.{System, members_in, expectation}
-use Rattle.node_core.specs.Steps.{setting_of}
-use Rattle.protocol.specs.View.{goes_with}
-use Rattle.node_core.specs.Stages.{due_of}
-use Rattle.node_core.specs.Period.{expect_at, goes, Told}
-use Rattle.node_core.specs.Sending.{IsServed}
+use Rattle.protocol.specs.Configured.{setting_of}
+use Rattle.node_steps.specs.Stages.{due_of}
+use Rattle.node_steps.specs.Period.{expect_at, goes, Told}
+use Rattle.node_steps.specs.Sending.{IsServed}
 use Rattle.scenario.specs.Scenario.{inputs_of, system_of}
 use Rattle.node_alone.specs.Log.{RecordView, arrivals, entries_at}
 use Rattle.node_alone.specs.View.{after_sync, members, after_done, received, so_far, kept_alone, begins_alone}

@@ -2,7 +2,7 @@
 use Rattle.std.specs.Prelude.{◌≡◌, ◌≢◌, ◌<◌, ◌+◌, ◌*◌, ℕ}
 use Rattle.protocol.specs.Cluster.{kept, view}
 use Rattle.protocol.specs.Run.{run, deliveries}
-use Rattle.node_core.specs.Stages.{outcome_of}
+use Rattle.node_steps.specs.Stages.{outcome_of}
 use Rattle.scenario.specs.Scenario.{system_of, IsScenario}
 use Rattle.node_alone.specs.Log.{RecordView, entries_at}
 use Rattle.node_alone.specs.View.{kept_alone, view_alone}

@@ -4,12 +4,12 @@ use Rattle.frames.specs.Bound.{IsGreatest}
 use Rattle.error_detect.specs.Multiset.{Arriving, all_delivered}
 use Rattle.fault_classes.specs.Plan.{restarts_at}
 use Rattle.agreed_state.specs.Body.{state_len}
-use Rattle.node_core.specs.Outcome.{Outcome}
-use Rattle.node_core.specs.Parts.{NodeView}
-use Rattle.node_core.specs.Steps.{begun, restarted}
-use Rattle.node_core.specs.Stages.{outcome_of}
-use Rattle.node_core.specs.Period.{slots_run}
-use Rattle.node_core.specs.Sending.{fixed, fixed_of}
+use Rattle.node_steps.specs.Outcome.{Outcome}
+use Rattle.node_steps.specs.Parts.{NodeView}
+use Rattle.node_steps.specs.Steps.{begun, restarted}
+use Rattle.node_steps.specs.Stages.{outcome_of}
+use Rattle.node_steps.specs.Period.{slots_run}
+use Rattle.node_steps.specs.Sending.{fixed, fixed_of}
 use Rattle.scenario.specs.Scenario.{inputs_of}
 use Rattle.node_alone.specs.Log.{Entry, RecordView, is_before, arrivals}
 use Rattle.node_alone.specs.View.{kept_alone, view_alone}

@@ -3,13 +3,14 @@
 ghost use Rattle.std.specs.Prelude.{◌≡◌, ◌<◌, ◌+◌, false, drop, IfOk};
 ghost use Rattle.std.specs.Borrow.{sem};
 ghost use Rattle.node_grid.specs.Capacity.{IsCapacity};
-ghost use Rattle.node_core.specs.Stages.{outcome_of};
+ghost use Rattle.node_steps.specs.Stages.{outcome_of};
 ghost use Rattle.node_alone.specs.View.{view_alone};
 ghost use Rattle.node_alone.specs.Stepping.{begun_alone, from_slot, woken, IsAloneAt};
 
 use crate::delivering::run_slots;
 use crate::record::Record;
-use node_core::{Node, NodeRecord, laws};
+use node_core::{Node, NodeRecord};
+use node_steps::laws;
 use node_grid::NoMemory;
 use std::alloc::Global;
 use std::marker::Model;

@@ -2,7 +2,7 @@
 
 ghost use Rattle.std.specs.Prelude.{◌≡◌, ◌≢◌, ◌<◌, ◌≤◌, ◌+◌, ℕ, true, All, map, drop};
 ghost use Rattle.node_grid.specs.Capacity.{IsCapacity};
-ghost use Rattle.node_core.specs.Period.{slots_run};
+ghost use Rattle.node_steps.specs.Period.{slots_run};
 ghost use Rattle.node_alone.specs.Log.{arrivals};
 ghost use Rattle.node_alone.specs.Seen.{entry_view, Ascends};
 ghost use Rattle.node_alone.specs.Stepping.{handed, from_slot, IsFromOther, IsReady};

@@ -9,7 +9,7 @@ use Rattle.error_detect.specs.declared.finding.Finding.{Finding}
 use Rattle.error_detect.specs.Finding.{kind_of}
 use Rattle.error_detect.specs.Watching.{Watch, finding_at, told_at}
 use Rattle.protocol.specs.Arrival.{arrived, is_good, state_in}
-use Rattle.node_core.specs.Steps.{has_of}
+use Rattle.noting.specs.Findings.{has_of}
 
 -- a loop that ends below the capacity has found the numbers below its end
 pub found_below : (p : ℕ → Bool) (n m : ℕ) → m ≤ n → ids_where_below p n m ≡ ids_where p m

@@ -9,7 +9,7 @@ ghost use Rattle.omh.specs.Heard.{ear_of};
 ghost use Rattle.error_reports.specs.Charge.{accuses};
 ghost use Rattle.node_grid.specs.Kinds.{equivocate};
 ghost use Rattle.protocol.specs.FurtherKinds.{convicts_member};
-ghost use Rattle.node_core.specs.Notes.{noted_row};
+ghost use Rattle.noting.specs.Notes.{noted_row};
 
 use crate::notes::{all_kinds, flag};
 use heard::{Heard, Value};

@@ -8,3 +8,5 @@ pub mod Guessed
 pub mod EchoLaws
 pub mod TableLaws
 pub mod Guessable
+pub mod Relaying
+pub mod Settling

@@ -1,7 +1,7 @@
 -- The printed lines of one node in a period.
 use Rattle.std.specs.Prelude.{ℕ, ◌==◌, List, [], ◌++◌, map, take, Option, None, Some, codes, decimal, if◌then◌else◌}
 use Rattle.agreed_state.specs.Agreed.{AgreedView}
-use Rattle.node_core.specs.Outcome.{Outcome}
+use Rattle.node_steps.specs.Outcome.{Outcome}
 use Rattle.run_print.specs.Text.{joined, numbers_text, set_text, mode_text, runs_text, votes_text, done_item, rows_item}
 
 -- how often each node left, where nodes retire

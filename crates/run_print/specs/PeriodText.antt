@@ -4,7 +4,7 @@ use Rattle.std.specs.List.{flat_map}
 use Rattle.node_grid.specs.NodeSet.{ids_below}
 use Rattle.node_grid.specs.declared.class.Class.TheVariants.{N}
 use Rattle.fault_classes.specs.declared.budget.Budget.{Budget}
-use Rattle.node_core.specs.Outcome.{Outcome}
+use Rattle.node_steps.specs.Outcome.{Outcome}
 use Rattle.cluster_step.specs.Record.{PeriodView}
 use Rattle.run_print.specs.Text.{set_text, yes_no, class_text}
 use Rattle.run_print.specs.NodeText.{node_text}

@@ -3,7 +3,7 @@ ghost use Rattle.std.specs.Prelude.{◌≡◌, ◌≤◌, ◌<◌, ◌∷◌, []
 ghost use Rattle.node_grid.specs.Capacity.{IsCapacity};
 ghost use Rattle.omh_paths.specs.declared.wrapped.Wrapped.TheVariants.{Fault};
 ghost use Rattle.list_scheduler.specs.Copies.{works};
-ghost use Rattle.node_core.specs.Outcome.{mode_of};
+ghost use Rattle.node_core.specs.Modes.{mode_of};
 ghost use Rattle.run_print.specs.Printing.{Prints};
 ghost use Rattle.run_print.specs.ClockText.{signed_text};
 ghost use Rattle.run_print.specs.Text.{joined, numbers_text, set_text, separator_at, yes_no, mode_text, run_text, runs_text, vote_text, vote_item, votes_text, claim_text, row_text, done_item, rows_item};

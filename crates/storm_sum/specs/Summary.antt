@@ -5,7 +5,7 @@ use Rattle.node_grid.specs.NodeSet.{ids_below, has_id}
 use Rattle.node_grid.specs.Count.{count}
 use Rattle.agreed_state.specs.Agreed.{AgreedView}
 use Rattle.protocol.specs.Run.{System, members_in}
-use Rattle.node_core.specs.Outcome.{Outcome}
+use Rattle.node_steps.specs.Outcome.{Outcome}
 use Rattle.scenario.specs.Scenario.{ScenarioView, system_of}
 use Rattle.cluster_step.specs.Record.{PeriodView, period_record}
 use Rattle.run_print.specs.StormText.{StormView}

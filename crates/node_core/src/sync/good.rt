@@ -6,8 +6,8 @@ ghost use Rattle.frames.specs.Seen.{content};
 ghost use Rattle.error_detect.specs.Finding.{kind_of};
 ghost use Rattle.error_detect.specs.Watching.{finding_at, findings};
 ghost use Rattle.protocol.specs.Arrival.{arrived, is_good, state_in};
-ghost use Rattle.node_core.specs.Hearing.{IsHeardBy};
-ghost use Rattle.node_core.specs.Steps.{has_of, good_in};
+ghost use Rattle.node_core.specs.HeardBy.{IsHeardBy};
+ghost use Rattle.noting.specs.Findings.{has_of, good_in};
 
 use crate::sync::noting::has_state;
 use error_detect::{Finding, SlotWatch};

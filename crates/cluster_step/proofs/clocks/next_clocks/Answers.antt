@@ -7,8 +7,8 @@ use Rattle.agreed_state.specs.declared.config.Config.{Config}
 use Rattle.protocol.specs.Cluster.{view}
 use Rattle.protocol.specs.Run.{System, run}
 use Rattle.protocol.specs.Clocks.{correction_at, offsets}
-use Rattle.node_core.specs.Outcome.{Outcome}
-use Rattle.node_core.specs.Stages.{outcome_of}
+use Rattle.node_steps.specs.Outcome.{Outcome}
+use Rattle.node_steps.specs.Stages.{outcome_of}
 use Rattle.scenario.specs.Scenario.{ScenarioView, system_of}
 use Rattle.cluster_step.specs.Record.{ClockShown, by_node, offsets_in, clock_in}
 use Rattle.cluster_step.specs.Shown.{clock_shown}

@@ -3,7 +3,7 @@ use Rattle.std.specs.Prelude.{All}
 use Rattle.frames.specs.Content.{IsValue}
 use Rattle.fault_classes.specs.Plan.{restarts_at}
 use Rattle.agreed_state.specs.declared.config.Inputs.{Inputs}
-use Rattle.node_core.specs.Parts.{NodeView}
+use Rattle.node_steps.specs.Parts.{NodeView}
 use Rattle.scenario.specs.Scenario.{ScenarioView, inputs_of}
 use Rattle.node_alone.specs.Log.{RecordView}
 use Rattle.node_alone.proofs.Stepped.{woken_shut}

@@ -1,7 +1,7 @@
 use Rattle.std.proofs.Common.{◌≡◌, ◌+◌, false, drop, map, length, refl, sym, ap, subst, ◌∙◌, inl, inr, lit<, arith}
 use Rattle.std.specs.Prelude.{All}
 use Rattle.std.proofs.lemmas.List.Elements.{All-nil}
-use Rattle.node_core.specs.Steps.{given_frame}
+use Rattle.node_steps.specs.Steps.{given_frame}
 use Rattle.node_alone.specs.Log.{is_before}
 use Rattle.node_alone.specs.Seen.{entry_view}
 use Rattle.node_alone.proofs.Ordering.{none_before}

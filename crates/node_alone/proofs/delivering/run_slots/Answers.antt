@@ -1,8 +1,8 @@
 use Rattle.std.proofs.Common.{ℕ, ◌≡◌, ◌+◌, suc, inl, inr, lit<, sym, ap, subst, ◌∙◌, arith, map, List}
 use Rattle.error_detect.specs.Multiset.{Arriving}
-use Rattle.node_core.specs.Parts.{NodeView}
-use Rattle.node_core.specs.Steps.{after_slot}
-use Rattle.node_core.specs.Period.{slots_run}
+use Rattle.node_steps.specs.Parts.{NodeView}
+use Rattle.node_steps.specs.Steps.{after_slot}
+use Rattle.node_steps.specs.Period.{slots_run}
 use Rattle.node_alone.specs.Log.{Entry, arrivals}
 use Rattle.node_alone.specs.Seen.{entry_view}
 use Rattle.node_alone.specs.Stepping.{handed, from_slot, IsReady}

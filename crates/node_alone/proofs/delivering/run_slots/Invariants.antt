@@ -1,5 +1,5 @@
 use Rattle.std.proofs.Common.{◌≡◌, drop, map}
-use Rattle.node_core.specs.Period.{slots_run}
+use Rattle.node_steps.specs.Period.{slots_run}
 use Rattle.node_alone.specs.Log.{arrivals}
 use Rattle.node_alone.specs.Seen.{entry_view}
 use Rattle.node_alone.specs.Stepping.{from_slot}

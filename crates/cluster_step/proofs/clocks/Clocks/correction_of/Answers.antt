@@ -5,7 +5,8 @@ use Rattle.std.proofs.lemmas.Int.{to_z-of_z}
 use Rattle.std.proofs.lemmas.Option.{slice_get_read}
 use Rattle.node_grid.specs.NodeSet.{has_id}
 use Rattle.protocol.specs.View.Mode.{Full, Joining, Cold}
-use Rattle.node_core.specs.Outcome.{Outcome, mode_of}
+use Rattle.node_steps.specs.Outcome.{Outcome}
+use Rattle.node_core.specs.Modes.{mode_of}
 use Rattle.cluster_step.proofs.Clocking.{corrects_there, read_alike}
 use Rattle.cluster_step.proofs.clocks.Clocks.correction_of.Goals as goal
 

@@ -1,5 +1,5 @@
 use Rattle.std.proofs.Common.{ℕ, ◌≡◌, ap, ◌∙◌, arith, inl, inr, lit<}
-use Rattle.node_core.specs.Stages.{outcome_of}
+use Rattle.node_steps.specs.Stages.{outcome_of}
 use Rattle.node_alone.specs.View.{view_alone}
 use Rattle.node_alone.specs.Stepping.{AloneView}
 use Rattle.node_alone.proofs.alone.Alone.advance.Goals as goal

@@ -1,7 +1,7 @@
 use Rattle.std.proofs.Common.{◌≡◌, sym, ap, subst, arith, inl, inr, lit<}
 use Rattle.agreed_state.specs.declared.config.Config.{Config}
 use Rattle.agreed_state.specs.Config.{IsConfig}
-use Rattle.node_core.specs.Fresh.{IsFresh}
+use Rattle.node_steps.specs.Fresh.{IsFresh}
 use Rattle.node_alone.proofs.Ordering.{from_first}
 use Rattle.node_alone.proofs.Stepped.{at_start}
 use Rattle.node_alone.proofs.alone.Alone.open.Goals as goal

@@ -1,5 +1,5 @@
 use Rattle.std.proofs.Common.{◌≡◌, ◌+◌, suc, refl, ap, ◌∙◌, arith}
-use Rattle.node_core.specs.Stages.{outcome_of}
+use Rattle.node_steps.specs.Stages.{outcome_of}
 use Rattle.node_alone.specs.Log.{RecordView}
 use Rattle.node_alone.specs.View.{view_alone}
 use Rattle.node_alone.specs.Stepping.{AloneView}

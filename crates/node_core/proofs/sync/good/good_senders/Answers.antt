@@ -5,7 +5,7 @@ use Rattle.node_grid.specs.NodeSetLaws.{ids_where_more_yes, ids_where_more_no}
 use Rattle.error_detect.specs.declared.finding.Finding.TheVariants.{Good}
 use Rattle.error_detect.specs.Watching.{finding_at}
 use Rattle.protocol.specs.Arrival.{is_good, state_in}
-use Rattle.node_core.specs.Steps.{has_of}
+use Rattle.noting.specs.Findings.{has_of}
 use Rattle.node_core.proofs.Goods.{found_below}
 use Rattle.node_core.proofs.sync.good.good_senders.Goals as goal
 use Rattle.node_core.proofs.sync.good.good_senders.Goals.{then-is_good_sender, else-is_good_sender}

@@ -1,7 +1,7 @@
 use Rattle.std.proofs.Common.{◌≡◌, ◌&&◌, ◌==◌, not}
 use Rattle.node_grid.specs.NodeSet.{ids_where_below}
 use Rattle.protocol.specs.Arrival.{is_good, state_in}
-use Rattle.node_core.specs.Steps.{has_of}
+use Rattle.noting.specs.Findings.{has_of}
 use Rattle.node_core.proofs.sync.good.good_senders.Given as goal
 
 abbrev pub invariant-loop-node : goal.invariant-loop-node

@@ -1,0 +1,246 @@
+-- What holds of a node between calls is kept by each step.
+use Rattle.std.proofs.Common.{ℕ, ◌≡◌, ◌<◌, ◌≤◌, ◌+◌, ◌-◌, ◌*◌, ◌==◌, ◌||◌, ◌&&◌, Bool, true, false, if◌then◌else◌, List, map, length, Option, None, Some, refl, sym, subst, ◌∙◌, inl, inr, arith, eq-eqb, ne_eqb}
+use Rattle.std.specs.Prelude.{All, IfSome, nat_le}
+use Rattle.std.proofs.lemmas.Bool.{cases_Bool, cases_eq, cond-true, cond-false}
+use Rattle.std.proofs.lemmas.Bool.Decides.{nat_tests}
+use Rattle.node_grid.specs.Kinds.{deviate}
+use Rattle.node_grid.specs.NodeSetLaws.{IsIdSet-filter}
+use Rattle.node_grid.specs.Count.{Distinct}
+use Rattle.omh_paths.specs.MemberLaws.{Distinct-ids}
+use Rattle.frames.specs.Content.{Expectation, IsClaim, IsRow, IsValue}
+use Rattle.error_detect.specs.Watching.{closed, of_sender}
+use Rattle.omh_paths.specs.declared.wrapped.Wrapped.{Wrapped}
+use Rattle.omh_paths.specs.declared.wrapped.Wrapped.TheVariants.{Plain, Fault}
+use Rattle.omh_paths.specs.Majority.{majority}
+use Rattle.omh_paths.specs.Paths.{same_nodes}
+use Rattle.agreed_state.specs.declared.config.Config.{Config}
+use Rattle.agreed_state.specs.declared.config.Inputs.{Inputs}
+use Rattle.agreed_state.specs.Config.{IsConfig}
+use Rattle.agreed_state.specs.Agreed.{AgreedView, IsAgreed}
+use Rattle.agreed_state.specs.AgreedLaws.{agreed-after}
+use Rattle.agreed_state.specs.Adoption.{adopted, read_of, given}
+use Rattle.agreed_state.specs.ReadLaws.{read_agreed}
+use Rattle.protocol.specs.Arrival.{Arrival, state_in, claim_form, row_form, is_bad, values_in}
+use Rattle.protocol.specs.View.{adopted_by, bodies_for, deviates, empty_row, channel_room}
+use Rattle.node_steps.specs.Parts.{NodeView}
+use Rattle.protocol.specs.Configured.{setting_of}
+use Rattle.node_steps.specs.Steps.{expected_in, with_notes, shut, synced, with_sync, after_sync, taken, slot_taken, after_done, after_data, after_report, heard_done, claims_known, finished, next_open, after_slot, begun, restarted, given_frame}
+use Rattle.data_slot.specs.Values.{only_values}
+use Rattle.noting.specs.Findings.{has_of}
+use Rattle.node_steps.specs.Ranged.{IsRanged}
+use Rattle.node_steps.proofs.Asking.{no_ids}
+pub use Rattle.node_steps.proofs.Asking.{le_is, gt_is}
+use Rattle.node_steps.proofs.Rowing.{row_by_is_row, empty_is_row}
+use Rattle.node_steps.proofs.Valuing.{own_values_fit, no_values_fit}
+use Rattle.node_steps.proofs.Speaking.{claims_speak, rows_speak, round_ranged, nothing_ranged}
+use Rattle.node_steps.specs.Sound.{HasSizes, Hears, IsInSlot, IsSound, IsTaken}
+
+if_some : {X : Type 0} (P : X → Type 0) (o : Option X) → ((x : X) → o ≡ Some x → P x) → IfSome o P
+if_some P None h = tt
+if_some P (Some x) h = h x refl
+
+-- an adopted state is an agreed one
+pub adopted_agreed : {N : ℕ} (config : Config N) (i : ℕ) (sync : ℕ → Arrival (List ℕ)) → N ≤ 16 → IsConfig N config → IfSome (adopted_by (setting_of config) i sync) (λ a. IsAgreed N config a)
+unfolding adopted_by adopted
+adopted_agreed {N} config i sync small ok = if_some (λ a. IsAgreed N config a) _ (λ a e. go a (majority same_nodes (map given (bodies_for (setting_of config) i sync))) e) where
+  go : (a : AgreedView) (w : Wrapped (List ℕ)) → read_of N config w ≡ Some a → IsAgreed N config a
+  go a (Plain b) h = read_agreed N config b a small ok h
+  go a (Fault k) h = absurd (cc)
+
+sizes_shut : {N : ℕ} (v : NodeView N) → HasSizes v → HasSizes (shut v)
+sizes_shut v h = record { kept = h.kept; before = h.before; done_nodes = h.done_nodes; done_rounds = h.done_rounds; rows_nodes = h.rows_nodes; rows_rounds = h.rows_rounds; due = h.due; done_range = h.done_range; rows_range = h.rows_range; carried = h.carried; notes = h.notes; late = h.late; readings = h.readings; values = h.values }
+
+hears_distinct : {N : ℕ} (v : NodeView N) (ms : List ℕ) (a : AgreedView) → HasSizes v → v.phase.before ≡ Some a → ms ≡ a.standing.members → Distinct ms
+hears_distinct {N} v ms a h goes e = subst Distinct (sym e) (Distinct-ids v.config.nodes a.standing.members (subst (λ (o : Option AgreedView). IfSome o (λ b. IsAgreed N v.config b)) goes h.before).standing.set)
+
+-- the sync slot
+sync_taken : {N : ℕ} (v : NodeView N) (o : Option AgreedView) → IsConfig N v.config → HasSizes v → v.phase.slot ≡ 0 → IfSome o (λ a. IsAgreed N v.config a) → IsTaken (synced (with_sync (shut v)) o)
+sync_taken v None ok h zero' a = record {
+  sizes = record { kept = h.kept; before = tt; done_nodes = h.done_nodes; done_rounds = h.done_rounds; rows_nodes = h.rows_nodes; rows_rounds = h.rows_rounds; due = h.due; done_range = h.done_range; rows_range = h.rows_range; carried = h.carried; notes = h.notes; late = h.late; readings = h.readings; values = h.values };
+  within = omega arith;
+  done = tt;
+  rows = λ l. tt;
+}
+sync_taken v (Some b) ok h zero' a = record {
+  sizes = record { kept = h.kept; before = a; done_nodes = h.done_nodes; done_rounds = h.done_rounds; rows_nodes = h.rows_nodes; rows_rounds = h.rows_rounds; due = h.due; done_range = nothing_ranged (IsClaim (length v.config.graph.tasks)) b.standing.members v.phase.me v.done.rounds; rows_range = h.rows_range; carried = h.carried; notes = row_by_is_row (setting_of v.config) v.phase.me _ ok.few_nodes; late = h.late; readings = h.readings; values = h.values };
+  within = omega arith;
+  done = record { members = refl; me_is = refl };
+  rows = λ l. absurd (omega arith);
+}
+
+-- a done slot
+done_taken : {N : ℕ} (v : NodeView N) (a : AgreedView) → IsConfig N v.config → HasSizes v → IsInSlot v → 0 < v.phase.slot → v.phase.slot ≤ v.config.m + 1 → v.phase.before ≡ Some a → IsTaken (after_done (shut v) a)
+done_taken {N} v a ok h s some low goes = elim (cases_Bool (v.phase.slot == v.config.m + 1)) [
+  | inl y ↦ subst (IsTaken {N = N}) (sym (cond-true (v.phase.slot == v.config.m + 1) (claims_known (heard_done (shut v)) a) (heard_done (shut v)) y)) (record {
+    sizes = record { kept = h.kept; before = h.before; done_nodes = h.done_nodes; done_rounds = h.done_rounds; rows_nodes = h.rows_nodes; rows_rounds = h.rows_rounds; due = IsIdSet-filter _ (length v.config.channels.items); done_range = ranged; rows_range = h.rows_range; carried = h.carried; notes = row_by_is_row (setting_of v.config) v.phase.me _ ok.few_nodes; late = h.late; readings = h.readings; values = own_values_fit v.config v.phase.me v.phase.period v.phase.inputs v.kept ok h.readings };
+    within = s.within;
+    done = hears v.phase.before (s.done some);
+    rows = λ l. absurd (omega arith);
+  })
+  | inr n ↦ subst (IsTaken {N = N}) (sym (cond-false (v.phase.slot == v.config.m + 1) (claims_known (heard_done (shut v)) a) (heard_done (shut v)) n)) (record {
+    sizes = record { kept = h.kept; before = h.before; done_nodes = h.done_nodes; done_rounds = h.done_rounds; rows_nodes = h.rows_nodes; rows_rounds = h.rows_rounds; due = h.due; done_range = ranged; rows_range = h.rows_range; carried = h.carried; notes = row_by_is_row (setting_of v.config) v.phase.me _ ok.few_nodes; late = h.late; readings = h.readings; values = h.values };
+    within = s.within;
+    done = hears v.phase.before (s.done some);
+    rows = λ l. absurd (omega arith);
+  })
+]
+  where
+    e : Expectation
+    e = expected_in v v.phase.slot
+
+    ranged : IsRanged (IsClaim (length v.config.graph.tasks)) (heard_done (shut v)).done.heard
+    ranged = round_ranged claim_form (IsClaim (length v.config.graph.tasks)) (closed v.arrived) e v.config.nodes (v.phase.slot - 1) v.done s.expects (λ j. claims_speak (of_sender j e))
+        (cond-true (nat_le v.phase.slot (v.config.m + 1)) (v.phase.slot - 1) (v.phase.slot - (v.config.m + 3)) (le_is v.phase.slot (v.config.m + 1) low))
+        (hears_distinct v v.done.members a h goes (subst (λ (o : Option AgreedView). IfSome o (λ b. Hears v.done v.phase.me b)) goes (s.done some)).members) h.done_range
+
+    hears : (o : Option AgreedView) → IfSome o (λ b. Hears v.done v.phase.me b) → IfSome o (λ b. Hears (heard_done (shut v)).done v.phase.me b)
+    hears None x = tt
+    hears (Some b) x = record { members = x.members; me_is = x.me_is }
+
+-- the data slot
+data_taken : {N : ℕ} (v : NodeView N) (a : AgreedView) → IsConfig N v.config → HasSizes v → IsInSlot v → v.phase.slot ≡ v.config.m + 2 → v.phase.before ≡ Some a → IsTaken (after_data (shut v) a)
+data_taken {N} v a ok h s at goes = record {
+  sizes = record { kept = h.kept; before = h.before; done_nodes = h.done_nodes; done_rounds = h.done_rounds; rows_nodes = h.rows_nodes; rows_rounds = h.rows_rounds; due = h.due; done_range = h.done_range; rows_range = nothing_ranged (IsRow v.config.version N v.config.nodes) a.standing.members v.phase.me v.rows.rounds; carried = h.carried; notes = row v.phase.full; late = h.late; readings = h.readings; values = h.values };
+  within = s.within;
+  done = s.done (omega arith);
+  rows = λ l. subst (λ (o : Option AgreedView). IfSome o (λ b. Hears (after_data (shut v) a).rows v.phase.me b)) (sym goes) (record { members = refl; me_is = refl });
+}
+  where
+    row : (b : Bool) → IsRow v.config.version N v.config.nodes (if b then (with_notes (shut v) (λ j k. is_bad (has_of values_in (shut v).arrived j) k || (deviates (setting_of v.config) v.found.due (after_data (shut v) a).found.votes (only_values (shut v).arrived) j && k == deviate))).found.notes else empty_row (setting_of v.config))
+    row true = row_by_is_row (setting_of v.config) v.phase.me _ ok.few_nodes
+    row false = empty_is_row (setting_of v.config) ok.few_nodes
+
+-- a report slot
+report_taken : {N : ℕ} (v : NodeView N) (a : AgreedView) → IsConfig N v.config → HasSizes v → IsInSlot v → v.config.m + 3 ≤ v.phase.slot → v.phase.before ≡ Some a → IsTaken (after_report (shut v))
+report_taken {N} v a ok h s late goes = record {
+  sizes = record { kept = h.kept; before = h.before; done_nodes = h.done_nodes; done_rounds = h.done_rounds; rows_nodes = h.rows_nodes; rows_rounds = h.rows_rounds; due = h.due; done_range = h.done_range; rows_range = ranged; carried = h.carried; notes = h.notes; late = row_by_is_row (setting_of v.config) v.phase.me _ ok.few_nodes; readings = h.readings; values = h.values };
+  within = s.within;
+  done = s.done (omega arith);
+  rows = λ l. hears v.phase.before (s.rows late);
+}
+  where
+    e : Expectation
+    e = expected_in v v.phase.slot
+
+    ranged : IsRanged (IsRow v.config.version N v.config.nodes) (after_report (shut v)).rows.heard
+    ranged = round_ranged row_form (IsRow v.config.version N v.config.nodes) (closed v.arrived) e v.config.nodes (v.phase.slot - (v.config.m + 3)) v.rows s.expects (λ j. rows_speak (of_sender j e))
+        (cond-false (nat_le v.phase.slot (v.config.m + 1)) (v.phase.slot - 1) (v.phase.slot - (v.config.m + 3)) (gt_is v.phase.slot (v.config.m + 1) (omega arith)))
+        (hears_distinct v v.rows.members a h goes (subst (λ (o : Option AgreedView). IfSome o (λ b. Hears v.rows v.phase.me b)) goes (s.rows late)).members) h.rows_range
+
+    hears : (o : Option AgreedView) → IfSome o (λ b. Hears v.rows v.phase.me b) → IfSome o (λ b. Hears (after_report (shut v)).rows v.phase.me b)
+    hears None x = tt
+    hears (Some b) x = record { members = x.members; me_is = x.me_is }
+
+pub le_told : (a b : ℕ) → nat_le a b ≡ true → a ≤ b
+le_told a b h = grind (arith, nat_tests)
+
+pub gt_told : (a b : ℕ) → nat_le a b ≡ false → b < a
+gt_told a b h = grind (arith, nat_tests)
+
+later_taken : {N : ℕ} (v : NodeView N) (o : Option AgreedView) → IsConfig N v.config → HasSizes v → IsInSlot v → 0 < v.phase.slot → v.phase.before ≡ o → IsTaken (taken (shut v) o)
+later_taken v None ok h s some goes = record {
+  sizes = sizes_shut v h;
+  within = s.within;
+  done = s.done some;
+  rows = λ l. subst (λ (o : Option AgreedView). IfSome o (λ b. Hears v.rows v.phase.me b)) (sym goes) tt;
+}
+later_taken {N} v (Some a) ok h s some goes = elim (cases_Bool (nat_le v.phase.slot (v.config.m + 1))) [
+  | inl y ↦ subst (IsTaken {N = N}) (sym (cond-true (nat_le v.phase.slot (v.config.m + 1)) (after_done (shut v) a) rest y)) (done_taken v a ok h s some (le_told v.phase.slot (v.config.m + 1) y) goes)
+  | inr n ↦ subst (IsTaken {N = N}) (sym (cond-false (nat_le v.phase.slot (v.config.m + 1)) (after_done (shut v) a) rest n)) (elim (cases_eq v.phase.slot (v.config.m + 2)) [
+    | inl e ↦ subst (IsTaken {N = N}) (sym (cond-true (v.phase.slot == v.config.m + 2) (after_data (shut v) a) (after_report (shut v)) (eq-eqb _ _ e))) (data_taken v a ok h s e goes)
+    | inr ne ↦ subst (IsTaken {N = N}) (sym (cond-false (v.phase.slot == v.config.m + 2) (after_data (shut v) a) (after_report (shut v)) (ne_eqb _ _ ne))) (report_taken v a ok h s (let l = gt_told v.phase.slot (v.config.m + 1) n in omega arith) goes)
+  ])
+]
+  where
+    rest : NodeView N
+    rest = if v.phase.slot == v.config.m + 2 then after_data (shut v) a else after_report (shut v)
+
+-- what a slot's end takes
+pub slot_is_taken : {N : ℕ} (v : NodeView N) → N ≤ 16 → IsConfig N v.config → IsSound v → v.phase.is_open ≡ true → IsTaken (slot_taken (shut v))
+slot_is_taken {N} v small ok h open' = elim (cases_eq v.phase.slot 0) [
+  | inl e ↦ subst (IsTaken {N = N}) (sym (cond-true (v.phase.slot == 0) (after_sync (shut v)) (taken (shut v) v.phase.before) (eq-eqb _ _ e)))
+      (sync_taken v (if v.phase.full then v.kept.state else adopted_by (setting_of v.config) v.phase.me (has_of state_in (shut v).arrived)) ok h.sizes e (state v.phase.full))
+  | inr ne ↦ subst (IsTaken {N = N}) (sym (cond-false (v.phase.slot == 0) (after_sync (shut v)) (taken (shut v) v.phase.before) (ne_eqb _ _ ne)))
+      (later_taken v v.phase.before ok h.sizes (h.in_slot open') (omega arith) refl)
+]
+  where
+    state : (b : Bool) → IfSome (if b then v.kept.state else adopted_by (setting_of v.config) v.phase.me (has_of state_in (shut v).arrived)) (λ a. IsAgreed N v.config a)
+    state true = h.sizes.kept
+    state false = adopted_agreed v.config v.phase.me (has_of state_in (shut v).arrived) small ok
+
+end_sound : {N : ℕ} (w : NodeView N) (o : Option AgreedView) → IsConfig N w.config → HasSizes w → w.phase.before ≡ o → IsSound (let u = finished w o in record u { phase = record u.phase { is_open = false } })
+end_sound w None ok h goes = record {
+  sizes = record { kept = tt; before = h.before; done_nodes = h.done_nodes; done_rounds = h.done_rounds; rows_nodes = h.rows_nodes; rows_rounds = h.rows_rounds; due = h.due; done_range = h.done_range; rows_range = h.rows_range; carried = empty_is_row (setting_of w.config) ok.few_nodes; notes = h.notes; late = h.late; readings = h.readings; values = h.values };
+  in_slot = λ e. absurd (cc);
+}
+end_sound {N} w (Some a) ok h goes = record {
+  sizes = record {
+    kept = agreed-after N w.config w.phase.period a w.found.claims _ ok (subst (λ (o : Option AgreedView). IfSome o (λ b. IsAgreed N w.config b)) goes h.before);
+    before = h.before;
+    done_nodes = h.done_nodes;
+    done_rounds = h.done_rounds;
+    rows_nodes = h.rows_nodes;
+    rows_rounds = h.rows_rounds;
+    due = h.due;
+    done_range = h.done_range;
+    rows_range = h.rows_range;
+    carried = row_by_is_row (setting_of w.config) w.phase.me _ ok.few_nodes;
+    notes = h.notes;
+    late = h.late;
+    readings = h.readings;
+    values = h.values;
+  };
+  in_slot = λ e. absurd (cc);
+}
+
+-- the next slot, or the end
+pub next_sound : {N : ℕ} (w : NodeView N) → IsConfig N w.config → IsTaken w → IsSound (next_open w)
+next_sound {N} w ok t = elim (cases_eq w.phase.slot (2 * w.config.m + 3)) [
+  | inl e ↦ subst (IsSound {N = N}) (sym (cond-true (w.phase.slot == 2 * w.config.m + 3) _ _ (eq-eqb _ _ e))) (end_sound w w.phase.before ok t.sizes refl)
+  | inr ne ↦ subst (IsSound {N = N}) (sym (cond-false (w.phase.slot == 2 * w.config.m + 3) _ _ (ne_eqb _ _ ne))) (record {
+    sizes = record { kept = t.sizes.kept; before = t.sizes.before; done_nodes = t.sizes.done_nodes; done_rounds = t.sizes.done_rounds; rows_nodes = t.sizes.rows_nodes; rows_rounds = t.sizes.rows_rounds; due = t.sizes.due; done_range = t.sizes.done_range; rows_range = t.sizes.rows_range; carried = t.sizes.carried; notes = t.sizes.notes; late = t.sizes.late; readings = t.sizes.readings; values = t.sizes.values };
+    in_slot = λ e. record {
+      watching = refl;
+      expects = refl;
+      within = (let l = t.within in omega arith);
+      done = λ l. t.done;
+      rows = λ l. t.rows (omega arith);
+    };
+  })
+]
+
+pub sound_after_slot : {N : ℕ} (v : NodeView N) → N ≤ 16 → IsConfig N v.config → IsSound v → v.phase.is_open ≡ true → IsSound (after_slot v)
+sound_after_slot v small ok h open' = next_sound (slot_taken (shut v)) (same v ok) (slot_is_taken v small ok h open') where
+  is_same : {X : Type 0} (b : Bool) (x y : X) (P : X → Type 0) → P x → P y → P (if b then x else y)
+  is_same true x y P p q = p
+  is_same false x y P p q = q
+
+  synced_same : {N : ℕ} (v : NodeView N) (o : Option AgreedView) → IsConfig N v.config → IsConfig N (synced v o).config
+  synced_same v None ok = ok
+  synced_same v (Some a) ok = ok
+
+  taken_same : {N : ℕ} (v : NodeView N) (o : Option AgreedView) → IsConfig N v.config → IsConfig N (taken v o).config
+  taken_same v None ok = ok
+  taken_same {N} v (Some a) ok = is_same {X = NodeView N} (nat_le v.phase.slot (v.config.m + 1)) (after_done v a) _ (λ u. IsConfig N u.config) (is_same {X = NodeView N} (v.phase.slot == v.config.m + 1) _ _ (λ u. IsConfig N u.config) ok ok)
+      (is_same {X = NodeView N} (v.phase.slot == v.config.m + 2) (after_data v a) (after_report v) (λ u. IsConfig N u.config) ok ok)
+
+  same : {N : ℕ} (v : NodeView N) → IsConfig N v.config → IsConfig N (slot_taken (shut v)).config
+  same {N} v ok = is_same {X = NodeView N} (v.phase.slot == 0) (after_sync (shut v)) (taken (shut v) v.phase.before) (λ u. IsConfig N u.config) (synced_same (with_sync (shut v)) _ ok) (taken_same (shut v) v.phase.before ok)
+
+pub sound_begun : {N : ℕ} (v : NodeView N) (period : ℕ) (inputs : Inputs) → IsConfig N v.config → All IsValue inputs.reading → IsSound v → IsSound (begun v period inputs)
+sound_begun v period inputs ok given h = record {
+  sizes = record { kept = h.sizes.kept; before = h.sizes.kept; done_nodes = h.sizes.done_nodes; done_rounds = h.sizes.done_rounds; rows_nodes = h.sizes.rows_nodes; rows_rounds = h.sizes.rows_rounds; due = no_ids (length v.config.channels.items); done_range = h.sizes.done_range; rows_range = h.sizes.rows_range; carried = h.sizes.carried; notes = h.sizes.carried; late = empty_is_row (setting_of v.config) ok.few_nodes; readings = given; values = no_values_fit channel_room };
+  in_slot = λ e. record { watching = refl; expects = refl; within = omega arith; done = λ l. absurd (omega arith); rows = λ l. absurd (omega arith) };
+}
+
+pub sound_restarted : {N : ℕ} (v : NodeView N) → IsConfig N v.config → v.phase.is_open ≡ false → IsSound v → IsSound (restarted v)
+sound_restarted v ok shut' h = record {
+  sizes = record { kept = tt; before = h.sizes.before; done_nodes = h.sizes.done_nodes; done_rounds = h.sizes.done_rounds; rows_nodes = h.sizes.rows_nodes; rows_rounds = h.sizes.rows_rounds; due = h.sizes.due; done_range = h.sizes.done_range; rows_range = h.sizes.rows_range; carried = empty_is_row (setting_of v.config) ok.few_nodes; notes = h.sizes.notes; late = h.sizes.late; readings = h.sizes.readings; values = h.sizes.values };
+  in_slot = λ e. absurd (let x = sym shut' ∙ e in cc);
+}
+
+pub sound_given : {N : ℕ} (v : NodeView N) (from tick : ℕ) (bytes : List ℕ) → IsSound v → IsSound (given_frame v from tick bytes)
+sound_given v from tick bytes h = record {
+  sizes = record { kept = h.sizes.kept; before = h.sizes.before; done_nodes = h.sizes.done_nodes; done_rounds = h.sizes.done_rounds; rows_nodes = h.sizes.rows_nodes; rows_rounds = h.sizes.rows_rounds; due = h.sizes.due; done_range = h.sizes.done_range; rows_range = h.sizes.rows_range; carried = h.sizes.carried; notes = h.sizes.notes; late = h.sizes.late; readings = h.sizes.readings; values = h.sizes.values };
+  in_slot = λ e. let s = h.in_slot e in record { watching = s.watching; expects = s.expects; within = s.within; done = s.done; rows = s.rows };
+}

@@ -1,0 +1,160 @@
+-- What a slot says of paths lies in range, and so does what a table heard after it.
+use Rattle.std.proofs.Common.{ℕ, zero, suc, ◌≡◌, ◌<◌, ◌+◌, ◌-◌, ◌==◌, ◌||◌, ◌&&◌, not, Bool, true, false, List, [], ◌∷◌, ◌++◌, length, map, filter, reverse, Option, None, Some, refl, sym, ap, subst, ◌∙◌, inl, inr, arith}
+use Rattle.std.specs.Prelude.{All, if◌then◌else◌}
+use Rattle.std.specs.List.{AllByRecursion}
+use Rattle.std.proofs.lemmas.Bool.{cases_Bool, cond-true, cond-false}
+use Rattle.std.proofs.lemmas.List.{length-reverse, length_push}
+use Rattle.node_grid.specs.NodeSet.{has_id, without_id}
+use Rattle.node_grid.specs.Count.{Distinct}
+use Rattle.omh_paths.specs.declared.wrapped.Wrapped.{Wrapped}
+use Rattle.omh_paths.specs.declared.wrapped.Wrapped.TheVariants.{Fault}
+use Rattle.omh_paths.specs.Paths.{same_nodes, paths_of_length, path_at}
+use Rattle.omh_paths.specs.PathLists.{same_nodes-tells, IsListed-at, length-paths, Distinct-without}
+use Rattle.omh.specs.Heard.{Hearing, heard_in, heard_paths, nothing_heard, entry as entry_of}
+use Rattle.frames.specs.Content.{Content, Expectation, IsEntry, IsClaim, IsRow, IsSized, round_in}
+use Rattle.frames.specs.Content.Content.{State, Done0, DoneRelay, Data, Report0, ReportRelay, Cold}
+use Rattle.error_detect.specs.Watching.{Watch, of_sender, told_at}
+use Rattle.protocol.specs.Arrival.{Form, arrived, read_as, claim_form, row_form}
+use Rattle.protocol.specs.Arrival.Arrival.{Good}
+use Rattle.protocol.specs.Heard.{paths_of, heard, heard_back}
+use Rattle.protocol.specs.View.{content}
+use Rattle.relaying.specs.Hearing.{has_path, slot_rounds, pushed, paths_from, paths_told, all_told, after_round}
+use Rattle.node_steps.specs.Ranged.{HeardIn, IsRanged}
+use Rattle.node_steps.proofs.Ranges.{ranged_told, entry_in, said_in}
+use Rattle.node_steps.proofs.Telling.{told_in_range}
+
+-- ---- the paths of a round have a length
+
+all_append : (P : List ℕ → Type 0) (ps qs : List (List ℕ)) → AllByRecursion P ps → AllByRecursion P qs → AllByRecursion P (ps ++ qs)
+all_append P [] qs a b = b
+all_append P (p ∷ ps) qs a b = (a.0, all_append P ps qs a.1 b)
+
+all_filter : (P : List ℕ → Type 0) (f : List ℕ → Bool) (ps : List (List ℕ)) → AllByRecursion P ps → AllByRecursion P (filter f ps)
+all_filter P f [] a = tt
+all_filter P f (p ∷ ps) a = elim (cases_Bool (f p)) [
+  | inl y ↦ subst (AllByRecursion P) (sym (cond-true (f p) (p ∷ filter f ps) (filter f ps) y)) (a.0, all_filter P f ps a.1)
+  | inr n ↦ subst (AllByRecursion P) (sym (cond-false (f p) (p ∷ filter f ps) (filter f ps) n)) (all_filter P f ps a.1)
+]
+
+all_pushed : (q r : ℕ) (ps : List (List ℕ)) → AllByRecursion (λ p. length p ≡ r) ps → AllByRecursion (λ p. length p ≡ r + 1) (map (λ p. p ++ q ∷ []) ps)
+all_pushed q r [] a = tt
+all_pushed q r (p ∷ ps) a = ((let e = a.0 in omega (arith, length_push p q)), all_pushed q r ps a.1)
+
+all_at : (P : List ℕ → Type 0) (ps : List (List ℕ)) → ((k : ℕ) → k < length ps → P (path_at ps k)) → AllByRecursion P ps
+all_at P [] h = tt
+all_at P (p ∷ ps) h = (h 0 (omega arith), all_at P ps (λ k l. h (suc k) (omega arith)))
+
+told_long : (members : List ℕ) (me r n : ℕ) → Distinct members → AllByRecursion (λ p. length p ≡ r + 1) (all_told members me r n)
+told_long members me r zero d = tt
+told_long members me r (suc n) d = all_append (λ p. length p ≡ r + 1) (all_told members me r n) (paths_told members me r n) (told_long members me r n d) (here (has_id members n && not (n == me))) where
+  t : List ℕ
+  t = without_id members n
+
+  dt : Distinct t
+  dt = Distinct-without members n d
+
+  here : (b : Bool) → AllByRecursion (λ p. length p ≡ r + 1) (if b then paths_from members me r n else [])
+  here true = all_filter (λ p. length p ≡ r + 1) (λ p. not (has_id p me)) (pushed members r n) (all_pushed n r (paths_of_length t r) (all_at (λ p. length p ≡ r) (paths_of_length t r) (λ k l. (IsListed-at t r k dt (let e = length-paths t r dt in omega arith)).long)))
+  here false = tt
+
+has_long : (n : ℕ) (ps : List (List ℕ)) (p : List ℕ) → AllByRecursion (λ q. length q ≡ n) ps → has_path ps p ≡ true → length p ≡ n
+has_long n [] p a h = absurd (cc)
+has_long n (x ∷ ps) p a h = elim (cases_Bool (same_nodes x p)) [
+  | inl y ↦ ap length (sym (same_nodes-tells x p y)) ∙ a.0
+  | inr isnt ↦ has_long n ps p a.1 (ap (λ (b : Bool). b || has_path ps p) (sym isnt) ∙ h)
+]
+
+-- ---- what a content says of an item is in range
+
+pub record Speaks {V : Type 0} (form : Form V) (P : V → Type 0) (e : Expectation) : Type 0 where
+  pub item : (c : Content) (v : V) → form.item_in c ≡ Some v → IsSized e c → P v
+  pub relay : (c : Content) (xs : List (Wrapped V)) → form.relay_in c ≡ Some xs → IsSized e c → All (IsEntry P (round_in e.m e.slot)) xs
+
+or_else : {X : Type 0} → Option X → X → X
+or_else None d = d
+or_else (Some x) d = x
+
+some_same : {X : Type 0} (x y : X) → Some x ≡ Some y → x ≡ y
+unfolding or_else
+some_same x y h = ap (λ o. or_else o x) h
+
+pub claims_speak : (e : Expectation) → Speaks claim_form (IsClaim e.tasks) e
+claims_speak e = record { item = item; relay = relay } where
+  item : (c : Content) (v : ℕ) → claim_form.item_in c ≡ Some v → IsSized e c → IsClaim e.tasks v
+  item (Done0 t) v h s = subst (IsClaim e.tasks) (some_same t v h) s
+  item (State b) v h s = absurd (cc)
+  item (DoneRelay b) v h s = absurd (cc)
+  item (Data b) v h s = absurd (cc)
+  item (Report0 b) v h s = absurd (cc)
+  item (ReportRelay b) v h s = absurd (cc)
+  item Cold v h s = absurd (cc)
+
+  relay : (c : Content) (xs : List (Wrapped ℕ)) → claim_form.relay_in c ≡ Some xs → IsSized e c → All (IsEntry (IsClaim e.tasks) (round_in e.m e.slot)) xs
+  relay (DoneRelay ys) xs h s = subst (λ zs. All (IsEntry (IsClaim e.tasks) (round_in e.m e.slot)) zs) (some_same ys xs h) s.1
+  relay (State b) v h s = absurd (cc)
+  relay (Done0 b) v h s = absurd (cc)
+  relay (Data b) v h s = absurd (cc)
+  relay (Report0 b) v h s = absurd (cc)
+  relay (ReportRelay b) v h s = absurd (cc)
+  relay Cold v h s = absurd (cc)
+
+pub rows_speak : (e : Expectation) → Speaks row_form (IsRow e.version e.capacity e.nodes) e
+rows_speak e = record { item = item; relay = relay } where
+  item : (c : Content) (v : List ℕ) → row_form.item_in c ≡ Some v → IsSized e c → IsRow e.version e.capacity e.nodes v
+  item (Report0 t) v h s = subst (IsRow e.version e.capacity e.nodes) (some_same t v h) s
+  item (State b) v h s = absurd (cc)
+  item (Done0 b) v h s = absurd (cc)
+  item (DoneRelay b) v h s = absurd (cc)
+  item (Data b) v h s = absurd (cc)
+  item (ReportRelay b) v h s = absurd (cc)
+  item Cold v h s = absurd (cc)
+
+  relay : (c : Content) (xs : List (Wrapped (List ℕ))) → row_form.relay_in c ≡ Some xs → IsSized e c → All (IsEntry (IsRow e.version e.capacity e.nodes) (round_in e.m e.slot)) xs
+  relay (ReportRelay ys) xs h s = subst (λ zs. All (IsEntry (IsRow e.version e.capacity e.nodes) (round_in e.m e.slot)) zs) (some_same ys xs h) s.1
+  relay (State b) v h s = absurd (cc)
+  relay (Done0 b) v h s = absurd (cc)
+  relay (DoneRelay b) v h s = absurd (cc)
+  relay (Data b) v h s = absurd (cc)
+  relay (Report0 b) v h s = absurd (cc)
+  relay Cold v h s = absurd (cc)
+
+good_is : {C : Type 0} (part : Content → Option C) (o : Option Content) (v : C) → arrived part None o ≡ Good v → (c : Content) × ((o ≡ Some c) × (part c ≡ Some v))
+good_is part None v h = absurd (cc)
+good_is {C} part (Some c) v h = (c, (refl, inner (part c) h)) where
+  inner : (x : Option C) → read_as x ≡ Good v → x ≡ Some v
+  inner None g = absurd (cc)
+  inner (Some y) g = ap content g
+
+-- what the slot of round r says of a path of that round
+spoken : {V : Type 0} (form : Form V) (P : V → Type 0) (w : Watch) (e : Expectation) (members : List ℕ) (me r nodes : ℕ) → w.expect ≡ Some e → ((j : ℕ) → Speaks form P (of_sender j e)) → round_in e.m e.slot ≡ r → Distinct members
+    → (p : List ℕ) → has_path (all_told members me r nodes) p ≡ true → HeardIn P (length p - 1) (heard (slot_rounds form members w) p)
+spoken {V} form P w e members me r nodes is speaks round d p on =
+    let n : length p ≡ r + 1 = has_long (r + 1) (all_told members me r nodes) p (told_long members me r nodes d) on in
+    let m : r ≡ length p - 1 = omega arith in
+    subst (λ (k : ℕ). HeardIn P k (heard (slot_rounds form members w) p)) m (go (reverse p) (length-reverse p ∙ n))
+  where
+    go : (b : List ℕ) → length b ≡ r + 1 → HeardIn P r (heard_back (slot_rounds form members w) b)
+    go [] h = absurd (omega arith)
+    go (q ∷ []) h =
+        let z : 0 ≡ r = omega arith in
+        subst (λ (k : ℕ). HeardIn P k (heard_back (slot_rounds form members w) (q ∷ []))) z
+        (said_in P (arrived form.item_in None (told_at w q)) (λ v g. let k = good_is form.item_in (told_at w q) v g in (speaks q).item k.0 v k.1.1 (told_in_range w e q k.0 is k.1.0).sized))
+    go (q ∷ c ∷ back) h =
+        entry_in P r (paths_of members (length (c ∷ back)) q) (arrived form.relay_in None (told_at w q)) (reverse (c ∷ back))
+        (λ xs g. let k = good_is form.relay_in (told_at w q) xs g in subst (λ (n : ℕ). All (IsEntry P n) xs) round ((speaks q).relay k.0 xs k.1.1 (told_in_range w e q k.0 is k.1.0).sized))
+
+-- a table stays in range over a round
+pub round_ranged : {V : Type 0} (form : Form V) (P : V → Type 0) (w : Watch) (e : Expectation) (nodes r : ℕ) (h : Hearing V) → w.expect ≡ Some e → ((j : ℕ) → Speaks form P (of_sender j e)) → round_in e.m e.slot ≡ r → Distinct h.members
+    → IsRanged P h.heard → IsRanged P (after_round form nodes w r h).heard
+round_ranged form P w e nodes r h is speaks round d ranged =
+    ranged_told P (all_told h.members h.me r nodes) (heard (slot_rounds form h.members w)) h.heard ranged (spoken form P w e h.members h.me r nodes is speaks round d)
+
+-- a table that heard nothing is in range
+pub nothing_ranged : {V : Type 0} (P : V → Type 0) (members : List ℕ) (me rounds : ℕ) → IsRanged {V = V} P (nothing_heard members me rounds)
+nothing_ranged {V} P members me rounds = record { each = λ p. go p (heard_paths members me rounds) } where
+  go : (p : List ℕ) (ps : List (List ℕ)) → HeardIn P (length p - 1) (heard_in (map (entry_of (λ path. Fault 0)) ps) p)
+  go p [] = omega arith
+  go p (q ∷ ps) = elim (cases_Bool (same_nodes q p)) [
+    | inl y ↦ subst (HeardIn P (length p - 1)) (sym (cond-true (same_nodes q p) (Fault 0) (heard_in (map (entry_of (λ path. Fault 0)) ps) p) y)) (omega arith)
+    | inr n ↦ subst (HeardIn P (length p - 1)) (sym (cond-false (same_nodes q p) (Fault 0) (heard_in (map (entry_of (λ path. Fault 0)) ps) p) n)) (go p ps)
+  ]

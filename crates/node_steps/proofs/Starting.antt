@@ -1,0 +1,58 @@
+-- A node before its first period is sound.
+use Rattle.std.proofs.Common.{ℕ, zero, suc, ◌≡◌, [], length, replicate, refl, arith, pos}
+use Rattle.std.specs.Prelude.{All}
+use Rattle.std.proofs.lemmas.List.Elements.{All-nil, All-cons}
+use Rattle.std.proofs.lemmas.Int.{ints}
+use Rattle.frames.specs.Bound.{IsGreatest}
+use Rattle.frames.specs.Content.{IsClaim, IsRow, IsValue}
+use Rattle.agreed_state.specs.declared.config.Config.{Config}
+use Rattle.agreed_state.specs.Config.{IsConfig}
+use Rattle.agreed_state.specs.AgreedLaws.{first-agreed}
+use Rattle.agreed_state.specs.Body.{state_len}
+use Rattle.protocol.specs.View.{channel_room}
+use Rattle.node_steps.specs.Fresh.{newly_open, IsFresh}
+use Rattle.node_steps.specs.Sound.{IsSound}
+use Rattle.protocol.specs.Configured.{setting_of}
+use Rattle.node_steps.proofs.Asking.{no_ids}
+use Rattle.node_steps.proofs.Rowing.{empty_is_row}
+use Rattle.node_steps.proofs.Speaking.{nothing_ranged}
+use Rattle.node_steps.proofs.Valuing.{no_values_fit}
+
+zeros : (n : ℕ) → All IsValue (replicate n (pos 0))
+zeros zero = All-nil IsValue
+zeros (suc n) = All-cons IsValue (pos 0) (replicate n (pos 0)) (record { low = omega (arith, ints); high = omega (arith, ints) }) (zeros n)
+
+pub sound_new : {N : ℕ} (config : Config N) (me room : ℕ) → IsConfig N config → IsSound (newly_open config me room)
+sound_new {N} config me room ok = record {
+  sizes = record {
+    kept = first-agreed N config ok;
+    before = tt;
+    done_nodes = refl;
+    done_rounds = refl;
+    rows_nodes = refl;
+    rows_rounds = refl;
+    due = no_ids (length config.channels.items);
+    done_range = nothing_ranged (IsClaim (length config.graph.tasks)) [] 0 config.m;
+    rows_range = nothing_ranged (IsRow config.version N config.nodes) [] 0 config.m;
+    carried = empty_is_row (setting_of config) ok.few_nodes;
+    notes = empty_is_row (setting_of config) ok.few_nodes;
+    late = empty_is_row (setting_of config) ok.few_nodes;
+    readings = zeros 8;
+    values = no_values_fit channel_room;
+  };
+  in_slot = λ e. absurd (cc);
+}
+
+pub fresh_new : {N : ℕ} (config : Config N) (me room : ℕ) → IsGreatest config.nodes config.m (state_len config) 8 room → IsFresh config me (newly_open config me room)
+fresh_new config me room greatest = record { is = refl; greatest = greatest; kept = refl; shut = refl; outcome = refl }
+
+-- there is one greatest length
+pub greatest_once : (nodes m len due a b : ℕ) → IsGreatest nodes m len due a → IsGreatest nodes m len due b → a ≡ b
+greatest_once nodes m len due a b g h =
+    let x = g.reached in
+    let y = h.reached in
+    let a_low = h.within x.0 x.1 x.2 x.4 in
+    let b_low = g.within y.0 y.1 y.2 y.4 in
+    let a_is = x.5 in
+    let b_is = y.5 in
+    omega (arith, a_low, b_low, a_is, b_is)

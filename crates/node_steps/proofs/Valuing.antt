@@ -1,0 +1,76 @@
+-- A node's own values lie in range.
+use Rattle.std.proofs.Common.{ℕ, zero, suc, ◌≡◌, ◌<◌, Bool, true, false, List, [], ◌∷◌, map, length, replicate, Option, None, Some, ℤ, pos, ◌+ℤ◌, neg_ℤ, ◌≤ℤ◌, refl, sym, subst, inl, inr, arith}
+use Rattle.std.specs.Prelude.{All, if◌then◌else◌, nat_lt, slice_index_or}
+use Rattle.std.specs.List.{range_with_len}
+use Rattle.std.proofs.lemmas.Int.{ints}
+use Rattle.std.proofs.lemmas.Bool.{cases_lt}
+use Rattle.std.proofs.lemmas.Bool.Decides.{nat_tests}
+use Rattle.std.proofs.lemmas.List.{get_or_past}
+use Rattle.std.proofs.lemmas.List.FromFn.{get_or-map-range_with_len, length-map-range_with_len}
+use Rattle.std.proofs.lemmas.List.Elements.{All-nil, All-cons}
+use Rattle.frames.specs.Content.{IsValue}
+use Rattle.mme_vote.specs.declared.channel.Channel.{Channel}
+use Rattle.mme_vote.specs.declared.channel.Channel.TheVariants as channel_kind
+use Rattle.agreed_state.specs.declared.config.Config.{Config}
+use Rattle.agreed_state.specs.declared.config.Inputs.{Inputs}
+use Rattle.agreed_state.specs.Config.{IsConfig, IsChannel}
+use Rattle.protocol.specs.View.{Kept, cut, value_limit, channel, no_channel, value_at, first_there, own_from, own_value, own_values, own_in, channel_room}
+use Rattle.protocol.specs.Configured.{setting_of}
+
+cut_low : (v : ℤ) → neg_ℤ value_limit ≤ℤ cut v
+cut_low v = grind (arith, ints)
+
+cut_high : (v : ℤ) → cut v ≤ℤ value_limit
+cut_high v = grind (arith, ints)
+
+zero_value : IsValue (pos 0)
+zero_value = record { low = omega (arith, ints); high = omega (arith, ints) }
+
+value_there : (xs : List ℤ) (k : ℕ) → All IsValue xs → IsValue (slice_index_or xs k (pos 0))
+value_there xs k all = elim (cases_lt k (length xs)) [
+  | inl low ↦ all k (pos 0) low
+  | inr high ↦ subst IsValue (sym (get_or_past xs k (pos 0) high)) zero_value
+]
+
+own_fits : {n : ℕ} (nodes tasks i p : ℕ) (g : Inputs) (k : Kept) (c : ℕ) (x : Channel n) → IsChannel nodes tasks x → All IsValue g.reading → IsValue (own_from i p g k c x)
+own_fits nodes tasks i zero g k c (channel_kind.State delta start step) fit readings = value_there start i fit.1.values
+own_fits nodes tasks i (suc p) g k c (channel_kind.State delta start step) fit readings = let v : ℤ = first_there (value_at k.votes c) (value_at k.owns c) +ℤ step in record { low = cut_low v; high = cut_high v }
+own_fits nodes tasks i zero g k c (channel_kind.Sensor delta t) fit readings = value_there g.reading c readings
+own_fits nodes tasks i (suc p) g k c (channel_kind.Sensor delta t) fit readings = value_there g.reading c readings
+own_fits nodes tasks i zero g k c (channel_kind.Copy delta t lies) fit readings = value_there g.reading c readings
+own_fits nodes tasks i (suc p) g k c (channel_kind.Copy delta t lies) fit readings = value_there g.reading c readings
+
+lt_told : (a b : ℕ) → nat_lt a b ≡ true → a < b
+lt_told a b h = grind (arith, nat_tests)
+
+value_fits : {N : ℕ} (config : Config N) (i p : ℕ) (g : Inputs) (k : Kept) (c : ℕ) → IsConfig N config → All IsValue g.reading → c < length config.channels.items → IsValue (own_value (setting_of config) i p g k c)
+unfolding own_value
+value_fits {N} config i p g k c ok readings low = own_fits config.nodes (length config.graph.tasks) i p g k c (channel (setting_of config) c) (ok.channels c no_channel low) readings
+
+-- each of them, also where there is none
+pub own_values_fit : {N : ℕ} (config : Config N) (i p : ℕ) (g : Inputs) (k : Kept) → IsConfig N config → All IsValue g.reading → (c : ℕ) → IsValue (own_in (own_values (setting_of config) i p g k) c)
+own_values_fit {N} config i p g k ok readings c = elim (cases_lt c channel_room) [
+  | inl low ↦ subst (λ (o : Option ℤ). IsValue (first_there o None)) (sym (get_or-map-range_with_len F 0 channel_room c c None low (omega arith))) (each (nat_lt c (length config.channels.items)) refl)
+  | inr high ↦ subst (λ (o : Option ℤ). IsValue (first_there o None)) (sym (get_or_past (map F (range_with_len 0 channel_room)) c None (let l = length-map-range_with_len F 0 channel_room in omega arith))) zero_value
+]
+  where
+    F : ℕ → Option ℤ
+    F j = if nat_lt j (length config.channels.items) then Some (own_value (setting_of config) i p g k j) else None
+
+    each : (b : Bool) → nat_lt c (length config.channels.items) ≡ b → IsValue (first_there (if b then Some (own_value (setting_of config) i p g k c) else None) None)
+    each true t = value_fits config i p g k c ok readings (lt_told c (length config.channels.items) t)
+    each false t = zero_value
+
+none_there : (n c : ℕ) → slice_index_or (replicate {A = Option ℤ} n None) c None ≡ None
+none_there zero zero = refl
+none_there zero (suc c) = refl
+none_there (suc n) zero = refl
+none_there (suc n) (suc c) = none_there n c
+
+pub no_values_fit : (n c : ℕ) → IsValue (own_in (replicate n None) c)
+no_values_fit n c = subst (λ (o : Option ℤ). IsValue (first_there o None)) (sym (none_there n c)) zero_value
+
+-- what the data frame says
+pub all_sent : (own : List (Option ℤ)) (due : List ℕ) → ((c : ℕ) → IsValue (own_in own c)) → All IsValue (map (own_in own) due)
+all_sent own [] h = All-nil IsValue
+all_sent own (d ∷ ds) h = All-cons IsValue (own_in own d) (map (own_in own) ds) (h d) (all_sent own ds h)

@@ -1,0 +1,5 @@
+use Rattle.node_steps.proofs.Framing.{goes_through}
+use Rattle.node_steps.proofs.laws.period.Goals as goal
+
+pub returns : goal.returns
+returns c = goes_through c.finds_each.ensures

@@ -1,0 +1,6 @@
+use Rattle.node_steps.proofs.Asking.{few_capacity}
+use Rattle.node_steps.proofs.Saying.{said_fits}
+use Rattle.node_steps.proofs.laws.says_in_range.Goals as goal
+
+pub returns : goal.returns
+returns c = λ N v cap ok h open'. said_fits v (few_capacity N cap) ok h open'

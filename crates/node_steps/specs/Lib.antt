@@ -1,0 +1,16 @@
+pub mod Outcome
+pub mod Parts
+pub mod Steps
+pub mod At
+pub mod Stages
+pub mod Period
+pub mod Owed
+pub mod Sending
+pub mod Living
+pub mod Order
+pub mod Ranged
+pub mod Sound
+pub mod SoundLaws
+pub mod Ready
+pub mod Fresh
+pub mod Turning

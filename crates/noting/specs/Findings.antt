@@ -1,0 +1,19 @@
+-- What the slot that was closed says of its senders.
+use Rattle.std.specs.Prelude.{ℕ, Bool, not, ◌&&◌, ◌==◌, List, Option, if◌then◌else◌}
+use Rattle.node_grid.specs.NodeSet.{ids_where}
+use Rattle.frames.specs.Content.{Content}
+use Rattle.error_detect.specs.Finding.{kind_of}
+use Rattle.error_detect.specs.Watching.{Watch, finding_at, told_at}
+use Rattle.protocol.specs.Arrival.{Arrival, Form, arrived, is_bad, is_good}
+
+-- what a node has of a sender's frame in the slot that was closed
+abbrev pub has_of : {C : Type 0} → (Content → Option C) → Watch → ℕ → Arrival C
+has_of part w j = arrived part (kind_of (finding_at w j)) (told_at w j)
+
+-- whether the finding of a sender's frame of round r has this kind of error
+abbrev pub bad_in : {V : Type 0} → Form V → ℕ → Watch → ℕ → ℕ → Bool
+bad_in form r w j k = if r == 0 then is_bad (has_of form.item_in w j) k else is_bad (has_of form.relay_in w j) k
+
+-- the other nodes whose frames in the slot were good, by what each one's frame says
+abbrev pub good_in : ℕ → ℕ → (ℕ → Arrival (List ℕ)) → List ℕ
+good_in nodes me sync = ids_where (λ j. not (j == me) && is_good (sync j)) nodes
