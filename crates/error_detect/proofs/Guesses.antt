@@ -116,7 +116,7 @@ warm_said e j Cold h = absurd (cc)
 read_at : (x : Expectation) (g : Option Content) (j : ℕ) → IsMeant (Some x) g → guesses (Some x) g j ≡ true → IsRead (Some x) g x j
 read_at x None j meant h = absurd (cc)
 read_at x (Some c) j meant h =
-    let range : IsInRange (of_sender j x) (said_by x j c) = meant x c refl refl j h in
+    let range : IsInRange (of_sender j x) (said_by x j c) = guessed_sent x c (meant x c refl refl) j h in
     record {
       said = said_by x j c;
       told = refl;

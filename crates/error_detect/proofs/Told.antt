@@ -4,7 +4,8 @@ use Rattle.std.specs.Prelude.{IsSome, IfSome}
 use Rattle.node_grid.specs.NodeSet.{has_id}
 use Rattle.frames.specs.Content.{Expectation, Content}
 use Rattle.error_detect.specs.declared.finding.Finding.TheVariants.{Good}
-use Rattle.error_detect.specs.Watching.{Box, Watch, watch_of, frame_in, guesses, guesses_at, said_at, arrival_at, is_same, of_sender, finding_at, found_by, told_by, told_at, IsKept}
+use Rattle.error_detect.specs.Watching.{Box, Watch, watch_of, frame_in, guesses, guesses_at, said_at, arrival_at, is_same, of_sender, finding_at, found_by, told_by, told_at}
+use Rattle.error_detect.specs.Inside.{Guessed, IsKept}
 use Rattle.error_detect.proofs.Boxes.{at_same, found_at, told_from, told_said, good_is, seen_alike}
 use Rattle.error_detect.proofs.Guesses.{IsRead, read_same}
 
@@ -16,10 +17,10 @@ pub record IsHeld (w : Watch) (e : Expectation) (j : ℕ) (b : Box) : Type 0 whe
   pub told : is_same b.held ≡ false → told_by (of_sender j e) (arrival_at [] b.held) ≡ told_at w j
 
 -- where the node is marked in a closed watch
-held_good : (n nodes me room : ℕ) (o : Option Expectation) (shown : Bool) (boxes : List Box) (x : Option Content) (marks : List ℕ) (e : Expectation) (j : ℕ) (b : Box) (some : o ≡ Some e)
-    → IsKept n (watch_of nodes me room o shown boxes x) boxes marks → shown ≡ false → IsSome o → j < nodes → j ≢ me → has_id marks j ≡ true → b ≡ get_or boxes j b
+held_good : (n nodes me room : ℕ) (o : Option Expectation) (shown : Bool) (boxes : List Box) (x : Option Content) (marks : List ℕ) (kept_guess : Guessed) (e : Expectation) (j : ℕ) (b : Box) (some : o ≡ Some e)
+    → IsKept n (watch_of nodes me room o shown boxes x) boxes marks kept_guess → shown ≡ false → IsSome o → j < nodes → j ≢ me → has_id marks j ≡ true → b ≡ get_or boxes j b
     → IsHeld (watch_of nodes me room o shown boxes x) e j b
-held_good n nodes me room o shown boxes x marks e j b some kept shut has node other marked box =
+held_good n nodes me room o shown boxes x marks kept_guess e j b some kept shut has node other marked box =
     let w : Watch = watch_of nodes me room o shown boxes x in
     let within : j < length boxes = omega (arith, kept.inboxes.each, node) in
     let good : finding_at w j ≡ Good = good_is (finding_at w j) (sym (kept.marked shut has j (omega (arith, node, kept.inboxes.few))) ∙ marked) in
@@ -36,12 +37,12 @@ held_good n nodes me room o shown boxes x marks e j b some kept shut has node ot
     }
 
 -- the same of the watch as it is seen
-pub held_as_seen : (n nodes me room : ℕ) (o : Option Expectation) (shown : Bool) (boxes : List Box) (x : Option Content) (marks : List ℕ) (w : Watch) (e : Expectation) (j : ℕ) (b : Box) (some : o ≡ Some e)
-    → IsKept n (watch_of nodes me room o shown boxes x) boxes marks → watch_of nodes me room o shown boxes x ≡ w → w.is_open ≡ false → IsSome w.expect → j < w.nodes → j ≢ w.me
+pub held_as_seen : (n nodes me room : ℕ) (o : Option Expectation) (shown : Bool) (boxes : List Box) (x : Option Content) (marks : List ℕ) (kept_guess : Guessed) (w : Watch) (e : Expectation) (j : ℕ) (b : Box) (some : o ≡ Some e)
+    → IsKept n (watch_of nodes me room o shown boxes x) boxes marks kept_guess → watch_of nodes me room o shown boxes x ≡ w → w.is_open ≡ false → IsSome w.expect → j < w.nodes → j ≢ w.me
     → has_id marks j ≡ true → b ≡ get_or boxes j b → IsHeld w e j b
-held_as_seen n nodes me room o shown boxes x marks w e j b some kept seen shut has node other marked box =
+held_as_seen n nodes me room o shown boxes x marks kept_guess w e j b some kept seen shut has node other marked box =
     subst (λ (v : Watch). IsHeld v e j b) seen
-    (held_good n nodes me room o shown boxes x marks e j b some kept
+    (held_good n nodes me room o shown boxes x marks kept_guess e j b some kept
     (ap (λ (y : Watch). y.is_open) seen ∙ shut)
     (subst IsSome (sym (ap (λ (y : Watch). y.expect) seen)) has)
     (subst (λ k. j < k) (sym (ap (λ (y : Watch). y.nodes) seen)) node)

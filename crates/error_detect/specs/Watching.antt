@@ -7,7 +7,7 @@ use Rattle.frames.specs.Content.{Expectation, Content}
 use Rattle.frames.specs.Spelling.{spelling, head_of, IsInRange}
 use Rattle.error_detect.specs.declared.finding.Finding.{Finding}
 use Rattle.error_detect.specs.declared.finding.Finding.TheVariants.{Good, Missing, Malformed, Timing}
-use Rattle.error_detect.specs.Guessing.{said_by, is_guessed_of}
+use Rattle.error_detect.specs.Guessing.{said_by, is_guessed_of, IsGuessable}
 use Rattle.slot_plan.specs.Ticks.{is_in_window}
 use Rattle.error_detect.specs.Finding.{is_good, finding, told}
 
@@ -220,9 +220,9 @@ said_at w j = said_in w.expect w.guess j
 abbrev pub watch_of : ℕ → ℕ → ℕ → Option Expectation → Bool → List Box → Option Content → Watch
 watch_of nodes me room e shown boxes g = record { nodes = nodes; me = me; frame_max = room; expect = e; is_open = shown; arrived = arrivals (frame_in e g) 0 boxes; guess = g }
 
--- each frame that is guessed can be sent
+-- what is guessed can be guessed of what is expected
 abbrev pub IsMeant : Option Expectation → Option Content → Type 0
-IsMeant o g = (e : Expectation) (c : Content) → o ≡ Some e → g ≡ Some c → (j : ℕ) → is_guessed_of e j c ≡ true → IsInRange (of_sender j e) (said_by e j c)
+IsMeant o g = (e : Expectation) (c : Content) → o ≡ Some e → g ≡ Some c → IsGuessable e c
 
 abbrev pub no_box : Box
 no_box = record { room = 0; held = held_none }
@@ -230,11 +230,3 @@ no_box = record { room = 0; held = held_none }
 -- only what is guessed is held as the same
 abbrev pub AreSame : Option Expectation → Option Content → List Box → Type 0
 AreSame o g boxes = (j : ℕ) → is_same (slice_index_or boxes j no_box).held ≡ true → guesses o g j ≡ true
-
--- what holds of the inside of a watch: its inboxes, its marks, and what it guesses
-pub record IsKept (n : ℕ) (w : Watch) (boxes : List Box) (good : List ℕ) : Type 0 where
-  pub inboxes : AreInboxes n w.nodes w.frame_max w.expect boxes
-  pub marked : AreMarked n w good
-  pub room : (e : Expectation) → w.expect ≡ Some e → HasRoom w.frame_max e
-  pub meant : IsMeant w.expect w.guess
-  pub same : AreSame w.expect w.guess boxes

@@ -3,10 +3,10 @@
 ghost use Rattle.std.specs.Prelude.{◌≡◌, ◌≢◌, ◌<◌, ◌≤◌, true, false, None, IfOk, IfSome, IfNone, IsSome, option_map, map, replicate};
 ghost use Rattle.node_grid.specs.Capacity.{IsCapacity};
 ghost use Rattle.frames.specs.Seen.{content, expected, HasWidth};
-ghost use Rattle.frames.specs.Spelling.{head_of};
+ghost use Rattle.frames.specs.Spelling.{head_of, body_spelling};
 ghost use Rattle.node_grid.specs.NodeSet.{ids_where};
 ghost use Rattle.error_detect.specs.Finding.{is_good_at};
-ghost use Rattle.error_detect.specs.Watching.{nothing, held_none, emptied, fresh, opened, delivered, closed, of_sender, HasRoom, finding_at, findings, told_at, guessing, guesses_at, frame_at, said_at};
+ghost use Rattle.error_detect.specs.Watching.{nothing, held_none, emptied, fresh, opened, delivered, closed, of_sender, HasRoom, finding_at, findings, told_at, guessing, guesses_at, frame_at, said_at, IsMeant};
 ghost use Rattle.error_detect.specs.Guessing.{IsGuessable};
 ghost use Rattle.error_detect.specs.Inside.{said_as};
 
@@ -35,14 +35,14 @@ pub struct SlotWatch<const N: usize> {
 impl<const N: usize> Model for SlotWatch<N> {
     ghost use Rattle.std.specs.Prelude.{option_map};
     ghost use Rattle.frames.specs.Seen.{expected};
-    ghost use Rattle.error_detect.specs.Watching.{Watch, watch_of, IsKept};
-    ghost use Rattle.error_detect.specs.Inside.{meaning};
+    ghost use Rattle.error_detect.specs.Watching.{Watch, watch_of};
+    ghost use Rattle.error_detect.specs.Inside.{meaning, IsKept};
 
     ghost Value = { Watch };
 
     ghost view = { λ w. watch_of w.nodes w.me w.frame_max (option_map expected w.expect) w.is_open w.inboxes.items (meaning N w.nodes w.guess) };
 
-    ghost invariant = { λ w. IsKept N (watch_of w.nodes w.me w.frame_max (option_map expected w.expect) w.is_open w.inboxes.items (meaning N w.nodes w.guess)) w.inboxes.items w.good };
+    ghost invariant = { λ w. IsKept N (watch_of w.nodes w.me w.frame_max (option_map expected w.expect) w.is_open w.inboxes.items (meaning N w.nodes w.guess)) w.inboxes.items w.good w.guess };
 }
 
 /// Empty inboxes, one for each node.
@@ -139,16 +139,34 @@ impl<const N: usize> SlotWatch<N> {
     /// Guesses what the slot's frames say, before any has come, and answers whether there was room for that.
     pub fn guess(&mut self, form: Form, bytes: &[u8]) -> bool
         requires before { self.old.arrived ≡ replicate self.old.nodes nothing }
-        requires guessable { IfSome self.old.expect (λ e. IsGuessable e (said_as N self.old.nodes form bytes.now)) }
+        requires guessable { IfSome self.old.expect (λ e.
+            IsGuessable e (said_as N self.old.nodes form bytes.now)) }
+        requires spelt { bytes.now
+            ≡ body_spelling self.old.nodes (said_as N self.old.nodes form bytes.now) }
         ensures yes { result ≡ true → self.new ≡ guessing self.old (said_as N self.old.nodes form bytes.now) }
         ensures no { result ≡ false → self.new ≡ self.old }
     {
         self.guess.put(form, bytes)
     }
 
+    /// What is expected of each sender of the last slot, whatever sender it names; None before the first slot.
+    pub fn expect(&self) -> Option<&Expect<N>>
+        ensures is { option_map (λ e. expected e.now) result ≡ self.now.expect }
+        ensures capacity { IsCapacity N }
+        ensures few { self.now.nodes ≤ N }
+        ensures nodes { IfSome result (λ e. e.now.nodes ≡ self.now.nodes) }
+        ensures some_nodes { IfSome result (λ e. 0 < e.now.nodes) }
+        ensures rounds { IfSome result (λ e. e.now.m ≤ 3) }
+    {
+        self.expect.as_ref()
+    }
+
     /// The bytes of what is guessed of the slot's frames, and in which form; None where nothing is guessed.
     pub fn guessed(&self) -> Option<(Form, &[u8])>
-        ensures { option_map (λ p. said_as N self.now.nodes p.0 p.1.now) result ≡ self.now.guess }
+        ensures said { option_map (λ p. said_as N self.now.nodes p.0 p.1.now) result ≡ self.now.guess }
+        ensures guessable { IsMeant self.now.expect self.now.guess }
+        ensures spelt { IfSome result (λ p.
+            p.1.now ≡ body_spelling self.now.nodes (said_as N self.now.nodes p.0 p.1.now)) }
     {
         match self.guess.form() {
             Some(form) => Some((form, self.guess.bytes())),

@@ -40,5 +40,6 @@ invariant_of-self g c =
       marked = λ shut. absurd (let no : true ≡ false = sym c.requires.open ∙ ap (λ (w : Watch). w.is_open) (sym c.self.view_is) ∙ shut in cc);
       room = c.self.invariant.room;
       meant = c.self.invariant.meant;
+      spelt = c.self.invariant.spelt;
       same = still_same o x boxes from now c.self.invariant.same (λ held. absurd (let no : true ≡ false = sym held ∙ not in cc));
     }

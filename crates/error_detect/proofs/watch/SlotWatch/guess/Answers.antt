@@ -3,11 +3,11 @@ use Rattle.std.specs.Prelude.{Option, Some, IfSome, option_map, true, false}
 use Rattle.std.proofs.lemmas.Bool.{cases_Bool}
 use Rattle.frames.specs.Content.{Expectation, Content}
 use Rattle.frames.specs.Seen.{expected}
+use Rattle.frames.specs.Spelling.{body_spelling}
 use Rattle.error_detect.specs.Guessing.{IsGuessable}
-use Rattle.error_detect.specs.Inside.{meaning, said_as}
-use Rattle.error_detect.specs.Watching.{Arrival, nothing, Box, Watch, watch_of, arrivals, frame_in, guessing, AreMarked, IsKept}
+use Rattle.error_detect.specs.Inside.{meaning, said_as, IsSpelt, IsKept}
+use Rattle.error_detect.specs.Watching.{Arrival, nothing, Box, Watch, watch_of, arrivals, frame_in, guessing, AreMarked}
 use Rattle.error_detect.proofs.Boxes.{guess_free, none_before}
-use Rattle.error_detect.proofs.Guesses.{guessed_sent}
 use Rattle.error_detect.proofs.watch.SlotWatch.guess.Goals as goal
 
 pub returns-clause-yes : goal.returns-clause-yes
@@ -48,13 +48,14 @@ invariant_of-self g c =
             inboxes = c.self.invariant.inboxes;
             marked = subst (λ w. AreMarked g.row.N w c.self.inside.good) (ap shown (sym free)) c.self.invariant.marked;
             room = c.self.invariant.room;
-            meant = λ e y some there j on.
+            meant = λ e y some there.
                 (let s : IsGuessable e said = subst (λ p. IfSome p (λ x. IsGuessable x said)) some can in
                 let all : Some said ≡ Some y = sym is ∙ there in
                 let same : said ≡ y = cc in
-                guessed_sent e y (subst (IsGuessable e) same s) j on);
+                subst (IsGuessable e) same s);
+            spelt = subst (IsSpelt g.row.N c.self.inside.nodes) (sym (c.put.ensures.yes done)) (subst (λ k. c.args.bytes.now ≡ body_spelling k (said_as g.row.N k c.args.form c.args.bytes.now)) (ap (λ (w : Watch). w.nodes) (sym c.self.view_is)) c.requires.spelt);
             same = λ j held. absurd (let no : true ≡ false = sym held ∙ none_before (frame_in o old) 0 c.args.self.now.nodes j boxes before in cc);
           }
       | inr undone ↦
-          subst (λ x. IsKept g.row.N (watch_of c.self.inside.nodes c.self.inside.me c.self.inside.frame_max o c.self.inside.is_open boxes (meaning g.row.N c.self.inside.nodes x)) boxes c.self.inside.good) (sym (c.put.ensures.no undone)) c.self.invariant
+          subst (λ x. IsKept g.row.N (watch_of c.self.inside.nodes c.self.inside.me c.self.inside.frame_max o c.self.inside.is_open boxes (meaning g.row.N c.self.inside.nodes x)) boxes c.self.inside.good x) (sym (c.put.ensures.no undone)) c.self.invariant
     ]

@@ -4,7 +4,7 @@ use Rattle.std.specs.Vec.{with_items}
 use Rattle.std.proofs.lemmas.List.{with_items_is, length-map}
 use Rattle.frames.specs.Content.{Expectation, Content}
 use Rattle.frames.specs.Seen.{expected}
-use Rattle.error_detect.specs.Inside.{meaning}
+use Rattle.error_detect.specs.Inside.{meaning, IsSpelt}
 use Rattle.error_detect.specs.Watching.{Arrival, nothing, Box, Watch, arrivals, frame_in, emptied, opened, AreInboxes, HasRoom, is_same, no_box}
 use Rattle.error_detect.proofs.Boxes.{arrivals_emptied, rooms_emptied, none_same}
 use Rattle.error_detect.proofs.watch.SlotWatch.open_slot.Goals as goal
@@ -31,6 +31,7 @@ invariant_of-self g c =
       marked = λ shut. absurd (let no : true ≡ false = shut in cc);
       room = λ x some. (let is : e ≡ x = cc in subst (HasRoom c.self.inside.frame_max) is fits);
       meant = λ x y some there. absurd (let no : Some y ≡ None = sym there ∙ gone in cc);
+      spelt = subst (IsSpelt g.row.N c.self.inside.nodes) (sym c.forget.ensures) tt;
       same = λ j held. absurd (let no : true ≡ false = sym held ∙ ap (λ (ys : List Box). is_same (get_or ys j no_box).held) whole ∙ none_same j items in cc);
     }
 

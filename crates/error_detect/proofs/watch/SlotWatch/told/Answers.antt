@@ -10,7 +10,7 @@ pub returns-then-is_same-clause-same : goal.returns-then-is_same-clause-same
 returns-then-is_same-clause-same g c =
     let n = c.self.inside in
     let h : IsHeld c.args.self.now (expected c.in-Some.expect) c.args.from c.index-inbox.result.now =
-    held_as_seen g.row.N n.nodes n.me n.frame_max (option_map expected n.expect) n.is_open n.inboxes.items (meaning g.row.N n.nodes n.guess) n.good _ (expected c.in-Some.expect) c.args.from
+    held_as_seen g.row.N n.nodes n.me n.frame_max (option_map expected n.expect) n.is_open n.inboxes.items (meaning g.row.N n.nodes n.guess) n.good n.guess _ (expected c.in-Some.expect) c.args.from
     c.index-inbox.result.now (ap (option_map expected) c.in-Some.is) c.self.invariant c.self.view_is c.requires.closed c.requires.some_slot c.requires.node c.requires.other
     (sym c.has.ensures ∙ c.if-not-has.false) c.index-inbox.ensures in
     h.same (sym c.is_same.ensures ∙ c.if-is_same.true)
@@ -19,7 +19,7 @@ pub good_frame-requires : goal.good_frame-requires
 good_frame-requires g c =
     let n = c.self.inside in
     let h : IsHeld c.args.self.now (expected c.in-Some.expect) c.args.from c.index-inbox.result.now =
-    held_as_seen g.row.N n.nodes n.me n.frame_max (option_map expected n.expect) n.is_open n.inboxes.items (meaning g.row.N n.nodes n.guess) n.good _ (expected c.in-Some.expect) c.args.from
+    held_as_seen g.row.N n.nodes n.me n.frame_max (option_map expected n.expect) n.is_open n.inboxes.items (meaning g.row.N n.nodes n.guess) n.good n.guess _ (expected c.in-Some.expect) c.args.from
     c.index-inbox.result.now (ap (option_map expected) c.in-Some.is) c.self.invariant c.self.view_is c.requires.closed c.requires.some_slot c.requires.node c.requires.other
     (sym c.has.ensures ∙ c.if-not-has.false) c.index-inbox.ensures in
     let cap = c.self.invariant.inboxes.capacity in
@@ -31,7 +31,7 @@ pub returns-else-is_same-clause-told : goal.returns-else-is_same-clause-told
 returns-else-is_same-clause-told g c =
     let n = c.self.inside in
     let h : IsHeld c.args.self.now (expected c.in-Some.expect) c.args.from c.index-inbox.result.now =
-    held_as_seen g.row.N n.nodes n.me n.frame_max (option_map expected n.expect) n.is_open n.inboxes.items (meaning g.row.N n.nodes n.guess) n.good _ (expected c.in-Some.expect) c.args.from
+    held_as_seen g.row.N n.nodes n.me n.frame_max (option_map expected n.expect) n.is_open n.inboxes.items (meaning g.row.N n.nodes n.guess) n.good n.guess _ (expected c.in-Some.expect) c.args.from
     c.index-inbox.result.now (ap (option_map expected) c.in-Some.is) c.self.invariant c.self.view_is c.requires.closed c.requires.some_slot c.requires.node c.requires.other
     (sym c.has.ensures ∙ c.if-not-has.false) c.index-inbox.ensures in
     ap (λ k. Some (content k c.good_frame.result.body)) (sym h.readable.0) ∙ c.good_frame.ensures.told ∙ h.told (sym c.is_same.ensures ∙ c.if-is_same.false)
