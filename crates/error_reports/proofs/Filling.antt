@@ -1,12 +1,13 @@
 -- Rows of masks that are filled from their front, and masks that are joined.
-use Rattle.std.proofs.Common.{ℕ, ◌≡◌, ◌≢◌, ◌<◌, ◌≤◌, ◌+◌, ◌==◌, ◌||◌, ◌&&◌, Bool, true, false, not, if◌then◌else◌, List, length, map, get_or, set, refl, sym, ap, subst, ◌∙◌, inl, inr, arith, eq-eqb, ne_eqb, below_more, get_or-set_other, get_or-set_same, length-set, ◌-◌, ◌^◌, max, min, bit_and, bit_or}
+use Rattle.std.proofs.Common.{ℕ, ◌≡◌, ◌≢◌, ◌<◌, ◌≤◌, ◌+◌, ◌*◌, ◌%◌, ◌==◌, ◌||◌, ◌&&◌, Bool, true, false, not, if◌then◌else◌, List, length, map, get_or, set, refl, sym, ap, subst, ◌∙◌, inl, inr, arith, eq-eqb, ne_eqb, below_more, get_or-set_other, get_or-set_same, length-set, ◌-◌, ◌^◌, max, min, bit_and, bit_or}
 use Rattle.std.specs.Prelude.{nat_lt}
 use Rattle.std.specs.Int.{bit_at}
 use Rattle.std.specs.Int.Bits.{mask_lt}
-use Rattle.std.proofs.lemmas.Bool.{cases_lt, cond-true, cond-false, and_from}
+use Rattle.std.proofs.lemmas.Bool.{cases_lt, cases_eq, cond-true, cond-false, and_from}
 use Rattle.std.proofs.lemmas.Bool.Decides.{nat_tests}
 use Rattle.std.proofs.lemmas.List.FromFn.{fill_by_all}
-use Rattle.std.proofs.lemmas.Nat.Bits.{bit_at_or, bit_at_and, bit_at_ones, bit_at-lt}
+use Rattle.std.proofs.lemmas.Nat.Bits.{bit_at_or, bit_at_and, bit_at_ones, bit_at-lt, bit_at-pow_same, bit_at-pow_other}
+use Rattle.std.proofs.Math.Pow.{pow-lt}
 use Rattle.node_grid.specs.NodeSet.{ids_where, mask_of, ids_below}
 use Rattle.node_grid.specs.MaskLaws.{mask_from_bits}
 
@@ -17,6 +18,16 @@ greater x y h l = grind arith
 
 lesser : (x : ℕ) → x < 2 → min x 1 ≡ x
 lesser x h = grind arith
+
+-- the mask of one kind
+pub one_bit : (kind k : ℕ) → kind < 16 → (bit_at (1 * 2 ^ kind % 65536) k == 1) ≡ (kind == k)
+one_bit kind k few =
+    let power : 2 ^ kind < 2 ^ 16 = pow-lt few in
+    let one : 1 * 2 ^ kind % 65536 ≡ 2 ^ kind = omega arith in
+    elim (cases_eq kind k) [
+      | inl same ↦ rw (one, same, bit_at-pow_same k, eq-eqb k k refl) refl
+      | inr other ↦ rw (one, bit_at-pow_other kind k (λ e. other (sym e)), ne_eqb kind k other) refl
+    ]
 
 -- those of two masks, of the kinds below a number
 pub joined : (mask more kinds : ℕ) (p : ℕ → Bool) → kinds ≤ 16 → ((k : ℕ) → k < kinds → (bit_at more k == 1) ≡ p k)

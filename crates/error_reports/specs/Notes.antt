@@ -1,8 +1,7 @@
 -- What a node notes against the others: its row of this period, and what it carries over to the next.
-use Rattle.std.specs.Prelude.{◌≡◌, ◌≢◌, ℕ, ◌^◌, ◌<◌, ◌≤◌, ◌==◌, ◌||◌, ◌&&◌, not, nat_lt, Bool, List, map, if◌then◌else◌, slice_index, slice_set, bit_or}
-use Rattle.std.specs.Int.{bit_at}
+use Rattle.std.specs.Prelude.{◌≡◌, ◌≢◌, ℕ, ◌^◌, ◌<◌, ◌≤◌, ◌==◌, ◌||◌, ◌&&◌, not, nat_lt, Bool, false, List, map, Option, None, Some, if◌then◌else◌, slice_index, slice_set, bit_or}
 use Rattle.node_grid.specs.Capacity.{IsCapacity}
-use Rattle.node_grid.specs.NodeSet.{ids_below, ids_where, mask_of}
+use Rattle.node_grid.specs.NodeSet.{ids_below, ids_where, mask_of, has_id}
 use Rattle.error_reports.specs.Charge.{accuses}
 
 -- the notes of node `me` of so many nodes, of so many kinds
@@ -31,6 +30,22 @@ noted_row capacity kinds nodes me notes = map (λ j. if nat_lt j nodes && not (j
 abbrev pub noted_besides : ℕ → ℕ → ℕ → ℕ → List ℕ → (ℕ → ℕ → Bool) → List ℕ
 noted_besides capacity kinds nodes me row notes = noted_row capacity kinds nodes me (λ j k. accuses row j k || notes j k)
 
--- what is given of each other node in use is the mask of these
-abbrev pub AreMasksOf : (ℕ → ℕ → Type 0) → ℕ → ℕ → ℕ → (ℕ → ℕ → Bool) → Type 0
-AreMasksOf gives kinds nodes me notes = (j mask k : ℕ) → j < nodes → j ≢ me → gives j mask → k < kinds → (bit_at mask k == 1) ≡ notes j k
+-- whether this is the kind, where there is one
+abbrev pub is_kind : Option ℕ → ℕ → Bool
+is_kind None k = false
+is_kind (Some x) k = x == k
+
+-- this kind of each node of a set
+abbrev pub of_each : List ℕ → ℕ → ℕ → ℕ → Bool
+of_each nodes kind j k = has_id nodes j && k == kind
+
+-- notes with these besides: in this period's row, and in what is carried over
+abbrev pub also_noted : ℕ → Notes → (ℕ → ℕ → Bool) → Notes
+also_noted capacity n more = record n { row = noted_besides capacity n.kinds n.nodes n.me n.row more }
+
+abbrev pub also_carried : ℕ → Notes → (ℕ → ℕ → Bool) → Notes
+also_carried capacity n more = record n { carried = noted_besides capacity n.kinds n.nodes n.me n.carried more }
+
+-- what is given of each other node in use is its kind of error, by a function
+abbrev pub GivesKinds : (ℕ → Option ℕ → Type 0) → ℕ → ℕ → ℕ → (ℕ → Option ℕ) → Type 0
+GivesKinds gives capacity nodes me kind_of = (j : ℕ) (kind : Option ℕ) → j < capacity → j < nodes → j ≢ me → gives j kind → kind ≡ kind_of j

@@ -1,6 +1,6 @@
-ghost use Rattle.std.specs.Prelude.{◌≡◌, ℕ, ◌<◌, IsTrue};
+ghost use Rattle.std.specs.Prelude.{◌≡◌, ℕ, ◌<◌, IsTrue, Some, None, if◌then◌else◌};
 ghost use Rattle.node_grid.specs.Capacity.{IsCapacity};
-ghost use Rattle.error_reports.specs.Charge.{charged, charged_mask};
+ghost use Rattle.error_reports.specs.Charge.{charged, charged_mask, is_voter, is_accuser};
 
 use node_grid::{Matrix, NodeSet};
 
@@ -26,6 +26,21 @@ pub fn charged<const N: usize>(rows: &Matrix<N>, members: &NodeSet<N>, node: u8)
     mask
 }
 
+/// Whether the row of `member` accuses `node` of this kind, where it counts.
+fn accusation<const N: usize>(rows: &Matrix<N>, member: u8, node: u8, kind: u8) -> Option<bool>
+    requires capacity { IsCapacity N }
+    requires in_range { node < N }
+    requires kind { kind < 16 }
+    ensures { result ≡ (if is_voter rows.now node member
+        then Some (is_accuser rows.now node kind member) else None) }
+{
+    if member == node {
+        return None;
+    }
+    let row = rows.get(member)?;
+    Some((row.masks[node as usize] >> kind) & 1 == 1)
+}
+
 /// Whether more than half of the rows that count give `node` this kind.
 fn is_charged<const N: usize>(rows: &Matrix<N>, members: &NodeSet<N>, node: u8, kind: u8) -> bool
     requires capacity { IsCapacity N }
@@ -36,13 +51,9 @@ fn is_charged<const N: usize>(rows: &Matrix<N>, members: &NodeSet<N>, node: u8, 
     let mut voters: u8 = 0;
     let mut accusers: u8 = 0;
     for member in members.iter() {
-        if member != node {
-            if let Some(row) = rows.get(member) {
-                voters += 1;
-                if (row.masks[node as usize] >> kind) & 1 == 1 {
-                    accusers += 1;
-                }
-            }
+        if let Some(accuses) = accusation(rows, member, node, kind) {
+            voters += 1;
+            accusers += u8::from(accuses);
         }
     }
     2 * accusers > voters

@@ -1,7 +1,7 @@
 //! Rows of accusations: how a node makes its own, and what the settled rows of all members charge a node with.
 //!
-//! An error kind is a bit of a mask; `node_grid::kind` names the kinds. A node is charged with a kind where more than half of the rows that count
-//! accuse it of this kind: diagnosis from agreed local reports, in the manner of Walter, Lincoln and Suri (1997)
+//! An error kind is a bit of a mask; `node_grid::kind` names the kinds. A node is charged with a kind where more than
+//! half of the rows that count accuse it of this kind: diagnosis from agreed local reports, in the manner of Walter, Lincoln and Suri (1997)
 //! and of Kieckhafer et al. (1988). Nothing here takes memory or refuses anything.
 #![tactic(auto)]
 
@@ -16,7 +16,7 @@ pub use row_builder::RowBuilder;
 #[cfg(test)]
 mod tests {
     use super::{RowBuilder, charged, charged_all};
-    use node_grid::kind::{DEVIATE, MISSING};
+    use node_grid::kind::{COLD, DEVIATE, EQUIVOCATE, MISSING, TIMING};
     use node_grid::{Matrix, NodeSet, Row};
 
     // The row that accuses node 3 alone.
@@ -69,9 +69,13 @@ mod tests {
     fn a_period_carries_over(rt: HostRuntime) {
         let mut builder: RowBuilder<8> = RowBuilder::new(4, 0, 8);
         builder.note(2, MISSING);
-        builder.note_each(|j| if j == 2 { 8 } else { 0 });
+        builder.note_each(|j| if j == 2 { Some(COLD) } else { None });
+        builder.note_all(&NodeSet::full(2), EQUIVOCATE);
+        builder.note_all(&NodeSet::full(2), TIMING);
         builder.carry(3, DEVIATE);
-        assert!(rt; builder.row().masks[2] == 9 && builder.row().masks[3] == 0);
+        builder.carry_each(|j| if j == 0 { Some(COLD) } else { None });
+        builder.carry_all(&NodeSet::full(1), TIMING);
+        assert!(rt; builder.row().masks == [0, 4, 9, 0, 0, 0, 0, 0]);
         builder.next_period();
         assert!(rt; builder.row() == accusing(128));
         builder.next_period();

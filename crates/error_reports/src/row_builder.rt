@@ -1,10 +1,12 @@
-ghost use Rattle.std.specs.Prelude.{◌≡◌, ◌≢◌, ℕ, ◌-◌, ◌^◌, ◌<◌, ◌≤◌, ◌==◌, ◌||◌, Bool, replicate};
+ghost use Rattle.std.specs.Prelude.{◌≡◌, ◌≢◌, ℕ, ◌-◌, ◌^◌, ◌<◌, ◌≤◌, ◌==◌, ◌||◌};
+ghost use Rattle.std.specs.Prelude.{Option, None, Some, if◌then◌else◌, replicate};
 ghost use Rattle.std.specs.Int.{bit_at};
 ghost use Rattle.node_grid.specs.Capacity.{IsCapacity};
-ghost use Rattle.node_grid.specs.NodeSet.{ids_where, mask_of};
-ghost use Rattle.error_reports.specs.Notes.{Notes, with_kind, noted_besides, AreMasksOf};
+ghost use Rattle.node_grid.specs.NodeSet.{ids_where, mask_of, has_id};
+ghost use Rattle.error_reports.specs.Notes.{with_kind, noted_besides, is_kind, of_each};
+ghost use Rattle.error_reports.specs.Notes.{also_noted, also_carried, GivesKinds};
 
-use node_grid::Row;
+use node_grid::{NodeSet, Row};
 use std::marker::Model;
 
 /// What one node notes against the others, in this period and for the next one.
@@ -33,6 +35,13 @@ impl<const N: usize> Model for RowBuilder<N> {
     ghost inverse = { λ n. record { nodes = n.nodes; me = n.me; kinds = n.kinds; row = n.row; carried = n.carried } };
 }
 
+/// This kind, where it is so.
+fn kind_where(is_so: bool, kind: u8) -> Option<u8>
+    ensures { result ≡ (if is_so then Some kind else None) }
+{
+    if is_so { Some(kind) } else { None }
+}
+
 /// The mask of all kinds below `kinds`.
 fn all_kinds(kinds: u8) -> u16
     requires { kinds ≤ 16 }
@@ -41,32 +50,44 @@ fn all_kinds(kinds: u8) -> u16
     ((1u32 << kinds) - 1) as u16
 }
 
-/// A mask of kinds below `kinds` with those of another one.
-fn joined(mask: u16, more: u16, kinds: u8) -> u16
+/// The mask of this kind, where there is one below `kinds`.
+fn bit_of(kind: Option<u8>, kinds: u8) -> u16
     requires { kinds ≤ 16 }
-    ensures { (notes : ℕ → Bool) → ((k : ℕ) → k < kinds → (bit_at more k == 1) ≡ notes k) → result ≡ mask_of (ids_where (λ k. (bit_at mask k == 1) || notes k) kinds) }
+    ensures { (k : ℕ) → k < kinds → (bit_at result k == 1) ≡ is_kind kind k }
 {
-    (mask | more) & all_kinds(kinds)
+    match kind {
+        Some(kind) => { if kind < kinds { 1 << kind } else { 0 } }
+        None => 0,
+    }
 }
 
-/// What a row says of the nodes other than `me`, and besides the kinds of the masks that `kinds_of` gives.
-fn besides<const N: usize, F: Fn(u8) -> u16>(
+/// A mask of kinds below `kinds`, with this kind besides.
+fn joined(mask: u16, kind: Option<u8>, kinds: u8) -> u16
+    requires { kinds ≤ 16 }
+    ensures { result ≡ mask_of (ids_where (λ k. (bit_at mask k == 1) || is_kind kind k) kinds) }
+{
+    (mask | bit_of(kind, kinds)) & all_kinds(kinds)
+}
+
+/// What a row says of the nodes other than `me`, and besides the kind of error that `kind_of` gives of each.
+fn besides<const N: usize, F: Fn(u8) -> Option<u8>>(
     row: &Row<N>,
     nodes: u8,
     me: u8,
     kinds: u8,
-    kinds_of: F,
+    kind_of: F,
 ) -> Row<N>
     requires capacity { IsCapacity N }
     requires nodes { nodes ≤ N }
     requires kinds { kinds ≤ 16 }
-    requires masks { (j : ℕ) → j < nodes → j ≢ me → F.pre kinds_of j }
-    ensures { (notes : ℕ → ℕ → Bool) → AreMasksOf (F.post kinds_of) kinds nodes me notes → result ≡ noted_besides N kinds nodes me row.now notes }
+    requires callable { (j : ℕ) → j < N → j < nodes → j ≢ me → F.pre kind_of j }
+    ensures { (gives : ℕ → Option ℕ) → GivesKinds (F.post kind_of) N nodes me gives →
+        result ≡ noted_besides N kinds nodes me row.now (λ j k. is_kind (gives j) k) }
 {
     let mut masks = [0; N];
     for j in 0..nodes {
         if j != me {
-            masks[j as usize] = joined(row.masks[j as usize], kinds_of(j), kinds);
+            masks[j as usize] = joined(row.masks[j as usize], kind_of(j), kinds);
         }
     }
     Row { masks }
@@ -112,23 +133,50 @@ impl<const N: usize> RowBuilder<N> {
         self.carried.masks[node as usize] |= 1 << kind;
     }
 
-    /// Notes of each other node in use the kinds of the mask that `kinds_of` gives, in this period's row. Kinds that a row
-    /// has no room for are left out.
-    pub fn note_each<F: Fn(u8) -> u16>(&mut self, kinds_of: F)
-        requires { (j : ℕ) → j < self.old.nodes → j ≢ self.old.me → F.pre kinds_of j }
+    /// Notes of each other node in use the kind of error that `kind_of` gives, if any, in this period's row. A kind that
+    /// a row has no room for is left out.
+    pub fn note_each<F: Fn(u8) -> Option<u8>>(&mut self, kind_of: F)
+        requires { (j : ℕ) → j < N → j < self.old.nodes → j ≢ self.old.me → F.pre kind_of j }
         ensures kept { self.new ≡ record self.old { row = self.new.row } }
-        ensures row { (notes : ℕ → ℕ → Bool) → AreMasksOf (F.post kinds_of) self.old.kinds self.old.nodes self.old.me notes → self.new.row ≡ noted_besides N self.old.kinds self.old.nodes self.old.me self.old.row notes }
+        ensures row { (gives : ℕ → Option ℕ) →
+            GivesKinds (F.post kind_of) N self.old.nodes self.old.me gives →
+            self.new ≡ also_noted N self.old (λ j k. is_kind (gives j) k) }
     {
-        self.row = besides(&self.row, self.nodes, self.me, self.kinds, kinds_of);
+        self.row = besides(&self.row, self.nodes, self.me, self.kinds, kind_of);
     }
 
     /// The same for the next period's row.
-    pub fn carry_each<F: Fn(u8) -> u16>(&mut self, kinds_of: F)
-        requires { (j : ℕ) → j < self.old.nodes → j ≢ self.old.me → F.pre kinds_of j }
+    pub fn carry_each<F: Fn(u8) -> Option<u8>>(&mut self, kind_of: F)
+        requires { (j : ℕ) → j < N → j < self.old.nodes → j ≢ self.old.me → F.pre kind_of j }
         ensures kept { self.new ≡ record self.old { carried = self.new.carried } }
-        ensures row { (notes : ℕ → ℕ → Bool) → AreMasksOf (F.post kinds_of) self.old.kinds self.old.nodes self.old.me notes → self.new.carried ≡ noted_besides N self.old.kinds self.old.nodes self.old.me self.old.carried notes }
+        ensures row { (gives : ℕ → Option ℕ) →
+            GivesKinds (F.post kind_of) N self.old.nodes self.old.me gives →
+            self.new ≡ also_carried N self.old (λ j k. is_kind (gives j) k) }
     {
-        self.carried = besides(&self.carried, self.nodes, self.me, self.kinds, kinds_of);
+        self.carried = besides(&self.carried, self.nodes, self.me, self.kinds, kind_of);
+    }
+
+    /// Notes an error of this kind of each other node in use that is in the set, in this period's row. A kind that a row
+    /// has no room for is left out.
+    pub fn note_all(&mut self, accused: &NodeSet<N>, kind: u8)
+        ensures { self.new ≡ also_noted N self.old (of_each accused.now kind) }
+    {
+        self.note_each(
+            |j| -> Option<u8>
+                ensures { result ≡ (if has_id accused.entry.now j then Some kind else None) }
+            { kind_where(accused.has(j), kind) },
+        );
+    }
+
+    /// The same for the next period's row.
+    pub fn carry_all(&mut self, accused: &NodeSet<N>, kind: u8)
+        ensures { self.new ≡ also_carried N self.old (of_each accused.now kind) }
+    {
+        self.carry_each(
+            |j| -> Option<u8>
+                ensures { result ≡ (if has_id accused.entry.now j then Some kind else None) }
+            { kind_where(accused.has(j), kind) },
+        );
     }
 
     /// This period's row.
