@@ -1,2 +1,12 @@
-//! The data slot: a node's own values, the channels that are due, and the votes on them.
+//! The data slot of a period, as one node goes through it: which channels are due, its own values of them, the votes, and
+//! which other nodes told a value too far from a vote.
 #![tactic(auto)]
+
+mod due;
+mod own;
+mod told;
+mod vote;
+
+pub use due::due_channels;
+pub use own::{own_values, put_values};
+pub use vote::{DataSlot, Voted};
