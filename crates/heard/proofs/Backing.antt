@@ -85,6 +85,10 @@ module _ {V : Type 0} (eq : V → V → Bool) (x : Ear V) (doubted : List ℕ) w
   unfolding agrees
   agrees-other q ne = cond-false _ _ _ (ne_eqb q x.me ne)
 
+  pub idles-is : (q : ℕ) → idles q ≡ ((q == x.me) && not x.full)
+  unfolding idles
+  idles-is q = refl
+
   pub idles-me : (q : ℕ) → q ≡ x.me → idles q ≡ not x.full
   unfolding idles
   idles-me q e = ap (λ b. b && not x.full) (eq-eqb q x.me e)

@@ -13,8 +13,8 @@ use Rattle.omh_paths.specs.PathLaws.{off_from, IsPath-push, all_outside}
 use Rattle.omh_paths.specs.PathLists.{Distinct-filter}
 use Rattle.omh.specs.Omh.{Ear, own_term, settled_within, settled_at}
 use Rattle.heard.specs.Echo.{IsEchoBut, IsBackedAt, EchoLaw}
-use Rattle.heard.proofs.Counts.{count_all, count-filter, count-me, count-add}
-use Rattle.heard.proofs.Backing.{agrees, idles, agrees-me, agrees-other, idles-me, idles-other, settled_now, own_is, other_is, settled_by, outside-push, length-outside-push}
+use Rattle.heard.proofs.Counts.{count_all, count-filter, count-me, count-add, count-same}
+use Rattle.heard.proofs.Backing.{agrees, idles, agrees-me, agrees-other, idles-is, idles-me, idles-other, settled_now, own_is, other_is, settled_by, outside-push, length-outside-push}
 
 module _ {V : Type 0} (eq : V → V → Bool) (exact : IsExact eq) (x : Ear V) (least : ℕ) (doubted : List ℕ) (distinct : Distinct x.members) (told : IsEchoBut x least doubted) where
   settled_as_heard : (r : ℕ) (path : List ℕ) → IsPath x.members x.rounds path → has_id path x.me ≡ false → least ≤ length path → r + length path ≡ x.rounds + 1
@@ -66,8 +66,7 @@ module _ {V : Type 0} (eq : V → V → Bool) (exact : IsExact eq) (x : Ear V) (
       omega arith
 
   idles-in : (s : List ℕ) → Distinct s → count (idles eq x doubted) s ≡ bit (has_id s x.me && not x.full)
-  unfolding idles
-  idles-in s d = count-me x.me (not x.full) s d
+  idles-in s d = count-same (idles eq x doubted) (λ y. (y == x.me) && not x.full) s (λ y. ap bit (idles-is eq x doubted y)) ∙ count-me x.me (not x.full) s d
 
   pub backed_at : (path : List ℕ) → IsPath x.members x.rounds path → has_id path x.me ≡ false → least ≤ length path → IsBackedAt x path doubted → settled_at eq x path ≡ x.heard path
   backed_at path real away above enough =

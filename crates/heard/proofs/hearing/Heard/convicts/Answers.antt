@@ -1,4 +1,4 @@
-use Rattle.std.proofs.Common.{◌≡◌, ◌&&◌, true, false, sym, ap, ◌∙◌, inl, inr, arith}
+use Rattle.std.proofs.Common.{◌≡◌, ◌≢◌, ◌&&◌, true, false, sym, ap, ◌∙◌, inl, inr, arith}
 use Rattle.std.proofs.lemmas.Bool.{cases_lt}
 use Rattle.heard.proofs.Methods.{written, convicted, convicted_without, worked, room, member_seen, other_seen}
 use Rattle.heard.proofs.Readings.{other_member}
@@ -23,7 +23,7 @@ returns-clause-convicted g c =
     let x = c.self.inside.store in
     let other = other_member g.row.N x c.self.invariant.stored c.args.commander on in
     let member = member_seen c.self.invariant c.self.view_is c.args.commander other.0 in
-    let ne = λ e. other.1 (e ∙ sym (ap (λ j. j.me) c.self.view_is)) in
+    let ne : c.args.commander ≢ c.args.self.now.me = λ e. other.1 (e ∙ sym (ap (λ j. j.me) c.self.view_is)) in
     (elim (cases_lt 0 x.rounds) [
       | inl some ↦ convicted c.self.invariant c.self.view_is g.V.PartialEq.eq c.args.commander c.convicts.result ne member some c.convicts.ensures
       | inr none ↦ convicted_without x c.self.inside.own c.args.self.now c.self.view_is g.V.PartialEq.eq c.args.commander c.convicts.result (omega arith) c.convicts.ensures

@@ -1,6 +1,5 @@
 use Rattle.std.proofs.Common.{◌≡◌, ◌<◌, true, false, length, get_or, sym, ap, ◌∙◌, arith}
 use Rattle.std.proofs.lemmas.Bool.{both_ways}
-use Rattle.std.proofs.lemmas.List.{get_or_default}
 use Rattle.node_grid.specs.NodeSet.{has_id}
 use Rattle.omh_paths.specs.PathLists.{has-at}
 use Rattle.heard.proofs.Members.{hit_next}
@@ -16,23 +15,23 @@ returns-then-not-has-clause-none g c =
     let path = c.args.path.now in
     let here : c.loop-k.k < length path = omega (arith, c.loop-k-test.true, c.len-k-end.ensures.count) in
     let on : has_id path c.at.result ≡ true = ap (has_id path) c.at.ensures ∙ has-at path c.loop-k.k 0 here in
-    let none : c.has-2.result ≡ false = grind (arith, c.if-not-has.true) in
-    λ t own. both_ways _ (sym c.has-2.ensures ∙ none) (ap (λ x. has_id x.members c.at.result) c.self.view_is ∙ own.within c.at.result on)
+    let none : c.has-in-loop-k.result ≡ false = grind (arith, c.if-not-has.true) in
+    λ t own. both_ways _ (sym c.has-in-loop-k.ensures ∙ none) (ap (λ x. has_id x.members c.at.result) c.self.view_is ∙ own.within c.at.result on)
 
 pub loop-k-preserved : goal.loop-k-preserved
 loop-k-preserved g c =
     let path = c.args.path.now in
     let members = c.args.self.now.members in
     let here : c.loop-k.k < length path = omega (arith, c.loop-k-test.true, c.len-k-end.ensures.count) in
-    let at : c.at.result ≡ get_or path c.loop-k.k 0 = c.at.ensures ∙ get_or_default path c.loop-k.k c.at.result 0 here in
-    let yes : c.has-2.result ≡ true = grind (arith, c.if-not-has.false) in
+    let at : c.at.result ≡ get_or path c.loop-k.k 0 = c.at.ensures in
+    let yes : c.has-in-loop-k.result ≡ true = grind (arith, c.if-not-has.false) in
     hit_next (λ j. has_id members (get_or path j 0) ≡ true) c.loop-k.k c.loop-k.invariant
-    (ap (has_id members) (sym at) ∙ sym (ap (λ x. has_id x.members c.at.result) c.self.view_is) ∙ sym c.has-2.ensures ∙ yes)
+    (ap (has_id members) (sym at) ∙ sym (ap (λ x. has_id x.members c.at.result) c.self.view_is) ∙ sym c.has-in-loop-k.ensures ∙ yes)
 
 pub returns-clause-yes : goal.returns-clause-yes
 returns-clause-yes g c =
     λ t. record {
       within = all_on (λ q. has_id c.args.self.now.members q ≡ true) c.args.path.now (λ j low. c.loop-k.invariant j (omega (arith, low, c.loop-k-test.false, c.loop-k.auto.k-end, c.len-k-end.ensures.count)));
       other = sym (ap (λ x. has_id c.args.path.now x.me) c.self.view_is) ∙ sym c.has.ensures ∙ c.if-has.false;
-      short = omega (arith, c.if-relays-self.false, c.len.ensures.count, c.len.ensures.some, ap (λ x. x.rounds) c.self.view_is);
+      short = omega (arith, c.if-relays-self.false, c.len-relays.ensures.count, c.len-relays.ensures.some, ap (λ x. x.rounds) c.self.view_is);
     }
