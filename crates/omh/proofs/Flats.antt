@@ -4,7 +4,6 @@ use Rattle.std.specs.Prelude.{filter, if◌then◌else◌}
 use Rattle.std.proofs.lemmas.Bool.{cases_Bool, cases_lt, cond-true, cond-false, both_ways, or_left}
 use Rattle.std.proofs.lemmas.List.{get_or-set_same, get_or-set_other, take_more, get_or-replicate, get_or_past, length-replicate, take_all, drop_all}
 use Rattle.std.proofs.lemmas.List.Edits.{map_over_more}
-use Rattle.std.proofs.Math.Nat.{mul-le-mul}
 use Rattle.node_grid.specs.NodeSet.{has_id, without_id}
 use Rattle.node_grid.specs.NodeSetLaws.{filter_filter}
 use Rattle.node_grid.specs.Count.{Distinct}
@@ -14,6 +13,7 @@ use Rattle.omh_paths.specs.Paths.{same_nodes, outside, paths_of_length, path_cou
 use Rattle.omh_paths.specs.PathLists.{same_nodes-tells, same_nodes-finds, length-paths, place-lt, path_at-place, place-cons, index_in-lt, length-without, Distinct-without, has-without-left}
 use Rattle.omh.specs.Heard.{entry, heard_paths, nothing_heard, with_heard}
 use Rattle.omh.specs.HeardLaws.{IsHeardPath, entries_with}
+use Rattle.omh.specs.FlatLaws.{path_count-mono, section_at-le, section_at-next}
 use Rattle.omh.specs.Flat.{section_at, flat_place, flat_heard, heard_flat, laid_own, forgotten}
 use Rattle.node_grid.specs.ListLaws.{eqb_sym, has_push}
 
@@ -40,20 +40,6 @@ pub single_place : (s : List ℕ) (q : ℕ) → Distinct s → has_id s q ≡ tr
 single_place s q d on = place-cons s 0 q [] d on (omega arith) ∙ omega arith
 
 -- ---- sections
-
-pub path_count-mono : (k n r : ℕ) → k ≤ n → path_count k r ≤ path_count n r
-path_count-mono k n zero h = omega arith
-path_count-mono k n (suc r) h = mul-le-mul h (path_count-mono (k - 1) (n - 1) r (omega arith))
-
-section_at-more : (n a d : ℕ) → section_at n a ≤ section_at n (a + d)
-section_at-more n a zero = let e : a + 0 ≡ a = omega arith in omega (arith, ap (section_at n) e)
-section_at-more n a (suc d) = let e : a + suc d ≡ suc (a + d) = omega arith in omega (arith, section_at-more n a d, ap (section_at n) e)
-
-pub section_at-le : (n a b : ℕ) → a ≤ b → section_at n a ≤ section_at n b
-section_at-le n a b h = let e : a + (b - a) ≡ b = omega arith in omega (arith, section_at-more n a (b - a), ap (section_at n) e)
-
-pub section_at-next : (n a : ℕ) → section_at n (a + 1) ≡ section_at n a + path_count n (a + 1)
-section_at-next n a = let e : a + 1 ≡ suc a = omega arith in ap (section_at n) e ∙ ap (λ (k : ℕ). section_at n a + path_count n k) (sym e)
 
 -- a place in the section of the paths of r + 1 nodes
 pub place_within : (nodes k r rounds i : ℕ) → k ≤ nodes → r ≤ rounds → i < path_count k (r + 1) → section_at nodes r + i < section_at nodes (rounds + 1)

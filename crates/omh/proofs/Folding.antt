@@ -11,41 +11,16 @@ use Rattle.omh_paths.specs.declared.wrapped.Wrapped.TheVariants.{Fault}
 use Rattle.omh_paths.specs.Wrapped.{wrapped, unwrapped}
 use Rattle.omh_paths.specs.Majority.{majority}
 use Rattle.omh_paths.specs.Paths.{outside, paths_of_length, path_count, place_in, path_at, index_in, IsListed}
-use Rattle.omh_paths.specs.PathLaws.{map_alike, all_outside, off_from}
+use Rattle.omh_paths.specs.PathLaws.{off_from}
 use Rattle.node_grid.specs.CapacityLaws.{capacity-le}
-use Rattle.omh_paths.specs.MemberLaws.{path_count-few}
+use Rattle.omh_paths.specs.MemberLaws.{path_count-few, Distinct-ids}
 use Rattle.omh_paths.specs.PathLists.{index_in-lt, path_at-push, path_count-last, IsListed-at, length-outside, index_in-at, at-index_in, has-at, Distinct-filter, place-path_at, path_at-place, length-paths}
-use Rattle.omh.specs.Omh.{Ear, own_term, settled_within, settled_at, term_at}
-use Rattle.omh.specs.Flat.{relay_path, SettledAt, AreSettled, laid_own, section_at, IsStation, IsRoom, flat_place, flat_heard, path_settled, flat_ear}
-use Rattle.omh.proofs.Flats.{place_within, room_enough, single_place}
-
--- ---- the definition, path by path
-
-pub settled_at_end : {V : Type 0} (eq : V → V → Bool) (x : Ear V) (path : List ℕ) → x.rounds < length path → settled_at eq x path ≡ x.heard path
-unfolding settled_within
-settled_at_end eq x path long = let e : x.rounds + 1 - length path ≡ 0 = omega arith in ap (λ (n : ℕ). settled_within eq x n path) e
-
-inner : {V : Type 0} → (V → V → Bool) → Ear V → ℕ → List ℕ → ℕ → Wrapped V
-inner eq x r path q = if q == x.me then own_term x path else settled_within eq x r (path ++ q ∷ [])
-
-settled_step : {V : Type 0} (eq : V → V → Bool) (x : Ear V) (r : ℕ) (path : List ℕ) → settled_within eq x (suc r) path ≡ unwrapped (majority eq (map (inner eq x r path) (outside x.members path)))
-unfolding settled_within inner
-settled_step eq x r path = refl
-
-inner_is : {V : Type 0} (eq : V → V → Bool) (x : Ear V) (r : ℕ) (path : List ℕ) (q : ℕ) → r + length path ≡ x.rounds → inner eq x r path q ≡ term_at eq x path q
-unfolding inner
-inner_is eq x r path q e =
-    let f : r ≡ x.rounds + 1 - length (path ++ q ∷ []) = omega (arith, length_push path q) in
-    ap (λ (n : ℕ). if q == x.me then own_term x path else settled_within eq x n (path ++ q ∷ [])) f
-
-pub settled_at_later : {V : Type 0} (eq : V → V → Bool) (x : Ear V) (path : List ℕ) → length path ≤ x.rounds
-    → settled_at eq x path ≡ unwrapped (majority eq (map (term_at eq x path) (outside x.members path)))
-settled_at_later {V} eq x path short =
-    let r : ℕ = x.rounds - length path in
-    let e : x.rounds + 1 - length path ≡ suc r = omega arith in
-    let f : r + length path ≡ x.rounds = omega arith in
-    ap (λ (n : ℕ). settled_within eq x n path) e ∙ settled_step eq x r path
-    ∙ ap (λ (ts : List (Wrapped V)). unwrapped (majority eq ts)) (map_alike (inner eq x r path) (term_at eq x path) (outside x.members path) (all_outside x.members path _ (λ q on off. inner_is eq x r path q f)))
+use Rattle.omh.specs.declared.station.Branch.{Branch}
+use Rattle.omh.specs.Omh.{Ear, own_term, settled_at, term_at}
+use Rattle.omh.specs.SettledLaws.{settled_at_end, settled_at_later}
+use Rattle.omh.specs.Flat.{relay_path, SettledAt, AreSettled, laid_own, section_at, IsStation, IsRoom, IsBranch, flat_place, flat_heard, path_settled, flat_ear}
+use Rattle.omh.specs.FlatLaws.{path_count-mono, section_at-le, section_at-next}
+use Rattle.omh.proofs.Flats.{room_enough, single_place}
 
 length-map : {X Y : Type 0} (f : X → Y) (xs : List X) → length (map f xs) ≡ length xs
 length-map f [] = refl
@@ -264,43 +239,41 @@ halfway_end eq x place r k work past h = λ i l. h.done i (omega arith)
 
 -- ---- the numbers that the code works with
 
-pub record Sizes (nodes rounds : ℕ) (members : List ℕ) (count place r flat work : ℕ) : Type 0 where
-  pub count_is : count ≡ length members
-  pub some : 0 < count
-  pub few : count ≤ 16
-  pub nodes_few : nodes ≤ 16
-  pub relays_few : r ≤ 3
-  pub paths_few : path_count (length members - 1) r ≤ 65536
-  pub first_few : place * path_count (length members - 1) r ≤ 1048576
-  pub heard_room : (k : ℕ) → k < path_count (length members - 1) r → section_at nodes r + (place * path_count (length members - 1) r + k) < flat
-  pub work_room : path_count (length members - 1) r ≤ work
+-- the count that the code finds
+paths_is : (paths count n r : ℕ) → paths ≡ path_count (count - 1) r → count ≡ n → paths ≡ path_count (n - 1) r
+paths_is paths count n r e c = e ∙ ap (λ (m : ℕ). path_count (m - 1) r) c
 
-pub sizes_of : {V : Type 0} (capacity nodes rounds : ℕ) (members : List ℕ) (count place r : ℕ) (flat work : List (Wrapped V)) → IsStation capacity nodes rounds members count → IsRoom nodes rounds flat work → place < length members → r ≤ rounds
-    → Sizes nodes rounds members count place r (length flat) (length work)
-sizes_of capacity nodes rounds members count place r flat work s room low short =
+product_few : (i p : ℕ) → i ≤ 16 → p ≤ 65536 → i * p ≤ 16 * 65536
+product_few i p h l = mul-le-mul h l
+
+pub first_few : (capacity nodes rounds : ℕ) (members : List ℕ) (count place r paths : ℕ) → IsStation capacity nodes rounds members count → place < length members → r ≤ rounds → paths ≡ path_count (count - 1) r
+    → (paths ≤ 65536) × (place * paths ≤ 1048576)
+first_few capacity nodes rounds members count place r paths s low short e =
     let cap = capacity-le capacity s.capacity_ok in
-    let is : count ≡ length members = s.count_ok in
-    let few : count ≤ 16 = omega (arith, s.few_ok, s.nodes_ok) in
-    let paths = path_count-few (length members - 1) r (omega arith) (omega (arith, s.rounds_ok)) in
-    record {
-      count_is = is;
-      some = omega arith;
-      few = few;
-      nodes_few = omega (arith, s.nodes_ok);
-      relays_few = omega (arith, s.rounds_ok);
-      paths_few = paths;
-      first_few = omega (arith, product_few place (path_count (length members - 1) r) (omega arith) paths);
-      heard_room = λ k l.
-          let at = relay_place-lt members place r k low l in
-          omega (arith, room.flat_ok, place_within nodes (length members) r rounds (place * path_count (length members - 1) r + k) (omega (arith, s.few_ok)) short (subst (λ (n : ℕ). place * path_count (length members - 1) r + k < path_count (length members) n) (suc_is r) at));
-      work_room = omega (arith, room.work_ok, room_enough nodes (length members) r rounds (omega (arith, s.few_ok)) short);
-    }
-  where
-    product_few : (i p : ℕ) → i ≤ 16 → p ≤ 65536 → i * p ≤ 16 * 65536
-    product_few i p h l = mul-le-mul h l
+    let few = path_count-few (count - 1) r (omega (arith, s.few_ok, s.nodes_ok)) (omega (arith, s.rounds_ok)) in
+    let paths_few : paths ≤ 65536 = omega arith in
+    (paths_few, omega (arith, product_few place paths (omega (arith, s.count_ok, s.few_ok, s.nodes_ok)) paths_few))
 
-    suc_is : (r : ℕ) → suc r ≡ r + 1
-    suc_is r = omega arith
+end_of : (place p q : ℕ) (members : List ℕ) (r : ℕ) → p ≡ path_count (length members - 1) r → place < length members → q ≡ path_count (length members) (suc r) → place * p + p ≤ q
+end_of place p q members r e low is = omega (arith, is, terms_fit place (length members) (path_count (length members - 1) r) low, ap (λ (n : ℕ). place * n) e)
+
+pub branch_is : (capacity nodes rounds : ℕ) (members : List ℕ) (count place r : ℕ) (b : Branch) → IsStation capacity nodes rounds members count → place < length members → r ≤ rounds
+    → section_at nodes r ≤ 262144 → b.paths ≡ path_count (count - 1) r → b.first ≡ place * b.paths → b.begins ≡ section_at nodes r + b.first → IsBranch nodes rounds members place r b
+branch_is capacity nodes rounds members count place r b s low short small p f e =
+    let few = first_few capacity nodes rounds members count place r b.paths s low short p in
+    let are : b.paths ≡ path_count (length members - 1) r = paths_is b.paths count (length members) r p s.count_ok in
+    let is : r + 1 ≡ suc r = omega arith in
+    let last : b.first + b.paths ≤ path_count (length members) (r + 1) = omega (arith, f, end_of place b.paths (path_count (length members) (r + 1)) members r are low (ap (path_count (length members)) is)) in
+    record {
+      paths_are = are;
+      first_is = f ∙ ap (λ (n : ℕ). place * n) are;
+      begins_is = e;
+      listed = last;
+      within = omega (arith, e, last, section_at-le nodes (r + 1) (rounds + 1) (omega arith), section_at-next nodes r, path_count-mono (length members) nodes (r + 1) (omega (arith, s.count_ok, s.few_ok)));
+      room = omega (arith, are, room_enough nodes (length members) r rounds (omega (arith, s.count_ok, s.few_ok)) short);
+      few = few.0;
+      small = omega (arith, small, e, f, few.0, few.1);
+    }
 
 -- ---- a step of the code's loop
 
@@ -315,24 +288,51 @@ flat_place-relay nodes members place r k d low within =
     omega (arith, at, section)
 
 -- the path that the code finds
-pub path_is : (members path : List ℕ) (place r k paths : ℕ) → path ≡ path_at (paths_of_length members (r + 1)) (place * paths + k) → paths ≡ path_count (length members - 1) r → path ≡ relay_path members place r k
-path_is members path place r k paths e p =
+path_is : (members path : List ℕ) (place r k first : ℕ) → path ≡ path_at (paths_of_length members (r + 1)) (first + k) → first ≡ place * path_count (length members - 1) r → path ≡ relay_path members place r k
+path_is members path place r k first e f =
     let s : r + 1 ≡ suc r = omega arith in
-    e ∙ ap₂ (λ (n i : ℕ). path_at (paths_of_length members n) (place * i + k)) s p
+    e ∙ ap₂ (λ (n i : ℕ). path_at (paths_of_length members n) (i + k)) s f
 
--- the count that the code finds
-pub paths_is : (paths count n r : ℕ) → paths ≡ path_count (count - 1) r → count ≡ n → paths ≡ path_count (n - 1) r
-paths_is paths count n r e c = e ∙ ap (λ (m : ℕ). path_count (m - 1) r) c
-
-pub width_is : (width count n r : ℕ) → width ≡ count - (r + 1) → count ≡ n → width ≡ n - suc r
-width_is width count n r e c = omega arith
-
-pub width_outside : (members path : List ℕ) (place r k width : ℕ) → Distinct members → place < length members → k < path_count (length members - 1) r → path ≡ relay_path members place r k → width ≡ length members - suc r
+width_outside : (members path : List ℕ) (place r k width : ℕ) → Distinct members → place < length members → k < path_count (length members - 1) r → path ≡ relay_path members place r k → width ≡ length members - suc r
     → width ≡ length (outside members path)
 width_outside members path place r k width d low within p w =
     let listed = relay_listed members place r k d low within in
     w ∙ ap (λ (n : ℕ). length members - n) (sym listed.long)
     ∙ sym (length-outside members (relay_path members place r k) d listed.distinct listed.within) ∙ ap (λ (ns : List ℕ). length (outside members ns)) (sym p)
+
+-- the k-th path of a branch, and room for its terms
+pub record IsStep (members path : List ℕ) (place r k width work : ℕ) : Type 0 where
+  pub inside : k < path_count (length members - 1) r
+  pub path_at : path ≡ relay_path members place r k
+  pub width_is : width ≡ length members - suc r
+  pub width_at : width ≡ length (outside members path)
+  pub terms : k * width + width ≤ work
+  pub terms_few : k * width + width ≤ 65536
+  pub longer : path_count (length members - 1) (suc r) ≤ work
+  pub here : k < work
+
+pub step_of : {V : Type 0} (capacity nodes rounds : ℕ) (members path : List ℕ) (count place r k width : ℕ) (b : Branch) (flat work : List (Wrapped V)) → IsStation capacity nodes rounds members count → IsRoom nodes rounds flat work
+    → place < length members → r < rounds → IsBranch nodes rounds members place r b → k < b.paths → path ≡ path_at (paths_of_length members (r + 1)) (b.first + k) → width ≡ count - (r + 1)
+    → IsStep members path place r k width (length work)
+step_of capacity nodes rounds members path count place r k width b flat work s room low short branch k-low p w =
+    let inside : k < path_count (length members - 1) r = omega (arith, branch.paths_are) in
+    let at : path ≡ relay_path members place r k = path_is members path place r k b.first p branch.first_is in
+    let width_is : width ≡ length members - suc r = omega (arith, w, s.count_ok) in
+    let product : k * width ≡ k * (length members - suc r) = ap (λ (n : ℕ). k * n) width_is in
+    let fits = terms_within (length members) r k inside in
+    let longer : path_count (length members - 1) (suc r) ≤ length work = omega (arith, room.work_ok, room_enough nodes (length members) (suc r) rounds (omega (arith, s.count_ok, s.few_ok)) short) in
+    let cap = capacity-le capacity s.capacity_ok in
+    let few = path_count-few (length members - 1) (suc r) (omega (arith, s.count_ok, s.few_ok, s.nodes_ok)) (omega (arith, s.rounds_ok)) in
+    record {
+      inside = inside;
+      path_at = at;
+      width_is = width_is;
+      width_at = width_outside members path place r k width (Distinct-ids capacity members s.members_ok) low inside at width_is;
+      terms = omega (arith, product, width_is, fits, longer);
+      terms_few = omega (arith, product, width_is, fits, few);
+      longer = longer;
+      here = omega (arith, branch.room, room.work_ok);
+    }
 
 -- what the code reads is what was heard for the path
 pub heard_is : {V : Type 0} (nodes : ℕ) (members : List ℕ) (flat : List (Wrapped V)) (path : List ℕ) (place r k at : ℕ) (item : Wrapped V) → Distinct members → place < length members → k < path_count (length members - 1) r
@@ -366,20 +366,20 @@ room_more eq nodes rounds flat work new outside me k width own room n =
 
 -- ---- from the longest paths to the commander's own
 
-pub copied_settled : {V : Type 0} (eq : V → V → Bool) (nodes rounds : ℕ) (members : List ℕ) (me : ℕ) (full : Bool) (flat work : List (Wrapped V)) (place begins longest : ℕ) → Distinct members → place < length members
-    → longest ≡ path_count (length members - 1) rounds → begins ≡ section_at nodes rounds + place * path_count (length members - 1) rounds
-    → ((k : ℕ) → k < path_count (length members - 1) rounds → section_at nodes rounds + (place * path_count (length members - 1) rounds + k) < length flat)
-    → AreSettled eq (flat_ear nodes rounds members me full flat) place rounds (take longest (drop begins flat) ++ drop longest work)
-copied_settled {V} eq nodes rounds members me full flat work place begins longest d low l b room k within off =
+pub copied_settled : {V : Type 0} (eq : V → V → Bool) (nodes rounds : ℕ) (members : List ℕ) (me : ℕ) (full : Bool) (flat work new : List (Wrapped V)) (place : ℕ) (b : Branch) → Distinct members → place < length members
+    → IsBranch nodes rounds members place rounds b → length flat ≡ section_at nodes (rounds + 1) → new ≡ take b.paths (drop b.begins flat) ++ drop b.paths work
+    → AreSettled eq (flat_ear nodes rounds members me full flat) place rounds new
+copied_settled {V} eq nodes rounds members me full flat work new place b d low branch long is k within off =
     let x : Ear V = flat_ear nodes rounds members me full flat in
     let p : List ℕ = relay_path members place rounds k in
     let listed = relay_listed members place rounds k d low within in
-    let front : List (Wrapped V) = take longest (drop begins flat) in
-    let inside = room k within in
-    let here : k < length front = omega (arith, length-take longest (drop begins flat), length-drop begins flat, inside) in
-    get_or_append_left front (drop longest work) (Fault 0) k here
-    ∙ get_or-take longest (drop begins flat) k (Fault 0) (omega arith) ∙ get_or-drop begins flat k (Fault 0)
-    ∙ ap (λ (i : ℕ). get_or flat i (Fault 0)) (omega (arith, flat_place-relay nodes members place rounds k d low within))
+    let front : List (Wrapped V) = take b.paths (drop b.begins flat) in
+    let inside : k < b.paths = omega (arith, branch.paths_are) in
+    let here : k < length front = omega (arith, length-take b.paths (drop b.begins flat), length-drop b.begins flat, branch.within) in
+    ap (λ (ts : List (Wrapped V)). get_or ts k (Fault 0)) is
+    ∙ get_or_append_left front (drop b.paths work) (Fault 0) k here
+    ∙ get_or-take b.paths (drop b.begins flat) k (Fault 0) inside ∙ get_or-drop b.begins flat k (Fault 0)
+    ∙ ap (λ (i : ℕ). get_or flat i (Fault 0)) (omega (arith, branch.begins_is, branch.first_is, flat_place-relay nodes members place rounds k d low within))
     ∙ sym (settled_at_end eq x p (omega (arith, listed.long)))
 
 pub copied_room : {V : Type 0} (nodes rounds : ℕ) (flat work new : List (Wrapped V)) (begins longest : ℕ) → IsRoom nodes rounds flat work → longest ≤ length work → begins + longest ≤ length flat
@@ -390,11 +390,6 @@ copied_room nodes rounds flat work new begins longest room low inside is = recor
   known = room.known;
 }
 
-pub part_within : {V : Type 0} (nodes rounds : ℕ) (members : List ℕ) (place : ℕ) (flat : List (Wrapped V)) (begins longest : ℕ) → longest ≡ path_count (length members - 1) rounds → begins ≡ section_at nodes rounds + place * path_count (length members - 1) rounds
-    → ((k : ℕ) → k < path_count (length members - 1) rounds → section_at nodes rounds + (place * path_count (length members - 1) rounds + k) < length flat) → section_at nodes rounds ≤ length flat → begins + longest ≤ length flat
-part_within nodes rounds members place flat begins zero l b room some = omega (arith, b, ap (λ (n : ℕ). place * n) l)
-part_within nodes rounds members place flat begins (suc n) l b room some = omega (arith, room n (omega arith))
-
 pub relay_root : (members : List ℕ) (c place : ℕ) → Distinct members → has_id members c ≡ true → place ≡ index_in members c → relay_path members place 0 0 ≡ c ∷ []
 relay_root members c place d on e =
     let i : place * 1 + 0 ≡ place = omega arith in
@@ -403,9 +398,6 @@ relay_root members c place d on e =
 
 pub settled_moved_to : {V : Type 0} (eq : V → V → Bool) (x : Ear V) (place r s : ℕ) (work : List (Wrapped V)) → r ≡ s → AreSettled eq x place r work → AreSettled eq x place s work
 settled_moved_to eq x place r s work e h = subst (λ (t : ℕ). AreSettled eq x place t work) e h
-
-pub settled_in : {V : Type 0} (eq : V → V → Bool) (x : Ear V) (place : ℕ) (work new : List (Wrapped V)) (r : ℕ) → new ≡ work → AreSettled eq x place r work → AreSettled eq x place r new
-settled_in {V} eq x place work new r e h = subst (λ (ts : List (Wrapped V)). AreSettled eq x place r ts) (sym e) h
 
 -- at the end the first value is what is settled for the commander
 pub root_settled : {V : Type 0} (eq : V → V → Bool) (x : Ear V) (place c r : ℕ) (work : List (Wrapped V)) (value : Wrapped V) → Distinct x.members → has_id x.members c ≡ true → c ≢ x.me → place ≡ index_in x.members c → r ≡ 0 → AreSettled eq x place r work

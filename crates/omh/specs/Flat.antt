@@ -7,6 +7,7 @@ use Rattle.omh_paths.specs.declared.wrapped.Wrapped.TheVariants.{Fault}
 use Rattle.omh_paths.specs.Wrapped.{unwrapped}
 use Rattle.omh_paths.specs.Majority.{majority}
 use Rattle.omh_paths.specs.Paths.{paths_of_length, path_count, place_in, path_at, index_in}
+use Rattle.omh.specs.declared.station.Branch.{Branch}
 use Rattle.omh.specs.Omh.{Ear, settled_at}
 use Rattle.omh.specs.Heard.{Entry, entry, heard_paths}
 
@@ -49,6 +50,17 @@ pub record IsRoom {V : Type 0} (nodes rounds : ℕ) (flat work : List (Wrapped V
 -- the k-th path of r relays behind the commander at a place among the members
 abbrev pub relay_path : List ℕ → ℕ → ℕ → ℕ → List ℕ
 relay_path members place r k = path_at (paths_of_length members (suc r)) (place * path_count (length members - 1) r + k)
+
+-- the paths of r relays behind the commander at a place: where they stand, how many they are, and that there is room for them
+pub record IsBranch (nodes rounds : ℕ) (members : List ℕ) (place r : ℕ) (b : Branch) : Type 0 where
+  pub paths_are : b.paths ≡ path_count (length members - 1) r
+  pub first_is : b.first ≡ place * path_count (length members - 1) r
+  pub begins_is : b.begins ≡ section_at nodes r + b.first
+  pub listed : b.first + b.paths ≤ path_count (length members) (r + 1)
+  pub within : b.begins + b.paths ≤ section_at nodes (rounds + 1)
+  pub room : b.paths ≤ 1 + section_at (nodes - 1) rounds
+  pub few : b.paths ≤ 65536
+  pub small : b.begins + b.paths ≤ 2097152
 
 -- where the node isn't on that path, what it settles for it stands at place k of the list
 abbrev pub SettledAt : {V : Type 0} → (V → V → Bool) → Ear V → ℕ → ℕ → List (Wrapped V) → ℕ → Type 0

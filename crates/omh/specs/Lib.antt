@@ -2,9 +2,11 @@ pub mod Omh
 pub mod Laws
 pub mod Heard
 pub mod Flat
+pub mod FlatLaws
 pub mod HeardLaws
 pub mod Counting
 pub mod Settling
+pub mod SettledLaws
 pub mod Items
 pub mod Worlds
 pub use Rattle.node_grid.specs.Class

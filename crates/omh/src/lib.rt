@@ -5,4 +5,5 @@ pub mod laws;
 mod station;
 mod table;
 
+pub use station::outside;
 pub use table::Table;

@@ -5,9 +5,9 @@ ghost use Rattle.node_grid.specs.NodeSet.{has_id};
 ghost use Rattle.omh_paths.specs.declared.wrapped.Wrapped.TheVariants.{Fault};
 ghost use Rattle.omh_paths.specs.Wrapped.{wrapped, unwrapped, IsExact};
 ghost use Rattle.omh_paths.specs.Majority.{majority};
-ghost use Rattle.omh_paths.specs.Paths.{outside};
+ghost use Rattle.omh_paths.specs.Paths.{outside, index_in};
 ghost use Rattle.omh.specs.Omh.{settled_at};
-ghost use Rattle.omh.specs.Flat.{section_at, flat_place, flat_ear, IsStation, IsRoom, AreSettled, laid_own, path_settled};
+ghost use Rattle.omh.specs.Flat.{section_at, flat_place, flat_ear, IsStation, IsRoom, IsBranch, AreSettled, laid_own, path_settled};
 
 use node_grid::NodeSet;
 use omh_paths::{Path, Wrapped, count_paths, majority, rank, unrank};
@@ -24,6 +24,18 @@ pub fn section_at(nodes: u8, len: u8) -> usize
         begins += count_paths(nodes, shorter + 1);
     }
     begins
+}
+
+/// The members outside the path.
+pub fn outside<const N: usize>(members: &NodeSet<N>, path: &Path) -> NodeSet<N>
+    requires { (q : ℕ) → has_id path.now q ≡ true → q < N }
+    ensures { result ≡ outside members.now path.now }
+{
+    let mut left = *members;
+    for k in 0..path.len() {
+        left.cut(path.at(k));
+    }
+    left
 }
 
 /// Puts a value in place of another one.
@@ -62,6 +74,17 @@ fn settled_from_terms<V: Copy + Eq>(terms: &[Wrapped<V>], from: usize, width: us
     majority(&terms[from..from + width]).unwrap()
 }
 
+/// The paths of one length behind one commander.
+#[derive(Clone, Copy)]
+struct Branch {
+    /// The place of the first of them among all paths of that length.
+    first: usize,
+    /// The place of what was heard for the first of them.
+    begins: usize,
+    /// How many they are.
+    paths: usize,
+}
+
 /// Who settles: the node, the members whose relays it hears, and the rounds of relaying.
 #[derive(Clone, Copy, Debug)]
 pub struct Station<const N: usize> {
@@ -93,17 +116,30 @@ impl<const N: usize> Station<N> {
         section_at(self.nodes, path.len() - 1) + rank(&self.members, path)
     }
 
-    /// The members outside the path.
-    fn outside(&self, path: &Path) -> NodeSet<N>
+    /// The place of a member among the members.
+    fn member_place(&self, member: u8) -> usize
         requires station { IsStation N self.now.nodes self.now.rounds self.now.members self.now.count }
-        requires within { (q : ℕ) → has_id path.now q ≡ true → has_id self.now.members q ≡ true }
-        ensures { result ≡ outside self.now.members path.now }
+        requires member { has_id self.now.members member ≡ true }
+        ensures place { result ≡ index_in self.now.members member }
+        ensures in_range { result < length self.now.members }
     {
-        let mut left = self.members;
-        for k in 0..path.len() {
-            left.cut(path.at(k));
+        rank(&self.members, &Path::root(member))
+    }
+
+    /// The paths of so many relays behind the commander at this place.
+    fn branch(&self, commander: usize, relays: u8) -> Branch
+        requires station { IsStation N self.now.nodes self.now.rounds self.now.members self.now.count }
+        requires member { commander < length self.now.members }
+        requires few { relays ≤ self.now.rounds }
+        ensures { IsBranch self.now.nodes self.now.rounds self.now.members commander relays result }
+    {
+        let paths = count_paths(self.count - 1, relays);
+        let first = commander * paths;
+        Branch {
+            first,
+            begins: section_at(self.nodes, relays) + first,
+            paths,
         }
-        left
     }
 
     /// What the node itself puts into the majority of a path for which it heard this.
@@ -132,9 +168,9 @@ impl<const N: usize> Station<N> {
         requires small { from ≤ 65536 }
         ensures { work.new ≡ laid_own (outside self.now.members path.now) self.now.me from own work.old }
     {
-        let outside = self.outside(path);
-        if outside.has(self.me) {
-            work[from + rank(&outside, &Path::root(self.me))] = own;
+        let others = outside(&self.members, path);
+        if others.has(self.me) {
+            work[from + rank(&others, &Path::root(self.me))] = own;
         }
     }
 
@@ -177,13 +213,11 @@ impl<const N: usize> Station<N> {
         requires longer { AreSettled V.eq (flat_ear self.now.nodes self.now.rounds self.now.members self.now.me self.now.full heard.now) commander (relays + 1) work.old }
         ensures { AreSettled V.eq (flat_ear self.now.nodes self.now.rounds self.now.members self.now.me self.now.full heard.now) commander relays work.new }
     {
-        let paths = count_paths(self.count - 1, relays);
+        let branch = self.branch(commander, relays);
         let width = self.count.saturating_sub(relays + 1) as usize;
-        let first = commander * paths;
-        let begins = section_at(self.nodes, relays) + first;
-        for k in 0..paths {
-            let path = unrank(&self.members, relays + 1, first + k);
-            let own = self.own_term(&heard[begins + k]);
+        for k in 0..branch.paths {
+            let path = unrank(&self.members, relays + 1, branch.first + k);
+            let own = self.own_term(&heard[branch.begins + k]);
             self.settle_path(&path, k, width, own, work);
         }
     }
@@ -202,10 +236,9 @@ impl<const N: usize> Station<N> {
         requires other { commander ≢ self.now.me }
         ensures { result ≡ settled_at V.eq (flat_ear self.now.nodes self.now.rounds self.now.members self.now.me self.now.full heard.now) (commander ∷ []) }
     {
-        let place = rank(&self.members, &Path::root(commander));
-        let longest = count_paths(self.count - 1, self.rounds);
-        let begins = section_at(self.nodes, self.rounds) + place * longest;
-        copy_part(work, heard, begins, longest);
+        let place = self.member_place(commander);
+        let longest = self.branch(place, self.rounds);
+        copy_part(work, heard, longest.begins, longest.paths);
         for done in 0..self.rounds {
             self.settle_shorter(place, self.rounds - done - 1, heard, work);
         }

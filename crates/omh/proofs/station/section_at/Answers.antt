@@ -1,6 +1,6 @@
 use Rattle.std.proofs.Common.{◌+◌, arith}
 use Rattle.omh_paths.specs.MemberLaws.{path_count-few}
-use Rattle.omh.proofs.Flats.{section_at-next}
+use Rattle.omh.specs.FlatLaws.{section_at-next}
 use Rattle.omh.proofs.station.section_at.Goals as goal
 
 pub overflow_add-begins : goal.overflow_add-begins

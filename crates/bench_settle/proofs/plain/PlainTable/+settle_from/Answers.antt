@@ -4,7 +4,8 @@ use Rattle.omh_paths.specs.Majority.{majority as majority_of}
 use Rattle.omh_paths.specs.Wrapped.{unwrapped}
 use Rattle.omh_paths.specs.MajorityLaws.{majority_sound}
 use Rattle.bench_settle.specs.Plain.{plain_ear}
-use Rattle.bench_settle.proofs.Terms.{settled_at_end, settled_at_later, laid_yes, laid_no, laid_all, term_at_me, term_at_other}
+use Rattle.omh.specs.SettledLaws.{settled_at_end, settled_at_later}
+use Rattle.bench_settle.proofs.Terms.{laid_yes, laid_no, laid_all, term_at_me, term_at_other}
 use Rattle.bench_settle.proofs.plain.PlainTable.+settle_from.Goals as goal
 use Rattle.bench_settle.proofs.plain.PlainTable.+settle_from.Goals.{then-not-has+in_ok-push, then-q-self, else-q-self+in_ok-value, else-not-has}
 

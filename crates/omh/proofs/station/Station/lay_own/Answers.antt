@@ -1,15 +1,18 @@
-use Rattle.std.proofs.Common.{◌≡◌, sym, ap, ◌∙◌, true}
+use Rattle.std.proofs.Common.{◌≡◌, sym, ap, ◌∙◌, true, arith}
 use Rattle.node_grid.specs.NodeSet.{has_id}
 use Rattle.node_grid.specs.Count.{Distinct}
 use Rattle.omh_paths.specs.Paths.{outside}
 use Rattle.omh_paths.specs.PathLists.{Distinct-filter}
-use Rattle.omh_paths.specs.MemberLaws.{Distinct-ids}
+use Rattle.omh_paths.specs.MemberLaws.{Distinct-ids, member-lt}
 use Rattle.omh.proofs.Flats.{laid_at}
 use Rattle.omh.proofs.station.Station.lay_own.Goals as goal
+
+pub outside-others-requires : goal.outside-others-requires
+outside-others-requires g c = (omega arith, λ q on. member-lt g.row.N c.args.self.now.members q c.requires.station.members_ok (c.requires.within q on))
 
 pub returns-then-has : goal.returns-then-has
 returns-then-has g c =
     let others = outside c.args.self.now.members c.args.path.now in
-    let on : has_id others c.args.self.now.me ≡ true = ap (λ s. has_id s c.args.self.now.me) (sym c.outside-outside.ensures) ∙ sym c.has.ensures ∙ c.if-has.true in
+    let on : has_id others c.args.self.now.me ≡ true = ap (λ s. has_id s c.args.self.now.me) (sym c.outside-others.ensures) ∙ sym c.has.ensures ∙ c.if-has.true in
     let d : Distinct others = Distinct-filter _ c.args.self.now.members (Distinct-ids g.row.N c.args.self.now.members c.requires.station.members_ok) in
-    laid_at others c.outside-outside.result c.args.self.now.me c.args.from c.rank.result c.root.result c.args.own c.args.work.now d on c.outside-outside.ensures c.root.ensures c.rank.ensures.place
+    laid_at others c.outside-others.result c.args.self.now.me c.args.from c.rank.result c.root.result c.args.own c.args.work.now d on c.outside-others.ensures c.root.ensures c.rank.ensures.place

@@ -1,4 +1,4 @@
-use Rattle.std.proofs.Common.{◌≡◌, ◌≢◌, ◌<◌, ◌+◌, ◌-◌, ◌*◌, ℕ, suc, length, sym, ap, ◌∙◌, arith}
+use Rattle.std.proofs.Common.{◌≡◌, ◌≢◌, ◌<◌, ◌+◌, ◌-◌, ◌*◌, ℕ, length, sym, ap, ◌∙◌, arith}
 use Rattle.std.proofs.lemmas.List.Elements.{All-get_or}
 use Rattle.node_grid.specs.Count.{Distinct}
 use Rattle.omh_paths.specs.declared.wrapped.Wrapped.{Wrapped}
@@ -6,22 +6,8 @@ use Rattle.omh_paths.specs.declared.wrapped.Wrapped.TheVariants.{Fault}
 use Rattle.omh_paths.specs.Paths.{path_count}
 use Rattle.omh_paths.specs.MemberLaws.{Distinct-ids}
 use Rattle.omh.specs.Flat.{flat_ear, section_at}
-use Rattle.omh.proofs.Folding.{sizes_of, halfway_start, halfway_end, relay_place-lt, path_is, paths_is, width_is, width_outside, heard_is, loop_more, room_more, terms_within}
+use Rattle.omh.proofs.Folding.{IsStep, step_of, halfway_start, halfway_end, heard_is, loop_more, room_more}
 use Rattle.omh.proofs.station.Station.settle_shorter.Goals as goal
-
-pub overflow_mul-first : goal.overflow_mul-first
-overflow_mul-first g c =
-    let a = c.args in
-    let s = sizes_of g.row.N a.self.now.nodes a.self.now.rounds a.self.now.members a.self.now.count a.commander a.relays a.heard.now a.work.now c.requires.station c.requires.room c.requires.member (omega (arith, c.requires.shorter)) in
-    let p = paths_is c.count_paths-paths.result a.self.now.count (length a.self.now.members) a.relays c.count_paths-paths.ensures.product s.count_is in
-    omega (arith, s.first_few, ap (λ (n : ℕ). a.commander * n) p)
-
-pub overflow_add-begins : goal.overflow_add-begins
-overflow_add-begins g c =
-    let a = c.args in
-    let s = sizes_of g.row.N a.self.now.nodes a.self.now.rounds a.self.now.members a.self.now.count a.commander a.relays a.heard.now a.work.now c.requires.station c.requires.room c.requires.member (omega (arith, c.requires.shorter)) in
-    let p = paths_is c.count_paths-paths.result a.self.now.count (length a.self.now.members) a.relays c.count_paths-paths.ensures.product s.count_is in
-    omega (arith, s.first_few, ap (λ (n : ℕ). a.commander * n) p, c.section_at.ensures.small)
 
 pub loop-k-init : goal.loop-k-init
 loop-k-init g c = record {
@@ -29,118 +15,66 @@ loop-k-init g c = record {
   room = c.requires.room;
 }
 
-pub overflow_add-first : goal.overflow_add-first
-overflow_add-first g c =
-    let a = c.args in
-    let s = sizes_of g.row.N a.self.now.nodes a.self.now.rounds a.self.now.members a.self.now.count a.commander a.relays a.heard.now a.work.now c.requires.station c.requires.room c.requires.member (omega (arith, c.requires.shorter)) in
-    let p = paths_is c.count_paths-paths.result a.self.now.count (length a.self.now.members) a.relays c.count_paths-paths.ensures.product s.count_is in
-    omega (arith, s.first_few, ap (λ (n : ℕ). a.commander * n) p, s.paths_few, p, c.loop-k-test.true)
+pub overflow_add-branch : goal.overflow_add-branch
+overflow_add-branch g c = let b = c.branch-branch.ensures in omega (arith, b.begins_is, b.small, c.loop-k-test.true)
 
 pub unrank-path-requires : goal.unrank-path-requires
 unrank-path-requires g c =
-    let a = c.args in
-    let s = sizes_of g.row.N a.self.now.nodes a.self.now.rounds a.self.now.members a.self.now.count a.commander a.relays a.heard.now a.work.now c.requires.station c.requires.room c.requires.member (omega (arith, c.requires.shorter)) in
-    let p = paths_is c.count_paths-paths.result a.self.now.count (length a.self.now.members) a.relays c.count_paths-paths.ensures.product s.count_is in
-    let k-low : c.loop-k.k < path_count (length a.self.now.members - 1) a.relays = omega (arith, p, c.loop-k-test.true) in
-    let low = relay_place-lt a.self.now.members a.commander a.relays c.loop-k.k c.requires.member k-low in
-    let long : suc a.relays ≡ a.relays + 1 = omega arith in (
+    let b = c.branch-branch.ensures in (
       omega arith,
       (
         c.requires.station.capacity_ok,
-        (
-          omega arith,
-          (
-            omega (arith, s.relays_few, c.requires.shorter, c.requires.station.rounds_ok),
-            omega (arith, low, ap (λ (n : ℕ). a.commander * n) p, ap (path_count (length a.self.now.members)) long),
-          ),
-        ),
+        (omega arith, (omega (arith, c.requires.shorter, c.requires.station.rounds_ok), omega (arith, b.listed, c.loop-k-test.true))),
       ),
     )
 
-pub overflow_add-begins-in-loop-k : goal.overflow_add-begins-in-loop-k
-overflow_add-begins-in-loop-k g c =
-    let a = c.args in
-    let s = sizes_of g.row.N a.self.now.nodes a.self.now.rounds a.self.now.members a.self.now.count a.commander a.relays a.heard.now a.work.now c.requires.station c.requires.room c.requires.member (omega (arith, c.requires.shorter)) in
-    let p = paths_is c.count_paths-paths.result a.self.now.count (length a.self.now.members) a.relays c.count_paths-paths.ensures.product s.count_is in
-    omega (arith, s.first_few, ap (λ (n : ℕ). a.commander * n) p, s.paths_few, p, c.loop-k-test.true, c.section_at.ensures.small)
+pub overflow_add-branch-in-loop-k : goal.overflow_add-branch-in-loop-k
+overflow_add-branch-in-loop-k g c = let b = c.branch-branch.ensures in omega (arith, b.small, c.loop-k-test.true)
 
-pub offset_bounds-heard-begins : goal.offset_bounds-heard-begins
-offset_bounds-heard-begins g c =
-    let a = c.args in
-    let s = sizes_of g.row.N a.self.now.nodes a.self.now.rounds a.self.now.members a.self.now.count a.commander a.relays a.heard.now a.work.now c.requires.station c.requires.room c.requires.member (omega (arith, c.requires.shorter)) in
-    let p = paths_is c.count_paths-paths.result a.self.now.count (length a.self.now.members) a.relays c.count_paths-paths.ensures.product s.count_is in
-    let k-low : c.loop-k.k < path_count (length a.self.now.members - 1) a.relays = omega (arith, p, c.loop-k-test.true) in
-    omega (arith, s.heard_room c.loop-k.k k-low, ap (λ (n : ℕ). a.commander * n) p, c.section_at.ensures.begins)
+pub offset_bounds-heard-branch : goal.offset_bounds-heard-branch
+offset_bounds-heard-branch g c = let b = c.branch-branch.ensures in omega (arith, b.within, c.requires.room.flat_ok, c.loop-k-test.true)
 
-pub bounds-heard-begins : goal.bounds-heard-begins
-bounds-heard-begins g c =
-    let a = c.args in
-    let s = sizes_of g.row.N a.self.now.nodes a.self.now.rounds a.self.now.members a.self.now.count a.commander a.relays a.heard.now a.work.now c.requires.station c.requires.room c.requires.member (omega (arith, c.requires.shorter)) in
-    let p = paths_is c.count_paths-paths.result a.self.now.count (length a.self.now.members) a.relays c.count_paths-paths.ensures.product s.count_is in
-    let k-low : c.loop-k.k < path_count (length a.self.now.members - 1) a.relays = omega (arith, p, c.loop-k-test.true) in
-    omega (arith, s.heard_room c.loop-k.k k-low, ap (λ (n : ℕ). a.commander * n) p, c.section_at.ensures.begins)
+pub bounds-heard-branch : goal.bounds-heard-branch
+bounds-heard-branch g c = let b = c.branch-branch.ensures in omega (arith, b.within, c.requires.room.flat_ok, c.loop-k-test.true)
 
 pub own_term-own-requires : goal.own_term-own-requires
 own_term-own-requires g c =
-    let a = c.args in
-    let s = sizes_of g.row.N a.self.now.nodes a.self.now.rounds a.self.now.members a.self.now.count a.commander a.relays a.heard.now a.work.now c.requires.station c.requires.room c.requires.member (omega (arith, c.requires.shorter)) in
-    let p = paths_is c.count_paths-paths.result a.self.now.count (length a.self.now.members) a.relays c.count_paths-paths.ensures.product s.count_is in
-    let k-low : c.loop-k.k < path_count (length a.self.now.members - 1) a.relays = omega (arith, p, c.loop-k-test.true) in
-    let at : ℕ = c.section_at.result + a.commander * c.count_paths-paths.result + c.loop-k.k in
-    let low : at < length a.heard.now = omega (arith, s.heard_room c.loop-k.k k-low, ap (λ (n : ℕ). a.commander * n) p, c.section_at.ensures.begins) in
-    (omega arith, λ e. All-get_or (λ (x : Wrapped g.row.V.Denot). x ≢ Fault 255) a.heard.now at c.index-heard-begins.result low c.requires.room.known (sym c.index-heard-begins.is ∙ e))
+    let b = c.branch-branch.ensures in
+    let heard = c.args.heard.now in
+    let low : c.branch-branch.result.begins + c.loop-k.k < length heard = omega (arith, b.within, c.requires.room.flat_ok, c.loop-k-test.true) in
+    (omega arith, λ e. All-get_or (λ (x : Wrapped g.row.V.Denot). x ≢ Fault 255) heard (c.branch-branch.result.begins + c.loop-k.k) c.index-heard-branch.result low c.requires.room.known (sym c.index-heard-branch.is ∙ e))
 
 pub settle_path-requires : goal.settle_path-requires
 settle_path-requires g c =
     let a = c.args in
-    let s = sizes_of g.row.N a.self.now.nodes a.self.now.rounds a.self.now.members a.self.now.count a.commander a.relays a.heard.now c.loop-k.work c.requires.station c.loop-k.invariant.room c.requires.member (omega (arith, c.requires.shorter)) in
-    let t = sizes_of g.row.N a.self.now.nodes a.self.now.rounds a.self.now.members a.self.now.count a.commander (suc a.relays) a.heard.now c.loop-k.work c.requires.station c.loop-k.invariant.room c.requires.member (omega (arith, c.requires.shorter)) in
-    let p = paths_is c.count_paths-paths.result a.self.now.count (length a.self.now.members) a.relays c.count_paths-paths.ensures.product s.count_is in
-    let k-low : c.loop-k.k < path_count (length a.self.now.members - 1) a.relays = omega (arith, p, c.loop-k-test.true) in
-    let path = path_is a.self.now.members c.unrank-path.result a.commander a.relays c.loop-k.k c.count_paths-paths.result c.unrank-path.ensures.path p in
-    let width = width_is c.saturating_sub-width.result a.self.now.count (length a.self.now.members) a.relays c.saturating_sub-width.ensures s.count_is in
-    let d : Distinct a.self.now.members = Distinct-ids g.row.N a.self.now.members c.requires.station.members_ok in
-    let fits = terms_within (length a.self.now.members) a.relays c.loop-k.k k-low in
-    let product : c.loop-k.k * c.saturating_sub-width.result ≡ c.loop-k.k * (length a.self.now.members - suc a.relays) = ap (λ (n : ℕ). c.loop-k.k * n) width in (
+    let s = a.self.now in
+    let step = step_of g.row.N s.nodes s.rounds s.members c.unrank-path.result s.count a.commander a.relays c.loop-k.k c.saturating_sub-width.result c.branch-branch.result a.heard.now c.loop-k.work c.requires.station c.loop-k.invariant.room
+    c.requires.member c.requires.shorter c.branch-branch.ensures c.loop-k-test.true c.unrank-path.ensures.path c.saturating_sub-width.ensures in (
       omega arith,
-      (
-        c.requires.exact,
-        (
-          c.requires.station,
-          (
-            c.unrank-path.ensures.within,
-            (
-              width_outside a.self.now.members c.unrank-path.result a.commander a.relays c.loop-k.k c.saturating_sub-width.result d c.requires.member k-low path width,
-              (omega (arith, product, width, fits, t.work_room), (omega (arith, k-low, s.work_room), omega (arith, product, width, fits, t.paths_few))),
-            ),
-          ),
-        ),
-      ),
+      (c.requires.exact, (c.requires.station, (c.unrank-path.ensures.within, (step.width_at, (step.terms, (step.here, step.terms_few)))))),
     )
 
 pub loop-k-preserved : goal.loop-k-preserved
 loop-k-preserved g c =
     let a = c.args in
-    let s = sizes_of g.row.N a.self.now.nodes a.self.now.rounds a.self.now.members a.self.now.count a.commander a.relays a.heard.now c.loop-k.work c.requires.station c.loop-k.invariant.room c.requires.member (omega (arith, c.requires.shorter)) in
-    let t = sizes_of g.row.N a.self.now.nodes a.self.now.rounds a.self.now.members a.self.now.count a.commander (suc a.relays) a.heard.now c.loop-k.work c.requires.station c.loop-k.invariant.room c.requires.member (omega (arith, c.requires.shorter)) in
-    let p = paths_is c.count_paths-paths.result a.self.now.count (length a.self.now.members) a.relays c.count_paths-paths.ensures.product s.count_is in
-    let k-low : c.loop-k.k < path_count (length a.self.now.members - 1) a.relays = omega (arith, p, c.loop-k-test.true) in
-    let path = path_is a.self.now.members c.unrank-path.result a.commander a.relays c.loop-k.k c.count_paths-paths.result c.unrank-path.ensures.path p in
-    let width = width_is c.saturating_sub-width.result a.self.now.count (length a.self.now.members) a.relays c.saturating_sub-width.ensures s.count_is in
-    let d : Distinct a.self.now.members = Distinct-ids g.row.N a.self.now.members c.requires.station.members_ok in
-    let at : ℕ = c.section_at.result + a.commander * c.count_paths-paths.result + c.loop-k.k in
-    let at-is : at ≡ section_at a.self.now.nodes a.relays + (a.commander * path_count (length a.self.now.members - 1) a.relays + c.loop-k.k) = omega (arith, ap (λ (n : ℕ). a.commander * n) p, c.section_at.ensures.begins) in
-    let low : at < length a.heard.now = omega (arith, s.heard_room c.loop-k.k k-low, at-is) in
-    let heard = heard_is a.self.now.nodes a.self.now.members a.heard.now c.unrank-path.result a.commander a.relays c.loop-k.k at c.index-heard-begins.result d c.requires.member k-low path at-is low c.index-heard-begins.is in
+    let s = a.self.now in
+    let b = c.branch-branch.ensures in
+    let step = step_of g.row.N s.nodes s.rounds s.members c.unrank-path.result s.count a.commander a.relays c.loop-k.k c.saturating_sub-width.result c.branch-branch.result a.heard.now c.loop-k.work c.requires.station c.loop-k.invariant.room
+    c.requires.member c.requires.shorter c.branch-branch.ensures c.loop-k-test.true c.unrank-path.ensures.path c.saturating_sub-width.ensures in
+    let d : Distinct s.members = Distinct-ids g.row.N s.members c.requires.station.members_ok in
+    let at : ℕ = c.branch-branch.result.begins + c.loop-k.k in
+    let at-is : at ≡ section_at s.nodes a.relays + (a.commander * path_count (length s.members - 1) a.relays + c.loop-k.k) = omega (arith, b.begins_is, b.first_is) in
+    let low : at < length a.heard.now = omega (arith, b.within, c.requires.room.flat_ok, c.loop-k-test.true) in
+    let heard = heard_is s.nodes s.members a.heard.now c.unrank-path.result a.commander a.relays c.loop-k.k at c.index-heard-branch.result d c.requires.member step.inside step.path_at at-is low c.index-heard-branch.is in
     record {
-      halfway = loop_more g.V.PartialEq.eq (flat_ear a.self.now.nodes a.self.now.rounds a.self.now.members a.self.now.me a.self.now.full a.heard.now) a.commander a.relays c.loop-k.k c.unrank-path.result c.saturating_sub-width.result
-          c.loop-k.work c.settle_path.new.work c.index-heard-begins.result c.own_term-own.result d c.requires.member (omega (arith, c.requires.shorter)) c.loop-k.invariant.halfway k-low t.work_room (omega (arith, k-low, s.work_room))
-          path width heard c.own_term-own.ensures c.settle_path.ensures;
-      room = room_more g.V.PartialEq.eq a.self.now.nodes a.self.now.rounds a.heard.now c.loop-k.work c.settle_path.new.work _ a.self.now.me c.loop-k.k c.saturating_sub-width.result c.own_term-own.result c.loop-k.invariant.room c.settle_path.ensures;
+      halfway = loop_more g.V.PartialEq.eq (flat_ear s.nodes s.rounds s.members s.me s.full a.heard.now) a.commander a.relays c.loop-k.k c.unrank-path.result c.saturating_sub-width.result
+          c.loop-k.work c.settle_path.new.work c.index-heard-branch.result c.own_term-own.result d c.requires.member c.requires.shorter c.loop-k.invariant.halfway step.inside step.longer step.here
+          step.path_at step.width_is heard c.own_term-own.ensures c.settle_path.ensures;
+      room = room_more g.V.PartialEq.eq s.nodes s.rounds a.heard.now c.loop-k.work c.settle_path.new.work _ s.me c.loop-k.k c.saturating_sub-width.result c.own_term-own.result c.loop-k.invariant.room c.settle_path.ensures;
     }
 
 pub returns : goal.returns
 returns g c =
-    let a = c.args in
-    let p = paths_is c.count_paths-paths.result a.self.now.count (length a.self.now.members) a.relays c.count_paths-paths.ensures.product c.requires.station.count_ok in
-    halfway_end g.V.PartialEq.eq (flat_ear a.self.now.nodes a.self.now.rounds a.self.now.members a.self.now.me a.self.now.full a.heard.now) a.commander a.relays c.loop-k.k c.loop-k.work (omega (arith, p, c.loop-k-test.false)) c.loop-k.invariant.halfway
+    let s = c.args.self.now in
+    let b = c.branch-branch.ensures in
+    halfway_end g.V.PartialEq.eq (flat_ear s.nodes s.rounds s.members s.me s.full c.args.heard.now) c.args.commander c.args.relays c.loop-k.k c.loop-k.work (omega (arith, b.paths_are, c.loop-k-test.false)) c.loop-k.invariant.halfway
