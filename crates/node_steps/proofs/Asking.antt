@@ -87,7 +87,7 @@ members_asked {N} v h = go v.phase.before h.before where
   go (Some a) x = x.standing.set
 
 pub few_due : {N : ℕ} (v : NodeView N) → IsConfig N v.config → HasSizes v → length v.found.due ≤ 8
-few_due v ok h = let l = length-ids (length v.config.channels.items) v.found.due h.due in let f = ok.few_channels in omega arith
+few_due v ok h = let l = length-ids (length v.config.channels.items) v.found.due h.found.due in let f = ok.few_channels in omega arith
 
 pub rows_end : {N : ℕ} (v : NodeView N) (a : AgreedView) → IsTaken v → v.config.m + 2 ≤ v.phase.slot → v.phase.before ≡ Some a → Hears v.rows v.phase.me a
 rows_end v a t late goes = subst (λ (o : Option AgreedView). IfSome o (λ b. Hears v.rows v.phase.me b)) goes (t.rows late)
@@ -95,8 +95,8 @@ rows_end v a t late goes = subst (λ (o : Option AgreedView). IfSome o (λ b. He
 -- what the writers of relay frames ask
 pub claims_pass : {N : ℕ} (v : NodeView N) (a : AgreedView) (r : ℕ) → HasSizes v → IsInSlot v → 0 < v.phase.slot → v.phase.before ≡ Some a → 0 < r → All (IsEntry (IsClaim (length v.config.graph.tasks)) r) (relays v.done r)
 claims_pass v a r h s later goes some =
-    relays_in (IsClaim (length v.config.graph.tasks)) v.done r (subst Distinct (sym (done_hears v a s later goes).members) (goes_distinct v a h goes)) some h.done_range
+    relays_in (IsClaim (length v.config.graph.tasks)) v.done r (subst Distinct (sym (done_hears v a s later goes).members) (goes_distinct v a h goes)) some h.done.range
 
 pub rows_pass : {N : ℕ} (v : NodeView N) (a : AgreedView) (r : ℕ) → HasSizes v → IsInSlot v → v.config.m + 3 ≤ v.phase.slot → v.phase.before ≡ Some a → 0 < r → All (IsEntry (IsRow v.config.version N v.config.nodes) r) (relays v.rows r)
 rows_pass {N} v a r h s late goes some =
-    relays_in (IsRow v.config.version N v.config.nodes) v.rows r (subst Distinct (sym (rows_hears v a s late goes).members) (goes_distinct v a h goes)) some h.rows_range
+    relays_in (IsRow v.config.version N v.config.nodes) v.rows r (subst Distinct (sym (rows_hears v a s late goes).members) (goes_distinct v a h goes)) some h.rows.range

@@ -4,7 +4,6 @@ pub mod Alike
 pub mod Guilt
 pub mod Law
 pub mod Frames
-pub mod Bits
 pub mod Periods
 pub mod Owing
 pub mod Ranges
@@ -15,9 +14,7 @@ pub mod Telling
 pub mod Soundness
 pub mod Asking
 pub mod Speaking
-pub mod Rowing
-pub mod PathCounts
 pub mod Saying
-pub mod Valuing
+pub mod Values
 pub mod Turning
 pub mod Starting

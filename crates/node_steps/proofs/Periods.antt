@@ -29,7 +29,7 @@ use Rattle.node_steps.specs.Period.{slot_run, expect_at, goes, Told, IsWatch, St
 use Rattle.node_steps.proofs.Alike.{Others, row_by_is, adopted_alike, synced_alike}
 use Rattle.node_steps.proofs.Frames.{agrees, has_by_deliveries, delivered_keeps}
 use Rattle.node_steps.proofs.Law.{step_done, step_claims, step_data, step_report, step_end, step_sync, opens_next, through_is}
-use Rattle.node_steps.proofs.Bits.{mask_none}
+use Rattle.protocol.specs.RowLaws.{mask-zero}
 
 pub room_kept : (w : Watch) (es : List Arriving) → (all_delivered w es).frame_max ≡ w.frame_max
 room_kept w [] = refl
@@ -236,7 +236,7 @@ module _ {N : ℕ} (config : Config N) (i p : ℕ) (g : Inputs) (k : Kept) (x : 
 pub empty_is : (s : Setting) (i : ℕ) → empty_row s ≡ row_by s i (λ j b. false)
 empty_is s i = zeros s.capacity 0 ∙ row_by_is s i (λ j b. false) where
   choice : (b : Bool) → 0 ≡ (if b then mask_of (ids_where (λ k. false) (kind_count s.config.version)) else 0)
-  choice true = sym (mask_none (λ k. false) (kind_count s.config.version) (λ k. refl))
+  choice true = sym (mask-zero (λ k. false) (kind_count s.config.version) (λ k. refl))
   choice false = refl
 
   zeros : (n a : ℕ) → replicate {A = ℕ} n 0 ≡ map (λ j. if nat_lt j s.config.nodes && not (j == i) then mask_of (ids_where (λ k. false) (kind_count s.config.version)) else 0) (range_with_len a n)

@@ -17,7 +17,7 @@ use Rattle.protocol.specs.Arrival.{Arrival, said}
 use Rattle.protocol.specs.Arrival.Arrival.{Bad, Good}
 use Rattle.protocol.specs.Heard.{looked_up, with_entries, entry}
 use Rattle.relaying.specs.Hearing.{told_to, has_path}
-use Rattle.node_steps.specs.Ranged.{HeardIn, IsRanged}
+use Rattle.relaying.specs.Ranged.{HeardIn, IsRanged}
 use Rattle.relaying.specs.Relaying.{relays}
 use Rattle.node_steps.proofs.Passing.{relays_of_member, relays_none}
 

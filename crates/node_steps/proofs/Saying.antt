@@ -34,35 +34,12 @@ use Rattle.relaying.specs.Relaying.{relays}
 use Rattle.node_steps.specs.Sound.{HasSizes, Hears, IsInSlot, IsSound}
 use Rattle.node_steps.specs.Steps.{expected_in, own_in_slot, said_by}
 use Rattle.node_steps.proofs.Asking.{few_due, goes_agreed, goes_distinct, done_hears, rows_hears, claims_pass, rows_pass}
-use Rattle.node_steps.proofs.PathCounts.{entries_number}
+use Rattle.protocol.specs.ClaimLaws.{own_claim_fits}
+use Rattle.protocol.specs.TalkLaws.{entries_number}
+use Rattle.protocol.specs.Configured.{setting_of}
 use Rattle.relaying.proofs.Putting.{mapped}
-use Rattle.node_steps.proofs.Valuing.{all_sent}
+use Rattle.node_steps.proofs.Values.{all_sent}
 use Rattle.node_steps.proofs.Soundness.{le_told, gt_told}
-
-listed_task : (graph : GraphView) (t : ℕ) → 0 < (task_at graph.tasks t).max → t < length graph.tasks
-listed_task graph t h = elim (cases_lt t (length graph.tasks)) [
-  | inl low ↦ low
-  | inr high ↦ let e : (task_at graph.tasks t).max ≡ 0 = ap (λ (x : _). x.max) (get_or_past graph.tasks t no_task high) in absurd (omega arith)
-]
-
--- a node's own claim is a claim
-pub own_claim_fits : {N : ℕ} (config : Config N) (i : ℕ) (g : Inputs) (a : AgreedView) → IsAgreed N config a → IsClaim (length config.graph.tasks) (own_claim i g a)
-own_claim_fits config i g a valid = elim (cases_Bool (has_id a.standing.members i)) [
-  | inl on ↦ subst (IsClaim (length config.graph.tasks)) (sym (cond-true (has_id a.standing.members i) _ _ on)) (by_work (works a.copies i) refl)
-  | inr off ↦ subst (IsClaim (length config.graph.tasks)) (sym (cond-false (has_id a.standing.members i) (claim_at g.run (works a.copies i)) no_claim off)) (inl refl)
-]
-  where
-    by_time : (b : Bool) (t : ℕ) → t < length config.graph.tasks → IsClaim (length config.graph.tasks) (if b then t else no_claim)
-    by_time true t low = inr low
-    by_time false t low = inl refl
-
-    by_work : (o : Option (ℕ × ℕ)) → works a.copies i ≡ o → IsClaim (length config.graph.tasks) (claim_at g.run o)
-    by_work None e = inl refl
-    by_work (Some w) e =
-        let r = (works_runs a.copies i w e).0 in
-        let some = valid.copies.early w.0 i w.1 r in
-        let low = listed_task config.graph w.0 (omega arith) in
-        by_time (nat_le (slice_index g.run w.0) w.1) w.0 low
 
 pick : {X : Type 0} (P : X → Type 0) (b : Bool) (x y : X) → (b ≡ true → P x) → (b ≡ false → P y) → P (if b then x else y)
 pick P true x y f g = f refl
@@ -145,7 +122,7 @@ module _ {N : ℕ} (v : NodeView N) (small : N ≤ 16) (ok : IsConfig N v.config
       state z = is_short ex (State (body v.config a)) laid_out (sym (ap (kind_in v.config.m) z)) (length-body N v.config a small ok (goes_agreed v a h goes))
 
       claim : v.phase.slot ≡ 1 → IsInRange ex (Done0 (own_claim v.phase.me v.phase.inputs a))
-      claim z = is_short ex (Done0 (own_claim v.phase.me v.phase.inputs a)) laid_out (sym (ap (kind_in v.config.m) z)) (own_claim_fits v.config v.phase.me v.phase.inputs a (goes_agreed v a h goes))
+      claim z = is_short ex (Done0 (own_claim v.phase.me v.phase.inputs a)) laid_out (sym (ap (kind_in v.config.m) z)) (own_claim_fits (setting_of v.config) v.phase.me v.phase.inputs a (goes_agreed v a h goes))
 
       claims : v.phase.slot ≢ 0 → v.phase.slot ≢ 1 → v.phase.slot ≤ v.config.m + 1 → IsInRange ex (DoneRelay (relays v.done (v.phase.slot - 1)))
       claims n0 n1 low =
@@ -163,7 +140,7 @@ module _ {N : ℕ} (v : NodeView N) (small : N ≤ 16) (ok : IsConfig N v.config
       )
 
       row : v.phase.slot ≡ v.config.m + 3 → IsInRange ex (Report0 v.found.notes)
-      row z = is_short ex (Report0 v.found.notes) laid_out (sym (ap (kind_in v.config.m) z ∙ kind_5 v.config.m)) h.notes
+      row z = is_short ex (Report0 v.found.notes) laid_out (sym (ap (kind_in v.config.m) z ∙ kind_5 v.config.m)) h.found.notes
 
       rows : v.config.m + 1 < v.phase.slot → v.phase.slot ≢ v.config.m + 2 → v.phase.slot ≢ v.config.m + 3 → IsInRange ex (ReportRelay (relays v.rows (v.phase.slot - (v.config.m + 3))))
       rows high n2 n3 =
@@ -180,4 +157,4 @@ module _ {N : ℕ} (v : NodeView N) (small : N ≤ 16) (ok : IsConfig N v.config
   said_fits = go v.phase.before refl where
     go : (o : Option AgreedView) → v.phase.before ≡ o → IsInRange (expected_in v v.phase.slot) (said_by v o)
     go None goes = cold_in_range (expected_in v v.phase.slot)
-    go (Some a) goes = pick (IsInRange (expected_in v v.phase.slot)) v.phase.full _ _ (λ y. own_fits a goes (λ z. all_sent v.found.own v.found.due sound.sizes.values)) (λ n. cold_in_range (expected_in v v.phase.slot))
+    go (Some a) goes = pick (IsInRange (expected_in v v.phase.slot)) v.phase.full _ _ (λ y. own_fits a goes (λ z. all_sent v.found.own v.found.due sound.sizes.found.values)) (λ n. cold_in_range (expected_in v v.phase.slot))

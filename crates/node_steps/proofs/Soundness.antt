@@ -22,18 +22,20 @@ use Rattle.agreed_state.specs.Adoption.{adopted, read_of, given}
 use Rattle.agreed_state.specs.ReadLaws.{read_agreed}
 use Rattle.protocol.specs.Arrival.{Arrival, state_in, claim_form, row_form, is_bad, values_in}
 use Rattle.protocol.specs.View.{adopted_by, bodies_for, deviates, empty_row, channel_room}
-use Rattle.node_steps.specs.Parts.{NodeView}
+use Rattle.node_steps.specs.Parts.{Found, NodeView}
 use Rattle.protocol.specs.Configured.{setting_of}
 use Rattle.node_steps.specs.Steps.{expected_in, with_notes, shut, synced, with_sync, after_sync, taken, slot_taken, after_done, after_data, after_report, heard_done, claims_known, finished, next_open, after_slot, begun, restarted, given_frame}
 use Rattle.data_slot.specs.Values.{only_values}
 use Rattle.noting.specs.Findings.{has_of}
-use Rattle.node_steps.specs.Ranged.{IsRanged}
+use Rattle.relaying.specs.Ranged.{IsRanged}
 use Rattle.node_steps.proofs.Asking.{no_ids}
 pub use Rattle.node_steps.proofs.Asking.{le_is, gt_is}
-use Rattle.node_steps.proofs.Rowing.{row_by_is_row, empty_is_row}
-use Rattle.node_steps.proofs.Valuing.{own_values_fit, no_values_fit}
+use Rattle.protocol.specs.ClaimLaws.{own_claim_fits}
+use Rattle.protocol.specs.RowLaws.{row_by_is_row, empty_is_row}
+use Rattle.protocol.specs.ValueLaws.{own_values_fit}
+use Rattle.node_steps.proofs.Values.{no_values_fit}
 use Rattle.node_steps.proofs.Speaking.{claims_speak, rows_speak, round_ranged, nothing_ranged}
-use Rattle.node_steps.specs.Sound.{HasSizes, Hears, IsInSlot, IsSound, IsTaken}
+use Rattle.node_steps.specs.Sound.{FoundInRange, HasSizes, Hears, IsInSlot, IsSound, IsTable, IsTaken}
 
 if_some : {X : Type 0} (P : X → Type 0) (o : Option X) → ((x : X) → o ≡ Some x → P x) → IfSome o P
 if_some P None h = tt
@@ -48,21 +50,40 @@ adopted_agreed {N} config i sync small ok = if_some (λ a. IsAgreed N config a) 
   go a (Fault k) h = absurd (cc)
 
 sizes_shut : {N : ℕ} (v : NodeView N) → HasSizes v → HasSizes (shut v)
-sizes_shut v h = record { kept = h.kept; before = h.before; done_nodes = h.done_nodes; done_rounds = h.done_rounds; rows_nodes = h.rows_nodes; rows_rounds = h.rows_rounds; due = h.due; done_range = h.done_range; rows_range = h.rows_range; carried = h.carried; notes = h.notes; late = h.late; readings = h.readings; values = h.values }
+sizes_shut v h = record { kept = h.kept; before = h.before; done = h.done; rows = h.rows; found = h.found; readings = h.readings }
 
 hears_distinct : {N : ℕ} (v : NodeView N) (ms : List ℕ) (a : AgreedView) → HasSizes v → v.phase.before ≡ Some a → ms ≡ a.standing.members → Distinct ms
 hears_distinct {N} v ms a h goes e = subst Distinct (sym e) (Distinct-ids v.config.nodes a.standing.members (subst (λ (o : Option AgreedView). IfSome o (λ b. IsAgreed N v.config b)) goes h.before).standing.set)
 
+-- what was found, with the row of notes replaced
+with_row : {N : ℕ} (config : Config N) (f : Found) (row : List ℕ) → FoundInRange config f → IsRow config.version N config.nodes row → FoundInRange config (record f { notes = row })
+with_row config f row h r = record { due = h.due; notes = r; late = h.late; values = h.values }
+
+found_synced : {N : ℕ} (v : NodeView N) → HasSizes v → FoundInRange v.config (with_sync (shut v)).found
+found_synced v h = record { due = h.found.due; notes = h.found.notes; late = h.found.late; values = h.found.values }
+
 -- the sync slot
 sync_taken : {N : ℕ} (v : NodeView N) (o : Option AgreedView) → IsConfig N v.config → HasSizes v → v.phase.slot ≡ 0 → IfSome o (λ a. IsAgreed N v.config a) → IsTaken (synced (with_sync (shut v)) o)
 sync_taken v None ok h zero' a = record {
-  sizes = record { kept = h.kept; before = tt; done_nodes = h.done_nodes; done_rounds = h.done_rounds; rows_nodes = h.rows_nodes; rows_rounds = h.rows_rounds; due = h.due; done_range = h.done_range; rows_range = h.rows_range; carried = h.carried; notes = h.notes; late = h.late; readings = h.readings; values = h.values };
+  sizes = record { kept = h.kept; before = tt; done = h.done; rows = h.rows; found = found_synced v h; readings = h.readings };
   within = omega arith;
   done = tt;
   rows = λ l. tt;
 }
 sync_taken v (Some b) ok h zero' a = record {
-  sizes = record { kept = h.kept; before = a; done_nodes = h.done_nodes; done_rounds = h.done_rounds; rows_nodes = h.rows_nodes; rows_rounds = h.rows_rounds; due = h.due; done_range = nothing_ranged (IsClaim (length v.config.graph.tasks)) b.standing.members v.phase.me v.done.rounds; rows_range = h.rows_range; carried = h.carried; notes = row_by_is_row (setting_of v.config) v.phase.me _ ok.few_nodes; late = h.late; readings = h.readings; values = h.values };
+  sizes = record {
+    kept = h.kept;
+    before = a;
+    done = record {
+      nodes_are = h.done.nodes_are;
+      rounds_are = h.done.rounds_are;
+      own_range = own_claim_fits (setting_of v.config) v.phase.me v.phase.inputs b a;
+      range = nothing_ranged (IsClaim (length v.config.graph.tasks)) b.standing.members v.phase.me v.done.rounds;
+    };
+    rows = h.rows;
+    found = with_row v.config v.found _ h.found (row_by_is_row (setting_of v.config) v.phase.me _ ok.few_nodes);
+    readings = h.readings;
+  };
   within = omega arith;
   done = record { members = refl; me_is = refl };
   rows = λ l. absurd (omega arith);
@@ -72,13 +93,25 @@ sync_taken v (Some b) ok h zero' a = record {
 done_taken : {N : ℕ} (v : NodeView N) (a : AgreedView) → IsConfig N v.config → HasSizes v → IsInSlot v → 0 < v.phase.slot → v.phase.slot ≤ v.config.m + 1 → v.phase.before ≡ Some a → IsTaken (after_done (shut v) a)
 done_taken {N} v a ok h s some low goes = elim (cases_Bool (v.phase.slot == v.config.m + 1)) [
   | inl y ↦ subst (IsTaken {N = N}) (sym (cond-true (v.phase.slot == v.config.m + 1) (claims_known (heard_done (shut v)) a) (heard_done (shut v)) y)) (record {
-    sizes = record { kept = h.kept; before = h.before; done_nodes = h.done_nodes; done_rounds = h.done_rounds; rows_nodes = h.rows_nodes; rows_rounds = h.rows_rounds; due = IsIdSet-filter _ (length v.config.channels.items); done_range = ranged; rows_range = h.rows_range; carried = h.carried; notes = row_by_is_row (setting_of v.config) v.phase.me _ ok.few_nodes; late = h.late; readings = h.readings; values = own_values_fit v.config v.phase.me v.phase.period v.phase.inputs v.kept ok h.readings };
+    sizes = record {
+      kept = h.kept;
+      before = h.before;
+      done = done;
+      rows = h.rows;
+      found = record {
+        due = IsIdSet-filter _ (length v.config.channels.items);
+        notes = row_by_is_row (setting_of v.config) v.phase.me _ ok.few_nodes;
+        late = h.found.late;
+        values = own_values_fit (setting_of v.config) v.phase.me v.phase.period v.phase.inputs v.kept ok h.readings;
+      };
+      readings = h.readings;
+    };
     within = s.within;
     done = hears v.phase.before (s.done some);
     rows = λ l. absurd (omega arith);
   })
   | inr n ↦ subst (IsTaken {N = N}) (sym (cond-false (v.phase.slot == v.config.m + 1) (claims_known (heard_done (shut v)) a) (heard_done (shut v)) n)) (record {
-    sizes = record { kept = h.kept; before = h.before; done_nodes = h.done_nodes; done_rounds = h.done_rounds; rows_nodes = h.rows_nodes; rows_rounds = h.rows_rounds; due = h.due; done_range = ranged; rows_range = h.rows_range; carried = h.carried; notes = row_by_is_row (setting_of v.config) v.phase.me _ ok.few_nodes; late = h.late; readings = h.readings; values = h.values };
+    sizes = record { kept = h.kept; before = h.before; done = done; rows = h.rows; found = with_row v.config v.found _ h.found (row_by_is_row (setting_of v.config) v.phase.me _ ok.few_nodes); readings = h.readings };
     within = s.within;
     done = hears v.phase.before (s.done some);
     rows = λ l. absurd (omega arith);
@@ -91,7 +124,10 @@ done_taken {N} v a ok h s some low goes = elim (cases_Bool (v.phase.slot == v.co
     ranged : IsRanged (IsClaim (length v.config.graph.tasks)) (heard_done (shut v)).done.heard
     ranged = round_ranged claim_form (IsClaim (length v.config.graph.tasks)) (closed v.arrived) e v.config.nodes (v.phase.slot - 1) v.done s.expects (λ j. claims_speak (of_sender j e))
         (cond-true (nat_le v.phase.slot (v.config.m + 1)) (v.phase.slot - 1) (v.phase.slot - (v.config.m + 3)) (le_is v.phase.slot (v.config.m + 1) low))
-        (hears_distinct v v.done.members a h goes (subst (λ (o : Option AgreedView). IfSome o (λ b. Hears v.done v.phase.me b)) goes (s.done some)).members) h.done_range
+        (hears_distinct v v.done.members a h goes (subst (λ (o : Option AgreedView). IfSome o (λ b. Hears v.done v.phase.me b)) goes (s.done some)).members) h.done.range
+
+    done : IsTable (IsClaim (length v.config.graph.tasks)) v.config.nodes v.config.m (heard_done (shut v)).done
+    done = record { nodes_are = h.done.nodes_are; rounds_are = h.done.rounds_are; own_range = h.done.own_range; range = ranged }
 
     hears : (o : Option AgreedView) → IfSome o (λ b. Hears v.done v.phase.me b) → IfSome o (λ b. Hears (heard_done (shut v)).done v.phase.me b)
     hears None x = tt
@@ -100,7 +136,14 @@ done_taken {N} v a ok h s some low goes = elim (cases_Bool (v.phase.slot == v.co
 -- the data slot
 data_taken : {N : ℕ} (v : NodeView N) (a : AgreedView) → IsConfig N v.config → HasSizes v → IsInSlot v → v.phase.slot ≡ v.config.m + 2 → v.phase.before ≡ Some a → IsTaken (after_data (shut v) a)
 data_taken {N} v a ok h s at goes = record {
-  sizes = record { kept = h.kept; before = h.before; done_nodes = h.done_nodes; done_rounds = h.done_rounds; rows_nodes = h.rows_nodes; rows_rounds = h.rows_rounds; due = h.due; done_range = h.done_range; rows_range = nothing_ranged (IsRow v.config.version N v.config.nodes) a.standing.members v.phase.me v.rows.rounds; carried = h.carried; notes = row v.phase.full; late = h.late; readings = h.readings; values = h.values };
+  sizes = record {
+    kept = h.kept;
+    before = h.before;
+    done = h.done;
+    rows = record { nodes_are = h.rows.nodes_are; rounds_are = h.rows.rounds_are; own_range = row v.phase.full; range = nothing_ranged (IsRow v.config.version N v.config.nodes) a.standing.members v.phase.me v.rows.rounds };
+    found = record { due = h.found.due; notes = row v.phase.full; late = h.found.late; values = h.found.values };
+    readings = h.readings;
+  };
   within = s.within;
   done = s.done (omega arith);
   rows = λ l. subst (λ (o : Option AgreedView). IfSome o (λ b. Hears (after_data (shut v) a).rows v.phase.me b)) (sym goes) (record { members = refl; me_is = refl });
@@ -113,7 +156,14 @@ data_taken {N} v a ok h s at goes = record {
 -- a report slot
 report_taken : {N : ℕ} (v : NodeView N) (a : AgreedView) → IsConfig N v.config → HasSizes v → IsInSlot v → v.config.m + 3 ≤ v.phase.slot → v.phase.before ≡ Some a → IsTaken (after_report (shut v))
 report_taken {N} v a ok h s late goes = record {
-  sizes = record { kept = h.kept; before = h.before; done_nodes = h.done_nodes; done_rounds = h.done_rounds; rows_nodes = h.rows_nodes; rows_rounds = h.rows_rounds; due = h.due; done_range = h.done_range; rows_range = ranged; carried = h.carried; notes = h.notes; late = row_by_is_row (setting_of v.config) v.phase.me _ ok.few_nodes; readings = h.readings; values = h.values };
+  sizes = record {
+    kept = h.kept;
+    before = h.before;
+    done = h.done;
+    rows = record { nodes_are = h.rows.nodes_are; rounds_are = h.rows.rounds_are; own_range = h.rows.own_range; range = ranged };
+    found = record { due = h.found.due; notes = h.found.notes; late = row_by_is_row (setting_of v.config) v.phase.me _ ok.few_nodes; values = h.found.values };
+    readings = h.readings;
+  };
   within = s.within;
   done = s.done (omega arith);
   rows = λ l. hears v.phase.before (s.rows late);
@@ -125,7 +175,7 @@ report_taken {N} v a ok h s late goes = record {
     ranged : IsRanged (IsRow v.config.version N v.config.nodes) (after_report (shut v)).rows.heard
     ranged = round_ranged row_form (IsRow v.config.version N v.config.nodes) (closed v.arrived) e v.config.nodes (v.phase.slot - (v.config.m + 3)) v.rows s.expects (λ j. rows_speak (of_sender j e))
         (cond-false (nat_le v.phase.slot (v.config.m + 1)) (v.phase.slot - 1) (v.phase.slot - (v.config.m + 3)) (gt_is v.phase.slot (v.config.m + 1) (omega arith)))
-        (hears_distinct v v.rows.members a h goes (subst (λ (o : Option AgreedView). IfSome o (λ b. Hears v.rows v.phase.me b)) goes (s.rows late)).members) h.rows_range
+        (hears_distinct v v.rows.members a h goes (subst (λ (o : Option AgreedView). IfSome o (λ b. Hears v.rows v.phase.me b)) goes (s.rows late)).members) h.rows.range
 
     hears : (o : Option AgreedView) → IfSome o (λ b. Hears v.rows v.phase.me b) → IfSome o (λ b. Hears (after_report (shut v)).rows v.phase.me b)
     hears None x = tt
@@ -165,30 +215,25 @@ slot_is_taken {N} v small ok h open' = elim (cases_eq v.phase.slot 0) [
 ]
   where
     state : (b : Bool) → IfSome (if b then v.kept.state else adopted_by (setting_of v.config) v.phase.me (has_of state_in (shut v).arrived)) (λ a. IsAgreed N v.config a)
-    state true = h.sizes.kept
+    state true = h.sizes.kept.state
     state false = adopted_agreed v.config v.phase.me (has_of state_in (shut v).arrived) small ok
 
 end_sound : {N : ℕ} (w : NodeView N) (o : Option AgreedView) → IsConfig N w.config → HasSizes w → w.phase.before ≡ o → IsSound (let u = finished w o in record u { phase = record u.phase { is_open = false } })
 end_sound w None ok h goes = record {
-  sizes = record { kept = tt; before = h.before; done_nodes = h.done_nodes; done_rounds = h.done_rounds; rows_nodes = h.rows_nodes; rows_rounds = h.rows_rounds; due = h.due; done_range = h.done_range; rows_range = h.rows_range; carried = empty_is_row (setting_of w.config) ok.few_nodes; notes = h.notes; late = h.late; readings = h.readings; values = h.values };
+  sizes = record { kept = record { state = tt; carried = empty_is_row (setting_of w.config) ok.few_nodes }; before = h.before; done = h.done; rows = h.rows; found = h.found; readings = h.readings };
   in_slot = λ e. absurd (cc);
 }
 end_sound {N} w (Some a) ok h goes = record {
   sizes = record {
-    kept = agreed-after N w.config w.phase.period a w.found.claims _ ok (subst (λ (o : Option AgreedView). IfSome o (λ b. IsAgreed N w.config b)) goes h.before);
+    kept = record {
+      state = agreed-after N w.config w.phase.period a w.found.claims _ ok (subst (λ (o : Option AgreedView). IfSome o (λ b. IsAgreed N w.config b)) goes h.before);
+      carried = row_by_is_row (setting_of w.config) w.phase.me _ ok.few_nodes;
+    };
     before = h.before;
-    done_nodes = h.done_nodes;
-    done_rounds = h.done_rounds;
-    rows_nodes = h.rows_nodes;
-    rows_rounds = h.rows_rounds;
-    due = h.due;
-    done_range = h.done_range;
-    rows_range = h.rows_range;
-    carried = row_by_is_row (setting_of w.config) w.phase.me _ ok.few_nodes;
-    notes = h.notes;
-    late = h.late;
+    done = h.done;
+    rows = h.rows;
+    found = h.found;
     readings = h.readings;
-    values = h.values;
   };
   in_slot = λ e. absurd (cc);
 }
@@ -198,7 +243,7 @@ pub next_sound : {N : ℕ} (w : NodeView N) → IsConfig N w.config → IsTaken 
 next_sound {N} w ok t = elim (cases_eq w.phase.slot (2 * w.config.m + 3)) [
   | inl e ↦ subst (IsSound {N = N}) (sym (cond-true (w.phase.slot == 2 * w.config.m + 3) _ _ (eq-eqb _ _ e))) (end_sound w w.phase.before ok t.sizes refl)
   | inr ne ↦ subst (IsSound {N = N}) (sym (cond-false (w.phase.slot == 2 * w.config.m + 3) _ _ (ne_eqb _ _ ne))) (record {
-    sizes = record { kept = t.sizes.kept; before = t.sizes.before; done_nodes = t.sizes.done_nodes; done_rounds = t.sizes.done_rounds; rows_nodes = t.sizes.rows_nodes; rows_rounds = t.sizes.rows_rounds; due = t.sizes.due; done_range = t.sizes.done_range; rows_range = t.sizes.rows_range; carried = t.sizes.carried; notes = t.sizes.notes; late = t.sizes.late; readings = t.sizes.readings; values = t.sizes.values };
+    sizes = record { kept = t.sizes.kept; before = t.sizes.before; done = t.sizes.done; rows = t.sizes.rows; found = t.sizes.found; readings = t.sizes.readings };
     in_slot = λ e. record {
       watching = refl;
       expects = refl;
@@ -229,18 +274,25 @@ sound_after_slot v small ok h open' = next_sound (slot_taken (shut v)) (same v o
 
 pub sound_begun : {N : ℕ} (v : NodeView N) (period : ℕ) (inputs : Inputs) → IsConfig N v.config → All IsValue inputs.reading → IsSound v → IsSound (begun v period inputs)
 sound_begun v period inputs ok given h = record {
-  sizes = record { kept = h.sizes.kept; before = h.sizes.kept; done_nodes = h.sizes.done_nodes; done_rounds = h.sizes.done_rounds; rows_nodes = h.sizes.rows_nodes; rows_rounds = h.sizes.rows_rounds; due = no_ids (length v.config.channels.items); done_range = h.sizes.done_range; rows_range = h.sizes.rows_range; carried = h.sizes.carried; notes = h.sizes.carried; late = empty_is_row (setting_of v.config) ok.few_nodes; readings = given; values = no_values_fit channel_room };
+  sizes = record {
+    kept = h.sizes.kept;
+    before = h.sizes.kept.state;
+    done = h.sizes.done;
+    rows = h.sizes.rows;
+    found = record { due = no_ids (length v.config.channels.items); notes = h.sizes.kept.carried; late = empty_is_row (setting_of v.config) ok.few_nodes; values = no_values_fit channel_room };
+    readings = given;
+  };
   in_slot = λ e. record { watching = refl; expects = refl; within = omega arith; done = λ l. absurd (omega arith); rows = λ l. absurd (omega arith) };
 }
 
 pub sound_restarted : {N : ℕ} (v : NodeView N) → IsConfig N v.config → v.phase.is_open ≡ false → IsSound v → IsSound (restarted v)
 sound_restarted v ok shut' h = record {
-  sizes = record { kept = tt; before = h.sizes.before; done_nodes = h.sizes.done_nodes; done_rounds = h.sizes.done_rounds; rows_nodes = h.sizes.rows_nodes; rows_rounds = h.sizes.rows_rounds; due = h.sizes.due; done_range = h.sizes.done_range; rows_range = h.sizes.rows_range; carried = empty_is_row (setting_of v.config) ok.few_nodes; notes = h.sizes.notes; late = h.sizes.late; readings = h.sizes.readings; values = h.sizes.values };
+  sizes = record { kept = record { state = tt; carried = empty_is_row (setting_of v.config) ok.few_nodes }; before = h.sizes.before; done = h.sizes.done; rows = h.sizes.rows; found = h.sizes.found; readings = h.sizes.readings };
   in_slot = λ e. absurd (let x = sym shut' ∙ e in cc);
 }
 
 pub sound_given : {N : ℕ} (v : NodeView N) (from tick : ℕ) (bytes : List ℕ) → IsSound v → IsSound (given_frame v from tick bytes)
 sound_given v from tick bytes h = record {
-  sizes = record { kept = h.sizes.kept; before = h.sizes.before; done_nodes = h.sizes.done_nodes; done_rounds = h.sizes.done_rounds; rows_nodes = h.sizes.rows_nodes; rows_rounds = h.sizes.rows_rounds; due = h.sizes.due; done_range = h.sizes.done_range; rows_range = h.sizes.rows_range; carried = h.sizes.carried; notes = h.sizes.notes; late = h.sizes.late; readings = h.sizes.readings; values = h.sizes.values };
+  sizes = record { kept = h.sizes.kept; before = h.sizes.before; done = h.sizes.done; rows = h.sizes.rows; found = h.sizes.found; readings = h.sizes.readings };
   in_slot = λ e. let s = h.in_slot e in record { watching = s.watching; expects = s.expects; within = s.within; done = s.done; rows = s.rows };
 }

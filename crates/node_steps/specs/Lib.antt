@@ -8,7 +8,6 @@ pub mod Owed
 pub mod Sending
 pub mod Living
 pub mod Order
-pub mod Ranged
 pub mod Sound
 pub mod SoundLaws
 pub mod Ready

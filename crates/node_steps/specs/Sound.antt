@@ -3,28 +3,40 @@ use Rattle.std.specs.Prelude.{◌≡◌, ℕ, ◌+◌, ◌*◌, ◌<◌, ◌≤�
 use Rattle.node_grid.specs.NodeSet.{IsIdSet}
 use Rattle.omh.specs.Heard.{Hearing}
 use Rattle.frames.specs.Content.{IsClaim, IsRow, IsValue}
+use Rattle.agreed_state.specs.declared.config.Config.{Config}
 use Rattle.agreed_state.specs.Agreed.{AgreedView, IsAgreed}
-use Rattle.protocol.specs.View.{own_in}
-use Rattle.node_steps.specs.Parts.{NodeView}
-use Rattle.node_steps.specs.Ranged.{IsRanged}
+use Rattle.protocol.specs.View.{Kept, own_in}
+use Rattle.relaying.specs.Ranged.{HeardIn, IsRanged}
+use Rattle.node_steps.specs.Parts.{Found, NodeView}
 use Rattle.node_steps.specs.Steps.{expected_in}
 
--- states are agreed states, tables have their sizes, and heard what lies in range, rows of notes are rows, and values lie in range
+-- a table with its sizes, in which the node's own item and all that was heard lie in range
+pub record IsTable {V : Type 0} (P : V → Type 0) (nodes rounds : ℕ) (h : Hearing V) : Type 0 where
+  pub nodes_are : h.nodes ≡ nodes
+  pub rounds_are : h.rounds ≡ rounds
+  pub own_range : HeardIn P 0 h.own
+  pub range : IsRanged P h.heard
+
+-- what a node keeps is an agreed state, if any, and a row
+pub record KeepsInRange {N : ℕ} (config : Config N) (k : Kept) : Type 0 where
+  pub state : IfSome k.state (λ a. IsAgreed N config a)
+  pub carried : IsRow config.version N config.nodes k.carried
+
+-- what it found are channels, rows and values
+pub record FoundInRange {N : ℕ} (config : Config N) (f : Found) : Type 0 where
+  pub due : IsIdSet (length config.channels.items) f.due
+  pub notes : IsRow config.version N config.nodes f.notes
+  pub late : IsRow config.version N config.nodes f.late
+  pub values : (c : ℕ) → IsValue (own_in f.own c)
+
+-- the parts of a node have their sizes and ranges
 pub record HasSizes {N : ℕ} (v : NodeView N) : Type 0 where
-  pub kept : IfSome v.kept.state (λ a. IsAgreed N v.config a)
+  pub kept : KeepsInRange v.config v.kept
   pub before : IfSome v.phase.before (λ a. IsAgreed N v.config a)
-  pub done_nodes : v.done.nodes ≡ v.config.nodes
-  pub done_rounds : v.done.rounds ≡ v.config.m
-  pub rows_nodes : v.rows.nodes ≡ v.config.nodes
-  pub rows_rounds : v.rows.rounds ≡ v.config.m
-  pub due : IsIdSet (length v.config.channels.items) v.found.due
-  pub done_range : IsRanged (IsClaim (length v.config.graph.tasks)) v.done.heard
-  pub rows_range : IsRanged (IsRow v.config.version N v.config.nodes) v.rows.heard
-  pub carried : IsRow v.config.version N v.config.nodes v.kept.carried
-  pub notes : IsRow v.config.version N v.config.nodes v.found.notes
-  pub late : IsRow v.config.version N v.config.nodes v.found.late
+  pub done : IsTable (IsClaim (length v.config.graph.tasks)) v.config.nodes v.config.m v.done
+  pub rows : IsTable (IsRow v.config.version N v.config.nodes) v.config.nodes v.config.m v.rows
+  pub found : FoundInRange v.config v.found
   pub readings : All IsValue v.phase.inputs.reading
-  pub values : (c : ℕ) → IsValue (own_in v.found.own c)
 
 -- a table that hears the items of the members
 pub record Hears {V : Type 0} (h : Hearing V) (me : ℕ) (a : AgreedView) : Type 0 where

@@ -13,7 +13,8 @@ use Rattle.list_scheduler.specs.Schedule.{verdict}
 use Rattle.error_reports.specs.Charge.{accuses}
 use Rattle.agreed_state.specs.declared.config.Inputs.{Inputs}
 use Rattle.agreed_state.specs.Agreed.{AgreedView, agreed_after}
-use Rattle.agreed_state.specs.Body.{body, state_len}
+use Rattle.agreed_state.specs.Body.{body}
+use Rattle.agreed_state.specs.Expecting.{expectation}
 use Rattle.protocol.specs.Arrival.{is_bad, state_in, values_in, claim_form, row_form}
 use Rattle.protocol.specs.FurtherKinds.{convicts_member}
 use Rattle.protocol.specs.View.{nothing, adopted_by, own_claim, as_claim, due_channels, own_values, own_in, votes_on, deviates, other_body, row_by, empty_row, channel_room, cold_view}
@@ -30,19 +31,7 @@ use Rattle.protocol.specs.Configured.{setting_of}
 -- ---- what a node expects, and what it says
 
 abbrev pub expected_in : {N : ℕ} → NodeView N → ℕ → Expectation
-expected_in {N} v slot = record {
-  version = v.config.version;
-  capacity = N;
-  nodes = v.config.nodes;
-  m = v.config.m;
-  period = v.phase.period;
-  slot = slot;
-  sender = v.phase.me;
-  members = if slot == 0 then [] else members_in v.phase.before;
-  state_len = state_len v.config;
-  tasks = length v.config.graph.tasks;
-  due = if slot == v.config.m + 2 then length v.found.due else 0;
-}
+expected_in v slot = expectation v.config v.phase.period slot v.phase.me (members_in v.phase.before) (length v.found.due)
 
 -- ---- the slots
 

@@ -8,5 +8,6 @@ pub mod Guessed
 pub mod EchoLaws
 pub mod TableLaws
 pub mod Guessable
+pub mod Ranged
 pub mod Relaying
 pub mod Settling
