@@ -1,11 +1,13 @@
 -- What sound nodes read of one item, and what the nodes of a run say and have of it.
-use Rattle.std.specs.Prelude.{ℕ, ◌≡◌, ◌≢◌, ◌<◌, ◌≤◌, ◌+◌, ◌*◌, true, false, List, [], ◌∷◌, ◌++◌, length}
+use Rattle.std.specs.Prelude.{ℕ, ◌≡◌, ◌≢◌, ◌<◌, ◌≤◌, ◌+◌, true, false, List, [], ◌∷◌, ◌++◌, length}
 use Rattle.node_grid.specs.declared.class.Class.{Class}
 use Rattle.node_grid.specs.declared.class.Class.TheVariants.{N, S}
 use Rattle.node_grid.specs.Class.{is_silent, is_sound}
 use Rattle.omh_paths.specs.Wrapped.{wrapped}
 use Rattle.omh_paths.specs.Paths.{IsPath}
 use Rattle.omh.specs.Omh.{Hears}
+use Rattle.slot_plan.specs.Slots.{slot_count, slot_number}
+use Rattle.slot_plan.specs.declared.slot.Slot.TheVariants.{Data, Claims, Rows}
 use Rattle.protocol.specs.Arrival.{is_good, arrival, state_in, claim_in, claims_in, values_in, row_in, rows_in}
 use Rattle.protocol.specs.Arrival.Arrival.{Good}
 use Rattle.protocol.specs.Heard.{Rounds, paths_of, with_entries, entry, heard}
@@ -32,18 +34,18 @@ pub record Delivers (sys : System) (p i : ℕ) : Type 0 where
   pub sync : (j : ℕ) → ((run sys).received i p).sync j ≡ arrival state_in (expectation sys p 0 j [] 0) (deliveries sys p 0 j i)
   pub claim : (j : ℕ) → ((run sys).received i p).done.first j ≡ arrival claim_in (expectation sys p 1 j (members_in (view (run sys) i p).before) 0) (deliveries sys p 1 j i)
   pub claims : (r j : ℕ) → 0 < r → r ≤ sys.setting.config.m → ((run sys).received i p).done.relay r j
-      ≡ with_entries (paths_of (members_in (view (run sys) i p).before) r j) (arrival claims_in (expectation sys p (1 + r) j (members_in (view (run sys) i p).before) 0) (deliveries sys p (1 + r) j i))
+      ≡ with_entries (paths_of (members_in (view (run sys) i p).before) r j) (arrival claims_in (expectation sys p (slot_number sys.setting.config.m (Claims r)) j (members_in (view (run sys) i p).before) 0) (deliveries sys p (slot_number sys.setting.config.m (Claims r)) j i))
   pub values : (j : ℕ) → ((run sys).received i p).values j
-      ≡ arrival values_in (expectation sys p (sys.setting.config.m + 2) j (members_in (view (run sys) i p).before) (length (view (run sys) i p).due)) (deliveries sys p (sys.setting.config.m + 2) j i)
+      ≡ arrival values_in (expectation sys p (slot_number sys.setting.config.m Data) j (members_in (view (run sys) i p).before) (length (view (run sys) i p).due)) (deliveries sys p (slot_number sys.setting.config.m Data) j i)
   pub row : (j : ℕ) → ((run sys).received i p).report.first j
       ≡ arrival row_in (expectation sys p (sys.setting.config.m + 3) j (members_in (view (run sys) i p).before) 0) (deliveries sys p (sys.setting.config.m + 3) j i)
   pub rows : (r j : ℕ) → 0 < r → r ≤ sys.setting.config.m → ((run sys).received i p).report.relay r j
-      ≡ with_entries (paths_of (members_in (view (run sys) i p).before) r j) (arrival rows_in (expectation sys p (sys.setting.config.m + 3 + r) j (members_in (view (run sys) i p).before) 0) (deliveries sys p (sys.setting.config.m + 3 + r) j i))
+      ≡ with_entries (paths_of (members_in (view (run sys) i p).before) r j) (arrival rows_in (expectation sys p (slot_number sys.setting.config.m (Rows r)) j (members_in (view (run sys) i p).before) 0) (deliveries sys p (slot_number sys.setting.config.m (Rows r)) j i))
 
 abbrev pub DeliveryLaw : Type 0
 DeliveryLaw = (sys : System) (p i : ℕ) → Delivers sys p i
 
 -- and what each node says in a slot, with whose frame it sends, is what it says by its finished view
 abbrev pub SayingLaw : Type 0
-SayingLaw = (sys : System) (p j slot : ℕ) → slot < 2 * sys.setting.config.m + 4
+SayingLaw = (sys : System) (p j slot : ℕ) → slot < slot_count sys.setting.config.m
     → said_in sys p (goes_in sys p) slot j ≡ says sys.setting j (sys.inputs j p) (begins (run sys) j p) ((run sys).received j p) (view (run sys) j p) slot
