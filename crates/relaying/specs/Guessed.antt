@@ -1,5 +1,5 @@
 -- What is guessed of the relay frames of a round: what the node itself passes on.
-use Rattle.std.specs.Prelude.{ℕ, ◌≡◌, ◌-◌, ◌<◌, true, false, slice_index_or, List, Some, map, length}
+use Rattle.std.specs.Prelude.{ℕ, ◌≡◌, ◌-◌, ◌<◌, true, false, slice_index_or, List, Some, None, map, length}
 use Rattle.node_grid.specs.NodeSet.{has_id, without_id}
 use Rattle.omh_paths.specs.declared.wrapped.Wrapped.{Wrapped}
 use Rattle.omh_paths.specs.declared.wrapped.Wrapped.TheVariants.{Fault}
@@ -21,6 +21,10 @@ pub record IsEchoOf {V : Type 0} (form : Form V) (r : ℕ) (e : Expectation) (c 
   pub of : List ℕ → Wrapped V
   pub said : (q : ℕ) → form.relay_in (said_by e q c) ≡ Some (map of (paths_of_length (without_id h.members q) r))
   pub passed_on : (p : List ℕ) → has_id p h.me ≡ false → length p ≡ r → of p ≡ wrapped (heard_in h.heard p)
+
+-- a watch without what is guessed
+abbrev pub unguessed : Watch → Watch
+unguessed w = record w { guess = None }
 
 -- what is guessed in a slot, if anything, is that
 abbrev pub IsEchoed : {V : Type 0} → Form V → ℕ → Watch → Hearing V → Type 0

@@ -22,6 +22,12 @@ width_in (body.DoneRelay cells) = Some cells.width
 width_in (body.ReportRelay cells) = Some cells.width
 width_in _ = None
 
+-- the item of a frame of round 0, by that of its claim or of its row
+abbrev pub first_in : {V : Type 0} {N : ℕ} → (ℕ → Option V) → (List ℕ → Option V) → Body N → Option V
+first_in claimed reported (body.Done0 task) = claimed task
+first_in claimed reported (body.Report0 row) = reported row
+first_in claimed reported _ = None
+
 -- they are read where the frame is of the kind
 abbrev pub told_entries : {V : Type 0} → Bool → (List ℕ → Wrapped V) → ℕ → Option (List ℕ) → Option (List (Wrapped V))
 told_entries is read width bytes = if is then option_map (entries_in read width) bytes else None

@@ -1,7 +1,8 @@
 -- The table of a relay round: what is passed on of each path of the members.
-use Rattle.std.specs.Prelude.{ℕ, zero, suc, List, map, take, if◌then◌else◌}
+use Rattle.std.specs.Prelude.{ℕ, zero, suc, ◌==◌, List, [], ◌∷◌, map, take, if◌then◌else◌}
 use Rattle.node_grid.specs.NodeSet.{has_id}
 use Rattle.omh_paths.specs.declared.wrapped.Wrapped.{Wrapped}
+use Rattle.omh_paths.specs.declared.wrapped.Wrapped.TheVariants.{Fault}
 use Rattle.omh_paths.specs.Wrapped.{wrapped}
 use Rattle.omh_paths.specs.Paths.{paths_of_length}
 use Rattle.omh.specs.Heard.{Hearing, heard_in}
@@ -12,6 +13,18 @@ abbrev pub passed : {V : Type 0} → Wrapped V → Hearing V → ℕ → List �
 passed own h zero path = own
 passed own h (suc r) path = if has_id path h.me then wrapped (passed own h r (take r path)) else wrapped (heard_in h.heard path)
 
--- an entry for each path of r of the members, in lexicographic order
-abbrev pub table : {V : Type 0} → Wrapped V → Hearing V → ℕ → List (Wrapped V)
-table own h r = map (passed own h r) (paths_of_length h.members r)
+-- what the node told of itself
+abbrev pub own_told : {V : Type 0} → Hearing V → Wrapped V
+own_told h = if h.full then h.own else Fault 0
+
+-- what is passed on of the paths of r of these members, in lexicographic order
+abbrev pub passed_of : {V : Type 0} → Hearing V → List ℕ → ℕ → List (Wrapped V)
+passed_of h set r = map (passed (own_told h) h r) (paths_of_length set r)
+
+-- and of those of all members
+abbrev pub table : {V : Type 0} → Hearing V → ℕ → List (Wrapped V)
+table h r = passed_of h h.members r
+
+-- what was heard of a node itself, and of the node that hears what it told
+abbrev pub root_of : {V : Type 0} → Hearing V → ℕ → Wrapped V
+root_of h c = if c == h.me then own_told h else heard_in h.heard (c ∷ [])

@@ -1,20 +1,29 @@
 //! Whether a frame is the one that its sender is guessed to send.
 
-ghost use Rattle.std.specs.Prelude.{◌≡◌, ◌≢◌, ◌<◌, ◌≤◌, ◌+◌, ◌*◌, ◌^◌, true, IfSome, IfNone, length, replicate, false};
+ghost use Rattle.std.specs.Prelude.{ℕ, ◌≡◌, ◌<◌, ◌≤◌, ◌+◌, ◌*◌, ◌^◌, true, false, List, length};
+ghost use Rattle.std.specs.Prelude.{replicate, IfSome, IfNone};
 ghost use Rattle.std.specs.Bool.{Decides};
 ghost use Rattle.node_grid.specs.Capacity.{IsCapacity};
 ghost use Rattle.node_grid.specs.NodeSet.{has_id};
 ghost use Rattle.omh_paths.specs.Paths.{paths_of_length};
-ghost use Rattle.error_detect.specs.Guessing.{pieces_without};
+ghost use Rattle.frames.specs.Content.{kind, round_in};
 ghost use Rattle.frames.specs.Seen.{expected};
-ghost use Rattle.frames.specs.Spelling.{header_spelling};
-ghost use Rattle.relaying.specs.Comparing.{marks, frame_without, IsOver, IsOdd, HasEntries};
+ghost use Rattle.frames.specs.Spelling.{header_spelling, body_spelling};
+ghost use Rattle.error_detect.specs.Guessing.{pieces_without, body_without, said_by};
+ghost use Rattle.error_detect.specs.Guessing.{is_guessed_of, IsGuessable};
+ghost use Rattle.error_detect.specs.Inside.{said_as};
+ghost use Rattle.error_detect.specs.Watching.{guesses_at, frame_at};
+ghost use Rattle.relaying.specs.Comparing.{marks, IsOver, IsOdd, HasEntries};
 
-use frames::{Expect, Head};
-use node_grid::NodeSet;
+use crate::item::Item;
+use error_detect::{Form, SlotWatch};
+use frames::{Expect, HEADER, Head, header};
+use node_grid::{NodeSet, Row};
 use omh_paths::count_paths;
+use slot_plan::Slot;
 
-/// What is left to compare of a body: its first bytes are to be the first `pending` ones that are left of the table.
+/// What is left to compare of a body: its first bytes are to be the first `pending` ones that are
+/// left of the table.
 #[derive(Clone, Copy)]
 struct Left<'a> {
     body: &'a [u8],
@@ -86,58 +95,6 @@ fn row<'a, const N: usize>(left: Left<'a>, cut: Cut, set: &NodeSet<N>) -> Option
     Some(keep(far, cut.width, all - before - 1))
 }
 
-/// Goes over the entries of the paths of two nodes.
-fn pairs<'a, const N: usize>(left: Left<'a>, cut: Cut, set: &NodeSet<N>) -> Option<Left<'a>>
-    requires capacity { IsCapacity N }
-    requires sender { has_id set.now cut.sender ≡ true }
-    requires room { HasEntries cut.width (marks cut.sender set.now 2) left }
-    ensures over { IfSome result (λ l. IsOver cut.width (marks cut.sender set.now 2) left.entry l) }
-    ensures odd { IfNone result (IsOdd cut.width (marks cut.sender set.now 2) left.entry) }
-{
-    let behind = count_paths(set.len() - 1, 1);
-    let mut now = left;
-    for node in set.iter() {
-        let next = if node == cut.sender {
-            skip(now, cut.width, behind)
-        } else {
-            let mut others = *set;
-            others.cut(node);
-            row(now, cut, &others)
-        };
-        let Some(next) = next else {
-            return None;
-        };
-        now = next;
-    }
-    Some(now)
-}
-
-/// Goes over the entries of the paths of three nodes.
-fn triples<'a, const N: usize>(left: Left<'a>, cut: Cut, set: &NodeSet<N>) -> Option<Left<'a>>
-    requires capacity { IsCapacity N }
-    requires sender { has_id set.now cut.sender ≡ true }
-    requires room { HasEntries cut.width (marks cut.sender set.now 3) left }
-    ensures over { IfSome result (λ l. IsOver cut.width (marks cut.sender set.now 3) left.entry l) }
-    ensures odd { IfNone result (IsOdd cut.width (marks cut.sender set.now 3) left.entry) }
-{
-    let behind = count_paths(set.len() - 1, 2);
-    let mut now = left;
-    for node in set.iter() {
-        let next = if node == cut.sender {
-            skip(now, cut.width, behind)
-        } else {
-            let mut others = *set;
-            others.cut(node);
-            pairs(now, cut, &others)
-        };
-        let Some(next) = next else {
-            return None;
-        };
-        now = next;
-    }
-    Some(now)
-}
-
 /// Goes over the entries of the paths of `r` nodes.
 fn over<'a, const N: usize>(left: Left<'a>, cut: Cut, set: &NodeSet<N>, r: u8) -> Option<Left<'a>>
     requires capacity { IsCapacity N }
@@ -151,65 +108,122 @@ fn over<'a, const N: usize>(left: Left<'a>, cut: Cut, set: &NodeSet<N>, r: u8) -
     if r == 1 {
         return row(left, cut, set);
     }
-    if r == 2 {
-        return pairs(left, cut, set);
+    let behind = count_paths(set.len() - 1, r - 1);
+    let mut now = left;
+    for node in set.iter() {
+        let next = if node == cut.sender {
+            skip(now, cut.width, behind)
+        } else {
+            over(now, cut, &set.without(node), r - 1)
+        };
+        let Some(next) = next else {
+            return None;
+        };
+        now = next;
     }
-    triples(left, cut, set)
+    Some(now)
 }
 
-/// Whether a body is a table of entries, one for each path of `r` nodes of a set, without those of the paths that the
-/// sender is on. Between two entries that are left out the bytes are compared as one run.
-pub fn is_without<const N: usize>(
+/// Whether a body is a table of entries, one for each path of `r` nodes of a set, without those of
+/// the paths that the sender is on. Between two entries that are left out the bytes are compared as
+/// one run.
+fn is_without<const N: usize>(
     body: &[u8],
     table: &[u8],
-    width: usize,
-    sender: u8,
+    cut: Cut,
     set: &NodeSet<N>,
     r: u8,
 ) -> bool
     requires capacity { IsCapacity N }
     requires some { 0 < r }
     requires few { r ≤ 3 }
-    requires sender { has_id set.now sender ≡ true }
-    requires whole { width * length (paths_of_length set.now r) ≡ length table.now }
-    ensures { Decides result (body.now ≡ pieces_without width sender (paths_of_length set.now r) table.now) }
+    requires sender { has_id set.now cut.sender ≡ true }
+    requires whole { cut.width * length (paths_of_length set.now r) ≡ length table.now }
+    ensures { Decides result (body.now ≡
+        pieces_without cut.width cut.sender (paths_of_length set.now r) table.now) }
 {
     let start = Left {
         body,
         table,
         pending: 0,
     };
-    match over(start, Cut { sender, width }, set, r) {
+    match over(start, cut, set, r) {
         None => false,
         Some(left) => is_same(left.body, &left.table[..left.pending]),
     }
 }
 
-/// The number of bytes before a frame's body.
-const HEADER: usize = 14;
-
-/// The first bytes of a frame, up to its body of `size` bytes.
-fn header(head: Head, kind: u8, size: u32) -> [u8; 14]
-    ensures { result ≡ header_spelling head kind size }
+/// The relay round of a slot, where it is one.
+fn relay_round<const N: usize>(expect: &Expect<N>) -> Option<u8>
+    requires rounds { expect.now.m ≤ 3 }
+    ensures { IfSome result (λ r.
+        (r ≡ round_in expect.now.m expect.now.slot) × (0 < r) × (r ≤ 3)) }
 {
-    let period = head.period.to_be_bytes();
-    let size = size.to_be_bytes();
-    [
-        b'M',
-        b'F',
-        head.version,
-        kind,
-        period[0],
-        period[1],
-        period[2],
-        period[3],
-        head.sender,
-        head.slot,
-        size[0],
-        size[1],
-        size[2],
-        size[3],
-    ]
+    let round = Slot::at(expect.m, expect.slot)?.round();
+    if round == 0 {
+        return None;
+    }
+    Some(round)
+}
+
+/// Whether a body is what a member passes on of a table of entries of one width, where the slot is
+/// one of a relay round.
+fn is_part<const N: usize>(body: &[u8], table: &[u8], cut: Cut, expect: &Expect<N>) -> bool
+    requires capacity { IsCapacity N }
+    requires rounds { expect.now.m ≤ 3 }
+    requires whole { cut.width * length (paths_of_length expect.now.members
+        (round_in expect.now.m expect.now.slot)) ≡ length table.now }
+    ensures sender { result ≡ true → has_id expect.now.members cut.sender ≡ true }
+    ensures same { result ≡ true →
+        body.now ≡ body_without (expected expect.now) cut.width cut.sender table.now }
+{
+    if !expect.members.has(cut.sender) {
+        return false;
+    }
+    let Some(round) = relay_round(expect) else {
+        return false;
+    };
+    is_without(body, table, cut, &expect.members, round)
+}
+
+/// Whether a body is the one that is guessed of a sender, where the guess has this form and these
+/// bytes.
+fn is_guessed_body<const N: usize>(
+    body: &[u8],
+    form: &Form,
+    guess: &[u8],
+    sender: u8,
+    expect: &Expect<N>,
+) -> bool
+    requires capacity { IsCapacity N }
+    requires nodes { expect.now.nodes ≤ N }
+    requires rounds { expect.now.m ≤ 3 }
+    requires guessable { IsGuessable (expected expect.now)
+        (said_as N expect.now.nodes form.now guess.now) }
+    requires spelt { guess.now ≡
+        body_spelling expect.now.nodes (said_as N expect.now.nodes form.now guess.now) }
+    ensures sender { result ≡ true → is_guessed_of (expected expect.now) sender
+        (said_as N expect.now.nodes form.now guess.now) ≡ true }
+    ensures same { result ≡ true → body.now ≡ body_spelling expect.now.nodes
+        (said_by (expected expect.now) sender (said_as N expect.now.nodes form.now guess.now)) }
+{
+    let width = match form {
+        Form::State => return is_same(body, guess),
+        Form::Claims => <u8 as Item<N>>::entry_width(expect.nodes),
+        Form::Rows => <Row<N> as Item<N>>::entry_width(expect.nodes),
+    };
+    is_part(body, guess, Cut { sender, width }, expect)
+}
+
+/// The kind of frames of which such a guess is made.
+fn guessed_kind<const N: usize>(form: &Form) -> u8
+    ensures { (nodes : ℕ) (bytes : List ℕ) → result ≡ kind (said_as N nodes form.now bytes) }
+{
+    match form {
+        Form::State => 1,
+        Form::Claims => <u8 as Item<N>>::relay_kind(),
+        Form::Rows => <Row<N> as Item<N>>::relay_kind(),
+    }
 }
 
 /// Whether bytes are the header of a body of `size` bytes.
@@ -220,38 +234,29 @@ fn is_header(front: &[u8], head: Head, kind: u8, size: usize) -> bool
     is_same(front, &header(head, kind, size as u32))
 }
 
-/// Whether a sender's frame of this kind is a table of round `r`, of entries of one width, without those of the paths
-/// that the sender is on.
-pub fn is_frame_without<const N: usize>(
-    bytes: &[u8],
-    expect: &Expect<N>,
-    kind: u8,
-    width: usize,
-    table: &[u8],
-    from: u8,
-    r: u8,
-) -> bool
-    requires capacity { IsCapacity N }
-    requires some { 0 < r }
-    requires few { r ≤ 3 }
-    requires sender { has_id expect.now.members from ≡ true }
-    requires whole { width * length (paths_of_length expect.now.members r) ≡ length table.now }
-    requires short { length table.now < 2 ^ 32 }
-    ensures { Decides result (bytes.now ≡ frame_without (expected expect.now) kind width from r table.now) }
+/// Whether a frame is the one that its sender is guessed to send in the open slot. No entry of it
+/// is read.
+pub fn is_guessed<const N: usize>(watch: &SlotWatch<N>, from: u8, bytes: &[u8]) -> bool
+    ensures sender { result ≡ true → guesses_at watch.now from ≡ true }
+    ensures same { result ≡ true → bytes.now ≡ frame_at watch.now from }
 {
+    let Some(expect) = watch.expect() else {
+        return false;
+    };
+    let Some((form, guess)) = watch.guessed() else {
+        return false;
+    };
     if bytes.len() < HEADER {
         return false;
     }
     let (front, body) = bytes.split_at(HEADER);
-    if body.len() > table.len() {
+    if body.len() > guess.len() {
         return false;
     }
     let head = Head {
         sender: from,
         ..expect.head()
     };
-    if !is_header(front, head, kind, body.len()) {
-        return false;
-    }
-    is_without(body, table, width, from, &expect.members, r)
+    is_header(front, head, guessed_kind::<N>(&form), body.len())
+        && is_guessed_body(body, &form, guess, from, expect)
 }

@@ -1,10 +1,10 @@
-//! What the relay frame of another member says, put into what was heard.
+//! What the frames of a round of the other members say, put into what was heard.
 
 ghost use Rattle.std.specs.Prelude.{ℕ, ◌≡◌, ◌≢◌, ◌+◌, ◌-◌, ◌*◌, ◌<◌, ◌≤◌, List, ◌∷◌, []};
 ghost use Rattle.std.specs.Prelude.{true, false, length, take, slice_index_or, slice_set};
 ghost use Rattle.std.specs.Prelude.{IfSome, option_map, None};
 ghost use Rattle.node_grid.specs.Capacity.{IsCapacity};
-ghost use Rattle.node_grid.specs.NodeSet.{has_id, without_id, IsIdSet};
+ghost use Rattle.node_grid.specs.NodeSet.{has_id, without_id};
 ghost use Rattle.omh_paths.specs.Paths.{path_count};
 ghost use Rattle.omh_paths.specs.declared.wrapped.Wrapped.{Wrapped};
 ghost use Rattle.omh_paths.specs.declared.wrapped.Wrapped.TheVariants.{Fault};
@@ -14,14 +14,13 @@ ghost use Rattle.heard.specs.Keep.{wrapped_times};
 ghost use Rattle.heard.specs.Seen.{SaysExpected, SaysEcho};
 ghost use Rattle.frames.specs.Seen.{content, HasWidth};
 ghost use Rattle.protocol.specs.Arrival.{arrived};
-ghost use Rattle.node_grid.specs.Count.{Distinct};
 ghost use Rattle.protocol.specs.Arrival.Arrival.{Good};
 ghost use Rattle.relaying.specs.Hearing.{Brings, FitsIn, read_out, with_told, IsByPath};
 ghost use Rattle.relaying.specs.Hearing.{IsHeardBy, brought, told_from, after_round};
 ghost use Rattle.relaying.specs.Guessed.{AreSmall, IsFilled, IsEchoed};
 ghost use Rattle.relaying.specs.Items.{entries_in as entries_of};
 
-use crate::item::{Item, cells};
+use crate::item::{Item, cells, first_item};
 use error_detect::SlotWatch;
 use frames::{Cells, Frame};
 use heard::Heard;
@@ -29,7 +28,7 @@ use node_grid::NodeSet;
 use omh_paths::{Path, Wrapped, count_paths, unrank};
 
 /// Sets the entry at a place.
-pub(crate) fn set_entry<V: Copy>(entries: &mut [Wrapped<V>], place: usize, value: Wrapped<V>)
+fn set_entry<V: Copy>(entries: &mut [Wrapped<V>], place: usize, value: Wrapped<V>)
     requires { place < length entries.old }
     ensures { entries.new ≡ slice_set entries.old place value }
 {
@@ -37,7 +36,7 @@ pub(crate) fn set_entry<V: Copy>(entries: &mut [Wrapped<V>], place: usize, value
 }
 
 /// Takes what was read of the relay frame of a member: so many entries, or that no such frame came.
-pub(crate) fn take_frame<V: Item<N>, const N: usize>(
+fn take_frame<V: Item<N>, const N: usize>(
     table: &mut Heard<V, N>,
     sender: u8,
     round: u8,
@@ -115,123 +114,81 @@ fn read_entries<V: Item<N>, const N: usize>(
 fn are_expected<V: Item<N>, const N: usize>(
     table: &Heard<V, N>,
     cells: &Cells<'_>,
-    nodes: u8,
-    c: u8,
     round: u8,
+    c: u8,
     from: usize,
     until: usize,
 ) -> bool
-    requires capacity { IsCapacity N }
-    requires nodes { nodes ≤ N }
-    requires wide { cells.now.width ≡ V.width nodes }
+    requires wide { cells.now.width ≡ V.width table.now.nodes }
     requires member { has_id table.now.members c ≡ true }
     requires round { round ≤ table.now.rounds }
     requires some { from < until }
-    requires within { until ≤
-        length (entries_of (V.read nodes) (V.width nodes) cells.now.bytes.now) }
-    ensures { result ≡ true → c ≢ table.now.me → (k : ℕ) → from ≤ k → k < until →
-        slice_index_or (entries_of (V.read nodes) (V.width nodes) cells.now.bytes.now) k (Fault 0) ≡
+    requires within { until ≤ length
+        (entries_of (V.read table.now.nodes) (V.width table.now.nodes) cells.now.bytes.now) }
+    ensures { result ≡ true → c ≢ table.now.me → (k : ℕ) → from ≤ k → k < until → slice_index_or
+        (entries_of (V.read table.now.nodes) (V.width table.now.nodes) cells.now.bytes.now)
+        k (Fault 0) ≡
         wrapped_times round (heard_in table.now.heard (c ∷ [])) }
 {
+    let nodes = table.nodes();
     if !table.expects(c, round, V::at(cells, nodes, from)) {
         return false;
     }
     V::are_alike(cells, nodes, from, until)
 }
 
-/// Whether the entries of a relay frame are what a frame is expected to say of these other members.
+/// Whether the entries of a member's relay frame are what it is expected to say.
 fn says_expected<V: Item<N>, const N: usize>(
     table: &Heard<V, N>,
     cells: &Cells<'_>,
-    nodes: u8,
-    others: &NodeSet<N>,
     round: u8,
+    sender: u8,
 ) -> bool
-    requires capacity { IsCapacity N }
-    requires nodes { nodes ≤ N }
-    requires wide { cells.now.width ≡ V.width nodes }
-    requires others { IsIdSet N others.now }
-    requires members { (q : ℕ) → has_id others.now q ≡ true → has_id table.now.members q ≡ true }
-    requires all { length others.now ≡ length table.now.members - 1 }
+    requires wide { cells.now.width ≡ V.width table.now.nodes }
+    requires sender { has_id table.now.members sender ≡ true }
     requires some_round { 0 < round }
     requires round { round ≤ table.now.rounds }
-    requires count { length (entries_of (V.read nodes) (V.width nodes) cells.now.bytes.now) ≡
-        path_count (length others.now) round }
-    ensures { result ≡ true → SaysExpected table.now.me round others.now table.now.heard
-        (entries_of (V.read nodes) (V.width nodes) cells.now.bytes.now)
-        (length (entries_of (V.read nodes) (V.width nodes) cells.now.bytes.now)) }
+    requires count { length
+        (entries_of (V.read table.now.nodes) (V.width table.now.nodes) cells.now.bytes.now) ≡
+        path_count (length table.now.members - 1) round }
+    ensures { result ≡ true →
+        SaysExpected table.now.me round (without_id table.now.members sender) table.now.heard
+        (entries_of (V.read table.now.nodes) (V.width table.now.nodes) cells.now.bytes.now)
+        (length
+        (entries_of (V.read table.now.nodes) (V.width table.now.nodes) cells.now.bytes.now)) }
 {
     let width = table.values_each(round);
     if width == 0 {
         return false;
     }
+    let others = table.members().without(sender);
     for i in 0..others.len() {
         let c = others.at(i);
         let from = i as usize * width;
-        if !are_expected(table, cells, nodes, c, round, from, from + width) {
+        if !are_expected(table, cells, round, c, from, from + width) {
             return false;
         }
     }
     true
 }
 
-/// Takes the entries of a member's relay frame without reading them one by one, where they are
-/// what is expected, and answers whether it took them.
-fn take_expected<V: Item<N>, const N: usize>(
-    table: &mut Heard<V, N>,
-    cells: &Cells<'_>,
-    nodes: u8,
-    members: &NodeSet<N>,
-    round: u8,
-    sender: u8,
-) -> bool
-    requires capacity { IsCapacity N }
-    requires nodes { nodes ≤ N }
-    requires wide { cells.now.width ≡ V.width nodes }
-    requires members { members.now ≡ table.old.members }
-    requires sender { has_id table.old.members sender ≡ true }
-    requires some_round { 0 < round }
-    requires round { round ≤ table.old.rounds }
-    requires count { length (entries_of (V.read nodes) (V.width nodes) cells.now.bytes.now) ≡
-        path_count (length table.old.members - 1) round }
-    ensures is { result ≡ true →
-        table.new ≡ with_told round sender
-        (Good (entries_of (V.read nodes) (V.width nodes) cells.now.bytes.now)) table.old }
-    ensures left { result ≡ false → table.new ≡ table.old }
-    ensures paths { result ≡ true → IsByPath table.old }
-{
-    let mut others = *members;
-    let _ids = others.len();
-    others.cut(sender);
-    let _others = others.len();
-    if !says_expected(table, cells, nodes, &others, round) {
-        return false;
-    }
-    table.hear_expected(sender, round)
-}
-
-/// Takes what the relay frame of another member says of entries without reading it, where it says
+/// Takes what the relay frame of another member says of items without reading it, where it says
 /// what is expected, and answers whether it took it.
 fn hear_expected<V: Item<N>, const N: usize>(
     table: &mut Heard<V, N>,
     frame: &Option<Frame<'_, N>>,
-    members: &NodeSet<N>,
-    nodes: u8,
     round: u8,
     sender: u8,
 ) -> bool
-    requires capacity { IsCapacity N }
-    requires nodes { nodes ≤ N }
-    requires widths { IfSome frame.now (λ f. HasWidth nodes f.body) }
-    requires members { members.now ≡ table.old.members }
+    requires widths { IfSome frame.now (λ f. HasWidth table.old.nodes f.body) }
     requires sender { has_id table.old.members sender ≡ true }
     requires some_round { 0 < round }
     requires round { round ≤ table.old.rounds }
     requires brings { Brings (path_count (length table.old.members - 1) round)
-        (arrived V.form.relay_in None (option_map (λ f. content nodes f.body) frame.now)) }
-    ensures is { result ≡ true →
-        table.new ≡ with_told round sender
-        (arrived V.form.relay_in None (option_map (λ f. content nodes f.body) frame.now))
+        (arrived V.form.relay_in None
+        (option_map (λ f. content table.old.nodes f.body) frame.now)) }
+    ensures is { result ≡ true → table.new ≡ with_told round sender
+        (arrived V.form.relay_in None (option_map (λ f. content table.old.nodes f.body) frame.now))
         table.old }
     ensures left { result ≡ false → table.new ≡ table.old }
     ensures paths { result ≡ true → IsByPath table.old }
@@ -239,10 +196,10 @@ fn hear_expected<V: Item<N>, const N: usize>(
     let Some(frame) = frame else {
         return false;
     };
-    let Some(cells) = cells::<V, N>(&frame.body, nodes) else {
+    let Some(cells) = cells::<V, N>(&frame.body, table.nodes()) else {
         return false;
     };
-    take_expected(table, &cells, nodes, members, round, sender)
+    says_expected(table, &cells, round, sender) && table.hear_expected(sender, round)
 }
 
 /// Takes what the relay frame of another member says of items: None where no frame was told.
@@ -250,44 +207,39 @@ fn hear_told<V: Item<N>, const N: usize>(
     table: &mut Heard<V, N>,
     entries: &mut [Wrapped<V>],
     frame: &Option<Frame<'_, N>>,
-    members: &NodeSet<N>,
-    nodes: u8,
     round: u8,
     sender: u8,
 )
-    requires capacity { IsCapacity N }
-    requires nodes { nodes ≤ N }
-    requires widths { IfSome frame.now (λ f. HasWidth nodes f.body) }
-    requires members { members.now ≡ table.old.members }
+    requires widths { IfSome frame.now (λ f. HasWidth table.old.nodes f.body) }
     requires sender { has_id table.old.members sender ≡ true }
     requires some_round { 0 < round }
     requires round { round ≤ table.old.rounds }
     requires brings { Brings (path_count (length table.old.members - 1) round)
-        (arrived V.form.relay_in None (option_map (λ f. content nodes f.body) frame.now)) }
+        (arrived V.form.relay_in None
+        (option_map (λ f. content table.old.nodes f.body) frame.now)) }
     requires room { path_count (length table.old.members - 1) round ≤ length entries.old }
     ensures is { table.new ≡ with_told round sender
-        (arrived V.form.relay_in None (option_map (λ f. content nodes f.body) frame.now))
+        (arrived V.form.relay_in None (option_map (λ f. content table.old.nodes f.body) frame.now))
         table.old }
     ensures paths { IsByPath table.old }
     ensures length { length entries.new ≡ length entries.old }
 {
-    if hear_expected(table, frame, members, nodes, round, sender) {
+    if hear_expected(table, frame, round, sender) {
         return;
     }
-    let read = read_entries(frame, nodes, entries);
+    let read = read_entries(frame, table.nodes(), entries);
     take_frame(table, sender, round, entries, read);
 }
 
 /// What the node itself passes on of a path, and the error where it is on the path itself.
-fn passed_on<V: Item<N>, const N: usize>(table: &Heard<V, N>, path: &Path, me: u8) -> Wrapped<V>
-    requires me { me ≡ table.now.me }
+fn passed_on<V: Item<N>, const N: usize>(table: &Heard<V, N>, path: &Path) -> Wrapped<V>
     requires within { (q : ℕ) → has_id path.now q ≡ true → has_id table.now.members q ≡ true }
     requires short { length path.now ≤ table.now.rounds + 1 }
     ensures off { has_id path.now table.now.me ≡ false →
         result ≡ wrapped (heard_in table.now.heard path.now) }
     ensures on { has_id path.now table.now.me ≡ true → result ≡ Fault 0 }
 {
-    if path.has(me) {
+    if path.has(table.me()) {
         return Wrapped::Fault(0);
     }
     table.relay(path)
@@ -299,11 +251,8 @@ fn fill_echo<V: Item<N>, const N: usize>(
     table: &Heard<V, N>,
     entries: &mut [Wrapped<V>],
     others: &NodeSet<N>,
-    me: u8,
     round: u8,
 ) -> usize
-    requires capacity { IsCapacity N }
-    requires me { me ≡ table.now.me }
     requires within { (q : ℕ) → has_id others.now q ≡ true → has_id table.now.members q ≡ true }
     requires some_round { 0 < round }
     requires round { round ≤ table.now.rounds }
@@ -316,7 +265,7 @@ fn fill_echo<V: Item<N>, const N: usize>(
     let count = count_paths(others.len(), round);
     for k in 0..count {
         let path = unrank(others, round, k);
-        set_entry(entries, k, passed_on(table, &path, me));
+        set_entry(entries, k, passed_on(table, &path));
     }
     count
 }
@@ -326,15 +275,9 @@ fn fill_echo<V: Item<N>, const N: usize>(
 fn hear_guessed<V: Item<N>, const N: usize>(
     table: &mut Heard<V, N>,
     entries: &mut [Wrapped<V>],
-    members: &NodeSet<N>,
-    me: u8,
     round: u8,
     sender: u8,
 )
-    requires capacity { IsCapacity N }
-    requires distinct { Distinct table.old.members }
-    requires members { members.now ≡ table.old.members }
-    requires me { me ≡ table.old.me }
     requires sender { has_id table.old.members sender ≡ true }
     requires some_round { 0 < round }
     requires round { round ≤ table.old.rounds }
@@ -351,93 +294,83 @@ fn hear_guessed<V: Item<N>, const N: usize>(
     if table.hear_echo(sender, round) {
         return;
     }
-    let mut others = *members;
-    let _ids = others.len();
-    others.cut(sender);
-    let count = fill_echo(table, entries, &others, me, round);
+    let others = table.members().without(sender);
+    let count = fill_echo(table, entries, &others, round);
     table.hear_frame(sender, round, &entries[..count]);
 }
 
-/// A relay round, as one of so many nodes hears it.
-#[derive(Clone, Copy)]
-pub struct Round {
-    /// The node that hears.
-    pub me: u8,
-    /// The number of nodes.
-    pub nodes: u8,
-    /// The round, from 1 on.
-    pub number: u8,
+/// Takes what the frame of round 0 of another member says of its item.
+fn hear_first<V: Item<N>, const N: usize>(
+    table: &mut Heard<V, N>,
+    watch: &SlotWatch<N>,
+    sender: u8,
+)
+    requires watching { IsHeardBy watch.now table.old.nodes table.old.me }
+    requires sender { has_id table.old.members sender ≡ true }
+    requires other { sender ≢ table.old.me }
+    ensures { table.new ≡ told_from V.form watch.now 0 sender table.old }
+{
+    let item = match watch.told(sender) {
+        None => Wrapped::Fault(0),
+        Some(frame) => first_item(&frame),
+    };
+    table.put_root(sender, item);
 }
 
 /// Takes what the relay frame of another member says of items.
-fn hear_from<V: Item<N>, const N: usize>(
+fn hear_relay<V: Item<N>, const N: usize>(
     table: &mut Heard<V, N>,
     entries: &mut [Wrapped<V>],
     watch: &SlotWatch<N>,
-    members: &NodeSet<N>,
-    round: Round,
+    round: u8,
     sender: u8,
 )
-    requires capacity { IsCapacity N }
-    requires distinct { Distinct table.old.members }
-    requires members { members.now ≡ table.old.members }
-    requires me { round.me ≡ table.old.me }
-    requires watching { IsHeardBy watch.now round.nodes table.old.me }
-    requires echoed { IsEchoed V.form round.number watch.now table.old }
-    requires low { sender < round.nodes }
-    requires nodes { round.nodes ≤ N }
+    requires watching { IsHeardBy watch.now table.old.nodes table.old.me }
+    requires echoed { IsEchoed V.form round watch.now table.old }
     requires sender { has_id table.old.members sender ≡ true }
     requires other { sender ≢ table.old.me }
-    requires some_round { 0 < round.number }
-    requires round { round.number ≤ table.old.rounds }
-    requires brings { Brings (path_count (length table.old.members - 1) round.number)
+    requires some_round { 0 < round }
+    requires round { round ≤ table.old.rounds }
+    requires brings { Brings (path_count (length table.old.members - 1) round)
         (brought V.form watch.now sender) }
-    requires room { path_count (length table.old.members - 1) round.number ≤ length entries.old }
-    ensures heard { table.new ≡ told_from V.form watch.now round.number sender table.old }
+    requires room { path_count (length table.old.members - 1) round ≤ length entries.old }
+    ensures heard { table.new ≡ told_from V.form watch.now round sender table.old }
     ensures length { length entries.new ≡ length entries.old }
 {
     match watch.told(sender) {
-        None => hear_guessed(table, entries, members, round.me, round.number, sender),
-        Some(frame) => hear_told(
-            table,
-            entries,
-            &frame,
-            members,
-            round.nodes,
-            round.number,
-            sender,
-        ),
+        None => hear_guessed(table, entries, round, sender),
+        Some(frame) => hear_told(table, entries, &frame, round, sender),
     }
 }
 
-/// Takes what the relay frames of all other members say of items in a round. Where something is
-/// guessed of them, it is what the node itself passes on.
+/// Takes what the frames of all other members say of items in a round: of each its own item in
+/// round 0, and later what it passes on. Where something is guessed of relay frames, it is what the
+/// node itself passes on. `entries` has room for those of a frame, and is left with any values.
 pub fn hear_round<V: Item<N>, const N: usize>(
     table: &mut Heard<V, N>,
     entries: &mut [Wrapped<V>],
     watch: &SlotWatch<N>,
-    members: &NodeSet<N>,
-    round: Round,
+    round: u8,
 )
-    requires capacity { IsCapacity N }
-    requires distinct { Distinct members.now }
-    requires members { members.now ≡ table.old.members }
-    requires me { round.me ≡ table.old.me }
-    requires watching { IsHeardBy watch.now round.nodes round.me }
-    requires echoed { IsEchoed V.form round.number watch.now table.old }
-    requires nodes { round.nodes ≤ N }
-    requires some_round { 0 < round.number }
-    requires round { round.number ≤ table.old.rounds }
-    requires brings { (j : ℕ) → has_id members.now j ≡ true →
-        Brings (path_count (length members.now - 1) round.number) (brought V.form watch.now j) }
-    requires room { path_count (length members.now - 1) round.number ≤ length entries.old }
-    ensures heard { table.new ≡
-        after_round V.form round.nodes watch.now round.number table.old }
+    requires watching { IsHeardBy watch.now table.old.nodes table.old.me }
+    requires echoed { 0 < round → IsEchoed V.form round watch.now table.old }
+    requires round { round ≤ table.old.rounds }
+    requires brings { (j : ℕ) → has_id table.old.members j ≡ true →
+        Brings (path_count (length table.old.members - 1) round) (brought V.form watch.now j) }
+    requires room { path_count (length table.old.members - 1) round ≤ length entries.old }
+    ensures heard { table.new ≡ after_round V.form table.old.nodes watch.now round table.old }
     ensures length { length entries.new ≡ length entries.old }
 {
-    for q in 0..round.nodes {
-        if q != round.me && members.has(q) {
-            hear_from(table, entries, watch, members, round, q);
+    let me = table.me();
+    let members = table.members();
+    for q in 0..table.nodes() {
+        if q == me || !members.has(q) {
+            continue;
+        }
+        if round == 0 {
+            hear_first(table, watch, q);
+        } else {
+            hear_relay(table, entries, watch, round, q);
         }
     }
 }

@@ -1,26 +1,43 @@
 //! Items that are told and relayed.
 
-ghost use Rattle.std.specs.Prelude.{◌≡◌, ◌≢◌, ℕ, ◌+◌, ◌*◌, ◌/◌, ◌<◌, ◌≤◌, ◌==◌, Bool, true};
-ghost use Rattle.std.specs.Prelude.{List, length, slice_index_or, IfSome, option_map};
+ghost use Rattle.std.specs.Prelude.{◌≡◌, ◌≢◌, ℕ, ◌+◌, ◌*◌, ◌/◌, ◌^◌, ◌<◌, ◌≤◌, ◌==◌, Bool};
+ghost use Rattle.std.specs.Prelude.{true, List, ◌++◌, length, slice_index_or, All};
+ghost use Rattle.std.specs.Prelude.{Option, None, Some, IfSome, option_map};
+ghost use Rattle.std.specs.List.{flat_map};
+ghost use Rattle.std.proofs.Common.{refl};
+ghost use Rattle.node_grid.specs.Count.{Distinct};
 ghost use Rattle.node_grid.specs.Capacity.{IsCapacity};
 ghost use Rattle.omh_paths.specs.declared.wrapped.Wrapped.{Wrapped};
 ghost use Rattle.omh_paths.specs.declared.wrapped.Wrapped.TheVariants.{Fault};
+ghost use Rattle.omh_paths.specs.Paths.{paths_of_length, path_count};
 ghost use Rattle.frames.specs.Reading.{claim_in, relayed_row_in};
-ghost use Rattle.frames.specs.Spelling.{claim_spelling, relayed_row_spelling};
+ghost use Rattle.frames.specs.Spelling.{claim_spelling, relayed_row_spelling, header_spelling};
+ghost use Rattle.frames.specs.Spelling.{spelling as frame_spelling};
+ghost use Rattle.frames.specs.declared.frame.Head.{Head};
 ghost use Rattle.frames.specs.Writing.{pasted};
 ghost use Rattle.frames.specs.PieceLaws.{IsFormat};
 ghost use Rattle.frames.specs.EntryLaws.{claim_format, relayed_row_format};
-ghost use Rattle.frames.specs.Content.{Expectation, IsEntry, IsClaim, IsRow};
+ghost use Rattle.frames.specs.Content.{Expectation, Content, IsEntry, IsClaim, IsRow};
+ghost use Rattle.frames.specs.Content.{kind_in, round_in};
+ghost use Rattle.error_detect.specs.Guessing.{said_by, is_guessed_of, entries_without, IsGuessable};
+ghost use Rattle.error_detect.specs.Inside.{said_as};
+ghost use Rattle.error_detect.specs.declared.guess.Form.{Form as GuessForm};
+ghost use Rattle.error_detect.specs.declared.guess.Form.TheVariants.{Claims, Rows};
 ghost use Rattle.frames.specs.Seen.{content, HasWidth};
-ghost use Rattle.protocol.specs.Arrival.{Form, claim_form, row_form};
+ghost use Rattle.protocol.specs.Arrival.{Form, claim_form, row_form, arrived, said};
 ghost use Rattle.frames.specs.Content.{kind as kind_of};
 ghost use Rattle.frames.specs.FrameKinds.{claim_relay_kind, row_relay_kind};
 ghost use Rattle.frames.specs.declared.frame.Body.{Body};
 ghost use Rattle.relaying.specs.Items.{entries_in, cells_in, width_in, told_entries, AreAlike};
+ghost use Rattle.relaying.specs.Items.{first_in};
 ghost use Rattle.relaying.specs.ItemLaws.{claims_told, rows_told};
-ghost use Rattle.relaying.specs.ItemLaws.{claims_wide, rows_wide};
+ghost use Rattle.relaying.specs.ItemLaws.{claims_wide, rows_wide, claims_begun, rows_begun};
+ghost use Rattle.relaying.specs.ItemLaws.{claims_unguessed, rows_unguessed};
+ghost use Rattle.relaying.specs.ItemLaws.{claims_guessable, rows_guessable};
+ghost use Rattle.relaying.specs.ItemLaws.{claims_narrow, rows_narrow};
 
-use frames::{Body, Cells, put_done, put_row};
+use error_detect::Form;
+use frames::{Body, Cells, Frame, put_done, put_row};
 use heard::Value;
 use node_grid::Row;
 use omh_paths::Wrapped;
@@ -44,6 +61,13 @@ pub trait Item<const N: usize>: Value {
 
     /// The kind of relay frames of such items.
     ghost kind: { ℕ };
+
+    /// The item of a claim, and that of a row.
+    ghost claimed: { ℕ → Option Self };
+    ghost reported: { List ℕ → Option Self };
+
+    /// The form of what is guessed of such frames.
+    ghost guessed_as: { GuessForm };
 
     /// The kind of relay frames of such items.
     fn relay_kind() -> u8
@@ -78,6 +102,52 @@ pub trait Item<const N: usize>: Value {
         requires some { value.now ≢ Fault 0 }
         ensures { out.new ≡ pasted (width nodes * k) (spelling nodes value.now) out.old };
 
+    /// The item of a claim.
+    fn of_claim(claim: u8) -> Option<Self>
+        ensures { result ≡ claimed claim };
+
+    /// The item of a row of these masks.
+    fn of_masks(masks: &[u16]) -> Option<Self>
+        requires { length masks.now ≡ N }
+        ensures { result ≡ reported masks.now };
+
+    /// The form of what is guessed of relay frames of such items.
+    fn guess_form() -> Form
+        ensures { result ≡ guessed_as };
+
+    /// A frame of round 0 tells the item of its claim or its row.
+    ghost begun: { (nodes : ℕ) (b : Body N) →
+        first_in claimed reported b ≡ form.item_in (content nodes b) };
+
+    /// No item is told by what is guessed of a sender.
+    ghost unguessed: { (e : Expectation) (j : ℕ) (c : Content) → is_guessed_of e j c ≡ true →
+        form.item_in (said_by e j c) ≡ None };
+
+    /// What is guessed of relay frames, by its bytes.
+    ghost guessed: { (nodes : ℕ) (bytes : List ℕ) →
+        said_as N nodes guessed_as bytes ≡
+        form.relay (entries_in (read nodes) (width nodes) bytes) };
+
+    /// Where that is guessed, each sender passes on the entries of the paths that it isn't on.
+    ghost passed_on: { (e : Expectation) (j : ℕ) (es : List (Wrapped Self)) →
+        form.relay_in (said_by e j (form.relay es)) ≡
+        Some (entries_without j (paths_of_length e.members (round_in e.m e.slot)) es) };
+
+    /// It can be guessed, where it has an entry in range for each path.
+    ghost guessable: { (e : Expectation) (es : List (Wrapped Self)) → e.capacity ≡ N →
+        kind ≡ kind_in e.m e.slot → Distinct e.members →
+        length es ≡ path_count (length e.members) (round_in e.m e.slot) →
+        All (IsEntry (in_range e) (round_in e.m e.slot)) es →
+        length (flat_map (spelling e.nodes) es) < 2 ^ 32 → IsGuessable e (form.relay es) };
+
+    /// The bytes of a relay frame.
+    ghost written: { (nodes : ℕ) (head : Head) (es : List (Wrapped Self)) →
+        frame_spelling nodes head (form.relay es) ≡ header_spelling head kind
+        (length (flat_map (spelling nodes) es)) ++ flat_map (spelling nodes) es };
+
+    /// An entry has few bytes.
+    ghost narrow: { (nodes : ℕ) → nodes ≤ 16 → width nodes ≤ 33 };
+
     /// A frame of that kind has such entries.
     ghost told: { (nodes : ℕ) (b : Body N) →
         told_entries (kind_of (content nodes b) == kind) (read nodes) (width nodes) (cells_in b) ≡
@@ -94,6 +164,26 @@ pub trait Item<const N: usize>: Value {
 
 impl<const N: usize> Item<N> for u8 {
     ghost form = { claim_form };
+
+    ghost claimed = { Some };
+
+    ghost reported = { λ masks. None };
+
+    ghost guessed_as = { Claims };
+
+    ghost begun = { claims_begun };
+
+    ghost unguessed = { claims_unguessed };
+
+    ghost guessed = { λ nodes bytes. refl };
+
+    ghost passed_on = { λ e j es. refl };
+
+    ghost guessable = { claims_guessable };
+
+    ghost written = { λ nodes head es. refl };
+
+    ghost narrow = { λ nodes few. claims_narrow };
 
     ghost width = { λ nodes. 2 };
 
@@ -134,10 +224,43 @@ impl<const N: usize> Item<N> for u8 {
         let _ = nodes;
         put_done(out, k, *value);
     }
+
+    fn of_claim(claim: u8) -> Option<u8> {
+        Some(claim)
+    }
+
+    fn of_masks(masks: &[u16]) -> Option<u8> {
+        let _ = masks;
+        None
+    }
+
+    fn guess_form() -> Form {
+        Form::Claims
+    }
 }
 
 impl<const N: usize> Item<N> for Row<N> {
     ghost form = { row_form };
+
+    ghost claimed = { λ claim. None };
+
+    ghost reported = { Some };
+
+    ghost guessed_as = { Rows };
+
+    ghost begun = { rows_begun };
+
+    ghost unguessed = { rows_unguessed };
+
+    ghost guessed = { λ nodes bytes. refl };
+
+    ghost passed_on = { λ e j es. refl };
+
+    ghost guessable = { rows_guessable };
+
+    ghost written = { λ nodes head es. refl };
+
+    ghost narrow = { rows_narrow };
 
     ghost width = { λ nodes. 1 + 2 * nodes };
 
@@ -174,6 +297,47 @@ impl<const N: usize> Item<N> for Row<N> {
 
     fn put(out: &mut [u8], nodes: u8, k: usize, value: &Wrapped<Row<N>>) {
         put_row(out, nodes, k, *value);
+    }
+
+    fn of_claim(claim: u8) -> Option<Row<N>> {
+        let _ = claim;
+        None
+    }
+
+    fn of_masks(masks: &[u16]) -> Option<Row<N>> {
+        let mut row = [0; N];
+        row.copy_from_slice(masks);
+        Some(Row { masks: row })
+    }
+
+    fn guess_form() -> Form {
+        Form::Rows
+    }
+}
+
+/// The item that a frame of round 0 tells, or None where it tells none.
+fn item_of<V: Item<N>, const N: usize>(body: &Body<'_, N>) -> Option<V>
+    ensures { result ≡ first_in V.claimed V.reported body.now }
+{
+    match body {
+        Body::Done0(task) => V::of_claim(*task),
+        Body::Report0(row) => V::of_masks(&row.masks),
+        Body::State(_) | Body::DoneRelay(_) | Body::Data(_) => None,
+        Body::ReportRelay(_) | Body::Cold => None,
+    }
+}
+
+/// The item that a frame tells, or the error where there is none.
+pub(crate) fn first_item<V: Item<N>, const N: usize>(frame: &Option<Frame<'_, N>>) -> Wrapped<V>
+    ensures { (nodes : ℕ) → result ≡
+        said (arrived V.form.item_in None (option_map (λ f. content nodes f.body) frame.now)) }
+{
+    let Some(frame) = frame else {
+        return Wrapped::Fault(0);
+    };
+    match item_of::<V, N>(&frame.body) {
+        Some(item) => Wrapped::Plain(item),
+        None => Wrapped::Fault(0),
     }
 }
 

@@ -1,13 +1,16 @@
-//! What relay frames say of an item of each node, and what a node passes on of it, once for claims
-//! and rows.
+//! What the frames of a round say of an item of each node, what a node passes on of it, and what it
+//! settles: once for claims and rows.
 #![tactic(auto)]
 
 mod comparing;
 mod hearing;
 mod item;
-mod table;
+mod saying;
+mod settling;
+mod writing;
 
-pub use comparing::{is_frame_without, is_without};
-pub use hearing::{Round, hear_round};
+pub use comparing::is_guessed;
+pub use hearing::hear_round;
 pub use item::Item;
-pub use table::{write_table, write_without};
+pub use saying::{guess_round, say_round};
+pub use settling::{convicted, settle_claims, settle_member, settle_rows};
