@@ -12,11 +12,10 @@ use Rattle.node_steps.specs.Steps.{given_frame, after_slot, slot_taken, shut, be
 use Rattle.node_steps.specs.Period.{slot_run, slots_run}
 use Rattle.node_steps.specs.Sending.{Fixed, fixed}
 use Rattle.node_steps.specs.Living.{restarted_if, periods_run}
-use Rattle.node_steps.specs.Turning.{IsAt}
 use Rattle.node_steps.specs.Order.{all_given, OrderIsFree}
-use Rattle.node_steps.proofs.Framing.{slots_fixed}
+use Rattle.node_steps.specs.FixedLaws.{Place, slot_place, slots_fixed}
 use Rattle.node_steps.proofs.Lives.{same_fixed}
-use Rattle.node_steps.proofs.Turning.{Place, slot_place, turned}
+use Rattle.node_steps.proofs.Turns.{IsAt, turned}
 
 -- only what arrived changes
 given_is : {N : ℕ} (v : NodeView N) (ds : List Arriving) → all_given v ds ≡ record v { arrived = all_delivered v.arrived ds }
@@ -35,7 +34,7 @@ opens_next {N} v t at ne =
     let place = slot_place v in
     let w : NodeView N = slot_taken (shut v) in
     let slot : w.phase.slot ≡ t = ap (λ (p : Place N). p.slot) place ∙ at in
-    let rounds : w.config.m ≡ v.config.m = ap (λ (p : Place N). p.config.m) place in
+    let rounds : w.config.m ≡ v.config.m = ap (λ (p : Place N). p.lasts.of_node.config.m) place in
     subst (HasOpened {N = N}) (sym (cond-false (w.phase.slot == 2 * w.config.m + 3) _ _ (ne_eqb w.phase.slot (2 * w.config.m + 3) (λ e. ne (omega arith))))) (record { watch = w.arrived; expect = _; is = refl })
 
 record Stands {N : ℕ} (config : Config N) (me t : ℕ) (v : NodeView N) : Type 0 where

@@ -12,4 +12,7 @@ pub mod Sound
 pub mod SoundLaws
 pub mod Ready
 pub mod Fresh
-pub mod Turning
+pub mod PremiseLaws
+pub mod SoundSteps
+pub mod FreshLaws
+pub mod FixedLaws

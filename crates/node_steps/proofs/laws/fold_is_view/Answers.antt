@@ -1,4 +1,4 @@
-use Rattle.node_steps.proofs.Periods.{fold_is_view}
+use Rattle.node_steps.proofs.PeriodStages.{fold_is_view}
 use Rattle.node_steps.proofs.laws.fold_is_view.Goals as goal
 
 pub returns : goal.returns

@@ -1,4 +1,4 @@
-use Rattle.node_steps.proofs.Owing.{frames_are_owed}
+use Rattle.node_steps.proofs.FramesOwed.{frames_are_owed}
 use Rattle.node_steps.proofs.laws.frames_are_owed.Goals as goal
 
 pub returns : goal.returns

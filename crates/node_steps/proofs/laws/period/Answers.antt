@@ -1,4 +1,4 @@
-use Rattle.node_steps.proofs.Framing.{goes_through}
+use Rattle.node_steps.proofs.PeriodFrames.{goes_through}
 use Rattle.node_steps.proofs.laws.period.Goals as goal
 
 pub returns : goal.returns

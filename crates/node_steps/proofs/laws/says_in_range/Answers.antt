@@ -1,5 +1,5 @@
-use Rattle.node_steps.proofs.Asking.{few_capacity}
-use Rattle.node_steps.proofs.Saying.{said_fits}
+use Rattle.node_steps.specs.PremiseLaws.{few_capacity}
+use Rattle.node_steps.proofs.SaidInRange.{said_fits}
 use Rattle.node_steps.proofs.laws.says_in_range.Goals as goal
 
 pub returns : goal.returns

@@ -1,5 +1,5 @@
-use Rattle.node_steps.proofs.Asking.{few_capacity}
-use Rattle.node_steps.proofs.Soundness.{sound_after_slot, sound_begun}
+use Rattle.node_steps.specs.PremiseLaws.{few_capacity}
+use Rattle.node_steps.specs.SoundSteps.{sound_after_slot, sound_begun}
 use Rattle.node_steps.proofs.laws.stays_sound.Goals as goal
 
 pub returns : goal.returns

@@ -1,5 +1,5 @@
 use Rattle.std.proofs.Common.{lit<}
-use Rattle.node_steps.proofs.Asking.{few_capacity}
+use Rattle.node_steps.specs.PremiseLaws.{few_capacity}
 use Rattle.node_core.proofs.parts.Parts.members.Goals as goal
 
 pub empty-requires : goal.empty-requires

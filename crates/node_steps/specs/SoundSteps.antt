@@ -28,13 +28,13 @@ use Rattle.node_steps.specs.Steps.{expected_in, with_notes, shut, synced, with_s
 use Rattle.data_slot.specs.Values.{only_values}
 use Rattle.noting.specs.Findings.{has_of}
 use Rattle.relaying.specs.Ranged.{IsRanged}
-use Rattle.node_steps.proofs.Asking.{no_ids}
-pub use Rattle.node_steps.proofs.Asking.{le_is, gt_is}
+use Rattle.node_steps.specs.PremiseLaws.{no_ids}
+pub use Rattle.node_steps.specs.PremiseLaws.{le_is, gt_is}
 use Rattle.protocol.specs.ClaimLaws.{own_claim_fits}
 use Rattle.protocol.specs.RowLaws.{row_by_is_row, empty_is_row}
 use Rattle.protocol.specs.ValueLaws.{own_values_fit}
 use Rattle.node_steps.proofs.Values.{no_values_fit}
-use Rattle.node_steps.proofs.Speaking.{claims_speak, rows_speak, round_ranged, nothing_ranged}
+use Rattle.node_steps.proofs.HeardInRange.{claims_speak, rows_speak, round_ranged, nothing_ranged}
 use Rattle.node_steps.specs.Sound.{FoundInRange, HasSizes, Hears, IsInSlot, IsSound, IsTable, IsTaken}
 
 if_some : {X : Type 0} (P : X → Type 0) (o : Option X) → ((x : X) → o ≡ Some x → P x) → IfSome o P

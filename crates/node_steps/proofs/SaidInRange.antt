@@ -33,13 +33,13 @@ use Rattle.node_steps.specs.Parts.{NodeView}
 use Rattle.relaying.specs.Relaying.{relays}
 use Rattle.node_steps.specs.Sound.{HasSizes, Hears, IsInSlot, IsSound}
 use Rattle.node_steps.specs.Steps.{expected_in, own_in_slot, said_by}
-use Rattle.node_steps.proofs.Asking.{few_due, goes_agreed, goes_distinct, done_hears, rows_hears, claims_pass, rows_pass}
+use Rattle.node_steps.specs.PremiseLaws.{few_due, goes_agreed, goes_distinct, done_hears, rows_hears, claims_pass, rows_pass}
 use Rattle.protocol.specs.ClaimLaws.{own_claim_fits}
 use Rattle.protocol.specs.TalkLaws.{entries_number}
 use Rattle.protocol.specs.Configured.{setting_of}
 use Rattle.relaying.proofs.Putting.{mapped}
 use Rattle.node_steps.proofs.Values.{all_sent}
-use Rattle.node_steps.proofs.Soundness.{le_told, gt_told}
+use Rattle.node_steps.specs.SoundSteps.{le_told, gt_told}
 
 pick : {X : Type 0} (P : X → Type 0) (b : Bool) (x y : X) → (b ≡ true → P x) → (b ≡ false → P y) → P (if b then x else y)
 pick P true x y f g = f refl

@@ -27,13 +27,10 @@ use Rattle.node_steps.specs.At.{IsRound}
 use Rattle.node_steps.specs.Stages.{stage, claims_of, rounds_closed, due_of, done_table, row_table, found_cold, found_done, found_data, found_report, in_done, in_data, in_report}
 use Rattle.node_steps.specs.Period.{slot_run, expect_at, goes, Told, IsWatch, Stands, IsOver, slots_run, resting, FoldIsView}
 use Rattle.node_steps.proofs.Alike.{Others, row_by_is, adopted_alike, synced_alike}
-use Rattle.node_steps.proofs.Frames.{agrees, has_by_deliveries, delivered_keeps}
-use Rattle.node_steps.proofs.Law.{step_done, step_claims, step_data, step_report, step_end, step_sync, opens_next, through_is}
+use Rattle.node_steps.proofs.Arrived.{agrees, has_by_deliveries}
+use Rattle.node_steps.specs.FixedLaws.{delivered_keeps, room_kept}
+use Rattle.node_steps.proofs.SlotSteps.{step_done, step_claims, step_data, step_report, step_end, step_sync, opens_next}
 use Rattle.protocol.specs.RowLaws.{mask-zero}
-
-pub room_kept : (w : Watch) (es : List Arriving) → (all_delivered w es).frame_max ≡ w.frame_max
-room_kept w [] = refl
-room_kept w (d ∷ es) = room_kept (delivered w d.from d.tick d.bytes) es
 
 module _ {N : ℕ} (config : Config N) (i p : ℕ) (g : Inputs) (k : Kept) (x : Received) (few : config.nodes ≤ N) (room : ℕ) (law : FindsEach) (ds : ℕ → List Arriving) (told : Told config i p g k x ds)
     (rooms : (t : ℕ) (ms : List ℕ) (due : ℕ) → IsIdSet config.nodes ms → due ≤ 8 → HasRoom room (expect_at config i p g k x t ms due))

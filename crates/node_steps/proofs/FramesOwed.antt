@@ -9,7 +9,7 @@ use Rattle.protocol.specs.View.{own_claim}
 use Rattle.relaying.specs.Relaying.{relays}
 use Rattle.node_steps.specs.Stages.{row_of, done_table, row_table}
 use Rattle.node_steps.specs.Owed.{FramesAreOwed}
-use Rattle.node_steps.proofs.Frames.{relays_tabled}
+use Rattle.node_steps.proofs.Arrived.{relays_tabled}
 
 pub is_le : (a b : ℕ) → a ≤ b → nat_le a b ≡ true
 is_le a b h = grind (arith, nat_tests)

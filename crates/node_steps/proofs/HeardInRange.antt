@@ -20,8 +20,8 @@ use Rattle.protocol.specs.Heard.{paths_of, heard, heard_back}
 use Rattle.protocol.specs.View.{content}
 use Rattle.relaying.specs.Hearing.{has_path, slot_rounds, pushed, paths_from, paths_told, all_told, after_round}
 use Rattle.relaying.specs.Ranged.{HeardIn, IsRanged}
-use Rattle.node_steps.proofs.Ranges.{ranged_told, entry_in, said_in}
-use Rattle.node_steps.proofs.Telling.{told_in_range}
+use Rattle.node_steps.proofs.TableRanges.{ranged_told, entry_in, said_in}
+use Rattle.node_steps.proofs.ToldInRange.{told_in_range}
 
 -- ---- the paths of a round have a length
 

@@ -27,7 +27,7 @@ use Rattle.protocol.specs.Heard.{Rounds, paths_of, heard}
 use Rattle.relaying.specs.Relaying.{relays}
 use Rattle.noting.specs.Findings.{has_of}
 use Rattle.node_steps.specs.At.{heard_upto, table_at}
-use Rattle.node_steps.proofs.Viewing.{Agrees, upto_here}
+use Rattle.node_steps.proofs.TablesTold.{Agrees, upto_here}
 
 -- ---- a finding that isn't Good goes with nothing told
 
@@ -75,10 +75,6 @@ has_by_deliveries part law w e ds j room low ne keeps =
   where
     gt : (m n : ℕ) → n < m → nat_le m n ≡ false
     gt m n h = grind (arith, nat_tests)
-
-pub delivered_keeps : (w : Watch) (es : List Arriving) → ((all_delivered w es).me ≡ w.me) × ((all_delivered w es).nodes ≡ w.nodes) × ((all_delivered w es).expect ≡ w.expect)
-delivered_keeps w [] = (refl, refl, refl)
-delivered_keeps w (d ∷ es) = delivered_keeps (delivered w d.from d.tick d.bytes) es
 
 -- ---- what a node passes on
 

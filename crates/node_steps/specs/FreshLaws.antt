@@ -14,8 +14,8 @@ use Rattle.protocol.specs.ValueLaws.{zero_value}
 use Rattle.node_steps.specs.Fresh.{newly_open, IsFresh}
 use Rattle.node_steps.specs.Sound.{IsSound}
 use Rattle.protocol.specs.Configured.{setting_of}
-use Rattle.node_steps.proofs.Asking.{no_ids}
-use Rattle.node_steps.proofs.Speaking.{nothing_ranged}
+use Rattle.node_steps.specs.PremiseLaws.{no_ids}
+use Rattle.node_steps.proofs.HeardInRange.{nothing_ranged}
 use Rattle.node_steps.proofs.Values.{no_values_fit}
 
 zeros : (n : ℕ) → All IsValue (replicate n (pos 0))

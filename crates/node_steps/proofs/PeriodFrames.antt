@@ -26,49 +26,11 @@ use Rattle.protocol.specs.Saying.{if_full, says}
 use Rattle.node_steps.specs.Owed.{Owes}
 use Rattle.node_steps.specs.Period.{slots_run, expect_at, goes, IsWatch, Stands, IsOver, resting, IsGiven}
 use Rattle.node_steps.specs.Sending.{Fixed, fixed, fixed_of, IsServed, PeriodLaw}
-use Rattle.node_steps.proofs.Frames.{delivered_keeps}
-use Rattle.node_steps.proofs.Law.{opens_next, through_is}
-use Rattle.node_steps.proofs.Periods.{fold_is_view, room_kept, starts, slots_stand, StandsCold, cold_stands, few_dues, empty_is, first_has, stays_cold}
-use Rattle.node_steps.proofs.Owing.{frames_are_owed, is_le, not_le}
-
--- ---- what stays
-
-if_fixed : {N : ℕ} (c : Fixed N) (b : Bool) (x y : NodeView N) → fixed x ≡ c → fixed y ≡ c → fixed (if b then x else y) ≡ c
-if_fixed c true x y h k = h
-if_fixed c false x y h k = k
-
-synced_fixed : {N : ℕ} (v : NodeView N) (o : Option AgreedView) → fixed (synced v o) ≡ fixed v
-synced_fixed v None = refl
-synced_fixed v (Some a) = refl
-
-taken_fixed : {N : ℕ} (v : NodeView N) (o : Option AgreedView) → fixed (taken v o) ≡ fixed v
-taken_fixed v None = refl
-taken_fixed v (Some a) =
-    if_fixed (fixed v) (nat_le v.phase.slot (v.config.m + 1)) (after_done v a) _
-    (if_fixed (fixed v) (v.phase.slot == v.config.m + 1) (claims_known (heard_done v) a) (heard_done v) refl refl)
-    (if_fixed (fixed v) (v.phase.slot == v.config.m + 2) (after_data v a) (after_report v) refl refl)
-
-finished_fixed : {N : ℕ} (v : NodeView N) (o : Option AgreedView) → fixed (finished v o) ≡ fixed v
-finished_fixed v None = refl
-finished_fixed v (Some a) = refl
-
-pub after_fixed : {N : ℕ} (v : NodeView N) → fixed (after_slot v) ≡ fixed v
-after_fixed {N} v =
-    let w : NodeView N = slot_taken (shut v) in
-    if_fixed (fixed w) (w.phase.slot == 2 * w.config.m + 3) _ _ (finished_fixed w w.phase.before) refl
-    ∙ if_fixed (fixed v) (v.phase.slot == 0) (after_sync (shut v)) (taken (shut v) v.phase.before) (synced_fixed (with_sync (shut v)) _) (taken_fixed (shut v) v.phase.before)
-
-watch_fixed : {N : ℕ} (v : NodeView N) (ds : List Arriving) → fixed (record v { arrived = all_delivered v.arrived ds }) ≡ fixed v
-watch_fixed v ds =
-    let k = delivered_keeps v.arrived ds in
-    ap (λ (n : ℕ). record (fixed v) { watch_nodes = n; watch_me = (all_delivered v.arrived ds).me; room = (all_delivered v.arrived ds).frame_max }) k.1
-    ∙ ap₂ (λ (i r : ℕ). record (fixed v) { watch_me = i; room = r }) k.0 (room_kept v.arrived ds)
-
-pub slots_fixed : {N : ℕ} (ds : ℕ → List Arriving) (t : ℕ) (v : NodeView N) → fixed (slots_run ds t v) ≡ fixed v
-slots_fixed ds zero v = refl
-slots_fixed {N} ds (suc t) v =
-    let w : NodeView N = slots_run ds t v in
-    after_fixed (record w { arrived = all_delivered w.arrived (ds t) }) ∙ watch_fixed w (ds t) ∙ slots_fixed ds t v
+use Rattle.protocol.specs.ViewLaws.{goes_before, goes_through as view_through}
+use Rattle.node_steps.specs.FixedLaws.{slots_fixed}
+use Rattle.node_steps.proofs.SlotSteps.{opens_next}
+use Rattle.node_steps.proofs.PeriodStages.{fold_is_view, starts, slots_stand, StandsCold, cold_stands, few_dues, empty_is, first_has, stays_cold}
+use Rattle.node_steps.proofs.FramesOwed.{frames_are_owed, is_le, not_le}
 
 -- ---- what is said in a slot
 
@@ -99,15 +61,6 @@ either : {C : Type 0} (b : Bool) (x y z : C) → x ≡ z → y ≡ z → (if b t
 either true x y z h k = h
 either false x y z h k = k
 
--- what a node goes into a period with says of its view
-before_is : (s : Setting) (i p : ℕ) (g : Inputs) (k : Kept) (x : Received) (o : Option AgreedView) → (view_from s i p g k x o).before ≡ goes_with s i x o
-unfolding through
-before_is s i p g k x (Some a) = refl
-before_is s i p g k x None = go (adopted_by s i x.sync) where
-  go : (y : Option AgreedView) → (joined s i p g k x y).before ≡ y
-  go None = refl
-  go (Some a) = refl
-
 module _ {N : ℕ} (config : Config N) (i p : ℕ) (g : Inputs) (k : Kept) (x : Received) where
   abbrev s : Setting
   s = setting_of config
@@ -131,10 +84,10 @@ module _ {N : ℕ} (config : Config N) (i p : ℕ) (g : Inputs) (k : Kept) (x : 
     owes = frames_are_owed N config i p g k x a ids
 
     before : u.before ≡ Some a
-    before = before_is s i p g k x k.state ∙ is
+    before = goes_before s i p g k x k.state ∙ is
 
     view_is : u ≡ through s i p g k x (is_some k.state) a
-    view_is = through_is config i p g k x a k.state is
+    view_is = view_through s i p g k x k.state a is
 
     due_is : u.due ≡ due_of config i p g k x a
     unfolding through

@@ -38,7 +38,7 @@ use Rattle.relaying.specs.Hearing.{after_round}
 use Rattle.node_steps.specs.Steps.{by_conviction, claims_known, shut, slot_taken, next_open, started, synced, with_sync, expected_in}
 use Rattle.node_steps.specs.At.{heard_upto, table_at, IsRound}
 use Rattle.node_steps.specs.Stages.{rounds_closed, by_verdict, stage, notes_sync, notes_done, claims_of, due_of, own_of, votes_of, notes_verdicts, convicts_over_claims, notes_claims, row_of, done_table, row_table, found_done, found_data, found_report, in_done, in_data, in_report, outcome_of}
-use Rattle.node_steps.proofs.Viewing.{Agrees, round_more, settled_tabled, convicts_tabled}
+use Rattle.node_steps.proofs.TablesTold.{Agrees, round_more, settled_tabled, convicts_tabled}
 use Rattle.node_steps.proofs.Alike.{Others, notes_more, row_alike, votes_alike, adopted_alike, synced_alike}
 use Rattle.node_steps.proofs.Guilt.{further_is}
 
@@ -361,17 +361,8 @@ module _ {N : ℕ} (config : Config N) (i p : ℕ) (g : Inputs) (k : Kept) (x : 
       goes_by None = adopted_alike s i (has_of state_in (closed w)) x.sync (record { each = λ j low ne. sym (h.each j low ne) })
       goes_by (Some b) = refl
 
-some_is : {X : Type 0} (b a : X) → Some b ≡ Some a → b ≡ a
-some_is b a e = cc
-
 -- ---- the next slot is open
 
 pub opens_next : {N : ℕ} (config : Config N) (i p : ℕ) (g : Inputs) (k : Kept) (x : Received) (t : ℕ) (b : Option AgreedView) (d : Hearing ℕ) (rows : Hearing (List ℕ)) (f : Found) (w : Watch) (o : Outcome) → t ≢ 2 * config.m + 3
     → next_open (stage config i p g k x t b d rows f w o) ≡ stage config i p g k x (t + 1) b d rows f (opened w (expected_in (stage config i p g k x t b d rows f w o) (t + 1))) o
 opens_next config i p g k x t b d rows f w o h = cond-false (t == 2 * config.m + 3) _ _ (ne_eqb t (2 * config.m + 3) h)
-
--- a view is the way through with the state with which the node goes
-pub through_is : {N : ℕ} (config : Config N) (i p : ℕ) (g : Inputs) (k : Kept) (x : Received) (a : AgreedView) (o : Option AgreedView) → goes_with (setting_of config) i x o ≡ Some a
-    → view_from (setting_of config) i p g k x o ≡ through (setting_of config) i p g k x (is_some o) a
-through_is config i p g k x a (Some b) e = ap (through (setting_of config) i p g k x true) (some_is b a e)
-through_is config i p g k x a None e = ap (joined (setting_of config) i p g k x) e
