@@ -11,6 +11,7 @@ use Rattle.node_grid.specs.NodeSetLaws.{filter_range, passes_where}
 use Rattle.omh_paths.specs.MemberLaws.{member-lt}
 use Rattle.error_reports.specs.Charge.{accuses}
 use Rattle.node_grid.specs.MaskLaws.{mask-has}
+use Rattle.protocol.specs.RowLaws.{kinds-few}
 use Rattle.agreed_state.specs.Agreed.{AgreedView}
 use Rattle.agreed_state.specs.Adoption.{adopted}
 use Rattle.mme_vote.specs.Vote.{vote_of}
@@ -97,9 +98,6 @@ row_alike s i f g h =
     (λ j l. other_if s.config.nodes i j (mask_of (ids_where (f j) (kind_count s.config.version))) (mask_of (ids_where (g j) (kind_count s.config.version))) 0
     (record { each = λ q low ne e. ap mask_of (filter_range (f j) (g j) 0 (kind_count s.config.version) (λ k a b. subst (λ (z : ℕ). f z k ≡ g z k) e (h.each q low ne k (omega arith)))) }))
 
-pub kinds_sixteen : (version : ℕ) → kind_count version ≤ 16
-kinds_sixteen version = elim (version == 1) as (λ b. (if b then 8 else 16) ≤ 16) [ true ↦ omega arith | false ↦ omega arith ]
-
 -- a row tells what was noted
 pub row_tells : (s : Setting) (i : ℕ) (f : ℕ → ℕ → Bool) (j k : ℕ) → s.config.nodes ≤ s.capacity → j < s.config.nodes → j ≢ i → k < kind_count s.config.version → accuses (row_by s i f) j k ≡ f j k
 unfolding row_by
@@ -108,7 +106,7 @@ row_tells s i f j k few low ne within =
     ap (λ (mask : ℕ). bit_at mask k == 1)
     (get_or-map-range_with_len (λ j. if nat_lt j s.config.nodes && not (j == i) then mask_of (ids_where (f j) (kind_count s.config.version)) else 0) 0 s.capacity j j 0 (omega arith) (omega arith)
     ∙ cond-true _ (mask_of (ids_where (f j) (kind_count s.config.version))) 0 t)
-    ∙ mask-has (f j) (kind_count s.config.version) k (kinds_sixteen s.config.version) within
+    ∙ mask-has (f j) (kind_count s.config.version) k (kinds-few s.config.version) within
   where
     is_low : (a b : ℕ) → a < b → nat_lt a b ≡ true
     is_low a b h = grind (arith, nat_tests)

@@ -20,49 +20,9 @@ use Rattle.protocol.specs.Heard.{paths_of, heard, heard_back}
 use Rattle.protocol.specs.View.{content}
 use Rattle.relaying.specs.Hearing.{has_path, slot_rounds, pushed, paths_from, paths_told, all_told, after_round}
 use Rattle.relaying.specs.Ranged.{HeardIn, IsRanged}
+use Rattle.relaying.proofs.Slots.{length_all}
 use Rattle.node_steps.proofs.TableRanges.{ranged_told, entry_in, said_in}
 use Rattle.node_steps.proofs.ToldInRange.{told_in_range}
-
--- ---- the paths of a round have a length
-
-all_append : (P : List ℕ → Type 0) (ps qs : List (List ℕ)) → AllByRecursion P ps → AllByRecursion P qs → AllByRecursion P (ps ++ qs)
-all_append P [] qs a b = b
-all_append P (p ∷ ps) qs a b = (a.0, all_append P ps qs a.1 b)
-
-all_filter : (P : List ℕ → Type 0) (f : List ℕ → Bool) (ps : List (List ℕ)) → AllByRecursion P ps → AllByRecursion P (filter f ps)
-all_filter P f [] a = tt
-all_filter P f (p ∷ ps) a = elim (cases_Bool (f p)) [
-  | inl y ↦ subst (AllByRecursion P) (sym (cond-true (f p) (p ∷ filter f ps) (filter f ps) y)) (a.0, all_filter P f ps a.1)
-  | inr n ↦ subst (AllByRecursion P) (sym (cond-false (f p) (p ∷ filter f ps) (filter f ps) n)) (all_filter P f ps a.1)
-]
-
-all_pushed : (q r : ℕ) (ps : List (List ℕ)) → AllByRecursion (λ p. length p ≡ r) ps → AllByRecursion (λ p. length p ≡ r + 1) (map (λ p. p ++ q ∷ []) ps)
-all_pushed q r [] a = tt
-all_pushed q r (p ∷ ps) a = ((let e = a.0 in omega (arith, length_push p q)), all_pushed q r ps a.1)
-
-all_at : (P : List ℕ → Type 0) (ps : List (List ℕ)) → ((k : ℕ) → k < length ps → P (path_at ps k)) → AllByRecursion P ps
-all_at P [] h = tt
-all_at P (p ∷ ps) h = (h 0 (omega arith), all_at P ps (λ k l. h (suc k) (omega arith)))
-
-told_long : (members : List ℕ) (me r n : ℕ) → Distinct members → AllByRecursion (λ p. length p ≡ r + 1) (all_told members me r n)
-told_long members me r zero d = tt
-told_long members me r (suc n) d = all_append (λ p. length p ≡ r + 1) (all_told members me r n) (paths_told members me r n) (told_long members me r n d) (here (has_id members n && not (n == me))) where
-  t : List ℕ
-  t = without_id members n
-
-  dt : Distinct t
-  dt = Distinct-without members n d
-
-  here : (b : Bool) → AllByRecursion (λ p. length p ≡ r + 1) (if b then paths_from members me r n else [])
-  here true = all_filter (λ p. length p ≡ r + 1) (λ p. not (has_id p me)) (pushed members r n) (all_pushed n r (paths_of_length t r) (all_at (λ p. length p ≡ r) (paths_of_length t r) (λ k l. (IsListed-at t r k dt (let e = length-paths t r dt in omega arith)).long)))
-  here false = tt
-
-has_long : (n : ℕ) (ps : List (List ℕ)) (p : List ℕ) → AllByRecursion (λ q. length q ≡ n) ps → has_path ps p ≡ true → length p ≡ n
-has_long n [] p a h = absurd (cc)
-has_long n (x ∷ ps) p a h = elim (cases_Bool (same_nodes x p)) [
-  | inl y ↦ ap length (sym (same_nodes-tells x p y)) ∙ a.0
-  | inr isnt ↦ has_long n ps p a.1 (ap (λ (b : Bool). b || has_path ps p) (sym isnt) ∙ h)
-]
 
 -- ---- what a content says of an item is in range
 
@@ -129,7 +89,7 @@ good_is {C} part (Some c) v h = (c, (refl, inner (part c) h)) where
 spoken : {V : Type 0} (form : Form V) (P : V → Type 0) (w : Watch) (e : Expectation) (members : List ℕ) (me r nodes : ℕ) → w.expect ≡ Some e → ((j : ℕ) → Speaks form P (of_sender j e)) → round_in e.m e.slot ≡ r → Distinct members
     → (p : List ℕ) → has_path (all_told members me r nodes) p ≡ true → HeardIn P (length p - 1) (heard (slot_rounds form members w) p)
 spoken {V} form P w e members me r nodes is speaks round d p on =
-    let n : length p ≡ r + 1 = has_long (r + 1) (all_told members me r nodes) p (told_long members me r nodes d) on in
+    let n : length p ≡ r + 1 = length_all members me r nodes p d on ∙ omega arith in
     let m : r ≡ length p - 1 = omega arith in
     subst (λ (k : ℕ). HeardIn P k (heard (slot_rounds form members w) p)) m (go (reverse p) (length-reverse p ∙ n))
   where

@@ -1,4 +1,3 @@
-pub mod Passing
 pub mod TablesTold
 pub mod Alike
 pub mod Guilt

@@ -281,7 +281,7 @@ fold_is_view law N config i p g k x room ds q d rows f w o given = go (goes conf
   go (Some a) e =
       let due : length (due_of config i p g k x a) ≤ 8 = few_dues config a (claims_of config i p g k x a) given.few_channels in
       let ids : IsIdSet config.nodes a.standing.members = given.members a e in
-      subst (IsOver (slots_run ds (2 * config.m + 4) (begun (resting config i k q d rows f w o) p g))) (sym (through_is config i p g k x a k.state e))
+      subst (IsOver (slots_run ds (2 * config.m + 4) (begun (resting config i k q d rows f w o) p g))) (sym (view_through (setting_of config) i p g k x k.state a e))
       (period_ends config i p g k x given.few room law ds given.told given.rooms o a e ids due (begun (resting config i k q d rows f w o) p g)
       (subst (λ (v : NodeView N). Stands config i p g k x room o a 1 (slots_run ds 1 v)) (sym begun_is)
       (starts config i p g k x given.few room law ds given.told given.rooms o a e ids due d rows

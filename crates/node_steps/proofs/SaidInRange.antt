@@ -3,7 +3,7 @@ use Rattle.std.proofs.Common.{ℕ, ◌≡◌, ◌≢◌, ◌<◌, ◌≤◌, ◌
 use Rattle.std.specs.Prelude.{All, IfSome, if◌then◌else◌, nat_le, slice_index}
 use Rattle.std.proofs.lemmas.Bool.{cases_Bool, cases_lt, cond-true, cond-false, eqb-false}
 use Rattle.std.proofs.lemmas.Bool.Decides.{nat_tests}
-use Rattle.std.proofs.lemmas.List.{get_or_past}
+use Rattle.std.proofs.lemmas.List.{length-map}
 use Rattle.node_grid.specs.NodeSet.{has_id}
 use Rattle.node_grid.specs.NodeSetLaws.{length-ids}
 use Rattle.node_grid.specs.Count.{Distinct}
@@ -37,7 +37,6 @@ use Rattle.node_steps.specs.PremiseLaws.{few_due, goes_agreed, goes_distinct, do
 use Rattle.protocol.specs.ClaimLaws.{own_claim_fits}
 use Rattle.protocol.specs.TalkLaws.{entries_number}
 use Rattle.protocol.specs.Configured.{setting_of}
-use Rattle.relaying.proofs.Putting.{mapped}
 use Rattle.node_steps.proofs.Values.{all_sent}
 use Rattle.node_steps.specs.SoundSteps.{le_told, gt_told}
 
@@ -76,7 +75,7 @@ round_6 m t h = cond-false (nat_le t (m + 1)) _ _ (late m t h) where
 -- how many entries it passes on
 relays_number : {V : Type 0} (h : Hearing V) (a : AgreedView) (me r : ℕ) (e : Expectation) → Distinct a.standing.members → Hears h me a → e.members ≡ a.standing.members → e.sender ≡ me → round_in e.m e.slot ≡ r → length (relays h r) ≡ entries_due e
 relays_number h a me r e d hears ms is round =
-    mapped (λ path. wrapped (heard_in h.heard path)) (paths_of h.members r h.me)
+    length-map (paths_of h.members r h.me) (λ path. wrapped (heard_in h.heard path))
     ∙ ap₂ (λ (xs : List ℕ) (i : ℕ). length (paths_of xs r i)) hears.members hears.me_is
     ∙ entries_number a.standing.members r me d
     ∙ ap (λ (n : ℕ). if has_id a.standing.members me then path_count (length a.standing.members - 1) n else 0) (sym round)
@@ -130,12 +129,12 @@ module _ {N : ℕ} (v : NodeView N) (small : N ≤ 16) (ok : IsConfig N v.config
           let round : round_in v.config.m v.phase.slot ≡ v.phase.slot - 1 = round_3 v.config.m v.phase.slot low in
           is_short ex (DoneRelay (relays v.done (v.phase.slot - 1))) laid_out (sym (kind_3 v.config.m v.phase.slot (omega arith) low)) (
             relays_number v.done a v.phase.me (v.phase.slot - 1) ex (goes_distinct v a h goes) (done_hears v a s later goes) (members later) refl round,
-            subst (λ (n : ℕ). All (IsEntry (IsClaim (length v.config.graph.tasks)) n) (relays v.done (v.phase.slot - 1))) (sym round) (claims_pass v a (v.phase.slot - 1) h s later goes (omega arith)),
+            subst (λ (n : ℕ). All (IsEntry (IsClaim (length v.config.graph.tasks)) n) (relays v.done (v.phase.slot - 1))) (sym round) (claims_pass v (v.phase.slot - 1) h (omega arith)),
           )
 
       data' : v.phase.slot ≡ v.config.m + 2 → IsInRange ex (Data (map (own_in v.found.own) v.found.due))
       data' z = is_short ex (Data (map (own_in v.found.own) v.found.due)) laid_out (sym (ap (kind_in v.config.m) z ∙ kind_4 v.config.m)) (
-        mapped (own_in v.found.own) v.found.due ∙ sym (cond-true (v.phase.slot == v.config.m + 2) (length v.found.due) 0 (eq-eqb v.phase.slot (v.config.m + 2) z)),
+        length-map v.found.due (own_in v.found.own) ∙ sym (cond-true (v.phase.slot == v.config.m + 2) (length v.found.due) 0 (eq-eqb v.phase.slot (v.config.m + 2) z)),
         values z,
       )
 
@@ -149,7 +148,7 @@ module _ {N : ℕ} (v : NodeView N) (small : N ≤ 16) (ok : IsConfig N v.config
           let round : round_in v.config.m v.phase.slot ≡ v.phase.slot - (v.config.m + 3) = round_6 v.config.m v.phase.slot high in
           is_short ex (ReportRelay (relays v.rows (v.phase.slot - (v.config.m + 3)))) laid_out (sym (kind_6 v.config.m v.phase.slot (omega arith) s.within)) (
             relays_number v.rows a v.phase.me (v.phase.slot - (v.config.m + 3)) ex (goes_distinct v a h goes) (rows_hears v a s late goes) (members later) refl round,
-            subst (λ (n : ℕ). All (IsEntry (IsRow v.config.version N v.config.nodes) n) (relays v.rows (v.phase.slot - (v.config.m + 3)))) (sym round) (rows_pass v a (v.phase.slot - (v.config.m + 3)) h s late goes (omega arith)),
+            subst (λ (n : ℕ). All (IsEntry (IsRow v.config.version N v.config.nodes) n) (relays v.rows (v.phase.slot - (v.config.m + 3)))) (sym round) (rows_pass v (v.phase.slot - (v.config.m + 3)) h (omega arith)),
           )
 
   -- so does its frame, whether it has a state or not

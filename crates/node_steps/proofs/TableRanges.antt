@@ -1,25 +1,22 @@
 -- What a table has heard stays in the ranges of the grammar, so what it passes on is in range.
 use Rattle.std.proofs.Common.{ℕ, suc, ◌≡◌, ◌<◌, ◌-◌, true, if◌then◌else◌, List, [], ◌∷◌, length, map, refl, sym, ap, subst, ◌∙◌, inl, inr, arith}
 use Rattle.std.specs.Prelude.{All}
-use Rattle.std.specs.List.{AllByRecursion}
 use Rattle.std.proofs.lemmas.Bool.{cases_Bool, cond-true, cond-false}
 use Rattle.std.proofs.lemmas.List.Elements.{All-nil, All-cons, All-head, All-tail}
-use Rattle.node_grid.specs.NodeSet.{has_id, without_id}
-use Rattle.node_grid.specs.Count.{Distinct}
 use Rattle.omh_paths.specs.declared.wrapped.Wrapped.{Wrapped}
 use Rattle.omh_paths.specs.declared.wrapped.Wrapped.TheVariants.{Plain, Fault}
 use Rattle.omh_paths.specs.Wrapped.{wrapped}
-use Rattle.omh_paths.specs.Paths.{same_nodes, paths_of_length, path_at}
-use Rattle.omh_paths.specs.PathLists.{same_nodes-tells, IsListed-at, length-paths, Distinct-without}
+use Rattle.omh_paths.specs.Paths.{same_nodes}
+use Rattle.omh_paths.specs.PathLists.{same_nodes-tells}
 use Rattle.omh.specs.Heard.{Hearing, Entry, heard_in}
 use Rattle.frames.specs.Content.{IsEntry}
 use Rattle.protocol.specs.Arrival.{Arrival, said}
 use Rattle.protocol.specs.Arrival.Arrival.{Bad, Good}
-use Rattle.protocol.specs.Heard.{looked_up, with_entries, entry}
+use Rattle.protocol.specs.Heard.{looked_up, with_entries, entry, paths_of}
 use Rattle.relaying.specs.Hearing.{told_to, has_path}
 use Rattle.relaying.specs.Ranged.{HeardIn, IsRanged}
 use Rattle.relaying.specs.Relaying.{relays}
-use Rattle.node_steps.proofs.Passing.{relays_of_member, relays_none}
+use Rattle.protocol.specs.TalkLaws.{AreLong, paths_long}
 
 -- what is heard for a path after a slot is what the slot says, where it speaks of the path, or what was heard before
 told_range : {V : Type 0} (Q : Wrapped V → Type 0) (ps : List (List ℕ)) (f : List ℕ → Wrapped V) (es : List (Entry V)) (p : List ℕ) → Q (Fault 0) → Q (heard_in es p) → (has_path ps p ≡ true → Q (f p)) → Q (heard_in (map (told_to ps f) es) p)
@@ -71,19 +68,8 @@ wrap_heard P r n (Plain v) e h = h
 wrap_heard P r n (Fault k) e h = (omega arith, omega arith)
 
 -- what a table in range passes on is in range
-pub relays_in : {V : Type 0} (P : V → Type 0) (h : Hearing V) (r : ℕ) → Distinct h.members → 0 < r → IsRanged P h.heard → All (IsEntry P r) (relays h r)
-relays_in {V} P h r d some ranged = elim (cases_Bool (has_id h.members h.me)) [
-  | inr off ↦ subst (All (IsEntry P r)) (sym (relays_none h r off)) (All-nil (IsEntry P r))
-  | inl on ↦ subst (All (IsEntry P r)) (sym (relays_of_member h r on)) (each (paths_of_length (without_id h.members h.me) r) (lengths (without_id h.members h.me) (Distinct-without h.members h.me d)))
-]
-  where
-    each : (ps : List (List ℕ)) → AllByRecursion (λ p. length p ≡ r) ps → All (IsEntry P r) (map (λ path. wrapped (heard_in h.heard path)) ps)
-    each [] a = All-nil (IsEntry P r)
-    each (p ∷ ps) a = All-cons (IsEntry P r) (wrapped (heard_in h.heard p)) (map (λ path. wrapped (heard_in h.heard path)) ps) (wrap_heard P r (length p - 1) (heard_in h.heard p) (let e = a.0 in omega arith) (ranged.each p)) (each ps a.1)
-
-    all_at : (P : List ℕ → Type 0) (ps : List (List ℕ)) → ((k : ℕ) → k < length ps → P (path_at ps k)) → AllByRecursion P ps
-    all_at P [] h = tt
-    all_at P (p ∷ ps) h = (h 0 (omega arith), all_at P ps (λ k l. h (suc k) (omega arith)))
-
-    lengths : (s : List ℕ) → Distinct s → AllByRecursion (λ p. length p ≡ r) (paths_of_length s r)
-    lengths s ds = all_at (λ p. length p ≡ r) (paths_of_length s r) (λ k l. (IsListed-at s r k ds (let e = length-paths s r ds in omega arith)).long)
+pub relays_in : {V : Type 0} (P : V → Type 0) (h : Hearing V) (r : ℕ) → 0 < r → IsRanged P h.heard → All (IsEntry P r) (relays h r)
+relays_in {V} P h r some ranged = each (paths_of h.members r h.me) (paths_long h.members r h.me) where
+  each : (ps : List (List ℕ)) → AreLong r ps → All (IsEntry P r) (map (λ path. wrapped (heard_in h.heard path)) ps)
+  each [] a = All-nil (IsEntry P r)
+  each (p ∷ ps) a = All-cons (IsEntry P r) (wrapped (heard_in h.heard p)) (map (λ path. wrapped (heard_in h.heard path)) ps) (wrap_heard P r (length p - 1) (heard_in h.heard p) (let e = a.0 in omega arith) (ranged.each p)) (each ps a.1)

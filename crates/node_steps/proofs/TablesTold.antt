@@ -25,7 +25,7 @@ use Rattle.protocol.specs.Settled.{plain, settled_items, ear_of as ear_by}
 use Rattle.relaying.specs.Hearing.{slot_rounds, after_round}
 use Rattle.relaying.specs.Settling.{settled_in}
 use Rattle.node_steps.specs.At.{heard_upto, table_at, IsRound}
-use Rattle.relaying.proofs.Putting.{heard_push}
+use Rattle.protocol.specs.TalkLaws.{heard_push}
 use Rattle.relaying.proofs.Slots.{Split, split, slot_tabled}
 
 -- a kind of error goes with nothing said

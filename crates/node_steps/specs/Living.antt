@@ -1,8 +1,9 @@
 -- A node through a list of periods.
-use Rattle.std.specs.Prelude.{◌≡◌, ◌<◌, ℕ, zero, suc, ◌+◌, ◌*◌, Bool, List, if◌then◌else◌}
+use Rattle.std.specs.Prelude.{◌≡◌, ◌<◌, ℕ, suc, ◌+◌, ◌*◌, Bool, List, if◌then◌else◌}
 use Rattle.error_detect.specs.Multiset.{Arriving}
 use Rattle.agreed_state.specs.declared.config.Config.{Config}
 use Rattle.agreed_state.specs.declared.config.Inputs.{Inputs}
+use Rattle.protocol.specs.Steps.{after_steps}
 use Rattle.protocol.specs.View.{first_kept}
 use Rattle.protocol.specs.Cluster.{Cluster, kept, begins, view}
 use Rattle.node_steps.specs.Parts.{NodeView}
@@ -16,11 +17,10 @@ use Rattle.node_steps.specs.Sending.{fixed, fixed_of, IsServed}
 abbrev pub restarted_if : {N : ℕ} → Bool → NodeView N → NodeView N
 restarted_if restarts v = if restarts then restarted v else v
 
--- a node after so many periods of so many slots, by whether it restarts before each, what it is given for it, and what is delivered in
--- each of its slots
+-- a node after so many periods of so many slots, by whether it restarts before each, what it is given for it, and what is
+-- delivered in each of its slots
 unfoldable pub periods_run : {N : ℕ} → ℕ → (ℕ → Bool) → (ℕ → Inputs) → (ℕ → ℕ → List Arriving) → ℕ → NodeView N → NodeView N
-periods_run slots restarts inputs ds zero v = v
-periods_run slots restarts inputs ds (suc p) v = slots_run (ds p) slots (begun (restarted_if (restarts p) (periods_run slots restarts inputs ds p v)) p (inputs p))
+periods_run slots restarts inputs ds n v = after_steps (λ p w. slots_run (ds p) slots (begun (restarted_if (restarts p) w) p (inputs p))) n v
 
 -- what is left of it after n periods is what the protocol says of node i of this cluster
 pub record Lives {N : ℕ} (cl : Cluster) (i n : ℕ) (v w : NodeView N) : Type 0 where

@@ -1,5 +1,5 @@
 -- A period of a node: its slots one after another, by what is delivered in each.
-use Rattle.std.specs.Prelude.{◌≡◌, ◌<◌, ◌≤◌, ℕ, zero, suc, ◌+◌, ◌*◌, false, List, [], length, Option, Some}
+use Rattle.std.specs.Prelude.{◌≡◌, ◌<◌, ◌≤◌, ℕ, suc, ◌+◌, ◌*◌, false, List, [], length, Option, Some}
 use Rattle.node_grid.specs.NodeSet.{IsIdSet}
 use Rattle.omh.specs.Heard.{Hearing}
 use Rattle.frames.specs.Content.{Expectation}
@@ -11,6 +11,7 @@ use Rattle.agreed_state.specs.Agreed.{AgreedView}
 use Rattle.agreed_state.specs.Body.{state_len}
 use Rattle.protocol.specs.Arrival.{arrival, state_in, claim_in, claims_in, values_in, row_in, rows_in}
 use Rattle.protocol.specs.Heard.{paths_of, with_entries}
+use Rattle.protocol.specs.Steps.{after_steps}
 use Rattle.protocol.specs.View.{Kept, Received, View, row_by, view_from, goes_with}
 use Rattle.node_steps.specs.Outcome.{Outcome}
 use Rattle.node_steps.specs.Parts.{Phase, Found, NodeView}
@@ -24,8 +25,7 @@ slot_run v ds = after_slot (record v { arrived = all_delivered v.arrived ds })
 
 -- so many slots
 abbrev pub slots_run : {N : ℕ} → (ℕ → List Arriving) → ℕ → NodeView N → NodeView N
-slots_run ds zero v = v
-slots_run ds (suc t) v = slot_run (slots_run ds t v) (ds t)
+slots_run ds t v = after_steps (λ s w. slot_run w (ds s)) t v
 
 -- what holds of nodes other than i
 pub record OthersTell (nodes i : ℕ) (P : ℕ → Type 0) : Type 0 where

@@ -93,10 +93,8 @@ pub rows_end : {N : ℕ} (v : NodeView N) (a : AgreedView) → IsTaken v → v.c
 rows_end v a t late goes = subst (λ (o : Option AgreedView). IfSome o (λ b. Hears v.rows v.phase.me b)) goes (t.rows late)
 
 -- what the writers of relay frames ask
-pub claims_pass : {N : ℕ} (v : NodeView N) (a : AgreedView) (r : ℕ) → HasSizes v → IsInSlot v → 0 < v.phase.slot → v.phase.before ≡ Some a → 0 < r → All (IsEntry (IsClaim (length v.config.graph.tasks)) r) (relays v.done r)
-claims_pass v a r h s later goes some =
-    relays_in (IsClaim (length v.config.graph.tasks)) v.done r (subst Distinct (sym (done_hears v a s later goes).members) (goes_distinct v a h goes)) some h.done.range
+pub claims_pass : {N : ℕ} (v : NodeView N) (r : ℕ) → HasSizes v → 0 < r → All (IsEntry (IsClaim (length v.config.graph.tasks)) r) (relays v.done r)
+claims_pass v r h some = relays_in (IsClaim (length v.config.graph.tasks)) v.done r some h.done.range
 
-pub rows_pass : {N : ℕ} (v : NodeView N) (a : AgreedView) (r : ℕ) → HasSizes v → IsInSlot v → v.config.m + 3 ≤ v.phase.slot → v.phase.before ≡ Some a → 0 < r → All (IsEntry (IsRow v.config.version N v.config.nodes) r) (relays v.rows r)
-rows_pass {N} v a r h s late goes some =
-    relays_in (IsRow v.config.version N v.config.nodes) v.rows r (subst Distinct (sym (rows_hears v a s late goes).members) (goes_distinct v a h goes)) some h.rows.range
+pub rows_pass : {N : ℕ} (v : NodeView N) (r : ℕ) → HasSizes v → 0 < r → All (IsEntry (IsRow v.config.version N v.config.nodes) r) (relays v.rows r)
+rows_pass {N} v r h some = relays_in (IsRow v.config.version N v.config.nodes) v.rows r some h.rows.range
