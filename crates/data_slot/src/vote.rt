@@ -7,10 +7,9 @@ ghost use Rattle.agreed_state.specs.Agreed.{IsAgreed};
 ghost use Rattle.agreed_state.specs.Config.{IsChannel, IsConfig};
 ghost use Rattle.protocol.specs.Configured.{setting_of};
 ghost use Rattle.protocol.specs.View.{deviates, is_far, votes_on};
-ghost use Rattle.data_slot.specs.Values.{only_values};
 ghost use Rattle.data_slot.specs.Told.{value_told};
+ghost use Rattle.data_slot.specs.Values.{by_channel, only_values};
 ghost use Rattle.data_slot.specs.Votes.{is_off, vote_among, vote_due, vote_over};
-ghost use Rattle.data_slot.specs.Values.{by_channel};
 
 use agreed_state::{Agreed, Config};
 use error_detect::SlotWatch;

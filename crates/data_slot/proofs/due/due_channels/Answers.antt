@@ -3,7 +3,7 @@ use Rattle.std.specs.Prelude.{slice_index_or}
 use Rattle.std.proofs.lemmas.Bool.{cond-true, cond-false}
 use Rattle.node_grid.specs.NodeSet.{ids_where}
 use Rattle.node_grid.specs.NodeSetLaws.{length-ids, IsIdSet-filter}
-use Rattle.error_reports.specs.MaskLaws.{ids_where-more}
+use Rattle.node_grid.specs.MaskLaws.{ids_where-more}
 use Rattle.protocol.specs.View.{no_channel}
 use Rattle.arrayvec.specs.ArrayVec.{ArrayVec}
 use Rattle.data_slot.specs.Due.{due_by}

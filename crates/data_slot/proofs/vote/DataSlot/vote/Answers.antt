@@ -7,7 +7,7 @@ returns-clause-votes g c =
     let slot = c.args.self.now in
     let told : TellsValues c.args.config.now.nodes slot.me slot.full slot.due.now slot.own.now c.args.watch.now c.hear-told.result = record { each = c.hear-told.ensures } in
     c.vote_due-votes.ensures
-    ∙ votes_are c.args.config.now slot.me slot.full c.args.agreed.now c.args.claims.now slot.due.now slot.own.now c.args.watch.now c.hear-told.result told c.requires.agreed.standing.members
+    ∙ votes_are c.args.config.now slot.me slot.full c.args.agreed.now c.args.claims.now slot.due.now slot.own.now c.args.watch.now c.hear-told.result told c.requires.agreed.standing.set
 
 pub returns-clause-off : goal.returns-clause-off
 returns-clause-off g c =
