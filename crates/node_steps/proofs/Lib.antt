@@ -5,12 +5,8 @@ pub mod SlotSteps
 pub mod Arrived
 pub mod PeriodStages
 pub mod FramesOwed
-pub mod TableRanges
 pub mod PeriodFrames
 pub mod Lives
 pub mod Ordering
-pub mod ToldInRange
-pub mod HeardInRange
 pub mod SaidInRange
-pub mod Values
 pub mod Turns

@@ -31,6 +31,7 @@ use Rattle.node_steps.proofs.Arrived.{agrees, has_by_deliveries}
 use Rattle.node_steps.specs.FixedLaws.{delivered_keeps, room_kept}
 use Rattle.node_steps.proofs.SlotSteps.{step_done, step_claims, step_data, step_report, step_end, step_sync, opens_next}
 use Rattle.protocol.specs.RowLaws.{mask-zero}
+use Rattle.protocol.specs.ViewLaws.{goes_through as view_through}
 
 module _ {N : ℕ} (config : Config N) (i p : ℕ) (g : Inputs) (k : Kept) (x : Received) (few : config.nodes ≤ N) (room : ℕ) (law : FindsEach) (ds : ℕ → List Arriving) (told : Told config i p g k x ds)
     (rooms : (t : ℕ) (ms : List ℕ) (due : ℕ) → IsIdSet config.nodes ms → due ≤ 8 → HasRoom room (expect_at config i p g k x t ms due))

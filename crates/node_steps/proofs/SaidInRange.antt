@@ -37,7 +37,7 @@ use Rattle.node_steps.specs.PremiseLaws.{few_due, goes_agreed, goes_distinct, do
 use Rattle.protocol.specs.ClaimLaws.{own_claim_fits}
 use Rattle.protocol.specs.TalkLaws.{entries_number}
 use Rattle.protocol.specs.Configured.{setting_of}
-use Rattle.node_steps.proofs.Values.{all_sent}
+use Rattle.node_steps.specs.NoValueLaws.{all_sent}
 use Rattle.node_steps.specs.SoundSteps.{le_told, gt_told}
 
 pick : {X : Type 0} (P : X → Type 0) (b : Bool) (x y : X) → (b ≡ true → P x) → (b ≡ false → P y) → P (if b then x else y)

@@ -15,8 +15,8 @@ use Rattle.node_steps.specs.Fresh.{newly_open, IsFresh}
 use Rattle.node_steps.specs.Sound.{IsSound}
 use Rattle.protocol.specs.Configured.{setting_of}
 use Rattle.node_steps.specs.PremiseLaws.{no_ids}
-use Rattle.node_steps.proofs.HeardInRange.{nothing_ranged}
-use Rattle.node_steps.proofs.Values.{no_values_fit}
+use Rattle.node_steps.specs.HeardInRange.{nothing_ranged}
+use Rattle.node_steps.specs.NoValueLaws.{no_values_fit}
 
 zeros : (n : ℕ) → All IsValue (replicate n (pos 0))
 zeros zero = All-nil IsValue

@@ -16,3 +16,7 @@ pub mod PremiseLaws
 pub mod SoundSteps
 pub mod FreshLaws
 pub mod FixedLaws
+pub mod TableRanges
+pub mod ToldInRange
+pub mod HeardInRange
+pub mod NoValueLaws

@@ -23,8 +23,8 @@ use Rattle.node_steps.specs.Parts.{NodeView}
 use Rattle.node_steps.specs.Steps.{expected_in}
 use Rattle.node_steps.specs.Sound.{HasSizes, Hears, IsInSlot, IsTaken}
 use Rattle.relaying.specs.Relaying.{relays}
-use Rattle.node_steps.proofs.TableRanges.{relays_in}
-use Rattle.node_steps.proofs.ToldInRange.{claims_brought, rows_brought, states_sized}
+use Rattle.node_steps.specs.TableRanges.{relays_in}
+use Rattle.node_steps.specs.ToldInRange.{claims_brought, rows_brought, states_sized}
 
 pub le_is : (a b : ℕ) → a ≤ b → nat_le a b ≡ true
 le_is a b h = grind (arith, nat_tests)

@@ -33,8 +33,8 @@ pub use Rattle.node_steps.specs.PremiseLaws.{le_is, gt_is}
 use Rattle.protocol.specs.ClaimLaws.{own_claim_fits}
 use Rattle.protocol.specs.RowLaws.{row_by_is_row, empty_is_row}
 use Rattle.protocol.specs.ValueLaws.{own_values_fit}
-use Rattle.node_steps.proofs.Values.{no_values_fit}
-use Rattle.node_steps.proofs.HeardInRange.{claims_speak, rows_speak, round_ranged, nothing_ranged}
+use Rattle.node_steps.specs.NoValueLaws.{no_values_fit}
+use Rattle.node_steps.specs.HeardInRange.{claims_speak, rows_speak, round_ranged, nothing_ranged}
 use Rattle.node_steps.specs.Sound.{FoundInRange, HasSizes, Hears, IsInSlot, IsSound, IsTable, IsTaken}
 
 if_some : {X : Type 0} (P : X → Type 0) (o : Option X) → ((x : X) → o ≡ Some x → P x) → IfSome o P

@@ -21,8 +21,8 @@ use Rattle.protocol.specs.View.{content}
 use Rattle.relaying.specs.Hearing.{has_path, slot_rounds, pushed, paths_from, paths_told, all_told, after_round}
 use Rattle.relaying.specs.Ranged.{HeardIn, IsRanged}
 use Rattle.relaying.proofs.Slots.{length_all}
-use Rattle.node_steps.proofs.TableRanges.{ranged_told, entry_in, said_in}
-use Rattle.node_steps.proofs.ToldInRange.{told_in_range}
+use Rattle.node_steps.specs.TableRanges.{ranged_told, entry_in, said_in}
+use Rattle.node_steps.specs.ToldInRange.{told_in_range}
 
 -- ---- what a content says of an item is in range
 
