@@ -1,9 +1,12 @@
 -- What the slot that was closed says of its senders.
-use Rattle.std.specs.Prelude.{ℕ, Bool, not, ◌&&◌, ◌==◌, List, Option, if◌then◌else◌}
+use Rattle.std.specs.Prelude.{◌≡◌, ℕ, Bool, false, not, ◌&&◌, ◌==◌, List, Option, IsSome, IfSome, if◌then◌else◌, slice_index_or}
 use Rattle.node_grid.specs.NodeSet.{ids_where}
-use Rattle.frames.specs.Content.{Content}
+use Rattle.frames.specs.Content.{Content, State}
+use Rattle.error_detect.specs.declared.finding.Finding.{Finding}
+use Rattle.error_detect.specs.declared.finding.Finding.TheVariants.{Good}
 use Rattle.error_detect.specs.Finding.{kind_of}
 use Rattle.error_detect.specs.Watching.{Watch, finding_at, told_at}
+use Rattle.error_reports.specs.Notes.{is_kind}
 use Rattle.protocol.specs.Arrival.{Arrival, Form, arrived, is_bad, is_good}
 
 -- what a node has of a sender's frame in the slot that was closed
@@ -17,3 +20,16 @@ bad_in form r w j k = if r == 0 then is_bad (has_of form.item_in w j) k else is_
 -- the other nodes whose frames in the slot were good, by what each one's frame says
 abbrev pub good_in : ℕ → ℕ → (ℕ → Arrival (List ℕ)) → List ℕ
 good_in nodes me sync = ids_where (λ j. not (j == me) && is_good (sync j)) nodes
+
+-- whether what was found of a node is this kind of error
+abbrev pub found_bad : List Finding → ℕ → ℕ → Bool
+found_bad found j k = is_kind (kind_of (slice_index_or found j Good)) k
+
+-- a closed sync slot of a node, one of so many, with this state: if anything is guessed of the frames, it is this
+pub record IsSyncOf (own : List ℕ) (nodes me : ℕ) (w : Watch) : Type 0 where
+  pub nodes_are : w.nodes ≡ nodes
+  pub me_is : w.me ≡ me
+  pub closed : w.is_open ≡ false
+  pub some_slot : IsSome w.expect
+  pub first : IfSome w.expect (λ e. e.slot ≡ 0)
+  pub guessed : IfSome w.guess (λ c. c ≡ State own)
