@@ -1,9 +1,11 @@
 -- Which rule refuses a record: the first that fails, at the first place at which it fails. Between rule 15 and rule 16 come those of the
 -- scenario.
-use Rattle.std.specs.Prelude.{◌≡◌, ℕ, ◌+◌, ◌*◌, ◌==◌, pos, Bool, not, ◌&&◌, nat_lt, List, [], ◌∷◌, map, Option, None, Some, is_some, unwrap_or, if◌then◌else◌}
+use Rattle.std.specs.Prelude.{◌≡◌, ℕ, ◌+◌, ◌==◌, pos, Bool, not, ◌&&◌, nat_lt, List, [], ◌∷◌, map, Option, None, Some, is_some, unwrap_or, if◌then◌else◌}
 use Rattle.std.specs.Option.{option_or}
 use Rattle.std.specs.Result.{result_ok}
 use Rattle.hex.specs.Hex.{decode_of}
+use Rattle.slot_plan.specs.Slots.{slot_count}
+use Rattle.slot_plan.specs.Ticks.{last_tick}
 use Rattle.serde_json.specs.Data.{Data}
 use Rattle.scenario.specs.Parts.{ScenarioParts}
 use Rattle.scenario.specs.Keys.{parts_of}
@@ -26,11 +28,11 @@ pub record Limits : Type 0 where
   pub id : ℕ
 
 abbrev pub limits_of : {N : ℕ} → ScenarioView N → ℕ → Limits
-limits_of sc id = record { nodes = sc.config.nodes; slots = 2 * sc.config.m + 4; periods = sc.periods; id = id }
+limits_of sc id = record { nodes = sc.config.nodes; slots = slot_count sc.config.m; periods = sc.periods; id = id }
 
 -- a period that is run, a slot of it, another node, and a tick
 abbrev pub is_placed : Limits → EntryParts → Bool
-is_placed l e = is_below l.periods e.period && (is_below l.slots e.slot && (is_below l.nodes e.from && (not (natural e.from == l.id) && is_within (pos 0) (pos 30) e.tick)))
+is_placed l e = is_below l.periods e.period && (is_below l.slots e.slot && (is_below l.nodes e.from && (not (natural e.from == l.id) && is_within (pos 0) (pos last_tick) e.tick)))
 
 abbrev pub is_entry : Limits → EntryParts → Bool
 is_entry l e = is_placed l e && is_some (bytes_of e.hex)

@@ -10,8 +10,9 @@ ghost use Rattle.node_alone.specs.Stepping.{begun_alone, from_slot, woken, IsAlo
 use crate::delivering::run_slots;
 use crate::record::Record;
 use node_core::{Node, NodeRecord};
-use node_steps::laws;
 use node_grid::NoMemory;
+use node_steps::laws;
+use slot_plan::slot_count;
 use std::alloc::Global;
 use std::marker::Model;
 
@@ -79,7 +80,7 @@ fn step<'c, const N: usize>(
 {
     laws::period();
     begin(node, input, period);
-    let count = 2 * input.config().m + 4;
+    let count = slot_count(input.config().m);
     run_slots(node, input.entries(), next, period, count)
 }
 

@@ -1,6 +1,7 @@
 //! The rules on the entries of a record.
 
 ghost use Rattle.std.specs.Prelude.{◌≡◌, ◌≤◌, ◌<◌, pos, None, Some, IfOk, IfErr, option_map, map, length, if◌then◌else◌};
+ghost use Rattle.slot_plan.specs.Ticks.{last_tick};
 ghost use Rattle.scenario.specs.Numbers.{is_within, is_below, natural};
 ghost use Rattle.scenario.specs.Rules.{at_place};
 ghost use Rattle.scenario.specs.Verdict.{Tells};
@@ -12,6 +13,7 @@ use crate::entry::Entry;
 use crate::reading::EntryPart;
 use hex::FromHexError;
 use scenario::ScenarioError;
+use slot_plan::LAST_TICK;
 use std::alloc::{AllocError, Global};
 
 /// Which numbers an entry of node `id`'s log can have: those of nodes, slots and periods are below these counts.
@@ -49,9 +51,9 @@ fn natural(number: i64) -> usize
 
 /// Whether the number is a tick of a slot.
 fn is_tick(number: i64) -> bool
-    ensures { result ≡ is_within (pos 0) (pos 30) number }
+    ensures { result ≡ is_within (pos 0) (pos last_tick) number }
 {
-    0 <= number && number <= 30
+    0 <= number && number <= LAST_TICK as i64
 }
 
 /// Whether an entry's numbers are in range.

@@ -15,6 +15,7 @@ use crate::reading::parts;
 use agreed_state::Config;
 use scenario::{Scenario, ScenarioError};
 use serde_json::{Category, Value};
+use slot_plan::slot_count;
 use std::alloc::Global;
 use std::marker::Model;
 
@@ -46,7 +47,7 @@ fn limits_of<const N: usize>(scenario: &Scenario<N>, id: u8) -> Limits
     let config = scenario.config();
     Limits {
         nodes: config.nodes,
-        slots: 2 * config.m + 4,
+        slots: slot_count(config.m),
         periods: scenario.periods(),
         id,
     }

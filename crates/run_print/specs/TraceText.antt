@@ -1,8 +1,9 @@
 -- The printed frames of a period: what each node is delivered, by slot, sender and receiver.
-use Rattle.std.specs.Prelude.{◌≡◌, ◌<◌, ℕ, ◌+◌, ◌*◌, ◌==◌, Bool, List, [], ◌∷◌, ◌++◌, codes, decimal, if◌then◌else◌}
+use Rattle.std.specs.Prelude.{◌≡◌, ◌<◌, ℕ, ◌==◌, Bool, List, [], ◌∷◌, ◌++◌, codes, decimal, if◌then◌else◌}
 use Rattle.std.specs.List.{flat_map}
 use Rattle.hex.specs.Hex.{encode_lower}
 use Rattle.node_grid.specs.NodeSet.{ids_below}
+use Rattle.slot_plan.specs.Slots.{slot_count}
 use Rattle.fault_classes.specs.Line.{effect_at}
 use Rattle.fault_classes.specs.Plan.{Plan}
 use Rattle.fault_link.specs.Arrival.{delivered_of}
@@ -33,7 +34,7 @@ abbrev pub slot_text : Plan → PeriodView → ℕ → List ℕ
 slot_text plan t slot = flat_map (sender_text plan t slot) (ids_below t.nodes)
 
 abbrev pub frames_text : Plan → PeriodView → List ℕ
-frames_text plan t = flat_map (slot_text plan t) (ids_below (2 * t.m + 4))
+frames_text plan t = flat_map (slot_text plan t) (ids_below (slot_count t.m))
 
 -- the plan was made for the nodes and relay rounds of the period, and for more periods than its number
 pub record IsPlanOf (plan : Plan) (t : PeriodView) : Type 0 where

@@ -2,6 +2,7 @@
 ghost use Rattle.std.specs.Prelude.{◌≡◌, true, [], if◌then◌else◌, ◌≢◌, ◌+◌, ◌*◌, ◌≤◌, ◌<◌, length, replicate};
 ghost use Rattle.std.specs.List.{flat_map};
 ghost use Rattle.hex.specs.Hex.{encode_lower};
+ghost use Rattle.slot_plan.specs.Slots.{slot_count};
 ghost use Rattle.fault_classes.specs.Line.{effect_at};
 ghost use Rattle.fault_link.specs.Arrival.{delivered_of};
 ghost use Rattle.cluster_step.specs.Record.{frame_at};
@@ -12,6 +13,7 @@ use crate::printer::Printer;
 use cluster_step::PeriodRecord;
 use fault_classes::FaultPlan;
 use fault_link::{Delivered, deliveries};
+use slot_plan::slot_count;
 use span_io::Sink;
 
 /// The greatest length of a frame: 16 nodes, three relay rounds.
@@ -32,10 +34,11 @@ struct Link {
 /// How many slots a period has, by the relay rounds of the plan.
 fn slots_of<const N: usize>(plan: &FaultPlan<N>, rounds: u8) -> u8
     requires { plan.now.rounds ≡ rounds }
-    ensures { result ≡ 2 * rounds + 4 }
+    ensures { result ≡ slot_count rounds }
 {
+    // the plan's own clause bounds its rounds
     let _ = plan.line_count();
-    2 * rounds + 4
+    slot_count(rounds)
 }
 
 impl Printer {
@@ -108,7 +111,7 @@ impl Printer {
         scratch: &mut [u8; LONGEST_FRAME],
     )
         requires planned { IsPlanOf plan.now shown.now }
-        requires slot { slot < 2 * shown.now.m + 4 }
+        requires slot { slot < slot_count shown.now.m }
         requires from { from < shown.now.nodes }
         ensures { Prints self.old (K.written sink.old) (K.faults sink.old) self.new (K.written sink.new) (K.faults sink.new) (sender_text plan.now shown.now slot from) }
     {
@@ -140,7 +143,7 @@ impl Printer {
         scratch: &mut [u8; LONGEST_FRAME],
     )
         requires planned { IsPlanOf plan.now shown.now }
-        requires slot { slot < 2 * shown.now.m + 4 }
+        requires slot { slot < slot_count shown.now.m }
         ensures { Prints self.old (K.written sink.old) (K.faults sink.old) self.new (K.written sink.new) (K.faults sink.new) (slot_text plan.now shown.now slot) }
     {
         // naming a field tells the checker the types of all of them

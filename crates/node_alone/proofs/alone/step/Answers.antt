@@ -16,7 +16,7 @@ run_slots-requires g c =
       (
         c.requires.capacity,
         (
-          λ t low. ready_here log c.config.ensures.log c.period.ensures c.args.period c.args.node.now c.begin.new.node c.requires.before c.begin.ensures es same t (omega (arith, low, m)),
+          λ t low. ready_here log c.config.ensures.log c.period.ensures c.args.period c.args.node.now c.begin.new.node c.requires.before c.begin.ensures es same t (omega (arith, low, c.slot_count-count.ensures, m)),
           (
             subst Ascends (sym same) c.config.ensures.log.ascends,
             ap (drop c.args.next) same ∙ c.requires.rest ∙ ap (from_slot c.args.period 0) (sym same),
@@ -29,32 +29,27 @@ pub returns-clause-after : goal.returns-clause-after
 returns-clause-after g c =
     let log = c.args.input.now in
     let m : c.config.result.now.m ≡ log.scenario.config.m = ap (λ (y : Config g.row.N). y.m) c.config.ensures.config in
-    after_here log c.config.ensures.log c.period.ensures c.args.period c.args.node.now c.begin.new.node c.requires.before c.begin.ensures (map entry_view c.entries.result.now) c.entries.ensures.entries c.run_slots.new.node (2 * c.config.result.now.m + 4)
-    (omega (arith, m)) c.run_slots.ensures.after
+    after_here log c.config.ensures.log c.period.ensures c.args.period c.args.node.now c.begin.new.node c.requires.before c.begin.ensures (map entry_view c.entries.result.now) c.entries.ensures.entries c.run_slots.new.node c.slot_count-count.result
+    (omega (arith, c.slot_count-count.ensures, m)) c.run_slots.ensures.after
 
 pub returns-clause-shown : goal.returns-clause-shown
 returns-clause-shown g c =
     let log = c.args.input.now in
     let m : c.config.result.now.m ≡ log.scenario.config.m = ap (λ (y : Config g.row.N). y.m) c.config.ensures.config in
-    shown_here log c.config.ensures.log c.period.ensures c.args.period c.args.node.now c.begin.new.node c.requires.before c.begin.ensures (map entry_view c.entries.result.now) c.entries.ensures.entries c.run_slots.new.node (2 * c.config.result.now.m + 4)
-    (omega (arith, m)) c.run_slots.ensures.after
+    shown_here log c.config.ensures.log c.period.ensures c.args.period c.args.node.now c.begin.new.node c.requires.before c.begin.ensures (map entry_view c.entries.result.now) c.entries.ensures.entries c.run_slots.new.node c.slot_count-count.result
+    (omega (arith, c.slot_count-count.ensures, m)) c.run_slots.ensures.after
 
 pub returns-clause-rest : goal.returns-clause-rest
 returns-clause-rest g c =
     let log = c.args.input.now in
     let m : c.config.result.now.m ≡ log.scenario.config.m = ap (λ (y : Config g.row.N). y.m) c.config.ensures.config in
-    rest_here log c.config.ensures.log c.period.ensures c.args.period c.args.node.now c.begin.new.node c.requires.before c.begin.ensures (map entry_view c.entries.result.now) c.entries.ensures.entries c.run_slots.result (2 * c.config.result.now.m + 4)
-    (omega (arith, m)) c.run_slots.ensures.rest
+    rest_here log c.config.ensures.log c.period.ensures c.args.period c.args.node.now c.begin.new.node c.requires.before c.begin.ensures (map entry_view c.entries.result.now) c.entries.ensures.entries c.run_slots.result c.slot_count-count.result
+    (omega (arith, c.slot_count-count.ensures, m)) c.run_slots.ensures.rest
 
 pub config-requires : goal.config-requires
 config-requires g c = (elim c.requires.capacity [ inl e ↦ rw e (lit< tt) | inr e ↦ rw e (lit< tt) ], elim c.requires.capacity [ inl e ↦ rw e (lit< tt) | inr e ↦ rw e (lit< tt) ])
 
-pub overflow_mul-count : goal.overflow_mul-count
-overflow_mul-count g c =
-    let m : c.config.result.now.m ≡ c.args.input.now.scenario.config.m = ap (λ (y : Config g.row.N). y.m) c.config.ensures.config in
-    omega (arith, m, few_rounds g.row.N c.args.input.now.scenario.config c.config.ensures.log.scenario.system.config)
-
-pub overflow_add-count : goal.overflow_add-count
-overflow_add-count g c =
+pub slot_count-count-requires : goal.slot_count-count-requires
+slot_count-count-requires g c =
     let m : c.config.result.now.m ≡ c.args.input.now.scenario.config.m = ap (λ (y : Config g.row.N). y.m) c.config.ensures.config in
     omega (arith, m, few_rounds g.row.N c.args.input.now.scenario.config c.config.ensures.log.scenario.system.config)
