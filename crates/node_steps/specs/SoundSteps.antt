@@ -81,7 +81,7 @@ sync_taken v (Some b) ok h zero' a = record {
       range = nothing_ranged (IsClaim (length v.config.graph.tasks)) b.standing.members v.phase.me v.done.rounds;
     };
     rows = h.rows;
-    found = with_row v.config v.found _ h.found (row_by_is_row (setting_of v.config) v.phase.me _ ok.few_nodes);
+    found = with_row v.config (with_sync (shut v)).found _ (found_synced v h) (row_by_is_row (setting_of v.config) v.phase.me _ ok.few_nodes);
     readings = h.readings;
   };
   within = omega arith;
