@@ -8,11 +8,11 @@ use Rattle.omh_paths.specs.declared.wrapped.Wrapped.TheVariants.{Fault}
 use Rattle.omh_paths.specs.Paths.{paths_of_length, path_at, path_count}
 use Rattle.omh_paths.specs.PathLists.{has-at, has-of-without, length-without}
 use Rattle.omh_paths.specs.MemberLaws.{Distinct-ids, path_count-few}
-use Rattle.heard.specs.Keep.{Parts, IsFrame, IsFrameOf, IsBlock, first_node, wrapped_times}
+use Rattle.heard.specs.Keep.{Parts, IsFrame, IsFrameOf, IsBlock, IsBlockBehind, first_node, wrapped_times}
 use Rattle.heard.specs.Doubts.{IsTrusted, AreSaidUpTo, IsHitAs, IsHitAt, DoubtsMore}
 use Rattle.heard.proofs.Members.{hit_more}
 use Rattle.heard.specs.Blocks.{in_block, block_fits, block_small, next_block, first_on}
-use Rattle.heard.proofs.Behind.{block_at, row_fits}
+use Rattle.heard.proofs.Behind.{block_at, row_fits, width_behind}
 
 -- ---- one commander more
 
@@ -79,7 +79,11 @@ module _ {n q r count : ℕ} {others : List ℕ} (fits : IsFrame n q r count oth
       let within : begin + path_count (length free) (r - 1) ≤ count = omega (arith, block.fits, fits.count_ok, ap (λ (i : ℕ). path_count i (r - 1)) m) in
       (row_fits (length free) r w j begin count behind wide low within, omega (arith, fits.count_ok, path_count-few (length others) r fits.few_others (omega (arith, fits.few))))
 
-  module _ {V : Type 0} {p : Parts V} (of : IsFrameOf p q r count others) {w i c : ℕ} (wide : w ≡ path_count (length others - 1) (r - 1)) (low : i < length others) (is : c ≡ get_or others i 0) where
+  pub line_of : {c begin w j less : ℕ} {free : List ℕ} → IsBlockBehind r others c begin → free ≡ without_id others c → less ≡ length free - 1 → w ≡ path_count less (r - 2) → j < length free
+      → (begin + (j * w + w) ≤ count) × (count ≤ 65536)
+  line_of {c} {begin} {w} {j} {less} {free} b o l e low = line_in b.block o b.behind (width_behind (length free) less r w l e) low
+
+  module _ {V : Type 0} {p : Parts V} {values : List (Wrapped V)} (of : IsFrameOf p q r values others) {w i c : ℕ} (wide : w ≡ path_count (length others - 1) (r - 1)) (low : i < length others) (is : c ≡ get_or others i 0) where
     on : has_id others c ≡ true
     on = ap (has_id others) is ∙ has-at others i 0 low
 

@@ -15,7 +15,8 @@ use Rattle.omh.specs.HeardLaws.{IsHeardPath, all_heard_paths}
 use Rattle.heard.specs.Keep.{Parts, kept, relayed, root, base, cell, place_of, set_at, first_node, wrapped_times, frame_at, frames_before, IsSmall, IsStored}
 use Rattle.heard.specs.Doubts.{AreHit, DoubtsMore}
 use Rattle.heard.specs.Laid.{IsLaidUpTo, laid_parts}
-use Rattle.heard.specs.Places.{on-at, front-last, front-listed, place_of-lt, frames_before-le, path_count-mono}
+use Rattle.omh.specs.FlatLaws.{path_count-mono}
+use Rattle.heard.specs.Places.{on-at, front-last, front-listed, place_of-lt, frames_before-le}
 use Rattle.heard.proofs.Alike.{pick_alike, put_here, put_there, cut_here, cut_there}
 use Rattle.heard.proofs.Members.{behind-last, trusted_before}
 use Rattle.heard.proofs.Readings.{kept_root, kept_relayed, relayed_echo, relayed_odd, relayed_small, small_wrapped, distinct_members, few_members}

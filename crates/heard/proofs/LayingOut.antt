@@ -10,8 +10,9 @@ use Rattle.omh_paths.specs.Wrapped.{wrapped}
 use Rattle.omh_paths.specs.Paths.{paths_of_length, path_at, path_count, IsListed}
 use Rattle.omh_paths.specs.PathLists.{has-of-without, length-without, Distinct-without, IsListed-at}
 use Rattle.heard.specs.Keep.{Parts, relayed, set_at, frame_at, IsSmall, IsStored}
-use Rattle.heard.specs.Laid.{IsLaidUpTo, laid_parts}
-use Rattle.heard.specs.Places.{frames_before-le, frames_before-next, frames_before-few, row_le, path_count-mono}
+use Rattle.heard.specs.Laid.{IsLaidUpTo, laid_parts, IsPut}
+use Rattle.omh.specs.FlatLaws.{path_count-mono}
+use Rattle.heard.specs.Places.{frames_before-le, frames_before-next, frames_before-few, row_le}
 use Rattle.heard.proofs.Alike.{relayed_alike}
 use Rattle.heard.proofs.Readings.{distinct_members, few_members, nodes_few}
 use Rattle.heard.proofs.SeenLaws.{both_or, elsewhere}
@@ -107,14 +108,6 @@ module _ {V : Type 0} (capacity : ℕ) (p : Parts V) (h : IsStored capacity p) (
       ]) ∙ laid.left j off;
       long = length-set cells (frame_at p.nodes r q + k) value ∙ laid.long;
     }
-
--- what is asked of one value
-pub record IsPut {V : Type 0} (p : Parts V) (r q k : ℕ) (value : Wrapped V) : Type 0 where
-  pub some : 0 < r
-  pub short : r ≤ p.rounds
-  pub sender : has_id p.members q ≡ true
-  pub place : k < path_count (length p.members - 1) r
-  pub small : IsSmall (3 + r) value
 
 module _ {V : Type 0} (capacity : ℕ) (p now : Parts V) (view : p ≡ now) (h : IsStored capacity p) (r q k : ℕ) (value : Wrapped V) (asked : IsPut now r q k value) where
   here : IsPut p r q k value

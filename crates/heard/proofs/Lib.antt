@@ -1,4 +1,5 @@
 mod Counts
+mod SetLaws
 mod Backing
 mod OneReceiverLaws
 mod EchoLaws

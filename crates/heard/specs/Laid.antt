@@ -1,12 +1,27 @@
 -- A frame that says what the node itself passes on, laid out as cells.
-use Rattle.std.specs.Prelude.{ℕ, ◌≡◌, ◌+◌, ◌-◌, ◌<◌, ◌≤◌, ◌⊎◌, true, List, length, slice_index_or, slice_set}
+use Rattle.std.specs.Prelude.{ℕ, ◌≡◌, ◌+◌, ◌-◌, ◌<◌, ◌≤◌, ◌⊎◌, true, false, List, length, slice_index_or, slice_set}
 use Rattle.node_grid.specs.NodeSet.{has_id, with_id, without_id}
 use Rattle.omh_paths.specs.declared.wrapped.Wrapped.{Wrapped}
 use Rattle.omh_paths.specs.declared.wrapped.Wrapped.TheVariants.{Fault}
 use Rattle.omh_paths.specs.Paths.{paths_of_length, path_at, path_count}
 use Rattle.omh_paths.specs.Wrapped.{wrapped}
 use Rattle.node_grid.specs.Count.{Distinct}
-use Rattle.heard.specs.Keep.{Parts, kept, relayed, set_at, frame_at}
+use Rattle.heard.specs.Keep.{Parts, kept, relayed, set_at, frame_at, IsSmall, IsRound}
+
+-- a value that is put at the k-th place of node q's frame of r relays
+pub record IsPut {V : Type 0} (p : Parts V) (r q k : ℕ) (value : Wrapped V) : Type 0 where
+  pub some : 0 < r
+  pub short : r ≤ p.rounds
+  pub sender : has_id p.members q ≡ true
+  pub place : k < path_count (length p.members - 1) r
+  pub small : IsSmall (3 + r) value
+
+-- node q's frame of r relays is kept as one that says what the node itself passes on
+pub record IsEcho {V : Type 0} (p : Parts V) (q r : ℕ) : Type 0 where
+  pub sender : has_id p.members q ≡ true
+  pub round : IsRound p r
+  pub other : has_id (set_at p.as_expected r) q ≡ false
+  pub echo : has_id (set_at p.echoes r) q ≡ true
 
 -- the first values of node q's frame of r relays are what came for the paths of these others, wrapped once more, and all other cells are left
 pub record IsLaidUpTo {V : Type 0} (p : Parts V) (r q until : ℕ) (others : List ℕ) (cells : List (Wrapped V)) : Type 0 where

@@ -1,26 +1,28 @@
 //! Frames that say what the node itself passes on.
 
-ghost use Rattle.std.specs.Prelude.{ℕ, ◌≡◌, ◌+◌, ◌-◌, ◌<◌, ◌≤◌, ◌&&◌, true, false, not, length, slice_set};
+ghost use Rattle.std.specs.Prelude.{ℕ, ◌≡◌, ◌+◌, ◌-◌, ◌<◌, ◌≤◌};
+ghost use Rattle.std.specs.Prelude.{◌&&◌, true, false, not, length, slice_set};
 ghost use Rattle.node_grid.specs.NodeSet.{has_id, without_id};
 ghost use Rattle.omh_paths.specs.Paths.{path_count};
 ghost use Rattle.omh_paths.specs.Wrapped.{wrapped};
-ghost use Rattle.heard.specs.Keep.{relayed, last_node, frame_at, set_at, IsSmall, IsRound, IsStored};
-ghost use Rattle.heard.specs.Doubts.{AreHit};
+ghost use Rattle.heard.specs.Keep.{relayed, last_node, frame_at, set_at, IsSmall, IsMemberPath};
+ghost use Rattle.heard.specs.Keep.{IsRound, IsStored};
+ghost use Rattle.heard.specs.Doubts.{AreDoubted, AreDoubtedIn, AreHit};
 ghost use Rattle.heard.specs.Seen.{IsNewest};
-ghost use Rattle.heard.specs.Laid.{IsLaidUpTo, IsLaidOut, laid_parts};
+ghost use Rattle.heard.specs.Laid.{IsLaidUpTo, IsLaidOut, IsPut, IsEcho, laid_parts};
 
 use crate::doubts::doubt_of_all;
-use crate::places::{cut_node, frame_at, front_of, put_node, set_value, wrapped_by};
+use crate::places::{cut_node, has_at, frame_at, front_of, put_node, set_value, wrapped_by};
 use crate::store::Store;
 use crate::value::Value;
 use node_grid::NodeSet;
 use omh_paths::{Path, Wrapped, count_paths, rank, unrank};
 
 impl<V: Value, const N: usize> Store<V, N> {
-    /// What came from the last node of a path for it. Without a relay it is what frames are expected to say.
+    /// What came from the last node of a path for it. Without a relay it is what frames are
+    /// expected to say.
     pub fn relayed(&self, path: &Path) -> Wrapped<V>
-        requires within { (q : ℕ) → has_id path.now q ≡ true → has_id self.now.members q ≡ true }
-        requires short { length path.now ≤ self.now.rounds + 1 }
+        requires { IsMemberPath self.now path.now }
         ensures is { result ≡ relayed self.now (length path.now - 1) (last_node path.now) path.now }
         ensures small { IsSmall (2 + length path.now) result }
     {
@@ -39,14 +41,12 @@ impl<V: Value, const N: usize> Store<V, N> {
         if !self.in_cells[r as usize].has(q) {
             return Wrapped::Fault(0);
         }
-        let mut others = self.members;
-        others.cut(q);
+        let others = self.members.without(q);
         self.cells[frame_at(self.nodes, r, q) + rank(&others, &front_of(path))]
     }
 
     /// Whether no frame of more relays is kept as one that says what the node itself passes on.
     pub fn is_newest(&self, r: u8) -> bool
-        requires round { r ≤ self.now.rounds }
         ensures { result ≡ true → IsNewest self.now.rounds self.now r }
     {
         for before in r..self.rounds {
@@ -59,54 +59,53 @@ impl<V: Value, const N: usize> Store<V, N> {
 
     /// Sets a value of a frame that is not kept by cells.
     fn put_cell(&mut self, q: u8, r: u8, k: usize, value: Wrapped<V>)
-        requires sender { has_id self.old.members q ≡ true }
-        requires round { IsRound self.old r }
-        requires place { k < path_count (length self.old.members - 1) r }
-        requires small { IsSmall (3 + r) value }
-        ensures { self.new ≡ record self.old { cells = slice_set self.old.cells (frame_at self.old.nodes r q + k) value } }
+        requires { IsPut self.old r q k value }
+        ensures { self.new ≡ record self.old {
+            cells = slice_set self.old.cells (frame_at self.old.nodes r q + k) value } }
     {
         let at = frame_at(self.nodes, r, q) + k;
         set_value(self.cells.as_mut_slice(), at, value);
     }
 
-    /// Lays the frame of member `q` of relay round `r`, which says what the node itself passes on, out as cells.
+    /// Lays the frame of member `q` of relay round `r`, which says what the node itself passes on,
+    /// out as cells.
     fn lay_echo(&mut self, q: u8, r: u8)
-        requires sender { has_id self.old.members q ≡ true }
-        requires round { IsRound self.old r }
-        requires other { has_id (set_at self.old.as_expected r) q ≡ false }
-        requires echo { has_id (set_at self.old.echoes r) q ≡ true }
+        requires { IsEcho self.old q r }
         ensures is { self.new ≡ laid_parts N self.old r q self.new.cells }
-        ensures laid { IsLaidUpTo self.old r q (path_count (length (without_id self.old.members q)) r) (without_id self.old.members q) self.new.cells }
+        ensures laid { IsLaidUpTo self.old r q
+            (path_count (length (without_id self.old.members q)) r)
+            (without_id self.old.members q) self.new.cells }
     {
-        let mut others = self.members;
-        others.cut(q);
+        let others = self.members.without(q);
         for k in 0..count_paths(others.len(), r) {
             let value = self.relayed(&unrank(&others, r, k)).wrap();
             self.put_cell(q, r, k, value);
         }
-        cut_node(self.echoes.as_mut_slice(), r, q);
-        put_node(self.in_cells.as_mut_slice(), r, q);
+        cut_node(self.echoes.as_mut_slice(), r as usize, q);
+        put_node(self.in_cells.as_mut_slice(), r as usize, q);
     }
 
-    /// Whether the frame of a node of relay round `r` is kept as one that says what the node itself passes on.
+    /// Whether the frame of a node of relay round `r` is kept as one that says what the node itself
+    /// passes on.
     fn is_echo(&self, q: u8, r: u8) -> bool
-        requires round { r ≤ self.now.rounds }
-        ensures { result ≡ (has_id self.now.members q && (not (has_id (set_at self.now.as_expected r) q) && has_id (set_at self.now.echoes r) q)) }
+        ensures { result ≡ (has_id self.now.members q &&
+            (not (has_id (set_at self.now.as_expected r) q) &&
+                has_id (set_at self.now.echoes r) q)) }
     {
-        self.members.has(q)
-            && (!self.as_expected[r as usize].has(q) && self.echoes[r as usize].has(q))
+        let r = r as usize;
+        self.members.has(q) && (!has_at(&self.as_expected, r, q) && has_at(&self.echoes, r, q))
     }
 
-    /// Lays all frames of relay round `r` that say what the node itself passes on out as cells, and doubts their senders of
-    /// each commander.
+    /// Lays all frames of relay round `r` that say what the node itself passes on out as cells, and
+    /// doubts their senders of each commander.
     fn lay_round(&mut self, r: u8, doubted: &mut [NodeSet<N>])
-        requires round { IsRound self.old r }
-        requires sets { length doubted.old ≡ self.old.nodes }
-        requires hit { AreHit self.old doubted.old }
+        requires { AreDoubtedIn self.old r doubted.old }
         ensures laid { IsLaidOut self.old self.new }
         ensures stored { IsStored N self.new }
         ensures hit { AreHit self.new doubted.new }
-        ensures none { (q : ℕ) → has_id self.old.members q ≡ true → has_id (set_at self.old.as_expected r) q ≡ false → has_id (set_at self.new.echoes r) q ≡ false }
+        ensures none { (q : ℕ) → has_id self.old.members q ≡ true →
+            has_id (set_at self.old.as_expected r) q ≡ false →
+            has_id (set_at self.new.echoes r) q ≡ false }
     {
         for q in 0..self.nodes {
             if self.is_echo(q, r) {
@@ -116,12 +115,10 @@ impl<V: Value, const N: usize> Store<V, N> {
         }
     }
 
-    /// Lays all frames of more than `r` relays that say what the node itself passes on out as cells, before another frame of
-    /// `r` relays changes what that is.
+    /// Lays all frames of more than `r` relays that say what the node itself passes on out as
+    /// cells, before another frame of `r` relays changes what that is.
     pub fn lay_later(&mut self, r: u8, doubted: &mut [NodeSet<N>])
-        requires round { r ≤ self.old.rounds }
-        requires sets { length doubted.old ≡ self.old.nodes }
-        requires hit { AreHit self.old doubted.old }
+        requires { AreDoubted self.old doubted.old }
         ensures laid { IsLaidOut self.old self.new }
         ensures stored { IsStored N self.new }
         ensures newest { IsNewest self.old.rounds self.new r }

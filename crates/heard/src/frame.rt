@@ -6,7 +6,7 @@ ghost use Rattle.omh_paths.specs.Paths.{path_count};
 ghost use Rattle.heard.specs.Keep.{IsFrame};
 
 use crate::value::Value;
-use crate::places::are_one;
+use crate::places::{are_one, value_at};
 use node_grid::NodeSet;
 use omh_paths::{Wrapped, count_paths};
 
@@ -35,11 +35,11 @@ pub fn are_expected<V: Value>(
     until: usize,
     expected: Wrapped<V>,
 ) -> bool
-    requires within { until ≤ length values.now }
-    ensures { result ≡ true → (k : ℕ) → from ≤ k → k < until → slice_index_or values.now k (Fault 0) ≡ expected }
+    ensures { result ≡ true → (k : ℕ) → from ≤ k → k < until →
+        slice_index_or values.now k (Fault 0) ≡ expected }
 {
     for k in from..until {
-        if !are_one(values[k], expected) {
+        if !are_one(value_at(values, k), expected) {
             return false;
         }
     }

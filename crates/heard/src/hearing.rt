@@ -1,6 +1,7 @@
 //! What one node heard, and what it settles from that.
 
-ghost use Rattle.std.specs.Prelude.{ℕ, List, ◌≡◌, ◌≢◌, ◌+◌, ◌-◌, ◌<◌, ◌≤◌, ◌&&◌, ◌∷◌, [], map, length};
+ghost use Rattle.std.specs.Prelude.{ℕ, List, ◌≡◌, ◌≢◌, ◌+◌, ◌-◌, ◌<◌};
+ghost use Rattle.std.specs.Prelude.{◌≤◌, ◌&&◌, ◌∷◌, [], map, length};
 ghost use Rattle.std.specs.Prelude.{true, false, IfOk, All, if◌then◌else◌};
 ghost use Rattle.node_grid.specs.Capacity.{IsCapacity};
 ghost use Rattle.node_grid.specs.NodeSet.{has_id, without_id, IsIdSet};
@@ -11,12 +12,12 @@ ghost use Rattle.omh_paths.specs.Wrapped.{wrapped};
 ghost use Rattle.omh.specs.Omh.{settled_from};
 ghost use Rattle.equivocation.specs.Conviction.{convicts};
 ghost use Rattle.omh.specs.Heard.{ear_of, heard_in, heard_paths, nothing_heard, with_heard};
-ghost use Rattle.heard.specs.Keep.{IsSmall, wrapped_times};
+ghost use Rattle.heard.specs.Keep.{IsSmall, wrapped_times, IsSize, AreNodes};
 ghost use Rattle.heard.specs.Passing.{IsAllExpected};
 ghost use Rattle.heard.specs.Seen.{with_frame, as_written, SaysExpected, SaysEcho};
 
 use crate::doubts::doubt_of_all;
-use crate::places::{are_one, clear, no_sets, unheard, wrapped_by};
+use crate::places::{are_one, clear, copies, unheard, value_at, wrapped_by};
 use crate::store::Store;
 use crate::value::Value;
 use node_grid::{NoMemory, NodeSet};
@@ -55,9 +56,7 @@ impl<V, const N: usize> Model for Heard<V, N> {
 impl<V: Value, const N: usize> Heard<V, N> {
     /// A store for members out of `nodes` nodes and `m` relay rounds, with no members yet.
     pub fn open(alloc: Global, nodes: u8, m: u8) -> Result<Heard<V, N>, NoMemory>
-        requires capacity { IsCapacity N }
-        requires nodes { nodes ≤ N }
-        requires rounds { m ≤ 3 }
+        requires { IsSize N nodes m }
         ensures { IfOk result (λ t. t ≡ record {
             nodes = nodes; rounds = m; members = []; me = 0; full = false; own = Fault 0;
             heard = nothing_heard [] 0 m }) }
@@ -65,7 +64,7 @@ impl<V: Value, const N: usize> Heard<V, N> {
         let Ok(store) = Store::open(alloc, nodes, m) else {
             return Err(NoMemory);
         };
-        let Ok(doubted) = no_sets(alloc, nodes as usize) else {
+        let Ok(doubted) = copies(alloc, NodeSet::empty(), nodes as usize) else {
             return Err(NoMemory);
         };
         let Ok(scratch) = unheard(alloc, 48) else {
@@ -121,8 +120,7 @@ impl<V: Value, const N: usize> Heard<V, N> {
     /// Forgets all that was heard, and takes up the members, the node itself, whether it is Full,
     /// and its own item.
     pub fn start(&mut self, members: &NodeSet<N>, me: u8, full: bool, own: Wrapped<V>)
-        requires members { (q : ℕ) → has_id members.now q ≡ true → q < self.old.nodes }
-        requires me { me < self.old.nodes }
+        requires { AreNodes self.old.nodes members.now me }
         ensures { self.new ≡ record {
             nodes = self.old.nodes; rounds = self.old.rounds; members = members.now; me = me;
             full = full; own = own; heard = nothing_heard members.now me self.old.rounds } }
@@ -143,18 +141,14 @@ impl<V: Value, const N: usize> Heard<V, N> {
         if !self.store.has(c) {
             return;
         }
-        if self.any_frame {
-            self.store.put_root(c, value);
-            return;
-        }
-        self.store.put_expected(c, value);
+        self.store.put_root(c, value, !self.any_frame);
     }
 
     /// Takes up the values of member `q`'s frame of relay round `r`: for each path of `r` of the
-    /// other members, in lexicographic order, what `q` relays of it. Nothing is kept of a node that
-    /// is no member, nor of a round that there isn't.
+    /// other members, in lexicographic order, what `q` relays of it. The one value of round 0 is
+    /// what `q` says of itself. Nothing is kept of a node that is no member, nor of a round that
+    /// there isn't.
     pub fn hear_frame(&mut self, q: u8, r: u8, values: &[Wrapped<V>])
-        requires some { 0 < r }
         requires count { length values.now ≡ path_count (length self.old.members - 1) r }
         requires small { All (IsSmall 3) values.now }
         ensures is { self.new ≡ record self.old {
@@ -164,6 +158,10 @@ impl<V: Value, const N: usize> Heard<V, N> {
             heard_paths self.old.members self.old.me self.old.rounds }
     {
         if !self.store.hears(q, r) {
+            return;
+        }
+        if r == 0 {
+            self.put_root(q, value_at(values, 0));
             return;
         }
         self.store.lay_later(r, self.doubted.as_mut_slice());
@@ -190,7 +188,7 @@ impl<V: Value, const N: usize> Heard<V, N> {
         if !self.store.hears(c, r) {
             return false;
         }
-        are_one(value, wrapped_by(self.store.root(c), r))
+        are_one(value, wrapped_by(self.store.heard_of(c), r))
     }
 
     /// How many values a frame of relay round `r` has for each commander.
@@ -206,7 +204,6 @@ impl<V: Value, const N: usize> Heard<V, N> {
     /// Takes up member `q`'s frame of relay round `r`, whose values are what is expected, without
     /// reading it. Answers false, and takes up nothing, where the frame has to be read.
     pub fn hear_expected(&mut self, q: u8, r: u8) -> bool
-        requires some { 0 < r }
         ensures is { result ≡ true → (values : List (Wrapped V)) →
             length values ≡ path_count (length self.old.members - 1) r →
             SaysExpected self.old.me r (without_id self.old.members q) self.old.heard
@@ -221,6 +218,9 @@ impl<V: Value, const N: usize> Heard<V, N> {
         if !self.store.hears(q, r) {
             return false;
         }
+        if r == 0 {
+            return false;
+        }
         if !self.store.agrees() {
             return false;
         }
@@ -233,10 +233,9 @@ impl<V: Value, const N: usize> Heard<V, N> {
     }
 
     /// Takes up member `q`'s frame of relay round `r`, whose values are what the node itself passes
-    /// on for each path: what it heard for it, wrapped; without reading it. Answers false, and takes
-    /// up nothing, where the frame has to be read.
+    /// on for each path: what it heard for it, wrapped; without reading it. Answers false, and
+    /// takes up nothing, where the frame has to be read.
     pub fn hear_echo(&mut self, q: u8, r: u8) -> bool
-        requires some { 0 < r }
         ensures is { result ≡ true → (values : List (Wrapped V)) →
             length values ≡ path_count (length self.old.members - 1) r →
             SaysEcho self.old.me r (without_id self.old.members q) self.old.heard
@@ -251,6 +250,9 @@ impl<V: Value, const N: usize> Heard<V, N> {
         if !self.store.hears(q, r) {
             return false;
         }
+        if r == 0 {
+            return false;
+        }
         if !self.store.is_newest(r) {
             return false;
         }
@@ -262,16 +264,19 @@ impl<V: Value, const N: usize> Heard<V, N> {
         true
     }
 
-    /// Takes up that member `q`'s frame of relay round `r` didn't come. Nothing changes where `q` is
-    /// no member, or where there is no such round.
+    /// Takes up that member `q`'s frame of relay round `r` didn't come. Nothing changes where `q`
+    /// is no member, or where there is no such round.
     pub fn miss_frame(&mut self, q: u8, r: u8)
-        requires some { 0 < r }
         ensures is { self.new ≡
             record self.old { heard = map (with_frame r q (λ path. Fault 0)) self.old.heard } }
         ensures paths { map (λ e. e.path) self.old.heard ≡
             heard_paths self.old.members self.old.me self.old.rounds }
     {
         if !self.store.hears(q, r) {
+            return;
+        }
+        if r == 0 {
+            self.put_root(q, Wrapped::Fault(0));
             return;
         }
         self.store.lay_later(r, self.doubted.as_mut_slice());
@@ -293,8 +298,8 @@ impl<V: Value, const N: usize> Heard<V, N> {
     }
 
     /// Whether all that the node passes on up to relay round `r` is what is expected: for each path
-    /// of up to `r` of the others what was heard of its first node, wrapped by each relay. False may
-    /// be said where it is, too.
+    /// of up to `r` of the others what was heard of its first node, wrapped by each relay. False
+    /// may be said where it is, too.
     pub fn relays_expected(&self, r: u8) -> bool
         ensures { result ≡ true → (s : ℕ) → 0 < s → s ≤ r → IsAllExpected self.now s }
     {
@@ -321,17 +326,13 @@ impl<V: Value, const N: usize> Heard<V, N> {
         ensures kept { self.new ≡ self.old }
     {
         if commander == self.store.me() {
-            return if self.store.is_full() {
-                self.own
-            } else {
-                Wrapped::Fault(0)
-            };
+            return self.told();
         }
         if self
             .store
             .is_backed(commander, &self.doubted[commander as usize])
         {
-            return self.store.root(commander);
+            return self.store.heard_of(commander);
         }
         self.store
             .fold(&Path::root(commander), self.scratch.as_mut_slice())

@@ -1,10 +1,11 @@
 //! The places of values and sets.
 
-ghost use Rattle.std.specs.Prelude.{ℕ, ◌≡◌, ◌+◌, ◌-◌, ◌*◌, ◌<◌, ◌≤◌, List, [], true, length, take, slice_index, slice_set, slice_index_or, replicate, IfOk};
-ghost use Rattle.node_grid.specs.Capacity.{IsCapacity};
-ghost use Rattle.node_grid.specs.NodeSet.{with_id, without_id};
+ghost use Rattle.std.specs.Prelude.{ℕ, ◌≡◌, ◌+◌, ◌-◌, ◌*◌, ◌<◌, ◌≤◌, []};
+ghost use Rattle.std.specs.Prelude.{true, length, take, slice_set, slice_index_or, replicate, IfOk};
+ghost use Rattle.node_grid.specs.NodeSet.{has_id, with_id, without_id};
 ghost use Rattle.omh_paths.specs.declared.wrapped.Wrapped.TheVariants.{Fault};
 ghost use Rattle.heard.specs.Keep.{frames_before, frame_at, wrapped_times, set_at, IsSmall};
+ghost use Rattle.heard.specs.Keep.{AreFew, IsSeat};
 
 use crate::value::Value;
 use node_grid::NodeSet;
@@ -13,8 +14,7 @@ use std::alloc::{AllocError, Global};
 
 /// Where the values of the frames of `r` relays begin.
 pub fn frames_before(nodes: u8, r: u8) -> usize
-    requires nodes { nodes ≤ 16 }
-    requires short { r ≤ 4 }
+    requires { AreFew nodes r }
     ensures begins { result ≡ frames_before nodes r }
     ensures small { result ≤ 4194304 }
 {
@@ -27,27 +27,16 @@ pub fn frames_before(nodes: u8, r: u8) -> usize
 
 /// Where the values of node `q`'s frame of `r` relays begin.
 pub fn frame_at(nodes: u8, r: u8, q: u8) -> usize
-    requires nodes { nodes ≤ 16 }
-    requires short { r ≤ 3 }
-    requires node { q < nodes }
+    requires { IsSeat nodes r q }
     ensures begins { result ≡ frame_at nodes r q }
     ensures small { result ≤ 8388608 }
 {
     frames_before(nodes, r) + q as usize * count_paths(nodes.saturating_sub(1), r)
 }
 
-/// The member at a place, in ascending order.
-pub fn member_at<const N: usize>(set: &NodeSet<N>, place: u8) -> u8
-    requires { place < length set.now }
-    ensures { result ≡ slice_index set.now place }
-{
-    set.nth(place).unwrap()
-}
-
-/// The path without its last node.
+/// The path without its last node, where it has more than one.
 pub fn front_of(path: &Path) -> Path
-    requires { 1 < length path.now }
-    ensures { result ≡ take (length path.now - 1) path.now }
+    ensures { 1 < length path.now → result ≡ take (length path.now - 1) path.now }
 {
     let mut front = Path::root(path.at(0));
     for k in 1..path.len() - 1 {
@@ -58,10 +47,8 @@ pub fn front_of(path: &Path) -> Path
 
 /// The value after so many relays passed it on.
 pub fn wrapped_by<V: Value>(value: Wrapped<V>, times: u8) -> Wrapped<V>
-    requires small { IsSmall 3 value }
-    requires few { times ≤ 3 }
-    ensures wrapped { result ≡ wrapped_times times value }
-    ensures small { IsSmall (3 + times) result }
+    requires { IsSmall (255 - times) value }
+    ensures { result ≡ wrapped_times times value }
 {
     match value {
         Wrapped::Plain(v) => Wrapped::Plain(v),
@@ -69,36 +56,67 @@ pub fn wrapped_by<V: Value>(value: Wrapped<V>, times: u8) -> Wrapped<V>
     }
 }
 
-/// Puts a node into the set of a round.
-pub fn put_node<const N: usize>(sets: &mut [NodeSet<N>], r: u8, q: u8)
-    requires round { r < length sets.old }
-    requires node { q < N }
-    ensures { sets.new ≡ slice_set sets.old r (with_id N (set_at sets.old r) q) }
+/// The set with a node, where there is such a node.
+#[tactic(auto, using(crate::proofs::SetLaws::with_beyond))]
+fn with_node<const N: usize>(set: &NodeSet<N>, q: u8) -> NodeSet<N>
+    ensures { result ≡ with_id N set.now q }
 {
-    let mut set = sets[r as usize];
-    set.put(q);
-    sets[r as usize] = set;
+    let _ids = set.len();
+    if q as usize >= N {
+        return *set;
+    }
+    let mut more = *set;
+    more.put(q);
+    more
 }
 
-/// Takes a node out of the set of a round.
-pub fn cut_node<const N: usize>(sets: &mut [NodeSet<N>], r: u8, q: u8)
-    requires round { r < length sets.old }
-    requires node { q < N }
-    ensures { sets.new ≡ slice_set sets.old r (without_id (set_at sets.old r) q) }
+/// The set without a node.
+#[tactic(auto, using(crate::proofs::SetLaws::without_none, crate::proofs::SetLaws::member_low))]
+pub fn without_node<const N: usize>(set: &NodeSet<N>, q: u8) -> NodeSet<N>
+    ensures { result ≡ without_id set.now q }
 {
-    let mut set = sets[r as usize];
-    set.cut(q);
-    sets[r as usize] = set;
+    let _ids = set.len();
+    if !set.has(q) {
+        return *set;
+    }
+    set.without(q)
 }
 
-/// So many empty sets.
-pub fn no_sets<const N: usize>(alloc: Global, len: usize) -> Result<Vec<NodeSet<N>>, AllocError>
-    requires { IsCapacity N }
-    ensures { IfOk result (λ v. v.items ≡ replicate len []) }
+/// Puts a node into the set at a place, where there is one.
+#[tactic(auto, using(crate::proofs::SetLaws::set_beyond))]
+pub fn put_node<const N: usize>(sets: &mut [NodeSet<N>], place: usize, q: u8)
+    ensures { sets.new ≡ slice_set sets.old place (with_id N (set_at sets.old place) q) }
+{
+    if place >= sets.len() {
+        return;
+    }
+    let set = with_node(&sets[place], q);
+    sets[place] = set;
+}
+
+/// Takes a node out of the set at a place, where there is one.
+#[tactic(auto, using(crate::proofs::SetLaws::set_beyond))]
+pub fn cut_node<const N: usize>(sets: &mut [NodeSet<N>], place: usize, q: u8)
+    ensures { sets.new ≡ slice_set sets.old place (without_id (set_at sets.old place) q) }
+{
+    if place >= sets.len() {
+        return;
+    }
+    let set = without_node(&sets[place], q);
+    sets[place] = set;
+}
+
+/// So many copies of a set.
+pub fn copies<const N: usize>(
+    alloc: Global,
+    set: NodeSet<N>,
+    len: usize,
+) -> Result<Vec<NodeSet<N>>, AllocError>
+    ensures { IfOk result (λ v. v.items ≡ replicate len set) }
 {
     let mut sets = Vec::with_capacity(alloc, len)?;
     for _ in 0..len {
-        sets.push(NodeSet::empty())?;
+        sets.push(set)?;
     }
     Ok(sets)
 }
@@ -114,14 +132,44 @@ pub fn unheard<V: Value>(alloc: Global, len: usize) -> Result<Vec<Wrapped<V>>, A
     Ok(values)
 }
 
+/// The set without all of its nodes.
+#[tactic(auto, using(crate::proofs::SetLaws::minus_itself))]
+fn emptied<const N: usize>(set: &NodeSet<N>) -> NodeSet<N>
+    ensures { result ≡ [] }
+{
+    set.minus(set)
+}
+
 /// Empties all sets.
 pub fn clear<const N: usize>(sets: &mut [NodeSet<N>])
-    requires { IsCapacity N }
     ensures { (r : ℕ) → set_at sets.new r ≡ [] }
 {
     for set in sets.iter_mut() {
-        *set = NodeSet::empty();
+        let none = emptied(set);
+        *set = none;
     }
+}
+
+/// The value at a place, and the error where there is none.
+#[tactic(auto, using(crate::proofs::SetLaws::get_beyond))]
+pub fn value_at<V: Value>(values: &[Wrapped<V>], place: usize) -> Wrapped<V>
+    ensures { result ≡ slice_index_or values.now place (Fault 0) }
+{
+    if place >= values.len() {
+        return Wrapped::Fault(0);
+    }
+    values[place]
+}
+
+/// Whether a node is in the set at a place.
+#[tactic(auto, using(crate::proofs::SetLaws::get_beyond))]
+pub fn has_at<const N: usize>(sets: &[NodeSet<N>], place: usize, q: u8) -> bool
+    ensures { result ≡ has_id (set_at sets.now place) q }
+{
+    if place >= sets.len() {
+        return false;
+    }
+    sets[place].has(q)
 }
 
 /// Whether two values are one.
@@ -131,10 +179,13 @@ pub fn are_one<V: Value>(value: Wrapped<V>, expected: Wrapped<V>) -> bool
     value == expected
 }
 
-/// Puts a value in place of another one.
+/// Puts a value in place of another one, where there is one.
+#[tactic(auto, using(crate::proofs::SetLaws::set_beyond))]
 pub fn set_value<V: Value>(values: &mut [Wrapped<V>], place: usize, value: Wrapped<V>)
-    requires { place < length values.old }
     ensures { values.new ≡ slice_set values.old place value }
 {
+    if place >= values.len() {
+        return;
+    }
     values[place] = value;
 }

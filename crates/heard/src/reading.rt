@@ -1,9 +1,8 @@
 //! What was heard for a path.
 
 ghost use Rattle.std.specs.Prelude.{◌≡◌, ◌+◌, ◌-◌, ◌≤◌, true, false, length};
-ghost use Rattle.node_grid.specs.NodeSet.{has_id};
-ghost use Rattle.omh_paths.specs.Paths.{path_count};
-ghost use Rattle.heard.specs.Keep.{kept, IsSmall, IsOwnPath, IsRound, IsFrameOf};
+ghost use Rattle.node_grid.specs.NodeSet.{without_id};
+ghost use Rattle.heard.specs.Keep.{kept, IsSmall, IsOwnPath, IsFrameOf};
 ghost use Rattle.heard.specs.Passing.{AreExpected};
 
 use crate::frame::Frame;
@@ -47,13 +46,11 @@ impl<V: Value, const N: usize> Store<V, N> {
 
     /// The frame of relay round `r` with these values that member `q` sent.
     pub fn frame<'a>(&self, q: u8, r: u8, values: &'a [Wrapped<V>]) -> Frame<'a, V, N>
-        requires sender { has_id self.now.members q ≡ true }
-        requires round { IsRound self.now r }
-        requires count { length values.now ≡ path_count (length self.now.members - 1) r }
+        requires { IsFrameOf self.now q r values.now (without_id self.now.members q) }
         ensures sender { result.sender ≡ q }
         ensures relays { result.relays ≡ r }
         ensures values { result.values.now ≡ values.now }
-        ensures is { IsFrameOf self.now q r (length values.now) result.others }
+        ensures is { IsFrameOf self.now q r values.now result.others }
     {
         let others = self.members.without(q);
         let _ids = others.len();

@@ -17,3 +17,6 @@ overflow_add-result c =
 pub returns-clause-small : goal.returns-clause-small
 returns-clause-small c =
     omega (arith, part_is c.saturating_sub.result c.args.nodes c.args.r c.count_paths.result c.args.q c.saturating_sub.ensures c.count_paths.ensures.product, node_few c.args.nodes c.args.q c.args.r c.requires.nodes c.requires.node c.requires.short, c.frames_before.ensures.small)
+
+pub frames_before-requires : goal.frames_before-requires
+frames_before-requires c = record { nodes = c.requires.nodes; short = omega (arith, c.requires.short) }

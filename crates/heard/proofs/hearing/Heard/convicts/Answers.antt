@@ -9,7 +9,7 @@ use Rattle.heard.proofs.hearing.Heard.convicts.Goals as goal
 pub convicts-requires : goal.convicts-requires
 convicts-requires g c =
     let yes : c.hears_of.result ≡ true = grind (arith, c.if-not-hears_of.false) in
-    (omega arith, (sym c.hears_of.ensures ∙ yes, omega (arith, room c.self.invariant c.self.view_is c.as_mut_slice.result.now c.as_mut_slice.ensures.value)))
+    (omega arith, record { other = sym c.hears_of.ensures ∙ yes; room = omega (arith, room c.self.invariant c.self.view_is c.as_mut_slice.result.now c.as_mut_slice.ensures.value) })
 
 pub returns-then-not-hears_of-clause-convicted : goal.returns-then-not-hears_of-clause-convicted
 returns-then-not-hears_of-clause-convicted g c =

@@ -1,13 +1,7 @@
-use Rattle.std.proofs.Common.{◌≡◌, true, arith, sym, ◌∙◌}
+use Rattle.std.proofs.Common.{◌<◌, ◌≡◌, true, arith, sym, ◌∙◌}
 use Rattle.heard.proofs.Methods.{few_rounds, echo_seen, echo_kept, in_round, is_member, paths_seen, heard_frame}
 use Rattle.heard.proofs.PassingLaws.{echo_expected}
 use Rattle.heard.proofs.hearing.Heard.hear_echo.Goals as goal
-
-pub is_newest-requires : goal.is_newest-requires
-is_newest-requires g c =
-    let yes : c.hears.result ≡ true = grind (arith, c.if-not-hears.false) in
-    let come = heard_frame c.self.invariant c.self.view_is c.args.q c.args.r (sym c.hears.ensures ∙ yes) in
-    (omega arith, few_rounds c.self.invariant c.self.view_is c.args.r come.1)
 
 pub returns-then-not-is_newest-clause-paths : goal.returns-then-not-is_newest-clause-paths
 returns-then-not-is_newest-clause-paths g c =
@@ -19,24 +13,20 @@ returns-then-r-eq1-clause-is g c e values count told =
     let come = heard_frame c.self.invariant c.self.view_is c.args.q c.args.r (sym c.hears.ensures ∙ yes) in
     c.hear_expected.ensures.is e values count (echo_expected c.self.invariant c.self.view_is c.args.q c.args.r values come.0 c.if-r-eq1.true count told)
 
-pub take_echo-requires : goal.take_echo-requires
-take_echo-requires g c =
-    let yes : c.hears.result ≡ true = grind (arith, c.if-not-hears.false) in
-    let come = heard_frame c.self.invariant c.self.view_is c.args.q c.args.r (sym c.hears.ensures ∙ yes) in
-    (omega arith, (is_member c.self.invariant c.self.view_is c.args.q come.0, in_round c.self.invariant c.self.view_is c.args.r c.requires.some come.1))
-
 pub invariant_of-self : goal.invariant_of-self
 invariant_of-self g c =
+    let some : 0 < c.args.r = omega (arith, c.if-r-eq0.false) in
     let yes : c.hears.result ≡ true = grind (arith, c.if-not-hears.false) in
     let come = heard_frame c.self.invariant c.self.view_is c.args.q c.args.r (sym c.hears.ensures ∙ yes) in
-    echo_kept c.self.invariant c.self.view_is c.args.q c.args.r come.0 c.requires.some come.1 c.take_echo.new.self c.take_echo.ensures
+    echo_kept c.self.invariant c.self.view_is c.args.q c.args.r come.0 some come.1 c.take_echo.new.self c.take_echo.ensures
 
 pub returns-clause-is : goal.returns-clause-is
 returns-clause-is g c e values count told =
+    let some : 0 < c.args.r = omega (arith, c.if-r-eq0.false) in
     let yes : c.hears.result ≡ true = grind (arith, c.if-not-hears.false) in
     let come = heard_frame c.self.invariant c.self.view_is c.args.q c.args.r (sym c.hears.ensures ∙ yes) in
     let fresh : c.is_newest.result ≡ true = grind (arith, c.if-not-is_newest.false) in
-    echo_seen c.self.invariant c.self.view_is c.args.q c.args.r come.0 c.requires.some come.1 (c.is_newest.ensures fresh) (omega (arith, c.requires.some, c.if-r-eq1.false)) c.take_echo.new.self values count told c.take_echo.ensures
+    echo_seen c.self.invariant c.self.view_is c.args.q c.args.r come.0 some come.1 (c.is_newest.ensures fresh) (omega (arith, some, c.if-r-eq1.false)) c.take_echo.new.self values count told c.take_echo.ensures
 
 pub returns-clause-paths : goal.returns-clause-paths
 returns-clause-paths g c =
@@ -44,4 +34,8 @@ returns-clause-paths g c =
 
 pub returns-then-not-hears-clause-paths : goal.returns-then-not-hears-clause-paths
 returns-then-not-hears-clause-paths g c =
+    paths_seen c.self.invariant c.self.view_is
+
+pub returns-then-r-eq0-clause-paths : goal.returns-then-r-eq0-clause-paths
+returns-then-r-eq0-clause-paths g c =
     paths_seen c.self.invariant c.self.view_is

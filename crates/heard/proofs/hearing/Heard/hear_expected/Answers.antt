@@ -1,4 +1,4 @@
-use Rattle.std.proofs.Common.{◌≡◌, true, arith, sym, ◌∙◌}
+use Rattle.std.proofs.Common.{◌<◌, ◌≡◌, true, arith, sym, ◌∙◌}
 use Rattle.heard.proofs.Methods.{few_rounds, clean_seen, clean_kept, expected_said, in_round, is_member, paths_seen, heard_frame}
 use Rattle.heard.proofs.hearing.Heard.hear_expected.Goals as goal
 
@@ -6,35 +6,25 @@ pub returns-then-not-agrees-clause-paths : goal.returns-then-not-agrees-clause-p
 returns-then-not-agrees-clause-paths g c =
     paths_seen c.self.invariant c.self.view_is
 
-pub is_newest-requires : goal.is_newest-requires
-is_newest-requires g c =
-    let yes : c.hears.result ≡ true = grind (arith, c.if-not-hears.false) in
-    let come = heard_frame c.self.invariant c.self.view_is c.args.q c.args.r (sym c.hears.ensures ∙ yes) in
-    (omega arith, few_rounds c.self.invariant c.self.view_is c.args.r come.1)
-
 pub returns-then-not-is_newest-clause-paths : goal.returns-then-not-is_newest-clause-paths
 returns-then-not-is_newest-clause-paths g c =
     paths_seen c.self.invariant c.self.view_is
 
-pub take_expected-requires : goal.take_expected-requires
-take_expected-requires g c =
-    let yes : c.hears.result ≡ true = grind (arith, c.if-not-hears.false) in
-    let come = heard_frame c.self.invariant c.self.view_is c.args.q c.args.r (sym c.hears.ensures ∙ yes) in
-    (omega arith, (is_member c.self.invariant c.self.view_is c.args.q come.0, in_round c.self.invariant c.self.view_is c.args.r c.requires.some come.1))
-
 pub invariant_of-self : goal.invariant_of-self
 invariant_of-self g c =
+    let some : 0 < c.args.r = omega (arith, c.if-r-eq0.false) in
     let yes : c.hears.result ≡ true = grind (arith, c.if-not-hears.false) in
     let come = heard_frame c.self.invariant c.self.view_is c.args.q c.args.r (sym c.hears.ensures ∙ yes) in
-    clean_kept c.self.invariant c.self.view_is c.args.q c.args.r come.0 c.requires.some come.1 c.take_expected.new.self c.take_expected.ensures
+    clean_kept c.self.invariant c.self.view_is c.args.q c.args.r come.0 some come.1 c.take_expected.new.self c.take_expected.ensures
 
 pub returns-clause-is : goal.returns-clause-is
 returns-clause-is g c e values count told =
+    let some : 0 < c.args.r = omega (arith, c.if-r-eq0.false) in
     let yes : c.hears.result ≡ true = grind (arith, c.if-not-hears.false) in
     let come = heard_frame c.self.invariant c.self.view_is c.args.q c.args.r (sym c.hears.ensures ∙ yes) in
     let agree : c.agrees.result ≡ true = grind (arith, c.if-not-agrees.false) in
     let fresh : c.is_newest.result ≡ true = grind (arith, c.if-not-is_newest.false) in
-    clean_seen c.self.invariant c.self.view_is c.args.q c.args.r come.0 c.requires.some come.1 (c.is_newest.ensures fresh) c.take_expected.new.self values count (expected_said c.self.invariant c.self.view_is c.args.q c.args.r values come.0 c.requires.some count (c.agrees.ensures agree) told) c.take_expected.ensures
+    clean_seen c.self.invariant c.self.view_is c.args.q c.args.r come.0 some come.1 (c.is_newest.ensures fresh) c.take_expected.new.self values count (expected_said c.self.invariant c.self.view_is c.args.q c.args.r values come.0 some count (c.agrees.ensures agree) told) c.take_expected.ensures
 
 pub returns-clause-paths : goal.returns-clause-paths
 returns-clause-paths g c =
@@ -42,4 +32,8 @@ returns-clause-paths g c =
 
 pub returns-then-not-hears-clause-paths : goal.returns-then-not-hears-clause-paths
 returns-then-not-hears-clause-paths g c =
+    paths_seen c.self.invariant c.self.view_is
+
+pub returns-then-r-eq0-clause-paths : goal.returns-then-r-eq0-clause-paths
+returns-then-r-eq0-clause-paths g c =
     paths_seen c.self.invariant c.self.view_is

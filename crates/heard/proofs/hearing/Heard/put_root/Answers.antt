@@ -1,6 +1,6 @@
-use Rattle.std.proofs.Common.{◌≡◌, true, false, set, refl, sym, ◌∙◌, inl, inr, arith}
-use Rattle.node_grid.specs.NodeSet.{has_id}
-use Rattle.heard.proofs.Methods.{root_seen, root_kept, said_still, member_seen, unheard_root}
+use Rattle.std.proofs.Common.{◌≡◌, true, false, not, set, sym, ◌∙◌, arith}
+use Rattle.std.specs.Prelude.{if◌then◌else◌}
+use Rattle.heard.proofs.Methods.{root_seen, root_kept, said_if, still_if, member_seen, unheard_root}
 use Rattle.heard.proofs.hearing.Heard.put_root.Goals as goal
 
 pub returns-then-not-has : goal.returns-then-not-has
@@ -9,37 +9,21 @@ returns-then-not-has g c =
     unheard_root c.self.invariant c.self.view_is c.args.c c.args.value (sym c.has.ensures ∙ none)
 
 pub put_root-requires : goal.put_root-requires
-put_root-requires g c =
-    let yes : c.has.result ≡ true = grind (arith, c.if-not-has.false) in
-    (omega arith, (sym c.has.ensures ∙ yes, c.requires.small))
-
-pub put_expected-requires : goal.put_expected-requires
-put_expected-requires g c =
-    let yes : c.has.result ≡ true = grind (arith, c.if-not-has.false) in
-    (omega arith, (sym c.has.ensures ∙ yes, c.requires.small))
+put_root-requires g c = (omega arith, c.requires.small)
 
 pub invariant_of-self : goal.invariant_of-self
 invariant_of-self g c =
     let yes : c.has.result ≡ true = grind (arith, c.if-not-has.false) in
     let on = member_seen c.self.invariant c.self.view_is c.args.c (sym c.has.ensures ∙ yes) in
-    root_kept c.self.invariant c.self.view_is c.args.c c.args.value c.put_root.new.self c.self.inside.store.expected on (inl refl) c.put_root.ensures c.requires.small refl c.self.invariant.stored.small_expected
-
-pub returns-then-self : goal.returns-then-self
-returns-then-self g c =
-    let yes : c.has.result ≡ true = grind (arith, c.if-not-has.false) in
-    let on = member_seen c.self.invariant c.self.view_is c.args.c (sym c.has.ensures ∙ yes) in
-    root_seen c.self.invariant c.self.view_is c.args.c c.args.value c.put_root.new.self c.self.inside.store.expected on (inl refl) c.put_root.ensures
-
-pub invariant_of-self-2 : goal.invariant_of-self-2
-invariant_of-self-2 g c =
-    let yes : c.has.result ≡ true = grind (arith, c.if-not-has.false) in
-    let on = member_seen c.self.invariant c.self.view_is c.args.c (sym c.has.ensures ∙ yes) in
-    let store = c.self.inside.store in
-    let still = said_still g.row.N store c.self.invariant.stored c.args.c c.args.value (set store.expected c.args.c c.args.value) c.requires.small refl in
-    root_kept c.self.invariant c.self.view_is c.args.c c.args.value c.put_expected.new.self (set store.expected c.args.c c.args.value) on (inr c.if-self.false) c.put_expected.ensures c.requires.small still.0 still.1
+    let s = c.self.inside in
+    let now = set s.store.expected c.args.c c.args.value in
+    let small = said_if g.row.N s.store c.self.invariant.stored (not s.any_frame) c.args.c c.args.value c.requires.small in
+    root_kept c.self.invariant c.self.view_is c.args.c c.args.value c.put_root.new.self (if not s.any_frame then now else s.store.expected) on (still_if s.store s.any_frame now) c.put_root.ensures c.requires.small small.0 small.1
 
 pub returns : goal.returns
 returns g c =
     let yes : c.has.result ≡ true = grind (arith, c.if-not-has.false) in
     let on = member_seen c.self.invariant c.self.view_is c.args.c (sym c.has.ensures ∙ yes) in
-    root_seen c.self.invariant c.self.view_is c.args.c c.args.value c.put_expected.new.self (set c.self.inside.store.expected c.args.c c.args.value) on (inr c.if-self.false) c.put_expected.ensures
+    let s = c.self.inside in
+    let now = set s.store.expected c.args.c c.args.value in
+    root_seen c.self.invariant c.self.view_is c.args.c c.args.value c.put_root.new.self (if not s.any_frame then now else s.store.expected) on (still_if s.store s.any_frame now) c.put_root.ensures

@@ -4,7 +4,7 @@ use Rattle.heard.proofs.hearing.Heard.start.Goals as goal
 
 pub start-requires : goal.start-requires
 start-requires g c =
-    (omega arith, (omega arith, (low_nodes c.self.invariant c.self.view_is c.args.members.now c.requires.members, low_me c.self.invariant c.self.view_is c.args.me c.requires.me)))
+    (omega arith, (omega arith, record { members = low_nodes c.self.invariant c.self.view_is c.args.members.now c.requires.members; me = low_me c.self.invariant c.self.view_is c.args.me c.requires.me }))
 
 pub invariant_of-self : goal.invariant_of-self
 invariant_of-self g c =

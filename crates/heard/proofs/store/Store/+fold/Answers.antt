@@ -44,7 +44,7 @@ then-requires-clause-off g t c =
     let path = c.args.path.now in
     let here : c.loop-k.k < length c.outside-others.result = omega (arith, c.loop-k-test.true, c.len-count.ensures.count) in
     let o : c.outside-others.result ≡ outside k.members path = c.outside-others.ensures ∙ ap (λ x. outside x.members path) v in
-    let out = has_outside k.members path c.member_at-q.result (ap (λ t. has_id t c.member_at-q.result) (sym o) ∙ ap (has_id c.outside-others.result) c.member_at-q.ensures ∙ has-at c.outside-others.result c.loop-k.k 0 here) in
+    let out = has_outside k.members path c.at-q.result (ap (λ t. has_id t c.at-q.result) (sym o) ∙ ap (has_id c.outside-others.result) c.at-q.ensures ∙ has-at c.outside-others.result c.loop-k.k 0 here) in
     out.1
 
 pub fold-term-requires : goal.fold-term-requires
@@ -56,9 +56,9 @@ fold-term-requires g t c =
     let path = c.args.path.now in
     let here : c.loop-k.k < length c.outside-others.result = omega (arith, c.loop-k-test.true, c.len-count.ensures.count) in
     let o : c.outside-others.result ≡ outside k.members path = c.outside-others.ensures ∙ ap (λ x. outside x.members path) v in
-    let out = has_outside k.members path c.member_at-q.result (ap (λ t. has_id t c.member_at-q.result) (sym o) ∙ ap (has_id c.outside-others.result) c.member_at-q.ensures ∙ has-at c.outside-others.result c.loop-k.k 0 here) in
+    let out = has_outside k.members path c.at-q.result (ap (λ t. has_id t c.at-q.result) (sym o) ∙ ap (has_id c.outside-others.result) c.at-q.ensures ∙ has-at c.outside-others.result c.loop-k.k 0 here) in
     let deep : length path ≤ k.rounds = omega (arith, c.if-len-self.false, c.len.ensures.count, ap (λ x. x.rounds) v) in
-    let l : length c.then.result ≡ length path + 1 = ap length c.then.ensures ∙ length_push path c.member_at-q.result in
+    let l : length c.then.result ≡ length path + 1 = ap length c.then.ensures ∙ length_push path c.at-q.result in
     λ κs e. (
       omega (arith, c.decreases, l, deep),
       (
@@ -67,28 +67,18 @@ fold-term-requires g t c =
           search rules,
           (
             omega arith,
-            (
-              record {
-                within = push_within k.members path c.then.result c.member_at-q.result c.requires.path.within out.0 c.then.ensures;
-                other = ap (λ p. has_id p k.me) c.then.ensures ∙ off_from path c.member_at-q.result k.me c.requires.path.other (λ same. c.if-q-self.false (same ∙ sym (ap (λ x. x.me) v)));
+            record {
+              path = record {
+                within = push_within k.members path c.then.result c.at-q.result c.requires.path.within out.0 c.then.ensures;
+                other = ap (λ p. has_id p k.me) c.then.ensures ∙ off_from path c.at-q.result k.me c.requires.path.other (λ same. c.if-q-self.false (same ∙ sym (ap (λ x. x.me) v)));
                 short = omega (arith, l, deep);
-              },
-              omega (arith, c.loop-k.auto.rest, c.split_at_mut-terms.ensures.back_len, c.requires.room, l, deep),
-            ),
+              };
+              room = omega (arith, c.loop-k.auto.rest, c.split_at_mut-terms.ensures.back_len, c.requires.room, l, deep);
+            },
           ),
         ),
       ),
     )
-
-pub set_value-requires : goal.set_value-requires
-set_value-requires g t c =
-    let s = c.self.inside in
-    let k = c.args.self.now in
-    let v = c.self.view_is in
-    let h : IsStored g.row.N k = subst (IsStored g.row.N) v c.self.invariant in
-    let path = c.args.path.now in
-    let few = few_ids g.row.N c.outside-others.result h.capacity_ok c.len-count.ensures.ids in
-    omega (arith, few, c.len-count.ensures.count, c.loop-k-test.true, c.loop-k.auto.terms, c.split_at_mut-terms.ensures.front_len)
 
 pub loop-k-preserved : goal.loop-k-preserved
 loop-k-preserved g t c =
@@ -100,7 +90,7 @@ loop-k-preserved g t c =
     let deep : length path ≤ k.rounds = omega (arith, c.if-len-self.false, c.len.ensures.count, ap (λ x. x.rounds) v) in
     let x = kept_ear k in
     let f = term_in g.V.PartialEq.eq x (k.rounds - length path) path in
-    let q = c.member_at-q.result in
+    let q = c.at-q.result in
     let few = few_ids g.row.N c.outside-others.result h.capacity_ok c.len-count.ensures.ids in
     let here : c.loop-k.k < length c.outside-others.result = omega (arith, c.loop-k-test.true, c.len-count.ensures.count) in
     let room : c.loop-k.k < length c.loop-k.terms = omega (arith, few, c.len-count.ensures.count, c.loop-k-test.true, c.loop-k.auto.terms, c.split_at_mut-terms.ensures.front_len) in
@@ -113,7 +103,7 @@ loop-k-preserved g t c =
           w.term-is ∙ term_other g.V.PartialEq.eq x (k.rounds - length path) q path w.fold-term.result (λ same. w.if-q-self.false (same ∙ sym (ap (λ y. y.me) v))) (omega arith)
           (w.fold-term.ensures ∙ ap (settled_at g.V.PartialEq.eq x) w.then.ensures)
     ] in
-    ap (take (c.loop-k.k + 1)) c.set_value.ensures ∙ terms_more f c.loop-k.terms c.outside-others.result c.loop-k.k q c.if-q-self.term room here c.member_at-q.ensures c.loop-k.invariant is
+    ap (take (c.loop-k.k + 1)) c.set_value.ensures ∙ terms_more f c.loop-k.terms c.outside-others.result c.loop-k.k q c.if-q-self.term room here c.at-q.ensures c.loop-k.invariant is
 
 pub unwrap-requires : goal.unwrap-requires
 unwrap-requires g t c =

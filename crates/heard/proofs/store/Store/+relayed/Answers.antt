@@ -8,6 +8,19 @@ use Rattle.heard.specs.Places.{small_more, frames_before-few, front-listed}
 use Rattle.heard.proofs.Readings.{node_low, nodes_few, base_low, base_read, read_clean, read_none, cell_low, read_odd, front_others, relayed_small, said_small, first_low}
 use Rattle.heard.proofs.store.Store.+relayed.Goals as goal
 
+pub frame_at-requires : goal.frame_at-requires
+frame_at-requires g t c =
+    let s = c.self.inside in
+    let k = c.args.self.now in
+    let v = c.self.view_is in
+    let h : IsStored g.row.N k = subst (IsStored g.row.N) v c.self.invariant in
+    let long : length c.args.path.now ≡ c.len-r.result - 1 + 1 = omega (arith, c.len-r.ensures.count, c.len-r.ensures.some) in
+    record {
+      nodes = omega (arith, nodes_few g.row.N k h, ap (λ x. x.nodes) v);
+      short = omega (arith, c.len-r.ensures.few);
+      node = omega (arith, c.at-q.ensures, node_low g.row.N k h c.args.path.now (c.len-r.result - 1) (omega arith) c.requires.within, ap (λ x. x.nodes) v);
+    }
+
 pub index-requires : goal.index-requires
 index-requires g t c =
     let s = c.self.inside in
@@ -43,14 +56,15 @@ index-requires-then-has g t c =
     let h : IsStored g.row.N k = subst (IsStored g.row.N) v c.self.invariant in
     omega (arith, base_low g.row.N k h c.args.path.now c.len-r.ensures.distinct (omega (arith, c.len-r.ensures.count, c.len-r.ensures.some)) c.requires.within c.requires.short c.at-c.result c.at-c.ensures, ap (λ x. length x.expected) v, s.expected.ok.0)
 
-pub wrapped_by-requires-clause-small : goal.wrapped_by-requires-clause-small
-wrapped_by-requires-clause-small g t c =
+pub wrapped_by-requires : goal.wrapped_by-requires
+wrapped_by-requires g t c =
     let s = c.self.inside in
     let k = c.args.self.now in
     let v = c.self.view_is in
     let h : IsStored g.row.N k = subst (IsStored g.row.N) v c.self.invariant in
-    subst (IsSmall 3) (sym (base_read g.row.N k h c.args.path.now c.len-r.ensures.distinct (omega (arith, c.len-r.ensures.count, c.len-r.ensures.some)) c.requires.within c.requires.short c.at-c.result c.index-then-has.result.now c.at-c.ensures (c.index-then-has.ensures ∙ ap (λ x. get_or x.expected c.at-c.result c.index-then-has.result.now) v)))
-    (said_small g.row.N k h (first_node c.args.path.now) (first_low g.row.N k h c.args.path.now (omega (arith, c.len-r.ensures.count, c.len-r.ensures.some)) c.requires.within))
+    small_more 3 (255 - (c.len-r.result - 1)) c.index-then-has.result.now (omega (arith, c.len-r.ensures.few))
+    (subst (IsSmall 3) (sym (base_read g.row.N k h c.args.path.now c.len-r.ensures.distinct (omega (arith, c.len-r.ensures.count, c.len-r.ensures.some)) c.requires.within c.requires.short c.at-c.result c.index-then-has.result.now c.at-c.ensures (c.index-then-has.ensures ∙ ap (λ x. get_or x.expected c.at-c.result c.index-then-has.result.now) v)))
+    (said_small g.row.N k h (first_node c.args.path.now) (first_low g.row.N k h c.args.path.now (omega (arith, c.len-r.ensures.count, c.len-r.ensures.some)) c.requires.within)))
 
 pub returns-then-has-clause-is : goal.returns-then-has-clause-is
 returns-then-has-clause-is g t c =
@@ -63,7 +77,7 @@ returns-then-has-clause-is g t c =
     read_clean g.row.N k h c.args.path.now c.len-r.ensures.distinct (omega (arith, c.len-r.ensures.count, c.len-r.ensures.some)) c.requires.within c.requires.short (c.len-r.result - 1) c.at-q.result c.index-2.result.now c.index-then-has.result.now c.wrapped_by.result long (omega (arith, c.if-r-eq0.false)) c.at-q.ensures
     (c.index-2.ensures ∙ ap (λ x. get_or x.as_expected (c.len-r.result - 1) c.index-2.result.now) v) (sym c.has.ensures ∙ c.if-has.true)
     (base_read g.row.N k h c.args.path.now c.len-r.ensures.distinct (omega (arith, c.len-r.ensures.count, c.len-r.ensures.some)) c.requires.within c.requires.short c.at-c.result c.index-then-has.result.now c.at-c.ensures (c.index-then-has.ensures ∙ ap (λ x. get_or x.expected c.at-c.result c.index-then-has.result.now) v))
-    c.wrapped_by.ensures.wrapped ∙ ap (λ (n : ℕ). relayed k n (get_or c.args.path.now n 0) c.args.path.now) back
+    c.wrapped_by.ensures ∙ ap (λ (n : ℕ). relayed k n (get_or c.args.path.now n 0) c.args.path.now) back
 
 pub relayed-requires : goal.relayed-requires
 relayed-requires g t c κs within =
@@ -73,7 +87,7 @@ relayed-requires g t c κs within =
     let h : IsStored g.row.N k = subst (IsStored g.row.N) v c.self.invariant in
     let long : length c.args.path.now ≡ c.len-r.result - 1 + 1 = omega (arith, c.len-r.ensures.count, c.len-r.ensures.some) in
     let fl : length c.args.path.now - 1 ≡ c.len-r.result - 1 = omega (arith, c.len-r.ensures.count) in
-    let front = c.front_of.ensures in
+    let front = (c.front_of.ensures (omega (arith, c.len-r.ensures.count, c.len-r.ensures.some, c.if-r-eq0.false))) in
     let listed = front-listed k.members c.args.path.now (c.len-r.result - 1) (omega arith) c.len-r.ensures.distinct c.requires.within in
     let size : length c.front_of.result ≡ length c.args.path.now - 1 = ap length front ∙ length-take-le (length c.args.path.now - 1) c.args.path.now (omega arith) in (
       omega (arith, size),
@@ -83,10 +97,10 @@ relayed-requires g t c κs within =
           search rules,
           (
             omega arith,
-            (
-              λ q on. has-of-without k.members (get_or c.args.path.now (c.len-r.result - 1) 0) q (listed.within q (ap (λ xs. has_id xs q) (sym (front ∙ ap (λ (n : ℕ). take n c.args.path.now) fl)) ∙ on)),
-              omega (arith, size, c.requires.short),
-            ),
+            record {
+              within = λ q on. has-of-without k.members (get_or c.args.path.now (c.len-r.result - 1) 0) q (listed.within q (ap (λ xs. has_id xs q) (sym (front ∙ ap (λ (n : ℕ). take n c.args.path.now) fl)) ∙ on));
+              short = omega (arith, size, c.requires.short);
+            },
           ),
         ),
       ),
@@ -103,8 +117,8 @@ returns-then-not-has-clause-is g t c =
     read_none g.row.N k h c.args.path.now c.len-r.ensures.distinct (omega (arith, c.len-r.ensures.count, c.len-r.ensures.some)) c.requires.within c.requires.short (c.len-r.result - 1) c.at-q.result c.index-2.result.now c.index-3.result.now c.index-4.result.now (Fault 0) long (omega (arith, c.if-r-eq0.false)) c.at-q.ensures
     (c.index-2.ensures ∙ ap (λ x. get_or x.as_expected (c.len-r.result - 1) c.index-2.result.now) v) (sym c.has.ensures ∙ c.if-has.false) (c.index-3.ensures ∙ ap (λ x. get_or x.echoes (c.len-r.result - 1) c.index-3.result.now) v) (sym c.has-2.ensures ∙ c.if-has-2.false) (c.index-4.ensures ∙ ap (λ x. get_or x.in_cells (c.len-r.result - 1) c.index-4.result.now) v) (sym c.has-3.ensures ∙ c.if-not-has.true) refl ∙ ap (λ (n : ℕ). relayed k n (get_or c.args.path.now n 0) c.args.path.now) back
 
-pub cut-requires : goal.cut-requires
-cut-requires g t c =
+pub without-others-requires : goal.without-others-requires
+without-others-requires g t c =
     let s = c.self.inside in
     let k = c.args.self.now in
     let v = c.self.view_is in
@@ -114,15 +128,6 @@ cut-requires g t c =
     let n = h.nodes_ok in
     (omega arith, omega (arith, c.at-q.ensures))
 
-pub frame_at-requires-clause-node : goal.frame_at-requires-clause-node
-frame_at-requires-clause-node g t c =
-    let s = c.self.inside in
-    let k = c.args.self.now in
-    let v = c.self.view_is in
-    let h : IsStored g.row.N k = subst (IsStored g.row.N) v c.self.invariant in
-    let long : length c.args.path.now ≡ c.len-r.result - 1 + 1 = omega (arith, c.len-r.ensures.count, c.len-r.ensures.some) in
-    omega (arith, c.at-q.ensures, node_low g.row.N k h c.args.path.now (c.len-r.result - 1) (omega arith) c.requires.within, ap (λ x. x.nodes) v)
-
 pub rank-requires : goal.rank-requires
 rank-requires g t c =
     let s = c.self.inside in
@@ -131,7 +136,7 @@ rank-requires g t c =
     let h : IsStored g.row.N k = subst (IsStored g.row.N) v c.self.invariant in
     let long : length c.args.path.now ≡ c.len-r.result - 1 + 1 = omega (arith, c.len-r.ensures.count, c.len-r.ensures.some) in
     let fl : length c.args.path.now - 1 ≡ c.len-r.result - 1 = omega (arith, c.len-r.ensures.count) in
-    (omega arith, (h.capacity_ok, front_others g.row.N k h c.args.path.now c.len-r.ensures.distinct (omega (arith, c.len-r.ensures.count, c.len-r.ensures.some)) c.requires.within c.requires.short (c.len-r.result - 1) c.at-q.result c.cut.new.self c.front_of-2.result long c.at-q.ensures (c.cut.ensures ∙ ap (λ x. without_id x.members c.at-q.result) v) (c.front_of-2.ensures ∙ ap (λ (n : ℕ). take n c.args.path.now) fl)))
+    (omega arith, (h.capacity_ok, front_others g.row.N k h c.args.path.now c.len-r.ensures.distinct (omega (arith, c.len-r.ensures.count, c.len-r.ensures.some)) c.requires.within c.requires.short (c.len-r.result - 1) c.at-q.result c.without-others.result c.front_of-2.result long c.at-q.ensures (c.without-others.ensures ∙ ap (λ x. without_id x.members c.at-q.result) v) ((c.front_of-2.ensures (omega (arith, c.len-r.ensures.count, c.len-r.ensures.some, c.if-r-eq0.false))) ∙ ap (λ (n : ℕ). take n c.args.path.now) fl)))
 
 pub overflow_add-frame_at : goal.overflow_add-frame_at
 overflow_add-frame_at g t c =
@@ -141,7 +146,7 @@ overflow_add-frame_at g t c =
     let h : IsStored g.row.N k = subst (IsStored g.row.N) v c.self.invariant in
     let long : length c.args.path.now ≡ c.len-r.result - 1 + 1 = omega (arith, c.len-r.ensures.count, c.len-r.ensures.some) in
     let fl : length c.args.path.now - 1 ≡ c.len-r.result - 1 = omega (arith, c.len-r.ensures.count) in
-    let low = cell_low g.row.N k h c.args.path.now c.len-r.ensures.distinct (omega (arith, c.len-r.ensures.count, c.len-r.ensures.some)) c.requires.within c.requires.short (c.len-r.result - 1) c.at-q.result c.frame_at.result c.rank.result c.cut.new.self c.front_of-2.result long c.at-q.ensures (c.frame_at.ensures.begins ∙ ap (λ x. frame_at x.nodes (c.len-r.result - 1) c.at-q.result) v) (c.cut.ensures ∙ ap (λ x. without_id x.members c.at-q.result) v) (c.front_of-2.ensures ∙ ap (λ (n : ℕ). take n c.args.path.now) fl) c.rank.ensures.place in
+    let low = cell_low g.row.N k h c.args.path.now c.len-r.ensures.distinct (omega (arith, c.len-r.ensures.count, c.len-r.ensures.some)) c.requires.within c.requires.short (c.len-r.result - 1) c.at-q.result c.frame_at.result c.rank.result c.without-others.result c.front_of-2.result long c.at-q.ensures (c.frame_at.ensures.begins ∙ ap (λ x. frame_at x.nodes (c.len-r.result - 1) c.at-q.result) v) (c.without-others.ensures ∙ ap (λ x. without_id x.members c.at-q.result) v) ((c.front_of-2.ensures (omega (arith, c.len-r.ensures.count, c.len-r.ensures.some, c.if-r-eq0.false))) ∙ ap (λ (n : ℕ). take n c.args.path.now) fl) c.rank.ensures.place in
     omega (arith, low, h.cells_ok, frames_before-few k.nodes (k.rounds + 1) (nodes_few g.row.N k h) (omega (arith, h.rounds_ok)))
 
 pub index-requires-5 : goal.index-requires-5
@@ -152,7 +157,7 @@ index-requires-5 g t c =
     let h : IsStored g.row.N k = subst (IsStored g.row.N) v c.self.invariant in
     let long : length c.args.path.now ≡ c.len-r.result - 1 + 1 = omega (arith, c.len-r.ensures.count, c.len-r.ensures.some) in
     let fl : length c.args.path.now - 1 ≡ c.len-r.result - 1 = omega (arith, c.len-r.ensures.count) in
-    omega (arith, cell_low g.row.N k h c.args.path.now c.len-r.ensures.distinct (omega (arith, c.len-r.ensures.count, c.len-r.ensures.some)) c.requires.within c.requires.short (c.len-r.result - 1) c.at-q.result c.frame_at.result c.rank.result c.cut.new.self c.front_of-2.result long c.at-q.ensures (c.frame_at.ensures.begins ∙ ap (λ x. frame_at x.nodes (c.len-r.result - 1) c.at-q.result) v) (c.cut.ensures ∙ ap (λ x. without_id x.members c.at-q.result) v) (c.front_of-2.ensures ∙ ap (λ (n : ℕ). take n c.args.path.now) fl) c.rank.ensures.place, ap (λ x. length x.cells) v, s.cells.ok.0)
+    omega (arith, cell_low g.row.N k h c.args.path.now c.len-r.ensures.distinct (omega (arith, c.len-r.ensures.count, c.len-r.ensures.some)) c.requires.within c.requires.short (c.len-r.result - 1) c.at-q.result c.frame_at.result c.rank.result c.without-others.result c.front_of-2.result long c.at-q.ensures (c.frame_at.ensures.begins ∙ ap (λ x. frame_at x.nodes (c.len-r.result - 1) c.at-q.result) v) (c.without-others.ensures ∙ ap (λ x. without_id x.members c.at-q.result) v) ((c.front_of-2.ensures (omega (arith, c.len-r.ensures.count, c.len-r.ensures.some, c.if-r-eq0.false))) ∙ ap (λ (n : ℕ). take n c.args.path.now) fl) c.rank.ensures.place, ap (λ x. length x.cells) v, s.cells.ok.0)
 
 pub returns-clause-is : goal.returns-clause-is
 returns-clause-is g t c =
@@ -163,22 +168,24 @@ returns-clause-is g t c =
     let back : c.len-r.result - 1 ≡ length c.args.path.now - 1 = omega (arith, c.len-r.ensures.count) in
     let long : length c.args.path.now ≡ c.len-r.result - 1 + 1 = omega (arith, c.len-r.ensures.count, c.len-r.ensures.some) in
     let fl : length c.args.path.now - 1 ≡ c.len-r.result - 1 = omega (arith, c.len-r.ensures.count) in
-    read_odd g.row.N k h c.args.path.now c.len-r.ensures.distinct (omega (arith, c.len-r.ensures.count, c.len-r.ensures.some)) c.requires.within c.requires.short (c.len-r.result - 1) c.at-q.result c.frame_at.result c.rank.result c.cut.new.self c.front_of-2.result c.index-2.result.now c.index-3.result.now c.index-4.result.now c.index-5.result.now long (omega (arith, c.if-r-eq0.false)) c.at-q.ensures
-    (c.frame_at.ensures.begins ∙ ap (λ x. frame_at x.nodes (c.len-r.result - 1) c.at-q.result) v) (c.cut.ensures ∙ ap (λ x. without_id x.members c.at-q.result) v) (c.front_of-2.ensures ∙ ap (λ (n : ℕ). take n c.args.path.now) fl) c.rank.ensures.place
+    read_odd g.row.N k h c.args.path.now c.len-r.ensures.distinct (omega (arith, c.len-r.ensures.count, c.len-r.ensures.some)) c.requires.within c.requires.short (c.len-r.result - 1) c.at-q.result c.frame_at.result c.rank.result c.without-others.result c.front_of-2.result c.index-2.result.now c.index-3.result.now c.index-4.result.now c.index-5.result.now long (omega (arith, c.if-r-eq0.false)) c.at-q.ensures
+    (c.frame_at.ensures.begins ∙ ap (λ x. frame_at x.nodes (c.len-r.result - 1) c.at-q.result) v) (c.without-others.ensures ∙ ap (λ x. without_id x.members c.at-q.result) v) ((c.front_of-2.ensures (omega (arith, c.len-r.ensures.count, c.len-r.ensures.some, c.if-r-eq0.false))) ∙ ap (λ (n : ℕ). take n c.args.path.now) fl) c.rank.ensures.place
     (c.index-2.ensures ∙ ap (λ x. get_or x.as_expected (c.len-r.result - 1) c.index-2.result.now) v) (sym c.has.ensures ∙ c.if-has.false) (c.index-3.ensures ∙ ap (λ x. get_or x.echoes (c.len-r.result - 1) c.index-3.result.now) v) (sym c.has-2.ensures ∙ c.if-has-2.false)
     (c.index-4.ensures ∙ ap (λ x. get_or x.in_cells (c.len-r.result - 1) c.index-4.result.now) v) (sym c.has-3.ensures ∙ c.if-not-has.false) (c.index-5.ensures ∙ ap (λ x. get_or x.cells (c.frame_at.result + c.rank.result) c.index-5.result.now) v) ∙ ap (λ (n : ℕ). relayed k n (get_or c.args.path.now n 0) c.args.path.now) back
 
+pub returns-then-has-clause-small : goal.returns-then-has-clause-small
+returns-then-has-clause-small g t c =
+    let k = c.args.self.now in
+    let h : IsStored g.row.N k = subst (IsStored g.row.N) c.self.view_is c.self.invariant in
+    let s : ℕ = length c.args.path.now - 1 in
+    subst (IsSmall (2 + length c.args.path.now)) (sym (returns-then-has-clause-is g t c)) (small_more (3 + s) (2 + length c.args.path.now) _ (omega (arith, c.len-r.ensures.count, c.len-r.ensures.some))
+    (relayed_small g.row.N k h s c.args.path.now (omega (arith, c.len-r.ensures.count, c.len-r.ensures.some)) (omega (arith, c.requires.short)) c.len-r.ensures.distinct c.requires.within))
+
 pub returns-clause-small : goal.returns-clause-small
 returns-clause-small g t c =
-    let s = c.self.inside in
     let k = c.args.self.now in
-    let v = c.self.view_is in
-    let h : IsStored g.row.N k = subst (IsStored g.row.N) v c.self.invariant in
-    let long : length c.args.path.now ≡ c.len-r.result - 1 + 1 = omega (arith, c.len-r.ensures.count, c.len-r.ensures.some) in
-    let fl : length c.args.path.now - 1 ≡ c.len-r.result - 1 = omega (arith, c.len-r.ensures.count) in
-    let is : c.index-5.result.now ≡ relayed k (c.len-r.result - 1) (get_or c.args.path.now (c.len-r.result - 1) 0) c.args.path.now =
-    read_odd g.row.N k h c.args.path.now c.len-r.ensures.distinct (omega (arith, c.len-r.ensures.count, c.len-r.ensures.some)) c.requires.within c.requires.short (c.len-r.result - 1) c.at-q.result c.frame_at.result c.rank.result c.cut.new.self c.front_of-2.result c.index-2.result.now c.index-3.result.now c.index-4.result.now c.index-5.result.now long (omega (arith, c.if-r-eq0.false)) c.at-q.ensures
-    (c.frame_at.ensures.begins ∙ ap (λ x. frame_at x.nodes (c.len-r.result - 1) c.at-q.result) v) (c.cut.ensures ∙ ap (λ x. without_id x.members c.at-q.result) v) (c.front_of-2.ensures ∙ ap (λ (n : ℕ). take n c.args.path.now) fl) c.rank.ensures.place
-    (c.index-2.ensures ∙ ap (λ x. get_or x.as_expected (c.len-r.result - 1) c.index-2.result.now) v) (sym c.has.ensures ∙ c.if-has.false) (c.index-3.ensures ∙ ap (λ x. get_or x.echoes (c.len-r.result - 1) c.index-3.result.now) v) (sym c.has-2.ensures ∙ c.if-has-2.false)
-    (c.index-4.ensures ∙ ap (λ x. get_or x.in_cells (c.len-r.result - 1) c.index-4.result.now) v) (sym c.has-3.ensures ∙ c.if-not-has.false) (c.index-5.ensures ∙ ap (λ x. get_or x.cells (c.frame_at.result + c.rank.result) c.index-5.result.now) v) in
-    subst (IsSmall (2 + length c.args.path.now)) (sym is) (small_more (3 + (c.len-r.result - 1)) (2 + length c.args.path.now) _ (omega arith) (relayed_small g.row.N k h (c.len-r.result - 1) c.args.path.now long (omega (arith, c.requires.short)) c.len-r.ensures.distinct c.requires.within))
+    let h : IsStored g.row.N k = subst (IsStored g.row.N) c.self.view_is c.self.invariant in
+    let s : ℕ = length c.args.path.now - 1 in
+    subst (IsSmall (2 + length c.args.path.now)) (sym (returns-clause-is g t c))
+    (small_more (3 + s) (2 + length c.args.path.now) _ (omega (arith, c.len-r.ensures.count, c.len-r.ensures.some))
+    (relayed_small g.row.N k h s c.args.path.now (omega (arith, c.len-r.ensures.count, c.len-r.ensures.some)) (omega (arith, c.requires.short)) c.len-r.ensures.distinct c.requires.within))

@@ -13,6 +13,10 @@ returns-then-has-clause-hit g c =
     let was : c.index-doubted-c.result ≡ set_at a.doubted.now a.c = c.index-doubted-c.is ∙ get_or_default a.doubted.now a.c c.index-doubted-c.result [] c.requires.low in
     λ j above below. sender_doubted a.self.now.me f.relays f.sender f.others f.values.now a.doubted.now a.doubted.now a.c a.from j a.expected c.index-doubted-c.result refl was (sym c.has.ensures ∙ c.if-has.true) c.requires.block.paths above below
 
+pub relays_of-found-requires : goal.relays_of-found-requires
+relays_of-found-requires g c =
+    (omega arith, (omega arith, (omega arith, record { behind = omega (arith, c.if-frame-gt1.true); block = c.requires.block })))
+
 pub returns-then-len-self-clause-hit : goal.returns-then-len-self-clause-hit
 returns-then-len-self-clause-hit g c =
     let a = c.args in
@@ -29,8 +33,8 @@ pub returns-clause-hit : goal.returns-clause-hit
 returns-clause-hit g c =
     let a = c.args in
     let f = a.frame.now in
-    λ j above below. sender_blamed g.row.N a.self.now.me f.relays f.sender f.others f.values.now a.doubted.now c.put_doubt.new.doubted a.c a.from j a.expected f.fits.sender c.requires.low c.put_doubt.ensures c.requires.block.paths above below
+    λ j above below. sender_blamed g.row.N a.self.now.me f.relays f.sender f.others f.values.now a.doubted.now c.put_node.new.sets a.c a.from j a.expected f.fits.sender c.requires.low c.put_node.ensures c.requires.block.paths above below
 
 pub returns-clause-more : goal.returns-clause-more
 returns-clause-more g c =
-    put_more g.row.N c.args.doubted.now c.put_doubt.new.doubted c.args.c c.args.frame.now.sender c.requires.low c.put_doubt.ensures
+    put_more g.row.N c.args.doubted.now c.put_node.new.sets c.args.c c.args.frame.now.sender c.requires.low c.put_node.ensures

@@ -16,10 +16,10 @@ invariant_of-result g c =
       fits = record {
         few_others = few_ids g.row.N c.without-others.result h.capacity_ok c.len-ids.ensures.ids;
         sender = member_in g.row.N k h c.args.q c.requires.sender;
-        some = c.requires.round.0;
-        few = omega (arith, c.requires.round.1, h.rounds_ok);
+        some = c.requires.some;
+        few = omega (arith, c.requires.short, h.rounds_ok);
         others_ok = c.len-ids.ensures.ids;
-        count_ok = frame_count g.row.N k h c.args.q c.requires.sender c.args.r (length c.args.values.now) c.without-others.result o c.requires.count;
+        count_ok = frame_count g.row.N k h c.args.q c.requires.sender c.args.r (length c.args.values.now) c.without-others.result o c.requires.count_ok;
       };
     }
 
@@ -31,8 +31,9 @@ returns-clause-is g c =
     let h : IsStored g.row.N k = subst (IsStored g.row.N) v c.self.invariant in
     record {
       sender = c.requires.sender;
-      some = c.requires.round.0;
-      short = c.requires.round.1;
+      some = c.requires.some;
+      short = c.requires.short;
       others_are = c.without-others.ensures ∙ ap (λ x. without_id x.members c.args.q) v;
-      count_ok = c.requires.count;
+      count_ok = c.requires.count_ok;
+      small = c.requires.small;
     }

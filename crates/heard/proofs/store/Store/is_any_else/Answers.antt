@@ -10,7 +10,7 @@ loop-i-preserved g c =
     let a = c.args in
     let x = get_or a.next.now c.loop-i.i 0 in
     hit_next (λ j. get_or a.next.now j 0 ≢ a.self.now.me → has_id a.doubted.now (get_or a.next.now j 0) ≡ false → get_or a.frame.now.values.now (a.at + j) (Fault 0) ≡ a.expected) c.loop-i.i c.loop-i.invariant
-    (λ ne off. c.is_else.ensures c.if-is_else.false (λ e. ne (sym c.member_at-x.ensures ∙ e)) (ap (has_id a.doubted.now) c.member_at-x.ensures ∙ off))
+    (λ ne off. c.is_else.ensures c.if-is_else.false (λ e. ne (sym c.at-x.ensures ∙ e)) (ap (has_id a.doubted.now) c.at-x.ensures ∙ off))
 
 pub overflow_add-at : goal.overflow_add-at
 overflow_add-at g c =

@@ -16,39 +16,33 @@ count_paths-k-end-requires-clause-nodes g c =
     let k = c.args.self.now in
     let v = c.self.view_is in
     let h : IsStored g.row.N k = subst (IsStored g.row.N) v c.self.invariant in
-    let some = c.requires.round.0 in
-    let short = c.requires.round.1 in
-    let others : c.cut.new.self ≡ without_id k.members c.args.q = c.cut.ensures ∙ ap (λ x. without_id x.members c.args.q) v in
-    omega (arith, few_ids g.row.N c.cut.new.self h.capacity_ok c.len.ensures.ids, c.len.ensures.count)
+    let others : c.without-others.result ≡ without_id k.members c.args.q = c.without-others.ensures ∙ ap (λ x. without_id x.members c.args.q) v in
+    omega (arith, few_ids g.row.N c.without-others.result h.capacity_ok c.len.ensures.ids, c.len.ensures.count)
 
 pub loop-k-init : goal.loop-k-init
 loop-k-init g c =
     let k = c.args.self.now in
     let v = c.self.view_is in
     let h : IsStored g.row.N k = subst (IsStored g.row.N) v c.self.invariant in
-    let some = c.requires.round.0 in
-    let short = c.requires.round.1 in
-    let others : c.cut.new.self ≡ without_id k.members c.args.q = c.cut.ensures ∙ ap (λ x. without_id x.members c.args.q) v in
-    record { same = refl; laid = laid_none g.row.N k h c.args.r c.args.q some short c.requires.sender }
+    let others : c.without-others.result ≡ without_id k.members c.args.q = c.without-others.ensures ∙ ap (λ x. without_id x.members c.args.q) v in
+    record { same = refl; laid = laid_none g.row.N k h c.args.r c.args.q c.requires.round.0 c.requires.round.1 c.requires.sender }
 
 pub relayed-requires : goal.relayed-requires
 relayed-requires g c =
     let k = c.args.self.now in
     let v = c.self.view_is in
     let h : IsStored g.row.N k = subst (IsStored g.row.N) v c.self.invariant in
-    let some = c.requires.round.0 in
-    let short = c.requires.round.1 in
-    let others : c.cut.new.self ≡ without_id k.members c.args.q = c.cut.ensures ∙ ap (λ x. without_id x.members c.args.q) v in
+    let others : c.without-others.result ≡ without_id k.members c.args.q = c.without-others.ensures ∙ ap (λ x. without_id x.members c.args.q) v in
     let total : c.count_paths-k-end.result ≡ path_count (length (without_id k.members c.args.q)) c.args.r = c.count_paths-k-end.ensures.product ∙ ap (λ (n : ℕ). path_count n c.args.r) (c.len.ensures.count ∙ ap length others) in
     let inv = c.loop-k.invariant in
     let low : c.loop-k.k < path_count (length (without_id k.members c.args.q)) c.args.r = omega (arith, c.loop-k-test.true) in
     let path : c.unrank.result ≡ path_at (paths_of_length (without_id k.members c.args.q) c.args.r) c.loop-k.k = c.unrank.ensures.path ∙ ap (λ (xs : List ℕ). path_at (paths_of_length xs c.args.r) c.loop-k.k) others in
-    let listed : IsListed (without_id k.members c.args.q) c.args.r c.unrank.result = subst (IsListed (without_id k.members c.args.q) c.args.r) (sym path) (path_real g.row.N k h c.args.r c.args.q some short c.requires.sender c.loop-k.k low) in (
+    let listed : IsListed (without_id k.members c.args.q) c.args.r c.unrank.result = subst (IsListed (without_id k.members c.args.q) c.args.r) (sym path) (path_real g.row.N k h c.args.r c.args.q c.requires.round.0 c.requires.round.1 c.requires.sender c.loop-k.k low) in (
       omega arith,
-      (
-        λ n on. ap (λ x. has_id x.members n) inv.same ∙ has-of-without k.members c.args.q n (listed.within n on),
-        omega (arith, c.unrank.ensures.long, short, ap (λ x. x.rounds) inv.same),
-      ),
+      record {
+        within = λ n on. ap (λ x. has_id x.members n) inv.same ∙ has-of-without k.members c.args.q n (listed.within n on);
+        short = omega (arith, c.unrank.ensures.long, c.requires.round.1, ap (λ x. x.rounds) inv.same);
+      },
     )
 
 pub put_cell-requires : goal.put_cell-requires
@@ -56,24 +50,19 @@ put_cell-requires g c =
     let k = c.args.self.now in
     let v = c.self.view_is in
     let h : IsStored g.row.N k = subst (IsStored g.row.N) v c.self.invariant in
-    let some = c.requires.round.0 in
-    let short = c.requires.round.1 in
-    let others : c.cut.new.self ≡ without_id k.members c.args.q = c.cut.ensures ∙ ap (λ x. without_id x.members c.args.q) v in
+    let others : c.without-others.result ≡ without_id k.members c.args.q = c.without-others.ensures ∙ ap (λ x. without_id x.members c.args.q) v in
     let total : c.count_paths-k-end.result ≡ path_count (length (without_id k.members c.args.q)) c.args.r = c.count_paths-k-end.ensures.product ∙ ap (λ (n : ℕ). path_count n c.args.r) (c.len.ensures.count ∙ ap length others) in
     let inv = c.loop-k.invariant in
     let low : c.loop-k.k < path_count (length (without_id k.members c.args.q)) c.args.r = omega (arith, c.loop-k-test.true) in
     let path : c.unrank.result ≡ path_at (paths_of_length (without_id k.members c.args.q) c.args.r) c.loop-k.k = c.unrank.ensures.path ∙ ap (λ (xs : List ℕ). path_at (paths_of_length xs c.args.r) c.loop-k.k) others in (
       omega arith,
-      (
-        ap (λ x. has_id x.members c.args.q) inv.same ∙ c.requires.sender,
-        (
-          (some, omega (arith, short, ap (λ x. x.rounds) inv.same)),
-          (
-            omega (arith, low, ap (λ (n : ℕ). path_count n c.args.r) (others_many g.row.N k h c.args.r c.args.q some short c.requires.sender), ap (λ x. path_count (length x.members - 1) c.args.r) inv.same),
-            subst (IsSmall (3 + c.args.r)) (sym c.wrap-value.ensures) (small_wrapped (2 + length c.unrank.result) (3 + c.args.r) c.relayed.result (omega (arith, c.unrank.ensures.long)) c.relayed.ensures.small),
-          ),
-        ),
-      ),
+      record {
+        some = c.requires.round.0;
+        short = omega (arith, c.requires.round.1, ap (λ x. x.rounds) inv.same);
+        sender = ap (λ x. has_id x.members c.args.q) inv.same ∙ c.requires.sender;
+        place = omega (arith, low, ap (λ (n : ℕ). path_count n c.args.r) (others_many g.row.N k h c.args.r c.args.q c.requires.round.0 c.requires.round.1 c.requires.sender), ap (λ x. path_count (length x.members - 1) c.args.r) inv.same);
+        small = subst (IsSmall (3 + c.args.r)) (sym c.wrap-value.ensures) (small_wrapped (2 + length c.unrank.result) (3 + c.args.r) c.relayed.result (omega (arith, c.unrank.ensures.long)) c.relayed.ensures.small);
+      },
     )
 
 pub loop-k-preserved : goal.loop-k-preserved
@@ -81,9 +70,7 @@ loop-k-preserved g c =
     let k = c.args.self.now in
     let v = c.self.view_is in
     let h : IsStored g.row.N k = subst (IsStored g.row.N) v c.self.invariant in
-    let some = c.requires.round.0 in
-    let short = c.requires.round.1 in
-    let others : c.cut.new.self ≡ without_id k.members c.args.q = c.cut.ensures ∙ ap (λ x. without_id x.members c.args.q) v in
+    let others : c.without-others.result ≡ without_id k.members c.args.q = c.without-others.ensures ∙ ap (λ x. without_id x.members c.args.q) v in
     let total : c.count_paths-k-end.result ≡ path_count (length (without_id k.members c.args.q)) c.args.r = c.count_paths-k-end.ensures.product ∙ ap (λ (n : ℕ). path_count n c.args.r) (c.len.ensures.count ∙ ap length others) in
     let inv = c.loop-k.invariant in
     let low : c.loop-k.k < path_count (length (without_id k.members c.args.q)) c.args.r = omega (arith, c.loop-k-test.true) in
@@ -99,7 +86,7 @@ loop-k-preserved g c =
       same = now ∙ ap (λ (x : Parts _). record x { cells = set c.loop-k.self.cells (frame_at c.loop-k.self.nodes c.args.r c.args.q + c.loop-k.k) c.wrap-value.result }) inv.same
           ∙ ap (λ (xs : List (Wrapped _)). record k { cells = xs }) (sym (ap (λ x. x.cells) now));
       laid = subst (IsLaidUpTo k c.args.r c.args.q (c.loop-k.k + 1) (without_id k.members c.args.q)) (sym cells)
-          (laid_more g.row.N k h c.args.r c.args.q some short c.requires.sender c.loop-k.self.cells c.loop-k.k low inv.laid c.unrank.result c.relayed.result c.wrap-value.result path value c.wrap-value.ensures);
+          (laid_more g.row.N k h c.args.r c.args.q c.requires.round.0 c.requires.round.1 c.requires.sender c.loop-k.self.cells c.loop-k.k low inv.laid c.unrank.result c.relayed.result c.wrap-value.result path value c.wrap-value.ensures);
     }
 
 pub returns-clause-is : goal.returns-clause-is
@@ -107,9 +94,7 @@ returns-clause-is g c =
     let k = c.args.self.now in
     let v = c.self.view_is in
     let h : IsStored g.row.N k = subst (IsStored g.row.N) v c.self.invariant in
-    let some = c.requires.round.0 in
-    let short = c.requires.round.1 in
-    let others : c.cut.new.self ≡ without_id k.members c.args.q = c.cut.ensures ∙ ap (λ x. without_id x.members c.args.q) v in
+    let others : c.without-others.result ≡ without_id k.members c.args.q = c.without-others.ensures ∙ ap (λ x. without_id x.members c.args.q) v in
     let inv = c.loop-k.invariant in
     let u = c.self-2.inside in
     let w = c.self-2.view_is ∙ inv.same in
@@ -124,9 +109,7 @@ returns-clause-laid g c =
     let k = c.args.self.now in
     let v = c.self.view_is in
     let h : IsStored g.row.N k = subst (IsStored g.row.N) v c.self.invariant in
-    let some = c.requires.round.0 in
-    let short = c.requires.round.1 in
-    let others : c.cut.new.self ≡ without_id k.members c.args.q = c.cut.ensures ∙ ap (λ x. without_id x.members c.args.q) v in
+    let others : c.without-others.result ≡ without_id k.members c.args.q = c.without-others.ensures ∙ ap (λ x. without_id x.members c.args.q) v in
     let total : c.count_paths-k-end.result ≡ path_count (length (without_id k.members c.args.q)) c.args.r = c.count_paths-k-end.ensures.product ∙ ap (λ (n : ℕ). path_count n c.args.r) (c.len.ensures.count ∙ ap length others) in
     let inv = c.loop-k.invariant in
     let w = c.self-2.view_is in

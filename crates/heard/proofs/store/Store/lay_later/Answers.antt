@@ -14,10 +14,10 @@ lay_round-requires g c =
       omega arith,
       (
         omega arith,
-        (
-          (omega (arith, inv.above), omega (arith, c.loop-before-test.true, ap (λ x. x.rounds) l.is, ap (λ x. x.rounds) v)),
-          (omega (arith, c.loop-before.auto.doubted, c.requires.sets, ap (λ x. x.nodes) l.is), inv.hit),
-        ),
+        record {
+          round = (omega (arith, inv.above), omega (arith, c.loop-before-test.true, ap (λ x. x.rounds) l.is, ap (λ x. x.rounds) v));
+          doubted = record { sets = omega (arith, c.loop-before.auto.doubted, c.requires.sets, ap (λ x. x.nodes) l.is); hit = inv.hit };
+        },
       ),
     )
 

@@ -6,10 +6,6 @@ use Rattle.heard.proofs.Readings.{nodes_fit}
 use Rattle.heard.proofs.Methods.{written, same_small}
 use Rattle.heard.proofs.store.Store.start.Goals as goal
 
-pub forget_roots-requires : goal.forget_roots-requires
-forget_roots-requires g c =
-    nodes_fit g.row.N _ c.self.invariant c.as_mut_slice.result.now c.as_mut_slice.ensures.value
-
 pub invariant_of-self : goal.invariant_of-self
 invariant_of-self g c =
     let s = c.self.inside in
@@ -49,27 +45,4 @@ returns-clause-none g c =
     λ r. (ap (λ xs. set_at xs r) (written s.as_expected.items c.as_mut_slice-3.result.now c.clear.new.sets s.as_expected.len s.as_expected.ok.0 c.as_mut_slice-3.ensures.value c.clear.auto.sets) ∙ c.clear.ensures r, ap (λ xs. set_at xs r) (written s.echoes.items c.as_mut_slice-4.result.now c.clear-2.new.sets s.echoes.len s.echoes.ok.0 c.as_mut_slice-4.ensures.value c.clear-2.auto.sets) ∙ c.clear-2.ensures r, ap (λ xs. set_at xs r) (written s.in_cells.items c.as_mut_slice-5.result.now c.clear-3.new.sets s.in_cells.len s.in_cells.ok.0 c.as_mut_slice-5.ensures.value c.clear-3.auto.sets) ∙ c.clear-3.ensures r)
 
 pub returns-clause-stored : goal.returns-clause-stored
-returns-clause-stored g c =
-    let s = c.self.inside in
-    let v = c.self.view_is in
-    let h = c.self.invariant in
-    let cells = written s.cells.items c.as_mut_slice.result.now c.forget_roots.new.cells s.cells.len s.cells.ok.0 c.as_mut_slice.ensures.value c.forget_roots.auto.cells in
-    let expected = written s.expected.items c.as_mut_slice-2.result.now c.forget_roots-2.new.cells s.expected.len s.expected.ok.0 c.as_mut_slice-2.ensures.value c.forget_roots-2.auto.cells in
-    let as_expected = written s.as_expected.items c.as_mut_slice-3.result.now c.clear.new.sets s.as_expected.len s.as_expected.ok.0 c.as_mut_slice-3.ensures.value c.clear.auto.sets in
-    let echoes = written s.echoes.items c.as_mut_slice-4.result.now c.clear-2.new.sets s.echoes.len s.echoes.ok.0 c.as_mut_slice-4.ensures.value c.clear-2.auto.sets in
-    let in_cells = written s.in_cells.items c.as_mut_slice-5.result.now c.clear-3.new.sets s.in_cells.len s.in_cells.ok.0 c.as_mut_slice-5.ensures.value c.clear-3.auto.sets in
-    record {
-      capacity_ok = h.capacity_ok;
-      nodes_ok = h.nodes_ok;
-      rounds_ok = h.rounds_ok;
-      members_ok = c.len-ids.ensures.ids;
-      low = λ q on. omega (arith, c.requires.members q on, ap (λ x. x.nodes) v);
-      me_ok = omega (arith, c.requires.me, ap (λ x. x.nodes) v, h.nodes_ok);
-      as_expected_ok = ap length as_expected ∙ c.clear.auto.sets ∙ ap length c.as_mut_slice-3.ensures.value ∙ h.as_expected_ok;
-      echoes_ok = ap length echoes ∙ c.clear-2.auto.sets ∙ ap length c.as_mut_slice-4.ensures.value ∙ h.echoes_ok;
-      in_cells_ok = ap length in_cells ∙ c.clear-3.auto.sets ∙ ap length c.as_mut_slice-5.ensures.value ∙ h.in_cells_ok;
-      cells_ok = ap length cells ∙ c.forget_roots.auto.cells ∙ ap length c.as_mut_slice.ensures.value ∙ h.cells_ok;
-      small = λ r q i under node inside. subst (IsSmall (3 + r)) (sym (ap (λ xs. get_or xs (frame_at s.nodes r q + i) (Fault 0)) cells)) (c.forget_roots.ensures.small (3 + r) (frame_at s.nodes r q + i) (subst (λ xs. IsSmall (3 + r) (get_or xs (frame_at s.nodes r q + i) (Fault 0))) (sym c.as_mut_slice.ensures.value) (h.small r q i under node inside)));
-      expected_ok = ap length expected ∙ c.forget_roots-2.auto.cells ∙ ap length c.as_mut_slice-2.ensures.value ∙ h.expected_ok;
-      small_expected = same_small _ c.forget_roots-2.new.cells expected (All-from_get_or (IsSmall 3) c.forget_roots-2.new.cells (Fault 0) (λ i low. c.forget_roots-2.ensures.small 3 i (All-get_or (IsSmall 3) c.as_mut_slice-2.result.now i (Fault 0) (omega (arith, c.forget_roots-2.auto.cells)) (same_small c.as_mut_slice-2.result.now s.expected.items c.as_mut_slice-2.ensures.value h.small_expected))));
-    }
+returns-clause-stored g c = invariant_of-self g c
