@@ -12,7 +12,7 @@ ghost use Rattle.heard.specs.Seen.{IsNewest};
 ghost use Rattle.heard.specs.Laid.{IsLaidUpTo, IsLaidOut, IsPut, IsEcho, laid_parts};
 
 use crate::doubts::doubt_of_all;
-use crate::places::{cut_node, has_at, frame_at, front_of, put_node, set_value, wrapped_by};
+use crate::places::{cut_node, frame_at, front_of, has_at, put_node, set_value, wrapped_by};
 use crate::store::Store;
 use crate::value::Value;
 use node_grid::NodeSet;
@@ -61,7 +61,8 @@ impl<V: Value, const N: usize> Store<V, N> {
     fn put_cell(&mut self, q: u8, r: u8, k: usize, value: Wrapped<V>)
         requires { IsPut self.old r q k value }
         ensures { self.new ≡ record self.old {
-            cells = slice_set self.old.cells (frame_at self.old.nodes r q + k) value } }
+          cells = slice_set self.old.cells (frame_at self.old.nodes r q + k) value;
+        } }
     {
         let at = frame_at(self.nodes, r, q) + k;
         set_value(self.cells.as_mut_slice(), at, value);
@@ -90,7 +91,7 @@ impl<V: Value, const N: usize> Store<V, N> {
     fn is_echo(&self, q: u8, r: u8) -> bool
         ensures { result ≡ (has_id self.now.members q &&
             (not (has_id (set_at self.now.as_expected r) q) &&
-                has_id (set_at self.now.echoes r) q)) }
+            has_id (set_at self.now.echoes r) q)) }
     {
         let r = r as usize;
         self.members.has(q) && (!has_at(&self.as_expected, r, q) && has_at(&self.echoes, r, q))

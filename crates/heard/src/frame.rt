@@ -5,8 +5,8 @@ ghost use Rattle.omh_paths.specs.declared.wrapped.Wrapped.TheVariants.{Fault};
 ghost use Rattle.omh_paths.specs.Paths.{path_count};
 ghost use Rattle.heard.specs.Keep.{IsFrame};
 
-use crate::value::Value;
 use crate::places::{are_one, value_at};
+use crate::value::Value;
 use node_grid::NodeSet;
 use omh_paths::{Wrapped, count_paths};
 

@@ -58,13 +58,20 @@ impl<V: Value, const N: usize> Heard<V, N> {
     pub fn open(alloc: Global, nodes: u8, m: u8) -> Result<Heard<V, N>, NoMemory>
         requires { IsSize N nodes m }
         ensures { IfOk result (λ t. t ≡ record {
-            nodes = nodes; rounds = m; members = []; me = 0; full = false; own = Fault 0;
-            heard = nothing_heard [] 0 m }) }
+          nodes = nodes;
+          rounds = m;
+          members = [];
+          me = 0;
+          full = false;
+          own = Fault 0;
+          heard = nothing_heard [] 0 m;
+        }) }
     {
         let Ok(store) = Store::open(alloc, nodes, m) else {
             return Err(NoMemory);
         };
-        let Ok(doubted) = copies(alloc, NodeSet::empty(), nodes as usize) else {
+        let none = NodeSet::empty();
+        let Ok(doubted) = copies(alloc, &none, nodes as usize) else {
             return Err(NoMemory);
         };
         let Ok(scratch) = unheard(alloc, 48) else {
@@ -122,8 +129,14 @@ impl<V: Value, const N: usize> Heard<V, N> {
     pub fn start(&mut self, members: &NodeSet<N>, me: u8, full: bool, own: Wrapped<V>)
         requires { AreNodes self.old.nodes members.now me }
         ensures { self.new ≡ record {
-            nodes = self.old.nodes; rounds = self.old.rounds; members = members.now; me = me;
-            full = full; own = own; heard = nothing_heard members.now me self.old.rounds } }
+          nodes = self.old.nodes;
+          rounds = self.old.rounds;
+          members = members.now;
+          me = me;
+          full = full;
+          own = own;
+          heard = nothing_heard members.now me self.old.rounds;
+        } }
     {
         self.store.start(members, me, full);
         clear(self.doubted.as_mut_slice());
@@ -152,7 +165,7 @@ impl<V: Value, const N: usize> Heard<V, N> {
         requires count { length values.now ≡ path_count (length self.old.members - 1) r }
         requires small { All (IsSmall 3) values.now }
         ensures is { self.new ≡ record self.old {
-            heard = map (with_frame r q (as_written self.old.members q r values.now)) self.old.heard
+          heard = map (with_frame r q (as_written self.old.members q r values.now)) self.old.heard;
         } }
         ensures paths { map (λ e. e.path) self.old.heard ≡
             heard_paths self.old.members self.old.me self.old.rounds }
@@ -198,7 +211,10 @@ impl<V: Value, const N: usize> Heard<V, N> {
         ensures short { r ≤ 3 }
         ensures few { length self.now.members ≤ 16 }
     {
-        count_paths(self.store.members().len().saturating_sub(2), r.saturating_sub(1))
+        count_paths(
+            self.store.members().len().saturating_sub(2),
+            r.saturating_sub(1),
+        )
     }
 
     /// Takes up member `q`'s frame of relay round `r`, whose values are what is expected, without
@@ -207,9 +223,9 @@ impl<V: Value, const N: usize> Heard<V, N> {
         ensures is { result ≡ true → (values : List (Wrapped V)) →
             length values ≡ path_count (length self.old.members - 1) r →
             SaysExpected self.old.me r (without_id self.old.members q) self.old.heard
-                values (length values) →
+            values (length values) →
             self.new ≡ record self.old {
-                heard = map (with_frame r q (as_written self.old.members q r values)) self.old.heard
+              heard = map (with_frame r q (as_written self.old.members q r values)) self.old.heard;
             } }
         ensures left { result ≡ false → self.new ≡ self.old }
         ensures paths { map (λ e. e.path) self.old.heard ≡
@@ -239,9 +255,9 @@ impl<V: Value, const N: usize> Heard<V, N> {
         ensures is { result ≡ true → (values : List (Wrapped V)) →
             length values ≡ path_count (length self.old.members - 1) r →
             SaysEcho self.old.me r (without_id self.old.members q) self.old.heard
-                values (length values) →
+            values (length values) →
             self.new ≡ record self.old {
-                heard = map (with_frame r q (as_written self.old.members q r values)) self.old.heard
+              heard = map (with_frame r q (as_written self.old.members q r values)) self.old.heard;
             } }
         ensures left { result ≡ false → self.new ≡ self.old }
         ensures paths { map (λ e. e.path) self.old.heard ≡

@@ -38,8 +38,9 @@ pub fn frame_at(nodes: u8, r: u8, q: u8) -> usize
 pub fn front_of(path: &Path) -> Path
     ensures { 1 < length path.now → result ≡ take (length path.now - 1) path.now }
 {
+    let last = path.len() - 1;
     let mut front = Path::root(path.at(0));
-    for k in 1..path.len() - 1 {
+    for k in 1..last {
         front = front.then(path.at(k));
     }
     front
@@ -109,14 +110,14 @@ pub fn cut_node<const N: usize>(sets: &mut [NodeSet<N>], place: usize, q: u8)
 /// So many copies of a set.
 pub fn copies<const N: usize>(
     alloc: Global,
-    set: NodeSet<N>,
+    set: &NodeSet<N>,
     len: usize,
 ) -> Result<Vec<NodeSet<N>>, AllocError>
-    ensures { IfOk result (λ v. v.items ≡ replicate len set) }
+    ensures { IfOk result (λ v. v.items ≡ replicate len set.now) }
 {
     let mut sets = Vec::with_capacity(alloc, len)?;
     for _ in 0..len {
-        sets.push(set)?;
+        sets.push(*set)?;
     }
     Ok(sets)
 }

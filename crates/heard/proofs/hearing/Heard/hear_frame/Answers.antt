@@ -17,15 +17,20 @@ frame-frame-requires g c =
     let some : 0 < c.args.r = omega (arith, c.if-r-eq0.false) in
     let yes : c.hears.result ≡ true = grind (arith, c.if-not-hears.false) in
     let come = heard_frame c.self.invariant c.self.view_is c.args.q c.args.r (sym c.hears.ensures ∙ yes) in
-    let laid = later c.self.invariant c.self.view_is c.lay_later.ensures.laid c.lay_later.ensures.stored c.lay_later.ensures.newest c.lay_later.ensures.hit (c.lay_later.auto.doubted ∙ ap length c.as_mut_slice.ensures.value) in
-    (omega arith, (omega arith, record {
-      sender = is_member laid.inv laid.view c.args.q come.0;
-      some = some;
-      short = few_rounds laid.inv laid.view c.args.r come.1;
-      others_are = refl;
-      count_ok = count_is laid.inv laid.view c.args.r c.args.values.now c.requires.count;
-      small = c.requires.small;
-    }))
+    let laid = later c.self.invariant c.self.view_is c.lay_later.ensures.laid c.lay_later.ensures.stored c.lay_later.ensures.newest c.lay_later.ensures.hit (c.lay_later.auto.doubted ∙ ap length c.as_mut_slice.ensures.value) in (
+      omega arith,
+      (
+        omega arith,
+        record {
+          sender = is_member laid.inv laid.view c.args.q come.0;
+          some = some;
+          short = few_rounds laid.inv laid.view c.args.r come.1;
+          others_are = refl;
+          count_ok = count_is laid.inv laid.view c.args.r c.args.values.now c.requires.count;
+          small = c.requires.small;
+        },
+      ),
+    )
 
 pub doubt-deviates-requires : goal.doubt-deviates-requires
 doubt-deviates-requires g c =

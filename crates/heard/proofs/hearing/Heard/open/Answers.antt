@@ -1,9 +1,10 @@
+use Rattle.std.proofs.Common.{replicate, ap, ◌∙◌}
 use Rattle.heard.proofs.Methods.{opened_seen, opened_kept, no_ids}
 use Rattle.heard.proofs.hearing.Heard.open.Goals as goal
 
 pub invariant_of-result : goal.invariant_of-result
 invariant_of-result g c =
-    opened_kept c.args.nodes c.args.m c.in-Ok.store c.in-Ok.ensures g.row.N c.in-Ok-copies.doubted.items c.in-Ok-unheard.scratch.items c.requires.capacity c.requires.nodes c.requires.rounds (no_ids g.row.N) (c.in-Ok-copies.ensures ∙ ap (replicate c.args.nodes) c.in-Ok.empty.ensures) c.in-Ok-unheard.ensures
+    opened_kept c.args.nodes c.args.m c.in-Ok.store c.in-Ok.ensures g.row.N c.in-Ok-copies.doubted.items c.in-Ok-unheard.scratch.items c.requires.capacity c.requires.nodes c.requires.rounds (no_ids g.row.N) (c.in-Ok-copies.ensures ∙ ap (replicate c.args.nodes) c.empty-none.ensures) c.in-Ok-unheard.ensures
 
 pub returns : goal.returns
 returns g c =

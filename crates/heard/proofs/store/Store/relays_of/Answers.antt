@@ -19,12 +19,12 @@ count_paths-width-requires-clause-nodes g c =
 
 pub overflow_mul-at : goal.overflow_mul-at
 overflow_mul-at g c =
-    let fit = line_of c.args.frame.now.fits c.requires c.without-free.ensures (omega (arith, c.saturating_sub.ensures, c.len.ensures.count)) c.count_paths-width.ensures.product (omega (arith, c.loop-j-test.true, c.len-j-end.ensures.count)) in
+    let fit = line_of c.args.frame.now.fits {j = c.loop-j.j} c.requires c.without-free.ensures (omega (arith, c.saturating_sub.ensures, c.len.ensures.count)) c.count_paths-width.ensures.product (omega (arith, c.loop-j-test.true, c.len-j-end.ensures.count)) in
     omega (arith, fit.0, fit.1)
 
 pub overflow_add-at : goal.overflow_add-at
 overflow_add-at g c =
-    let fit = line_of c.args.frame.now.fits c.requires c.without-free.ensures (omega (arith, c.saturating_sub.ensures, c.len.ensures.count)) c.count_paths-width.ensures.product (omega (arith, c.loop-j-test.true, c.len-j-end.ensures.count)) in
+    let fit = line_of c.args.frame.now.fits {j = c.loop-j.j} c.requires c.without-free.ensures (omega (arith, c.saturating_sub.ensures, c.len.ensures.count)) c.count_paths-width.ensures.product (omega (arith, c.loop-j-test.true, c.len-j-end.ensures.count)) in
     omega (arith, fit.0, fit.1)
 
 pub is_blamed-requires : goal.is_blamed-requires
