@@ -1,0 +1,80 @@
+-- What holds of a controller is kept where little of it changes.
+use Rattle.std.proofs.Common.{ℕ, ◌≡◌, ◌≤◌, true, false, List, length, Vec, Global, sym, ap, subst, ◌∙◌, arith}
+use Rattle.std.specs.Prelude.{IsSome, IfSome}
+use Rattle.std.specs.Vec.{with_items}
+use Rattle.std.proofs.lemmas.List.{with_items_is}
+use Rattle.omh_paths.specs.declared.wrapped.Wrapped.{Wrapped}
+use Rattle.slot_plan.specs.declared.slot.Slot.{Slot}
+use Rattle.slot_plan.specs.declared.slot.Slot.TheVariants.{Sync, Claims, Data, Rows}
+use Rattle.frames.specs.Content.{Content, Expectation}
+use Rattle.frames.specs.Content.Content.{State}
+use Rattle.error_detect.specs.Watching.{Watch, closed, opened, delivered}
+use Rattle.agreed_state.specs.declared.config.Config.{Config}
+use Rattle.agreed_state.specs.Body.{body}
+use Rattle.node_core.specs.declared.controller.Buffers.{Buffers}
+use Rattle.node_core.specs.declared.controller.Controller.TheInside.{Inside}
+use Rattle.node_core.specs.Inside.{IsItsWatch, HasRooms, IsGuessed, IsController}
+
+-- ---- the watch
+
+module _ {N : ℕ} (config : Config N) (me : ℕ) (w : Watch) (i : IsItsWatch config me w) where
+  pub watch_shut : (u : Watch) → u ≡ closed w → IsItsWatch config me u
+  watch_shut u e = subst (IsItsWatch config me) (sym e) (record { nodes = i.nodes; me_is = i.me_is; greatest = i.greatest; expects = λ h. absurd (cc) })
+
+  pub watch_open : (u : Watch) (x : Expectation) → u ≡ opened w x → IsItsWatch config me u
+  watch_open u x e = subst (IsItsWatch config me) (sym e) (record { nodes = i.nodes; me_is = i.me_is; greatest = i.greatest; expects = λ h. tt })
+
+  pub watch_given : (u : Watch) (from tick : ℕ) (bytes : List ℕ) → u ≡ delivered w from tick bytes → IsItsWatch config me u
+  watch_given u from tick bytes e = subst (IsItsWatch config me) (sym e) (record { nodes = i.nodes; me_is = i.me_is; greatest = i.greatest; expects = i.expects })
+
+-- no slot is open where the watch was closed
+pub not_open : (w u : Watch) → u ≡ closed w → u.is_open ≡ true → ⊥
+not_open w u e h = let x : u.is_open ≡ false = ap (λ (v : Watch). v.is_open) e in cc
+
+-- ---- what is guessed
+
+-- the guess stands while frames come
+pub guess_stays : {N : ℕ} (x : Slot) (n : Inside N) (u : Watch) → u.expect ≡ n.watch.expect → u.guess ≡ n.watch.guess → IsGuessed x n → IsGuessed x (record n { watch = u })
+guess_stays Sync n u e g h = subst (λ c. IfSome c (λ s. (n.phase.full ≡ true) × IfSome n.kept.state (λ a. s ≡ State (body n.config.now a)))) (sym g) h
+guess_stays (Claims r) n u e g h = λ some x c expects guesses. h some x c (sym e ∙ expects) (sym g ∙ guesses)
+guess_stays Data n u e g h = g ∙ h
+guess_stays (Rows r) n u e g h = λ some x c expects guesses. h some x c (sym e ∙ expects) (sym g ∙ guesses)
+
+-- a frame came
+pub frame_given : {N : ℕ} (n : Inside N) (u : Watch) (from tick : ℕ) (bytes : List ℕ) → u ≡ delivered n.watch from tick bytes → IsController n → IsController (record n { watch = u })
+frame_given n u from tick bytes e inv = record {
+  place = inv.place;
+  slot = inv.slot;
+  watch = watch_given n.config.now n.phase.me n.watch inv.watch u from tick bytes e;
+  kept_notes = inv.kept_notes;
+  notes = inv.notes;
+  rooms = inv.rooms;
+  guessed = λ h. guess_stays n.phase.slot n u (ap (λ (w : Watch). w.expect) e) (ap (λ (w : Watch). w.guess) e) (inv.guessed (sym (ap (λ (w : Watch). w.is_open) e) ∙ h));
+}
+
+-- ---- rooms
+
+rewritten : {X : Type 0} (v : Vec X Global) (xs : List X) → length xs ≡ length v.items → length (with_items v xs).items ≡ length v.items
+rewritten v xs e = ap length (with_items_is v xs (let o = v.ok.0 in omega (arith, e))) ∙ e
+
+-- the entries of a frame were written, or a table
+pub claims_room : {N : ℕ} (nodes m : ℕ) (b : Buffers N) (xs : List (Wrapped ℕ)) → length xs ≡ length b.claims.items → HasRooms nodes m b → HasRooms nodes m (record b { claims = with_items b.claims xs })
+claims_room nodes m b xs e h = record {
+  claims = λ r l. (let x = h.claims r l in let y = rewritten b.claims xs e in omega (arith, x, y));
+  rows = h.rows;
+  table = h.table;
+}
+
+pub rows_room : {N : ℕ} (nodes m : ℕ) (b : Buffers N) (xs : List (Wrapped (List ℕ))) → length xs ≡ length b.rows.items → HasRooms nodes m b → HasRooms nodes m (record b { rows = with_items b.rows xs })
+rows_room nodes m b xs e h = record {
+  claims = h.claims;
+  rows = λ r l. (let x = h.rows r l in let y = rewritten b.rows xs e in omega (arith, x, y));
+  table = h.table;
+}
+
+pub table_room : {N : ℕ} (nodes m : ℕ) (b : Buffers N) (xs : List ℕ) → length xs ≡ length b.table.items → HasRooms nodes m b → HasRooms nodes m (record b { table = with_items b.table xs })
+table_room nodes m b xs e h = record {
+  claims = h.claims;
+  rows = h.rows;
+  table = λ r l. (let x = h.table r l in let y = rewritten b.table xs e in omega (arith, x, y));
+}

@@ -1,0 +1,64 @@
+//! The slots of claims.
+
+ghost use Rattle.std.specs.Prelude.{◌≡◌, ◌+◌, ◌≤◌, true, IfSome};
+ghost use Rattle.node_steps.specs.Sound.{IsSound, HasSizes, Hears};
+ghost use Rattle.node_steps.specs.Steps.{shut, taken, claims_known};
+
+use super::Controller;
+use data_slot::{due_channels, own_values};
+use node_grid::kind::EQUIVOCATE;
+use noting::{note_found, note_verdicts};
+use relaying::{convicted, hear_round, settle_claims};
+
+impl<'c, const N: usize> Controller<'c, N> {
+    /// Closes a slot of claims, and takes what it says, and after the last one what follows from
+    /// the claims.
+    pub(super) fn hear_claims(&mut self, round: u8)
+        requires sound { IsSound self.old }
+        requires open { self.old.phase.is_open ≡ true }
+        requires slot { self.old.phase.slot ≡ 1 + round }
+        requires round { round ≤ self.old.config.m }
+        ensures { self.new ≡ taken (shut self.old) self.old.phase.before }
+    {
+        let found = self.watch.close();
+        if self.phase.before.is_none() {
+            return;
+        }
+        note_found(&mut self.found.notes, &found);
+        hear_round(
+            &mut self.done,
+            self.buffers.claims.as_mut_slice(),
+            &self.watch,
+            round,
+        );
+        if round == self.config.m {
+            self.know_claims();
+        }
+    }
+
+    /// Settles the claims, and takes what follows from them.
+    fn know_claims(&mut self)
+        requires sizes { HasSizes self.old }
+        requires hears { IfSome self.old.phase.before (λ a. Hears self.old.done self.old.phase.me a) }
+        ensures { IfSome self.old.phase.before (λ a. self.new ≡ claims_known self.old a) }
+    {
+        let Some(agreed) = &self.phase.before else {
+            return;
+        };
+        let claims = settle_claims(&mut self.done);
+        let preview = agreed.preview(self.config, &claims);
+        note_verdicts(&mut self.found.notes, &preview.verdicts);
+        let guilty = convicted(&mut self.done);
+        self.found.notes.note_all(&guilty, EQUIVOCATE);
+        self.found.claims = claims;
+        self.found.due = due_channels(self.config, preview.finished_now);
+        self.found.own = own_values(
+            self.config,
+            self.phase.me,
+            self.phase.period,
+            &self.phase.inputs,
+            &self.kept.votes,
+            &self.kept.owns,
+        );
+    }
+}

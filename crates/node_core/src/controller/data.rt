@@ -1,0 +1,45 @@
+//! The slot of values.
+
+ghost use Rattle.std.specs.Prelude.{◌≡◌, ◌+◌, true};
+ghost use Rattle.node_steps.specs.Sound.{IsSound};
+ghost use Rattle.node_steps.specs.Steps.{shut, taken};
+
+use super::Controller;
+use data_slot::DataSlot;
+use noting::note_values;
+use omh_paths::Wrapped;
+
+impl<'c, const N: usize> Controller<'c, N> {
+    /// Closes the data slot: votes on the due channels, notes what is against the others, finishes
+    /// the node's own row, and starts the table of rows.
+    pub(super) fn hear_values(&mut self)
+        requires sound { IsSound self.old }
+        requires open { self.old.phase.is_open ≡ true }
+        requires slot { self.old.phase.slot ≡ self.old.config.m + 2 }
+        ensures { self.new ≡ taken (shut self.old) self.old.phase.before }
+    {
+        let found = self.watch.close();
+        let Some(agreed) = &self.phase.before else {
+            return;
+        };
+        let slot = DataSlot {
+            me: self.phase.me,
+            full: self.phase.full,
+            due: self.found.due.as_slice(),
+            own: &self.found.own,
+        };
+        let voted = slot.vote(&self.watch, self.config, agreed, &self.found.claims);
+        note_values(&mut self.found.notes, &found, &voted.off);
+        if !self.phase.full {
+            self.found.notes.accuse_nobody();
+        }
+        self.found.votes = voted.votes;
+        let row = self.found.notes.row();
+        self.rows.start(
+            &agreed.members,
+            self.phase.me,
+            self.phase.full,
+            Wrapped::Plain(row),
+        );
+    }
+}

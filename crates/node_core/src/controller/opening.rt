@@ -1,0 +1,161 @@
+//! A node before its first period.
+
+ghost use Rattle.std.specs.Prelude.{◌≡◌, ℕ, ◌*◌, ◌+◌, ◌<◌, ◌≤◌, length, replicate, IfOk, None};
+ghost use Rattle.node_grid.specs.Capacity.{IsCapacity};
+ghost use Rattle.node_grid.specs.Version.{kind_count};
+ghost use Rattle.omh_paths.specs.declared.wrapped.Wrapped.TheVariants.{Fault};
+ghost use Rattle.omh_paths.specs.Paths.{path_count};
+ghost use Rattle.frames.specs.Bound.{IsGreatest};
+ghost use Rattle.agreed_state.specs.Body.{state_len};
+ghost use Rattle.agreed_state.specs.Config.{IsConfig};
+ghost use Rattle.node_steps.specs.Fresh.{newly_open};
+ghost use Rattle.node_core.specs.Inside.{HasRooms, none_found};
+
+use super::{Buffers, Controller, Findings, Keeping, Phase};
+use crate::outcome::NodeRecord;
+use agreed_state::{Agreed, Config, Inputs};
+use arrayvec::ArrayVec;
+use error_detect::SlotWatch;
+use error_reports::RowBuilder;
+use heard::Heard;
+use node_grid::{NoMemory, NodeSet};
+use omh_paths::{Wrapped, count_paths};
+use slot_plan::Slot;
+use std::alloc::{AllocError, Global};
+
+/// How many kinds of error a row of this version has room for.
+fn kind_count(version: u8) -> u8
+    ensures count { result ≡ kind_count version }
+    ensures few { result ≤ 16 }
+{
+    if version == 1 { 8 } else { 16 }
+}
+
+/// The most entries that the table of a relay round has among so many nodes, in `m` rounds.
+fn most_entries(nodes: u8, m: u8) -> usize
+    requires nodes { nodes ≤ 16 }
+    requires rounds { m ≤ 3 }
+    ensures most { (r : ℕ) → r ≤ m → path_count nodes r ≤ result }
+    ensures few { result ≤ 65536 }
+{
+    let mut most = 0;
+    for round in 0..m + 1 {
+        let count = count_paths(nodes, round);
+        if most < count {
+            most = count;
+        }
+    }
+    most
+}
+
+/// So many copies of a value.
+pub(crate) fn filled<T: Copy + Drop>(
+    alloc: Global,
+    len: usize,
+    value: T,
+) -> Result<Vec<T>, AllocError>
+    ensures { IfOk result (λ v. v.items ≡ replicate len value) }
+{
+    let mut values = Vec::with_capacity(alloc, len)?;
+    for _ in 0..len {
+        values.push(value)?;
+    }
+    Ok(values)
+}
+
+impl<const N: usize> Buffers<N> {
+    /// Room for the tables of so many nodes, in `m` rounds.
+    fn open(alloc: Global, nodes: u8, m: u8) -> Result<Buffers<N>, NoMemory>
+        requires nodes { nodes ≤ 16 }
+        requires rounds { m ≤ 3 }
+        ensures { IfOk result (λ b. HasRooms nodes m b) }
+    {
+        let most = most_entries(nodes, m);
+        let Ok(claims) = filled(alloc, most, Wrapped::Fault(0)) else {
+            return Err(NoMemory);
+        };
+        let Ok(rows) = filled(alloc, most, Wrapped::Fault(0)) else {
+            return Err(NoMemory);
+        };
+        let Ok(table) = filled(alloc, most * (1 + 2 * nodes as usize), 0) else {
+            return Err(NoMemory);
+        };
+        Ok(Buffers {
+            claims,
+            rows,
+            table,
+        })
+    }
+}
+
+impl<const N: usize> Findings<N> {
+    /// Nothing is found yet in a period that begins with these notes.
+    pub(super) fn none(notes: RowBuilder<N>) -> Findings<N>
+        requires { IsCapacity N }
+        ensures { result ≡ none_found N notes }
+    {
+        Findings {
+            sync: NodeSet::empty(),
+            notes,
+            claims: [Wrapped::Fault(0); N],
+            due: ArrayVec::new(),
+            own: [None; 8],
+            votes: [None; 8],
+        }
+    }
+}
+
+impl<'c, const N: usize> Controller<'c, N> {
+    /// Node `me` before the first period, with room for frames of `frame_max` bytes. No other call
+    /// takes memory.
+    ///
+    /// # Errors
+    ///
+    /// `NoMemory` where its tables can't be had.
+    pub fn open(
+        alloc: Global,
+        config: &'c Config<N>,
+        me: u8,
+        frame_max: usize,
+    ) -> Result<Controller<'c, N>, NoMemory>
+        requires capacity { IsCapacity N }
+        requires config { IsConfig N config.now }
+        requires me { me < config.now.nodes }
+        requires greatest { IsGreatest config.now.nodes config.now.m (state_len config.now) 8 frame_max }
+        ensures { IfOk result (λ p. p ≡ newly_open config.now me frame_max) }
+    {
+        let done = Heard::open(alloc, config.nodes, config.m)?;
+        let rows = Heard::open(alloc, config.nodes, config.m)?;
+        let buffers: Buffers<N> = Buffers::open(alloc, config.nodes, config.m)?;
+        let guess_max = buffers.table.len();
+        let watch = SlotWatch::open(alloc, config.nodes, me, frame_max, guess_max)?;
+        let notes = RowBuilder::new(config.nodes, me, kind_count(config.version));
+        Ok(Controller {
+            config,
+            phase: Phase {
+                me,
+                period: 0,
+                slot: Slot::Sync,
+                is_open: false,
+                inputs: Inputs {
+                    run: [0; 32],
+                    reading: [0; 8],
+                },
+                full: true,
+                before: None,
+            },
+            kept: Keeping {
+                state: Some(Agreed::first(config)),
+                notes,
+                votes: [None; 8],
+                owns: [None; 8],
+            },
+            done,
+            rows,
+            found: Findings::none(notes),
+            watch,
+            outcome: NodeRecord::cold(),
+            buffers,
+        })
+    }
+}
