@@ -9,7 +9,7 @@ ghost use Rattle.frames.specs.Bound.{IsGreatest};
 ghost use Rattle.agreed_state.specs.Body.{state_len};
 ghost use Rattle.agreed_state.specs.Config.{IsConfig};
 ghost use Rattle.node_steps.specs.Fresh.{newly_open};
-ghost use Rattle.node_core.specs.Inside.{HasRooms, none_found};
+ghost use Rattle.node_core.specs.Inside.{HasRooms, found_of, none_found};
 
 use super::{Buffers, Controller, Findings, Keeping, Phase};
 use crate::outcome::NodeRecord;
@@ -92,7 +92,8 @@ impl<const N: usize> Findings<N> {
     /// Nothing is found yet in a period that begins with these notes.
     pub(super) fn none(notes: RowBuilder<N>) -> Findings<N>
         requires { IsCapacity N }
-        ensures { result ≡ none_found N notes }
+        ensures found { found_of result ≡ none_found N notes.entry }
+        ensures notes { result.notes ≡ notes.entry }
     {
         Findings {
             sync: NodeSet::empty(),
