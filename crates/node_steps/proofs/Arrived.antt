@@ -20,7 +20,7 @@ use Rattle.error_detect.specs.declared.finding.Finding.{Finding}
 use Rattle.error_detect.specs.declared.finding.Finding.TheVariants.{Good as GoodFrame, Timing}
 use Rattle.slot_plan.specs.Ticks.{is_in_window}
 use Rattle.error_detect.specs.Finding.{kind_of, finding, told, told_of, found_of}
-use Rattle.error_detect.specs.Watching.{Watch, told_at, finding_at, found_in, told_in, found_by, told_by, of_sender, opened, closed, delivered, HasRoom, nothing, one, too_long, several, Arrival as Box}
+use Rattle.error_detect.specs.Watching.{Watch, told_at, finding_at, found_in, told_in, found_by, told_by, of_sender, opened, closed, HasRoom, nothing, one, too_long, several, Arrival as Box}
 use Rattle.error_detect.specs.Multiset.{Arriving, from_sender, all_delivered, FindsEach}
 use Rattle.protocol.specs.Arrival.{arrived, arrival}
 use Rattle.protocol.specs.Heard.{Rounds, paths_of, heard}

@@ -15,12 +15,12 @@ use Rattle.agreed_state.specs.declared.config.Config.{Config}
 use Rattle.agreed_state.specs.declared.config.Inputs.{Inputs}
 use Rattle.agreed_state.specs.Agreed.{AgreedView}
 use Rattle.protocol.specs.Heard.{heard, paths_of}
-use Rattle.protocol.specs.View.{Setting, Kept, Received, View, own_in, view_from, through, joined, empty_row, channel_room, adopted_by, goes_with}
+use Rattle.protocol.specs.View.{Setting, Kept, Received, View, own_in, view_from, through, empty_row, channel_room, goes_with}
 use Rattle.protocol.specs.Run.{members_in, claim_sent, state_content}
 use Rattle.node_steps.specs.Outcome.{Outcome}
 use Rattle.node_steps.specs.Parts.{Found, NodeView}
 use Rattle.protocol.specs.Configured.{setting_of}
-use Rattle.node_steps.specs.Steps.{begun, frame_of, said_by, after_slot, next_open, slot_taken, shut, taken, after_sync, synced, with_sync, after_done, after_data, after_report, heard_done, claims_known, finished, expected_in}
+use Rattle.node_steps.specs.Steps.{begun, frame_of, said_by, next_open, expected_in}
 use Rattle.node_steps.specs.Stages.{stage, due_of, own_of, row_of, claims_of, found_cold}
 use Rattle.protocol.specs.Saying.{if_full, says}
 use Rattle.node_steps.specs.Owed.{Owes}

@@ -6,7 +6,7 @@ use Rattle.node_grid.specs.NodeSet.{IsIdSet, ids_where, mask_of}
 use Rattle.node_grid.specs.NodeSetLaws.{filter_none, length-ids, IsIdSet-filter}
 use Rattle.omh.specs.Heard.{Hearing}
 use Rattle.frames.specs.Content.{Content, Expectation}
-use Rattle.error_detect.specs.Watching.{Watch, opened, closed, delivered, of_sender, HasRoom}
+use Rattle.error_detect.specs.Watching.{Watch, opened, closed, of_sender, HasRoom}
 use Rattle.error_detect.specs.Multiset.{Arriving, from_sender, all_delivered, FindsEach}
 use Rattle.agreed_state.specs.declared.config.Config.{Config}
 use Rattle.agreed_state.specs.declared.config.Inputs.{Inputs}

@@ -1,7 +1,7 @@
 -- What a sound node says is in the range of what is expected of it.
-use Rattle.std.proofs.Common.{ℕ, ◌≡◌, ◌≢◌, ◌<◌, ◌≤◌, ◌+◌, ◌-◌, ◌*◌, ◌^◌, ◌==◌, Bool, true, false, List, [], map, length, Option, None, Some, refl, sym, ap, ap₂, subst, ◌∙◌, inl, inr, arith, eq-eqb, ne_eqb, eqb-true}
-use Rattle.std.specs.Prelude.{All, IfSome, if◌then◌else◌, nat_le, slice_index}
-use Rattle.std.proofs.lemmas.Bool.{cases_Bool, cases_lt, cond-true, cond-false, eqb-false}
+use Rattle.std.proofs.Common.{ℕ, ◌≡◌, ◌≢◌, ◌<◌, ◌≤◌, ◌+◌, ◌-◌, ◌*◌, ◌^◌, ◌==◌, Bool, true, false, List, [], map, length, Option, None, Some, refl, sym, ap, ap₂, subst, ◌∙◌, arith, eq-eqb, ne_eqb, eqb-true}
+use Rattle.std.specs.Prelude.{All, IfSome, if◌then◌else◌, nat_le}
+use Rattle.std.proofs.lemmas.Bool.{cond-true, cond-false, eqb-false}
 use Rattle.std.proofs.lemmas.Bool.Decides.{nat_tests}
 use Rattle.std.proofs.lemmas.List.{length-map}
 use Rattle.node_grid.specs.NodeSet.{has_id}
@@ -15,19 +15,13 @@ use Rattle.frames.specs.Content.Content.{State, Done0, DoneRelay, Data, Report0,
 use Rattle.frames.specs.Spelling.{IsInRange}
 use Rattle.frames.specs.Laws.{IsLaidOut}
 use Rattle.frames.specs.ReadingLaws.{is_short, cold_in_range}
-use Rattle.task_graph.specs.Graph.{GraphView, task_at, no_task}
-use Rattle.list_scheduler.specs.Copies.{works}
-use Rattle.list_scheduler.specs.CopyLaws.{works_runs}
-use Rattle.node_grid.specs.Kinds.{no_claim}
-use Rattle.agreed_state.specs.declared.config.Config.{Config}
-use Rattle.agreed_state.specs.declared.config.Inputs.{Inputs}
 use Rattle.agreed_state.specs.ConfigLaws.{few_rounds}
 use Rattle.agreed_state.specs.Config.{IsConfig}
 use Rattle.agreed_state.specs.Agreed.{AgreedView, IsAgreed}
 use Rattle.agreed_state.specs.Body.{body}
 use Rattle.agreed_state.specs.ReadLaws.{length-body, state_len-short}
 use Rattle.protocol.specs.Heard.{paths_of}
-use Rattle.protocol.specs.View.{own_claim, claim_at, own_in}
+use Rattle.protocol.specs.View.{own_claim, own_in}
 use Rattle.protocol.specs.Run.{members_in}
 use Rattle.node_steps.specs.Parts.{NodeView}
 use Rattle.relaying.specs.Relaying.{relays}
@@ -43,12 +37,6 @@ use Rattle.node_steps.specs.SoundSteps.{le_told, gt_told}
 pick : {X : Type 0} (P : X → Type 0) (b : Bool) (x y : X) → (b ≡ true → P x) → (b ≡ false → P y) → P (if b then x else y)
 pick P true x y f g = f refl
 pick P false x y f g = g refl
-
-kind_1 : (m : ℕ) → kind_in m 0 ≡ 1
-kind_1 m = refl
-
-kind_2 : (m : ℕ) → kind_in m 1 ≡ 2
-kind_2 m = refl
 
 kind_3 : (m t : ℕ) → 1 < t → t ≤ m + 1 → kind_in m t ≡ 3
 kind_3 m t a b = grind (arith, nat_tests)

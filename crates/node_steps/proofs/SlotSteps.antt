@@ -22,7 +22,7 @@ use Rattle.agreed_state.specs.Body.{body}
 use Rattle.protocol.specs.Arrival.{Arrival, Form, is_bad, claim_form, row_form, state_in, values_in}
 use Rattle.protocol.specs.Arrival.Arrival.{Bad, Good}
 use Rattle.protocol.specs.Heard.{Rounds, rounds_bad, with_entries, paths_of, heard}
-use Rattle.protocol.specs.View.{Setting, Kept, Received, own_claim, as_claim, claims_settled, due_channels, votes_on, deviates, other_body, row_by, empty_row, noted, View, is_far, is_further, channel, value_in, value_at, carried_by, through, joined, view_from, adopted_by, synced_by, goes_with}
+use Rattle.protocol.specs.View.{Setting, Kept, Received, own_claim, as_claim, claims_settled, due_channels, votes_on, deviates, other_body, row_by, empty_row, noted, View, is_far, is_further, channel, value_in, value_at, carried_by, through, adopted_by, synced_by, goes_with}
 use Rattle.protocol.specs.View.Mode.{Full, Joining}
 use Rattle.protocol.specs.Settled.{settled_items, ear_of}
 use Rattle.protocol.specs.FurtherKinds.{convicts_member}

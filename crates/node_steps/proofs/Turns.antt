@@ -1,12 +1,10 @@
 -- A node goes from slot to slot.
-use Rattle.std.proofs.Common.{ℕ, ◌≡◌, ◌<◌, ◌+◌, ◌*◌, ◌==◌, Bool, true, false, if◌then◌else◌, refl, sym, ap, ◌∙◌, arith, inl, inr, ◌≢◌, Option, None, Some}
+use Rattle.std.proofs.Common.{ℕ, ◌≡◌, ◌<◌, ◌+◌, ◌*◌, ◌==◌, true, false, ap, ◌∙◌, arith, inl, inr, ◌≢◌}
 use Rattle.std.proofs.lemmas.Bool.{cond-true, cond-false}
 use Rattle.std.proofs.lemmas.Bool.Decides.{eqb_tells}
-use Rattle.std.specs.Prelude.{nat_le}
 use Rattle.agreed_state.specs.declared.config.Config.{Config}
-use Rattle.agreed_state.specs.Agreed.{AgreedView}
 use Rattle.node_steps.specs.Parts.{NodeView}
-use Rattle.node_steps.specs.Steps.{after_slot, next_open, slot_taken, shut, finished}
+use Rattle.node_steps.specs.Steps.{after_slot, next_open, slot_taken, shut}
 use Rattle.node_steps.specs.FixedLaws.{Lasting, Place, slot_place, finished_lasts}
 
 -- t slots of node i's period are over: the next one is open, or none after the last

@@ -1,5 +1,5 @@
 -- A node before its first period is sound.
-use Rattle.std.proofs.Common.{ℕ, zero, suc, ◌≡◌, [], length, replicate, refl, arith, pos}
+use Rattle.std.proofs.Common.{ℕ, zero, suc, [], length, replicate, refl, arith, pos}
 use Rattle.std.specs.Prelude.{All}
 use Rattle.std.proofs.lemmas.List.Elements.{All-nil, All-cons}
 use Rattle.frames.specs.Bound.{IsGreatest}
@@ -42,14 +42,3 @@ sound_new {N} config me room ok = record {
 
 pub fresh_new : {N : ℕ} (config : Config N) (me room : ℕ) → IsGreatest config.nodes config.m (state_len config) 8 room → IsFresh config me (newly_open config me room)
 fresh_new config me room greatest = record { is = refl; greatest = greatest; kept = refl; shut = refl; outcome = refl }
-
--- there is one greatest length
-pub greatest_once : (nodes m len due a b : ℕ) → IsGreatest nodes m len due a → IsGreatest nodes m len due b → a ≡ b
-greatest_once nodes m len due a b g h =
-    let x = g.reached in
-    let y = h.reached in
-    let a_low = h.within x.0 x.1 x.2 x.4 in
-    let b_low = g.within y.0 y.1 y.2 y.4 in
-    let a_is = x.5 in
-    let b_is = y.5 in
-    omega (arith, a_low, b_low, a_is, b_is)

@@ -1,15 +1,12 @@
 -- What a slot says of paths lies in range, and so does what a table heard after it.
-use Rattle.std.proofs.Common.{ℕ, zero, suc, ◌≡◌, ◌<◌, ◌+◌, ◌-◌, ◌==◌, ◌||◌, ◌&&◌, not, Bool, true, false, List, [], ◌∷◌, ◌++◌, length, map, filter, reverse, Option, None, Some, refl, sym, ap, subst, ◌∙◌, inl, inr, arith}
-use Rattle.std.specs.Prelude.{All, if◌then◌else◌}
-use Rattle.std.specs.List.{AllByRecursion}
+use Rattle.std.proofs.Common.{ℕ, ◌≡◌, ◌+◌, ◌-◌, true, false, List, [], ◌∷◌, length, map, reverse, Option, None, Some, refl, sym, ap, subst, ◌∙◌, inl, inr, arith}
+use Rattle.std.specs.Prelude.{All}
 use Rattle.std.proofs.lemmas.Bool.{cases_Bool, cond-true, cond-false}
-use Rattle.std.proofs.lemmas.List.{length-reverse, length_push}
-use Rattle.node_grid.specs.NodeSet.{has_id, without_id}
+use Rattle.std.proofs.lemmas.List.{length-reverse}
 use Rattle.node_grid.specs.Count.{Distinct}
 use Rattle.omh_paths.specs.declared.wrapped.Wrapped.{Wrapped}
 use Rattle.omh_paths.specs.declared.wrapped.Wrapped.TheVariants.{Fault}
-use Rattle.omh_paths.specs.Paths.{same_nodes, paths_of_length, path_at}
-use Rattle.omh_paths.specs.PathLists.{same_nodes-tells, IsListed-at, length-paths, Distinct-without}
+use Rattle.omh_paths.specs.Paths.{same_nodes}
 use Rattle.omh.specs.Heard.{Hearing, heard_in, heard_paths, nothing_heard, entry as entry_of}
 use Rattle.frames.specs.Content.{Content, Expectation, IsEntry, IsClaim, IsRow, IsSized, round_in}
 use Rattle.frames.specs.Content.Content.{State, Done0, DoneRelay, Data, Report0, ReportRelay, Cold}
@@ -18,7 +15,7 @@ use Rattle.protocol.specs.Arrival.{Form, arrived, read_as, claim_form, row_form}
 use Rattle.protocol.specs.Arrival.Arrival.{Good}
 use Rattle.protocol.specs.Heard.{paths_of, heard, heard_back}
 use Rattle.protocol.specs.View.{content}
-use Rattle.relaying.specs.Hearing.{has_path, slot_rounds, pushed, paths_from, paths_told, all_told, after_round}
+use Rattle.relaying.specs.Hearing.{has_path, slot_rounds, all_told, after_round}
 use Rattle.relaying.specs.Ranged.{HeardIn, IsRanged}
 use Rattle.relaying.proofs.Slots.{length_all}
 use Rattle.node_steps.specs.TableRanges.{ranged_told, entry_in, said_in}
