@@ -1,20 +1,17 @@
 -- The law of echoes.
-use Rattle.std.proofs.Common.{ℕ, zero, suc, ◌≡◌, ◌≢◌, ◌≤◌, ◌+◌, ◌-◌, ◌*◌, ◌==◌, ◌&&◌, ◌||◌, Bool, true, false, not, if◌then◌else◌, List, [], ◌∷◌, ◌++◌, map, length, refl, sym, ap, ◌∙◌, inl, inr, arith, eq-eqb, ne_eqb}
-use Rattle.std.proofs.lemmas.Bool.{cases_eq, cond-true, cond-false, both_ways, not-true}
+use Rattle.std.proofs.Common.{ℕ, zero, suc, ◌≡◌, ◌≤◌, ◌+◌, ◌-◌, ◌*◌, ◌==◌, ◌&&◌, ◌||◌, Bool, true, false, not, List, [], ◌∷◌, ◌++◌, length, refl, sym, ap, ◌∙◌, inl, inr, arith, eq-eqb, ne_eqb}
+use Rattle.std.proofs.lemmas.Bool.{cases_eq}
 use Rattle.std.proofs.lemmas.List.{length_push}
 use Rattle.node_grid.specs.NodeSet.{has_id}
 use Rattle.node_grid.specs.Count.{bit, count, Distinct}
-use Rattle.omh_paths.specs.declared.wrapped.Wrapped.{Wrapped}
-use Rattle.omh_paths.specs.Wrapped.{wrapped, unwrapped, IsExact}
-use Rattle.omh_paths.specs.Majority.{majority}
+use Rattle.omh_paths.specs.Wrapped.{IsExact}
 use Rattle.omh_paths.specs.Paths.{outside, IsPath}
-use Rattle.omh_paths.specs.MajorityLaws.{unwrapped-wrapped, is_error-wrapped}
-use Rattle.omh_paths.specs.PathLaws.{off_from, IsPath-push, all_outside}
+use Rattle.omh_paths.specs.PathLaws.{off_from, IsPath-push}
 use Rattle.omh_paths.specs.PathLists.{Distinct-filter}
-use Rattle.omh.specs.Omh.{Ear, own_term, settled_within, settled_at}
+use Rattle.omh.specs.Omh.{Ear, settled_within, settled_at}
 use Rattle.heard.specs.Echo.{IsEchoBut, IsBackedAt, EchoLaw}
 use Rattle.heard.proofs.Counts.{count_all, count-filter, count-me, count-add, count-same}
-use Rattle.heard.proofs.Backing.{agrees, idles, agrees-me, agrees-other, idles-is, idles-me, idles-other, settled_now, own_is, other_is, settled_by, outside-push, length-outside-push}
+use Rattle.heard.proofs.Backing.{agrees, idles, agrees-me, agrees-other, idles-is, idles-other, settled_now, own_is, other_is, settled_by, outside-push, length-outside-push}
 
 module _ {V : Type 0} (eq : V → V → Bool) (exact : IsExact eq) (x : Ear V) (least : ℕ) (doubted : List ℕ) (distinct : Distinct x.members) (told : IsEchoBut x least doubted) where
   settled_as_heard : (r : ℕ) (path : List ℕ) → IsPath x.members x.rounds path → has_id path x.me ≡ false → least ≤ length path → r + length path ≡ x.rounds + 1

@@ -56,9 +56,6 @@ pub record IsRoundLaid {V : Type 0} (capacity : ℕ) (p : Parts V) (r q : ℕ) (
   pub hit : AreHit now doubted
   pub none : (j : ℕ) → j < q → has_id p.members j ≡ true → has_id (set_at p.as_expected r) j ≡ false → has_id (set_at now.echoes r) j ≡ false
 
-pub round_start : {V : Type 0} (capacity : ℕ) (p : Parts V) (r : ℕ) (doubted : List (List ℕ)) → IsStored capacity p → AreHit p doubted → IsRoundLaid capacity p r 0 p doubted
-round_start capacity p r doubted h hit = record { stored = h; laid = laid_still p; hit = hit; none = λ j low on off. absurd (omega arith) }
-
 module _ {V : Type 0} (capacity : ℕ) (p : Parts V) (r q : ℕ) (some : 0 < r) (short : r ≤ p.rounds) (now : Parts V) (doubted : List (List ℕ)) (before : IsRoundLaid capacity p r q now doubted) where
   few : r ≤ now.rounds
   few = let l = before.laid in omega (arith, ap (λ (x : Parts V). x.rounds) l.is)

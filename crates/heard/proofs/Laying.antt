@@ -1,5 +1,5 @@
 -- A frame that says what the node itself passes on is kept as it was, once it is laid out as cells.
-use Rattle.std.proofs.Common.{ℕ, zero, suc, ◌≡◌, ◌<◌, ◌≤◌, ◌+◌, ◌-◌, ◌==◌, true, false, List, [], ◌∷◌, ◌++◌, map, length, get_or, set, take, drop, refl, sym, ap, ap₂, subst, ◌∙◌, inl, inr, arith, eq-eqb, eqb-true, length-set}
+use Rattle.std.proofs.Common.{ℕ, zero, suc, ◌≡◌, ◌<◌, ◌≤◌, ◌+◌, ◌-◌, ◌==◌, true, false, List, [], ◌∷◌, ◌++◌, length, get_or, set, take, drop, refl, sym, ap, ap₂, subst, ◌∙◌, inl, inr, arith, eq-eqb, eqb-true, length-set}
 use Rattle.std.proofs.lemmas.Bool.{cases_lt, both_ways}
 use Rattle.std.proofs.lemmas.List.{get_or-take, length-set}
 use Rattle.node_grid.specs.NodeSet.{has_id, with_id, without_id}
@@ -8,10 +8,7 @@ use Rattle.omh_paths.specs.declared.wrapped.Wrapped.{Wrapped}
 use Rattle.omh_paths.specs.declared.wrapped.Wrapped.TheVariants.{Fault}
 use Rattle.omh_paths.specs.Wrapped.{wrapped}
 use Rattle.omh_paths.specs.Paths.{paths_of_length, path_at, path_count, place_in, IsListed}
-use Rattle.omh_paths.specs.PathLaws.{map_alike}
 use Rattle.omh_paths.specs.PathLists.{has-of-without, length-without, length-paths, Distinct-without, path_at-place, IsListed-at}
-use Rattle.omh.specs.Heard.{entry, heard_paths}
-use Rattle.omh.specs.HeardLaws.{IsHeardPath, all_heard_paths}
 use Rattle.heard.specs.Keep.{Parts, kept, relayed, root, base, cell, place_of, set_at, first_node, wrapped_times, frame_at, frames_before, IsSmall, IsStored}
 use Rattle.heard.specs.Doubts.{AreHit, DoubtsMore}
 use Rattle.heard.specs.Laid.{IsLaidUpTo, laid_parts}
@@ -20,7 +17,7 @@ use Rattle.heard.specs.Places.{on-at, front-last, front-listed, place_of-lt, fra
 use Rattle.heard.proofs.Alike.{pick_alike, put_here, put_there, cut_here, cut_there}
 use Rattle.heard.proofs.Members.{behind-last, trusted_before}
 use Rattle.heard.proofs.Readings.{kept_root, kept_relayed, relayed_echo, relayed_odd, relayed_small, small_wrapped, distinct_members, few_members}
-use Rattle.heard.proofs.SeenLaws.{both_or, elsewhere, map_where}
+use Rattle.heard.proofs.SeenLaws.{both_or, elsewhere}
 
 module _ {V : Type 0} (capacity : ℕ) (p : Parts V) (h : IsStored capacity p) (r q : ℕ) (some : 0 < r) (short : r ≤ p.rounds) (sender : has_id p.members q ≡ true)
     (dirty : has_id (set_at p.as_expected r) q ≡ false) (echo : has_id (set_at p.echoes r) q ≡ true) (cells : List (Wrapped V))
@@ -122,12 +119,6 @@ module _ {V : Type 0} (capacity : ℕ) (p : Parts V) (h : IsStored capacity p) (
         let long : length path ≡ s + 1 = omega arith in
         kept_relayed (laid_parts capacity p r q cells) path s long (omega arith) ∙ relayed_laid s path long (omega arith) distinct within ∙ sym (kept_relayed p path s long (omega arith))
   ]
-
-  pub entries_laid : map (entry (kept (laid_parts capacity p r q cells))) (heard_paths p.members p.me p.rounds) ≡ map (entry (kept p)) (heard_paths p.members p.me p.rounds)
-  entries_laid =
-      map_alike (entry (kept (laid_parts capacity p r q cells))) (entry (kept p)) (heard_paths p.members p.me p.rounds)
-      (map_where (IsHeardPath p.members p.me p.rounds) (entry (kept (laid_parts capacity p r q cells))) (entry (kept p)) (heard_paths p.members p.me p.rounds) (all_heard_paths p.members p.me p.rounds d)
-      (λ path real. ap (λ (v : Wrapped V). record { path = path; value = v }) (kept_laid path real.some real.short real.distinct real.within)))
 
   -- ---- what holds of it
 

@@ -113,9 +113,6 @@ module _ {V : Type 0} (capacity : ℕ) (p now : Parts V) (view : p ≡ now) (h :
   here : IsPut p r q k value
   here = subst (λ (x : Parts V). IsPut x r q k value) (sym view) asked
 
-  pub one_fits : frame_at p.nodes r q + k < length p.cells
-  one_fits = let a = here in put_fits capacity p h r q a.some a.short a.sender k a.place
-
   pub one_few : frame_at p.nodes r q + k < 4194304
   one_few = let a = here in put_few capacity p h r q a.some a.short a.sender k a.place
 
@@ -124,9 +121,6 @@ module _ {V : Type 0} (capacity : ℕ) (p now : Parts V) (view : p ≡ now) (h :
 
   pub one_stored : IsStored capacity (record p { cells = set p.cells (frame_at p.nodes r q + k) value })
   one_stored = let a = here in put_stored capacity p h r q a.some a.short a.sender k value a.place a.small
-
-  pub one_put : (cells : List (Wrapped V)) → cells ≡ set p.cells (frame_at p.nodes r q + k) value → record p { cells = cells } ≡ record now { cells = set now.cells (frame_at now.nodes r q + k) value }
-  one_put cells e = ap (λ (xs : List (Wrapped V)). record p { cells = xs }) e ∙ ap (λ (x : Parts V). record x { cells = set x.cells (frame_at x.nodes r q + k) value }) view
 
 -- the sets after it is laid out
 pub laid_written : {V : Type 0} (capacity : ℕ) (p k : Parts V) (cells : List (Wrapped V)) → p ≡ record k { cells = cells } → (r q : ℕ) (echoes in_cells : List (List ℕ)) → echoes ≡ set k.echoes r (without_id (set_at k.echoes r) q)

@@ -1,5 +1,4 @@
 use Rattle.std.proofs.Common.{◌-◌, ◌≡◌, true, sym, ap, ◌∙◌, arith}
-use Rattle.std.proofs.lemmas.Bool.{and_parts}
 use Rattle.omh_paths.specs.PathLists.{has-without}
 use Rattle.heard.specs.Places.{small_more}
 use Rattle.heard.proofs.Methods.{root_expected, heard_frame, is_member, rounds_few, few_rounds}

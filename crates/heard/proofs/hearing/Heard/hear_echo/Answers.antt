@@ -1,5 +1,5 @@
 use Rattle.std.proofs.Common.{◌<◌, ◌≡◌, true, arith, sym, ◌∙◌}
-use Rattle.heard.proofs.Methods.{few_rounds, echo_seen, echo_kept, in_round, is_member, paths_seen, heard_frame}
+use Rattle.heard.proofs.Methods.{echo_seen, echo_kept, paths_seen, heard_frame}
 use Rattle.heard.proofs.PassingLaws.{echo_expected}
 use Rattle.heard.proofs.hearing.Heard.hear_echo.Goals as goal
 

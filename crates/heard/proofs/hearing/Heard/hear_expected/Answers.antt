@@ -1,5 +1,5 @@
 use Rattle.std.proofs.Common.{◌<◌, ◌≡◌, true, arith, sym, ◌∙◌}
-use Rattle.heard.proofs.Methods.{few_rounds, clean_seen, clean_kept, expected_said, in_round, is_member, paths_seen, heard_frame}
+use Rattle.heard.proofs.Methods.{clean_seen, clean_kept, expected_said, paths_seen, heard_frame}
 use Rattle.heard.proofs.hearing.Heard.hear_expected.Goals as goal
 
 pub returns-then-not-agrees-clause-paths : goal.returns-then-not-agrees-clause-paths

@@ -5,7 +5,7 @@ use Rattle.heard.specs.Keep.{IsSmall}
 use Rattle.omh_paths.specs.Paths.{path_count}
 use Rattle.omh_paths.specs.declared.wrapped.Wrapped.TheVariants.{Fault}
 use Rattle.std.proofs.lemmas.List.Elements.{All-get_or}
-use Rattle.heard.proofs.Methods.{written, later, few_rounds, clean_seen, clean_kept, odd_seen, odd_kept, doubting_more, in_round, is_member, count_is, paths_seen, same_small, same_frame, same_said, same_cells, same_hits, heard_frame, unheard_frame, root_frame}
+use Rattle.heard.proofs.Methods.{written, later, few_rounds, clean_seen, clean_kept, odd_seen, odd_kept, doubting_more, is_member, count_is, paths_seen, same_frame, same_said, same_cells, same_hits, heard_frame, unheard_frame, root_frame}
 use Rattle.heard.proofs.hearing.Heard.hear_frame.Goals as goal
 
 pub lay_later-requires : goal.lay_later-requires

@@ -1,7 +1,7 @@
-use Rattle.std.proofs.Common.{true, ◌≡◌, length, sym, ap, subst, ◌∙◌, arith, false, ◌<◌, ◌-◌, ◌∷◌, [], refl}
+use Rattle.std.proofs.Common.{true, ◌≡◌, length, sym, ap, subst, ◌∙◌, arith, false, ◌<◌, refl}
 use Rattle.heard.specs.Doubts.{AreHit, DoubtsMore}
 use Rattle.omh_paths.specs.declared.wrapped.Wrapped.TheVariants.{Fault}
-use Rattle.heard.proofs.Methods.{written, later, few_rounds, doubting_more, missed_seen, missed_kept, in_round, is_member, node_in, paths_seen, heard_frame, unheard_frame, root_frame}
+use Rattle.heard.proofs.Methods.{written, later, doubting_more, missed_seen, missed_kept, paths_seen, heard_frame, unheard_frame, root_frame}
 use Rattle.heard.proofs.hearing.Heard.miss_frame.Goals as goal
 
 pub lay_later-requires : goal.lay_later-requires

@@ -1,4 +1,4 @@
-use Rattle.std.proofs.Common.{◌≡◌, true, false, sym, ap, ◌∙◌, arith}
+use Rattle.std.proofs.Common.{◌≡◌, true, false, sym, ap, arith}
 use Rattle.omh_paths.specs.Wrapped.{wrapped}
 use Rattle.heard.specs.Places.{small_known}
 use Rattle.heard.proofs.Methods.{heard_seen, unheard_path}

@@ -1,11 +1,10 @@
-use Rattle.std.proofs.Common.{ℕ, ◌≡◌, ◌<◌, ◌≤◌, ◌+◌, ◌-◌, ◌&&◌, ◌∷◌, [], length, map, take, refl, sym, ap, ap₂, subst, ◌∙◌, arith, eq-eqb, ne_eqb}
+use Rattle.std.proofs.Common.{ℕ, ◌≡◌, ◌<◌, ◌+◌, ◌-◌, ◌&&◌, ◌∷◌, [], length, map, take, refl, sym, ap, ap₂, subst, ◌∙◌, arith, ne_eqb}
 use Rattle.std.specs.Prelude.{if◌then◌else◌}
 use Rattle.std.proofs.lemmas.List.{take_all, length-take-le}
-use Rattle.std.proofs.lemmas.Bool.{or_left, or_from}
+use Rattle.std.proofs.lemmas.Bool.{or_from}
 use Rattle.node_grid.specs.NodeSet.{has_id, without_id, minus_of}
 use Rattle.node_grid.specs.Count.{bit}
 use Rattle.node_grid.specs.ListLaws.{bit_le}
-use Rattle.omh_paths.specs.MemberLaws.{few_ids}
 use Rattle.equivocation.specs.Conviction.{is_convicted, is_convicted_beside}
 use Rattle.heard.specs.Keep.{IsStored, kept, set_at}
 use Rattle.heard.proofs.Readings.{other_member, member_in, set_read, kept_root}

@@ -1,6 +1,5 @@
 use Rattle.std.proofs.Common.{◌≡◌, true, false, sym, ap, subst, ◌∙◌, arith}
 use Rattle.std.proofs.lemmas.Bool.{both_ways}
-use Rattle.node_grid.specs.NodeSet.{has_id, without_id}
 use Rattle.heard.specs.Keep.{IsStored}
 use Rattle.heard.proofs.Readings.{other_member, root_in, root_of, root_is_small}
 use Rattle.heard.proofs.store.Store.heard_of.Goals as goal

@@ -1,4 +1,4 @@
-use Rattle.std.proofs.Common.{List, ◌+◌, length, set, sym, ap, ap₂, subst, ◌∙◌, arith}
+use Rattle.std.proofs.Common.{List, ◌+◌, set, sym, ap, ap₂, subst, ◌∙◌, arith}
 use Rattle.omh_paths.specs.declared.wrapped.Wrapped.{Wrapped}
 use Rattle.heard.specs.Keep.{IsStored}
 use Rattle.heard.proofs.Methods.{written}

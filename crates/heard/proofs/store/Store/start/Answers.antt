@@ -2,7 +2,6 @@ use Rattle.std.proofs.Common.{◌+◌, length, get_or, sym, ap, subst, ◌∙◌
 use Rattle.std.proofs.lemmas.List.Elements.{All-get_or, All-from_get_or}
 use Rattle.omh_paths.specs.declared.wrapped.Wrapped.TheVariants.{Fault}
 use Rattle.heard.specs.Keep.{set_at, frame_at, IsSmall}
-use Rattle.heard.proofs.Readings.{nodes_fit}
 use Rattle.heard.proofs.Methods.{written, same_small}
 use Rattle.heard.proofs.store.Store.start.Goals as goal
 
