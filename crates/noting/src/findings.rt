@@ -69,6 +69,15 @@ pub fn note_values<const N: usize>(
     notes.note_all(off, DEVIATE);
 }
 
+/// Whether this is another node than `me`, and its frame was found Good.
+#[tactic(auto, using(crate::specs::FoundLaws::good_by))]
+fn is_good_sender<const N: usize>(found: &[Finding; N], me: u8, node: u8) -> bool
+    requires { node < N }
+    ensures { result ≡ (not (node == me) && is_good_at found.now node) }
+{
+    node != me && kind_of(found[node as usize]).is_none()
+}
+
 /// The nodes below `nodes` other than `me` whose frames were found Good.
 #[tactic(auto, using(node_grid::specs::NodeSetLaws::id_loops))]
 pub fn good_senders<const N: usize>(found: &[Finding; N], me: u8, nodes: u8) -> NodeSet<N>
@@ -78,7 +87,7 @@ pub fn good_senders<const N: usize>(found: &[Finding; N], me: u8, nodes: u8) -> 
 {
     let mut good = NodeSet::empty();
     for node in 0..nodes {
-        if node != me && kind_of(found[node as usize]).is_none() {
+        if is_good_sender(found, me, node) {
             good.put(node);
         }
     }
