@@ -14,7 +14,7 @@ ghost use Rattle.equivocation.specs.Conviction.{convicts};
 ghost use Rattle.omh.specs.Heard.{ear_of, heard_in, heard_paths, nothing_heard, with_heard};
 ghost use Rattle.heard.specs.Keep.{IsSmall, wrapped_times, IsSize, AreNodes};
 ghost use Rattle.heard.specs.Passing.{IsAllExpected};
-ghost use Rattle.heard.specs.Seen.{with_frame, as_written, SaysExpected, SaysEcho};
+ghost use Rattle.heard.specs.Seen.{with_frame, with_written, TakesUp, SaysExpected, SaysEcho};
 
 use crate::doubts::doubt_of_all;
 use crate::places::{are_one, clear, copies, unheard, value_at, wrapped_by};
@@ -164,9 +164,7 @@ impl<V: Value, const N: usize> Heard<V, N> {
     pub fn hear_frame(&mut self, q: u8, r: u8, values: &[Wrapped<V>])
         requires count { length values.now ≡ path_count (length self.old.members - 1) r }
         requires small { All (IsSmall 3) values.now }
-        ensures is { self.new ≡ record self.old {
-          heard = map (with_frame r q (as_written self.old.members q r values.now)) self.old.heard;
-        } }
+        ensures is { self.new ≡ with_written q r values.now self.old }
         ensures paths { map (λ e. e.path) self.old.heard ≡
             heard_paths self.old.members self.old.me self.old.rounds }
     {
@@ -220,13 +218,9 @@ impl<V: Value, const N: usize> Heard<V, N> {
     /// Takes up member `q`'s frame of relay round `r`, whose values are what is expected, without
     /// reading it. Answers false, and takes up nothing, where the frame has to be read.
     pub fn hear_expected(&mut self, q: u8, r: u8) -> bool
-        ensures is { result ≡ true → (values : List (Wrapped V)) →
-            length values ≡ path_count (length self.old.members - 1) r →
-            SaysExpected self.old.me r (without_id self.old.members q) self.old.heard
-            values (length values) →
-            self.new ≡ record self.old {
-              heard = map (with_frame r q (as_written self.old.members q r values)) self.old.heard;
-            } }
+        ensures is { result ≡ true → TakesUp q r
+            (λ values. SaysExpected self.old.me r (without_id self.old.members q) self.old.heard
+            values (length values)) self.old self.new }
         ensures left { result ≡ false → self.new ≡ self.old }
         ensures paths { map (λ e. e.path) self.old.heard ≡
             heard_paths self.old.members self.old.me self.old.rounds }
@@ -252,13 +246,9 @@ impl<V: Value, const N: usize> Heard<V, N> {
     /// on for each path: what it heard for it, wrapped; without reading it. Answers false, and
     /// takes up nothing, where the frame has to be read.
     pub fn hear_echo(&mut self, q: u8, r: u8) -> bool
-        ensures is { result ≡ true → (values : List (Wrapped V)) →
-            length values ≡ path_count (length self.old.members - 1) r →
-            SaysEcho self.old.me r (without_id self.old.members q) self.old.heard
-            values (length values) →
-            self.new ≡ record self.old {
-              heard = map (with_frame r q (as_written self.old.members q r values)) self.old.heard;
-            } }
+        ensures is { result ≡ true → TakesUp q r
+            (λ values. SaysEcho self.old.me r (without_id self.old.members q) self.old.heard
+            values (length values)) self.old self.new }
         ensures left { result ≡ false → self.new ≡ self.old }
         ensures paths { map (λ e. e.path) self.old.heard ≡
             heard_paths self.old.members self.old.me self.old.rounds }
@@ -269,11 +259,14 @@ impl<V: Value, const N: usize> Heard<V, N> {
         if r == 0 {
             return false;
         }
-        if !self.store.is_newest(r) {
-            return false;
-        }
         if r == 1 {
             return self.hear_expected(q, r);
+        }
+        if self.relays_expected(r) {
+            return self.hear_expected(q, r);
+        }
+        if !self.store.is_newest(r) {
+            return false;
         }
         self.any_frame = true;
         self.store.take_echo(q, r);

@@ -1,6 +1,6 @@
 use Rattle.std.proofs.Common.{◌<◌, ◌≡◌, true, arith, sym, ◌∙◌}
 use Rattle.heard.proofs.Methods.{echo_seen, echo_kept, paths_seen, heard_frame}
-use Rattle.heard.proofs.PassingLaws.{echo_expected}
+use Rattle.heard.proofs.PassingLaws.{echo_expected, roots_alone}
 use Rattle.heard.proofs.hearing.Heard.hear_echo.Goals as goal
 
 pub returns-then-not-is_newest-clause-paths : goal.returns-then-not-is_newest-clause-paths
@@ -9,9 +9,18 @@ returns-then-not-is_newest-clause-paths g c =
 
 pub returns-then-r-eq1-clause-is : goal.returns-then-r-eq1-clause-is
 returns-then-r-eq1-clause-is g c e values count told =
+    let some : 0 < c.args.r = omega (arith, c.if-r-eq0.false) in
     let yes : c.hears.result ≡ true = grind (arith, c.if-not-hears.false) in
     let come = heard_frame c.self.invariant c.self.view_is c.args.q c.args.r (sym c.hears.ensures ∙ yes) in
-    c.hear_expected.ensures.is e values count (echo_expected c.self.invariant c.self.view_is c.args.q c.args.r values come.0 c.if-r-eq1.true count told)
+    c.hear_expected.ensures.is e values count (echo_expected c.self.invariant c.self.view_is c.args.q c.args.r values come.0 some (roots_alone c.args.self.now c.args.r c.if-r-eq1.true) count told)
+
+pub returns-then-relays_expected-clause-is : goal.returns-then-relays_expected-clause-is
+returns-then-relays_expected-clause-is g c e values count told =
+    let some : 0 < c.args.r = omega (arith, c.if-r-eq0.false) in
+    let yes : c.hears.result ≡ true = grind (arith, c.if-not-hears.false) in
+    let come = heard_frame c.self.invariant c.self.view_is c.args.q c.args.r (sym c.hears.ensures ∙ yes) in
+    let all = c.relays_expected.ensures c.if-relays_expected.true c.args.r some (omega arith) in
+    c.hear_expected-then-relays_expected.ensures.is e values count (echo_expected c.self.invariant c.self.view_is c.args.q c.args.r values come.0 some all count told)
 
 pub invariant_of-self : goal.invariant_of-self
 invariant_of-self g c =
