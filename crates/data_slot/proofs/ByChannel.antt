@@ -1,5 +1,5 @@
 -- Values by channel: how they are filled, channel by channel, and what stands there.
-use Rattle.std.proofs.Common.{ℕ, zero, suc, ◌≡◌, ◌≢◌, ◌<◌, ◌+◌, ◌==◌, ◌||◌, Bool, true, false, if◌then◌else◌, List, [], ◌∷◌, ◌++◌, length, length-set, take, replicate, get_or, set, get_or-set_other, get_or-set_same, refl, sym, ap, subst, ◌∙◌, inl, inr, arith, eq-eqb, ne_eqb, Option, None, ℤ, pos}
+use Rattle.std.proofs.Common.{ℕ, zero, suc, ◌≡◌, ◌≢◌, ◌<◌, ◌+◌, ◌==◌, ◌||◌, Bool, true, false, if◌then◌else◌, List, [], ◌∷◌, length, length-set, take, replicate, get_or, set, get_or-set_other, get_or-set_same, refl, sym, ap, ◌∙◌, inl, inr, arith, eq-eqb, ne_eqb, Option, None, ℤ, pos}
 use Rattle.std.specs.Prelude.{slice_index_or, All}
 use Rattle.std.proofs.Math.Bool.{or-false}
 use Rattle.std.proofs.lemmas.Bool.{cases_eq, cond-true, cond-false, or_cases, or_right}

@@ -1,6 +1,5 @@
 mod ByChannel
 mod Owns
+mod Senders
 mod Spelling
-pub mod TaskMasks
-mod Told
 mod Voting

@@ -1,5 +1,5 @@
 -- Votes and deviations by the values that were told are those of the protocol.
-use Rattle.std.proofs.Common.{not, ◌&&◌, ◌≤◌, ℕ, ◌≡◌, ◌≢◌, ◌<◌, ◌==◌, ◌||◌, Bool, true, false, if◌then◌else◌, List, [], ◌∷◌, refl, sym, ap, ap₂, ◌∙◌, arith, eq-eqb, ne_eqb, Option, None, Some, ℤ}
+use Rattle.std.proofs.Common.{not, ◌&&◌, ℕ, ◌≡◌, ◌≢◌, ◌<◌, ◌==◌, ◌||◌, Bool, true, if◌then◌else◌, List, [], ◌∷◌, refl, sym, ap, ap₂, ◌∙◌, inl, inr, arith, eq-eqb, ne_eqb, Option, None, Some, ℤ}
 use Rattle.std.specs.List.{filter_map, list_any, cons_option}
 use Rattle.std.proofs.lemmas.Bool.{cases_eq, cond-false, or_left, or_right, and_parts}
 use Rattle.node_grid.specs.NodeSet.{has_id, ids_where, IsIdSet}

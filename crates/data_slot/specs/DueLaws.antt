@@ -1,6 +1,6 @@
 -- Lemmas for callers: the due channels by the mask of what the settled claims finish are those of the protocol.
-use Rattle.std.proofs.Common.{ap, ◌∙◌, ℕ, ◌≡◌, ◌<◌, ◌==◌, Bool, List, length, refl, arith, None, Some}
-use Rattle.std.specs.Prelude.{slice_index_or, All}
+use Rattle.std.proofs.Common.{ap, ◌∙◌, ℕ, ◌≡◌, ◌<◌, ◌==◌, List, length, refl, arith, None, Some}
+use Rattle.std.specs.Prelude.{slice_index_or}
 use Rattle.std.specs.Int.{bit_at}
 use Rattle.node_grid.specs.NodeSet.{ids_where, mask_of}
 use Rattle.node_grid.specs.NodeSetLaws.{filter_range}
@@ -13,7 +13,7 @@ use Rattle.agreed_state.specs.Agreed.{AgreedView, finished_now}
 use Rattle.protocol.specs.Configured.{setting_of}
 use Rattle.protocol.specs.View.{due_channels, is_due, no_channel}
 use Rattle.data_slot.specs.Due.{due_by}
-use Rattle.data_slot.proofs.TaskMasks.{mask_bit}
+use Rattle.data_slot.specs.TaskMasks.{mask_bit}
 
 module _ {N : ℕ} (config : Config N) (a : AgreedView) (done : List (Wrapped ℕ)) (finished : ℕ) (is : finished ≡ mask_of (ids_where (finished_now N config a done) (length config.graph.tasks))) where
   has_task : (t : ℕ) → t < length config.graph.tasks → (bit_at finished t == 1) ≡ finished_now N config a done t

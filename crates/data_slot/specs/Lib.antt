@@ -1,6 +1,7 @@
 pub mod Due
 pub mod DueLaws
 pub mod Own
+pub mod TaskMasks
 pub mod Told
 pub mod Values
 pub mod Votes

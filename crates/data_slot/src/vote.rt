@@ -1,6 +1,6 @@
 //! The votes on the due channels, and who is off.
 
-ghost use Rattle.std.specs.Prelude.{◌≡◌, ◌<◌, ◌==◌, ◌&&◌, IsSome, None, false, length, not};
+ghost use Rattle.std.specs.Prelude.{◌≡◌, ◌<◌, ◌==◌, ◌&&◌, All, IsSome, None, false, length, not};
 ghost use Rattle.node_grid.specs.Capacity.{IsCapacity};
 ghost use Rattle.node_grid.specs.NodeSet.{IsIdSet, ids_where};
 ghost use Rattle.agreed_state.specs.Agreed.{IsAgreed};
@@ -80,7 +80,7 @@ impl<'a> DataSlot<'a> {
     ) -> NodeSet<N>
         requires capacity { IsCapacity N }
         requires config { IsConfig N config.now }
-        requires due { IsIdSet (length config.now.channels.items) self.now.due.now }
+        requires channels { All (λ c. c < length config.now.channels.items) self.now.due.now }
         ensures { result ≡ ids_where (λ j. not (j == self.now.me) && is_off config.now self.now.due.now told.now votes.now j) config.now.nodes }
     {
         let mut off = NodeSet::empty();
@@ -163,7 +163,7 @@ fn vote_due<const N: usize>(
     requires capacity { IsCapacity N }
     requires config { IsConfig N config.now }
     requires agreed { IsAgreed N config.now agreed.now }
-    requires due { IsIdSet (length config.now.channels.items) due.now }
+    requires channels { All (λ c. c < length config.now.channels.items) due.now }
     ensures { result ≡ by_channel due.now (vote_due config.now agreed.now claims.now told.now) }
 {
     let mut votes = [None; 8];
@@ -197,7 +197,7 @@ fn is_off<const N: usize>(
     node: u8,
 ) -> bool
     requires config { IsConfig N config.now }
-    requires due { IsIdSet (length config.now.channels.items) due.now }
+    requires channels { All (λ c. c < length config.now.channels.items) due.now }
     requires node { node < N }
     ensures { result ≡ is_off config.now due.now told.now votes.now node }
 {

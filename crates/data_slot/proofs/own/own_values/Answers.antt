@@ -1,4 +1,4 @@
-use Rattle.std.proofs.Common.{rules, arith, ◌≡◌, ◌≢◌, ◌<◌, ◌≤◌, ℕ, ℤ, pos, length, length-set, get_or, get_or-set_other, get_or-set_same, sym, ap, ◌∙◌, inl, inr, Option, Some, None, nat_lt, lt-ltb, le-ltb, below_more}
+use Rattle.std.proofs.Common.{rules, arith, ◌≡◌, ◌≢◌, ◌<◌, ◌≤◌, ℕ, ℤ, pos, length, length-set, get_or, get_or-set_other, get_or-set_same, sym, ap, ◌∙◌, inl, inr, Some, None, nat_lt, lt-ltb, le-ltb, below_more}
 use mir.Syntax.{w64}
 use mir.Val.{SFits, to_z, of_z}
 use Rattle.std.proofs.lemmas.Int.{to_z-of_z}

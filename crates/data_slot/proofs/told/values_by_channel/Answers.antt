@@ -1,4 +1,4 @@
-use Rattle.std.proofs.Common.{rules, ℕ, ℤ, List, refl, get_or, sym, ap, subst, ◌≡◌, ◌∙◌, true}
+use Rattle.std.proofs.Common.{rules, ℕ, ℤ, List, refl, ap, ◌∙◌}
 use mir.Syntax.{w64}
 use mir.Val.{SFits}
 use Rattle.std.proofs.lemmas.Int.{to_z-of_z}

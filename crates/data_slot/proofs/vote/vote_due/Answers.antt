@@ -1,8 +1,7 @@
-use Rattle.std.proofs.Common.{ℕ, List, get_or, ap, ◌≡◌, ◌∙◌, refl, arith, ◌<◌, length}
+use Rattle.std.proofs.Common.{ℕ, List, get_or, ap, ◌≡◌, ◌∙◌, arith, ◌<◌, length}
 use Rattle.std.proofs.lemmas.List.{get_or_default, take_all}
-use Rattle.node_grid.specs.NodeSetLaws.{All-ids}
 use Rattle.mme_vote.specs.declared.channel.Channel.{Channel}
-use Rattle.protocol.specs.View.{channel_room, no_channel}
+use Rattle.protocol.specs.View.{no_channel}
 use Rattle.data_slot.specs.Values.{by_channel}
 use Rattle.data_slot.specs.Votes.{vote_due, vote_over}
 use Rattle.data_slot.proofs.ByChannel.{by_none, by_more}
@@ -16,12 +15,11 @@ loop-k-preserved g c =
     let due : List ℕ = c.args.due.now in
     let k : ℕ = c.loop-k.k in
     let items : List (Channel g.row.N) = c.args.config.now.channels.items in
-    let all = All-ids (length items) due c.requires.due in
-    let low : get_or due k 0 < length items = all k 0 c.loop-k-test.true in
-    let at : c.index-deref-channel.result ≡ get_or items (get_or due k 0) no_channel =
-    c.index-deref-channel.is ∙ ap (λ (xs : List (Channel g.row.N)). get_or xs (get_or due k 0) c.index-deref-channel.result) c.deref-channel.ensures.0 ∙ get_or_default items (get_or due k 0) c.index-deref-channel.result no_channel low in
+    let low : get_or due k 0 < length items = c.requires.channels k 0 c.loop-k-test.true in
+    let at : c.index-deref-c.result ≡ get_or items (get_or due k 0) no_channel =
+    c.index-deref-c.is ∙ ap (λ (xs : List (Channel g.row.N)). get_or xs (get_or due k 0) c.index-deref-c.result) c.deref.ensures.0 ∙ get_or_default items (get_or due k 0) c.index-deref-c.result no_channel low in
     by_more due (vote_due c.args.config.now c.args.agreed.now c.args.claims.now c.args.told.now) c.loop-k.votes k _ c.loop-k-test.true
-    (λ n d l. let b : get_or due n d < length items = all n d l in let f = c.requires.config.few_channels in omega arith)
+    (λ n d l. let b : get_or due n d < length items = c.requires.channels n d l in let f = c.requires.config.few_channels in omega arith)
     (c.vote_over.ensures ∙ ap (λ (ch : Channel g.row.N). vote_over c.args.config.now c.args.agreed.now c.args.claims.now c.args.told.now ch (get_or due k 0)) at)
     c.loop-k.invariant
 

@@ -1,6 +1,13 @@
-use Rattle.std.proofs.Common.{◌∙◌}
+use Rattle.std.proofs.Common.{rules, length, ◌∙◌}
+use Rattle.node_grid.specs.NodeSetLaws.{All-ids}
 use Rattle.data_slot.proofs.Voting.{TellsValues, votes_are, offs_are}
 use Rattle.data_slot.proofs.vote.DataSlot.vote.Goals as goal
+
+pub vote_due-votes-requires : goal.vote_due-votes-requires
+vote_due-votes-requires g c = (search rules, (search rules, (search rules, (search rules, (c.requires.capacity, (c.requires.config, (c.requires.agreed, All-ids (length c.args.config.now.channels.items) c.args.self.now.due.now c.requires.due)))))))
+
+pub deviating-off-requires : goal.deviating-off-requires
+deviating-off-requires g c = (search rules, (search rules, (search rules, (c.requires.capacity, (c.requires.config, All-ids (length c.args.config.now.channels.items) c.args.self.now.due.now c.requires.due)))))
 
 pub returns-clause-votes : goal.returns-clause-votes
 returns-clause-votes g c =

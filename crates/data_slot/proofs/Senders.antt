@@ -1,5 +1,5 @@
 -- The values that a node has from each sender, where nothing is told with a finding that is an error.
-use Rattle.std.proofs.Common.{ℕ, ◌≡◌, ◌≢◌, ◌<◌, ◌==◌, Bool, true, false, if◌then◌else◌, List, refl, sym, ap, ◌∙◌, eq-eqb, ne_eqb, Option, None, Some, ℤ}
+use Rattle.std.proofs.Common.{ℕ, ◌≡◌, ◌≢◌, ◌<◌, ◌==◌, Bool, if◌then◌else◌, List, refl, sym, ap, ◌∙◌, eq-eqb, ne_eqb, Option, None, Some, ℤ}
 use Rattle.std.specs.Prelude.{IsSome}
 use Rattle.std.proofs.lemmas.Bool.{cond-true, cond-false, false≢true}
 use Rattle.frames.specs.Content.{Content, Expectation}

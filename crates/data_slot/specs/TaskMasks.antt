@@ -1,4 +1,4 @@
--- The mask of the tasks that pass a test has exactly their bits.
+-- Lemmas for callers: the mask of the tasks that pass a test has exactly their bits.
 use Rattle.std.proofs.Common.{ℕ, zero, suc, ◌≡◌, ◌<◌, ◌+◌, ◌*◌, ◌/◌, ◌%◌, ◌^◌, Bool, true, false, ◌==◌, ◌∷◌, filter, refl, sym, ap, ◌∙◌, inl, inr, arith, pow-suc}
 use Rattle.std.specs.List.{range_with_len, sum_by}
 use Rattle.std.specs.Int.{bit_at}

@@ -3,7 +3,7 @@ use Rattle.node_grid.specs.NodeSet.{has_id}
 use Rattle.protocol.specs.View.{value_from}
 use Rattle.data_slot.specs.Values.{only_values}
 use Rattle.data_slot.specs.Told.{value_told}
-use Rattle.data_slot.proofs.told.DataSlot.hear.Given as goal
+use Rattle.data_slot.proofs.vote.DataSlot.hear.Given as goal
 
 abbrev pub invariant-loop-from : goal.invariant-loop-from
 invariant-loop-from g l = record {

@@ -1,0 +1,33 @@
+use Rattle.std.proofs.Common.{◌≡◌, ◌&&◌, ◌==◌, not, false, Bool, ℕ, sym, ap, ◌∙◌, arith, eq-eqb, ne_eqb}
+use Rattle.std.proofs.Math.Bool.{and-false}
+use Rattle.std.proofs.lemmas.Bool.{and_from}
+use Rattle.node_grid.specs.NodeSet.{ids_where_below, with_id}
+use Rattle.node_grid.specs.NodeSetLaws.{ids_where_more_no, ids_where_more_yes, ids_where-within}
+use Rattle.data_slot.specs.Votes.{is_off}
+use Rattle.data_slot.proofs.vote.DataSlot.deviating.Goals as goal
+use Rattle.data_slot.proofs.vote.DataSlot.deviating.Goals.{then-node-self+then-is_off, else-node-self, else-node-self-via-then-node-self+else-is_off, else-node-self-via-else-node-self}
+
+pub loop-node-preserved : goal.loop-node-preserved
+loop-node-preserved g c =
+    let slot = c.args.self.now in
+    let node : ℕ = c.loop-node.node in
+    let far : ℕ → Bool = is_off c.args.config.now slot.due.now c.args.told.now c.args.votes.now in
+    let off : ℕ → Bool = λ j. not (j == slot.me) && far j in
+    elim c.if-node-self.branch [
+      | then-node-self+then-is_off w ↦
+          w.off-is ∙ w.put.ensures ∙ ap (λ s. with_id g.row.N s node) c.loop-node.invariant
+          ∙ sym (ids_where_more_yes off g.row.N node (and_from _ _ (ap not (ne_eqb node slot.me w.if-node-self.true)) (sym w.is_off.ensures ∙ w.if-is_off.true)))
+      | else-node-self w ↦
+          let none : off node ≡ false = elim w.else-node-self.branch [
+            | else-node-self-via-then-node-self+else-is_off u ↦ ap (λ (b : Bool). not (node == slot.me) && b) (sym u.is_off.ensures ∙ u.if-is_off.false) ∙ and-false (not (node == slot.me))
+            | else-node-self-via-else-node-self u ↦ ap (λ (b : Bool). not b && far node) (eq-eqb node slot.me u.if-node-self.false)
+          ] in
+          w.off-is ∙ c.loop-node.invariant ∙ sym (ids_where_more_no off g.row.N node none)
+    ]
+
+pub returns : goal.returns
+returns g c =
+    let slot = c.args.self.now in
+    let off : ℕ → Bool = λ j. not (j == slot.me) && is_off c.args.config.now slot.due.now c.args.told.now c.args.votes.now j in
+    let all : c.loop-node.node ≡ c.args.config.now.nodes = (let e = c.loop-node.auto.node-end in let t = c.loop-node-test.false in omega arith) in
+    c.loop-node.invariant ∙ ap (λ (n : ℕ). ids_where_below off g.row.N n) all ∙ ids_where-within off g.row.N c.args.config.now.nodes c.requires.config.few_nodes

@@ -1,0 +1,38 @@
+use Rattle.std.proofs.Common.{rules, ◌<◌, if◌then◌else◌, length, get_or, sym, ap, subst, ◌∙◌, arith, None, Some}
+use Rattle.std.specs.Prelude.{option_map}
+use Rattle.node_grid.specs.NodeSetLaws.{All-ids}
+use Rattle.omh_paths.specs.MemberLaws.{Distinct-ids, member-lt}
+use Rattle.frames.specs.Seen.{content}
+use Rattle.protocol.specs.Arrival.{arrived, values_in}
+use Rattle.protocol.specs.View.{value_in, own_in}
+use Rattle.data_slot.proofs.Senders.{from_other, from_self}
+use Rattle.data_slot.proofs.vote.DataSlot.values_from.Goals as goal
+
+pub values_in_frame-requires : goal.values_in_frame-requires
+values_in_frame-requires g c =
+    let n = length c.args.config.now.channels.items in
+    let due = c.args.self.now.due.now in
+    let f = c.requires.config.few_channels in
+    (search rules, (c.requires.capacity, (Distinct-ids n due c.requires.due, λ k d l. let low : get_or due k d < n = All-ids n due c.requires.due k d l in omega arith)))
+
+pub returns-then-from-self : goal.returns-then-from-self
+returns-then-from-self g c x on =
+    let slot = c.args.self.now in
+    let w = c.args.watch.now in
+    c.values_in_frame.ensures x on
+    ∙ ap (λ n. value_in slot.due.now (arrived values_in None (option_map (λ f. content n f.body) c.frame.result)) x) (sym c.requires.nodes)
+    ∙ ap (λ o. value_in slot.due.now (arrived values_in None o) x) c.frame.ensures.told
+    ∙ from_other slot.me slot.full slot.due.now slot.own.now w c.args.from x c.if-from-self.true c.requires.some_slot (subst (λ n. c.args.from < n) (sym c.requires.nodes) c.requires.from) c.requires.me
+
+pub returns-then-self : goal.returns-then-self
+returns-then-self g c x on =
+    let slot = c.args.self.now in
+    ap Some (c.own_by_channel.ensures x (let l = member-lt (length c.args.config.now.channels.items) slot.due.now x c.requires.due on in let f = c.requires.config.few_channels in omega arith))
+    ∙ ap (λ b. if b then Some (own_in slot.own.now x) else None) (sym c.if-self.true)
+    ∙ from_self slot.me slot.full slot.due.now slot.own.now c.args.watch.now c.args.from x c.if-from-self.false
+
+pub returns-else-self : goal.returns-else-self
+returns-else-self g c x on =
+    let slot = c.args.self.now in
+    ap (λ b. if b then Some (own_in slot.own.now x) else None) (sym c.if-self.false)
+    ∙ from_self slot.me slot.full slot.due.now slot.own.now c.args.watch.now c.args.from x c.if-from-self.false
