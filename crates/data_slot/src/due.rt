@@ -22,11 +22,13 @@ fn is_due<const N: usize>(channel: &Channel<N>, finished: u32) -> bool
     }
 }
 
-/// The due channels, in ascending order: those without a task, and those whose task is finished now. Bit t of `finished`
-/// is set where task t is.
+/// The due channels, in ascending order: those without a task, and those whose task is finished
+/// now. Bit t of `finished` is set where task t is.
 pub fn due_channels<const N: usize>(config: &Config<N>, finished: u32) -> ArrayVec<u8, 8>
     requires config { IsConfig N config.now }
-    ensures { result.items ≡ ids_where (λ c. due_by (slice_index_or config.now.channels.items c no_channel) finished) (length config.now.channels.items) }
+    ensures { result.items ≡ ids_where
+        (λ c. due_by (slice_index_or config.now.channels.items c no_channel) finished)
+        (length config.now.channels.items) }
 {
     let mut due = ArrayVec::new();
     for c in 0..config.channels.len() {

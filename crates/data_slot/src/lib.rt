@@ -1,5 +1,5 @@
-//! The data slot of a period, as one node goes through it: which channels are due, its own values of them, the votes, and
-//! which other nodes told a value too far from a vote.
+//! The data slot of a period, as one node goes through it: which channels are due, its own values
+//! of them, the votes, and which other nodes told a value too far from a vote.
 #![tactic(auto)]
 
 mod due;

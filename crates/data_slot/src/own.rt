@@ -41,7 +41,8 @@ fn first_there(vote: Option<i64>, own: Option<i64>) -> i64
     }
 }
 
-/// The last vote, or else the last own value, with the step, cut to the range of values; 0 takes the place of both.
+/// The last vote, or else the last own value, with the step, cut to the range of values; 0 takes
+/// the place of both.
 fn carried_on(vote: Option<i64>, own: Option<i64>, step: i64) -> i64
     ensures { result ≡ cut (first_there vote own +ℤ step) }
 {
@@ -73,11 +74,12 @@ fn own_value<const N: usize>(
     }
 }
 
-/// A node's own values in a period by channel, with none in the places behind the channels, from what it is given, and
-/// from the votes and own values of the period before.
+/// A node's own values in a period by channel, with none in the places behind the channels, from
+/// what it is given, and from the votes and own values of the period before.
 ///
-/// Of a state channel it is the start in period 0, and later the last vote, or else the last own value, with the step,
-/// cut to the range of values; of a sensor and of a copy channel it is the reading.
+/// Of a state channel it is the start in period 0, and later the last vote, or else the last own
+/// value, with the step, cut to the range of values; of a sensor and of a copy channel it is the
+/// reading.
 pub fn own_values<const N: usize>(
     config: &Config<N>,
     me: u8,
@@ -88,7 +90,13 @@ pub fn own_values<const N: usize>(
 ) -> [Option<i64>; 8]
     requires config { IsConfig N config.now }
     requires me { me < N }
-    ensures { (state : Option AgreedView) (carried : List ℕ) → result ≡ own_values (setting_of config.now) me period inputs.now (record { state = state; carried = carried; votes = votes.now; owns = owns.now }) }
+    ensures { (state : Option AgreedView) (carried : List ℕ) → result ≡
+        own_values (setting_of config.now) me period inputs.now (record {
+          state = state;
+          carried = carried;
+          votes = votes.now;
+          owns = owns.now;
+        }) }
 {
     let mut values = [None; 8];
     for c in 0..config.channels.len() {

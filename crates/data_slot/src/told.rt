@@ -1,6 +1,7 @@
 //! The values of the due channels that a node has, by sender and channel.
 
-ghost use Rattle.std.specs.Prelude.{◌≡◌, ℕ, ◌<◌, All, None, IsSome, length, option_map, pos, slice_index_or, true, false};
+ghost use Rattle.std.specs.Prelude.{◌≡◌, ℕ, ◌<◌, All, None, IsSome, length, option_map, pos};
+ghost use Rattle.std.specs.Prelude.{slice_index_or, true, false};
 ghost use Rattle.node_grid.specs.Capacity.{IsCapacity};
 ghost use Rattle.node_grid.specs.Count.{Distinct};
 ghost use Rattle.node_grid.specs.NodeSet.{IsIdSet, has_id};
@@ -29,7 +30,8 @@ fn value_or_zero(values: &Values<'_>, k: usize) -> i64
 fn values_by_channel(values: &Values<'_>, due: &[u8]) -> [i64; 8]
     requires distinct { Distinct due.now }
     requires low { All (λ c. c < 8) due.now }
-    ensures { (c : ℕ) → has_id due.now c ≡ true → slice_index_or result c (pos 0) ≡ value_of due.now (values_of values.now.bytes.now) c }
+    ensures { (c : ℕ) → has_id due.now c ≡ true →
+        slice_index_or result c (pos 0) ≡ value_of due.now (values_of values.now.bytes.now) c }
 {
     let mut told = [0; 8];
     for k in 0..due.len() {
@@ -47,7 +49,10 @@ fn values_in_frame<const N: usize>(
     requires capacity { IsCapacity N }
     requires distinct { Distinct due.now }
     requires low { All (λ c. c < 8) due.now }
-    ensures { (c : ℕ) → has_id due.now c ≡ true → at_channel result c ≡ value_in due.now (arrived values_in None (option_map (λ f. content nodes f.body) frame.now)) c }
+    ensures { (c : ℕ) → has_id due.now c ≡ true →
+        at_channel result c ≡
+        value_in due.now
+        (arrived values_in None (option_map (λ f. content nodes f.body) frame.now)) c }
 {
     let _ = nodes;
     let Some(frame) = frame else {
@@ -72,8 +77,8 @@ fn own_by_channel(own: &[Option<i64>; 8]) -> [i64; 8]
 }
 
 impl<'a> DataSlot<'a> {
-    /// The values of the due channels that a node has from one node: its own where it is Full, and those of another node's
-    /// frame.
+    /// The values of the due channels that a node has from one node: its own where it is Full, and
+    /// those of another node's frame.
     fn values_from<const N: usize>(
         &self,
         watch: &SlotWatch<N>,
@@ -89,7 +94,10 @@ impl<'a> DataSlot<'a> {
         requires nodes { watch.now.nodes ≡ config.now.nodes }
         requires me { watch.now.me ≡ self.now.me }
         requires from { from < config.now.nodes }
-        ensures { (c : ℕ) → has_id self.now.due.now c ≡ true → at_channel result c ≡ value_from self.now.me self.now.full self.now.due.now self.now.own.now (only_values watch.now) c from }
+        ensures { (c : ℕ) → has_id self.now.due.now c ≡ true →
+            at_channel result c ≡
+            value_from self.now.me self.now.full self.now.due.now self.now.own.now
+            (only_values watch.now) c from }
     {
         if from != self.me {
             return values_in_frame(&watch.frame(from), config.nodes, self.due);
@@ -115,7 +123,10 @@ impl<'a> DataSlot<'a> {
         requires unguessed { watch.now.guess ≡ None }
         requires nodes { watch.now.nodes ≡ config.now.nodes }
         requires me { watch.now.me ≡ self.now.me }
-        ensures { (q c : ℕ) → q < config.now.nodes → has_id self.now.due.now c ≡ true → value_told result q c ≡ value_from self.now.me self.now.full self.now.due.now self.now.own.now (only_values watch.now) c q }
+        ensures { (q c : ℕ) → q < config.now.nodes → has_id self.now.due.now c ≡ true →
+            value_told result q c ≡
+            value_from self.now.me self.now.full self.now.due.now self.now.own.now
+            (only_values watch.now) c q }
     {
         let mut told = [None; N];
         for from in 0..config.nodes {

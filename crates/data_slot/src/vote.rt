@@ -35,16 +35,16 @@ pub struct DataSlot<'a> {
 pub struct Voted<const N: usize> {
     /// The votes by channel, with none on those that aren't due, or of which no voter told a value.
     pub votes: [Option<i64>; 8],
-    /// The other nodes that told a value of a due channel which is further from the vote than the channel's delta; values
-    /// of copy channels are held against nobody.
+    /// The other nodes that told a value of a due channel which is further from the vote than the
+    /// channel's delta; values of copy channels are held against nobody.
     pub off: NodeSet<N>,
 }
 
 impl<'a> DataSlot<'a> {
     /// Votes on the due channels, over the values that came in the slot that the watch closed last.
     ///
-    /// All members vote on a state or a sensor channel, and on a copy channel those whose copies of its task passed by the
-    /// settled claims.
+    /// All members vote on a state or a sensor channel, and on a copy channel those whose copies of
+    /// its task passed by the settled claims.
     pub fn vote<const N: usize>(
         &self,
         watch: &SlotWatch<N>,
@@ -61,8 +61,13 @@ impl<'a> DataSlot<'a> {
         requires unguessed { watch.now.guess ≡ None }
         requires nodes { watch.now.nodes ≡ config.now.nodes }
         requires me { watch.now.me ≡ self.now.me }
-        ensures votes { result.votes ≡ votes_on (setting_of config.now) self.now.me self.now.full agreed.now claims.now self.now.due.now self.now.own.now (only_values watch.now) }
-        ensures off { result.off ≡ ids_where (λ j. not (j == self.now.me) && deviates (setting_of config.now) self.now.due.now result.votes (only_values watch.now) j) config.now.nodes }
+        ensures votes { result.votes ≡
+            votes_on (setting_of config.now) self.now.me self.now.full agreed.now claims.now
+            self.now.due.now self.now.own.now (only_values watch.now) }
+        ensures off { result.off ≡ ids_where
+            (λ j. not (j == self.now.me) && deviates (setting_of config.now) self.now.due.now
+            result.votes (only_values watch.now) j)
+            config.now.nodes }
     {
         let told = self.hear(watch, config);
         let votes = vote_due(config, agreed, claims, &told, self.due);
@@ -81,7 +86,10 @@ impl<'a> DataSlot<'a> {
         requires capacity { IsCapacity N }
         requires config { IsConfig N config.now }
         requires channels { All (λ c. c < length config.now.channels.items) self.now.due.now }
-        ensures { result ≡ ids_where (λ j. not (j == self.now.me) && is_off config.now self.now.due.now told.now votes.now j) config.now.nodes }
+        ensures { result ≡ ids_where
+            (λ j. not (j == self.now.me)
+            && is_off config.now self.now.due.now told.now votes.now j)
+            config.now.nodes }
     {
         let mut off = NodeSet::empty();
         for node in 0..config.nodes {
@@ -124,8 +132,8 @@ fn vote_among<const N: usize>(
     vote_of_members(members, value_of, m)
 }
 
-/// The vote on a channel: of a copy channel over the values of the members whose copies of its task passed, and of
-/// another over those of all members.
+/// The vote on a channel: of a copy channel over the values of the members whose copies of its
+/// task passed, and of another over those of all members.
 fn vote_over<const N: usize>(
     config: &Config<N>,
     agreed: &Agreed<N>,
