@@ -1,5 +1,5 @@
 -- What slot a controller stands in, by its number.
-use Rattle.std.proofs.Common.{ℕ, ◌≡◌, ◌≤◌, ◌+◌, ap, refl, arith}
+use Rattle.std.proofs.Common.{ℕ, ◌≡◌, ◌≤◌, ◌+◌, ◌*◌, ap, refl, arith}
 use Rattle.slot_plan.specs.declared.slot.Slot.{Slot}
 use Rattle.slot_plan.specs.declared.slot.Slot.TheVariants.{Sync, Claims, Data, Rows}
 use Rattle.slot_plan.specs.Slots.{slot_number, IsSlot}
@@ -28,3 +28,10 @@ module _ (m : ℕ) where
   in_rows r (Claims k) h e = absurd (omega arith)
   in_rows r Data h e = absurd (omega arith)
   in_rows r (Rows k) h e = let s : k ≡ r = omega arith in ap Rows s
+
+  -- no slot has a number behind the last
+  pub later_slots : (x : Slot) → IsSlot m x → slot_number m x ≡ 2 * m + 3 + 1 → ⊥
+  later_slots Sync h e = omega arith
+  later_slots (Claims k) h e = omega arith
+  later_slots Data h e = omega arith
+  later_slots (Rows k) h e = omega arith

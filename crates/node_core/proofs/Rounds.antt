@@ -10,7 +10,9 @@ use Rattle.frames.specs.Bound.{IsGreatest}
 use Rattle.frames.specs.Content.{Expectation, kind_in, round_in, IsClaim, IsRow}
 use Rattle.frames.specs.FrameKinds.{claim_relay_kind, row_relay_kind}
 use Rattle.error_detect.specs.Watching.{HasRoom}
+use Rattle.agreed_state.specs.declared.config.Config.{Config}
 use Rattle.agreed_state.specs.Config.{IsConfig}
+use Rattle.agreed_state.specs.Expecting.{expectation}
 use Rattle.agreed_state.specs.Agreed.{AgreedView}
 use Rattle.agreed_state.specs.Body.{state_len}
 use Rattle.protocol.specs.Run.{members_in}
@@ -25,14 +27,18 @@ either P true x y p q = p
 either P false x y p q = q
 
 -- there is room for each frame that is expected
-pub expected_fits : {N : ℕ} (v : NodeView N) (t room : ℕ) → IsConfig N v.config → HasSizes v → IsGreatest v.config.nodes v.config.m (state_len v.config) 8 room → HasRoom room (expected_in v t)
-expected_fits v t room ok h greatest j c r = greatest.within _ c (record {
+pub fits_room : {N : ℕ} (config : Config N) (period t me : ℕ) (members : List ℕ) (due room : ℕ) → IsIdSet config.nodes members → due ≤ 8 → IsGreatest config.nodes config.m (state_len config) 8 room
+    → HasRoom room (expectation config period t me members due)
+fits_room config period t me members due room set few greatest j c r = greatest.within _ c (record {
   nodes_is = refl;
   m_is = refl;
   state_len_is = refl;
-  few_due = either (λ (n : ℕ). n ≤ 8) (t == v.config.m + 2) (length v.found.due) 0 (few_due v ok h) (omega arith);
-  members = either (IsIdSet v.config.nodes) (t == 0) [] (members_in v.phase.before) (no_ids v.config.nodes) (members_asked v h);
+  few_due = either (λ (n : ℕ). n ≤ 8) (t == config.m + 2) due 0 few (omega arith);
+  members = either (IsIdSet config.nodes) (t == 0) [] members (no_ids config.nodes) set;
 }) r
+
+pub expected_fits : {N : ℕ} (v : NodeView N) (t room : ℕ) → IsConfig N v.config → HasSizes v → IsGreatest v.config.nodes v.config.m (state_len v.config) 8 room → HasRoom room (expected_in v t)
+expected_fits v t room ok h = fits_room v.config v.phase.period t v.phase.me (members_in v.phase.before) (length v.found.due) room (members_asked v h) (few_due v ok h)
 
 -- the members whom a slot after the first asks
 asked : {N : ℕ} (v : NodeView N) (a : AgreedView) (t : ℕ) (h : List ℕ) → 0 < t → v.phase.before ≡ Some a → h ≡ a.standing.members → (expected_in v t).members ≡ h

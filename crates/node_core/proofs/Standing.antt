@@ -1,5 +1,5 @@
 -- What holds of a controller is kept where little of it changes.
-use Rattle.std.proofs.Common.{ℕ, ◌≡◌, ◌≤◌, true, false, List, length, Vec, Global, sym, ap, subst, ◌∙◌, arith}
+use Rattle.std.proofs.Common.{ℕ, ◌≡◌, ◌≤◌, true, false, List, length, Option, None, Some, Vec, Global, refl, sym, ap, subst, ◌∙◌, arith}
 use Rattle.std.specs.Prelude.{IsSome, IfSome}
 use Rattle.std.specs.Vec.{with_items}
 use Rattle.std.proofs.lemmas.List.{with_items_is}
@@ -10,8 +10,10 @@ use Rattle.frames.specs.Content.{Content, Expectation}
 use Rattle.frames.specs.Content.Content.{State}
 use Rattle.error_detect.specs.Watching.{Watch, closed, opened, delivered}
 use Rattle.agreed_state.specs.declared.config.Config.{Config}
+use Rattle.agreed_state.specs.Agreed.{AgreedView}
 use Rattle.agreed_state.specs.Body.{body}
 use Rattle.node_core.specs.declared.controller.Buffers.{Buffers}
+use Rattle.node_core.specs.declared.controller.Keeping.{Keeping}
 use Rattle.node_core.specs.declared.controller.Controller.TheInside.{Inside}
 use Rattle.node_core.specs.Inside.{IsItsWatch, HasRooms, IsGuessed, IsController}
 
@@ -22,7 +24,7 @@ module _ {N : ℕ} (config : Config N) (me : ℕ) (w : Watch) (i : IsItsWatch co
   watch_shut u e = subst (IsItsWatch config me) (sym e) (record { nodes = i.nodes; me_is = i.me_is; greatest = i.greatest; expects = λ h. absurd (cc) })
 
   pub watch_open : (u : Watch) (x : Expectation) → u ≡ opened w x → IsItsWatch config me u
-  watch_open u x e = subst (IsItsWatch config me) (sym e) (record { nodes = i.nodes; me_is = i.me_is; greatest = i.greatest; expects = λ h. tt })
+  watch_open u x e = subst (IsItsWatch config me) (sym e) (record { nodes = i.nodes; me_is = i.me_is; greatest = i.greatest; expects = λ h. refl })
 
   pub watch_given : (u : Watch) (from tick : ℕ) (bytes : List ℕ) → u ≡ delivered w from tick bytes → IsItsWatch config me u
   watch_given u from tick bytes e = subst (IsItsWatch config me) (sym e) (record { nodes = i.nodes; me_is = i.me_is; greatest = i.greatest; expects = i.expects })
@@ -39,6 +41,25 @@ guess_stays Sync n u e g h = subst (λ c. IfSome c (λ s. (n.phase.full ≡ true
 guess_stays (Claims r) n u e g h = λ some x c expects guesses. h some x c (sym e ∙ expects) (sym g ∙ guesses)
 guess_stays Data n u e g h = g ∙ h
 guess_stays (Rows r) n u e g h = λ some x c expects guesses. h some x c (sym e ∙ expects) (sym g ∙ guesses)
+
+-- and where what is kept was forgotten
+pub guess_forgotten : {N : ℕ} (x : Slot) (n : Inside N) (k : Keeping N) → k.state ≡ None → IsGuessed x n → IsGuessed x (record n { kept = k })
+guess_forgotten {N} Sync n k none h = go n.watch.guess h where
+  nothing_kept : (c : Content) → IfSome k.state (λ a. c ≡ State (body n.config.now a))
+  nothing_kept c = subst (λ (o : Option AgreedView). IfSome o (λ a. c ≡ State (body n.config.now a))) (sym none) tt
+  go : (o : Option Content) → IfSome o (λ c. (n.phase.full ≡ true) × IfSome n.kept.state (λ a. c ≡ State (body n.config.now a))) → IfSome o (λ c. (n.phase.full ≡ true) × IfSome k.state (λ a. c ≡ State (body n.config.now a)))
+  go None i = tt
+  go (Some c) i = (i.0, nothing_kept c)
+guess_forgotten (Claims r) n k none h = h
+guess_forgotten Data n k none h = h
+guess_forgotten (Rows r) n k none h = h
+
+-- where nothing is guessed that is no matter
+pub no_guess : {N : ℕ} (x : Slot) (n : Inside N) → n.watch.guess ≡ None → IsGuessed x n
+no_guess Sync n none = subst (λ (o : Option Content). IfSome o (λ c. (n.phase.full ≡ true) × IfSome n.kept.state (λ a. c ≡ State (body n.config.now a)))) (sym none) tt
+no_guess (Claims r) n none = λ some e c expects guesses. absurd (let x = sym none ∙ guesses in cc)
+no_guess Data n none = none
+no_guess (Rows r) n none = λ some e c expects guesses. absurd (let x = sym none ∙ guesses in cc)
 
 -- a frame came
 pub frame_given : {N : ℕ} (n : Inside N) (u : Watch) (from tick : ℕ) (bytes : List ℕ) → u ≡ delivered n.watch from tick bytes → IsController n → IsController (record n { watch = u })

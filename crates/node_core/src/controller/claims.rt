@@ -1,7 +1,8 @@
 //! The slots of claims.
 
 ghost use Rattle.std.specs.Prelude.{◌≡◌, ◌+◌, ◌≤◌, true, IfSome};
-ghost use Rattle.node_steps.specs.Sound.{IsSound, HasSizes, Hears};
+ghost use Rattle.agreed_state.specs.Agreed.{IsAgreed};
+ghost use Rattle.node_steps.specs.Sound.{IsSound, Hears};
 ghost use Rattle.node_steps.specs.Steps.{shut, taken, claims_known};
 
 use super::Controller;
@@ -38,7 +39,7 @@ impl<'c, const N: usize> Controller<'c, N> {
 
     /// Settles the claims, and takes what follows from them.
     fn know_claims(&mut self)
-        requires sizes { HasSizes self.old }
+        requires agreed { IfSome self.old.phase.before (λ a. IsAgreed N self.old.config a) }
         requires hears { IfSome self.old.phase.before (λ a. Hears self.old.done self.old.phase.me a) }
         ensures { IfSome self.old.phase.before (λ a. self.new ≡ claims_known self.old a) }
     {

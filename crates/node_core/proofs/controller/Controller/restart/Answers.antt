@@ -1,5 +1,6 @@
-use Rattle.std.proofs.Common.{ℕ, sym, ap, ◌∙◌}
+use Rattle.std.proofs.Common.{ap, refl, ◌∙◌}
 use Rattle.error_reports.specs.Notes.{Notes}
+use Rattle.node_core.proofs.Standing.{guess_forgotten}
 use Rattle.node_core.proofs.controller.Controller.restart.Goals as goal
 
 pub invariant_of-self : goal.invariant_of-self
@@ -17,5 +18,5 @@ invariant_of-self g c =
       };
       notes = inv.notes;
       rooms = inv.rooms;
-      guessed = ?;
+      guessed = λ h. guess_forgotten c.self.inside.phase.slot c.self.inside _ refl (inv.guessed h);
     }

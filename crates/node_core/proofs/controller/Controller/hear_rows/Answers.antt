@@ -1,0 +1,106 @@
+use Rattle.std.proofs.Common.{◌≡◌, ◌≤◌, ◌+◌, ℕ, List, length, Option, true, inl, inr, lit<, sym, ap, subst, ◌∙◌}
+use Rattle.slot_plan.specs.declared.slot.Slot.TheVariants.{Rows}
+use Rattle.error_detect.specs.declared.finding.Finding.{Finding}
+use Rattle.error_detect.specs.Watching.{Watch}
+use Rattle.error_reports.specs.Notes.{Notes, also_carried}
+use Rattle.agreed_state.specs.Agreed.{AgreedView}
+use Rattle.relaying.specs.Guessed.{unguessed}
+use Rattle.noting.specs.Findings.{found_bad}
+use Rattle.node_steps.specs.Parts.{NodeView}
+use Rattle.node_steps.specs.Sound.{IsSound}
+use Rattle.node_steps.specs.Steps.{shut, taken}
+use Rattle.node_core.specs.Inside.{seen}
+use Rattle.node_core.proofs.Behind.{some_of, none_of}
+use Rattle.node_core.proofs.Places.{in_rows}
+use Rattle.node_core.proofs.Standing.{watch_shut, not_open, rows_room}
+use Rattle.node_core.proofs.HeardSlots.{rows_watching, rows_echoed, rows_rounds, rows_bring, rows_fit, rows_seen, rows_taken}
+use Rattle.node_core.proofs.controller.Controller.hear_rows.Goals as goal
+
+pub close-found-requires : goal.close-found-requires
+close-found-requires g c =
+    let is = c.self.view_is in
+    let open' = (c.requires.sound.in_slot c.requires.open).watching in
+    (lit< tt, ap (λ (v : NodeView g.row.N). v.arrived.is_open) is ∙ open')
+
+pub is_none-requires : goal.is_none-requires
+is_none-requires g c = ?
+
+pub invariant_of-self : goal.invariant_of-self
+invariant_of-self g c =
+    let n = c.self.inside in
+    let inv = c.self.invariant in
+    let u = c.close-found.new.self in
+    let shut' = c.close-found.ensures.closed in
+    record {
+      place = inv.place;
+      slot = inv.slot;
+      watch = watch_shut n.config.now n.phase.me n.watch inv.watch u shut';
+      kept_notes = inv.kept_notes;
+      notes = inv.notes;
+      rooms = inv.rooms;
+      guessed = λ h. absurd (not_open n.watch u shut' h);
+    }
+
+pub returns-then-is_none : goal.returns-then-is_none
+returns-then-is_none g c =
+    let n = c.self.inside in
+    let before = none_of n.phase.before (sym c.is_none.ensures ∙ c.if-is_none.true) in
+    ap (λ (w : Watch). record (seen n) { arrived = unguessed w }) c.close-found.ensures.closed
+    ∙ ap (λ (o : Option AgreedView). taken (shut (seen n)) o) (sym before)
+    ∙ ap (λ (v : NodeView g.row.N). taken (shut v) v.phase.before) c.self.view_is
+
+pub carry_found-requires : goal.carry_found-requires
+carry_found-requires g c = ?
+
+pub as_mut_slice-requires : goal.as_mut_slice-requires
+as_mut_slice-requires g c = ?
+
+pub hear_round-requires-room-V-Item : goal.hear_round-requires-room-V-Item
+hear_round-requires-room-V-Item g c = ?
+
+pub hear_round-requires-room-V-Value : goal.hear_round-requires-room-V-Value
+hear_round-requires-room-V-Value g c = ?
+
+pub hear_round-requires-room-V-Eq : goal.hear_round-requires-room-V-Eq
+hear_round-requires-room-V-Eq g c = ?
+
+pub hear_round-requires-room-V-PartialEq : goal.hear_round-requires-room-V-PartialEq
+hear_round-requires-room-V-PartialEq g c = ?
+
+pub hear_round-requires : goal.hear_round-requires
+hear_round-requires g c = ?
+
+pub invariant_of-self-2 : goal.invariant_of-self-2
+invariant_of-self-2 g c =
+    let n = c.self.inside in
+    let inv = c.self.invariant in
+    let u = c.close-found.new.self in
+    let shut' = c.close-found.ensures.closed in
+    let k = c.carry_found.ensures in
+    record {
+      place = inv.place;
+      slot = inv.slot;
+      watch = watch_shut n.config.now n.phase.me n.watch inv.watch u shut';
+      kept_notes = inv.kept_notes;
+      notes = record { nodes = ap (λ (x : Notes). x.nodes) k ∙ inv.notes.nodes; me_is = ap (λ (x : Notes). x.me) k ∙ inv.notes.me_is; kinds = ap (λ (x : Notes). x.kinds) k ∙ inv.notes.kinds };
+      rooms = rows_room n.config.now.nodes n.config.now.m n.buffers c.hear_round.new.entries (c.hear_round.ensures.length ∙ ap (λ xs. length xs) c.as_mut_slice.ensures.value) inv.rooms;
+      guessed = λ h. absurd (not_open n.watch u shut' h);
+    }
+
+pub returns : goal.returns
+returns g c =
+    let n = c.self.inside in
+    let inv = c.self.invariant in
+    let is = c.self.view_is in
+    let r : ℕ = c.args.round in
+    let some = some_of n.phase.before (sym c.is_none.ensures ∙ c.if-is_none.false) in
+    let a : AgreedView = some.0 in
+    let sound : IsSound (seen n) = subst (IsSound {N = g.row.N}) (sym is) c.requires.sound in
+    let open' : n.phase.is_open ≡ true = ap (λ (v : NodeView g.row.N). v.phase.is_open) is ∙ c.requires.open in
+    let low : r ≤ n.config.now.m = subst (λ (v : NodeView g.row.N). r ≤ v.config.m) (sym is) c.requires.round in
+    let number : (seen n).phase.slot ≡ n.config.now.m + 3 + r = subst (λ (v : NodeView g.row.N). v.phase.slot ≡ v.config.m + 3 + r) (sym is) c.requires.slot in
+    let at = in_rows n.config.now.m r n.phase.slot inv.slot number in
+    let noted = c.carry_found.ensures ∙ ap (λ (fs : List Finding). also_carried g.row.N n.found.notes (found_bad fs)) c.close-found.ensures.found in
+    rows_seen n inv sound open' c.close-found.new.self c.close-found.ensures.closed a some.1 r low at c.carry_found.new.notes c.hear_round.new.table noted c.hear_round.ensures.heard
+    ∙ sym (rows_taken (seen n) a r number) ∙ ap (λ (o : Option AgreedView). taken (shut (seen n)) o) (sym some.1)
+    ∙ ap (λ (v : NodeView g.row.N). taken (shut v) v.phase.before) is
