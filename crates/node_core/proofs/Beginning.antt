@@ -14,6 +14,7 @@ use Rattle.relaying.specs.Guessed.{unguessed}
 use Rattle.node_core.specs.declared.controller.Findings.{Findings}
 use Rattle.node_core.specs.declared.controller.Controller.TheInside.{Inside}
 use Rattle.node_core.specs.Inside.{IsItsWatch, AreItsNotes, IsController}
+use Rattle.node_core.proofs.Standing.{watch_open, watch_alike}
 
 -- what is guessed, if anything, is the state that is kept
 abbrev pub IsOwnState : {N : ℕ} → Inside N → Option Content → Type 0
@@ -50,13 +51,8 @@ module _ {N : ℕ} (n : Inside N) (e : Expectation) (m : Inside N) where
 module _ {N : ℕ} (n : Inside N) (e : Expectation) (m : Inside N) (b : Begins n e m) (inv : IsController n) where
   its_watch : IsItsWatch n.config.now n.phase.me b.watch
   its_watch =
-      let w : Watch = b.watch in
-      let s = b.seen_as in record {
-        nodes = ap (λ (x : Watch). x.nodes) s ∙ inv.watch.nodes;
-        me_is = ap (λ (x : Watch). x.me) s ∙ inv.watch.me_is;
-        greatest = subst (λ (x : Watch). IsItsWatch n.config.now n.phase.me x) (sym s) (record { nodes = inv.watch.nodes; me_is = inv.watch.me_is; greatest = inv.watch.greatest; expects = λ h. refl }) .greatest;
-        expects = λ h. subst (λ (o : Option Expectation). is_some o ≡ true) (sym (ap (λ (x : Watch). x.expect) s)) refl;
-      }
+      let w : Watch = opened n.watch e in
+      watch_alike n.config.now n.phase.me w (watch_open n.config.now n.phase.me n.watch inv.watch w e refl) b.watch b.seen_as
 
   -- what holds of it then
   pub begins_kept : (p : ℕ) (i : Inputs) (full : Bool) (f : Findings N) → full ≡ is_some m.kept.state → AreItsNotes n.config.now n.phase.me f.notes

@@ -1,6 +1,6 @@
 -- What stands behind the view of a controller.
-use Rattle.std.specs.Prelude.{is_none}
-use Rattle.std.proofs.Common.{ℕ, ◌≡◌, ◌≤◌, ◌+◌, ◌==◌, true, false, Option, None, Some, refl, sym, ap, subst, ◌∙◌, lit<, inl, inr, arith, ne_eqb}
+use Rattle.std.specs.Prelude.{is_some}
+use Rattle.std.proofs.Common.{ℕ, ◌≡◌, ◌≤◌, ◌+◌, ◌==◌, Bool, true, false, not, Option, None, Some, refl, sym, ap, subst, ◌∙◌, lit<, inl, inr, arith, ne_eqb}
 use Rattle.std.proofs.lemmas.Bool.{cond-false}
 use Rattle.node_grid.specs.Capacity.{IsCapacity}
 use Rattle.slot_plan.specs.declared.slot.Slot.{Slot}
@@ -31,11 +31,11 @@ module _ {N : ℕ} (n : Inside N) (v : NodeView N) (inv : IsController n) (is : 
 pub later_taken : {N : ℕ} (v : NodeView N) → (v.phase.slot ≡ 0 → ⊥) → slot_taken (shut v) ≡ taken (shut v) v.phase.before
 later_taken v some = cond-false (v.phase.slot == 0) (after_sync (shut v)) (taken (shut v) v.phase.before) (ne_eqb v.phase.slot 0 some)
 
--- where it isn't none, there is one
-pub some_of : {A : Type 0} (o : Option A) → is_none o ≡ false → (a : A) × (o ≡ Some a)
-some_of None h = absurd (cc)
-some_of (Some a) h = (a, refl)
+-- by whether it is none
+pub some_of : {A : Type 0} (o : Option A) (none : Bool) → is_some o ≡ not none → none ≡ false → (a : A) × (o ≡ Some a)
+some_of None none h e = absurd (let x = ap not e in cc)
+some_of (Some a) none h e = (a, refl)
 
-pub none_of : {A : Type 0} (o : Option A) → is_none o ≡ true → o ≡ None
-none_of None h = refl
-none_of (Some a) h = absurd (cc)
+pub none_of : {A : Type 0} (o : Option A) (none : Bool) → is_some o ≡ not none → none ≡ true → o ≡ None
+none_of None none h e = refl
+none_of (Some a) none h e = absurd (let x = ap not e in cc)

@@ -28,7 +28,7 @@ use Rattle.node_core.specs.Inside.{seen, IsGuessed, IsController}
 use Rattle.node_core.proofs.NotedRows.{noted_by, carried_by}
 
 module _ {N : ℕ} (n : Inside N) (inv : IsController n) (sound : IsSound (seen n)) (open' : n.phase.is_open ≡ true) (u : Watch) (shut' : u ≡ closed n.watch) where
-  v : NodeView N
+  abbrev v : NodeView N
   v = seen n
 
   slot : IsInSlot v

@@ -6,12 +6,14 @@ use Rattle.std.proofs.lemmas.List.{with_items_is}
 use Rattle.omh_paths.specs.declared.wrapped.Wrapped.{Wrapped}
 use Rattle.slot_plan.specs.declared.slot.Slot.{Slot}
 use Rattle.slot_plan.specs.declared.slot.Slot.TheVariants.{Sync, Claims, Data, Rows}
+use Rattle.frames.specs.Bound.{IsGreatest}
 use Rattle.frames.specs.Content.{Content, Expectation}
 use Rattle.frames.specs.Content.Content.{State}
 use Rattle.error_detect.specs.Watching.{Watch, closed, opened, delivered}
 use Rattle.agreed_state.specs.declared.config.Config.{Config}
 use Rattle.agreed_state.specs.Agreed.{AgreedView}
-use Rattle.agreed_state.specs.Body.{body}
+use Rattle.agreed_state.specs.Body.{body, state_len}
+use Rattle.relaying.specs.Guessed.{unguessed}
 use Rattle.node_core.specs.declared.controller.Buffers.{Buffers}
 use Rattle.node_core.specs.declared.controller.Keeping.{Keeping}
 use Rattle.node_core.specs.declared.controller.Controller.TheInside.{Inside}
@@ -28,6 +30,15 @@ module _ {N : ℕ} (config : Config N) (me : ℕ) (w : Watch) (i : IsItsWatch co
 
   pub watch_given : (u : Watch) (from tick : ℕ) (bytes : List ℕ) → u ≡ delivered w from tick bytes → IsItsWatch config me u
   watch_given u from tick bytes e = subst (IsItsWatch config me) (sym e) (record { nodes = i.nodes; me_is = i.me_is; greatest = i.greatest; expects = i.expects })
+
+  -- what is guessed is no matter
+  pub watch_alike : (u : Watch) → unguessed u ≡ unguessed w → IsItsWatch config me u
+  watch_alike u e = record {
+    nodes = ap (λ (x : Watch). x.nodes) e ∙ i.nodes;
+    me_is = ap (λ (x : Watch). x.me) e ∙ i.me_is;
+    greatest = subst (λ (k : ℕ). IsGreatest config.nodes config.m (state_len config) 8 k) (sym (ap (λ (x : Watch). x.frame_max) e)) i.greatest;
+    expects = λ h. subst IsSome (sym (ap (λ (x : Watch). x.expect) e)) (i.expects (sym (ap (λ (x : Watch). x.is_open) e) ∙ h));
+  }
 
 -- no slot is open where the watch was closed
 pub not_open : (w u : Watch) → u ≡ closed w → u.is_open ≡ true → ⊥
