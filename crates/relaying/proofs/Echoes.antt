@@ -1,54 +1,55 @@
 -- A guess that is the table of the round is what the node passes on.
-use Rattle.std.proofs.Common.{ℕ, suc, ◌≡◌, not, List, [], ◌∷◌, map, take, Some, refl, sym, ap, ◌∙◌, inl, inr}
-use Rattle.std.specs.Prelude.{filter, false}
-use Rattle.std.proofs.lemmas.Bool.{cases_Bool, cond-true, cond-false}
+use Rattle.std.proofs.Common.{ℕ, zero, suc, ◌≡◌, ◌<◌, ◌⊎◌, Bool, true, false, List, map, take, Option, Some, None, ap, sym, subst, ◌∙◌, inl, inr, arith}
+use Rattle.std.proofs.lemmas.Bool.{cases_Bool, cond-false}
 use Rattle.node_grid.specs.NodeSet.{has_id, without_id}
 use Rattle.omh_paths.specs.declared.wrapped.Wrapped.{Wrapped}
 use Rattle.omh_paths.specs.Wrapped.{wrapped}
 use Rattle.omh_paths.specs.Paths.{paths_of_length}
-use Rattle.omh_paths.specs.Tables.{tables_law}
 use Rattle.omh.specs.Heard.{Hearing, heard_in}
-use Rattle.frames.specs.Content.{Expectation, round_in}
-use Rattle.error_detect.specs.Guessing.{said_by, entries_without}
+use Rattle.frames.specs.Content.{Expectation, Content, round_in}
+use Rattle.error_detect.specs.Watching.{Watch, guessing}
 use Rattle.protocol.specs.Arrival.{Form}
-use Rattle.relaying.specs.Guessed.{IsEchoOf}
+use Rattle.relaying.specs.Guessed.{PassesOn, IsEchoOf, IsEchoed, unguessed}
 use Rattle.relaying.specs.Table.{own_told, passed, table}
 
 -- of a path that the node isn't on, what it passes on itself
 pub passed_off : {V : Type 0} (own : Wrapped V) (h : Hearing V) (r : ℕ) (p : List ℕ) → has_id p h.me ≡ false → passed own h (suc r) p ≡ wrapped (heard_in h.heard p)
 passed_off own h r p off = cond-false (has_id p h.me) (wrapped (passed own h r (take r p))) (wrapped (heard_in h.heard p)) off
 
-by_filter : {V : Type 0} → (f : List ℕ → V) (q : ℕ) (ps : List (List ℕ)) → entries_without q ps (map f ps) ≡ map f (filter (λ path. not (has_id path q)) ps)
-by_filter f q [] = refl
-by_filter f q (p ∷ ps) =
-    let rest : List (List ℕ) = filter (λ path. not (has_id path q)) ps in
-    elim (cases_Bool (has_id p q)) [
-      | inl y ↦
-          cond-true (has_id p q) (entries_without q ps (map f ps)) (f p ∷ entries_without q ps (map f ps)) y ∙ by_filter f q ps
-          ∙ ap (map f) (sym (cond-false (not (has_id p q)) (p ∷ rest) rest (ap not y)))
-      | inr n ↦
-          cond-false (has_id p q) (entries_without q ps (map f ps)) (f p ∷ entries_without q ps (map f ps)) n ∙ ap (λ ys. f p ∷ ys) (by_filter f q ps)
-          ∙ ap (map f) (sym (cond-true (not (has_id p q)) (p ∷ rest) rest (ap not n)))
-    ]
-
--- what a sender says of a table of this round
-part : {V : Type 0} (e : Expectation) (h : Hearing V) (q r : ℕ) → e.members ≡ h.members → round_in e.m e.slot ≡ r
-    → entries_without q (paths_of_length e.members (round_in e.m e.slot)) (table h r) ≡ map (passed (own_told h) h r) (paths_of_length (without_id h.members q) r)
-part {V} e h q r members round =
-    ap (λ (s : List ℕ). entries_without q (paths_of_length s (round_in e.m e.slot)) (table h r)) members
-    ∙ ap (λ (n : ℕ). entries_without q (paths_of_length h.members n) (table h r)) round
-    ∙ by_filter (passed (own_told h) h r) q (paths_of_length h.members r)
-    ∙ ap (map (passed (own_told h) h r)) (sym (tables_law h.members q r))
-
--- a guess of relay frames is what each sender passes on of its entries
-abbrev pub IsPassedOn : {V : Type 0} → Form V → Type 0
-IsPassedOn {V} form =
-    (e : Expectation) (j : ℕ) (es : List (Wrapped V)) → form.relay_in (said_by e j (form.relay es)) ≡ Some (entries_without j (paths_of_length e.members (round_in e.m e.slot)) es)
-
-pub table_echoed : {V : Type 0} (form : Form V) (e : Expectation) (h : Hearing V) (r : ℕ) → IsPassedOn form → e.members ≡ h.members → round_in e.m e.slot ≡ suc r
+pub table_echoed : {V : Type 0} (form : Form V) (e : Expectation) (h : Hearing V) (r : ℕ) → PassesOn form → e.members ≡ h.members → round_in e.m e.slot ≡ suc r
     → IsEchoOf form (suc r) e (form.relay (table h (suc r))) h
-table_echoed form e h r passes members round = record {
-  of = passed (own_told h) h (suc r);
-  said = λ q. passes e q (table h (suc r)) ∙ ap Some (part e h q (suc r) members round);
-  passed_on = λ p off long. passed_off (own_told h) h r p off;
-}
+table_echoed {V} form e h r passes members round =
+    subst (λ (s : List ℕ). IsEchoOf form (suc r) e (form.relay (map of (paths_of_length s (suc r)))) h) members
+    (subst (λ (n : ℕ). IsEchoOf form (suc r) e (form.relay (map of (paths_of_length e.members n))) h) round (record {
+      of = of;
+      said = λ q. passes e q of ∙ ap Some (ap (λ (n : ℕ). map of (paths_of_length (without_id e.members q) n)) round ∙ ap (λ (s : List ℕ). map of (paths_of_length (without_id s q) (suc r))) members);
+      passed_on = λ p off long. passed_off (own_told h) h r p off;
+    }))
+  where
+    of : List ℕ → Wrapped V
+    of = passed (own_told h) h (suc r)
+
+echoed : {V : Type 0} (form : Form V) (e : Expectation) (h : Hearing V) (r : ℕ) → 0 < r → PassesOn form → e.members ≡ h.members → round_in e.m e.slot ≡ r → IsEchoOf form r e (form.relay (table h r)) h
+echoed form e h zero some passes members round = absurd (omega (arith, some))
+echoed form e h (suc r) some passes members round = table_echoed form e h r passes members round
+
+-- a watch of which that was guessed, where there was room
+pub guessed_or_not : {V : Type 0} (form : Form V) (h : Hearing V) (r : ℕ) (old new : Watch) (said : Content) (b : Bool) → (b ≡ true → new ≡ guessing old said) → (b ≡ false → new ≡ old)
+    → said ≡ form.relay (table h r) → (new.guess ≡ old.guess) ⊎ (new.guess ≡ Some (form.relay (table h r)))
+guessed_or_not form h r old new said b put none is = elim (cases_Bool b) [
+  | inl y ↦ inr (ap (λ (w : Watch). w.guess) (put y) ∙ ap Some is)
+  | inr n ↦ inl (ap (λ (w : Watch). w.guess) (none n))
+]
+
+pub guess_kept : (old new : Watch) (said : Content) (b : Bool) → (b ≡ true → new ≡ guessing old said) → (b ≡ false → new ≡ old) → unguessed new ≡ unguessed old
+guess_kept old new said b put none = elim (cases_Bool b) [ inl y ↦ ap unguessed (put y) | inr n ↦ ap unguessed (none n) ]
+
+pub guess_echoed : {V : Type 0} (form : Form V) (e : Expectation) (h : Hearing V) (r : ℕ) (old new : Watch) → 0 < r → PassesOn form → e.members ≡ h.members → round_in e.m e.slot ≡ r
+    → old.expect ≡ Some e → unguessed new ≡ unguessed old → (new.guess ≡ old.guess) ⊎ (new.guess ≡ Some (form.relay (table h r))) → old.guess ≡ None → IsEchoed form r new h
+guess_echoed {V} form e h r old new some passes members round expected kept (inl same) none e' c eo go = absurd (let f : ◌≡◌ {A = Option Content} (Some c) None = sym go ∙ same ∙ none in cc)
+guess_echoed {V} form e h r old new some passes members round expected kept (inr is) none e' c eo go =
+    let d : ◌≡◌ {A = Option Expectation} (Some e) (Some e') = sym expected ∙ sym (ap (λ (w : Watch). w.expect) kept) ∙ eo in
+    let same : e ≡ e' = cc in
+    let f : ◌≡◌ {A = Option Content} (Some (form.relay (table h r))) (Some c) = sym is ∙ go in
+    let table_is : form.relay (table h r) ≡ c = cc in
+    subst (λ (x : Expectation). IsEchoOf form r x c h) same (subst (λ (x : Content). IsEchoOf form r e x h) table_is (echoed form e h r some passes members round))

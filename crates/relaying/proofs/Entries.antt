@@ -3,7 +3,7 @@ use Rattle.std.proofs.Common.{ℕ, zero, suc, ◌≡◌, ◌<◌, ◌≤◌, ◌
 use Rattle.std.specs.Prelude.{slice_index_or, slice_set}
 use Rattle.std.specs.List.{AllByRecursion}
 use Rattle.std.proofs.lemmas.Bool.{cases_Bool, cond-true, cond-false, both_ways, and_parts, or_cases, or_left, and_from}
-use Rattle.std.proofs.lemmas.List.{length_push, length-set, length-append, length-take-le}
+use Rattle.std.proofs.lemmas.List.{length_push, length-set, length-append, length-take-le, take_all}
 use Rattle.std.proofs.Math.Nat.{mul-le-mul}
 use Rattle.node_grid.specs.NodeSet.{has_id, without_id}
 use Rattle.node_grid.specs.Count.{Distinct}
@@ -23,7 +23,8 @@ use Rattle.protocol.specs.Arrival.Arrival.{Bad, Good}
 use Rattle.protocol.specs.Heard.{with_entries, entry, heard, paths_of}
 use Rattle.relaying.specs.Hearing.{has_path, told_to, slot_rounds, pushed, paths_from, frame_says}
 use Rattle.relaying.proofs.Lengths.{take-front}
-use Rattle.relaying.proofs.Putting.{told, take_all, heard_push, looked_up-place, paths_of_member}
+use Rattle.protocol.specs.TalkLaws.{heard_push, paths_of_member}
+use Rattle.relaying.proofs.Putting.{told, looked_up-place}
 use Rattle.relaying.proofs.Slots.{Split, split, front_distinct, last_off, listed, listed_pushed, listed_kept, kept_listed, all_at}
 
 -- ---- the last node of a path

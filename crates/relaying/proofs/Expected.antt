@@ -5,15 +5,30 @@ use Rattle.node_grid.specs.NodeSet.{has_id, without_id, IsIdSet}
 use Rattle.omh_paths.specs.declared.wrapped.Wrapped.{Wrapped}
 use Rattle.omh_paths.specs.declared.wrapped.Wrapped.TheVariants.{Fault}
 use Rattle.omh_paths.specs.Paths.{paths_of_length, path_at, path_count}
-use Rattle.omh_paths.specs.PathLists.{has-at, length-without, has-without-left}
+use Rattle.omh_paths.specs.PathLists.{has-at, length-without}
 use Rattle.omh_paths.specs.MemberLaws.{Distinct-ids}
 use Rattle.omh.specs.Heard.{Entry, heard_in}
 use Rattle.heard.specs.Keep.{first_node, wrapped_times}
 use Rattle.heard.specs.Seen.{SaysExpected}
 use Rattle.heard.specs.Blocks.{in_block, block_fits, block_small, first_on, next_block, whole}
 
-pub width_of : (n m r w : ℕ) → n ≡ m - 1 → w ≡ path_count (m - 2) (r - 1) → w ≡ path_count (n - 1) (r - 1)
-width_of n m r w e f = let k : m - 2 ≡ n - 1 = omega arith in f ∙ ap (λ (x : ℕ). path_count x (r - 1)) k
+-- the entries of a frame lie in blocks of w, one for each of the others
+pub record AreBlocks (r w total : ℕ) (others : List ℕ) : Type 0 where
+  pub wide : w ≡ path_count (length others - 1) (r - 1)
+  pub counted : total ≡ path_count (length others) r
+  pub few : length others ≤ 16
+
+pub blocks : (n : ℕ) (members seen others : List ℕ) (q r w total : ℕ) → IsIdSet n members → members ≡ seen → others ≡ without_id members q → has_id seen q ≡ true
+    → w ≡ path_count (length seen - 2) (r - 1) → total ≡ path_count (length seen - 1) r → length seen ≤ 16 → AreBlocks r w total others
+blocks n members seen others q r w total ids same is on wide count few =
+    let long : length others ≡ length seen - 1 =
+    ap length is ∙ length-without members q (Distinct-ids n members ids) (ap (λ (ms : List ℕ). has_id ms q) same ∙ on) ∙ ap (λ (ms : List ℕ). length ms - 1) same in
+    let less : length seen - 2 ≡ length others - 1 = omega (arith, long) in
+    record {
+      wide = wide ∙ ap (λ (k : ℕ). path_count k (r - 1)) less;
+      counted = count ∙ sym (ap (λ (k : ℕ). path_count k r) long);
+      few = omega (arith, long, few);
+    }
 
 module _ {V : Type 0} (n me r w : ℕ) (others : List ℕ) (heard : List (Entry V)) (values : List (Wrapped V)) (ids : IsIdSet n others) (some : 0 < r) (wide : w ≡ path_count (length others - 1) (r - 1)) (count : length values ≡ path_count (length others) r) where
   -- one commander more
@@ -43,11 +58,3 @@ module _ {V : Type 0} (n me r w : ℕ) (others : List ℕ) (heard : List (Entry 
 pub positive : (w : ℕ) → w ≢ 0 → 0 < w
 positive zero h = absurd (h refl)
 positive (suc w) h = omega arith
-
--- the members without the sender
-pub others_long : (n : ℕ) (members seen others : List ℕ) (q : ℕ) → IsIdSet n members → members ≡ seen → others ≡ without_id members q → has_id seen q ≡ true → length others ≡ length seen - 1
-others_long n members seen others q ids same is on =
-    ap length is ∙ length-without members q (Distinct-ids n members ids) (ap (λ (ms : List ℕ). has_id ms q) same ∙ on) ∙ ap (λ (ms : List ℕ). length ms - 1) same
-
-pub others_in : (members seen others : List ℕ) (q : ℕ) → members ≡ seen → others ≡ without_id members q → (x : ℕ) → has_id others x ≡ true → has_id seen x ≡ true
-others_in members seen others q same is x on = ap (λ (ms : List ℕ). has_id ms x) (sym same) ∙ (has-without-left members q x (ap (λ (s : List ℕ). has_id s x) (sym is) ∙ on)).1

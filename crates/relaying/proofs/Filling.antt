@@ -2,7 +2,7 @@
 use Rattle.std.proofs.Common.{ℕ, ◌≡◌, ◌<◌, ◌≤◌, ◌+◌, true, false, List, length, take, sym, ap, subst, ◌∙◌, inl, inr, arith}
 use Rattle.std.specs.Prelude.{slice_index_or, slice_set, All}
 use Rattle.std.proofs.lemmas.Bool.{cases_Bool, cases_eq}
-use Rattle.std.proofs.lemmas.List.{length-set, length-take-le, get_or-take, get_or-set_other}
+use Rattle.std.proofs.lemmas.List.{length-set, length-take-le, get_or-take, get_or-set_other, get_or_default}
 use Rattle.std.proofs.lemmas.Grind.{get_or-set_at}
 use Rattle.node_grid.specs.NodeSet.{has_id}
 use Rattle.omh_paths.specs.declared.wrapped.Wrapped.{Wrapped}
@@ -13,7 +13,6 @@ use Rattle.omh.specs.Heard.{Hearing, heard_in}
 use Rattle.heard.specs.Keep.{IsSmall}
 use Rattle.heard.specs.Seen.{SaysEcho}
 use Rattle.relaying.specs.Guessed.{AreSmall, IsFilled}
-use Rattle.relaying.proofs.Putting.{get_or_any}
 
 -- one entry more was written
 pub filled_more : {V : Type 0} (h : Hearing V) (r n k : ℕ) (others path : List ℕ) (was after : List (Wrapped V)) (v : Wrapped V) → k < n → path ≡ path_at (paths_of_length others r) k
@@ -46,7 +45,7 @@ filled_says h r n others values room filled k low off =
 pub filled_small : {V : Type 0} (h : Hearing V) (r n : ℕ) (others : List ℕ) (values : List (Wrapped V)) → n ≤ length values → n ≡ path_count (length others) r → AreSmall r others h → IsFilled r others h values n → All (IsSmall 3) (take n values)
 filled_small {V} h r n others values room count small filled k d low =
     let below : k < n = (let l = length-take-le n values room in omega arith) in
-    let is : slice_index_or (take n values) k d ≡ slice_index_or values k (Fault 0) = get_or_any (take n values) k d (Fault 0) low ∙ get_or-take n values k (Fault 0) below in
+    let is : slice_index_or (take n values) k d ≡ slice_index_or values k (Fault 0) = get_or_default (take n values) k d (Fault 0) low ∙ get_or-take n values k (Fault 0) below in
     elim (cases_Bool (has_id (path_at (paths_of_length others r) k) h.me)) [
       | inl y ↦ subst (IsSmall 3) (sym (is ∙ (filled k below).1 y)) (omega arith)
       | inr o ↦ subst (IsSmall 3) (sym (is ∙ (filled k below).0 o)) (small k (omega arith) o)

@@ -3,6 +3,7 @@ use Rattle.std.proofs.Common.{ℕ, ◌≡◌, ◌<◌, ◌+◌, ◌==◌, ◌&&�
 use Rattle.std.specs.Prelude.{slice_index_or, IfNone}
 use Rattle.std.specs.List.{AllByRecursion}
 use Rattle.std.proofs.lemmas.Bool.{cases_Bool, cond-true, cond-false, both_ways, and_parts, or_left}
+use Rattle.std.proofs.lemmas.List.{length-map, get_or-map}
 use Rattle.node_grid.specs.NodeSet.{has_id, without_id}
 use Rattle.node_grid.specs.Count.{Distinct}
 use Rattle.node_grid.specs.ListLaws.{has_push}
@@ -17,13 +18,14 @@ use Rattle.omh.specs.HeardLaws.{IsHeardPath, all_heard_paths}
 use Rattle.heard.specs.Keep.{IsSmall, last_node}
 use Rattle.heard.specs.Seen.{with_frame, as_written, SaysEcho}
 use Rattle.frames.specs.Content.{Expectation, Content}
+use Rattle.error_detect.specs.Guessing.{said_by, is_guessed_of}
 use Rattle.error_detect.specs.Watching.{Watch, told_at, guesses, guesses_at, said_in, said_at}
-use Rattle.protocol.specs.Arrival.{Form, arrived, read_as}
+use Rattle.protocol.specs.Arrival.{Form, arrived, read_as, said}
 use Rattle.protocol.specs.Arrival.Arrival.{Good}
 use Rattle.relaying.specs.Hearing.{has_path, told_to, all_told, with_told, IsByPath, Brings, AreEntries, brought}
 use Rattle.relaying.specs.Guessed.{IsEchoOf, IsEchoed, BringsEcho, AreSmall}
 use Rattle.relaying.proofs.Lengths.{take-front}
-use Rattle.relaying.proofs.Putting.{told, mapped, map_at}
+use Rattle.relaying.proofs.Putting.{told}
 use Rattle.relaying.proofs.Slots.{length_all}
 use Rattle.relaying.proofs.Entries.{Behind, behind, each_entry, where_all}
 
@@ -40,12 +42,12 @@ brings_echo {V} form r q w h d on echo g same = by_case w.expect refl w.guess re
       let ps : List (List ℕ) = paths_of_length s r in
       let ds : Distinct s = Distinct-without h.members q d in
       let count : length ps ≡ path_count (length s) r = length-paths s r ds in
-      let long : length (map k.of ps) ≡ length ps = mapped k.of ps in
+      let long : length (map k.of ps) ≡ length ps = length-map ps k.of in
       record {
         values = map k.of ps;
         are = ap (λ o. arrived form.relay_in None o) same ∙ ap read_as (k.said q);
         long = long ∙ count ∙ ap (λ (n : ℕ). path_count n r) (length-without h.members q d on);
-        echo = λ i low off. map_at k.of ps i (Fault 0) [] (omega arith) ∙ k.passed_on (path_at ps i) off (IsListed-at s r i ds (omega arith)).long;
+        echo = λ i low off. get_or-map k.of ps i [] (Fault 0) (omega arith) ∙ k.passed_on (path_at ps i) off (IsListed-at s r i ds (omega arith)).long;
       }
 
 -- what was heard for a path of which nothing was told
@@ -133,3 +135,12 @@ echo_small form r q count w h d on b brings k low off =
 pub if_none : {A X : Type 0} (o : Option A) → o ≡ None → IfNone o X → X
 if_none None e h = h
 if_none (Some a) e h = absurd (cc)
+
+-- no item is told by a guess
+pub guess_first : {V : Type 0} (form : Form V) (w : Watch) (q : ℕ) → ((e : Expectation) (j : ℕ) (c : Content) → is_guessed_of e j c ≡ true → form.item_in (said_by e j c) ≡ None)
+    → guesses_at w q ≡ true → told_at w q ≡ said_at w q → Fault 0 ≡ said (arrived form.item_in None (told_at w q))
+guess_first {V} form w q unguessed g same = by_case w.expect w.guess g same where
+  by_case : (o : Option Expectation) (c : Option Content) → guesses o c q ≡ true → told_at w q ≡ said_in o c q → Fault 0 ≡ said (arrived form.item_in None (told_at w q))
+  by_case None c g same = absurd (cc)
+  by_case (Some e) None g same = absurd (cc)
+  by_case (Some e) (Some c) g same = sym (ap (λ (o : Option Content). said (arrived form.item_in None o)) same ∙ ap (λ (o : Option V). said (read_as o)) (unguessed e q c g))

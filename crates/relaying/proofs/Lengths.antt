@@ -1,5 +1,6 @@
 -- How many entries there are, and the front of a list.
 use Rattle.std.proofs.Common.{ℕ, ◌≡◌, ◌≤◌, arith, ◌/◌, List, [], ◌∷◌, ◌++◌, length, take, refl, ap, ◌∙◌}
+use Rattle.std.proofs.lemmas.List.{length-map}
 use Rattle.omh_paths.specs.declared.wrapped.Wrapped.{Wrapped}
 use Rattle.frames.specs.Reading.{cut}
 use Rattle.frames.specs.PieceLaws.{length-cut}
@@ -7,10 +8,9 @@ use Rattle.relaying.specs.Items.{entries_in}
 use Rattle.protocol.specs.Arrival.{Arrival}
 use Rattle.protocol.specs.Arrival.Arrival.{Bad, Good}
 use Rattle.relaying.specs.Hearing.{Brings, FitsIn}
-use Rattle.relaying.proofs.Putting.{mapped}
 
 pub entries_length : {V : Type 0} (read : List ℕ → Wrapped V) (width : ℕ) (bytes : List ℕ) → length (entries_in read width bytes) ≡ length bytes / width
-entries_length read width bytes = mapped read (cut width bytes) ∙ length-cut width bytes
+entries_length read width bytes = length-map (cut width bytes) read ∙ length-cut width bytes
 
 pub take-front : (xs old : List ℕ) → take (length xs) (xs ++ old) ≡ xs
 take-front [] old = refl

@@ -8,3 +8,9 @@ pub mod Marks
 pub mod Steps
 pub mod Guesses
 pub mod Filling
+pub mod Echoes
+pub mod Ranges
+pub mod Blocks
+pub mod Convicting
+pub mod Bodies
+pub mod Framing

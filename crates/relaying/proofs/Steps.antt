@@ -12,11 +12,8 @@ use Rattle.node_grid.specs.Count.{Distinct}
 use Rattle.omh_paths.specs.Paths.{paths_of_length, path_count, index_in}
 use Rattle.omh_paths.specs.PathLists.{length-paths, length-without, Distinct-without}
 use Rattle.error_detect.specs.Guessing.{pieces_without}
-use Rattle.frames.specs.Content.{Expectation}
-use Rattle.frames.specs.Spelling.{header_spelling, head_of}
-use Rattle.error_detect.specs.Watching.{of_sender}
 use Rattle.relaying.specs.declared.comparing.Left.{Left}
-use Rattle.relaying.specs.Comparing.{framed, marks_of, marks, unmarked, owed, IsOver, IsOdd, HasEntries}
+use Rattle.relaying.specs.Comparing.{marks_of, marks, unmarked, owed, IsOver, IsOdd, HasEntries}
 use Rattle.omh_paths.specs.MemberLaws.{Distinct-ids, place-index}
 use Rattle.node_grid.specs.NodeSet.{IsIdSet, place_of}
 use Rattle.omh_paths.specs.PathLists.{index_in-lt}
@@ -120,10 +117,6 @@ row_is n s q a all ids on place count =
 
 -- ---- the paths of more nodes
 
-pub marks_step : (q : ℕ) (s : List ℕ) (r : ℕ) → 0 < r → marks q s r ≡ flat_map (behind q s (r - 1)) s
-marks_step q s zero some = absurd (omega arith)
-marks_step q s (suc r) some = marks-cons q s r ∙ ap (λ n. flat_map (behind q s n) s) (let e : r ≡ suc r - 1 = omega arith in e)
-
 pub behind_count : (s : List ℕ) (c r : ℕ) → Distinct s → has_id s c ≡ true → path_count (length s - 1) r ≡ length (paths_of_length (without_id s c) r)
 behind_count s c r d on = sym (length-paths (without_id s c) r (Distinct-without s c d) ∙ ap (λ n. path_count n r) (length-without s c d on))
 
@@ -186,23 +179,3 @@ whole_back w q ps old new t tab p o e =
 pub whole_odd : (w q : ℕ) (ps : List (List ℕ)) (old : Left) (t : List ℕ) → old.table.now ≡ t → old.pending ≡ 0 → IsOdd w (marks_of q ps) old → old.body.now ≢ pieces_without w q ps t
 whole_odd w q ps old t tab p odd e =
     odd [] (e ∙ pieces_unmarked w q ps t ∙ sym (ap₂ (λ k x. take k x ++ unmarked w (marks_of q ps) (drop k x)) p tab) ∙ ap (λ bs. owed w bs old) (sym (append-nil (marks_of q ps))))
-
--- ---- the frame
-
-pub pieces_short : (w q : ℕ) (ps : List (List ℕ)) (t : List ℕ) → length (pieces_without w q ps t) ≤ length t
-pieces_short w q [] t = omega arith
-pieces_short w q (p ∷ ps) t =
-    let rest : List ℕ = pieces_without w q ps (drop w t) in
-    let ih : length rest ≤ length (drop w t) = pieces_short w q ps (drop w t) in
-    let all : length t ≡ length (take w t) + length (drop w t) = ap length (sym (take-append-drop w t)) ∙ length-append (take w t) (drop w t) in
-    elim (cases_Bool (has_id p q)) [
-      | inl y ↦
-          let e : length (pieces_without w q (p ∷ ps) t) ≡ length rest = ap (λ xs. length (xs ++ rest)) (cond-true (has_id p q) [] (take w t) y) in
-          omega (arith, ih, all, e)
-      | inr n ↦
-          let e : length (pieces_without w q (p ∷ ps) t) ≡ length (take w t) + length rest = ap (λ xs. length (xs ++ rest)) (cond-false (has_id p q) [] (take w t) n) ∙ length-append (take w t) rest in
-          omega (arith, ih, all, e)
-    ]
-
-pub framed_back : (e : Expectation) (j k : ℕ) (bytes body : List ℕ) → bytes ≡ framed e j k body → drop 14 bytes ≡ body
-framed_back e j k bytes body h = ap (drop 14) h ∙ drop_at (header_spelling (head_of (of_sender j e)) k (length body)) body 14 refl

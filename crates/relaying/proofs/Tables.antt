@@ -3,7 +3,7 @@ use Rattle.std.proofs.Common.{ℕ, zero, suc, ◌≡◌, ◌≢◌, ◌<◌, ◌
 use Rattle.std.specs.Prelude.{All}
 use Rattle.std.specs.List.{flat_map}
 use Rattle.std.proofs.lemmas.Bool.{cases_Bool, cond-true, cond-false, both_ways, or_cases, or_left, or_right}
-use Rattle.std.proofs.lemmas.List.{take_more, take-take, drop-drop, get_or-map, append_assoc, length-take-le}
+use Rattle.std.proofs.lemmas.List.{take_more, take-take, get_or-map, length-map, length-take-le}
 use Rattle.std.proofs.lemmas.List.Elements.{All-take, All-head, All-tail}
 use Rattle.std.proofs.lemmas.Grind.{flat_map-append}
 use Rattle.std.proofs.Math.Nat.{mul-add, mul-one, mul-le-mul_left}
@@ -18,8 +18,7 @@ use Rattle.omh.specs.Heard.{Hearing, heard_in}
 use Rattle.heard.specs.Keep.{IsSmall}
 use Rattle.frames.specs.Writing.{pasted}
 use Rattle.frames.specs.PieceLaws.{pasted_twice}
-use Rattle.error_detect.specs.Guessing.{pieces_without}
-use Rattle.relaying.specs.Table.{passed, table}
+use Rattle.relaying.specs.Table.{own_told, passed, passed_of}
 
 -- ---- what is passed on has few wraps
 
@@ -31,13 +30,19 @@ wrapped_small : {V : Type 0} (a : ℕ) (w : Wrapped V) → IsSmall a w → IsSma
 wrapped_small a (Plain v) h = tt
 wrapped_small a (Fault k) h = omega arith
 
-pub small_passed : {V : Type 0} (own : Wrapped V) (h : Hearing V) → IsSmall 3 own → ((p : List ℕ) → IsSmall 6 (heard_in h.heard p)) → (j : ℕ) (p : List ℕ) → IsSmall (7 + j) (passed own h j p)
-small_passed own h o s zero p = smaller 3 (7 + zero) own (omega arith) o
-small_passed own h o s (suc r) p = elim (cases_Bool (has_id p h.me)) [
+pub front_short : (n : ℕ) (xs : List ℕ) → length (take n xs) ≤ length xs
+front_short zero xs = omega arith
+front_short (suc n) [] = omega arith
+front_short (suc n) (x ∷ xs) = let h = front_short n xs in omega arith
+
+pub small_passed : {V : Type 0} (own : Wrapped V) (h : Hearing V) → IsSmall 3 own → ((p : List ℕ) → length p ≤ 4 → IsSmall 6 (heard_in h.heard p)) → (j : ℕ) (p : List ℕ) → length p ≤ 4 → IsSmall (7 + j) (passed own h j p)
+small_passed own h o s zero p short = smaller 3 (7 + zero) own (omega arith) o
+small_passed own h o s (suc r) p short = elim (cases_Bool (has_id p h.me)) [
   | inl on ↦ subst (IsSmall (7 + suc r)) (sym (cond-true (has_id p h.me) (wrapped (passed own h r (take r p))) (wrapped (heard_in h.heard p)) on))
-      (smaller (7 + r + 1) (7 + suc r) (wrapped (passed own h r (take r p))) (omega arith) (wrapped_small (7 + r) (passed own h r (take r p)) (small_passed own h o s r (take r p))))
+      (smaller (7 + r + 1) (7 + suc r) (wrapped (passed own h r (take r p))) (omega arith)
+      (wrapped_small (7 + r) (passed own h r (take r p)) (small_passed own h o s r (take r p) (omega (arith, short, front_short r p)))))
   | inr off ↦ subst (IsSmall (7 + suc r)) (sym (cond-false (has_id p h.me) (wrapped (passed own h r (take r p))) (wrapped (heard_in h.heard p)) off))
-      (smaller (6 + 1) (7 + suc r) (wrapped (heard_in h.heard p)) (omega arith) (wrapped_small 6 (heard_in h.heard p) (s p)))
+      (smaller (6 + 1) (7 + suc r) (wrapped (heard_in h.heard p)) (omega arith) (wrapped_small 6 (heard_in h.heard p) (s p short)))
 ]
 
 pub not_full : {V : Type 0} (n : ℕ) (w : Wrapped V) → IsSmall n w → n < 255 → w ≢ Fault 255
@@ -116,94 +121,10 @@ fits_more width k n room low h = let e : width * suc k ≡ width * k + width = g
   le : k < n → suc k ≤ n
   le h = omega arith
 
--- ---- the table by its places
+-- ---- the entries by their places
 
-pub table_at : {V : Type 0} (own : Wrapped V) (h : Hearing V) (r k : ℕ) (d : Wrapped V) → k < length (paths_of_length h.members r) → get_or (table own h r) k d ≡ passed own h r (path_at (paths_of_length h.members r) k)
-table_at own h r k d low = get_or-map (passed own h r) (paths_of_length h.members r) k [] d low
+pub passed_at : {V : Type 0} (h : Hearing V) (s : List ℕ) (r k : ℕ) (d : Wrapped V) → k < length (paths_of_length s r) → get_or (passed_of h s r) k d ≡ passed (own_told h) h r (path_at (paths_of_length s r) k)
+passed_at h s r k d low = get_or-map (passed (own_told h) h r) (paths_of_length s r) k [] d low
 
-mapped : {X Y : Type 0} (f : X → Y) (xs : List X) → length (map f xs) ≡ length xs
-mapped f [] = refl
-mapped f (x ∷ xs) = ap suc (mapped f xs)
-
-pub length-table : {V : Type 0} (own : Wrapped V) (h : Hearing V) (r : ℕ) → Distinct h.members → length (table own h r) ≡ path_count (length h.members) r
-length-table own h r d = mapped (passed own h r) (paths_of_length h.members r) ∙ length-paths h.members r d
-
-pub take_all : {X : Type 0} (k : ℕ) (xs : List X) → length xs ≤ k → take k xs ≡ xs
-take_all zero [] h = refl
-take_all (suc k) [] h = refl
-take_all zero (x ∷ xs) h = absurd (omega arith)
-take_all {X = X} (suc k) (x ∷ xs) h = ap (λ (ys : List X). x ∷ ys) (take_all k xs (omega arith))
-
--- ---- a sender's part of the table
-
-abbrev pub part : ℕ → ℕ → List (List ℕ) → List ℕ → ℕ → List ℕ
-part width q ps bytes k = if has_id (path_at ps k) q then [] else take width (drop (width * k) bytes)
-
-pub pieces_more : (width q : ℕ) (ps : List (List ℕ)) (bytes : List ℕ) (k : ℕ) → k < length ps → pieces_without width q (take (k + 1) ps) bytes ≡ pieces_without width q (take k ps) bytes ++ part width q ps bytes k
-pieces_more width q ps bytes k h = (let e : k + 1 ≡ suc k = omega arith in ap (λ (n : ℕ). pieces_without width q (take n ps) bytes) e) ∙ along ps bytes k h where
-  along : (ps : List (List ℕ)) (bytes : List ℕ) (k : ℕ) → k < length ps → pieces_without width q (take (suc k) ps) bytes ≡ pieces_without width q (take k ps) bytes ++ part width q ps bytes k
-  along [] bytes k h = absurd (omega arith)
-  along (p ∷ ps) bytes zero h = append-nil (if has_id p q then [] else take width bytes) ∙ ap (λ (n : ℕ). if has_id p q then [] else take width (drop n bytes)) (let e : 0 ≡ width * 0 = omega arith in e)
-  along (p ∷ ps) bytes (suc k) h =
-      let here : List ℕ = if has_id p q then [] else take width bytes in
-      let low : k < length ps = omega arith in
-      let e : width + width * k ≡ width * suc k = grind arith in
-      ap (λ (s : List ℕ). here ++ s) (along ps (drop width bytes) k low ∙ ap (λ (s : List ℕ). pieces_without width q (take k ps) (drop width bytes) ++ (if has_id (path_at ps k) q then [] else take width s)) (drop-drop (width * k) width bytes ∙ ap (λ (n : ℕ). drop n bytes) e))
-      ∙ sym (append_assoc here (pieces_without width q (take k ps) (drop width bytes)) (part width q (p ∷ ps) bytes (suc k)))
-
-pub take_short : (n : ℕ) (xs : List ℕ) → length (take n xs) ≤ n
-take_short zero xs = omega arith
-take_short (suc n) [] = omega arith
-take_short (suc n) (x ∷ xs) = let h = take_short n xs in omega arith
-
-pub pieces_short : (width q : ℕ) (ps : List (List ℕ)) (bytes : List ℕ) → length (pieces_without width q ps bytes) ≤ width * length ps
-pieces_short width q [] bytes = omega arith
-pieces_short width q (p ∷ ps) bytes =
-    let here : List ℕ = if has_id p q then [] else take width bytes in
-    let rest = pieces_short width q ps (drop width bytes) in
-    let e : width * suc (length ps) ≡ width + width * length ps = grind arith in
-    let l = length-append here (pieces_without width q ps (drop width bytes)) in
-    let s : length here ≤ width = elim (cases_Bool (has_id p q)) [
-      | inl on ↦ (let c = ap length (cond-true (has_id p q) [] (take width bytes) on) in omega arith)
-      | inr off ↦ (let c = ap length (cond-false (has_id p q) [] (take width bytes) off) in let t = take_short width bytes in omega arith)
-    ] in
-    omega arith
-
--- ---- a step of the copying loop
-
--- a part more was written right behind the others
-pub part_more : (width q at : ℕ) (ps : List (List ℕ)) (bytes was now after entry : List ℕ) (k next : ℕ) → k < length ps → entry ≡ take width (drop (width * k) bytes)
-    → now ≡ pasted at (pieces_without width q (take k ps) bytes) was → next ≡ at + length (pieces_without width q (take k ps) bytes)
-    → next + length (if has_id (path_at ps k) q then [] else entry) ≤ length was
-    → after ≡ pasted next (if has_id (path_at ps k) q then [] else entry) now
-    → after ≡ pasted at (pieces_without width q (take (k + 1) ps) bytes) was
-part_more width q at ps bytes was now after entry k next low is before here room then' =
-    let p : List ℕ = if has_id (path_at ps k) q then [] else entry in
-    then' ∙ ap (pasted next p) before
-    ∙ pasted_twice at next (pieces_without width q (take k ps) bytes) p was (sym here) room
-    ∙ ap (λ (s : List ℕ). pasted at s was) (ap (λ (e : List ℕ). pieces_without width q (take k ps) bytes ++ (if has_id (path_at ps k) q then [] else e)) is ∙ sym (pieces_more width q ps bytes k low))
-
-pub part_end : (width q at : ℕ) (ps : List (List ℕ)) (bytes entry : List ℕ) (k next end : ℕ) → k < length ps → entry ≡ take width (drop (width * k) bytes)
-    → next ≡ at + length (pieces_without width q (take k ps) bytes) → end ≡ next + length (if has_id (path_at ps k) q then [] else entry)
-    → end ≡ at + length (pieces_without width q (take (k + 1) ps) bytes)
-part_end width q at ps bytes entry k next end low is before now =
-    let p : List ℕ = if has_id (path_at ps k) q then [] else entry in
-    let l = length-append (pieces_without width q (take k ps) bytes) p in
-    let m : pieces_without width q (take k ps) bytes ++ p ≡ pieces_without width q (take (k + 1) ps) bytes =
-    ap (λ (e : List ℕ). pieces_without width q (take k ps) bytes ++ (if has_id (path_at ps k) q then [] else e)) is ∙ sym (pieces_more width q ps bytes k low) in
-    let n = ap length m in
-    omega arith
-
-pub unless_short : (b : Bool) (entry : List ℕ) → length (if b then [] else entry) ≤ length entry
-unless_short true entry = omega arith
-unless_short false entry = omega arith
-
--- there is room behind the parts of the entries in front
-pub part_room : (width q at k n room long : ℕ) (ps : List (List ℕ)) (bytes : List ℕ) (next : ℕ) → k < n → n ≡ length ps → long ≡ width * n → at + long ≤ room
-    → next ≡ at + length (pieces_without width q (take k ps) bytes) → next + width ≤ room
-part_room width q at k n room long ps bytes next low is whole fits here =
-    let s = pieces_short width q (take k ps) bytes in
-    let t : length (take k ps) ≡ k = length-take-le k ps (omega arith) in
-    let m : width * length (take k ps) ≡ width * k = ap (λ (x : ℕ). width * x) t in
-    let f = fits_more width k n (width * n) low (omega arith) in
-    omega arith
+pub length-passed : {V : Type 0} (h : Hearing V) (s : List ℕ) (r : ℕ) → Distinct s → length (passed_of h s r) ≡ path_count (length s) r
+length-passed h s r d = length-map (paths_of_length s r) (passed (own_told h) h r) ∙ length-paths s r d

@@ -2,10 +2,6 @@
 use Rattle.std.specs.Prelude.{◌≡◌, ◌≢◌, ℕ, ◌+◌, ◌*◌, ◌≤◌, Bool, List, [], ◌∷◌, ◌++◌, length, take, drop, map, if◌then◌else◌}
 use Rattle.node_grid.specs.NodeSet.{has_id}
 use Rattle.omh_paths.specs.Paths.{paths_of_length}
-use Rattle.frames.specs.Content.{Expectation}
-use Rattle.frames.specs.Spelling.{header_spelling, head_of}
-use Rattle.error_detect.specs.Guessing.{pieces_without}
-use Rattle.error_detect.specs.Watching.{of_sender}
 use Rattle.relaying.specs.declared.comparing.Left.{Left}
 
 -- of each path, whether a node is on it
@@ -39,11 +35,3 @@ IsOdd width bs left = (rest : List Bool) → left.body.now ≢ owed width (bs ++
 -- there is room for marked entries
 abbrev pub HasEntries : ℕ → List Bool → Left → Type 0
 HasEntries width bs left = left.pending + width * length bs ≤ length left.table.now
-
--- a sender's frame of a kind, by its body
-abbrev pub framed : Expectation → ℕ → ℕ → List ℕ → List ℕ
-framed e j kind body = header_spelling (head_of (of_sender j e)) kind (length body) ++ body
-
--- a sender's frame of a table of round r, of entries of one width, without those of the paths that it is on
-abbrev pub frame_without : Expectation → ℕ → ℕ → ℕ → ℕ → List ℕ → List ℕ
-frame_without e kind width j r table = framed e j kind (pieces_without width j (paths_of_length e.members r) table)

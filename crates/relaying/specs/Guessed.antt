@@ -8,7 +8,7 @@ use Rattle.omh_paths.specs.Wrapped.{wrapped}
 use Rattle.omh.specs.Heard.{Hearing, heard_in}
 use Rattle.heard.specs.Keep.{IsSmall}
 use Rattle.heard.specs.Seen.{SaysEcho}
-use Rattle.frames.specs.Content.{Expectation, Content}
+use Rattle.frames.specs.Content.{Expectation, Content, round_in}
 use Rattle.error_detect.specs.Guessing.{said_by}
 use Rattle.error_detect.specs.Watching.{Watch}
 use Rattle.protocol.specs.Arrival.{Form}
@@ -21,6 +21,12 @@ pub record IsEchoOf {V : Type 0} (form : Form V) (r : ℕ) (e : Expectation) (c 
   pub of : List ℕ → Wrapped V
   pub said : (q : ℕ) → form.relay_in (said_by e q c) ≡ Some (map of (paths_of_length (without_id h.members q) r))
   pub passed_on : (p : List ℕ) → has_id p h.me ≡ false → length p ≡ r → of p ≡ wrapped (heard_in h.heard p)
+
+-- of a guess that has an entry for each path of the members, each sender passes on those of the paths that it isn't on
+abbrev pub PassesOn : {V : Type 0} → Form V → Type 0
+PassesOn {V} form =
+    (e : Expectation) (j : ℕ) (of : List ℕ → Wrapped V) → let r = round_in e.m e.slot in
+    form.relay_in (said_by e j (form.relay (map of (paths_of_length e.members r)))) ≡ Some (map of (paths_of_length (without_id e.members j) r))
 
 -- a watch without what is guessed
 abbrev pub unguessed : Watch → Watch

@@ -1,5 +1,5 @@
 -- What holds of claims and of rows as items.
-use Rattle.std.proofs.Common.{ℕ, List, ◌==◌, ◌≡◌, ◌<◌, ◌≤◌, ◌+◌, ◌*◌, ◌^◌, true, length, refl, sym, subst, arith}
+use Rattle.std.proofs.Common.{ℕ, List, ◌==◌, ◌≡◌, ◌<◌, ◌≤◌, ◌+◌, ◌*◌, ◌^◌, true, length, refl, sym, ap, subst, arith}
 use Rattle.std.specs.Prelude.{All, IfSome, Some, None}
 use Rattle.std.specs.List.{flat_map}
 use Rattle.node_grid.specs.Count.{Distinct}
@@ -13,7 +13,9 @@ use Rattle.error_detect.specs.Guessing.{said_by, is_guessed_of, IsGuessable}
 use Rattle.frames.specs.FrameKinds.{claim_relay_kind, row_relay_kind}
 use Rattle.frames.specs.Reading.{claim_in, relayed_row_in}
 use Rattle.frames.specs.Seen.{content, HasWidth}
+use Rattle.error_detect.proofs.Guesses.{entries_by_path}
 use Rattle.protocol.specs.Arrival.{claim_form, row_form}
+use Rattle.relaying.specs.Guessed.{PassesOn}
 use Rattle.relaying.specs.Items.{cells_in, width_in, told_entries, first_in}
 
 pub claims_told : {N : ℕ} (nodes : ℕ) (b : Body N) → told_entries (kind (content nodes b) == claim_relay_kind) claim_in 2 (cells_in b) ≡ claim_form.relay_in (content nodes b)
@@ -104,3 +106,9 @@ claims_narrow = omega arith
 
 pub rows_narrow : (nodes : ℕ) → nodes ≤ 16 → 1 + 2 * nodes ≤ 33
 rows_narrow nodes few = omega (arith, few)
+
+pub claims_passed_on : PassesOn claim_form
+claims_passed_on e j of = ap Some ((entries_by_path e.members j (round_in e.m e.slot)).0 of)
+
+pub rows_passed_on : PassesOn row_form
+rows_passed_on e j of = ap Some ((entries_by_path e.members j (round_in e.m e.slot)).1 of)

@@ -3,7 +3,6 @@ use Rattle.std.specs.Prelude.{◌≡◌, ℕ}
 use Rattle.omh.specs.Heard.{Hearing}
 use Rattle.frames.specs.Content.{Expectation, kind_in, round_in}
 use Rattle.relaying.specs.Ranged.{HeardIn, IsRanged}
-use Rattle.relaying.specs.Table.{own_told}
 
 -- a slot of relay round r of an item whose relay frames have this kind, as the node expects it that heard this, all of it in
 -- range
@@ -13,5 +12,5 @@ pub record IsRoundOf {V : Type 0} (capacity kind : ℕ) (in_range : Expectation 
   pub round_is : round_in e.m e.slot ≡ r
   pub nodes_are : e.nodes ≡ h.nodes
   pub members_are : e.members ≡ h.members
-  pub own_ranged : HeardIn (in_range e) 0 (own_told h)
+  pub own_ranged : HeardIn (in_range e) 0 h.own
   pub ranged : IsRanged (in_range e) h.heard

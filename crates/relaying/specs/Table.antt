@@ -1,11 +1,12 @@
 -- The table of a relay round: what is passed on of each path of the members.
-use Rattle.std.specs.Prelude.{ℕ, zero, suc, ◌==◌, List, [], ◌∷◌, map, take, if◌then◌else◌}
+use Rattle.std.specs.Prelude.{ℕ, zero, suc, ◌≡◌, ◌<◌, ◌≤◌, ◌*◌, ◌==◌, All, length, List, [], ◌∷◌, map, take, if◌then◌else◌}
 use Rattle.node_grid.specs.NodeSet.{has_id}
 use Rattle.omh_paths.specs.declared.wrapped.Wrapped.{Wrapped}
 use Rattle.omh_paths.specs.declared.wrapped.Wrapped.TheVariants.{Fault}
 use Rattle.omh_paths.specs.Wrapped.{wrapped}
-use Rattle.omh_paths.specs.Paths.{paths_of_length}
+use Rattle.omh_paths.specs.Paths.{paths_of_length, path_count}
 use Rattle.omh.specs.Heard.{Hearing, heard_in}
+use Rattle.heard.specs.Keep.{IsSmall}
 
 -- what is passed on of a path of so many nodes: where the node isn't on it what it heard for it, and else what the node told
 -- and the ones after it passed on, wrapped
@@ -28,3 +29,13 @@ table h r = passed_of h h.members r
 -- what was heard of a node itself, and of the node that hears what it told
 abbrev pub root_of : {V : Type 0} → Hearing V → ℕ → Wrapped V
 root_of h c = if c == h.me then own_told h else heard_in h.heard (c ∷ [])
+
+-- the entries that are passed on of these members can be written where there is so much room: they are of one width, and none
+-- was wrapped often
+pub record CanWrite {V : Type 0} (width : ℕ) (spell : Wrapped V → List ℕ) (h : Hearing V) (set : List ℕ) (r size : ℕ) : Type 0 where
+  pub some_round : 0 < r
+  pub few : r ≤ 3
+  pub own : IsSmall 3 (own_told h)
+  pub small : (p : List ℕ) → length p ≤ 4 → IsSmall 6 (heard_in h.heard p)
+  pub wide : All (λ w. length (spell w) ≡ width) (passed_of h set r)
+  pub room : width * path_count (length set) r ≤ size

@@ -95,6 +95,54 @@ fn row<'a, const N: usize>(left: Left<'a>, cut: Cut, set: &NodeSet<N>) -> Option
     Some(keep(far, cut.width, all - before - 1))
 }
 
+/// Goes over the entries of the paths of two nodes.
+fn pairs<'a, const N: usize>(left: Left<'a>, cut: Cut, set: &NodeSet<N>) -> Option<Left<'a>>
+    requires capacity { IsCapacity N }
+    requires sender { has_id set.now cut.sender ≡ true }
+    requires room { HasEntries cut.width (marks cut.sender set.now 2) left }
+    ensures over { IfSome result (λ l. IsOver cut.width (marks cut.sender set.now 2) left.entry l) }
+    ensures odd { IfNone result (IsOdd cut.width (marks cut.sender set.now 2) left.entry) }
+{
+    let behind = count_paths(set.len() - 1, 1);
+    let mut now = left;
+    for node in set.iter() {
+        let next = if node == cut.sender {
+            skip(now, cut.width, behind)
+        } else {
+            row(now, cut, &set.without(node))
+        };
+        let Some(next) = next else {
+            return None;
+        };
+        now = next;
+    }
+    Some(now)
+}
+
+/// Goes over the entries of the paths of three nodes.
+fn triples<'a, const N: usize>(left: Left<'a>, cut: Cut, set: &NodeSet<N>) -> Option<Left<'a>>
+    requires capacity { IsCapacity N }
+    requires sender { has_id set.now cut.sender ≡ true }
+    requires room { HasEntries cut.width (marks cut.sender set.now 3) left }
+    ensures over { IfSome result (λ l. IsOver cut.width (marks cut.sender set.now 3) left.entry l) }
+    ensures odd { IfNone result (IsOdd cut.width (marks cut.sender set.now 3) left.entry) }
+{
+    let behind = count_paths(set.len() - 1, 2);
+    let mut now = left;
+    for node in set.iter() {
+        let next = if node == cut.sender {
+            skip(now, cut.width, behind)
+        } else {
+            pairs(now, cut, &set.without(node))
+        };
+        let Some(next) = next else {
+            return None;
+        };
+        now = next;
+    }
+    Some(now)
+}
+
 /// Goes over the entries of the paths of `r` nodes.
 fn over<'a, const N: usize>(left: Left<'a>, cut: Cut, set: &NodeSet<N>, r: u8) -> Option<Left<'a>>
     requires capacity { IsCapacity N }
@@ -108,20 +156,10 @@ fn over<'a, const N: usize>(left: Left<'a>, cut: Cut, set: &NodeSet<N>, r: u8) -
     if r == 1 {
         return row(left, cut, set);
     }
-    let behind = count_paths(set.len() - 1, r - 1);
-    let mut now = left;
-    for node in set.iter() {
-        let next = if node == cut.sender {
-            skip(now, cut.width, behind)
-        } else {
-            over(now, cut, &set.without(node), r - 1)
-        };
-        let Some(next) = next else {
-            return None;
-        };
-        now = next;
+    if r == 2 {
+        return pairs(left, cut, set);
     }
-    Some(now)
+    triples(left, cut, set)
 }
 
 /// Whether a body is a table of entries, one for each path of `r` nodes of a set, without those of
@@ -207,12 +245,17 @@ fn is_guessed_body<const N: usize>(
     ensures same { result ≡ true → body.now ≡ body_spelling expect.now.nodes
         (said_by (expected expect.now) sender (said_as N expect.now.nodes form.now guess.now)) }
 {
-    let width = match form {
-        Form::State => return is_same(body, guess),
-        Form::Claims => <u8 as Item<N>>::entry_width(expect.nodes),
-        Form::Rows => <Row<N> as Item<N>>::entry_width(expect.nodes),
-    };
-    is_part(body, guess, Cut { sender, width }, expect)
+    match form {
+        Form::State => is_same(body, guess),
+        Form::Claims => {
+            let width = <u8 as Item<N>>::entry_width(expect.nodes);
+            is_part(body, guess, Cut { sender, width }, expect)
+        }
+        Form::Rows => {
+            let width = <Row<N> as Item<N>>::entry_width(expect.nodes);
+            is_part(body, guess, Cut { sender, width }, expect)
+        }
+    }
 }
 
 /// The kind of frames of which such a guess is made.
@@ -257,6 +300,8 @@ pub fn is_guessed<const N: usize>(watch: &SlotWatch<N>, from: u8, bytes: &[u8]) 
         sender: from,
         ..expect.head()
     };
-    is_header(front, head, guessed_kind::<N>(&form), body.len())
-        && is_guessed_body(body, &form, guess, from, expect)
+    if !is_header(front, head, guessed_kind::<N>(&form), body.len()) {
+        return false;
+    }
+    is_guessed_body(body, &form, guess, from, expect)
 }

@@ -2,7 +2,7 @@
 
 ghost use Rattle.std.specs.Prelude.{ℕ, ◌≡◌, ◌≢◌, ◌+◌, ◌-◌, ◌*◌, ◌<◌, ◌≤◌, List, ◌∷◌, []};
 ghost use Rattle.std.specs.Prelude.{true, false, length, take, slice_index_or, slice_set};
-ghost use Rattle.std.specs.Prelude.{IfSome, option_map, None};
+ghost use Rattle.std.specs.Prelude.{IfSome, IsSome, option_map, None};
 ghost use Rattle.node_grid.specs.Capacity.{IsCapacity};
 ghost use Rattle.node_grid.specs.NodeSet.{has_id, without_id};
 ghost use Rattle.omh_paths.specs.Paths.{path_count};
@@ -13,7 +13,8 @@ ghost use Rattle.omh.specs.Heard.{heard_in};
 ghost use Rattle.heard.specs.Keep.{wrapped_times};
 ghost use Rattle.heard.specs.Seen.{SaysExpected, SaysEcho};
 ghost use Rattle.frames.specs.Seen.{content, HasWidth};
-ghost use Rattle.protocol.specs.Arrival.{arrived};
+ghost use Rattle.error_detect.specs.Watching.{told_at};
+ghost use Rattle.protocol.specs.Arrival.{arrived, said};
 ghost use Rattle.protocol.specs.Arrival.Arrival.{Good};
 ghost use Rattle.relaying.specs.Hearing.{Brings, FitsIn, read_out, with_told, IsByPath};
 ghost use Rattle.relaying.specs.Hearing.{IsHeardBy, brought, told_from, after_round};
@@ -43,9 +44,6 @@ fn take_frame<V: Item<N>, const N: usize>(
     entries: &[Wrapped<V>],
     read: Option<usize>,
 )
-    requires sender { has_id table.old.members sender ≡ true }
-    requires some_round { 0 < round }
-    requires round { round ≤ table.old.rounds }
     requires within { IfSome read (λ count. count ≤ length entries.now) }
     requires brings { Brings (path_count (length table.old.members - 1) round)
         (read_out read entries.now) }
@@ -120,8 +118,6 @@ fn are_expected<V: Item<N>, const N: usize>(
     until: usize,
 ) -> bool
     requires wide { cells.now.width ≡ V.width table.now.nodes }
-    requires member { has_id table.now.members c ≡ true }
-    requires round { round ≤ table.now.rounds }
     requires some { from < until }
     requires within { until ≤ length
         (entries_of (V.read table.now.nodes) (V.width table.now.nodes) cells.now.bytes.now) }
@@ -172,6 +168,33 @@ fn says_expected<V: Item<N>, const N: usize>(
     true
 }
 
+/// Takes the entries of a member's relay frame without reading them one by one, where they are
+/// what is expected, and answers whether it took them.
+fn take_expected<V: Item<N>, const N: usize>(
+    table: &mut Heard<V, N>,
+    cells: &Cells<'_>,
+    round: u8,
+    sender: u8,
+) -> bool
+    requires wide { cells.now.width ≡ V.width table.old.nodes }
+    requires sender { has_id table.old.members sender ≡ true }
+    requires some_round { 0 < round }
+    requires round { round ≤ table.old.rounds }
+    requires count { length
+        (entries_of (V.read table.old.nodes) (V.width table.old.nodes) cells.now.bytes.now) ≡
+        path_count (length table.old.members - 1) round }
+    ensures is { result ≡ true → table.new ≡ with_told round sender
+        (Good (entries_of (V.read table.old.nodes) (V.width table.old.nodes) cells.now.bytes.now))
+        table.old }
+    ensures left { result ≡ false → table.new ≡ table.old }
+    ensures paths { result ≡ true → IsByPath table.old }
+{
+    if !says_expected(table, cells, round, sender) {
+        return false;
+    }
+    table.hear_expected(sender, round)
+}
+
 /// Takes what the relay frame of another member says of items without reading it, where it says
 /// what is expected, and answers whether it took it.
 fn hear_expected<V: Item<N>, const N: usize>(
@@ -199,7 +222,7 @@ fn hear_expected<V: Item<N>, const N: usize>(
     let Some(cells) = cells::<V, N>(&frame.body, table.nodes()) else {
         return false;
     };
-    says_expected(table, &cells, round, sender) && table.hear_expected(sender, round)
+    take_expected(table, &cells, round, sender)
 }
 
 /// Takes what the relay frame of another member says of items: None where no frame was told.
@@ -224,17 +247,16 @@ fn hear_told<V: Item<N>, const N: usize>(
     ensures paths { IsByPath table.old }
     ensures length { length entries.new ≡ length entries.old }
 {
+    let nodes = table.nodes();
     if hear_expected(table, frame, round, sender) {
         return;
     }
-    let read = read_entries(frame, table.nodes(), entries);
+    let read = read_entries(frame, nodes, entries);
     take_frame(table, sender, round, entries, read);
 }
 
 /// What the node itself passes on of a path, and the error where it is on the path itself.
 fn passed_on<V: Item<N>, const N: usize>(table: &Heard<V, N>, path: &Path) -> Wrapped<V>
-    requires within { (q : ℕ) → has_id path.now q ≡ true → has_id table.now.members q ≡ true }
-    requires short { length path.now ≤ table.now.rounds + 1 }
     ensures off { has_id path.now table.now.me ≡ false →
         result ≡ wrapped (heard_in table.now.heard path.now) }
     ensures on { has_id path.now table.now.me ≡ true → result ≡ Fault 0 }
@@ -253,15 +275,14 @@ fn fill_echo<V: Item<N>, const N: usize>(
     others: &NodeSet<N>,
     round: u8,
 ) -> usize
-    requires within { (q : ℕ) → has_id others.now q ≡ true → has_id table.now.members q ≡ true }
     requires some_round { 0 < round }
-    requires round { round ≤ table.now.rounds }
+    requires few { round ≤ 3 }
     requires room { path_count (length others.now) round ≤ length entries.old }
     ensures count { result ≡ path_count (length others.now) round }
     ensures filled { IsFilled round others.now table.now entries.new result }
     ensures length { length entries.new ≡ length entries.old }
 {
-    let _few = table.values_each(round);
+    let _capacity = table.nodes();
     let count = count_paths(others.len(), round);
     for k in 0..count {
         let path = unrank(others, round, k);
@@ -291,30 +312,27 @@ fn hear_guessed<V: Item<N>, const N: usize>(
     ensures paths { IsByPath table.old }
     ensures length { length entries.new ≡ length entries.old }
 {
+    let others = table.members().without(sender);
     if table.hear_echo(sender, round) {
         return;
     }
-    let others = table.members().without(sender);
     let count = fill_echo(table, entries, &others, round);
     table.hear_frame(sender, round, &entries[..count]);
 }
 
-/// Takes what the frame of round 0 of another member says of its item.
-fn hear_first<V: Item<N>, const N: usize>(
-    table: &mut Heard<V, N>,
-    watch: &SlotWatch<N>,
-    sender: u8,
-)
-    requires watching { IsHeardBy watch.now table.old.nodes table.old.me }
-    requires sender { has_id table.old.members sender ≡ true }
-    requires other { sender ≢ table.old.me }
-    ensures { table.new ≡ told_from V.form watch.now 0 sender table.old }
+/// What the frame of round 0 of another node says of its item, and the error where it says nothing.
+fn first_told<V: Item<N>, const N: usize>(watch: &SlotWatch<N>, sender: u8) -> Wrapped<V>
+    requires capacity { IsCapacity N }
+    requires closed { watch.now.is_open ≡ false }
+    requires some_slot { IsSome watch.now.expect }
+    requires node { sender < watch.now.nodes }
+    requires other { sender ≢ watch.now.me }
+    ensures { result ≡ said (arrived V.form.item_in None (told_at watch.now sender)) }
 {
-    let item = match watch.told(sender) {
+    match watch.told(sender) {
         None => Wrapped::Fault(0),
         Some(frame) => first_item(&frame),
-    };
-    table.put_root(sender, item);
+    }
 }
 
 /// Takes what the relay frame of another member says of items.
@@ -325,6 +343,7 @@ fn hear_relay<V: Item<N>, const N: usize>(
     round: u8,
     sender: u8,
 )
+    requires low { sender < table.old.nodes }
     requires watching { IsHeardBy watch.now table.old.nodes table.old.me }
     requires echoed { IsEchoed V.form round watch.now table.old }
     requires sender { has_id table.old.members sender ≡ true }
@@ -337,10 +356,39 @@ fn hear_relay<V: Item<N>, const N: usize>(
     ensures heard { table.new ≡ told_from V.form watch.now round sender table.old }
     ensures length { length entries.new ≡ length entries.old }
 {
+    let _members = table.members();
     match watch.told(sender) {
         None => hear_guessed(table, entries, round, sender),
         Some(frame) => hear_told(table, entries, &frame, round, sender),
     }
+}
+
+/// Takes what the frame of another member says of items in a round.
+fn hear_from<V: Item<N>, const N: usize>(
+    table: &mut Heard<V, N>,
+    entries: &mut [Wrapped<V>],
+    watch: &SlotWatch<N>,
+    round: u8,
+    sender: u8,
+)
+    requires capacity { IsCapacity N }
+    requires low { sender < table.old.nodes }
+    requires watching { IsHeardBy watch.now table.old.nodes table.old.me }
+    requires echoed { 0 < round → IsEchoed V.form round watch.now table.old }
+    requires sender { has_id table.old.members sender ≡ true }
+    requires other { sender ≢ table.old.me }
+    requires round { round ≤ table.old.rounds }
+    requires brings { Brings (path_count (length table.old.members - 1) round)
+        (brought V.form watch.now sender) }
+    requires room { path_count (length table.old.members - 1) round ≤ length entries.old }
+    ensures heard { table.new ≡ told_from V.form watch.now round sender table.old }
+    ensures length { length entries.new ≡ length entries.old }
+{
+    if round == 0 {
+        table.put_root(sender, first_told(watch, sender));
+        return;
+    }
+    hear_relay(table, entries, watch, round, sender);
 }
 
 /// Takes what the frames of all other members say of items in a round: of each its own item in
@@ -364,13 +412,8 @@ pub fn hear_round<V: Item<N>, const N: usize>(
     let me = table.me();
     let members = table.members();
     for q in 0..table.nodes() {
-        if q == me || !members.has(q) {
-            continue;
-        }
-        if round == 0 {
-            hear_first(table, watch, q);
-        } else {
-            hear_relay(table, entries, watch, round, q);
+        if q != me && members.has(q) {
+            hear_from(table, entries, watch, round, q);
         }
     }
 }

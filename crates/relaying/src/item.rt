@@ -1,7 +1,7 @@
 //! Items that are told and relayed.
 
 ghost use Rattle.std.specs.Prelude.{◌≡◌, ◌≢◌, ℕ, ◌+◌, ◌*◌, ◌/◌, ◌^◌, ◌<◌, ◌≤◌, ◌==◌, Bool};
-ghost use Rattle.std.specs.Prelude.{true, List, ◌++◌, length, slice_index_or, All};
+ghost use Rattle.std.specs.Prelude.{true, List, length, slice_index_or, All};
 ghost use Rattle.std.specs.Prelude.{Option, None, Some, IfSome, option_map};
 ghost use Rattle.std.specs.List.{flat_map};
 ghost use Rattle.std.proofs.Common.{refl};
@@ -9,17 +9,15 @@ ghost use Rattle.node_grid.specs.Count.{Distinct};
 ghost use Rattle.node_grid.specs.Capacity.{IsCapacity};
 ghost use Rattle.omh_paths.specs.declared.wrapped.Wrapped.{Wrapped};
 ghost use Rattle.omh_paths.specs.declared.wrapped.Wrapped.TheVariants.{Fault};
-ghost use Rattle.omh_paths.specs.Paths.{paths_of_length, path_count};
+ghost use Rattle.omh_paths.specs.Paths.{path_count};
 ghost use Rattle.frames.specs.Reading.{claim_in, relayed_row_in};
-ghost use Rattle.frames.specs.Spelling.{claim_spelling, relayed_row_spelling, header_spelling};
-ghost use Rattle.frames.specs.Spelling.{spelling as frame_spelling};
-ghost use Rattle.frames.specs.declared.frame.Head.{Head};
+ghost use Rattle.frames.specs.Spelling.{claim_spelling, relayed_row_spelling, body_spelling};
 ghost use Rattle.frames.specs.Writing.{pasted};
 ghost use Rattle.frames.specs.PieceLaws.{IsFormat};
 ghost use Rattle.frames.specs.EntryLaws.{claim_format, relayed_row_format};
 ghost use Rattle.frames.specs.Content.{Expectation, Content, IsEntry, IsClaim, IsRow};
 ghost use Rattle.frames.specs.Content.{kind_in, round_in};
-ghost use Rattle.error_detect.specs.Guessing.{said_by, is_guessed_of, entries_without, IsGuessable};
+ghost use Rattle.error_detect.specs.Guessing.{said_by, is_guessed_of, IsGuessable};
 ghost use Rattle.error_detect.specs.Inside.{said_as};
 ghost use Rattle.error_detect.specs.declared.guess.Form.{Form as GuessForm};
 ghost use Rattle.error_detect.specs.declared.guess.Form.TheVariants.{Claims, Rows};
@@ -35,6 +33,8 @@ ghost use Rattle.relaying.specs.ItemLaws.{claims_wide, rows_wide, claims_begun, 
 ghost use Rattle.relaying.specs.ItemLaws.{claims_unguessed, rows_unguessed};
 ghost use Rattle.relaying.specs.ItemLaws.{claims_guessable, rows_guessable};
 ghost use Rattle.relaying.specs.ItemLaws.{claims_narrow, rows_narrow};
+ghost use Rattle.relaying.specs.ItemLaws.{claims_passed_on, rows_passed_on};
+ghost use Rattle.relaying.specs.Guessed.{PassesOn};
 
 use error_detect::Form;
 use frames::{Body, Cells, Frame, put_done, put_row};
@@ -128,10 +128,9 @@ pub trait Item<const N: usize>: Value {
         said_as N nodes guessed_as bytes ≡
         form.relay (entries_in (read nodes) (width nodes) bytes) };
 
-    /// Where that is guessed, each sender passes on the entries of the paths that it isn't on.
-    ghost passed_on: { (e : Expectation) (j : ℕ) (es : List (Wrapped Self)) →
-        form.relay_in (said_by e j (form.relay es)) ≡
-        Some (entries_without j (paths_of_length e.members (round_in e.m e.slot)) es) };
+    /// Where an entry is guessed for each path, each sender passes on those of the paths that it
+    /// isn't on.
+    ghost passed_on: { PassesOn form };
 
     /// It can be guessed, where it has an entry in range for each path.
     ghost guessable: { (e : Expectation) (es : List (Wrapped Self)) → e.capacity ≡ N →
@@ -140,10 +139,10 @@ pub trait Item<const N: usize>: Value {
         All (IsEntry (in_range e) (round_in e.m e.slot)) es →
         length (flat_map (spelling e.nodes) es) < 2 ^ 32 → IsGuessable e (form.relay es) };
 
-    /// The bytes of a relay frame.
-    ghost written: { (nodes : ℕ) (head : Head) (es : List (Wrapped Self)) →
-        frame_spelling nodes head (form.relay es) ≡ header_spelling head kind
-        (length (flat_map (spelling nodes) es)) ++ flat_map (spelling nodes) es };
+    /// The bytes of the body of a relay frame, and its kind.
+    ghost body: { (nodes : ℕ) (es : List (Wrapped Self)) →
+        body_spelling nodes (form.relay es) ≡ flat_map (spelling nodes) es };
+    ghost kinded: { (es : List (Wrapped Self)) → kind_of (form.relay es) ≡ kind };
 
     /// An entry has few bytes.
     ghost narrow: { (nodes : ℕ) → nodes ≤ 16 → width nodes ≤ 33 };
@@ -177,11 +176,13 @@ impl<const N: usize> Item<N> for u8 {
 
     ghost guessed = { λ nodes bytes. refl };
 
-    ghost passed_on = { λ e j es. refl };
+    ghost passed_on = { claims_passed_on };
 
     ghost guessable = { claims_guessable };
 
-    ghost written = { λ nodes head es. refl };
+    ghost body = { λ nodes es. refl };
+
+    ghost kinded = { λ es. refl };
 
     ghost narrow = { λ nodes few. claims_narrow };
 
@@ -254,11 +255,13 @@ impl<const N: usize> Item<N> for Row<N> {
 
     ghost guessed = { λ nodes bytes. refl };
 
-    ghost passed_on = { λ e j es. refl };
+    ghost passed_on = { rows_passed_on };
 
     ghost guessable = { rows_guessable };
 
-    ghost written = { λ nodes head es. refl };
+    ghost body = { λ nodes es. refl };
+
+    ghost kinded = { λ es. refl };
 
     ghost narrow = { rows_narrow };
 

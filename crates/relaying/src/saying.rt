@@ -1,7 +1,9 @@
 //! What a node guesses of the relay frames of a round, and what it says itself.
 
-ghost use Rattle.std.specs.Prelude.{◌≡◌, ◌+◌, ◌*◌, ◌<◌, ◌≤◌, ◌⊎◌, length, replicate, Some, None, IfSome};
+ghost use Rattle.std.specs.Prelude.{◌≡◌, ◌+◌, ◌*◌, ◌<◌, ◌≤◌, ◌⊎◌, length, replicate, Some, None};
+ghost use Rattle.std.specs.List.{flat_map};
 ghost use Rattle.omh_paths.specs.Paths.{path_count};
+ghost use Rattle.frames.specs.Content.{Expectation};
 ghost use Rattle.frames.specs.Seen.{expected};
 ghost use Rattle.frames.specs.Spelling.{spelling, head_of};
 ghost use Rattle.frames.specs.Writing.{pasted};
@@ -31,8 +33,8 @@ pub fn guess_round<V: Item<N>, const N: usize>(
     requires before { watch.old.arrived ≡ replicate watch.old.nodes nothing }
     requires some_round { 0 < round }
     requires round { round ≤ heard.now.rounds }
-    requires slot { IfSome watch.old.expect
-        (IsRoundOf N V.kind V.in_range round heard.now) }
+    requires slot { (e : Expectation) × (watch.old.expect ≡ Some e) ×
+        IsRoundOf N V.kind V.in_range round heard.now e }
     requires room { V.width heard.now.nodes * path_count (length heard.now.members) round ≤
         length bytes.old }
     ensures kept { unguessed watch.new ≡ unguessed watch.old }
@@ -45,6 +47,30 @@ pub fn guess_round<V: Item<N>, const N: usize>(
     let size = V::entry_width(heard.nodes()) * count_paths(members.len(), round);
     write_passed(heard, &members, round, bytes);
     let _had_room = watch.guess(V::guess_form(), &bytes[..size]);
+}
+
+/// Writes what the node itself passes on in a relay round to the front of `out`, and answers how
+/// many bytes that is: nothing where it is no member.
+fn write_own<V: Item<N>, const N: usize>(heard: &Heard<V, N>, round: u8, out: &mut [u8]) -> usize
+    requires some_round { 0 < round }
+    requires round { round ≤ heard.now.rounds }
+    requires slot { (e : Expectation) × IsRoundOf N V.kind V.in_range round heard.now e }
+    requires room { length (flat_map (V.spelling heard.now.nodes) (relays heard.now round)) ≤
+        length out.old }
+    ensures written { out.new ≡ pasted 0
+        (flat_map (V.spelling heard.now.nodes) (relays heard.now round)) out.old }
+    ensures size { result ≡ length
+        (flat_map (V.spelling heard.now.nodes) (relays heard.now round)) }
+    ensures few { result ≤ 33 * 65536 }
+{
+    let members = heard.members();
+    let me = heard.me();
+    if !members.has(me) {
+        return 0;
+    }
+    let others = members.without(me);
+    write_passed(heard, &others, round, out);
+    V::entry_width(heard.nodes()) * count_paths(others.len(), round)
 }
 
 /// Writes the node's own frame of the relay round to the front of `out`, and answers its length: of
@@ -66,13 +92,7 @@ pub fn say_round<V: Item<N>, const N: usize>(
         (V.form.relay (relays heard.now round))) }
 {
     let (front, body) = out.split_at_mut(HEADER);
-    let members = heard.members();
-    let mut size = 0;
-    if members.has(heard.me()) {
-        let others = members.without(heard.me());
-        size = V::entry_width(heard.nodes()) * count_paths(others.len(), round);
-        write_passed(heard, &others, round, body);
-    }
+    let size = write_own(heard, round, body);
     front.copy_from_slice(&header(expect.head(), V::relay_kind(), size as u32));
     HEADER + size
 }

@@ -2,6 +2,7 @@
 
 ghost use Rattle.std.specs.Prelude.{◌≡◌, ◌==◌, ◌&&◌, not, nat_eq, map};
 ghost use Rattle.std.specs.Cmp.Lexicographic.{pointwise};
+ghost use Rattle.node_grid.specs.Capacity.{IsCapacity};
 ghost use Rattle.node_grid.specs.NodeSet.{ids_where};
 ghost use Rattle.omh.specs.Heard.{ear_of};
 ghost use Rattle.protocol.specs.FurtherKinds.{convicts_member};
@@ -30,6 +31,7 @@ pub fn settle_member<V: Item<N>, const N: usize>(heard: &mut Heard<V, N>, node: 
 
 /// The settled claims, one for each node: `Fault(0)` where it is no member, or that is an error.
 pub fn settle_claims<const N: usize>(heard: &mut Heard<u8, N>) -> [Wrapped<u8>; N]
+    requires capacity { IsCapacity N }
     ensures settled { result ≡ map as_claim (settled_in nat_eq N heard.old) }
     ensures kept { heard.new ≡ heard.old }
 {
@@ -44,6 +46,7 @@ pub fn settle_claims<const N: usize>(heard: &mut Heard<u8, N>) -> [Wrapped<u8>; 
 
 /// The settled rows.
 pub fn settle_rows<const N: usize>(heard: &mut Heard<Row<N>, N>) -> Matrix<N>
+    requires capacity { IsCapacity N }
     ensures settled { result ≡ settled_in (pointwise ◌==◌) N heard.old }
     ensures kept { heard.new ≡ heard.old }
 {
@@ -56,17 +59,9 @@ pub fn settle_rows<const N: usize>(heard: &mut Heard<Row<N>, N>) -> Matrix<N>
     rows
 }
 
-/// Whether the node convicts another member.
-fn is_convicted<V: Item<N>, const N: usize>(heard: &mut Heard<V, N>, node: u8) -> bool
-    ensures convicted { result ≡
-        (not (node == heard.old.me) && convicts_member V.eq (ear_of heard.old) node) }
-    ensures kept { heard.new ≡ heard.old }
-{
-    node != heard.me() && heard.members().has(node) && heard.convicts(node)
-}
-
 /// The other members that the node convicts by what it heard of their items.
 pub fn convicted<V: Item<N>, const N: usize>(heard: &mut Heard<V, N>) -> NodeSet<N>
+    requires capacity { IsCapacity N }
     ensures convicted { result ≡
         ids_where (λ j. not (j == heard.old.me) && convicts_member V.eq (ear_of heard.old) j) N }
     ensures kept { heard.new ≡ heard.old }
@@ -76,7 +71,7 @@ pub fn convicted<V: Item<N>, const N: usize>(heard: &mut Heard<V, N>) -> NodeSet
         return guilty;
     }
     for node in 0..N as u8 {
-        if is_convicted(heard, node) {
+        if heard.convicts(node) {
             guilty.put(node);
         }
     }

@@ -1,9 +1,10 @@
 //! The entries of a relay round: what is passed on of each path of a set of members.
 
-ghost use Rattle.std.specs.Prelude.{◌≡◌, ◌≢◌, ◌+◌, ◌*◌, ◌<◌, ◌≤◌, ℕ, List, true, length, map, All};
+ghost use Rattle.std.specs.Prelude.{◌≡◌, ◌≢◌, ◌+◌, ◌-◌, ◌*◌, ◌<◌, ◌≤◌, ℕ, List, true, length};
 ghost use Rattle.std.specs.Prelude.{if◌then◌else◌};
 ghost use Rattle.std.specs.List.{flat_map};
-ghost use Rattle.node_grid.specs.NodeSet.{has_id};
+ghost use Rattle.node_grid.specs.Capacity.{IsCapacity};
+ghost use Rattle.node_grid.specs.NodeSet.{has_id, IsIdSet};
 ghost use Rattle.omh_paths.specs.Paths.{paths_of_length, path_count};
 ghost use Rattle.omh_paths.specs.Wrapped.{wrapped};
 ghost use Rattle.omh_paths.specs.declared.wrapped.Wrapped.TheVariants.{Fault};
@@ -12,7 +13,7 @@ ghost use Rattle.heard.specs.Keep.{IsSmall, wrapped_times};
 ghost use Rattle.heard.specs.Passing.{IsAllExpected};
 ghost use Rattle.frames.specs.Filling.{repeated};
 ghost use Rattle.frames.specs.Writing.{pasted};
-ghost use Rattle.relaying.specs.Table.{own_told, passed, passed_of, root_of};
+ghost use Rattle.relaying.specs.Table.{own_told, passed, passed_of, root_of, CanWrite};
 
 use crate::item::Item;
 use frames::fill_entries;
@@ -27,8 +28,6 @@ fn passed_next<V: Item<N>, const N: usize>(
     before: Wrapped<V>,
     path: &Path,
 ) -> Wrapped<V>
-    requires members { (q : ℕ) → has_id path.now q ≡ true → has_id heard.now.members q ≡ true }
-    requires short { length path.now ≤ heard.now.rounds + 1 }
     requires small { before ≢ Fault 255 }
     ensures { result ≡ if has_id path.now heard.now.me then wrapped before
         else wrapped (heard_in heard.now.heard path.now) }
@@ -42,16 +41,15 @@ fn passed_next<V: Item<N>, const N: usize>(
 
 /// What is passed on of a path.
 fn passed_on<V: Item<N>, const N: usize>(heard: &Heard<V, N>, path: &Path) -> Wrapped<V>
-    requires members { (q : ℕ) → has_id path.now q ≡ true → has_id heard.now.members q ≡ true }
-    requires short { length path.now ≤ heard.now.rounds + 1 }
     requires own { IsSmall 3 (own_told heard.now) }
-    requires small { (p : List ℕ) → IsSmall 6 (heard_in heard.now.heard p) }
+    requires small { (p : List ℕ) → length p ≤ 4 → IsSmall 6 (heard_in heard.now.heard p) }
     ensures { result ≡ passed (own_told heard.now) heard.now (length path.now) path.now }
 {
+    let len = path.len();
     let own = heard.told();
     let mut front = Path::root(path.at(0));
     let mut value = passed_next(heard, own, &front);
-    for k in 1..path.len() {
+    for k in 1..len {
         front = front.then(path.at(k));
         value = passed_next(heard, value, &front);
     }
@@ -65,14 +63,8 @@ fn write_each<V: Item<N>, const N: usize>(
     round: u8,
     out: &mut [u8],
 )
-    requires within { (q : ℕ) → has_id set.now q ≡ true → has_id heard.now.members q ≡ true }
-    requires some_round { 0 < round }
-    requires round { round ≤ heard.now.rounds }
-    requires own { IsSmall 3 (own_told heard.now) }
-    requires small { (p : List ℕ) → IsSmall 6 (heard_in heard.now.heard p) }
-    requires wide { All (λ w. length (V.spelling heard.now.nodes w) ≡ V.width heard.now.nodes)
-        (passed_of heard.now set.now round) }
-    requires room { V.width heard.now.nodes * path_count (length set.now) round ≤ length out.old }
+    requires can { CanWrite (V.width heard.now.nodes) (V.spelling heard.now.nodes)
+        heard.now set.now round (length out.old) }
     ensures { out.new ≡ pasted 0
         (flat_map (V.spelling heard.now.nodes) (passed_of heard.now set.now round)) out.old }
 {
@@ -83,35 +75,20 @@ fn write_each<V: Item<N>, const N: usize>(
     }
 }
 
-/// Whether what is passed on in relay round `round`, and in those before it, is what is expected.
-/// False may be said where it is, too.
-fn are_all_expected<V: Item<N>, const N: usize>(heard: &Heard<V, N>, round: u8) -> bool
-    requires { round ≤ heard.now.rounds }
-    ensures { result ≡ true → (r : ℕ) → 0 < r → r ≤ round → IsAllExpected heard.now r }
-{
-    for r in 1..round + 1 {
-        if !heard.relays_expected(r) {
-            return false;
-        }
-    }
-    true
-}
-
 /// What is passed on of a member's item after so many relays, where all is as expected.
 fn root_passed<V: Item<N>, const N: usize>(heard: &Heard<V, N>, c: u8, round: u8) -> Wrapped<V>
-    requires member { has_id heard.now.members c ≡ true }
     requires round { round ≤ heard.now.rounds }
+    requires few { round ≤ 3 }
     requires own { IsSmall 3 (own_told heard.now) }
     ensures { result ≡ wrapped_times round (root_of heard.now c) }
 {
     if c != heard.me() {
         return heard.relayed(c, round);
     }
-    let mut value = heard.told();
-    for _ in 0..round {
-        value = value.wrap();
+    match heard.told() {
+        Wrapped::Plain(item) => Wrapped::Plain(item),
+        Wrapped::Fault(wraps) => Wrapped::Fault(wraps + round),
     }
-    value
 }
 
 /// Writes an item as so many entries from entry `from` on.
@@ -122,6 +99,7 @@ fn put_same<V: Item<N>, const N: usize>(
     count: usize,
     value: &Wrapped<V>,
 )
+    requires capacity { IsCapacity N }
     requires some { value.now ≢ Fault 0 }
     requires nodes { nodes ≤ N }
     requires wide { length (V.spelling nodes value.now) ≡ V.width nodes }
@@ -136,6 +114,19 @@ fn put_same<V: Item<N>, const N: usize>(
     fill_entries(out, width * from, &entry[..width], count);
 }
 
+/// How many paths of `round` of a set begin with each of its nodes.
+fn paths_of_each<const N: usize>(set: &NodeSet<N>, round: u8) -> usize
+    requires capacity { IsCapacity N }
+    requires some { 0 < round }
+    requires few { round ≤ 3 }
+    ensures width { result ≡ path_count (length set.now - 1) (round - 1) }
+    ensures whole { length set.now * result ≡ path_count (length set.now) round }
+    ensures small { path_count (length set.now) round ≤ 65536 }
+    ensures ids { IsIdSet N set.now }
+{
+    count_paths(set.len().saturating_sub(1), round - 1)
+}
+
 /// Writes what is passed on of the paths of `round` of these members where all of it is as
 /// expected, commander by commander.
 fn write_expected<V: Item<N>, const N: usize>(
@@ -145,21 +136,18 @@ fn write_expected<V: Item<N>, const N: usize>(
     out: &mut [u8],
 )
     requires within { (q : ℕ) → has_id set.now q ≡ true → has_id heard.now.members q ≡ true }
-    requires some_round { 0 < round }
     requires round { round ≤ heard.now.rounds }
-    requires own { IsSmall 3 (own_told heard.now) }
     requires expected { (r : ℕ) → 0 < r → r ≤ round → IsAllExpected heard.now r }
-    requires wide { All (λ w. length (V.spelling heard.now.nodes w) ≡ V.width heard.now.nodes)
-        (passed_of heard.now set.now round) }
-    requires room { V.width heard.now.nodes * path_count (length set.now) round ≤ length out.old }
+    requires can { CanWrite (V.width heard.now.nodes) (V.spelling heard.now.nodes)
+        heard.now set.now round (length out.old) }
     ensures { out.new ≡ pasted 0
         (flat_map (V.spelling heard.now.nodes) (passed_of heard.now set.now round)) out.old }
 {
-    let width = count_paths(set.len().saturating_sub(1), round - 1);
+    let nodes = heard.nodes();
+    let width = paths_of_each(set, round);
     if width == 0 {
         return;
     }
-    let nodes = heard.nodes();
     for i in 0..set.len() {
         let value = root_passed(heard, set.at(i), round);
         put_same(out, nodes, i as usize * width, width, &value);
@@ -175,17 +163,13 @@ pub(crate) fn write_passed<V: Item<N>, const N: usize>(
     out: &mut [u8],
 )
     requires within { (q : ℕ) → has_id set.now q ≡ true → has_id heard.now.members q ≡ true }
-    requires some_round { 0 < round }
     requires round { round ≤ heard.now.rounds }
-    requires own { IsSmall 3 (own_told heard.now) }
-    requires small { (p : List ℕ) → IsSmall 6 (heard_in heard.now.heard p) }
-    requires wide { All (λ w. length (V.spelling heard.now.nodes w) ≡ V.width heard.now.nodes)
-        (passed_of heard.now set.now round) }
-    requires room { V.width heard.now.nodes * path_count (length set.now) round ≤ length out.old }
+    requires can { CanWrite (V.width heard.now.nodes) (V.spelling heard.now.nodes)
+        heard.now set.now round (length out.old) }
     ensures { out.new ≡ pasted 0
         (flat_map (V.spelling heard.now.nodes) (passed_of heard.now set.now round)) out.old }
 {
-    if are_all_expected(heard, round) {
+    if heard.relays_expected(round) {
         write_expected(heard, set, round, out);
     } else {
         write_each(heard, set, round, out);

@@ -5,7 +5,7 @@ use Rattle.relaying.proofs.Filling.{filled_more}
 use Rattle.relaying.proofs.hearing.fill_echo.Goals as goal
 
 pub count_paths-count-requires-clause-nodes : goal.count_paths-count-requires-clause-nodes
-count_paths-count-requires-clause-nodes g c = let l = few_ids g.row.N c.args.others.now c.requires.capacity c.len.ensures.ids in let n = c.len.ensures.count in omega arith
+count_paths-count-requires-clause-nodes g c = let l = few_ids g.row.N c.args.others.now c.nodes-capacity.ensures.capacity c.len.ensures.ids in let n = c.len.ensures.count in omega arith
 
 pub loop-k-init : goal.loop-k-init
 loop-k-init g c = ((λ j low. absurd (omega arith)), refl)

@@ -1,49 +1,30 @@
 use Rattle.std.proofs.Common.{ℕ, List, ◌≡◌, ◌≤◌, ◌-◌, true, length, take, sym, ap, subst, ◌∙◌, arith, lit<}
 use Rattle.std.proofs.lemmas.List.{length-take-le}
 use Rattle.node_grid.specs.NodeSet.{has_id, without_id}
+use Rattle.node_grid.specs.Count.{Distinct}
 use Rattle.omh_paths.specs.Paths.{path_count}
 use Rattle.omh_paths.specs.PathLists.{length-without}
-use Rattle.omh_paths.specs.MemberLaws.{member-lt}
+use Rattle.omh_paths.specs.MemberLaws.{member-lt, Distinct-ids}
 use Rattle.omh.specs.Heard.{Hearing}
 use Rattle.heard.specs.Seen.{SaysEcho}
 use Rattle.protocol.specs.Arrival.Arrival.{Good}
 use Rattle.relaying.specs.Hearing.{with_told}
 use Rattle.relaying.specs.Guessed.{AreSmall}
-use Rattle.relaying.proofs.Expected.{others_in}
 use Rattle.relaying.proofs.Guesses.{same_echo}
 use Rattle.relaying.proofs.Filling.{filled_says, filled_small}
 use Rattle.relaying.proofs.hearing.hear_guessed.Goals as goal
 
-pub cut-requires : goal.cut-requires
-cut-requires g c = (omega arith, member-lt g.row.N c.args.members.now c.args.sender c.len-ids.ensures.ids (ap (λ (ms : List ℕ). has_id ms c.args.sender) c.requires.members ∙ c.requires.sender))
+pub without-others-requires : goal.without-others-requires
+without-others-requires g c = (omega arith, member-lt g.row.N c.members.result c.args.sender c.members.ensures.ids (ap (λ (ms : List ℕ). has_id ms c.args.sender) c.members.ensures.members ∙ c.requires.sender))
 
 pub fill_echo-count-requires : goal.fill_echo-count-requires
 fill_echo-count-requires g c =
+    let t = c.args.table.now in
     let r : ℕ = c.args.round in
-    let same : ◌≡◌ {A = Hearing g.row.V.Denot} c.hear_echo.new.self c.args.table.now = c.hear_echo.ensures.left c.if-hear_echo.false in
-    let long : length c.cut.new.self ≡ length c.args.table.now.members - 1 = ap length (c.cut.ensures ∙ ap (λ (ms : List ℕ). without_id ms c.args.sender) c.requires.members) ∙ length-without c.args.table.now.members c.args.sender c.requires.distinct c.requires.sender in
-    let inside : (x : ℕ) → has_id c.cut.new.self x ≡ true → has_id c.args.table.now.members x ≡ true = others_in c.args.members.now c.args.table.now.members c.cut.new.self c.args.sender c.requires.members c.cut.ensures in (
-      omega arith,
-      (
-        lit< tt,
-        (
-          c.requires.capacity,
-          (
-            subst (λ (h : Hearing g.row.V.Denot). c.args.me ≡ h.me) (sym same) c.requires.me,
-            (
-              subst (λ (h : Hearing g.row.V.Denot). (x : ℕ) → has_id c.cut.new.self x ≡ true → has_id h.members x ≡ true) (sym same) inside,
-              (
-                c.requires.some_round,
-                (
-                  subst (λ (h : Hearing g.row.V.Denot). r ≤ h.rounds) (sym same) c.requires.round,
-                  subst (λ (n : ℕ). path_count n r ≤ length c.args.entries.now) (sym long) c.requires.room,
-                ),
-              ),
-            ),
-          ),
-        ),
-      ),
-    )
+    let d : Distinct t.members = subst Distinct c.members.ensures.members (Distinct-ids g.row.N c.members.result c.members.ensures.ids) in
+    let others : c.without-others.result ≡ without_id t.members c.args.sender = c.without-others.ensures ∙ ap (λ (ms : List ℕ). without_id ms c.args.sender) c.members.ensures.members in
+    let long : length c.without-others.result ≡ length t.members - 1 = ap length others ∙ length-without t.members c.args.sender d c.requires.sender in
+    (omega arith, (lit< tt, (c.requires.some_round, (omega (arith, c.requires.round, c.members.ensures.rounds), subst (λ (n : ℕ). path_count n r ≤ length c.args.entries.now) (sym long) c.requires.room))))
 
 pub hear_frame-requires : goal.hear_frame-requires
 hear_frame-requires g c =
@@ -53,28 +34,17 @@ hear_frame-requires g c =
     let r : ℕ = c.args.round in
     let n : ℕ = c.fill_echo-count.result in
     let xs = c.fill_echo-count.new.entries in
+    let d : Distinct t.members = subst Distinct c.members.ensures.members (Distinct-ids g.row.N c.members.result c.members.ensures.ids) in
     let same : ◌≡◌ {A = Hearing g.row.V.Denot} u t = c.hear_echo.ensures.left c.if-hear_echo.false in
-    let others : c.cut.new.self ≡ without_id t.members q = c.cut.ensures ∙ ap (λ (ms : List ℕ). without_id ms q) c.requires.members in
-    let long : length c.cut.new.self ≡ length t.members - 1 = ap length others ∙ length-without t.members q c.requires.distinct c.requires.sender in
+    let others : c.without-others.result ≡ without_id t.members q = c.without-others.ensures ∙ ap (λ (ms : List ℕ). without_id ms q) c.members.ensures.members in
+    let long : length c.without-others.result ≡ length t.members - 1 = ap length others ∙ length-without t.members q d c.requires.sender in
     let count : n ≡ path_count (length t.members - 1) r = c.fill_echo-count.ensures.count ∙ ap (λ (k : ℕ). path_count k r) long in
     let room : n ≤ length xs = (let l = c.fill_echo-count.ensures.length in let m = c.requires.room in omega arith) in (
       omega arith,
       (
-        g.met.V.Item.exact,
-        (
-          subst (λ (h : Hearing g.row.V.Denot). has_id h.members q ≡ true) (sym same) c.requires.sender,
-          (
-            c.requires.some_round,
-            (
-              subst (λ (h : Hearing g.row.V.Denot). r ≤ h.rounds) (sym same) c.requires.round,
-              (
-                subst (λ (h : Hearing g.row.V.Denot). length (take n xs) ≡ path_count (length h.members - 1) r) (sym same) (length-take-le n xs room ∙ count),
-                filled_small u r n c.cut.new.self xs room c.fill_echo-count.ensures.count
-                    (subst (λ (s : List ℕ). AreSmall r s u) (sym others) (subst (λ (h : Hearing g.row.V.Denot). AreSmall r (without_id t.members q) h) (sym same) c.requires.small)) c.fill_echo-count.ensures.filled,
-              ),
-            ),
-          ),
-        ),
+        subst (λ (h : Hearing g.row.V.Denot). length (take n xs) ≡ path_count (length h.members - 1) r) (sym same) (length-take-le n xs room ∙ count),
+        filled_small u r n c.without-others.result xs room c.fill_echo-count.ensures.count
+            (subst (λ (s : List ℕ). AreSmall r s u) (sym others) (subst (λ (h : Hearing g.row.V.Denot). AreSmall r (without_id t.members q) h) (sym same) c.requires.small)) c.fill_echo-count.ensures.filled,
       ),
     )
 
@@ -86,17 +56,18 @@ returns-clause-is g c values count says =
     let r : ℕ = c.args.round in
     let n : ℕ = c.fill_echo-count.result in
     let xs = c.fill_echo-count.new.entries in
+    let d : Distinct t.members = subst Distinct c.members.ensures.members (Distinct-ids g.row.N c.members.result c.members.ensures.ids) in
     let same : ◌≡◌ {A = Hearing g.row.V.Denot} u t = c.hear_echo.ensures.left c.if-hear_echo.false in
-    let others : c.cut.new.self ≡ without_id t.members q = c.cut.ensures ∙ ap (λ (ms : List ℕ). without_id ms q) c.requires.members in
-    let fewer : length (without_id t.members q) ≡ length t.members - 1 = length-without t.members q c.requires.distinct c.requires.sender in
+    let others : c.without-others.result ≡ without_id t.members q = c.without-others.ensures ∙ ap (λ (ms : List ℕ). without_id ms q) c.members.ensures.members in
+    let fewer : length (without_id t.members q) ≡ length t.members - 1 = length-without t.members q d c.requires.sender in
     let room : n ≤ length xs = (let l = c.fill_echo-count.ensures.length in let m = c.requires.room in let k : n ≡ path_count (length t.members - 1) r = c.fill_echo-count.ensures.count ∙ ap (λ (s : List ℕ). path_count (length s) r) others ∙ ap (λ (j : ℕ). path_count j r) fewer in omega arith) in
     let lx : length (take n xs) ≡ path_count (length (without_id t.members q)) r = length-take-le n xs room ∙ c.fill_echo-count.ensures.count ∙ ap (λ (s : List ℕ). path_count (length s) r) others in
     let ex : SaysEcho t.me r (without_id t.members q) t.heard (take n xs) (length (take n xs)) =
     subst (λ (h : Hearing g.row.V.Denot). SaysEcho h.me r (without_id t.members q) h.heard (take n xs) (length (take n xs))) same
-    (subst (λ (s : List ℕ). SaysEcho u.me r s u.heard (take n xs) (length (take n xs))) others (filled_says u r n c.cut.new.self xs room c.fill_echo-count.ensures.filled)) in
+    (subst (λ (s : List ℕ). SaysEcho u.me r s u.heard (take n xs) (length (take n xs))) others (filled_says u r n c.without-others.result xs room c.fill_echo-count.ensures.filled)) in
     c.hear_frame.ensures.is
     ∙ ap (λ (h : Hearing g.row.V.Denot). with_told r q (Good (take n xs)) h) same
-    ∙ same_echo t r q (take n xs) values c.requires.distinct c.hear_echo.ensures.paths lx ex (count ∙ sym (ap (λ (j : ℕ). path_count j r) fewer)) says
+    ∙ same_echo t r q (take n xs) values d c.hear_echo.ensures.paths lx ex (count ∙ sym (ap (λ (j : ℕ). path_count j r) fewer)) says
 
 pub slice_bounds-hear_frame-end : goal.slice_bounds-hear_frame-end
 slice_bounds-hear_frame-end g c =
@@ -104,12 +75,11 @@ slice_bounds-hear_frame-end g c =
     let q : ℕ = c.args.sender in
     let r : ℕ = c.args.round in
     let n : ℕ = c.fill_echo-count.result in
-    let others : c.cut.new.self ≡ without_id t.members q = c.cut.ensures ∙ ap (λ (ms : List ℕ). without_id ms q) c.requires.members in
-    let long : length c.cut.new.self ≡ length t.members - 1 = ap length others ∙ length-without t.members q c.requires.distinct c.requires.sender in
+    let d : Distinct t.members = subst Distinct c.members.ensures.members (Distinct-ids g.row.N c.members.result c.members.ensures.ids) in
+    let others : c.without-others.result ≡ without_id t.members q = c.without-others.ensures ∙ ap (λ (ms : List ℕ). without_id ms q) c.members.ensures.members in
+    let long : length c.without-others.result ≡ length t.members - 1 = ap length others ∙ length-without t.members q d c.requires.sender in
     let count : n ≡ path_count (length t.members - 1) r = c.fill_echo-count.ensures.count ∙ ap (λ (k : ℕ). path_count k r) long in
-    let l = c.fill_echo-count.ensures.length in
-    let m = c.requires.room in
-    omega arith
+    omega (arith, count, c.fill_echo-count.ensures.length, c.requires.room)
 
 pub slice_bounds-hear_frame-end-2 : goal.slice_bounds-hear_frame-end-2
 slice_bounds-hear_frame-end-2 g c =
@@ -117,11 +87,10 @@ slice_bounds-hear_frame-end-2 g c =
     let q : ℕ = c.args.sender in
     let r : ℕ = c.args.round in
     let n : ℕ = c.fill_echo-count.result in
-    let others : c.cut.new.self ≡ without_id t.members q = c.cut.ensures ∙ ap (λ (ms : List ℕ). without_id ms q) c.requires.members in
-    let long : length c.cut.new.self ≡ length t.members - 1 = ap length others ∙ length-without t.members q c.requires.distinct c.requires.sender in
+    let d : Distinct t.members = subst Distinct c.members.ensures.members (Distinct-ids g.row.N c.members.result c.members.ensures.ids) in
+    let others : c.without-others.result ≡ without_id t.members q = c.without-others.ensures ∙ ap (λ (ms : List ℕ). without_id ms q) c.members.ensures.members in
+    let long : length c.without-others.result ≡ length t.members - 1 = ap length others ∙ length-without t.members q d c.requires.sender in
     let count : n ≡ path_count (length t.members - 1) r = c.fill_echo-count.ensures.count ∙ ap (λ (k : ℕ). path_count k r) long in
-    let l = c.fill_echo-count.ensures.length in
-    let m = c.requires.room in
-    let room : n ≤ length c.fill_echo-count.new.entries = omega arith in
+    let room : n ≤ length c.fill_echo-count.new.entries = omega (arith, count, c.fill_echo-count.ensures.length, c.requires.room) in
     let e = length-take-le n c.fill_echo-count.new.entries room in
     omega arith

@@ -1,49 +1,55 @@
-use Rattle.std.proofs.Common.{ℕ, List, ◌≡◌, ◌≤◌, ◌-◌, true, length, sym, ap, subst, ◌∙◌, None, arith, lit<}
-use Rattle.std.specs.Prelude.{option_map}
+use Rattle.std.proofs.Common.{ℕ, List, ◌≡◌, ◌≤◌, ◌-◌, true, length, sym, ap, subst, ◌∙◌, None, arith}
+use Rattle.std.specs.Prelude.{option_map, IfSome}
 use Rattle.omh_paths.specs.declared.wrapped.Wrapped.{Wrapped}
 use Rattle.omh.specs.Heard.{Hearing}
-use Rattle.node_grid.specs.NodeSet.{has_id}
 use Rattle.omh_paths.specs.Paths.{path_count}
-use Rattle.frames.specs.Seen.{content}
+use Rattle.frames.specs.Seen.{content, HasWidth}
 use Rattle.protocol.specs.Arrival.{Arrival, arrived}
-use Rattle.relaying.specs.Hearing.{Brings, with_told, IsByPath, read_out}
+use Rattle.relaying.specs.Hearing.{Brings, FitsIn, with_told, IsByPath, read_out}
 use Rattle.relaying.proofs.Lengths.{brought_fits}
 use Rattle.relaying.proofs.hearing.hear_told.Goals as goal
 
 pub hear_expected-requires : goal.hear_expected-requires
 hear_expected-requires g c =
-    (omega arith, (omega arith, (lit< tt, (c.requires.capacity, (c.requires.nodes, (c.requires.widths, (c.requires.members, (c.requires.sender, (c.requires.some_round, (c.requires.round, c.requires.brings))))))))))
+    (omega arith, (omega arith, (c.requires.widths, (c.requires.sender, (c.requires.some_round, (c.requires.round, c.requires.brings))))))
 
 pub read_entries-read-requires : goal.read_entries-read-requires
 read_entries-read-requires g c =
-    (omega arith, (c.requires.capacity, (c.requires.nodes, (c.requires.widths, brought_fits _ _ _ c.requires.brings c.requires.room))))
-
-pub take_frame-requires : goal.take_frame-requires
-take_frame-requires g c =
-    let r : ℕ = c.args.round in
-    let same : ◌≡◌ {A = Hearing g.row.V.Denot} c.hear_expected.new.table c.args.table.now = c.hear_expected.ensures.left c.if-hear_expected.false in (
+    let same = sym c.nodes-nodes.ensures.nodes in (
       omega arith,
       (
-        subst (λ (h : Hearing g.row.V.Denot). has_id h.members c.args.sender ≡ true) (sym same) c.requires.sender,
+        c.nodes-nodes.ensures.capacity,
         (
-          c.requires.some_round,
+          c.nodes-nodes.ensures.few,
           (
-            subst (λ (h : Hearing g.row.V.Denot). r ≤ h.rounds) (sym same) c.requires.round,
-            (
-              c.read_entries-read.ensures.within,
-              subst (λ (h : Hearing g.row.V.Denot). Brings (path_count (length h.members - 1) r) (read_out c.read_entries-read.result c.read_entries-read.new.entries)) (sym same) (subst (Brings _) c.read_entries-read.ensures.read c.requires.brings),
-            ),
+            subst (λ (n : ℕ). IfSome c.args.frame.now (λ f. HasWidth n f.body)) same c.requires.widths,
+            subst (λ (n : ℕ). FitsIn (length c.args.entries.now) (arrived g.V.Item.form.relay_in None (option_map (λ f. content n f.body) c.args.frame.now))) same (brought_fits _ _ _ c.requires.brings c.requires.room),
           ),
         ),
       ),
     )
 
+pub take_frame-requires : goal.take_frame-requires
+take_frame-requires g c =
+    let r : ℕ = c.args.round in
+    let told = λ (n : ℕ). arrived g.V.Item.form.relay_in None (option_map (λ f. content n f.body) c.args.frame.now) in
+    let same : ◌≡◌ {A = Hearing g.row.V.Denot} c.hear_expected.new.table c.args.table.now = c.hear_expected.ensures.left c.if-hear_expected.false in
+    let read : told c.args.table.now.nodes ≡ read_out c.read_entries-read.result c.read_entries-read.new.entries = ap told (sym c.nodes-nodes.ensures.nodes) ∙ c.read_entries-read.ensures.read in (
+      omega arith,
+      (
+        c.read_entries-read.ensures.within,
+        subst (λ (h : Hearing g.row.V.Denot). Brings (path_count (length h.members - 1) r) (read_out c.read_entries-read.result c.read_entries-read.new.entries)) (sym same) (subst (Brings _) read c.requires.brings),
+      ),
+    )
+
 pub returns-clause-is : goal.returns-clause-is
 returns-clause-is g c =
+    let told = λ (n : ℕ). arrived g.V.Item.form.relay_in None (option_map (λ f. content n f.body) c.args.frame.now) in
     let same : ◌≡◌ {A = Hearing g.row.V.Denot} c.hear_expected.new.table c.args.table.now = c.hear_expected.ensures.left c.if-hear_expected.false in
+    let read : told c.args.table.now.nodes ≡ read_out c.read_entries-read.result c.read_entries-read.new.entries = ap told (sym c.nodes-nodes.ensures.nodes) ∙ c.read_entries-read.ensures.read in
     c.take_frame.ensures.is
-    ∙ ap (λ (a : Arrival (List (Wrapped g.row.V.Denot))). with_told c.args.round c.args.sender a c.hear_expected.new.table) (sym c.read_entries-read.ensures.read)
-    ∙ ap (λ (h : Hearing g.row.V.Denot). with_told c.args.round c.args.sender (arrived g.V.Item.form.relay_in None (option_map (λ f. content c.args.nodes f.body) c.args.frame.now)) h) same
+    ∙ ap (λ (a : Arrival (List (Wrapped g.row.V.Denot))). with_told c.args.round c.args.sender a c.hear_expected.new.table) (sym read)
+    ∙ ap (λ (h : Hearing g.row.V.Denot). with_told c.args.round c.args.sender (told c.args.table.now.nodes) h) same
 
 pub returns-clause-paths : goal.returns-clause-paths
 returns-clause-paths g c =

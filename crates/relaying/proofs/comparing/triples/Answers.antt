@@ -38,8 +38,8 @@ skip-next-requires g c =
     let piece = sender_piece q s 2 c.in-Some.node c.len.result c.count_paths-behind.result (Distinct-ids g.row.N s c.len.ensures.ids) (has_split s c.loop-node.yielded c.next.new.self c.in-Some.node split) c.if-node-cut.true c.len.ensures.count c.count_paths-behind.ensures.product in
     record { room = room_of_piece w (behind q s 2) c.in-Some.node c.loop-node.node-iterator c.next.new.self _ c.loop-node.now c.in-Some.ensures.steps piece c.loop-node.invariant.room }
 
-pub cut-requires : goal.cut-requires
-cut-requires g c =
+pub without-requires : goal.without-requires
+without-requires g c =
     let s : List ℕ = c.args.set.now in
     let split : s ≡ c.loop-node.yielded ++ c.in-Some.node ∷ c.next.new.self = c.loop-node.invariant.split ∙ ap (λ xs. c.loop-node.yielded ++ xs) c.in-Some.ensures.steps in
     (omega arith, member-lt g.row.N s c.in-Some.node c.len.ensures.ids (has_split s c.loop-node.yielded c.next.new.self c.in-Some.node split))
@@ -49,8 +49,8 @@ pairs-next-requires g c =
     let w : ℕ = c.args.cut.width in
     let q : ℕ = c.args.cut.sender in
     let s : List ℕ = c.args.set.now in
-    let piece = other_piece q s c.cut.new.self 2 c.in-Some.node c.if-node-cut.false c.cut.ensures in
-    (omega arith, (c.requires.capacity, (ap (λ xs. has_id xs q) c.cut.ensures ∙ has-without s c.in-Some.node q (λ e. c.if-node-cut.false (sym e)) c.requires.sender, room_of_piece w (behind q s 2) c.in-Some.node c.loop-node.node-iterator c.next.new.self _ c.loop-node.now c.in-Some.ensures.steps piece c.loop-node.invariant.room)))
+    let piece = other_piece q s c.without.result 2 c.in-Some.node c.if-node-cut.false c.without.ensures in
+    (omega arith, (c.requires.capacity, (ap (λ xs. has_id xs q) c.without.ensures ∙ has-without s c.in-Some.node q (λ e. c.if-node-cut.false (sym e)) c.requires.sender, room_of_piece w (behind q s 2) c.in-Some.node c.loop-node.node-iterator c.next.new.self _ c.loop-node.now c.in-Some.ensures.steps piece c.loop-node.invariant.room)))
 
 pub returns-in_default-clause-odd : goal.returns-in_default-clause-odd
 returns-in_default-clause-odd g c =
@@ -66,8 +66,8 @@ returns-in_default-clause-odd g c =
           (sender_piece q s 2 c.in-Some.node c.len.result c.count_paths-behind.result (Distinct-ids g.row.N s c.len.ensures.ids) (has_split s c.loop-node.yielded c.next.new.self c.in-Some.node split) x.if-node-cut.true c.len.ensures.count c.count_paths-behind.ensures.product)
           c.loop-node.invariant.over (none_of x.skip-next.result c.if-node-cut.next x.next-is c.in_default.is x.skip-next.ensures.odd)
       | else-node-cut x ↦
-          odd_next w f s c.loop-node.yielded c.in-Some.node c.next.new.self (marks q x.cut.new.self 2) c.args.left c.loop-node.now split
-          (other_piece q s x.cut.new.self 2 c.in-Some.node x.if-node-cut.false x.cut.ensures)
+          odd_next w f s c.loop-node.yielded c.in-Some.node c.next.new.self (marks q x.without.result 2) c.args.left c.loop-node.now split
+          (other_piece q s x.without.result 2 c.in-Some.node x.if-node-cut.false x.without.ensures)
           c.loop-node.invariant.over (none_of x.pairs-next.result c.if-node-cut.next x.next-is c.in_default.is x.pairs-next.ensures.odd)
     ])
 
@@ -85,9 +85,9 @@ loop-node-preserved g c =
           (sym (sender_piece q s 2 c.in-Some.node c.len.result c.count_paths-behind.result (Distinct-ids g.row.N s c.len.ensures.ids) (has_split s c.loop-node.yielded c.next.new.self c.in-Some.node split) x.if-node-cut.true c.len.ensures.count c.count_paths-behind.ensures.product))
           (some_of (λ y. IsOver w (replicate c.count_paths-behind.result true) c.loop-node.now y) x.skip-next.result c.if-node-cut.next c.in-Some-next.next x.next-is c.in-Some-next.is x.skip-next.ensures.over)
       | else-node-cut x ↦
-          over_of w (marks q x.cut.new.self 2) (f c.in-Some.node) c.loop-node.now c.in-Some-next.next
-          (sym (other_piece q s x.cut.new.self 2 c.in-Some.node x.if-node-cut.false x.cut.ensures))
-          (some_of (λ y. IsOver w (marks q x.cut.new.self 2) c.loop-node.now y) x.pairs-next.result c.if-node-cut.next c.in-Some-next.next x.next-is c.in-Some-next.is x.pairs-next.ensures.over)
+          over_of w (marks q x.without.result 2) (f c.in-Some.node) c.loop-node.now c.in-Some-next.next
+          (sym (other_piece q s x.without.result 2 c.in-Some.node x.if-node-cut.false x.without.ensures))
+          (some_of (λ y. IsOver w (marks q x.without.result 2) c.loop-node.now y) x.pairs-next.result c.if-node-cut.next c.in-Some-next.next x.next-is c.in-Some-next.is x.pairs-next.ensures.over)
     ] in
     record {
       can = tt;
