@@ -1,6 +1,5 @@
 pub mod TablesTold
 pub mod Alike
-pub mod Guilt
 pub mod SlotSteps
 pub mod Arrived
 pub mod PeriodStages

@@ -3,7 +3,7 @@ use Rattle.std.proofs.Common.{ℕ, zero, suc, ◌≡◌, ◌≢◌, ◌<◌, ◌
 use Rattle.std.specs.Prelude.{nat_eq, nat_le, is_some}
 use Rattle.std.specs.List.{range_with_len, list_any}
 use Rattle.std.specs.Cmp.Lexicographic.{pointwise}
-use Rattle.std.proofs.lemmas.Bool.{cases_Bool, cond-true, cond-false}
+use Rattle.std.proofs.lemmas.Bool.{cases_Bool, cases_eq, cond-true, cond-false}
 use Rattle.std.proofs.lemmas.Bool.Decides.{nat_tests}
 use Rattle.node_grid.specs.Kinds.{state, claim, overrun, deviate, equivocate}
 use Rattle.node_grid.specs.NodeSet.{IsIdSet}
@@ -40,7 +40,21 @@ use Rattle.node_steps.specs.At.{heard_upto, table_at, IsRound}
 use Rattle.node_steps.specs.Stages.{rounds_closed, by_verdict, stage, notes_sync, notes_done, claims_of, due_of, own_of, votes_of, notes_verdicts, convicts_over_claims, notes_claims, row_of, done_table, row_table, found_done, found_data, found_report, in_done, in_data, in_report, outcome_of}
 use Rattle.node_steps.proofs.TablesTold.{Agrees, round_more, settled_tabled, convicts_tabled}
 use Rattle.node_steps.proofs.Alike.{Others, notes_more, row_alike, votes_alike, adopted_alike, synced_alike}
-use Rattle.node_steps.proofs.Guilt.{further_is}
+
+-- as a further kind it is noted so
+further_is : (x : Bool) (b : ℕ) → ((b == equivocate && x) && is_further b) ≡ (x && b == equivocate)
+further_is x b = elim (cases_eq b equivocate) [
+  | inl e ↦ ap₂ (λ (s t : Bool). (s && x) && t) (eq-eqb b equivocate e) (ap is_further e) ∙ here x ∙ ap (λ (s : Bool). x && s) (sym (eq-eqb b equivocate e))
+  | inr ne ↦ ap (λ (s : Bool). (s && x) && is_further b) (ne_eqb b equivocate ne) ∙ away x ∙ ap (λ (s : Bool). x && s) (sym (ne_eqb b equivocate ne))
+]
+  where
+    here : (x : Bool) → ((true && x) && true) ≡ (x && true)
+    here true = refl
+    here false = refl
+
+    away : (x : Bool) → false ≡ (x && false)
+    away true = refl
+    away false = refl
 
 or_false : (b : Bool) → (b || false) ≡ b
 or_false true = refl
