@@ -29,17 +29,18 @@ impl<'c, const N: usize> Controller<'c, N> {
             own: &self.found.own,
         };
         let voted = slot.vote(&self.watch, self.config, agreed, &self.found.claims);
-        note_values(&mut self.found.notes, &found, &voted.off);
+        let mut notes = self.found.notes;
+        note_values(&mut notes, &found, &voted.off);
         if !self.phase.full {
-            self.found.notes.accuse_nobody();
+            notes.accuse_nobody();
         }
+        self.found.notes = notes;
         self.found.votes = voted.votes;
-        let row = self.found.notes.row();
         self.rows.start(
             &agreed.members,
             self.phase.me,
             self.phase.full,
-            Wrapped::Plain(row),
+            Wrapped::Plain(notes.row()),
         );
     }
 }
