@@ -26,7 +26,7 @@ use Rattle.relaying.specs.Hearing.{slot_rounds, after_round}
 use Rattle.relaying.specs.Settling.{settled_in}
 use Rattle.node_steps.specs.At.{heard_upto, table_at, IsRound}
 use Rattle.protocol.specs.TalkLaws.{heard_push}
-use Rattle.relaying.proofs.Slots.{Split, split, slot_tabled}
+use Rattle.relaying.specs.HearingLaws.{Split, split, slot_tabled}
 
 -- a kind of error goes with nothing said
 pub record Agrees (k : Option ℕ) (o : Option Content) : Type 0 where

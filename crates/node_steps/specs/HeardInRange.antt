@@ -17,7 +17,7 @@ use Rattle.protocol.specs.Heard.{paths_of, heard, heard_back}
 use Rattle.protocol.specs.View.{content}
 use Rattle.relaying.specs.Hearing.{has_path, slot_rounds, all_told, after_round}
 use Rattle.relaying.specs.Ranged.{HeardIn, IsRanged}
-use Rattle.relaying.proofs.Slots.{length_all}
+use Rattle.relaying.specs.HearingLaws.{length_all}
 use Rattle.node_steps.specs.TableRanges.{ranged_told, entry_in, said_in}
 use Rattle.node_steps.specs.ToldInRange.{told_in_range}
 

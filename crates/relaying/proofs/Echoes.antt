@@ -1,6 +1,6 @@
 -- A guess that is the table of the round is what the node passes on.
 use Rattle.std.proofs.Common.{ℕ, zero, suc, ◌≡◌, ◌<◌, ◌⊎◌, Bool, true, false, List, map, take, Option, Some, None, ap, sym, subst, ◌∙◌, inl, inr, arith}
-use Rattle.std.proofs.lemmas.Bool.{cases_Bool, cond-false}
+use Rattle.std.proofs.lemmas.Bool.{cases_Bool}
 use Rattle.node_grid.specs.NodeSet.{has_id, without_id}
 use Rattle.omh_paths.specs.declared.wrapped.Wrapped.{Wrapped}
 use Rattle.omh_paths.specs.Wrapped.{wrapped}
@@ -11,10 +11,7 @@ use Rattle.error_detect.specs.Watching.{Watch, guessing}
 use Rattle.protocol.specs.Arrival.{Form}
 use Rattle.relaying.specs.Guessed.{PassesOn, IsEchoOf, IsEchoed, unguessed}
 use Rattle.relaying.specs.Table.{own_told, passed, table}
-
--- of a path that the node isn't on, what it passes on itself
-pub passed_off : {V : Type 0} (own : Wrapped V) (h : Hearing V) (r : ℕ) (p : List ℕ) → has_id p h.me ≡ false → passed own h (suc r) p ≡ wrapped (heard_in h.heard p)
-passed_off own h r p off = cond-false (has_id p h.me) (wrapped (passed own h r (take r p))) (wrapped (heard_in h.heard p)) off
+use Rattle.relaying.proofs.Tables.{passed_off}
 
 pub table_echoed : {V : Type 0} (form : Form V) (e : Expectation) (h : Hearing V) (r : ℕ) → PassesOn form → e.members ≡ h.members → round_in e.m e.slot ≡ suc r
     → IsEchoOf form (suc r) e (form.relay (table h (suc r))) h

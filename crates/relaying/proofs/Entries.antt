@@ -25,7 +25,7 @@ use Rattle.relaying.specs.Hearing.{has_path, told_to, slot_rounds, pushed, paths
 use Rattle.relaying.proofs.Lengths.{take-front}
 use Rattle.protocol.specs.TalkLaws.{heard_push, paths_of_member}
 use Rattle.relaying.proofs.Putting.{told, looked_up-place}
-use Rattle.relaying.proofs.Slots.{Split, split, front_distinct, last_off, listed, listed_pushed, listed_kept, kept_listed, all_at}
+use Rattle.relaying.specs.HearingLaws.{Split, split, front_distinct, last_off, listed, listed_pushed, listed_kept, kept_listed, all_at}
 
 -- ---- the last node of a path
 

@@ -22,7 +22,7 @@ use Rattle.protocol.specs.TalkLaws.{paths_of_member}
 use Rattle.relaying.specs.Relaying.{relays}
 use Rattle.relaying.specs.Table.{own_told, passed, passed_of}
 use Rattle.relaying.specs.Round.{IsRoundOf}
-use Rattle.relaying.proofs.Echoes.{passed_off}
+use Rattle.relaying.proofs.Tables.{passed_off}
 use Rattle.relaying.proofs.Ranges.{entries_long}
 
 off_alike : {V : Type 0} (own : Wrapped V) (h : Hearing V) (r : ℕ) (ps : List (List ℕ))

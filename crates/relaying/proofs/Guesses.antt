@@ -26,7 +26,7 @@ use Rattle.relaying.specs.Hearing.{has_path, told_to, all_told, with_told, IsByP
 use Rattle.relaying.specs.Guessed.{IsEchoOf, IsEchoed, BringsEcho, AreSmall}
 use Rattle.relaying.proofs.Lengths.{take-front}
 use Rattle.relaying.proofs.Putting.{told}
-use Rattle.relaying.proofs.Slots.{length_all}
+use Rattle.relaying.specs.HearingLaws.{length_all}
 use Rattle.relaying.proofs.Entries.{Behind, behind, each_entry, where_all}
 
 -- what was told by a guessed frame

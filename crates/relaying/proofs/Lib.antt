@@ -1,5 +1,4 @@
 pub mod Putting
-pub mod Slots
 pub mod Lengths
 pub mod Entries
 pub mod Expected

@@ -20,6 +20,15 @@ use Rattle.frames.specs.Writing.{pasted}
 use Rattle.frames.specs.PieceLaws.{pasted_twice}
 use Rattle.relaying.specs.Table.{own_told, passed, passed_of}
 
+-- ---- what is passed on of a path that the node isn't on
+
+pub passed_off : {V : Type 0} (own : Wrapped V) (h : Hearing V) (r : ℕ) (p : List ℕ) → has_id p h.me ≡ false → passed own h (suc r) p ≡ wrapped (heard_in h.heard p)
+passed_off own h r p off = cond-false (has_id p h.me) (wrapped (passed own h r (take r p))) (wrapped (heard_in h.heard p)) off
+
+pub passed_clear : {V : Type 0} (own : Wrapped V) (h : Hearing V) (r : ℕ) (p : List ℕ) → 0 < r → has_id p h.me ≡ false → passed own h r p ≡ wrapped (heard_in h.heard p)
+passed_clear own h zero p some off = absurd (omega (arith, some))
+passed_clear own h (suc r) p some off = passed_off own h r p off
+
 -- ---- what is passed on has few wraps
 
 smaller : {V : Type 0} (a b : ℕ) (w : Wrapped V) → a ≤ b → IsSmall a w → IsSmall b w

@@ -1,6 +1,7 @@
 pub mod Items
 pub mod ItemLaws
 pub mod Hearing
+pub mod HearingLaws
 pub mod Relaying
 pub mod Settling
 pub mod Ranged

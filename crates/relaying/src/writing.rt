@@ -46,6 +46,9 @@ fn passed_on<V: Item<N>, const N: usize>(heard: &Heard<V, N>, path: &Path) -> Wr
     ensures { result ≡ passed (own_told heard.now) heard.now (length path.now) path.now }
 {
     let len = path.len();
+    if !path.has(heard.me()) {
+        return heard.relay(path);
+    }
     let own = heard.told();
     let mut front = Path::root(path.at(0));
     let mut value = passed_next(heard, own, &front);

@@ -5,7 +5,7 @@ use Rattle.node_grid.specs.NodeSet.{ids_below}
 use Rattle.omh_paths.specs.declared.wrapped.Wrapped.TheVariants.{Fault}
 use Rattle.protocol.specs.View.{as_claim}
 use Rattle.relaying.specs.Settling.{settled_at_node}
-use Rattle.relaying.proofs.Slots.{map_map}
+use Rattle.relaying.specs.HearingLaws.{map_map}
 use Rattle.relaying.proofs.settling.settle_claims.Goals as goal
 
 pub returns-clause-settled : goal.returns-clause-settled

@@ -1,10 +1,17 @@
-use Rattle.std.proofs.Common.{ℕ, ◌≡◌, ◌<◌, ◌+◌, List, length, take, refl, sym, ap, ap₂, subst, ◌∷◌, ◌++◌, [], ◌∙◌, arith, true}
+use Rattle.std.proofs.Common.{ℕ, ◌≡◌, ◌<◌, ◌+◌, List, length, take, refl, sym, ap, ap₂, subst, ◌∷◌, ◌++◌, [], ◌∙◌, arith, true, false}
 use Rattle.std.proofs.lemmas.List.{take_all, take_more, length-take-le}
 use Rattle.node_grid.specs.NodeSet.{has_id}
 use Rattle.heard.specs.Keep.{IsSmall}
 use Rattle.relaying.specs.Table.{own_told, passed}
-use Rattle.relaying.proofs.Tables.{front_short, small_passed, not_full, has_take, next_new, one_front, passed_more}
+use Rattle.relaying.proofs.Tables.{passed_clear, front_short, small_passed, not_full, has_take, next_new, one_front, passed_more}
 use Rattle.relaying.proofs.writing.passed_on.Goals as goal
+
+pub returns-then-not-has : goal.returns-then-not-has
+returns-then-not-has g c =
+    let path : List ℕ = c.args.path.now in
+    let h = c.args.heard.now in
+    let off : has_id path h.me ≡ false = ap (has_id path) (sym c.me.ensures.me) ∙ sym c.if-not-has.ensures in
+    c.relay.ensures ∙ sym (passed_clear (own_told h) h (length path) path (omega (arith, c.len-len.ensures.some, c.len-len.ensures.count)) off)
 
 pub then-front-requires-clause-room : goal.then-front-requires-clause-room
 then-front-requires-clause-room g c =

@@ -13,7 +13,16 @@ use Rattle.omh_paths.specs.MemberLaws.{Distinct-ids, member-lt}
 use Rattle.omh.specs.Heard.{entry, heard_paths}
 use Rattle.omh.specs.HeardLaws.{IsHeardPath, entries_alike}
 use Rattle.relaying.specs.Hearing.{has_path, told_to, pushed, paths_from, paths_told, all_told}
-use Rattle.relaying.proofs.Putting.{has_path-append}
+
+-- ---- paths of two lists
+
+or_assoc : (a b c : Bool) → (a || (b || c)) ≡ ((a || b) || c)
+or_assoc true b c = refl
+or_assoc false b c = refl
+
+pub has_path-append : (ps qs : List (List ℕ)) (p : List ℕ) → has_path (ps ++ qs) p ≡ (has_path ps p || has_path qs p)
+has_path-append [] qs p = refl
+has_path-append (x ∷ ps) qs p = ap (λ (c : Bool). same_nodes x p || c) (has_path-append ps qs p) ∙ or_assoc (same_nodes x p) (has_path ps p) (has_path qs p)
 
 -- ---- paths end in a node
 
