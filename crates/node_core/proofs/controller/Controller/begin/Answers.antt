@@ -1,4 +1,5 @@
 use Rattle.std.proofs.Common.{ℕ, ◌≡◌, ◌≤◌, ◌+◌, ◌^◌, List, [], length, Option, None, Some, Bool, true, false, arith, refl, inl, inr, lit<, sym, ap, ap₂, subst, ◌∙◌}
+use mathlib.Core.List.{not-mem-nil}
 use Rattle.std.specs.Prelude.{IfSome, is_some, replicate}
 use Rattle.node_grid.specs.NodeSet.{IsIdSet}
 use Rattle.frames.specs.Content.{Expectation}
@@ -64,11 +65,11 @@ guess-requires g c =
     let due : c.expect-expect.result.state_len ≡ state_len n.config.now = ap (λ (x : Expectation). x.state_len) e in
     let long : length c.as_slice.result.now ≡ state_len n.config.now = ap (λ (xs : List ℕ). length xs) c.as_slice.ensures.value ∙ c.body-state.ensures.length in
     let short = state_len-short g.row.N n.config.now (few_capacity g.row.N c.requires.capacity) c.self.invariant.place.config_is in
-    let guessable = subst (λ (w : Watch). IfSome w.expect (λ x. IsGuessable x (State c.as_slice.result.now))) (sym k) (slot, (omega (arith, due, long), omega (arith, long, short))) in
+    let guessable = subst (λ (w : Watch). IfSome w.expect (λ x. IsGuessable x (State c.as_slice.result.now))) (sym k) (slot, omega (arith, due, long), omega (arith, long, short)) in
     (lit< tt, (first, (guessable, refl)))
 
 pub is_some-requires : goal.is_some-requires
-is_some-requires g c κs = λ a m. absurd m
+is_some-requires g c κs = λ a m. absurd (not-mem-nil m)
 
 pub next_period-requires : goal.next_period-requires
 next_period-requires g c = elim c.requires.capacity [ inl e ↦ rw e (lit< tt) | inr e ↦ rw e (lit< tt) ]

@@ -1,7 +1,9 @@
-use Rattle.std.proofs.Common.{◌≡◌, ◌≢◌, ◌≤◌, ◌<◌, ◌+◌, ℕ, List, length, Option, true, inl, inr, lit<, arith, sym, ap, subst, ◌∙◌}
+use Rattle.std.proofs.Common.{◌≡◌, ◌-◌, ◌≢◌, ◌≤◌, ◌<◌, ◌+◌, ℕ, List, length, Option, true, inl, inr, lit<, arith, sym, ap, subst, ◌∙◌}
 use Rattle.std.specs.Prelude.{IfSome}
+use mathlib.Core.List.{not-mem-nil}
 use Rattle.slot_plan.specs.declared.slot.Slot.TheVariants.{Claims}
 use Rattle.omh.specs.Heard.{Hearing}
+use Rattle.omh_paths.specs.Paths.{path_count}
 use Rattle.error_detect.specs.declared.finding.Finding.{Finding}
 use Rattle.error_detect.specs.Watching.{Watch}
 use Rattle.error_reports.specs.Notes.{Notes, also_noted}
@@ -23,10 +25,10 @@ pub close-found-requires : goal.close-found-requires
 close-found-requires g c =
     let is = c.self.view_is in
     let open' = (c.requires.sound.in_slot c.requires.open).watching in
-    (lit< tt, ap (λ (v : NodeView g.row.N). v.arrived.is_open) is ∙ open')
+    (lit< tt, (elim c.self.invariant.place.capacity [ inl e ↦ rw e (lit< tt) | inr e ↦ rw e (lit< tt) ], ap (λ (v : NodeView g.row.N). v.arrived.is_open) is ∙ open'))
 
 pub is_none-requires : goal.is_none-requires
-is_none-requires g c = ?
+is_none-requires g c = λ κs a m. absurd (not-mem-nil m)
 
 pub invariant_of-self : goal.invariant_of-self
 invariant_of-self g c =
@@ -47,19 +49,40 @@ invariant_of-self g c =
 pub returns-then-is_none : goal.returns-then-is_none
 returns-then-is_none g c =
     let n = c.self.inside in
-    let before = none_of n.phase.before (sym c.is_none.ensures ∙ c.if-is_none.true) in
+    let before = none_of n.phase.before c.is_none.result c.is_none.ensures c.if-is_none.true in
     ap (λ (w : Watch). record (seen n) { arrived = unguessed w }) c.close-found.ensures.closed
     ∙ ap (λ (o : Option AgreedView). taken (shut (seen n)) o) (sym before)
     ∙ ap (λ (v : NodeView g.row.N). taken (shut v) v.phase.before) c.self.view_is
 
 pub note_found-requires : goal.note_found-requires
-note_found-requires g c = ?
+note_found-requires g c = (elim c.self.invariant.place.capacity [ inl e ↦ rw e (lit< tt) | inr e ↦ rw e (lit< tt) ], (elim c.self.invariant.place.capacity [ inl e ↦ rw e (lit< tt) | inr e ↦ rw e (lit< tt) ], c.self.invariant.place.capacity))
 
 pub as_mut_slice-requires : goal.as_mut_slice-requires
-as_mut_slice-requires g c = ?
+as_mut_slice-requires g c = λ κs. (λ a m. absurd (not-mem-nil m), λ a m. absurd (not-mem-nil m))
 
 pub hear_round-requires : goal.hear_round-requires
-hear_round-requires g c = ?
+hear_round-requires g c =
+    let n = c.self.inside in
+    let inv = c.self.invariant in
+    let is = c.self.view_is in
+    let r : ℕ = c.args.round in
+    let some = some_of n.phase.before c.is_none.result c.is_none.ensures c.if-is_none.false in
+    let a : AgreedView = some.0 in
+    let sound : IsSound (seen n) = subst (IsSound {N = g.row.N}) (sym is) c.requires.sound in
+    let open' : n.phase.is_open ≡ true = ap (λ (v : NodeView g.row.N). v.phase.is_open) is ∙ c.requires.open in
+    let low : r ≤ n.config.now.m = subst (λ (v : NodeView g.row.N). r ≤ v.config.m) (sym is) c.requires.round in
+    let number : (seen n).phase.slot ≡ 1 + r = subst (λ (v : NodeView g.row.N). v.phase.slot ≡ 1 + r) (sym is) c.requires.slot in
+    let at = in_claims n.config.now.m r n.phase.slot inv.slot low number in
+    let u = c.close-found.new.self in
+    let shut' = c.close-found.ensures.closed in
+    let watching = claims_watching n inv sound open' u shut' a some.1 r low at in
+    let echoed = claims_echoed n inv sound open' u shut' a some.1 r low at in
+    let rounds = claims_rounds n inv sound open' u shut' a some.1 r low at in
+    let bring = claims_bring n inv sound open' u shut' a some.1 r low at in
+    let fits = claims_fit n inv sound open' u shut' a some.1 r low at in
+    let long = ap (λ xs. length xs) c.as_mut_slice.ensures.value in
+    let room : path_count (length n.done.members - 1) r ≤ length c.as_mut_slice.result.now = omega (arith, fits, long) in
+    (lit< tt, (lit< tt, (watching, (echoed, (rounds, (bring, room))))))
 
 pub invariant_of-self-then-round-self : goal.invariant_of-self-then-round-self
 invariant_of-self-then-round-self g c =
@@ -84,7 +107,7 @@ know_claims-requires g c =
     let inv = c.self.invariant in
     let is = c.self.view_is in
     let r : ℕ = c.args.round in
-    let some = some_of n.phase.before (sym c.is_none.ensures ∙ c.if-is_none.false) in
+    let some = some_of n.phase.before c.is_none.result c.is_none.ensures c.if-is_none.false in
     let a : AgreedView = some.0 in
     let sound : IsSound (seen n) = subst (IsSound {N = g.row.N}) (sym is) c.requires.sound in
     let open' : n.phase.is_open ≡ true = ap (λ (v : NodeView g.row.N). v.phase.is_open) is ∙ c.requires.open in
@@ -100,7 +123,7 @@ returns-then-round-self g c =
     let inv = c.self.invariant in
     let is = c.self.view_is in
     let r : ℕ = c.args.round in
-    let some = some_of n.phase.before (sym c.is_none.ensures ∙ c.if-is_none.false) in
+    let some = some_of n.phase.before c.is_none.result c.is_none.ensures c.if-is_none.false in
     let a : AgreedView = some.0 in
     let sound : IsSound (seen n) = subst (IsSound {N = g.row.N}) (sym is) c.requires.sound in
     let open' : n.phase.is_open ≡ true = ap (λ (v : NodeView g.row.N). v.phase.is_open) is ∙ c.requires.open in
@@ -138,7 +161,7 @@ returns-else-round-self g c =
     let inv = c.self.invariant in
     let is = c.self.view_is in
     let r : ℕ = c.args.round in
-    let some = some_of n.phase.before (sym c.is_none.ensures ∙ c.if-is_none.false) in
+    let some = some_of n.phase.before c.is_none.result c.is_none.ensures c.if-is_none.false in
     let a : AgreedView = some.0 in
     let sound : IsSound (seen n) = subst (IsSound {N = g.row.N}) (sym is) c.requires.sound in
     let open' : n.phase.is_open ≡ true = ap (λ (v : NodeView g.row.N). v.phase.is_open) is ∙ c.requires.open in

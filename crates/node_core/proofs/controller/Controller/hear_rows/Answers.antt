@@ -1,5 +1,7 @@
-use Rattle.std.proofs.Common.{◌≡◌, ◌≤◌, ◌+◌, ℕ, List, length, Option, true, inl, inr, lit<, sym, ap, subst, ◌∙◌}
+use Rattle.std.proofs.Common.{◌≡◌, ◌-◌, ◌≤◌, ◌+◌, ℕ, List, length, Option, true, inl, inr, lit<, arith, sym, ap, subst, ◌∙◌}
+use mathlib.Core.List.{not-mem-nil}
 use Rattle.slot_plan.specs.declared.slot.Slot.TheVariants.{Rows}
+use Rattle.omh_paths.specs.Paths.{path_count}
 use Rattle.error_detect.specs.declared.finding.Finding.{Finding}
 use Rattle.error_detect.specs.Watching.{Watch}
 use Rattle.error_reports.specs.Notes.{Notes, also_carried}
@@ -20,10 +22,10 @@ pub close-found-requires : goal.close-found-requires
 close-found-requires g c =
     let is = c.self.view_is in
     let open' = (c.requires.sound.in_slot c.requires.open).watching in
-    (lit< tt, ap (λ (v : NodeView g.row.N). v.arrived.is_open) is ∙ open')
+    (lit< tt, (elim c.self.invariant.place.capacity [ inl e ↦ rw e (lit< tt) | inr e ↦ rw e (lit< tt) ], ap (λ (v : NodeView g.row.N). v.arrived.is_open) is ∙ open'))
 
 pub is_none-requires : goal.is_none-requires
-is_none-requires g c = ?
+is_none-requires g c = λ κs a m. absurd (not-mem-nil m)
 
 pub invariant_of-self : goal.invariant_of-self
 invariant_of-self g c =
@@ -44,31 +46,52 @@ invariant_of-self g c =
 pub returns-then-is_none : goal.returns-then-is_none
 returns-then-is_none g c =
     let n = c.self.inside in
-    let before = none_of n.phase.before (sym c.is_none.ensures ∙ c.if-is_none.true) in
+    let before = none_of n.phase.before c.is_none.result c.is_none.ensures c.if-is_none.true in
     ap (λ (w : Watch). record (seen n) { arrived = unguessed w }) c.close-found.ensures.closed
     ∙ ap (λ (o : Option AgreedView). taken (shut (seen n)) o) (sym before)
     ∙ ap (λ (v : NodeView g.row.N). taken (shut v) v.phase.before) c.self.view_is
 
 pub carry_found-requires : goal.carry_found-requires
-carry_found-requires g c = ?
+carry_found-requires g c = (elim c.self.invariant.place.capacity [ inl e ↦ rw e (lit< tt) | inr e ↦ rw e (lit< tt) ], (elim c.self.invariant.place.capacity [ inl e ↦ rw e (lit< tt) | inr e ↦ rw e (lit< tt) ], c.self.invariant.place.capacity))
 
 pub as_mut_slice-requires : goal.as_mut_slice-requires
-as_mut_slice-requires g c = ?
+as_mut_slice-requires g c = λ κs. (λ a m. absurd (not-mem-nil m), λ a m. absurd (not-mem-nil m))
 
 pub hear_round-requires-room-V-Item : goal.hear_round-requires-room-V-Item
-hear_round-requires-room-V-Item g c = ?
+hear_round-requires-room-V-Item g c = λ κs. elim c.self.invariant.place.capacity [ inl e ↦ rw e (lit< tt) | inr e ↦ rw e (lit< tt) ]
 
 pub hear_round-requires-room-V-Value : goal.hear_round-requires-room-V-Value
-hear_round-requires-room-V-Value g c = ?
+hear_round-requires-room-V-Value g c = λ κs. elim c.self.invariant.place.capacity [ inl e ↦ rw e (lit< tt) | inr e ↦ rw e (lit< tt) ]
 
 pub hear_round-requires-room-V-Eq : goal.hear_round-requires-room-V-Eq
-hear_round-requires-room-V-Eq g c = ?
+hear_round-requires-room-V-Eq g c = λ κs. elim c.self.invariant.place.capacity [ inl e ↦ rw e (lit< tt) | inr e ↦ rw e (lit< tt) ]
 
 pub hear_round-requires-room-V-PartialEq : goal.hear_round-requires-room-V-PartialEq
-hear_round-requires-room-V-PartialEq g c = ?
+hear_round-requires-room-V-PartialEq g c = λ κs. elim c.self.invariant.place.capacity [ inl e ↦ rw e (lit< tt) | inr e ↦ rw e (lit< tt) ]
 
 pub hear_round-requires : goal.hear_round-requires
-hear_round-requires g c = ?
+hear_round-requires g c =
+    let n = c.self.inside in
+    let inv = c.self.invariant in
+    let is = c.self.view_is in
+    let r : ℕ = c.args.round in
+    let some = some_of n.phase.before c.is_none.result c.is_none.ensures c.if-is_none.false in
+    let a : AgreedView = some.0 in
+    let sound : IsSound (seen n) = subst (IsSound {N = g.row.N}) (sym is) c.requires.sound in
+    let open' : n.phase.is_open ≡ true = ap (λ (v : NodeView g.row.N). v.phase.is_open) is ∙ c.requires.open in
+    let low : r ≤ n.config.now.m = subst (λ (v : NodeView g.row.N). r ≤ v.config.m) (sym is) c.requires.round in
+    let number : (seen n).phase.slot ≡ n.config.now.m + 3 + r = subst (λ (v : NodeView g.row.N). v.phase.slot ≡ v.config.m + 3 + r) (sym is) c.requires.slot in
+    let at = in_rows n.config.now.m r n.phase.slot inv.slot number in
+    let u = c.close-found.new.self in
+    let shut' = c.close-found.ensures.closed in
+    let watching = rows_watching n inv sound open' u shut' a some.1 r low at in
+    let echoed = rows_echoed n inv sound open' u shut' a some.1 r low at in
+    let rounds = rows_rounds n inv sound open' u shut' a some.1 r low at in
+    let bring = rows_bring n inv sound open' u shut' a some.1 r low at in
+    let fits = rows_fit n inv sound open' u shut' a some.1 r low at in
+    let long = ap (λ xs. length xs) c.as_mut_slice.ensures.value in
+    let room : path_count (length n.rows.members - 1) r ≤ length c.as_mut_slice.result.now = omega (arith, fits, long) in
+    (elim inv.place.capacity [ inl e ↦ rw e (lit< tt) | inr e ↦ rw e (lit< tt) ], (lit< tt, (watching, (echoed, (rounds, (bring, room))))))
 
 pub invariant_of-self-2 : goal.invariant_of-self-2
 invariant_of-self-2 g c =
@@ -93,7 +116,7 @@ returns g c =
     let inv = c.self.invariant in
     let is = c.self.view_is in
     let r : ℕ = c.args.round in
-    let some = some_of n.phase.before (sym c.is_none.ensures ∙ c.if-is_none.false) in
+    let some = some_of n.phase.before c.is_none.result c.is_none.ensures c.if-is_none.false in
     let a : AgreedView = some.0 in
     let sound : IsSound (seen n) = subst (IsSound {N = g.row.N}) (sym is) c.requires.sound in
     let open' : n.phase.is_open ≡ true = ap (λ (v : NodeView g.row.N). v.phase.is_open) is ∙ c.requires.open in
