@@ -1,9 +1,9 @@
 -- The data slot that was closed, as it is taken.
-use Rattle.std.proofs.Common.{ℕ, ◌≡◌, ◌≢◌, ◌<◌, ◌+◌, ◌==◌, ◌||◌, ◌&&◌, Bool, true, false, not, List, length, replicate, Option, Some, None, ℤ, refl, sym, ap, ap₂, subst, ◌∙◌, arith, eq-eqb}
+use Rattle.std.proofs.Common.{ℕ, ◌≡◌, ◌<◌, ◌+◌, ◌==◌, ◌||◌, ◌&&◌, Bool, true, false, not, List, replicate, Option, Some, None, ℤ, refl, sym, ap, ap₂, subst, ◌∙◌, arith, eq-eqb}
 use Rattle.std.specs.Prelude.{IsSome, IfSome, nat_le, if◌then◌else◌}
 use Rattle.std.proofs.lemmas.Bool.{cond-true, cond-false}
 use Rattle.node_grid.specs.Kinds.{deviate}
-use Rattle.node_grid.specs.NodeSet.{IsIdSet, has_id, ids_where}
+use Rattle.node_grid.specs.NodeSet.{has_id, ids_where}
 use Rattle.slot_plan.specs.declared.slot.Slot.{Slot}
 use Rattle.slot_plan.specs.declared.slot.Slot.TheVariants.{Data}
 use Rattle.slot_plan.specs.Slots.{slot_number}

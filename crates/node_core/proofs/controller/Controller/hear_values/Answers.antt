@@ -1,4 +1,4 @@
-use Rattle.std.proofs.Common.{◌≡◌, ◌<◌, ◌+◌, ◌||◌, ◌&&◌, ◌==◌, Bool, not, ℕ, List, length, replicate, Option, if◌then◌else◌, true, inl, inr, lit<, arith, sym, ap, ap₂, subst, ◌∙◌}
+use Rattle.std.proofs.Common.{◌≡◌, ◌+◌, ◌||◌, ◌&&◌, ◌==◌, Bool, not, ℕ, List, length, replicate, Option, if◌then◌else◌, true, inl, inr, lit<, arith, sym, ap, ap₂, subst, ◌∙◌}
 use Rattle.std.proofs.lemmas.Bool.{cond-true, cond-false}
 use Rattle.node_grid.specs.Kinds.{deviate}
 use Rattle.node_grid.specs.NodeSet.{IsIdSet, has_id, ids_where}
