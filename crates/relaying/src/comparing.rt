@@ -165,13 +165,7 @@ fn over<'a, const N: usize>(left: Left<'a>, cut: Cut, set: &NodeSet<N>, r: u8) -
 /// Whether a body is a table of entries, one for each path of `r` nodes of a set, without those of
 /// the paths that the sender is on. Between two entries that are left out the bytes are compared as
 /// one run.
-fn is_without<const N: usize>(
-    body: &[u8],
-    table: &[u8],
-    cut: Cut,
-    set: &NodeSet<N>,
-    r: u8,
-) -> bool
+fn is_without<const N: usize>(body: &[u8], table: &[u8], cut: Cut, set: &NodeSet<N>, r: u8) -> bool
     requires capacity { IsCapacity N }
     requires some { 0 < r }
     requires few { r ≤ 3 }

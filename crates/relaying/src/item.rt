@@ -64,6 +64,7 @@ pub trait Item<const N: usize>: Value {
 
     /// The item of a claim, and that of a row.
     ghost claimed: { ℕ → Option Self };
+
     ghost reported: { List ℕ → Option Self };
 
     /// The form of what is guessed of such frames.
@@ -142,6 +143,7 @@ pub trait Item<const N: usize>: Value {
     /// The bytes of the body of a relay frame, and its kind.
     ghost body: { (nodes : ℕ) (es : List (Wrapped Self)) →
         body_spelling nodes (form.relay es) ≡ flat_map (spelling nodes) es };
+
     ghost kinded: { (es : List (Wrapped Self)) → kind_of (form.relay es) ≡ kind };
 
     /// An entry has few bytes.

@@ -60,24 +60,25 @@ hear_from-requires g c =
         (
           c.nodes-q-end.ensures.capacity,
           (
-            back (λ h. q < h.nodes) low, (
-            back (λ h. IsHeardBy w h.nodes h.me) c.requires.watching,
+            back (λ h. q < h.nodes) low,
             (
-              back (λ h. 0 < r → IsEchoed g.V.Item.form r w h) (λ some. still_echoed g.V.Item.form r q w f was d (c.requires.echoed some)),
+              back (λ h. IsHeardBy w h.nodes h.me) c.requires.watching,
               (
-                back (λ h. has_id h.members q ≡ true) on,
+                back (λ h. 0 < r → IsEchoed g.V.Item.form r w h) (λ some. still_echoed g.V.Item.form r q w f was d (c.requires.echoed some)),
                 (
-                  back (λ h. q ≢ h.me) (λ e. c.if-q-me.true (e ∙ sym c.me-me.ensures.me)),
+                  back (λ h. has_id h.members q ≡ true) on,
                   (
-                    back (λ h. r ≤ h.rounds) c.requires.round,
+                    back (λ h. q ≢ h.me) (λ e. c.if-q-me.true (e ∙ sym c.me-me.ensures.me)),
                     (
-                      back (λ h. Brings (path_count (length h.members - 1) r) (brought g.V.Item.form w q)) (c.requires.brings q on),
-                      back (λ h. path_count (length h.members - 1) r ≤ length c.loop-q.entries) room,
+                      back (λ h. r ≤ h.rounds) c.requires.round,
+                      (
+                        back (λ h. Brings (path_count (length h.members - 1) r) (brought g.V.Item.form w q)) (c.requires.brings q on),
+                        back (λ h. path_count (length h.members - 1) r ≤ length c.loop-q.entries) room,
+                      ),
                     ),
                   ),
                 ),
               ),
-            ),
             ),
           ),
         ),

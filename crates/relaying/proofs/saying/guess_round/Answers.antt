@@ -44,8 +44,7 @@ guess-had_room-requires g c =
     let e = c.requires.slot.0 in
     let few : length s ≤ 16 = few_ids g.row.N s c.nodes.ensures.capacity c.members-members.ensures.ids in
     let nodes : h.nodes ≤ 16 = omega (arith, c.nodes.ensures.few, c.nodes.ensures.nodes, capacity-le g.row.N c.nodes.ensures.capacity) in
-    let can : IsGuessable e (g.V.Item.form.relay es) = can_guess g.row.N g.V.Item.kind r g.V.Item.in_range g.V.Item.width g.V.Item.spelling g.V.Item.read g.met.V.Item.format h c.requires.slot.0 c.requires.slot.2 c.requires.some_round s d (g.met.V.Item.guessable e es) c.members-members.ensures.members few (omega (arith, c.requires.round, c.members-members.ensures.rounds)) (g.met.V.Item.narrow h.nodes nodes) in
-    (
+    let can : IsGuessable e (g.V.Item.form.relay es) = can_guess g.row.N g.V.Item.kind r g.V.Item.in_range g.V.Item.width g.V.Item.spelling g.V.Item.read g.met.V.Item.format h c.requires.slot.0 c.requires.slot.2 c.requires.some_round s d (g.met.V.Item.guessable e es) c.members-members.ensures.members few (omega (arith, c.requires.round, c.members-members.ensures.rounds)) (g.met.V.Item.narrow h.nodes nodes) in (
       omega arith,
       (
         c.requires.before,
