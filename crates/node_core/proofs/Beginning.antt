@@ -39,12 +39,12 @@ module _ {N : ℕ} (n : Inside N) (e : Expectation) (m : Inside N) where
       → (b ≡ true → u ≡ guessing w (State bytes)) → (b ≡ false → u ≡ w) → Begins n e m
   begins_guessed w u a bytes b is k kept same yes' no' = elim (cases_Bool b) [
     | inl y ↦ record {
-        watch = u;
-        is = is;
-        seen_as = ap unguessed (yes' y ∙ ap (λ (x : Watch). guessing x (State bytes)) k);
-        guess = subst (λ (x : Watch). IsOwnState n x.guess) (sym (yes' y))
-            (ap is_some kept, subst (λ (o : Option AgreedView). IfSome o (λ s. State bytes ≡ State (body n.config.now s))) (sym kept) (ap State same));
-      }
+      watch = u;
+      is = is;
+      seen_as = ap unguessed (yes' y ∙ ap (λ (x : Watch). guessing x (State bytes)) k);
+      guess = subst (λ (x : Watch). IsOwnState n x.guess) (sym (yes' y))
+          (ap is_some kept, subst (λ (o : Option AgreedView). IfSome o (λ s. State bytes ≡ State (body n.config.now s))) (sym kept) (ap State same));
+    }
     | inr f ↦ begins_plain u is (no' f ∙ k)
   ]
 
@@ -57,28 +57,28 @@ module _ {N : ℕ} (n : Inside N) (e : Expectation) (m : Inside N) (b : Begins n
   -- what holds of it then
   pub begins_kept : (p : ℕ) (i : Inputs) (full : Bool) (f : Findings N) → full ≡ is_some m.kept.state → AreItsNotes n.config.now n.phase.me f.notes
       → IsController {N = N} (record {
-          config = m.config;
-          phase = record { me = n.phase.me; period = p; slot = Sync; is_open = true; inputs = i; full = full; before = m.kept.state };
-          kept = record { state = m.kept.state; notes = m.kept.notes; votes = m.kept.votes; owns = m.kept.owns };
-          done = m.done;
-          rows = m.rows;
-          found = f;
-          watch = m.watch;
-          outcome = m.outcome;
-          buffers = m.buffers;
-        })
+        config = m.config;
+        phase = record { me = n.phase.me; period = p; slot = Sync; is_open = true; inputs = i; full = full; before = m.kept.state };
+        kept = record { state = m.kept.state; notes = m.kept.notes; votes = m.kept.votes; owns = m.kept.owns };
+        done = m.done;
+        rows = m.rows;
+        found = f;
+        watch = m.watch;
+        outcome = m.outcome;
+        buffers = m.buffers;
+      })
   begins_kept p i full f all notes =
       let at : (k : Inside N) → Type 0 = λ k. full ≡ is_some k.kept.state → IsController {N = N} (record {
-          config = k.config;
-          phase = record { me = n.phase.me; period = p; slot = Sync; is_open = true; inputs = i; full = full; before = k.kept.state };
-          kept = record { state = k.kept.state; notes = k.kept.notes; votes = k.kept.votes; owns = k.kept.owns };
-          done = k.done;
-          rows = k.rows;
-          found = f;
-          watch = k.watch;
-          outcome = k.outcome;
-          buffers = k.buffers;
-        }) in
+        config = k.config;
+        phase = record { me = n.phase.me; period = p; slot = Sync; is_open = true; inputs = i; full = full; before = k.kept.state };
+        kept = record { state = k.kept.state; notes = k.kept.notes; votes = k.kept.votes; owns = k.kept.owns };
+        done = k.done;
+        rows = k.rows;
+        found = f;
+        watch = k.watch;
+        outcome = k.outcome;
+        buffers = k.buffers;
+      }) in
       subst at (sym b.is)
       (λ same. record {
         place = inv.place;
@@ -89,6 +89,6 @@ module _ {N : ℕ} (n : Inside N) (e : Expectation) (m : Inside N) (b : Begins n
         rooms = inv.rooms;
         guessed = λ h. go b.watch.guess b.guess same;
       }) all where
-    go : (o : Option Content) → IsOwnState n o → full ≡ is_some n.kept.state → IfSome o (λ c. (full ≡ true) × IfSome n.kept.state (λ a. c ≡ State (body n.config.now a)))
-    go None x same = tt
-    go (Some c) x same = (same ∙ x.0, x.1)
+        go : (o : Option Content) → IsOwnState n o → full ≡ is_some n.kept.state → IfSome o (λ c. (full ≡ true) × IfSome n.kept.state (λ a. c ≡ State (body n.config.now a)))
+        go None x same = tt
+        go (Some c) x same = (same ∙ x.0, x.1)

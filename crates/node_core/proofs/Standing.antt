@@ -58,6 +58,7 @@ pub guess_forgotten : {N : ℕ} (x : Slot) (n : Inside N) (k : Keeping N) → k.
 guess_forgotten {N} Sync n k none h = go n.watch.guess h where
   nothing_kept : (c : Content) → IfSome k.state (λ a. c ≡ State (body n.config.now a))
   nothing_kept c = subst (λ (o : Option AgreedView). IfSome o (λ a. c ≡ State (body n.config.now a))) (sym none) tt
+
   go : (o : Option Content) → IfSome o (λ c. (n.phase.full ≡ true) × IfSome n.kept.state (λ a. c ≡ State (body n.config.now a))) → IfSome o (λ c. (n.phase.full ≡ true) × IfSome k.state (λ a. c ≡ State (body n.config.now a)))
   go None i = tt
   go (Some c) i = (i.0, nothing_kept c)

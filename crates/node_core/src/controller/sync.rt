@@ -1,19 +1,55 @@
 //! The slot of agreed states.
 
-ghost use Rattle.std.specs.Prelude.{◌≡◌, true, false, None, IsSome, IfSome};
-ghost use Rattle.error_detect.specs.Watching.{findings};
-ghost use Rattle.node_steps.specs.Sound.{IsSound, HasSizes};
-ghost use Rattle.node_steps.specs.Steps.{after_sync, shut, synced};
+ghost use Rattle.std.specs.Prelude.{◌≡◌, ◌≤◌, true, false, None, IfSome, if◌then◌else◌, length};
+ghost use Rattle.node_grid.specs.Capacity.{IsCapacity};
+ghost use Rattle.error_detect.specs.Watching.{told_at};
+ghost use Rattle.agreed_state.specs.Agreed.{IsAgreed};
+ghost use Rattle.agreed_state.specs.Config.{IsConfig};
+ghost use Rattle.protocol.specs.Arrival.{arrived, state_in};
+ghost use Rattle.protocol.specs.Configured.{setting_of};
+ghost use Rattle.protocol.specs.View.{adopted_by, content};
+ghost use Rattle.noting.specs.Findings.{has_of};
+ghost use Rattle.node_steps.specs.Sound.{IsSound};
+ghost use Rattle.node_steps.specs.Steps.{after_sync, shut};
+ghost use Rattle.node_core.specs.HeardBy.{IsHeardBy};
 
-use super::Controller;
+use super::{Controller, Phase};
 use crate::adopting::adopt;
 use crate::claim::own_claim;
-use error_detect::Finding;
+use agreed_state::{Agreed, Config};
+use error_detect::SlotWatch;
 use noting::{good_senders, note_states};
 use omh_paths::Wrapped;
 
+/// The state with which a node goes through a period: the one that it keeps where it had one when
+/// the period began, and else one that it adopts from the closed sync slot, if it can.
+fn state_of_period<const N: usize>(
+    config: &Config<N>,
+    watch: &SlotWatch<N>,
+    phase: &Phase<N>,
+    kept: &Option<Agreed<N>>,
+) -> Option<Agreed<N>>
+    requires capacity { IsCapacity N }
+    requires config { IsConfig N config.now }
+    requires kept { IfSome kept.now (λ a. IsAgreed N config.now a) }
+    requires watching { phase.now.full ≡ false →
+        IsHeardBy watch.now config.now.nodes phase.now.me }
+    requires sized { (j : _) →
+        IfSome (content (arrived state_in None (told_at watch.now j))) (λ b. length b ≤ 1152) }
+    ensures state { result ≡ (if phase.now.full then kept.now
+        else adopted_by (setting_of config.now) phase.now.me (has_of state_in watch.now)) }
+    ensures agreed { IfSome result (λ a. IsAgreed N config.now a) }
+{
+    if phase.full {
+        *kept
+    } else {
+        adopt(config, watch, phase.me)
+    }
+}
+
 impl<'c, const N: usize> Controller<'c, N> {
-    /// Closes the sync slot, and takes what it says: a node without a state adopts one, if it can.
+    /// Closes the sync slot, and takes what it says. A node that goes on with a state notes what
+    /// the slot says against it, and starts to hear claims.
     pub(super) fn hear_states(&mut self)
         requires sound { IsSound self.old }
         requires open { self.old.phase.is_open ≡ true }
@@ -21,30 +57,19 @@ impl<'c, const N: usize> Controller<'c, N> {
         ensures { self.new ≡ after_sync (shut self.old) }
     {
         let found = self.watch.close();
-        self.found.sync = good_senders(&found, self.phase.me, self.config.nodes);
-        self.phase.before = if self.phase.full {
-            self.kept.state
-        } else {
-            adopt(self.config, &self.watch, self.phase.me)
-        };
-        self.take_state(&found);
-    }
-
-    /// Notes what the closed sync slot says against the state of the period, and starts to hear
-    /// claims.
-    fn take_state(&mut self, found: &[Finding; N])
-        requires closed { self.old.arrived.is_open ≡ false }
-        requires some_slot { IsSome self.old.arrived.expect }
-        requires found { found.now ≡ findings N self.old.arrived }
-        requires sizes { HasSizes self.old }
-        ensures { self.new ≡ synced self.old self.old.phase.before }
-    {
+        let me = self.phase.me;
+        self.found.sync = good_senders(&found, me, self.config.nodes);
+        self.phase.before = state_of_period(
+            self.config,
+            &self.watch,
+            &self.phase,
+            &self.kept.state,
+        );
         let Some(agreed) = &self.phase.before else {
             return;
         };
         let body = agreed.body(self.config);
-        note_states(&mut self.found.notes, &self.watch, found, body.as_slice());
-        let me = self.phase.me;
+        note_states(&mut self.found.notes, &self.watch, &found, body.as_slice());
         let claim = own_claim(agreed, me, &self.phase.inputs);
         self.done.start(&agreed.members, me, self.phase.full, Wrapped::Plain(claim));
     }
