@@ -1,7 +1,9 @@
-use Rattle.std.proofs.Common.{inl, inr, lit<, sym, subst}
+use Rattle.std.proofs.Common.{inl, inr, lit<, sym, ap, subst, ◌∙◌}
+use Rattle.node_steps.specs.Parts.{NodeView}
 use Rattle.node_steps.specs.PremiseLaws.{few_capacity}
 use Rattle.node_steps.specs.Sound.{IsTaken}
 use Rattle.node_steps.specs.SoundSteps.{slot_is_taken}
+use Rattle.node_steps.specs.Steps.{next_open}
 use Rattle.node_core.proofs.Behind.{config_ok}
 use Rattle.node_core.proofs.controller.Controller.end_slot.Goals as goal
 
@@ -16,4 +18,4 @@ open_next-requires g c =
     (elim inv.place.capacity [ inl e ↦ rw e (lit< tt) | inr e ↦ rw e (lit< tt) ], (inv.place.capacity, subst (IsTaken {N = g.row.N}) (sym c.take_slot.ensures) taken))
 
 pub returns : goal.returns
-returns g c = ?
+returns g c = c.open_next.ensures ∙ ap (λ (v : NodeView g.row.N). next_open v) c.take_slot.ensures
