@@ -24,7 +24,7 @@ use Rattle.node_steps.specs.Sound.{Hears, IsTaken}
 use Rattle.node_steps.specs.Steps.{noting, by_conviction, ended}
 use Rattle.node_core.specs.declared.controller.Keeping.{Keeping}
 use Rattle.node_core.specs.declared.controller.Controller.TheInside.{Inside}
-use Rattle.node_core.specs.Inside.{seen, AreItsNotes, IsGuessed, IsController}
+use Rattle.node_core.specs.Inside.{seen, IsGuessed, IsController}
 use Rattle.node_core.proofs.NotedRows.{carried_by}
 use Rattle.node_core.proofs.Places.{in_rows}
 
