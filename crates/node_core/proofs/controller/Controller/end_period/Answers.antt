@@ -15,7 +15,7 @@ returns g c =
     let v : NodeView g.row.N = c.args.self.now in
     let before = ap (λ (u : NodeView g.row.N). u.phase.before) c.self.view_is in
     let over : c.if-is_some.self ≡ finished v v.phase.before = elim c.if-is_some.branch [
-      then-is_some w ↦
+      | then-is_some w ↦
           let s = by_some c.self.inside.phase.before c.is_some.result c.is_some.ensures w.if-is_some.true in
           let at = sym before ∙ s.1 in
           w.self-is ∙ subst (λ (o : Option AgreedView). IfSome o (λ b. w.end_with_state.new.self ≡ ended v b)) at w.end_with_state.ensures ∙ sym (ap (finished v) at)
