@@ -120,7 +120,3 @@ notes_more s i f more g few h = row_alike s i (λ j k. accuses (row_by s i f) j 
 pub row_by_is : (s : Setting) (i : ℕ) (f : ℕ → ℕ → Bool) → map (λ j. if nat_lt j s.config.nodes && not (j == i) then mask_of (ids_where (f j) (kind_count s.config.version)) else 0) (ids_below s.capacity) ≡ row_by s i f
 unfolding row_by
 row_by_is s i f = refl
-
-pub adopted_is : (s : Setting) (i : ℕ) (f : ℕ → Arrival (List ℕ)) → adopted s.capacity s.config (map (λ j. if nat_lt j s.config.nodes && not (j == i) then content (f j) else None) (ids_below s.capacity)) ≡ adopted_by s i f
-unfolding adopted_by
-adopted_is s i f = refl
