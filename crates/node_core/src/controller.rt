@@ -84,7 +84,8 @@ pub struct Controller<'c, const N: usize> {
     buffers: Buffers<N>,
 }
 
-// Clauses see it without what is guessed of the frames of its slot, which makes no difference to what they say.
+// Clauses see it without what is guessed of the frames of its slot, which makes no difference to
+// what they say.
 impl<'c, const N: usize> Model for Controller<'c, N> {
     ghost use Rattle.node_steps.specs.Parts.{NodeView};
 

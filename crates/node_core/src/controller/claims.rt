@@ -40,7 +40,8 @@ impl<'c, const N: usize> Controller<'c, N> {
     /// Settles the claims, and takes what follows from them.
     fn know_claims(&mut self)
         requires agreed { IfSome self.old.phase.before (λ a. IsAgreed N self.old.config a) }
-        requires hears { IfSome self.old.phase.before (λ a. Hears self.old.done self.old.phase.me a) }
+        requires hears { IfSome self.old.phase.before
+            (λ a. Hears self.old.done self.old.phase.me a) }
         ensures { IfSome self.old.phase.before (λ a. self.new ≡ claims_known self.old a) }
     {
         let Some(agreed) = &self.phase.before else {

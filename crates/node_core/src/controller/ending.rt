@@ -25,7 +25,8 @@ impl<'c, const N: usize> Controller<'c, N> {
         requires capacity { IsCapacity N }
         requires taken { IsTaken self.old }
         requires last { self.old.phase.slot ≡ 2 * self.old.config.m + 3 }
-        ensures { self.new ≡ (let w = finished self.old self.old.phase.before in record w { phase = record w.phase { is_open = false } }) }
+        ensures { self.new ≡ (let w = finished self.old self.old.phase.before in
+            record w { phase = record w.phase { is_open = false } }) }
     {
         if self.phase.before.is_some() {
             self.end_with_state();

@@ -17,8 +17,8 @@ use relaying::guess_round;
 use slot_plan::Slot;
 
 impl<'c, const N: usize> Controller<'c, N> {
-    /// Begins a period, and opens its first slot, in which a node that has a state guesses that each
-    /// other one tells the same.
+    /// Begins a period, and opens its first slot, in which a node that has a state guesses that
+    /// each other one tells the same.
     pub fn begin(&mut self, period: u32, inputs: &Inputs)
         requires capacity { IsCapacity N }
         requires kept { IfSome self.old.kept.state (λ a. IsAgreed N self.old.config a) }
