@@ -1,4 +1,4 @@
-use Rattle.std.proofs.Common.{◌≡◌, ◌≢◌, ◌<◌, ℕ, true, inl, inr, lit<, sym, ap, subst, ◌∙◌}
+use Rattle.std.proofs.Common.{◌≡◌, ◌≢◌, ◌<◌, ℕ, true, lit<, sym, ap, subst, ◌∙◌}
 use Rattle.error_detect.specs.Watching.{Watch, delivered}
 use Rattle.relaying.specs.Guessed.{unguessed}
 use Rattle.node_steps.specs.Parts.{NodeView}
@@ -7,13 +7,13 @@ use Rattle.node_core.proofs.Standing.{frame_given}
 use Rattle.node_core.proofs.controller.Controller.deliver.Goals as goal
 
 pub is_guessed-requires : goal.is_guessed-requires
-is_guessed-requires g c = elim c.self.invariant.place.capacity [ inl e ↦ rw e (lit< tt) | inr e ↦ rw e (lit< tt) ]
+is_guessed-requires g c = lit< tt
 
 pub deliver_same-requires : goal.deliver_same-requires
 deliver_same-requires g c =
     let inv = c.self.invariant in
     let is = c.self.view_is in (
-      elim inv.place.capacity [ inl e ↦ rw e (lit< tt) | inr e ↦ rw e (lit< tt) ],
+      lit< tt,
       (
         ap (λ (v : NodeView g.row.N). v.arrived.is_open) is ∙ c.requires.open,
         (
@@ -32,7 +32,7 @@ pub deliver-requires : goal.deliver-requires
 deliver-requires g c =
     let inv = c.self.invariant in
     let is = c.self.view_is in (
-      elim inv.place.capacity [ inl e ↦ rw e (lit< tt) | inr e ↦ rw e (lit< tt) ],
+      lit< tt,
       (
         ap (λ (v : NodeView g.row.N). v.arrived.is_open) is ∙ c.requires.open,
         (
