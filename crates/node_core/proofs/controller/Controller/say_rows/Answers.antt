@@ -1,0 +1,56 @@
+use Rattle.std.proofs.Common.{◌≡◌, ◌<◌, ◌≤◌, ◌+◌, ℕ, List, length, arith, inl, inr, lit<, sym, ap, subst, ◌∙◌}
+use Rattle.frames.specs.Content.Content.{Report0}
+use Rattle.frames.specs.Writing.{pasted}
+use Rattle.node_steps.specs.Parts.{NodeView}
+use Rattle.node_steps.specs.PremiseLaws.{few_due}
+use Rattle.node_core.proofs.Behind.{config_ok}
+use Rattle.node_core.proofs.RelaySaid.{rows_asked_now, rows_frame}
+use Rattle.node_core.proofs.Spelt.{inside_fits, says_row}
+use Rattle.node_core.proofs.controller.Controller.say_rows.Goals as goal
+
+pub row-requires : goal.row-requires
+row-requires g c = elim c.self.invariant.place.capacity [ inl e ↦ rw e (lit< tt, lit< tt) | inr e ↦ rw e (lit< tt, lit< tt) ]
+
+pub write-requires : goal.write-requires
+write-requires g c =
+    let v = c.args.self.now in
+    let at : v.phase.slot ≡ v.config.m + 3 = (let s = c.requires.slot in let z = c.if-round-eq0.true in omega (arith, s, z)) in
+    let row = c.row.ensures ∙ ap (λ (w : NodeView g.row.N). w.found.notes) c.self.view_is in
+    (
+      elim c.self.invariant.place.capacity [ inl e ↦ rw e (lit< tt) | inr e ↦ rw e (lit< tt) ],
+      (
+        elim c.self.invariant.place.capacity [ inl e ↦ rw e (lit< tt) | inr e ↦ rw e (lit< tt) ],
+        (c.requires.ready, (c.head.ensures, (tt, says_row v c.args.agreed.now c.requires.own at ∙ sym (ap Report0 row)))),
+      ),
+    )
+
+pub expectation-expect-requires : goal.expectation-expect-requires
+expectation-expect-requires g c = (elim c.self.invariant.place.capacity [ inl e ↦ rw e (lit< tt) | inr e ↦ rw e (lit< tt) ], (lit< tt, (c.self.invariant.place.capacity, (c.requires.round, few_due c.args.self.now (config_ok c.self.inside c.args.self.now c.self.invariant c.self.view_is) c.requires.ready.sound.sizes))))
+
+pub say_round-requires : goal.say_round-requires
+say_round-requires g c =
+    let n = c.self.inside in
+    let v = c.args.self.now in
+    let is = c.self.view_is in
+    let s = c.requires.ready.sound in
+    let some : 0 < c.args.round = (let z = c.if-round-eq0.false in omega (arith, z)) in
+    let low = c.requires.round in
+    let rounds : n.rows.rounds ≡ v.config.m = ap (λ (w : NodeView g.row.N). w.rows.rounds) is ∙ s.sizes.rows.rounds_are in
+    let asked = rows_asked_now n v is c.args.agreed.now c.requires.own s.sizes (s.in_slot c.requires.ready.is_open) _ c.args.round some low c.requires.slot c.expectation-expect.ensures in
+    let frame = rows_frame n v is c.args.agreed.now c.requires.own s.sizes (s.in_slot c.requires.ready.is_open) _ c.args.round some c.requires.slot c.expectation-expect.ensures in
+    let room = inside_fits n v (length c.args.out.now) c.self.invariant is c.requires.ready in
+    (elim c.self.invariant.place.capacity [ inl e ↦ rw e (lit< tt) | inr e ↦ rw e (lit< tt) ], (lit< tt, (some, (omega (arith, low, rounds), (asked, subst (λ (bytes : List ℕ). length bytes ≤ length c.args.out.now) (sym frame) room)))))
+
+pub returns-clause-written : goal.returns-clause-written
+returns-clause-written g c =
+    let s = c.requires.ready.sound in
+    let some : 0 < c.args.round = (let z = c.if-round-eq0.false in omega (arith, z)) in
+    c.say_round.ensures.written ∙ ap (λ (bytes : List ℕ). pasted 0 bytes c.args.out.now)
+    (rows_frame c.self.inside c.args.self.now c.self.view_is c.args.agreed.now c.requires.own s.sizes (s.in_slot c.requires.ready.is_open) _ c.args.round some c.requires.slot c.expectation-expect.ensures)
+
+pub returns-clause-length : goal.returns-clause-length
+returns-clause-length g c =
+    let s = c.requires.ready.sound in
+    let some : 0 < c.args.round = (let z = c.if-round-eq0.false in omega (arith, z)) in
+    c.say_round.ensures.length ∙ ap (λ (bytes : List ℕ). length bytes)
+    (rows_frame c.self.inside c.args.self.now c.self.view_is c.args.agreed.now c.requires.own s.sizes (s.in_slot c.requires.ready.is_open) _ c.args.round some c.requires.slot c.expectation-expect.ensures)
