@@ -24,8 +24,7 @@ write-requires g c =
     let cold : said_by v v.phase.before ≡ Cold = elim c.match-self.branch [
       | in-Some+else-self w ↦ says_cold v (ap (λ (u : NodeView g.row.N). u.phase.full) (sym c.self.view_is) ∙ w.if-self.false)
       | in-None w ↦ ap (said_by v) (ap (λ (u : NodeView g.row.N). u.phase.before) (sym c.self.view_is) ∙ w.in-None.is)
-    ] in
-    (
+    ] in (
       elim inv.place.capacity [ inl e ↦ rw e (lit< tt) | inr e ↦ rw e (lit< tt) ],
       (
         elim inv.place.capacity [ inl e ↦ rw e (lit< tt) | inr e ↦ rw e (lit< tt) ],

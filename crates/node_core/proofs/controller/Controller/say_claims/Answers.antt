@@ -19,8 +19,7 @@ write-requires g c =
     let v = c.args.self.now in
     let is = c.self.view_is in
     let at : v.phase.slot ≡ 1 = (let s = c.requires.slot in let z = c.if-round-eq0.true in omega (arith, s, z)) in
-    let claim = c.own_claim-claim.ensures ∙ ap (λ (w : NodeView g.row.N). own_claim w.phase.me w.phase.inputs c.args.agreed.now) is in
-    (
+    let claim = c.own_claim-claim.ensures ∙ ap (λ (w : NodeView g.row.N). own_claim w.phase.me w.phase.inputs c.args.agreed.now) is in (
       elim c.self.invariant.place.capacity [ inl e ↦ rw e (lit< tt) | inr e ↦ rw e (lit< tt) ],
       (
         elim c.self.invariant.place.capacity [ inl e ↦ rw e (lit< tt) | inr e ↦ rw e (lit< tt) ],

@@ -21,8 +21,7 @@ write-requires g c =
     let inv = c.self.invariant in
     let v = c.args.self.now in
     let at = stands_in c.self.inside v inv c.self.view_is Sync c.in-Sync.is in
-    let state = c.as_slice.ensures.value ∙ c.body-state.ensures.bytes ∙ ap (λ (w : NodeView g.row.N). body w.config c.args.agreed.now) c.self.view_is in
-    (
+    let state = c.as_slice.ensures.value ∙ c.body-state.ensures.bytes ∙ ap (λ (w : NodeView g.row.N). body w.config c.args.agreed.now) c.self.view_is in (
       elim inv.place.capacity [ inl e ↦ rw e (lit< tt) | inr e ↦ rw e (lit< tt) ],
       (
         elim inv.place.capacity [ inl e ↦ rw e (lit< tt) | inr e ↦ rw e (lit< tt) ],

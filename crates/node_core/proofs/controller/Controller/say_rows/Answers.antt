@@ -15,8 +15,7 @@ pub write-requires : goal.write-requires
 write-requires g c =
     let v = c.args.self.now in
     let at : v.phase.slot ≡ v.config.m + 3 = (let s = c.requires.slot in let z = c.if-round-eq0.true in omega (arith, s, z)) in
-    let row = c.row.ensures ∙ ap (λ (w : NodeView g.row.N). w.found.notes) c.self.view_is in
-    (
+    let row = c.row.ensures ∙ ap (λ (w : NodeView g.row.N). w.found.notes) c.self.view_is in (
       elim c.self.invariant.place.capacity [ inl e ↦ rw e (lit< tt) | inr e ↦ rw e (lit< tt) ],
       (
         elim c.self.invariant.place.capacity [ inl e ↦ rw e (lit< tt) | inr e ↦ rw e (lit< tt) ],

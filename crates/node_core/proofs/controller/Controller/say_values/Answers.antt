@@ -55,8 +55,7 @@ write-requires g c =
     says_values v c.args.agreed.now c.requires.own c.requires.slot
     ∙ ap (λ (ds : List ℕ). Data (map (own_in v.found.own) ds)) (sym same)
     ∙ ap (λ (w : NodeView g.row.N). Data (map (own_in w.found.own) due)) (sym is)
-    ∙ sym (ap Data said) in
-    (
+    ∙ sym (ap Data said) in (
       elim inv.place.capacity [ inl e ↦ rw e (lit< tt) | inr e ↦ rw e (lit< tt) ],
       (
         elim inv.place.capacity [ inl e ↦ rw e (lit< tt) | inr e ↦ rw e (lit< tt) ],
