@@ -1,5 +1,6 @@
 mod Counts
 mod SetLaws
+mod Fronts
 mod Backing
 mod OneReceiverLaws
 mod EchoLaws

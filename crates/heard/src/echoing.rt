@@ -12,7 +12,7 @@ ghost use Rattle.heard.specs.Seen.{IsNewest};
 ghost use Rattle.heard.specs.Laid.{IsLaidUpTo, IsLaidOut, IsPut, IsEcho, laid_parts};
 
 use crate::doubts::doubt_of_all;
-use crate::places::{cut_node, frame_at, front_of, has_at, put_node, set_value, wrapped_by};
+use crate::places::{cut_node, frame_at, front_of, has_at, put_node, wrapped_by};
 use crate::store::Store;
 use crate::value::Value;
 use node_grid::NodeSet;
@@ -29,11 +29,11 @@ impl<V: Value, const N: usize> Store<V, N> {
         let r = path.len() - 1;
         let c = path.at(0);
         if r == 0 {
-            return self.expected[c as usize];
+            return self.expected.value_at(c as usize);
         }
         let q = path.at(r);
         if self.as_expected[r as usize].has(q) {
-            return wrapped_by(self.expected[c as usize], r);
+            return wrapped_by(self.expected.value_at(c as usize), r);
         }
         if self.echoes[r as usize].has(q) {
             return self.relayed(&front_of(path)).wrap();
@@ -42,7 +42,7 @@ impl<V: Value, const N: usize> Store<V, N> {
             return Wrapped::Fault(0);
         }
         let others = self.members.without(q);
-        self.cells[frame_at(self.nodes, r, q) + rank(&others, &front_of(path))]
+        self.cells.value_at(frame_at(self.nodes, r, q) + rank(&others, &front_of(path)))
     }
 
     /// Whether no frame of more relays is kept as one that says what the node itself passes on.
@@ -65,7 +65,7 @@ impl<V: Value, const N: usize> Store<V, N> {
         } }
     {
         let at = frame_at(self.nodes, r, q) + k;
-        set_value(self.cells.as_mut_slice(), at, value);
+        self.cells.set(at, value);
     }
 
     /// Lays the frame of member `q` of relay round `r`, which says what the node itself passes on,

@@ -39,7 +39,7 @@ impl<V: Value, const N: usize> Store<V, N> {
         ensures small { IsSmall 6 result }
     {
         if path.len() == 1 {
-            return self.cells[path.at(0) as usize];
+            return self.cells.value_at(path.at(0) as usize);
         }
         self.relayed(path)
     }

@@ -1,11 +1,11 @@
-use Rattle.std.proofs.Common.{ℕ, ◌≡◌, ◌+◌, ◌-◌, length, get_or, take, refl, sym, ap, subst, ◌∙◌, arith, rules}
+use Rattle.std.proofs.Common.{ℕ, ◌≡◌, ◌+◌, ◌-◌, length, get_or, take, refl, sym, ap, ap₂, subst, ◌∙◌, arith, rules}
 use Rattle.std.proofs.lemmas.List.{length-take-le}
 use Rattle.omh_paths.specs.declared.wrapped.Wrapped.TheVariants.{Fault}
 use Rattle.omh_paths.specs.PathLists.{has-of-without}
 use Rattle.node_grid.specs.NodeSet.{has_id, without_id}
 use Rattle.heard.specs.Keep.{IsStored, IsSmall, relayed, first_node, frame_at}
 use Rattle.heard.specs.Places.{small_more, frames_before-few, front-listed}
-use Rattle.heard.proofs.Readings.{node_low, nodes_few, base_low, base_read, read_clean, read_none, cell_low, read_odd, front_others, relayed_small, said_small, first_low}
+use Rattle.heard.proofs.Readings.{node_low, nodes_few, read_clean, read_none, cell_low, read_odd, front_others, relayed_small, said_small, first_low}
 use Rattle.heard.proofs.store.Store.+relayed.Goals as goal
 
 pub frame_at-requires : goal.frame_at-requires
@@ -21,14 +21,6 @@ frame_at-requires g t c =
       node = omega (arith, c.at-q.ensures, node_low g.row.N k h c.args.path.now (c.len-r.result - 1) (omega arith) c.requires.within, ap (λ x. x.nodes) v);
     }
 
-pub index-requires : goal.index-requires
-index-requires g t c =
-    let s = c.self.inside in
-    let k = c.args.self.now in
-    let v = c.self.view_is in
-    let h : IsStored g.row.N k = subst (IsStored g.row.N) v c.self.invariant in
-    omega (arith, base_low g.row.N k h c.args.path.now c.len-r.ensures.distinct (omega (arith, c.len-r.ensures.count, c.len-r.ensures.some)) c.requires.within c.requires.short c.at-c.result c.at-c.ensures, ap (λ x. length x.expected) v, s.expected.ok.0)
-
 pub returns-then-r-eq0-clause-is : goal.returns-then-r-eq0-clause-is
 returns-then-r-eq0-clause-is g t c =
     let s = c.self.inside in
@@ -37,7 +29,7 @@ returns-then-r-eq0-clause-is g t c =
     let h : IsStored g.row.N k = subst (IsStored g.row.N) v c.self.invariant in
     let back : c.len-r.result - 1 ≡ length c.args.path.now - 1 = omega (arith, c.len-r.ensures.count) in
     let none : 0 ≡ length c.args.path.now - 1 = omega (arith, c.len-r.ensures.count, c.if-r-eq0.true) in
-    (base_read g.row.N k h c.args.path.now c.len-r.ensures.distinct (omega (arith, c.len-r.ensures.count, c.len-r.ensures.some)) c.requires.within c.requires.short c.at-c.result c.index.result.now c.at-c.ensures (c.index.ensures ∙ ap (λ x. get_or x.expected c.at-c.result c.index.result.now) v)) ∙ ap (λ (n : ℕ). relayed k n (get_or c.args.path.now n 0) c.args.path.now) none
+    (c.value_at.ensures ∙ ap₂ (λ x (i : ℕ). get_or x.expected i (Fault 0)) v c.at-c.ensures) ∙ ap (λ (n : ℕ). relayed k n (get_or c.args.path.now n 0) c.args.path.now) none
 
 pub returns-then-r-eq0-clause-small : goal.returns-then-r-eq0-clause-small
 returns-then-r-eq0-clause-small g t c =
@@ -45,16 +37,8 @@ returns-then-r-eq0-clause-small g t c =
     let k = c.args.self.now in
     let v = c.self.view_is in
     let h : IsStored g.row.N k = subst (IsStored g.row.N) v c.self.invariant in
-    subst (IsSmall (2 + length c.args.path.now)) (sym (base_read g.row.N k h c.args.path.now c.len-r.ensures.distinct (omega (arith, c.len-r.ensures.count, c.len-r.ensures.some)) c.requires.within c.requires.short c.at-c.result c.index.result.now c.at-c.ensures (c.index.ensures ∙ ap (λ x. get_or x.expected c.at-c.result c.index.result.now) v)))
+    subst (IsSmall (2 + length c.args.path.now)) (sym (c.value_at.ensures ∙ ap₂ (λ x (i : ℕ). get_or x.expected i (Fault 0)) v c.at-c.ensures))
     (small_more 3 (2 + length c.args.path.now) _ (omega (arith, c.len-r.ensures.count, c.len-r.ensures.some)) (said_small g.row.N k h (first_node c.args.path.now) (first_low g.row.N k h c.args.path.now (omega (arith, c.len-r.ensures.count, c.len-r.ensures.some)) c.requires.within)))
-
-pub index-requires-then-has : goal.index-requires-then-has
-index-requires-then-has g t c =
-    let s = c.self.inside in
-    let k = c.args.self.now in
-    let v = c.self.view_is in
-    let h : IsStored g.row.N k = subst (IsStored g.row.N) v c.self.invariant in
-    omega (arith, base_low g.row.N k h c.args.path.now c.len-r.ensures.distinct (omega (arith, c.len-r.ensures.count, c.len-r.ensures.some)) c.requires.within c.requires.short c.at-c.result c.at-c.ensures, ap (λ x. length x.expected) v, s.expected.ok.0)
 
 pub wrapped_by-requires : goal.wrapped_by-requires
 wrapped_by-requires g t c =
@@ -62,8 +46,8 @@ wrapped_by-requires g t c =
     let k = c.args.self.now in
     let v = c.self.view_is in
     let h : IsStored g.row.N k = subst (IsStored g.row.N) v c.self.invariant in
-    small_more 3 (255 - (c.len-r.result - 1)) c.index-then-has.result.now (omega (arith, c.len-r.ensures.few))
-    (subst (IsSmall 3) (sym (base_read g.row.N k h c.args.path.now c.len-r.ensures.distinct (omega (arith, c.len-r.ensures.count, c.len-r.ensures.some)) c.requires.within c.requires.short c.at-c.result c.index-then-has.result.now c.at-c.ensures (c.index-then-has.ensures ∙ ap (λ x. get_or x.expected c.at-c.result c.index-then-has.result.now) v)))
+    small_more 3 (255 - (c.len-r.result - 1)) c.value_at-then-has.result (omega (arith, c.len-r.ensures.few))
+    (subst (IsSmall 3) (sym (c.value_at-then-has.ensures ∙ ap₂ (λ x (i : ℕ). get_or x.expected i (Fault 0)) v c.at-c.ensures))
     (said_small g.row.N k h (first_node c.args.path.now) (first_low g.row.N k h c.args.path.now (omega (arith, c.len-r.ensures.count, c.len-r.ensures.some)) c.requires.within)))
 
 pub returns-then-has-clause-is : goal.returns-then-has-clause-is
@@ -74,9 +58,9 @@ returns-then-has-clause-is g t c =
     let h : IsStored g.row.N k = subst (IsStored g.row.N) v c.self.invariant in
     let long : length c.args.path.now ≡ c.len-r.result - 1 + 1 = omega (arith, c.len-r.ensures.count, c.len-r.ensures.some) in
     let back : c.len-r.result - 1 ≡ length c.args.path.now - 1 = omega (arith, c.len-r.ensures.count) in
-    read_clean g.row.N k h c.args.path.now c.len-r.ensures.distinct (omega (arith, c.len-r.ensures.count, c.len-r.ensures.some)) c.requires.within c.requires.short (c.len-r.result - 1) c.at-q.result c.index-2.result.now c.index-then-has.result.now c.wrapped_by.result long (omega (arith, c.if-r-eq0.false)) c.at-q.ensures
-    (c.index-2.ensures ∙ ap (λ x. get_or x.as_expected (c.len-r.result - 1) c.index-2.result.now) v) (sym c.has.ensures ∙ c.if-has.true)
-    (base_read g.row.N k h c.args.path.now c.len-r.ensures.distinct (omega (arith, c.len-r.ensures.count, c.len-r.ensures.some)) c.requires.within c.requires.short c.at-c.result c.index-then-has.result.now c.at-c.ensures (c.index-then-has.ensures ∙ ap (λ x. get_or x.expected c.at-c.result c.index-then-has.result.now) v))
+    read_clean g.row.N k h c.args.path.now c.len-r.ensures.distinct (omega (arith, c.len-r.ensures.count, c.len-r.ensures.some)) c.requires.within c.requires.short (c.len-r.result - 1) c.at-q.result c.index.result.now c.value_at-then-has.result c.wrapped_by.result long (omega (arith, c.if-r-eq0.false)) c.at-q.ensures
+    (c.index.ensures ∙ ap (λ x. get_or x.as_expected (c.len-r.result - 1) c.index.result.now) v) (sym c.has.ensures ∙ c.if-has.true)
+    (c.value_at-then-has.ensures ∙ ap₂ (λ x (i : ℕ). get_or x.expected i (Fault 0)) v c.at-c.ensures)
     c.wrapped_by.ensures ∙ ap (λ (n : ℕ). relayed k n (get_or c.args.path.now n 0) c.args.path.now) back
 
 pub relayed-requires : goal.relayed-requires
@@ -114,8 +98,8 @@ returns-then-not-has-clause-is g t c =
     let h : IsStored g.row.N k = subst (IsStored g.row.N) v c.self.invariant in
     let long : length c.args.path.now ≡ c.len-r.result - 1 + 1 = omega (arith, c.len-r.ensures.count, c.len-r.ensures.some) in
     let back : c.len-r.result - 1 ≡ length c.args.path.now - 1 = omega (arith, c.len-r.ensures.count) in
-    read_none g.row.N k h c.args.path.now c.len-r.ensures.distinct (omega (arith, c.len-r.ensures.count, c.len-r.ensures.some)) c.requires.within c.requires.short (c.len-r.result - 1) c.at-q.result c.index-2.result.now c.index-3.result.now c.index-4.result.now (Fault 0) long (omega (arith, c.if-r-eq0.false)) c.at-q.ensures
-    (c.index-2.ensures ∙ ap (λ x. get_or x.as_expected (c.len-r.result - 1) c.index-2.result.now) v) (sym c.has.ensures ∙ c.if-has.false) (c.index-3.ensures ∙ ap (λ x. get_or x.echoes (c.len-r.result - 1) c.index-3.result.now) v) (sym c.has-2.ensures ∙ c.if-has-2.false) (c.index-4.ensures ∙ ap (λ x. get_or x.in_cells (c.len-r.result - 1) c.index-4.result.now) v) (sym c.has-3.ensures ∙ c.if-not-has.true) refl ∙ ap (λ (n : ℕ). relayed k n (get_or c.args.path.now n 0) c.args.path.now) back
+    read_none g.row.N k h c.args.path.now c.len-r.ensures.distinct (omega (arith, c.len-r.ensures.count, c.len-r.ensures.some)) c.requires.within c.requires.short (c.len-r.result - 1) c.at-q.result c.index.result.now c.index-2.result.now c.index-3.result.now (Fault 0) long (omega (arith, c.if-r-eq0.false)) c.at-q.ensures
+    (c.index.ensures ∙ ap (λ x. get_or x.as_expected (c.len-r.result - 1) c.index.result.now) v) (sym c.has.ensures ∙ c.if-has.false) (c.index-2.ensures ∙ ap (λ x. get_or x.echoes (c.len-r.result - 1) c.index-2.result.now) v) (sym c.has-2.ensures ∙ c.if-has-2.false) (c.index-3.ensures ∙ ap (λ x. get_or x.in_cells (c.len-r.result - 1) c.index-3.result.now) v) (sym c.has-3.ensures ∙ c.if-not-has.true) refl ∙ ap (λ (n : ℕ). relayed k n (get_or c.args.path.now n 0) c.args.path.now) back
 
 pub without-others-requires : goal.without-others-requires
 without-others-requires g t c =
@@ -149,16 +133,6 @@ overflow_add-frame_at g t c =
     let low = cell_low g.row.N k h c.args.path.now c.len-r.ensures.distinct (omega (arith, c.len-r.ensures.count, c.len-r.ensures.some)) c.requires.within c.requires.short (c.len-r.result - 1) c.at-q.result c.frame_at.result c.rank.result c.without-others.result c.front_of-2.result long c.at-q.ensures (c.frame_at.ensures.begins ∙ ap (λ x. frame_at x.nodes (c.len-r.result - 1) c.at-q.result) v) (c.without-others.ensures ∙ ap (λ x. without_id x.members c.at-q.result) v) ((c.front_of-2.ensures (omega (arith, c.len-r.ensures.count, c.len-r.ensures.some, c.if-r-eq0.false))) ∙ ap (λ (n : ℕ). take n c.args.path.now) fl) c.rank.ensures.place in
     omega (arith, low, h.cells_ok, frames_before-few k.nodes (k.rounds + 1) (nodes_few g.row.N k h) (omega (arith, h.rounds_ok)))
 
-pub index-requires-5 : goal.index-requires-5
-index-requires-5 g t c =
-    let s = c.self.inside in
-    let k = c.args.self.now in
-    let v = c.self.view_is in
-    let h : IsStored g.row.N k = subst (IsStored g.row.N) v c.self.invariant in
-    let long : length c.args.path.now ≡ c.len-r.result - 1 + 1 = omega (arith, c.len-r.ensures.count, c.len-r.ensures.some) in
-    let fl : length c.args.path.now - 1 ≡ c.len-r.result - 1 = omega (arith, c.len-r.ensures.count) in
-    omega (arith, cell_low g.row.N k h c.args.path.now c.len-r.ensures.distinct (omega (arith, c.len-r.ensures.count, c.len-r.ensures.some)) c.requires.within c.requires.short (c.len-r.result - 1) c.at-q.result c.frame_at.result c.rank.result c.without-others.result c.front_of-2.result long c.at-q.ensures (c.frame_at.ensures.begins ∙ ap (λ x. frame_at x.nodes (c.len-r.result - 1) c.at-q.result) v) (c.without-others.ensures ∙ ap (λ x. without_id x.members c.at-q.result) v) ((c.front_of-2.ensures (omega (arith, c.len-r.ensures.count, c.len-r.ensures.some, c.if-r-eq0.false))) ∙ ap (λ (n : ℕ). take n c.args.path.now) fl) c.rank.ensures.place, ap (λ x. length x.cells) v, s.cells.ok.0)
-
 pub returns-clause-is : goal.returns-clause-is
 returns-clause-is g t c =
     let s = c.self.inside in
@@ -168,10 +142,10 @@ returns-clause-is g t c =
     let back : c.len-r.result - 1 ≡ length c.args.path.now - 1 = omega (arith, c.len-r.ensures.count) in
     let long : length c.args.path.now ≡ c.len-r.result - 1 + 1 = omega (arith, c.len-r.ensures.count, c.len-r.ensures.some) in
     let fl : length c.args.path.now - 1 ≡ c.len-r.result - 1 = omega (arith, c.len-r.ensures.count) in
-    read_odd g.row.N k h c.args.path.now c.len-r.ensures.distinct (omega (arith, c.len-r.ensures.count, c.len-r.ensures.some)) c.requires.within c.requires.short (c.len-r.result - 1) c.at-q.result c.frame_at.result c.rank.result c.without-others.result c.front_of-2.result c.index-2.result.now c.index-3.result.now c.index-4.result.now c.index-5.result.now long (omega (arith, c.if-r-eq0.false)) c.at-q.ensures
+    read_odd g.row.N k h c.args.path.now c.len-r.ensures.distinct (omega (arith, c.len-r.ensures.count, c.len-r.ensures.some)) c.requires.within c.requires.short (c.len-r.result - 1) c.at-q.result c.frame_at.result c.rank.result c.without-others.result c.front_of-2.result c.index.result.now c.index-2.result.now c.index-3.result.now c.value_at-2.result long (omega (arith, c.if-r-eq0.false)) c.at-q.ensures
     (c.frame_at.ensures.begins ∙ ap (λ x. frame_at x.nodes (c.len-r.result - 1) c.at-q.result) v) (c.without-others.ensures ∙ ap (λ x. without_id x.members c.at-q.result) v) ((c.front_of-2.ensures (omega (arith, c.len-r.ensures.count, c.len-r.ensures.some, c.if-r-eq0.false))) ∙ ap (λ (n : ℕ). take n c.args.path.now) fl) c.rank.ensures.place
-    (c.index-2.ensures ∙ ap (λ x. get_or x.as_expected (c.len-r.result - 1) c.index-2.result.now) v) (sym c.has.ensures ∙ c.if-has.false) (c.index-3.ensures ∙ ap (λ x. get_or x.echoes (c.len-r.result - 1) c.index-3.result.now) v) (sym c.has-2.ensures ∙ c.if-has-2.false)
-    (c.index-4.ensures ∙ ap (λ x. get_or x.in_cells (c.len-r.result - 1) c.index-4.result.now) v) (sym c.has-3.ensures ∙ c.if-not-has.false) (c.index-5.ensures ∙ ap (λ x. get_or x.cells (c.frame_at.result + c.rank.result) c.index-5.result.now) v) ∙ ap (λ (n : ℕ). relayed k n (get_or c.args.path.now n 0) c.args.path.now) back
+    (c.index.ensures ∙ ap (λ x. get_or x.as_expected (c.len-r.result - 1) c.index.result.now) v) (sym c.has.ensures ∙ c.if-has.false) (c.index-2.ensures ∙ ap (λ x. get_or x.echoes (c.len-r.result - 1) c.index-2.result.now) v) (sym c.has-2.ensures ∙ c.if-has-2.false)
+    (c.index-3.ensures ∙ ap (λ x. get_or x.in_cells (c.len-r.result - 1) c.index-3.result.now) v) (sym c.has-3.ensures ∙ c.if-not-has.false) (c.value_at-2.ensures ∙ ap (λ x. get_or x.cells (c.frame_at.result + c.rank.result) (Fault 0)) v) ∙ ap (λ (n : ℕ). relayed k n (get_or c.args.path.now n 0) c.args.path.now) back
 
 pub returns-then-has-clause-small : goal.returns-then-has-clause-small
 returns-then-has-clause-small g t c =

@@ -1,7 +1,8 @@
-use Rattle.std.proofs.Common.{◌≡◌, true, false, sym, ap, subst, ◌∙◌, arith}
+use Rattle.std.proofs.Common.{◌≡◌, true, false, get_or, sym, ap, subst, ◌∙◌, arith}
 use Rattle.std.proofs.lemmas.Bool.{both_ways}
+use Rattle.omh_paths.specs.declared.wrapped.Wrapped.TheVariants.{Fault}
 use Rattle.heard.specs.Keep.{IsStored}
-use Rattle.heard.proofs.Readings.{other_member, root_in, root_of, root_is_small}
+use Rattle.heard.proofs.Readings.{other_member, root_is_small}
 use Rattle.heard.proofs.store.Store.heard_of.Goals as goal
 
 pub returns-then-not-hears_of-clause-heard : goal.returns-then-not-hears_of-clause-heard
@@ -9,23 +10,13 @@ returns-then-not-hears_of-clause-heard g c =
     let none : c.hears_of.result ≡ false = grind (arith, c.if-not-hears_of.true) in
     λ on. absurd (both_ways _ (sym c.hears_of.ensures ∙ none) on)
 
-pub index-requires : goal.index-requires
-index-requires g c =
-    let s = c.self.inside in
-    let k = c.args.self.now in
-    let v = c.self.view_is in
-    let h : IsStored g.row.N k = subst (IsStored g.row.N) v c.self.invariant in
-    let yes : c.hears_of.result ≡ true = grind (arith, c.if-not-hears_of.false) in
-    let on = (other_member g.row.N k h c.args.c (sym c.hears_of.ensures ∙ yes)).0 in
-    omega (arith, root_in g.row.N k h c.args.c on s.cells.items (ap (λ x. x.cells) v), s.cells.ok.0)
-
 pub returns-clause-heard : goal.returns-clause-heard
 returns-clause-heard g c =
     let s = c.self.inside in
     let k = c.args.self.now in
     let v = c.self.view_is in
     let h : IsStored g.row.N k = subst (IsStored g.row.N) v c.self.invariant in
-    λ on. root_of g.row.N k h c.args.c (other_member g.row.N k h c.args.c on).0 s.cells.items c.index.result.now (ap (λ x. x.cells) v) c.index.ensures
+    λ on. c.value_at.ensures ∙ ap (λ x. get_or x.cells c.args.c (Fault 0)) v
 
 pub returns-clause-none : goal.returns-clause-none
 returns-clause-none g c =
@@ -40,4 +31,4 @@ returns-clause-small g c =
     let h : IsStored g.row.N k = subst (IsStored g.row.N) v c.self.invariant in
     let yes : c.hears_of.result ≡ true = grind (arith, c.if-not-hears_of.false) in
     let on = (other_member g.row.N k h c.args.c (sym c.hears_of.ensures ∙ yes)).0 in
-    root_is_small g.row.N k h c.args.c on c.index.result.now (root_of g.row.N k h c.args.c on s.cells.items c.index.result.now (ap (λ x. x.cells) v) c.index.ensures)
+    root_is_small g.row.N k h c.args.c on c.value_at.result (c.value_at.ensures ∙ ap (λ x. get_or x.cells c.args.c (Fault 0)) v)

@@ -114,5 +114,5 @@ returns-clause-laid g c =
     let inv = c.loop-k.invariant in
     let w = c.self-2.view_is in
     let all : c.loop-k.k ≡ path_count (length (without_id k.members c.args.q)) c.args.r = omega (arith, c.loop-k-test.false, c.loop-k.auto.k-end) in
-    subst (λ n. IsLaidUpTo k c.args.r c.args.q n (without_id k.members c.args.q) c.self-2.inside.cells.items) all
+    subst (λ n. IsLaidUpTo k c.args.r c.args.q n (without_id k.members c.args.q) c.self-2.inside.cells) all
     (subst (IsLaidUpTo k c.args.r c.args.q c.loop-k.k (without_id k.members c.args.q)) (sym (ap (λ x. x.cells) w)) inv.laid)

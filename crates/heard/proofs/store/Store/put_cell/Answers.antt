@@ -1,7 +1,7 @@
-use Rattle.std.proofs.Common.{List, ◌+◌, set, sym, ap, ap₂, subst, ◌∙◌, arith}
+use Rattle.std.proofs.Common.{List, ◌+◌, set, sym, ap, subst, ◌∙◌, arith}
 use Rattle.omh_paths.specs.declared.wrapped.Wrapped.{Wrapped}
 use Rattle.heard.specs.Keep.{IsStored}
-use Rattle.heard.proofs.Methods.{written}
+use Rattle.heard.specs.Shown.{parts_of}
 use Rattle.heard.proofs.Readings.{nodes_few}
 use Rattle.heard.proofs.LayingOut.{node_few, one_few, one_stored}
 use Rattle.heard.proofs.store.Store.put_cell.Goals as goal
@@ -24,7 +24,6 @@ overflow_add-at g c =
 pub invariant_of-self : goal.invariant_of-self
 invariant_of-self g c =
     let s = c.self.inside in
-    let now = written s.cells.items c.as_mut_slice.result.now c.set_value.new.values s.cells.len s.cells.ok.0 c.as_mut_slice.ensures.value c.set_value.auto.values ∙ c.set_value.ensures
-    ∙ ap₂ (λ xs at. set xs (at + c.args.k) c.args.value) c.as_mut_slice.ensures.value c.frame_at.ensures.begins in
-    subst (λ (xs : List (Wrapped g.row.V.Denot)). IsStored g.row.N (record { nodes = s.nodes; rounds = s.rounds; members = s.members; me = s.me; full = s.full; as_expected = s.as_expected.items; echoes = s.echoes.items; in_cells = s.in_cells.items; cells = xs; expected = s.expected.items })) (sym now)
+    let now = c.set.ensures ∙ ap (λ at. set s.cells (at + c.args.k) c.args.value) c.frame_at.ensures.begins in
+    subst (λ (xs : List (Wrapped g.row.V.Denot)). IsStored g.row.N (record (parts_of s) { cells = xs })) (sym now)
     (one_stored g.row.N _ c.args.self.now c.self.view_is c.self.invariant c.args.r c.args.q c.args.k c.args.value c.requires)

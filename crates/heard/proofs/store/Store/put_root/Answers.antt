@@ -1,13 +1,13 @@
 use Rattle.std.proofs.Common.{◌≡◌, true, false, set, refl, sym, ap, ◌∙◌, arith}
 use Rattle.std.proofs.lemmas.Bool.{cond-true, cond-false}
-use Rattle.heard.proofs.Methods.{written, root_stored, root_written, said_still}
+use Rattle.heard.proofs.Methods.{root_stored, root_written, said_still}
 use Rattle.heard.proofs.store.Store.put_root.Goals as goal
 
 pub invariant_of-self : goal.invariant_of-self
 invariant_of-self g c =
     let s = c.self.inside in
     let h = c.self.invariant in
-    root_stored g.row.N _ h c.args.c c.args.value _ _ (written s.cells.items c.as_mut_slice.result.now c.set_value.new.values s.cells.len s.cells.ok.0 c.as_mut_slice.ensures.value c.set_value.auto.values ∙ c.set_value.ensures ∙ ap (λ xs. set xs c.args.c c.args.value) c.as_mut_slice.ensures.value) c.requires.small refl h.small_expected
+    root_stored g.row.N _ h c.args.c c.args.value _ _ c.set.ensures c.requires.small refl h.small_expected
 
 pub returns-then-not-is_expected : goal.returns-then-not-is_expected
 returns-then-not-is_expected g c =
@@ -15,14 +15,14 @@ returns-then-not-is_expected g c =
     let v = c.self.view_is in
     let k = c.args.self.now in
     let none : c.args.is_expected ≡ false = grind (arith, c.if-not-is_expected.true) in
-    root_written _ _ v c.args.c c.args.value _ _ (written s.cells.items c.as_mut_slice.result.now c.set_value.new.values s.cells.len s.cells.ok.0 c.as_mut_slice.ensures.value c.set_value.auto.values ∙ c.set_value.ensures ∙ ap (λ xs. set xs c.args.c c.args.value) c.as_mut_slice.ensures.value) (ap (λ x. x.expected) v ∙ sym (cond-false c.args.is_expected (set k.expected c.args.c c.args.value) k.expected none))
+    root_written _ _ v c.args.c c.args.value _ _ c.set.ensures (ap (λ x. x.expected) v ∙ sym (cond-false c.args.is_expected (set k.expected c.args.c c.args.value) k.expected none))
 
 pub invariant_of-self-2 : goal.invariant_of-self-2
 invariant_of-self-2 g c =
     let s = c.self.inside in
     let h = c.self.invariant in
-    let still = said_still g.row.N _ h c.args.c c.args.value _ c.requires.small (written s.expected.items c.as_mut_slice-2.result.now c.set_value-2.new.values s.expected.len s.expected.ok.0 c.as_mut_slice-2.ensures.value c.set_value-2.auto.values ∙ c.set_value-2.ensures ∙ ap (λ xs. set xs c.args.c c.args.value) c.as_mut_slice-2.ensures.value) in
-    root_stored g.row.N _ h c.args.c c.args.value _ _ (written s.cells.items c.as_mut_slice.result.now c.set_value.new.values s.cells.len s.cells.ok.0 c.as_mut_slice.ensures.value c.set_value.auto.values ∙ c.set_value.ensures ∙ ap (λ xs. set xs c.args.c c.args.value) c.as_mut_slice.ensures.value) c.requires.small still.0 still.1
+    let still = said_still g.row.N _ h c.args.c c.args.value _ c.requires.small c.set-2.ensures in
+    root_stored g.row.N _ h c.args.c c.args.value _ _ c.set.ensures c.requires.small still.0 still.1
 
 pub returns : goal.returns
 returns g c =
@@ -30,5 +30,5 @@ returns g c =
     let v = c.self.view_is in
     let k = c.args.self.now in
     let yes : c.args.is_expected ≡ true = grind (arith, c.if-not-is_expected.false) in
-    root_written _ _ v c.args.c c.args.value _ _ (written s.cells.items c.as_mut_slice.result.now c.set_value.new.values s.cells.len s.cells.ok.0 c.as_mut_slice.ensures.value c.set_value.auto.values ∙ c.set_value.ensures ∙ ap (λ xs. set xs c.args.c c.args.value) c.as_mut_slice.ensures.value)
-    (written s.expected.items c.as_mut_slice-2.result.now c.set_value-2.new.values s.expected.len s.expected.ok.0 c.as_mut_slice-2.ensures.value c.set_value-2.auto.values ∙ c.set_value-2.ensures ∙ ap (λ xs. set xs c.args.c c.args.value) c.as_mut_slice-2.ensures.value ∙ ap (λ x. set x.expected c.args.c c.args.value) v ∙ sym (cond-true c.args.is_expected (set k.expected c.args.c c.args.value) k.expected yes))
+    root_written _ _ v c.args.c c.args.value _ _ c.set.ensures
+    (c.set-2.ensures ∙ ap (λ x. set x.expected c.args.c c.args.value) v ∙ sym (cond-true c.args.is_expected (set k.expected c.args.c c.args.value) k.expected yes))
