@@ -1,6 +1,7 @@
 -- Two stores that differ in one frame alone keep the same for all other paths.
 use Rattle.std.proofs.Common.{ℕ, zero, suc, ◌≡◌, ◌<◌, ◌≤◌, ◌+◌, ◌-◌, Bool, true, false, not, ◌||◌, ◌&&◌, ◌==◌, List, [], length, get_or, set, take, refl, sym, ap, ap₂, ◌∙◌, inl, inr, arith, eq-eqb, ne_eqb}
 use Rattle.std.specs.Prelude.{if◌then◌else◌}
+use Rattle.std.specs.List.{All}
 use Rattle.std.proofs.lemmas.Bool.{cases_Bool, cases_eq, cases_lt, both_ways, or_left}
 use Rattle.std.proofs.lemmas.List.{get_or-take, get_or-set_same, get_or-set_other}
 use Rattle.node_grid.specs.NodeSet.{has_id, with_id, without_id}
@@ -11,7 +12,7 @@ use Rattle.omh_paths.specs.declared.wrapped.Wrapped.TheVariants.{Fault}
 use Rattle.omh_paths.specs.Wrapped.{wrapped}
 use Rattle.omh_paths.specs.Paths.{path_count}
 use Rattle.omh_paths.specs.PathLists.{has-of-without}
-use Rattle.heard.specs.Keep.{Parts, kept, relayed, root, base, cell, place_of, set_at, first_node, wrapped_times, frame_at, IsStored}
+use Rattle.heard.specs.Keep.{Parts, kept, relayed, root, base, cell, place_of, set_at, first_node, wrapped_times, frame_at, IsSmall, IsStored}
 use Rattle.heard.specs.Places.{on-at, front-listed, place_of-lt}
 use Rattle.heard.proofs.Readings.{kept_root, kept_relayed, distinct_members, few_members}
 use Rattle.heard.specs.Seen.{IsNewest}
@@ -57,6 +58,27 @@ module _ (sets : List (List ℕ)) (r q : ℕ) (low : r < length sets) where
 -- a store with other frames
 abbrev pub changed : {V : Type 0} → Parts V → List (List ℕ) → List (List ℕ) → List (List ℕ) → List (Wrapped V) → List (Wrapped V) → Parts V
 changed p as_expected echoes in_cells cells expected = record p { as_expected = as_expected; echoes = echoes; in_cells = in_cells; cells = cells; expected = expected }
+
+-- what holds of all that is kept holds still where there are as many sets and values, as small as they have to be
+pub changed_stored : {V : Type 0} (capacity : ℕ) (p : Parts V) → IsStored capacity p → (as_expected echoes in_cells : List (List ℕ)) (cells expected : List (Wrapped V))
+    → length as_expected ≡ length p.as_expected → length echoes ≡ length p.echoes → length in_cells ≡ length p.in_cells → length cells ≡ length p.cells
+    → ((r q k : ℕ) → r ≤ p.rounds → q < p.nodes → k < path_count (p.nodes - 1) r → IsSmall (3 + r) (get_or cells (frame_at p.nodes r q + k) (Fault 0)))
+    → length expected ≡ length p.expected → All (IsSmall 3) expected → IsStored capacity (changed p as_expected echoes in_cells cells expected)
+changed_stored capacity p h as_expected echoes in_cells cells expected a b c many small d small_expected = record {
+  capacity_ok = h.capacity_ok;
+  nodes_ok = h.nodes_ok;
+  rounds_ok = h.rounds_ok;
+  members_ok = h.members_ok;
+  low = h.low;
+  me_ok = h.me_ok;
+  as_expected_ok = a ∙ h.as_expected_ok;
+  echoes_ok = b ∙ h.echoes_ok;
+  in_cells_ok = c ∙ h.in_cells_ok;
+  cells_ok = many ∙ h.cells_ok;
+  small = small;
+  expected_ok = d ∙ h.expected_ok;
+  small_expected = small_expected;
+}
 
 -- ---- one choice of a value
 

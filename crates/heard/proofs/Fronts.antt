@@ -1,9 +1,10 @@
 -- Values of which only a front is kept: the list of all of them after each change.
 use Rattle.std.proofs.Common.{ℕ, ◌≡◌, ◌<◌, ◌≤◌, ◌+◌, ◌-◌, List, ◌++◌, length, get_or, set, take, drop, replicate, sym, ap, ap₂, ◌∙◌, inl, inr, arith}
 use Rattle.std.proofs.lemmas.Bool.{cases_lt}
-use Rattle.std.proofs.lemmas.List.{append_assoc, length-append, length-replicate, length-set, length-take-le, length-drop, replicate-append-replicate, get_or-replicate, drop-drop, set-append_left, take-append-le, drop-append-le}
+use Rattle.std.proofs.lemmas.List.{append_assoc, length-append, length-replicate, length-set, replicate-append-replicate, get_or-replicate, drop-drop, set-append_left, take-append-le, drop-append-le}
 use Rattle.heard.specs.Keep.{pasted}
 use Rattle.heard.proofs.SetLaws.{get_beyond}
+use Rattle.heard.proofs.SeenLaws.{length-pasted}
 
 -- a front, and then this value until there are so many
 abbrev pub filled : {X : Type 0} → X → ℕ → List X → List X
@@ -35,15 +36,11 @@ module _ {X : Type 0} (z : X) where
   pub set_filled : (n i : ℕ) (xs : List X) (x : X) → i < length xs → filled z n (set xs i x) ≡ set (filled z n xs) i x
   set_filled n i xs x low = ap (λ (k : ℕ). set xs i x ++ replicate (n - k) z) (length-set xs i x) ∙ sym (set-append_left xs (replicate (n - length xs) z) i x low)
 
-  pub length_pasted : (at : ℕ) (values xs : List X) → at + length values ≤ length xs → length (pasted at values xs) ≡ length xs
-  length_pasted at values xs fits =
-      omega (arith, length-append (take at xs ++ values) (drop (at + length values) xs), length-append (take at xs) values, length-take-le at xs (omega arith), length-drop (at + length values) xs)
-
   -- values are pasted
   pub paste_filled : (n at : ℕ) (values xs : List X) → at + length values ≤ length xs → filled z n (pasted at values xs) ≡ pasted at values (filled z n xs)
   paste_filled n at values xs fits =
       let rest : List X = replicate (n - length xs) z in
-      ap (λ (k : ℕ). pasted at values xs ++ replicate (n - k) z) (length_pasted at values xs fits)
+      ap (λ (k : ℕ). pasted at values xs ++ replicate (n - k) z) (length-pasted at values xs fits)
       ∙ append_assoc (take at xs ++ values) (drop (at + length values) xs) rest
       ∙ ap₂ (λ (us vs : List X). us ++ values ++ vs) (sym (take-append-le at xs rest (omega arith))) (sym (drop-append-le (at + length values) xs rest fits))
 

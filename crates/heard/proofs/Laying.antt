@@ -14,7 +14,7 @@ use Rattle.heard.specs.Doubts.{AreHit, DoubtsMore}
 use Rattle.heard.specs.Laid.{IsLaidUpTo, laid_parts}
 use Rattle.omh.specs.FlatLaws.{path_count-mono}
 use Rattle.heard.specs.Places.{on-at, front-last, front-listed, place_of-lt, frames_before-le}
-use Rattle.heard.proofs.Alike.{pick_alike, put_here, put_there, cut_here, cut_there}
+use Rattle.heard.proofs.Alike.{changed_stored, pick_alike, put_here, put_there, cut_here, cut_there}
 use Rattle.heard.proofs.Members.{behind-last, trusted_before}
 use Rattle.heard.proofs.Readings.{kept_root, kept_relayed, relayed_echo, relayed_odd, relayed_small, small_wrapped, distinct_members, few_members}
 use Rattle.heard.proofs.SeenLaws.{both_or, elsewhere}
@@ -140,21 +140,9 @@ module _ {V : Type 0} (capacity : ℕ) (p : Parts V) (h : IsStored capacity p) (
   ]
 
   pub stored_laid : IsStored capacity (laid_parts capacity p r q cells)
-  stored_laid = record {
-    capacity_ok = h.capacity_ok;
-    nodes_ok = h.nodes_ok;
-    rounds_ok = h.rounds_ok;
-    members_ok = h.members_ok;
-    low = h.low;
-    me_ok = h.me_ok;
-    as_expected_ok = h.as_expected_ok;
-    echoes_ok = length-set p.echoes r (without_id (set_at p.echoes r) q) ∙ h.echoes_ok;
-    in_cells_ok = length-set p.in_cells r (with_id capacity (set_at p.in_cells r) q) ∙ h.in_cells_ok;
-    cells_ok = laid.long ∙ h.cells_ok;
-    small = small_laid;
-    expected_ok = h.expected_ok;
-    small_expected = h.small_expected;
-  }
+  stored_laid =
+      changed_stored capacity p h p.as_expected (set p.echoes r (without_id (set_at p.echoes r) q)) (set p.in_cells r (with_id capacity (set_at p.in_cells r) q)) cells p.expected
+      refl (length-set p.echoes r (without_id (set_at p.echoes r) q)) (length-set p.in_cells r (with_id capacity (set_at p.in_cells r) q)) laid.long small_laid refl h.small_expected
 
   pub hit_laid : (doubted new : List (List ℕ)) → AreHit p doubted → DoubtsMore capacity doubted new → ((c : ℕ) → c < p.nodes → has_id (set_at new c) q ≡ true) → AreHit (laid_parts capacity p r q cells) new
   hit_laid doubted new hit more all path s long above distinct within off on trusted =

@@ -13,7 +13,7 @@ use Rattle.heard.specs.Keep.{Parts, relayed, set_at, frame_at, IsSmall, IsStored
 use Rattle.heard.specs.Laid.{IsLaidUpTo, laid_parts, IsPut}
 use Rattle.omh.specs.FlatLaws.{path_count-mono}
 use Rattle.heard.specs.Places.{frames_before-le, frames_before-next, frames_before-few, row_le}
-use Rattle.heard.proofs.Alike.{relayed_alike}
+use Rattle.heard.proofs.Alike.{changed_stored, relayed_alike}
 use Rattle.heard.proofs.Readings.{distinct_members, few_members, nodes_few}
 use Rattle.heard.proofs.SeenLaws.{both_or, elsewhere}
 
@@ -56,21 +56,9 @@ module _ {V : Type 0} (capacity : ℕ) (p : Parts V) (h : IsStored capacity p) (
   ]
 
   pub put_stored : (k : ℕ) (value : Wrapped V) → k < path_count (length p.members - 1) r → IsSmall (3 + r) value → IsStored capacity (record p { cells = set p.cells (frame_at p.nodes r q + k) value })
-  put_stored k value low small = record {
-    capacity_ok = h.capacity_ok;
-    nodes_ok = h.nodes_ok;
-    rounds_ok = h.rounds_ok;
-    members_ok = h.members_ok;
-    low = h.low;
-    me_ok = h.me_ok;
-    as_expected_ok = h.as_expected_ok;
-    echoes_ok = h.echoes_ok;
-    in_cells_ok = h.in_cells_ok;
-    cells_ok = length-set p.cells (frame_at p.nodes r q + k) value ∙ h.cells_ok;
-    small = put_small k value low small;
-    expected_ok = h.expected_ok;
-    small_expected = h.small_expected;
-  }
+  put_stored k value low small =
+      changed_stored capacity p h p.as_expected p.echoes p.in_cells (set p.cells (frame_at p.nodes r q + k) value) p.expected
+      refl refl refl (length-set p.cells (frame_at p.nodes r q + k) value) (put_small k value low small) refl h.small_expected
 
   -- ---- one after another
 

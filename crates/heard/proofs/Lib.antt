@@ -1,6 +1,5 @@
 mod Counts
 mod SetLaws
-mod Fronts
 mod Backing
 mod OneReceiverLaws
 mod EchoLaws
@@ -11,6 +10,7 @@ mod FrameBlocks
 mod Folds
 mod Alike
 mod SeenLaws
+mod Fronts
 mod Laying
 mod LayingOut
 mod LaidOut

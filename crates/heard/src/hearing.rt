@@ -225,10 +225,7 @@ impl<V: Value, const N: usize> Heard<V, N> {
         ensures paths { map (λ e. e.path) self.old.heard ≡
             heard_paths self.old.members self.old.me self.old.rounds }
     {
-        if !self.store.hears(q, r) {
-            return false;
-        }
-        if r == 0 {
+        if !self.store.hears_relays(q, r) {
             return false;
         }
         if !self.store.agrees() {
@@ -253,10 +250,7 @@ impl<V: Value, const N: usize> Heard<V, N> {
         ensures paths { map (λ e. e.path) self.old.heard ≡
             heard_paths self.old.members self.old.me self.old.rounds }
     {
-        if !self.store.hears(q, r) {
-            return false;
-        }
-        if r == 0 {
+        if !self.store.hears_relays(q, r) {
             return false;
         }
         if r == 1 {

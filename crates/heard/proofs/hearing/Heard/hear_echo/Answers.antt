@@ -1,5 +1,5 @@
-use Rattle.std.proofs.Common.{◌<◌, ◌≡◌, true, arith, sym, ◌∙◌}
-use Rattle.heard.proofs.Methods.{echo_seen, echo_kept, paths_seen, heard_frame}
+use Rattle.std.proofs.Common.{◌≡◌, true, arith}
+use Rattle.heard.proofs.Methods.{echo_seen, echo_kept, relay_frame, paths_seen}
 use Rattle.heard.proofs.PassingLaws.{echo_expected, roots_alone}
 use Rattle.heard.proofs.hearing.Heard.hear_echo.Goals as goal
 
@@ -7,44 +7,32 @@ pub returns-then-not-is_newest-clause-paths : goal.returns-then-not-is_newest-cl
 returns-then-not-is_newest-clause-paths g c =
     paths_seen c.self.invariant c.self.view_is
 
+pub returns-then-not-hears_relays-clause-paths : goal.returns-then-not-hears_relays-clause-paths
+returns-then-not-hears_relays-clause-paths g c =
+    paths_seen c.self.invariant c.self.view_is
+
 pub returns-then-r-eq1-clause-is : goal.returns-then-r-eq1-clause-is
 returns-then-r-eq1-clause-is g c e values count told =
-    let some : 0 < c.args.r = omega (arith, c.if-r-eq0.false) in
-    let yes : c.hears.result ≡ true = grind (arith, c.if-not-hears.false) in
-    let come = heard_frame c.self.invariant c.self.view_is c.args.q c.args.r (sym c.hears.ensures ∙ yes) in
-    c.hear_expected.ensures.is e values count (echo_expected c.self.invariant c.self.view_is c.args.q c.args.r values come.0 some (roots_alone c.args.self.now c.args.r c.if-r-eq1.true) count told)
+    let come = relay_frame c.self.invariant c.self.view_is c.args.q c.args.r (c.hears_relays.ensures (grind (arith, c.if-not-hears_relays.false))) in
+    c.hear_expected.ensures.is e values count (echo_expected c.self.invariant c.self.view_is c.args.q c.args.r values come.0 come.1.0 (roots_alone c.args.self.now c.args.r c.if-r-eq1.true) count told)
 
 pub returns-then-relays_expected-clause-is : goal.returns-then-relays_expected-clause-is
 returns-then-relays_expected-clause-is g c e values count told =
-    let some : 0 < c.args.r = omega (arith, c.if-r-eq0.false) in
-    let yes : c.hears.result ≡ true = grind (arith, c.if-not-hears.false) in
-    let come = heard_frame c.self.invariant c.self.view_is c.args.q c.args.r (sym c.hears.ensures ∙ yes) in
-    let all = c.relays_expected.ensures c.if-relays_expected.true c.args.r some (omega arith) in
-    c.hear_expected-then-relays_expected.ensures.is e values count (echo_expected c.self.invariant c.self.view_is c.args.q c.args.r values come.0 some all count told)
+    let come = relay_frame c.self.invariant c.self.view_is c.args.q c.args.r (c.hears_relays.ensures (grind (arith, c.if-not-hears_relays.false))) in
+    let all = c.relays_expected.ensures c.if-relays_expected.true c.args.r come.1.0 (omega arith) in
+    c.hear_expected-then-relays_expected.ensures.is e values count (echo_expected c.self.invariant c.self.view_is c.args.q c.args.r values come.0 come.1.0 all count told)
 
 pub invariant_of-self : goal.invariant_of-self
 invariant_of-self g c =
-    let some : 0 < c.args.r = omega (arith, c.if-r-eq0.false) in
-    let yes : c.hears.result ≡ true = grind (arith, c.if-not-hears.false) in
-    let come = heard_frame c.self.invariant c.self.view_is c.args.q c.args.r (sym c.hears.ensures ∙ yes) in
-    echo_kept c.self.invariant c.self.view_is c.args.q c.args.r come.0 some come.1 c.take_echo.new.self c.take_echo.ensures
+    let come = relay_frame c.self.invariant c.self.view_is c.args.q c.args.r (c.hears_relays.ensures (grind (arith, c.if-not-hears_relays.false))) in
+    echo_kept c.self.invariant c.self.view_is c.args.q c.args.r come.0 come.1.0 come.1.1 c.take_echo.new.self c.take_echo.ensures
 
 pub returns-clause-is : goal.returns-clause-is
 returns-clause-is g c e values count told =
-    let some : 0 < c.args.r = omega (arith, c.if-r-eq0.false) in
-    let yes : c.hears.result ≡ true = grind (arith, c.if-not-hears.false) in
-    let come = heard_frame c.self.invariant c.self.view_is c.args.q c.args.r (sym c.hears.ensures ∙ yes) in
+    let come = relay_frame c.self.invariant c.self.view_is c.args.q c.args.r (c.hears_relays.ensures (grind (arith, c.if-not-hears_relays.false))) in
     let fresh : c.is_newest.result ≡ true = grind (arith, c.if-not-is_newest.false) in
-    echo_seen c.self.invariant c.self.view_is c.args.q c.args.r come.0 some come.1 (c.is_newest.ensures fresh) (omega (arith, some, c.if-r-eq1.false)) c.take_echo.new.self values count told c.take_echo.ensures
+    echo_seen c.self.invariant c.self.view_is c.args.q c.args.r come.0 come.1.0 come.1.1 (c.is_newest.ensures fresh) (omega (arith, come.1.0, c.if-r-eq1.false)) c.take_echo.new.self values count told c.take_echo.ensures
 
 pub returns-clause-paths : goal.returns-clause-paths
 returns-clause-paths g c =
-    paths_seen c.self.invariant c.self.view_is
-
-pub returns-then-not-hears-clause-paths : goal.returns-then-not-hears-clause-paths
-returns-then-not-hears-clause-paths g c =
-    paths_seen c.self.invariant c.self.view_is
-
-pub returns-then-r-eq0-clause-paths : goal.returns-then-r-eq0-clause-paths
-returns-then-r-eq0-clause-paths g c =
     paths_seen c.self.invariant c.self.view_is

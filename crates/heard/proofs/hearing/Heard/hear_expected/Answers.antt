@@ -1,39 +1,31 @@
-use Rattle.std.proofs.Common.{◌<◌, ◌≡◌, true, arith, sym, ◌∙◌}
-use Rattle.heard.proofs.Methods.{clean_seen, clean_kept, expected_said, paths_seen, heard_frame}
+use Rattle.std.proofs.Common.{◌≡◌, true, arith}
+use Rattle.heard.proofs.Methods.{clean_seen, clean_kept, expected_said, relay_frame, paths_seen}
 use Rattle.heard.proofs.hearing.Heard.hear_expected.Goals as goal
 
 pub returns-then-not-agrees-clause-paths : goal.returns-then-not-agrees-clause-paths
 returns-then-not-agrees-clause-paths g c =
     paths_seen c.self.invariant c.self.view_is
 
-pub returns-then-not-is_newest-clause-paths : goal.returns-then-not-is_newest-clause-paths
-returns-then-not-is_newest-clause-paths g c =
+pub returns-then-not-hears_relays-clause-paths : goal.returns-then-not-hears_relays-clause-paths
+returns-then-not-hears_relays-clause-paths g c =
     paths_seen c.self.invariant c.self.view_is
 
 pub invariant_of-self : goal.invariant_of-self
 invariant_of-self g c =
-    let some : 0 < c.args.r = omega (arith, c.if-r-eq0.false) in
-    let yes : c.hears.result ≡ true = grind (arith, c.if-not-hears.false) in
-    let come = heard_frame c.self.invariant c.self.view_is c.args.q c.args.r (sym c.hears.ensures ∙ yes) in
-    clean_kept c.self.invariant c.self.view_is c.args.q c.args.r come.0 some come.1 c.take_expected.new.self c.take_expected.ensures
+    let come = relay_frame c.self.invariant c.self.view_is c.args.q c.args.r (c.hears_relays.ensures (grind (arith, c.if-not-hears_relays.false))) in
+    clean_kept c.self.invariant c.self.view_is c.args.q c.args.r come.0 come.1.0 come.1.1 c.take_expected.new.self c.take_expected.ensures
 
 pub returns-clause-is : goal.returns-clause-is
 returns-clause-is g c e values count told =
-    let some : 0 < c.args.r = omega (arith, c.if-r-eq0.false) in
-    let yes : c.hears.result ≡ true = grind (arith, c.if-not-hears.false) in
-    let come = heard_frame c.self.invariant c.self.view_is c.args.q c.args.r (sym c.hears.ensures ∙ yes) in
+    let come = relay_frame c.self.invariant c.self.view_is c.args.q c.args.r (c.hears_relays.ensures (grind (arith, c.if-not-hears_relays.false))) in
     let agree : c.agrees.result ≡ true = grind (arith, c.if-not-agrees.false) in
     let fresh : c.is_newest.result ≡ true = grind (arith, c.if-not-is_newest.false) in
-    clean_seen c.self.invariant c.self.view_is c.args.q c.args.r come.0 some come.1 (c.is_newest.ensures fresh) c.take_expected.new.self values count (expected_said c.self.invariant c.self.view_is c.args.q c.args.r values come.0 some count (c.agrees.ensures agree) told) c.take_expected.ensures
+    clean_seen c.self.invariant c.self.view_is c.args.q c.args.r come.0 come.1.0 come.1.1 (c.is_newest.ensures fresh) c.take_expected.new.self values count (expected_said c.self.invariant c.self.view_is c.args.q c.args.r values come.0 come.1.0 count (c.agrees.ensures agree) told) c.take_expected.ensures
 
 pub returns-clause-paths : goal.returns-clause-paths
 returns-clause-paths g c =
     paths_seen c.self.invariant c.self.view_is
 
-pub returns-then-not-hears-clause-paths : goal.returns-then-not-hears-clause-paths
-returns-then-not-hears-clause-paths g c =
-    paths_seen c.self.invariant c.self.view_is
-
-pub returns-then-r-eq0-clause-paths : goal.returns-then-r-eq0-clause-paths
-returns-then-r-eq0-clause-paths g c =
+pub returns-then-not-is_newest-clause-paths : goal.returns-then-not-is_newest-clause-paths
+returns-then-not-is_newest-clause-paths g c =
     paths_seen c.self.invariant c.self.view_is
