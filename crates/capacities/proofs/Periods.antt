@@ -22,13 +22,10 @@ use Rattle.protocol.specs.Safe.{reference, members_from, members_at}
 use Rattle.node_steps.specs.Outcome.{Outcome}
 use Rattle.node_steps.specs.Stages.{outcome_of}
 use Rattle.cluster_step.specs.Record.{ClockShown, PeriodView, holds, budget_in, within_in, claimed_before, class_shown, clock_in, period_record}
-use Rattle.capacities.proofs.Lists.{wide, map_twice, tab_padded}
-use Rattle.capacities.proofs.Standings.{wide_rows}
-use Rattle.capacities.proofs.Bodies.{wide_config, wide_agreed}
-use Rattle.capacities.proofs.Views.{wide_claims, wide_view}
-use Rattle.capacities.proofs.Talks.{system_over}
-use Rattle.capacities.proofs.Runs.{members_wide, believed_wide, begun_wide, sent_wide}
-use Rattle.capacities.proofs.Clocks.{longer, wide_clock, correction_wide, offsets_wide}
+use Rattle.two_capacities.specs.Wider.{wide, wide_rows, wide_config, wide_agreed, wide_claims, wide_view, system_over, longer, wide_clock}
+use Rattle.two_capacities.proofs.Lists.{map_twice, tab_padded}
+use Rattle.two_capacities.proofs.Runs.{members_wide, believed_wide, begun_wide, sent_wide}
+use Rattle.two_capacities.proofs.Clocks.{correction_wide, offsets_wide}
 
 abbrev pub wide_outcome : ℕ → ℕ → Outcome → Outcome
 wide_outcome n k r = record {

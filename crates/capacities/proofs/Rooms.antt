@@ -13,11 +13,10 @@ use Rattle.scenario.specs.Scenario.{ScenarioView, inputs_of, system_of}
 use Rattle.scenario.specs.Rules.{refusal}
 use Rattle.cluster_step.specs.Record.{PeriodView, period_record}
 use Rattle.run_print.specs.PeriodText.{end_text}
+use Rattle.two_capacities.specs.Wider.{wide_config, system_over}
 use Rattle.capacities.specs.Texts.{Shows, replayed, traced, checked, text_of, HaveSameTexts}
-use Rattle.capacities.specs.Laws.{MoreRoomLaw, LessRoomLaw, SameRefusalLaw}
-use Rattle.capacities.proofs.Bodies.{wide_config}
-use Rattle.capacities.proofs.Talks.{system_over}
-use Rattle.capacities.proofs.Scenarios.{nodes_fit, few_nodes, refusal_same, system_longer, clock_wide}
+use Rattle.capacities.specs.Laws.{MoreRoomLaw, LessRoomLaw}
+use Rattle.scenario_capacities.proofs.Scenarios.{nodes_fit, few_nodes, refusal_same, system_longer, clock_wide}
 use Rattle.capacities.proofs.Periods.{wide_record, HasRoom, period_wide, has_room}
 use Rattle.capacities.proofs.Texts.{head_wide, period_text_wide}
 
@@ -51,9 +50,6 @@ module _ (c k : ℕ) (p : ScenarioParts) (h : refusal c p ≡ None) where
     trace = text_longer traced (λ plan t h. period_text_wide k t h plan true);
     check = text_longer checked (λ plan t h. head_wide k t);
   }
-
-pub same_refusal_law : SameRefusalLaw
-same_refusal_law p few = sym (refusal_same 8 8 p few)
 
 pub more_room_law : MoreRoomLaw
 more_room_law d small h =

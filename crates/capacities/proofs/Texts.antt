@@ -21,12 +21,10 @@ use Rattle.run_print.specs.NodeText.{left_text, state_text, settled_text, belief
 use Rattle.run_print.specs.PeriodText.{head_text, recorded_text, nodes_text}
 use Rattle.run_print.specs.ClockText.{sound_numbers, range_of, spread_text, signed_text, clock_text}
 use Rattle.run_print.specs.TraceText.{frames_text, period_text}
-use Rattle.capacities.proofs.Lists.{get_padded, wide, take_wide}
-use Rattle.capacities.proofs.Copies.{wide_copies, copies_wide, works_same}
-use Rattle.capacities.proofs.Standings.{wide_rows, row_wide}
-use Rattle.capacities.proofs.Bodies.{wide_agreed}
-use Rattle.capacities.proofs.Views.{wide_claims}
-use Rattle.capacities.proofs.Clocks.{longer}
+use Rattle.two_capacities.specs.Wider.{wide, wide_copies, wide_rows, wide_agreed, wide_claims, longer}
+use Rattle.two_capacities.proofs.Lists.{get_padded, take_wide}
+use Rattle.two_capacities.proofs.Copies.{copies_wide, works_same}
+use Rattle.two_capacities.proofs.Standings.{row_wide}
 use Rattle.capacities.proofs.Periods.{wide_outcome, wide_shown, wide_record, HasClockRoom, HasRoom}
 
 module _ (n k : ℕ) where

@@ -1,9 +1,6 @@
 -- One scenario, read with room for 8 nodes and with room for 16.
-use Rattle.std.specs.Prelude.{◌≡◌, ◌≤◌}
+use Rattle.std.specs.Prelude.{◌≤◌}
 use Rattle.serde_json.specs.Data.{Data}
-use Rattle.scenario.specs.Parts.{ScenarioParts}
-use Rattle.scenario.specs.Numbers.{natural}
-use Rattle.scenario.specs.Rules.{refusal}
 use Rattle.scenario.specs.Scenario.{ScenarioView}
 use Rattle.scenario.specs.Verdict.{IsAcceptedValue}
 use Rattle.capacities.specs.Texts.{HaveSameTexts}
@@ -15,7 +12,3 @@ MoreRoomLaw = (d : Data) (small : ScenarioView 8) → IsAcceptedValue d small �
 -- what is accepted with room for 16 nodes, and has at most 8, is accepted with room for 8, and has the same texts
 abbrev pub LessRoomLaw : Type 0
 LessRoomLaw = (d : Data) (large : ScenarioView 16) → IsAcceptedValue d large → large.config.nodes ≤ 8 → (small : ScenarioView 8) × IsAcceptedValue d small × HaveSameTexts small large
-
--- parts of at most 8 nodes are refused by the same rule at the same place
-abbrev pub SameRefusalLaw : Type 0
-SameRefusalLaw = (p : ScenarioParts) → natural p.nodes ≤ 8 → refusal 8 p ≡ refusal 16 p

@@ -1,6 +1,6 @@
 //! The laws, over the definitions alone.
 
-ghost use Rattle.capacities.specs.Laws.{MoreRoomLaw, LessRoomLaw, SameRefusalLaw};
+ghost use Rattle.capacities.specs.Laws.{MoreRoomLaw, LessRoomLaw};
 
 /// What is accepted with room for 8 nodes is accepted with room for 16, and has the same texts.
 pub fn more_room()
@@ -10,9 +10,4 @@ pub fn more_room()
 /// What is accepted with room for 16 nodes, and has at most 8, is accepted with room for 8, and has the same texts.
 pub fn less_room()
     ensures { LessRoomLaw }
-{}
-
-/// A scenario of at most 8 nodes is refused by the same rule at the same place.
-pub fn same_refusal()
-    ensures { SameRefusalLaw }
 {}

@@ -1,7 +1,7 @@
 -- Agreed states with places for further nodes have the same bodies, and bodies are read to the same states.
 use Rattle.std.proofs.Common.{ℕ, zero, suc, ◌≡◌, ◌<◌, ◌≤◌, ◌+◌, ◌*◌, Bool, true, false, not, ◌&&◌, ◌==◌, List, [], ◌∷◌, ◌++◌, map, length, take, replicate, get_or, Option, None, Some, refl, sym, ap, subst, ◌∙◌, inl, inr, arith, le-ltb, ltb-true}
 use Rattle.std.proofs.Math.Path.{fun_ext}
-use Rattle.std.specs.Prelude.{if◌then◌else◌, nat_lt, nat_le, pos}
+use Rattle.std.specs.Prelude.{if◌then◌else◌, nat_lt, nat_le}
 use Rattle.std.specs.List.{flat_map, list_all}
 use Rattle.std.specs.Option.{option_map}
 use Rattle.std.specs.Int.{w16, to_be_bytes}
@@ -9,8 +9,6 @@ use Rattle.std.proofs.lemmas.Bool.{cases_Bool, and_parts, cond-true, cond-false}
 use Rattle.std.proofs.lemmas.List.{map-append}
 use Rattle.node_grid.specs.NodeSet.{ids_below, has_id, mask_of}
 use Rattle.task_graph.specs.Graph.{task_at}
-use Rattle.mme_vote.specs.declared.channel.Channel.{Channel}
-use Rattle.mme_vote.specs.declared.channel.Channel.TheVariants.{State, Sensor, Copy}
 use Rattle.omh_paths.specs.declared.wrapped.Wrapped.{Wrapped}
 use Rattle.omh_paths.specs.declared.wrapped.Wrapped.TheVariants.{Plain, Fault}
 use Rattle.omh_paths.specs.Wrapped.{same, is_error}
@@ -26,30 +24,12 @@ use Rattle.agreed_state.specs.Agreed.{AgreedView}
 use Rattle.agreed_state.specs.Body.{copy_word, copy_words, left_room, words, body, state_len, words_of, words_at, copy_in, copy_of, state_in, is_copy, is_running, is_counted, is_told, is_state, read_body}
 use Rattle.agreed_state.specs.Adoption.{given, read_of, adopted}
 use Rattle.agreed_state.specs.Ranges.{passes_of}
-use Rattle.capacities.proofs.Lists.{wide, get_wide, take_wide, tab_wide}
-use Rattle.capacities.proofs.Copies.{wide_copies, copies_wide, IsNarrow, table_wide, table_narrow, AreBelow}
-use Rattle.capacities.proofs.Standings.{wide_standing, same_standing}
+use Rattle.two_capacities.specs.Wider.{wide, wide_copies, wide_config, wide_agreed}
+use Rattle.two_capacities.proofs.Lists.{get_wide, take_wide, tab_wide}
+use Rattle.two_capacities.proofs.Copies.{copies_wide, IsNarrow, table_wide, table_narrow, AreBelow}
+use Rattle.two_capacities.proofs.Standings.{same_standing}
 
 -- ---- a configuration, and a state
-
-abbrev pub wide_channel : {c : ℕ} (k : ℕ) → Channel c → Channel (c + k)
-wide_channel k (State delta start step) = State delta (start ++ replicate k (pos 0)) step
-wide_channel k (Sensor delta task) = Sensor delta task
-wide_channel k (Copy delta task lies) = Copy delta task lies
-
-abbrev pub wide_config : {c : ℕ} (k : ℕ) → Config c → Config (c + k)
-wide_config k g = record {
-  version = g.version;
-  nodes = g.nodes;
-  m = g.m;
-  frame = g.frame;
-  policy = g.policy;
-  graph = g.graph;
-  channels = record { items = map (wide_channel k) g.channels.items };
-}
-
-abbrev pub wide_agreed : ℕ → ℕ → AgreedView → AgreedView
-wide_agreed n k a = record { standing = wide_standing n k a.standing; copies = wide_copies k a.copies }
 
 pub same_agreed : {s s' : Standing} {t t' : CopyTable} → s ≡ s' → t ≡ t' → (let a : AgreedView = record { standing = s; copies = t } in a) ≡ record { standing = s'; copies = t' }
 same_agreed {s} {s'} {t} {t'} e f = ap (λ x. let a : AgreedView = record { standing = x; copies = t } in a) e ∙ ap (λ x. let a : AgreedView = record { standing = s'; copies = x } in a) f

@@ -12,12 +12,10 @@ use Rattle.error_reports.specs.Charge.{kind_room, is_row, row_accuses, is_voter,
 use Rattle.penalty.specs.declared.Policy.{Policy}
 use Rattle.penalty.specs.Step.{for_nodes, count_after, streak_after, counts_after, streaks_after}
 use Rattle.membership.specs.Members.{members_after, leaves, times_after, left_after, Standing, first_standing, standing_after}
-use Rattle.capacities.proofs.Lists.{get_padded, get_mapped, tab_padded, wide, wide_long, wide_short, by_length, get_wide}
+use Rattle.two_capacities.specs.Wider.{wide, wide_rows, wide_standing}
+use Rattle.two_capacities.proofs.Lists.{get_padded, get_mapped, tab_padded, wide_long, wide_short, by_length, get_wide}
 
 -- ---- rows
-
-abbrev pub wide_rows : ℕ → ℕ → List (Option (List ℕ)) → List (Option (List ℕ))
-wide_rows n k rows = map (option_map (wide n k)) rows ++ replicate k None
 
 module _ (n k : ℕ) (rows : List (Option (List ℕ))) where
   pub row_wide : (q : ℕ) → row_at (wide_rows n k rows) q ≡ option_map (wide n k) (row_at rows q)
@@ -77,9 +75,6 @@ module _ (n k : ℕ) (v w : ℕ → ℕ) (same : (j : ℕ) → w j ≡ v j) wher
   values_wide xs = by_length n k xs (values_short xs) (values_long xs)
 
 -- ---- members, counts, streaks, and how often each node left
-
-abbrev pub wide_standing : ℕ → ℕ → Standing → Standing
-wide_standing n k s = record { members = s.members; counts = wide n k s.counts; streaks = wide n k s.streaks; left = wide n k s.left }
 
 pub same_standing : {a b c d a' b' c' d' : List ℕ} → a ≡ a' → b ≡ b' → c ≡ c' → d ≡ d'
     → (let s : Standing = record { members = a; counts = b; streaks = c; left = d } in s) ≡ record { members = a'; counts = b'; streaks = c'; left = d' }

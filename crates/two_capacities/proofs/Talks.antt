@@ -15,14 +15,10 @@ use Rattle.protocol.specs.Arrival.Arrival.{Bad, Good}
 use Rattle.protocol.specs.Heard.{Rounds, paths_of, with_entries, heard}
 use Rattle.protocol.specs.Talk.{arrives, Talk, item_said, told_first, relay_said, told_relay, rounds_upto}
 use Rattle.protocol.specs.Run.{System, expectation, change_at}
-use Rattle.capacities.proofs.Lists.{wide, map_twice}
-use Rattle.capacities.proofs.Settling.{each_wrapped, each_arrival, each_entry, each_round, wrapped_each, heard_each, entries_each}
-use Rattle.capacities.proofs.Frames.{wide_content, wider, arrives_wide}
-use Rattle.capacities.proofs.Bodies.{wide_config}
-use Rattle.capacities.proofs.Views.{setting_of}
-
-abbrev pub system_over : {c : ℕ} → Config c → Plan → (ℕ → ℕ → Inputs) → System
-system_over g plan inputs = record { setting = setting_of g; plan = plan; inputs = inputs }
+use Rattle.two_capacities.specs.Wider.{wide, wide_config, system_over}
+use Rattle.two_capacities.proofs.Lists.{map_twice}
+use Rattle.two_capacities.proofs.Settling.{each_wrapped, each_arrival, each_entry, each_round, wrapped_each, heard_each, entries_each}
+use Rattle.two_capacities.proofs.Frames.{wide_content, wider, arrives_wide}
 
 -- ---- items that don't change
 

@@ -34,40 +34,18 @@ use Rattle.protocol.specs.Settled.{ear_of, plain, settled_items}
 use Rattle.omh.specs.Omh.{settled_from}
 use Rattle.protocol.specs.View.{Setting, channel_room, Kept, nothing, first_kept, Received, content, bodies_for, adopted_by, synced_by, claim_at, own_claim, as_claim, claims_settled, channel, no_channel, is_due, due_channels, own_from, own_value, own_values, value_from, voters, tolerated, votes_on, is_far, value_in, value_at, deviates, other_body, by_kind, is_further, noted, row_by, empty_row, carried_by, View, through, cold_view, joined, view_from, opened}
 use Rattle.protocol.specs.View.Mode.{Full, Joining}
-use Rattle.protocol.specs.FurtherKinds.{convicts_member, convictions}
-use Rattle.capacities.proofs.Lists.{get_padded, get_mapped, tab_padded, where_longer, wide, wide_long, get_wide, tab_wide, eq_wide}
-use Rattle.capacities.proofs.Copies.{wide_copies, copies_wide, AreBelow, works_same, finished_same, verdict_same, after_wide, after_narrow, done_wide, first_wide, first_narrow}
-use Rattle.capacities.proofs.Standings.{wide_rows, mask_wide, wide_standing, standing_wide, first_standing_wide}
-use Rattle.capacities.proofs.Bodies.{wide_channel, wide_config, wide_agreed, same_agreed, IsBelow, IsBelowIf, body_wide, adopted_below, adopted_wide}
-use Rattle.capacities.proofs.Settling.{each_round, rounds_each, convicts_each, items_each}
+use Rattle.protocol.specs.FurtherKinds.{convicts_member}
+use Rattle.two_capacities.specs.Wider.{wide, wide_copies, wide_rows, wide_standing, wide_channel, wide_config, wide_agreed, setting_of, wide_claims, wide_kept, wide_view}
+use Rattle.two_capacities.proofs.Lists.{get_padded, get_mapped, tab_padded, where_longer, wide_long, get_wide, tab_wide, eq_wide}
+use Rattle.two_capacities.proofs.Copies.{copies_wide, AreBelow, works_same, finished_same, verdict_same, after_wide, after_narrow, done_wide, first_wide, first_narrow}
+use Rattle.two_capacities.proofs.Standings.{mask_wide, standing_wide, first_standing_wide}
+use Rattle.two_capacities.proofs.Bodies.{same_agreed, IsBelow, IsBelowIf, body_wide, adopted_below, adopted_wide}
+use Rattle.two_capacities.proofs.Settling.{each_round, rounds_each, convicts_each, items_each}
 
 -- ---- what all nodes run under, and what a node keeps, receives and believes
 
-abbrev pub setting_of : {c : ℕ} → Config c → Setting
-setting_of {c} g = record { capacity = c; config = g; further = convictions g.m }
-
-abbrev pub wide_claims : ℕ → List (Wrapped ℕ) → List (Wrapped ℕ)
-wide_claims k done = done ++ replicate k (Fault 0)
-
-abbrev pub wide_kept : ℕ → ℕ → Kept → Kept
-wide_kept n k x = record { state = option_map (wide_agreed n k) x.state; carried = wide n k x.carried; votes = x.votes; owns = x.owns }
-
 abbrev pub wide_received : ℕ → ℕ → Received → Received
 wide_received n k x = record { sync = x.sync; done = x.done; values = x.values; report = each_round (wide n k) x.report }
-
-abbrev pub wide_view : ℕ → ℕ → View → View
-wide_view n k v = record {
-  mode = v.mode;
-  before = option_map (wide_agreed n k) v.before;
-  sync = v.sync;
-  done = wide_claims k v.done;
-  due = v.due;
-  own = v.own;
-  votes = v.votes;
-  found = wide n k v.found;
-  rows = wide_rows n k v.rows;
-  kept = wide_kept n k v.kept;
-}
 
 pub same_kept : {a a' : Option AgreedView} {b b' : List ℕ} {v o : List (Option ℤ)} → a ≡ a' → b ≡ b' → (let x : Kept = record { state = a; carried = b; votes = v; owns = o } in x) ≡ record { state = a'; carried = b'; votes = v; owns = o }
 same_kept {a} {a'} {b} {b'} {v} {o} e f =

@@ -12,11 +12,8 @@ use Rattle.list_scheduler.specs.declared.copies.CopyState.TheVariants.{Idle, Run
 use Rattle.list_scheduler.specs.Copies.{CopyTable, copy_at, table, is_passed, is_idle, running, at_work, works_among, works}
 use Rattle.list_scheduler.specs.Schedule.{claim_of, no_verdict, verdict_at, verdict, completed_at, completed, left_copy, left, all_idle, frame_ended, finished, is_eligible, pick_of, is_it, picked, copies_completed, copies_after, first_copies}
 use Rattle.agreed_state.specs.Tables.{past_table}
-use Rattle.capacities.proofs.Lists.{get_padded, map_twice, tab_padded}
-
--- a table with k further nodes
-abbrev pub wide_copies : ℕ → CopyTable → CopyTable
-wide_copies k copies = map (λ row. row ++ replicate k Idle) copies
+use Rattle.two_capacities.specs.Wider.{wide_copies}
+use Rattle.two_capacities.proofs.Lists.{get_padded, map_twice, tab_padded}
 
 pub copy_wide : (k : ℕ) (copies : CopyTable) (t q : ℕ) → copy_at (wide_copies k copies) t q ≡ copy_at copies t q
 copy_wide k [] t q = refl

@@ -1,5 +1,5 @@
 -- The clocks of a cluster, where types have places for further nodes.
-use Rattle.std.proofs.Common.{ℕ, zero, suc, ◌≡◌, ◌≤◌, ◌+◌, List, [], ◌∷◌, ◌++◌, map, length, replicate, get_or, Option, Some, None, refl, ap, ◌∙◌, arith, le-ltb}
+use Rattle.std.proofs.Common.{ℕ, zero, suc, ◌≡◌, ◌≤◌, ◌+◌, List, [], ◌∷◌, map, length, get_or, Option, Some, None, refl, ap, ◌∙◌, arith, le-ltb}
 use Rattle.std.proofs.Math.Path.{fun_ext}
 use Rattle.std.specs.Prelude.{if◌then◌else◌, nat_lt, ℤ, pos, ◌+ℤ◌, ◌-ℤ◌, ◌%◌}
 use Rattle.std.proofs.lemmas.List.{length-map}
@@ -14,29 +14,14 @@ use Rattle.protocol.specs.View.Mode.{Full, Joining, Cold}
 use Rattle.protocol.specs.Cluster.{view}
 use Rattle.protocol.specs.Run.{System, members_in, run}
 use Rattle.protocol.specs.Clocks.{reading_at, readings_at, corrects, correction_at, corrected, offsets}
-use Rattle.capacities.proofs.Lists.{get_padded, tab_padded}
-use Rattle.capacities.proofs.Bodies.{wide_config}
-use Rattle.capacities.proofs.Talks.{system_over}
-use Rattle.capacities.proofs.Runs.{members_wide, believed_wide}
+use Rattle.two_capacities.specs.Wider.{wide_config, system_over, longer, wide_clock}
+use Rattle.two_capacities.proofs.Lists.{get_padded, tab_padded}
+use Rattle.two_capacities.proofs.Runs.{members_wide, believed_wide}
 
 -- ---- a plan of clocks with k further places in each row
 
-abbrev pub longer : ℕ → List ℤ → List ℤ
-longer k row = row ++ replicate k (pos 0)
-
-abbrev pub wide_clock : ℕ → ClockView → ClockView
-wide_clock k c = record {
-  nodes = c.nodes;
-  epsilon = c.epsilon;
-  drift = c.drift;
-  start = longer k c.start;
-  drifts = map (longer k) c.drifts;
-  errors = map (longer k) c.errors;
-  lies = c.lies;
-}
-
 module _ (k : ℕ) where
-  number_wide : (row : List ℤ) (i : ℕ) → number_at (longer k row) i ≡ number_at row i
+  pub number_wide : (row : List ℤ) (i : ℕ) → number_at (longer k row) i ≡ number_at row i
   number_wide row i = get_padded row k (pos 0) i
 
   at_wide : (rows : List (List ℤ)) (j i : ℕ) → number_at (get_or (map (longer k) rows) j []) i ≡ number_at (get_or rows j []) i
@@ -44,7 +29,7 @@ module _ (k : ℕ) where
   at_wide (row ∷ rows) zero i = number_wide row i
   at_wide (row ∷ rows) (suc j) i = at_wide rows j i
 
-  row_wide : (rows : List (List ℤ)) (t i : ℕ) → number_at (row_at (map (longer k) rows) t) i ≡ number_at (row_at rows t) i
+  pub row_wide : (rows : List (List ℤ)) (t i : ℕ) → number_at (row_at (map (longer k) rows) t) i ≡ number_at (row_at rows t) i
   row_wide rows t i = ap (λ n. number_at (get_or (map (longer k) rows) (t % n) []) i) (length-map rows (longer k)) ∙ at_wide rows (t % length rows) i
 
   reading_wide : (c : ClockView) (offset : ℕ → ℤ) (p i j : ℕ) → reading_at (wide_clock k c) offset p i j ≡ reading_at c offset p i j

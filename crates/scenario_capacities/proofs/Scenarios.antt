@@ -1,11 +1,12 @@
 -- What the parts of a scenario say to types with places for further nodes, and that the same rule refuses them.
-use Rattle.std.proofs.Common.{ℕ, ◌≡◌, ◌≤◌, ◌+◌, ◌-◌, ◌^◌, min, Bool, true, false, not, ◌&&◌, ◌==◌, List, [], ◌∷◌, ◌++◌, map, length, replicate, get_or, Option, None, Some, refl, sym, ap, ◌∙◌, arith, eqb-true, nat_lt}
+use Rattle.std.proofs.Common.{ℕ, ◌≡◌, ◌≤◌, ◌+◌, ◌-◌, ◌^◌, min, Bool, true, false, not, ◌&&◌, ◌==◌, List, [], ◌∷◌, ◌++◌, map, length, replicate, get_or, Option, None, Some, refl, sym, ap, subst, ◌∙◌, arith, eqb-true, nat_lt}
 use Rattle.std.proofs.Math.Path.{fun_ext}
 use Rattle.std.specs.Prelude.{if◌then◌else◌, ℤ, pos, negsuc}
 use Rattle.std.specs.List.{list_all}
 use Rattle.std.specs.Option.{option_map, option_or}
 use Rattle.std.proofs.lemmas.Bool.{and_parts}
 use Rattle.std.proofs.lemmas.List.{append_assoc, length-map, replicate-append-replicate}
+use Rattle.node_grid.specs.Capacity.{IsCapacity}
 use Rattle.node_grid.specs.Version.{most_nodes}
 use Rattle.mme_vote.specs.declared.channel.Channel.{Channel}
 use Rattle.mme_vote.specs.declared.channel.Channel.TheVariants.{State}
@@ -13,16 +14,18 @@ use Rattle.clock_skew.specs.Clock.{ClockView}
 use Rattle.fault_classes.specs.Plan.{Plan}
 use Rattle.agreed_state.specs.declared.config.Config.{Config}
 use Rattle.agreed_state.specs.declared.config.Inputs.{Inputs}
+use Rattle.protocol.specs.Run.{System, run, classes}
+use Rattle.protocol.specs.Accepted.{IsAccepted}
+use Rattle.protocol.specs.Clocks.{AreClocks}
 use Rattle.scenario.specs.Parts.{ChannelParts, TaskParts, ClockParts, ScenarioParts}
 use Rattle.scenario.specs.Parts.ChannelParts.{state, sensor, copy}
 use Rattle.scenario.specs.Numbers.{is_within, is_below, natural, is_ascending, are_below}
-use Rattle.scenario.specs.Given.{padded, channel_of, config_of, plan_in, time_of, times_of, clock_in, scenario_of}
-use Rattle.scenario.specs.Scenario.{reading_at, inputs_of, system_of}
+use Rattle.scenario.specs.Given.{padded, task_of, channel_of, rows_of, config_of, plan_in, time_of, times_of, clock_in, scenario_of}
+use Rattle.scenario.specs.Scenario.{reading_at, inputs_of, system_of, IsScenario}
 use Rattle.scenario.specs.Rules.{unless, at_place, first_bad, version_of, is_of_version, has_nodes, has_rounds, is_policy, is_channel, fits_channel, closes, is_task, fits_task, sizes_refusal, lengths_refusal, numbers_refusal, channels_refusal, tasks_refusal, cycles_refusal, plan_refusal, are_rows, are_up_to, is_drift, is_clock, clock_refused, clock_refusal, early_refusal, refusal}
-use Rattle.capacities.proofs.Lists.{get_padded, tab_padded}
-use Rattle.capacities.proofs.Bodies.{wide_channel, wide_config}
-use Rattle.capacities.proofs.Talks.{system_over}
-use Rattle.capacities.proofs.Clocks.{longer, wide_clock}
+use Rattle.two_capacities.specs.Wider.{wide_channel, wide_config, system_over, longer, wide_clock}
+use Rattle.two_capacities.proofs.Lists.{get_padded, get_mapped, tab_padded}
+use Rattle.two_capacities.proofs.Accepted.{accepted_wide, clocks_wide}
 
 -- ---- rules that don't refuse
 
@@ -215,3 +218,39 @@ module _ (c k : ℕ) (p : ScenarioParts) (h : refusal c p ≡ None) where
   pub clock_wide : (scenario_of (c + k) p).clock ≡ option_map (wide_clock k) (scenario_of c p).clock
   unfolding clock_refusal
   clock_wide = clock_longer c k (natural p.nodes) few p.clock (plan_in p) (clock_fits c p h)
+
+  -- ---- an accepted scenario
+
+  abbrev small : System
+  small = system_over (config_of c p) (plan_in p) (inputs_of (scenario_of c p))
+
+  abbrev large : System
+  large = system_over (wide_config k (config_of c p)) (plan_in p) (inputs_of (scenario_of c p))
+
+  run_time_same : (t i : ℕ) → get_or (get_or (map (times_of (c + k)) p.tasks) t []) i 0 ≡ get_or (get_or (map (times_of c) p.tasks) t []) i 0
+  run_time_same t i =
+      let f : List ℕ → ℕ = λ row. get_or row i 0 in
+      sym (get_mapped f (map (times_of (c + k)) p.tasks) t [])
+      ∙ ap (λ xs. get_or xs t 0) (times_same c k (natural p.nodes) (length p.tasks) 0 p.tasks i few (tasks_fit c p h))
+      ∙ get_mapped f (map (times_of c) p.tasks) t []
+
+  clocks_fit : (o : Option ClockView) → ((y : ClockView) → o ≡ Some y → AreClocks (run small) (classes small) y) → (x : ClockView) → option_map (wide_clock k) o ≡ Some x
+      → AreClocks (run large) (classes large) x
+  clocks_fit None each x e = cc
+  clocks_fit (Some y) each x e =
+      let same : wide_clock k y ≡ x = cc in
+      subst (λ (z : ClockView). AreClocks (run large) (classes large) z) same (clocks_wide c k (config_of c p) (plan_in p) (inputs_of (scenario_of c p)) y (each y refl))
+
+  pub scenario_longer : IsCapacity (c + k) → IsScenario (scenario_of c p) → IsScenario (scenario_of (c + k) p)
+  scenario_longer room is = record {
+    system = subst (λ (s : System). IsAccepted s) (sym system_longer) (accepted_wide c k (config_of c p) (plan_in p) (inputs_of (scenario_of c p)) room is.system);
+    some_periods = is.some_periods;
+    few_periods = is.few_periods;
+    plan_periods = is.plan_periods;
+    order = is.order;
+    task_count = length-map p.tasks (times_of (c + k)) ∙ sym (length-map p.tasks (task_of (natural p.nodes)));
+    channel_count = length-map p.channels rows_of ∙ sym (length-map p.channels (channel_of (c + k)));
+    times = λ t i. omega (arith, run_time_same t i, is.times t i);
+    clock = λ x e.
+        subst (λ (s : System). AreClocks (run s) (classes s) x) (sym system_longer) (clocks_fit (scenario_of c p).clock is.clock x (sym clock_wide ∙ e));
+  }

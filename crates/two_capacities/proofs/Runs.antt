@@ -15,12 +15,12 @@ use Rattle.protocol.specs.View.{Kept, Received, own_in, View, opened}
 use Rattle.protocol.specs.Run.{System, members_in, claim_sent, state_content, expectation, change_at, full_at, so_far, state_said, after_sync, members_of, done_talk, after_done, due_of, values_said, after_values, row_talk, delivered, said_in, sent_in, all_kept, goes_in, run, sent}
 use Rattle.protocol.specs.Cluster.{begins, view}
 use Rattle.protocol.specs.RunLaws.{begins_is, view_is}
-use Rattle.capacities.proofs.Lists.{wide}
-use Rattle.capacities.proofs.Settling.{each_round}
-use Rattle.capacities.proofs.Frames.{wide_content, spelled_wide, arrives_wide}
-use Rattle.capacities.proofs.Bodies.{wide_config, wide_agreed, IsBelowIf, body_wide}
-use Rattle.capacities.proofs.Views.{setting_of, wide_kept, wide_received, wide_view, first_kept_wide, first_below, opened_wide, own_claim_wide, view_wide, view_keeps}
-use Rattle.capacities.proofs.Talks.{system_over, same_item, arrival_still, round_still, state_part, values_part, claims_told, rows_told, talk_of, item_wide, relay_wide, rounds_wide}
+use Rattle.two_capacities.specs.Wider.{wide, wide_config, wide_agreed, setting_of, wide_kept, wide_view, system_over}
+use Rattle.two_capacities.proofs.Settling.{each_round}
+use Rattle.two_capacities.proofs.Frames.{wide_content, spelled_wide, arrives_wide}
+use Rattle.two_capacities.proofs.Bodies.{IsBelowIf, body_wide}
+use Rattle.two_capacities.proofs.Views.{wide_received, first_kept_wide, first_below, opened_wide, own_claim_wide, view_wide, view_keeps}
+use Rattle.two_capacities.proofs.Talks.{same_item, arrival_still, round_still, state_part, values_part, claims_told, rows_told, talk_of, item_wide, relay_wide, rounds_wide}
 
 same_received : {s s' : ℕ → Arrival (List ℕ)} {d d' : Rounds ℕ} {v v' : ℕ → Arrival (List ℤ)} {r r' : Rounds (List ℕ)} → s ≡ s' → d ≡ d' → v ≡ v' → r ≡ r'
     → (let x : Received = record { sync = s; done = d; values = v; report = r } in x) ≡ record { sync = s'; done = d'; values = v'; report = r' }

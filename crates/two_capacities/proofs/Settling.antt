@@ -17,8 +17,8 @@ use Rattle.protocol.specs.Arrival.Arrival.{Bad, Good}
 use Rattle.protocol.specs.Heard.{looked_up, with_entries, entry, Rounds, heard_back, heard, rounds_bad}
 use Rattle.protocol.specs.Settled.{ear_of, plain, settled_items}
 use Rattle.std.specs.List.{list_any, range_with_len}
-use Rattle.capacities.proofs.Lists.{map_twice, count_mapped, tab_padded}
-use Rattle.capacities.proofs.Copies.{AreBelow}
+use Rattle.two_capacities.proofs.Lists.{map_twice, count_mapped, tab_padded}
+use Rattle.two_capacities.proofs.Copies.{AreBelow}
 
 -- ---- values in transit, arrivals and rounds of changed items
 

@@ -22,8 +22,9 @@ use Rattle.fault_classes.specs.Change.{Change}
 use Rattle.fault_link.specs.Arrival.{delivered_of}
 use Rattle.protocol.specs.Arrival.{read_as, arrived, arrival}
 use Rattle.protocol.specs.Talk.{frame_by, arrives}
-use Rattle.capacities.proofs.Lists.{wide, wide_long, take_wide}
-use Rattle.capacities.proofs.Settling.{each_wrapped, each_arrival}
+use Rattle.two_capacities.specs.Wider.{wide}
+use Rattle.two_capacities.proofs.Lists.{wide_long, take_wide}
+use Rattle.two_capacities.proofs.Settling.{each_wrapped, each_arrival}
 
 -- what a frame says, with k further places in each row
 abbrev pub wide_content : ℕ → ℕ → Content → Content

@@ -11,6 +11,7 @@ use Rattle.std.proofs.lemmas.Slice.Eq.{bytes_eq-Decides}
 use Rattle.node_grid.specs.NodeSet.{ids_below, ids_where}
 use Rattle.node_grid.specs.NodeSetLaws.{filter_none}
 use Rattle.node_grid.specs.Count.{count, bit}
+use Rattle.two_capacities.specs.Wider.{wide}
 
 -- ---- lists of anything
 
@@ -69,10 +70,6 @@ pub where_longer : (test : ℕ → Bool) (c k : ℕ) → ((j : ℕ) → c ≤ j 
 where_longer test c k none = where_from test 0 c k (λ j l. none j (omega arith))
 
 -- ---- lists of numbers
-
--- a list that has room for n nodes, with k further places; another list stays
-abbrev pub wide : ℕ → ℕ → List ℕ → List ℕ
-wide n k xs = if nat_le n (length xs) then xs ++ replicate k 0 else xs
 
 module _ (n k : ℕ) where
   pub wide_long : (xs : List ℕ) → n ≤ length xs → wide n k xs ≡ xs ++ replicate k 0

@@ -1,0 +1,11 @@
+pub mod Lists
+pub mod Copies
+pub mod Standings
+pub mod Bodies
+pub mod Settling
+pub mod Frames
+pub mod Views
+pub mod Talks
+pub mod Runs
+pub mod Clocks
+pub mod Accepted
