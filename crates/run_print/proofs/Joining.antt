@@ -3,8 +3,7 @@ use Rattle.std.proofs.Common.{◌≡◌, ℕ, List, [], ◌∷◌, ◌++◌, len
 use Rattle.std.specs.List.{flat_map}
 use Rattle.std.proofs.lemmas.Grind.{flat_map-append}
 use Rattle.std.proofs.KnownBytes.{Appends-nil}
-use Rattle.span_io.specs.Causes.{Writes}
-use Rattle.run_print.specs.Printing.{Gathers, Printed, PrintedIf, Prints, Finishes}
+use Rattle.run_print.specs.Printing.{Gathers, Printed, PrintedIf, Prints, Finishes, WritesText}
 use Rattle.run_print.specs.declared.printer.Printer.{Printer}
 use Rattle.run_print.specs.Text.{joined, separator_at}
 
@@ -15,27 +14,30 @@ joined-push separator (y ∷ ys) x =
     ap (λ z. y ++ z) (flat_map-append f ys (x ∷ []) ∙ ap (λ z. flat_map f ys ++ z) (append-nil (separator ++ x)))
     ∙ sym (append_assoc y (flat_map f ys) (separator ++ x))
 
--- one text after the other
-pub then : {a b c : Printer} {v w x : Option (List ℕ)} {k l m : ℕ} {s t : List ℕ} → Prints a v k b w l s → Prints b w l c x m t → Prints a v k c x m (s ++ t)
-then {a} {b} {c} {v} {w} {x} {k} {l} {m} {s} {t} first second = record {
-  goes_on = λ old before done h.
-      subst (λ text. Printed old before text c x m) (append_assoc done s t) (second.goes_on old before (done ++ s) (first.goes_on old before done h));
-}
+module _ {S : Type 0} {written : S → Option (List ℕ)} {faults : S → ℕ} where
+  -- one text after the other
+  pub then : {a b c : Printer} {r s t : S} {xs ys : List ℕ} → Prints written faults a r b s xs → Prints written faults b s c t ys → Prints written faults a r c t (xs ++ ys)
+  then {a} {b} {c} {r} {s} {t} {xs} {ys} first second = record {
+    goes_on = λ old before done h.
+        subst (λ text. Printed old before text c (written t) (faults t)) (append_assoc done xs ys) (second.goes_on old before (done ++ xs) (first.goes_on old before done h));
+  }
+
+  -- the text of a further item, behind a separator
+  pub further : {a b c d : Printer} {r s t u : S} (separator : List ℕ) (items : List (List ℕ)) (item : List ℕ)
+      → Prints written faults a r b s (joined separator items) → Prints written faults b s c t (separator_at separator (length items)) → Prints written faults c t d u item
+      → Prints written faults a r d u (joined separator (items ++ item ∷ []))
+  further {a} {b} {c} {d} {r} {s} {t} {u} separator items item before between last =
+      subst (λ text. Prints written faults a r d u text) (sym (joined-push separator items item)) (then before (then between last))
+
+  -- a text that is printed from the start, and then finished
+  pub finished : {T E : Type 0} {a b : Printer} {r s t : S} {text : List ℕ} {result : Result T E} → a.gathered.items ≡ [] → a.failed ≡ false
+      → Prints written faults a r b s text → Finishes written faults b s t result → WritesText written faults r t text result
+  finished {T} {E} {a} {b} {r} {s} {t} {text} {result} empty going prints finishes =
+      let v : Option (List ℕ) = written r in
+      let k : ℕ = faults r in
+      let gathers : Gathers v v k k a.gathered.items [] = record { front = []; splits = empty; written = Appends-nil v; same = refl } in
+      finishes v k text (prints.goes_on v k [] (subst (λ b. PrintedIf b v v k k a.gathered.items []) (sym going) gathers))
 
 -- nothing is printed where nothing happens
-pub nothing : (p : Printer) (w : Option (List ℕ)) (f : ℕ) → Prints p w f p w f []
-nothing p w f = record { goes_on = λ old before done h. subst (λ text. Printed old before text p w f) (sym (append-nil done)) h }
-
--- the text of a further item, behind a separator
-pub further : {a b c d : Printer} {v w x y : Option (List ℕ)} {k l m n : ℕ} (separator : List ℕ) (items : List (List ℕ)) (item : List ℕ)
-    → Prints a v k b w l (joined separator items) → Prints b w l c x m (separator_at separator (length items)) → Prints c x m d y n item
-    → Prints a v k d y n (joined separator (items ++ item ∷ []))
-further {a} {b} {c} {d} {v} {w} {x} {y} {k} {l} {m} {n} separator items item before between last =
-    subst (λ text. Prints a v k d y n text) (sym (joined-push separator items item)) (then before (then between last))
-
--- a text that is printed from the start, and then finished
-pub finished : {T E : Type 0} {a b : Printer} {v w x : Option (List ℕ)} {k l m : ℕ} {text : List ℕ} {r : Result T E} → a.gathered.items ≡ [] → a.failed ≡ false
-    → Prints a v k b w l text → Finishes b w l x m r → Writes v x k m text r
-finished {T} {E} {a} {b} {v} {w} {x} {k} {l} {m} {text} {r} empty going prints finishes =
-    let gathers : Gathers v v k k a.gathered.items [] = record { front = []; splits = empty; written = Appends-nil v; same = refl } in
-    finishes v k text (prints.goes_on v k [] (subst (λ b. PrintedIf b v v k k a.gathered.items []) (sym going) gathers))
+pub nothing : {S : Type 0} (written : S → Option (List ℕ)) (faults : S → ℕ) (p : Printer) (s : S) → Prints written faults p s p s []
+nothing written faults p s = record { goes_on = λ old before done h. subst (λ text. Printed old before text p (written s) (faults s)) (sym (append-nil done)) h }

@@ -1,8 +1,8 @@
 -- Lists of texts, a number at a time.
-use Rattle.std.proofs.Common.{◌≡◌, ◌≢◌, ℕ, zero, suc, ◌+◌, ◌/◌, ◌%◌, ◌<◌, true, List, [], ◌∷◌, ◌++◌, length, map, take, drop, replicate, refl, ap, ◌∙◌, arith, append-nil, Option, ℤ}
+use Rattle.std.proofs.Common.{◌≡◌, ◌≢◌, ℕ, zero, suc, ◌+◌, ◌/◌, ◌%◌, ◌<◌, true, List, [], ◌∷◌, ◌++◌, length, map, take, drop, replicate, refl, sym, ap, ◌∙◌, arith, append-nil, Option, None, Some, ℤ}
 use Rattle.std.proofs.Common.{ne_eqb}
 use Rattle.std.proofs.lemmas.Bool.{cond-true, cond-false}
-use Rattle.std.specs.Prelude.{◌==◌, codes, slice_index_or}
+use Rattle.std.specs.Prelude.{◌==◌, codes, slice_index_or, is_none, option_map}
 use Rattle.std.specs.List.{flat_map, range_with_len}
 use Rattle.std.proofs.Math.Seq.{take-add}
 use Rattle.std.proofs.lemmas.Grind.{flat_map-append, replicate_next}
@@ -10,11 +10,13 @@ use Rattle.std.proofs.lemmas.List.FromFn.{map-range_with_len_more, length-map-ra
 use Rattle.hex.specs.Hex.{encode_with, encode_lower, lower_digits}
 use Rattle.node_grid.specs.NodeSet.{ids_below}
 use Rattle.run_print.specs.Text.{joined, separator_at, vote_item, votes_text}
+use Rattle.slot_plan.specs.Ticks.{on_time}
+use Rattle.fault_classes.specs.Change.{Change}
 use Rattle.fault_classes.specs.Line.{effect_at}
 use Rattle.fault_classes.specs.Plan.{Plan}
 use Rattle.fault_link.specs.Arrival.{delivered_of}
 use Rattle.cluster_step.specs.Record.{PeriodView, frame_at}
-use Rattle.run_print.specs.TraceText.{bytes_text, frame_text, link_text}
+use Rattle.run_print.specs.TraceText.{bytes_text, arrival_text, frame_text, link_text}
 use Rattle.run_print.proofs.Joining.{joined-push}
 
 range_next : (a n k : ℕ) → a + n ≡ k → range_with_len a (n + 1) ≡ range_with_len a n ++ k ∷ []
@@ -69,3 +71,15 @@ link_some plan t slot from to h = cond-false (to == from) _ _ (ne_eqb to from h)
 
 pub link_none : (plan : Plan) (t : PeriodView) (slot from to : ℕ) → to ≡ from → link_text plan t slot from to ≡ []
 link_none plan t slot from to h = let same : (to == from) ≡ true = grind (arith, h) in cond-true (to == from) _ _ same
+
+-- and what they are where no fault line touches the frame
+pub link_untouched : (plan : Plan) (t : PeriodView) (slot from to : ℕ) → to ≢ from → effect_at plan.lines t.period slot from to ≡ None
+    → link_text plan t slot from to ≡ arrival_text t.period slot from to on_time ++ bytes_text (frame_at t slot from) ++ codes "\n"
+link_untouched plan t slot from to h untouched =
+    link_some plan t slot from to h
+    ∙ ap (λ (e : Option Change). flat_map (frame_text t.period slot from to) (delivered_of e (frame_at t slot from))) untouched
+    ∙ append-nil (frame_text t.period slot from to (on_time, frame_at t slot from))
+
+pub no_effect : {X Y : Type 0} (f : X → Y) (found : Option X) (e : Option Y) → is_none found ≡ true → option_map f found ≡ e → e ≡ None
+no_effect f None e h k = sym k
+no_effect f (Some x) e h k = cc

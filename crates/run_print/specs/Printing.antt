@@ -25,10 +25,16 @@ PrintedIf true old now before count gathered text = Fails old now before count t
 abbrev pub Printed : Option (List ℕ) → ℕ → List ℕ → Printer → Option (List ℕ) → ℕ → Type 0
 Printed old before text printer now count = PrintedIf printer.failed old now before count printer.gathered.items text
 
--- whatever was printed before, the text is printed after it
-pub record Prints (p : Printer) (w : Option (List ℕ)) (f : ℕ) (p' : Printer) (w' : Option (List ℕ)) (f' : ℕ) (text : List ℕ) : Type 0 where
-  pub goes_on : (old : Option (List ℕ)) (before : ℕ) (done : List ℕ) → Printed old before done p w f → Printed old before (done ++ text) p' w' f'
+-- Whatever was printed before, the text is printed after it: from a printer and a sink to what they are then. What was written to a sink,
+-- and how often it failed, is as its kind of sinks tells it.
+pub record Prints {S : Type 0} (written : S → Option (List ℕ)) (faults : S → ℕ) (p : Printer) (s : S) (p' : Printer) (s' : S) (text : List ℕ) : Type 0 where
+  pub goes_on : (old : Option (List ℕ)) (before : ℕ) (done : List ℕ) → Printed old before done p (written s) (faults s) → Printed old before (done ++ text) p' (written s') (faults s')
 
 -- all that was printed is written, and the count of faults stayed; or a prefix of it, and the count rose
-abbrev pub Finishes : {T E : Type 0} → Printer → Option (List ℕ) → ℕ → Option (List ℕ) → ℕ → Result T E → Type 0
-Finishes p w f w' f' result = (old : Option (List ℕ)) (before : ℕ) (done : List ℕ) → Printed old before done p w f → Writes old w' before f' done result
+abbrev pub Finishes : {S T E : Type 0} → (S → Option (List ℕ)) → (S → ℕ) → Printer → S → S → Result T E → Type 0
+Finishes written faults p s s' result =
+    (old : Option (List ℕ)) (before : ℕ) (done : List ℕ) → Printed old before done p (written s) (faults s) → Writes old (written s') before (faults s') done result
+
+-- the text was written to a sink, and its count of faults stayed; or a prefix of it, and the count rose
+abbrev pub WritesText : {S T E : Type 0} → (S → Option (List ℕ)) → (S → ℕ) → S → S → List ℕ → Result T E → Type 0
+WritesText written faults s s' text result = Writes (written s) (written s') (faults s) (faults s') text result

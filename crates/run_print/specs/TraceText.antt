@@ -16,11 +16,15 @@ abbrev pub bytes_text : List ℕ → List ℕ
 bytes_text [] = codes "-"
 bytes_text (b ∷ bs) = encode_lower (b ∷ bs)
 
--- the line of one frame that arrives, with its tick and bytes
-abbrev pub frame_text : ℕ → ℕ → ℕ → ℕ → ℕ × List ℕ → List ℕ
-frame_text period slot from to d =
+-- the front of the line of a frame that arrives, with its tick
+abbrev pub arrival_text : ℕ → ℕ → ℕ → ℕ → ℕ → List ℕ
+arrival_text period slot from to tick =
     codes "frame " ++ decimal period ++ codes " " ++ decimal slot ++ codes " " ++ decimal from ++ codes " " ++ decimal to
-    ++ codes " " ++ decimal d.0 ++ codes " " ++ bytes_text d.1 ++ codes "\n"
+    ++ codes " " ++ decimal tick ++ codes " "
+
+-- the line, with its bytes
+abbrev pub frame_text : ℕ → ℕ → ℕ → ℕ → ℕ × List ℕ → List ℕ
+frame_text period slot from to d = arrival_text period slot from to d.0 ++ bytes_text d.1 ++ codes "\n"
 
 -- what arrives of a sender's frame at one receiver, which isn't the sender
 abbrev pub link_text : Plan → PeriodView → ℕ → ℕ → ℕ → List ℕ

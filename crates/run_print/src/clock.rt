@@ -48,10 +48,10 @@ impl Printer {
     /// Prints how far the least and the greatest number of a sound node are apart.
     fn spread<K: Sink>(&mut self, sink: &mut K, classes: &[Class], numbers: &[i64])
         requires { length classes.now ≡ length numbers.now }
-        ensures { Prints self.old (K.written sink.old) (K.faults sink.old) self.new (K.written sink.new) (K.faults sink.new) (spread_text (range_of (sound_numbers classes.now numbers.now))) }
+        ensures { Prints K.written K.faults self.old sink.old self.new sink.new (spread_text (range_of (sound_numbers classes.now numbers.now))) }
     {
         match sound_range(classes, numbers) {
-            None => self.text(sink, b"-"),
+            None => self.byte(sink, b'-'),
             Some((least, greatest)) => self.number(sink, greatest.abs_diff(least)),
         }
     }
@@ -65,20 +65,20 @@ impl Printer {
         offset: &[i64; N],
     )
         requires { nodes ≤ N }
-        ensures { Prints self.old (K.written sink.old) (K.faults sink.old) self.new (K.written sink.new) (K.faults sink.new) (clock_line nodes classes.now offset.now) }
+        ensures { Prints K.written K.faults self.old sink.old self.new sink.new (clock_line nodes classes.now offset.now) }
     {
         let offsets = &offset[..nodes as usize];
         self.text(sink, b"clock skew ");
         self.spread(sink, &classes[..nodes as usize], offsets);
         self.text(sink, b" offsets ");
         self.signed_numbers(sink, offsets);
-        self.text(sink, b"\n");
+        self.byte(sink, b'\n');
     }
 
     /// Prints the line of a period's clocks, where it has some.
     pub(crate) fn clock<K: Sink, const N: usize>(&mut self, sink: &mut K, shown: &PeriodRecord<N>)
         requires { shown.now.nodes ≤ N }
-        ensures { Prints self.old (K.written sink.old) (K.faults sink.old) self.new (K.written sink.new) (K.faults sink.new) (clock_text shown.now shown.now.clock) }
+        ensures { Prints K.written K.faults self.old sink.old self.new sink.new (clock_text shown.now shown.now.clock) }
     {
         if let Some(clock) = &shown.clock {
             self.clock_line(sink, shown.nodes, &shown.classes, &clock.offset);

@@ -1,8 +1,7 @@
 //! The printed lines of one node in a period.
 ghost use Rattle.std.specs.Prelude.{◌≡◌, ◌≤◌, codes};
 ghost use Rattle.node_grid.specs.Capacity.{IsCapacity};
-ghost use Rattle.span_io.specs.Causes.{Writes};
-ghost use Rattle.run_print.specs.Printing.{Prints};
+ghost use Rattle.run_print.specs.Printing.{Prints, WritesText};
 ghost use Rattle.run_print.specs.Text.{mode_text};
 ghost use Rattle.run_print.specs.NodeText.{left_text, state_text, settled_text, node_text};
 ghost use Rattle.run_print.specs.PeriodText.{alone_text};
@@ -24,7 +23,7 @@ impl Printer {
         left: &Left<N>,
     )
         requires { nodes ≤ N }
-        ensures { Prints self.old (K.written sink.old) (K.faults sink.old) self.new (K.written sink.new) (K.faults sink.new) (left_text nodes retire left.now.times) }
+        ensures { Prints K.written K.faults self.old sink.old self.new sink.new (left_text nodes retire left.now.times) }
     {
         if retire != 0 {
             self.text(sink, b" left ");
@@ -42,7 +41,7 @@ impl Printer {
     )
         requires capacity { IsCapacity N }
         requires nodes { nodes ≤ N }
-        ensures { Prints self.old (K.written sink.old) (K.faults sink.old) self.new (K.written sink.new) (K.faults sink.new) (state_text nodes retire agreed.now) }
+        ensures { Prints K.written K.faults self.old sink.old self.new sink.new (state_text nodes retire agreed.now) }
     {
         let counts = &agreed.counts;
         self.text(sink, b" members ");
@@ -60,7 +59,7 @@ impl Printer {
     fn settled<K: Sink, const N: usize>(&mut self, sink: &mut K, nodes: u8, shown: &NodeRecord<N>)
         requires capacity { IsCapacity N }
         requires nodes { nodes ≤ N }
-        ensures { Prints self.old (K.written sink.old) (K.faults sink.old) self.new (K.written sink.new) (K.faults sink.new) (settled_text nodes shown.now) }
+        ensures { Prints K.written K.faults self.old sink.old self.new sink.new (settled_text nodes shown.now) }
     {
         self.text(sink, b"\n  done ");
         self.done(sink, &shown.done, &shown.members);
@@ -68,7 +67,7 @@ impl Printer {
         self.rows(sink, nodes, &shown.rows, &shown.members);
         self.text(sink, b"\n  votes ");
         self.votes(sink, &shown.votes, shown.due.as_slice());
-        self.text(sink, b"\n");
+        self.byte(sink, b'\n');
     }
 
     /// Prints all lines of node `i`, whose class is told by a letter.
@@ -83,13 +82,13 @@ impl Printer {
     )
         requires capacity { IsCapacity N }
         requires nodes { nodes ≤ N }
-        ensures { Prints self.old (K.written sink.old) (K.faults sink.old) self.new (K.written sink.new) (K.faults sink.new) (node_text nodes retire i letter.now shown.now) }
+        ensures { Prints K.written K.faults self.old sink.old self.new sink.new (node_text nodes retire i letter.now shown.now) }
     {
         self.text(sink, b"node ");
         self.number(sink, i as u64);
-        self.text(sink, b" ");
+        self.byte(sink, b' ');
         self.text(sink, letter);
-        self.text(sink, b" ");
+        self.byte(sink, b' ');
         match &shown.agreed {
             None => self.text(sink, b"cold\n"),
             Some(agreed) => {
@@ -117,12 +116,12 @@ pub fn write_alone<const N: usize, K: Sink>(
 ) -> Result<(), WriteFault>
     requires capacity { IsCapacity N }
     requires nodes { nodes ≤ N }
-    ensures { Writes (K.written sink.old) (K.written sink.new) (K.faults sink.old) (K.faults sink.new) (alone_text period id nodes retire shown.now) result }
+    ensures { WritesText K.written K.faults sink.old sink.new (alone_text period id nodes retire shown.now) result }
 {
     let mut printer = Printer::new();
     printer.text(sink, b"period ");
     printer.number(sink, period as u64);
-    printer.text(sink, b"\n");
+    printer.byte(sink, b'\n');
     printer.node(sink, nodes, retire, id, b"-", shown);
     printer.finish(sink)
 }

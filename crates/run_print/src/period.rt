@@ -1,8 +1,7 @@
 //! The printed lines of a period, of the end of a run, and of a refusal.
 ghost use Rattle.std.specs.Prelude.{◌≡◌, ◌≤◌, ◌<◌, true, slice_get};
 ghost use Rattle.node_grid.specs.Capacity.{IsCapacity};
-ghost use Rattle.span_io.specs.Causes.{Writes};
-ghost use Rattle.run_print.specs.Printing.{Prints};
+ghost use Rattle.run_print.specs.Printing.{Prints, WritesText};
 ghost use Rattle.run_print.specs.Text.{class_text};
 ghost use Rattle.run_print.specs.TraceText.{IsPlanOf, period_text};
 ghost use Rattle.run_print.specs.PeriodText.{budget_text, head_text, recorded_text, nodes_text, end_text, refused_text};
@@ -17,7 +16,7 @@ use span_io::Sink;
 impl Printer {
     /// Prints the members of a period by class.
     fn budget<K: Sink>(&mut self, sink: &mut K, budget: &Budget)
-        ensures { Prints self.old (K.written sink.old) (K.faults sink.old) self.new (K.written sink.new) (K.faults sink.new) (budget_text budget.now) }
+        ensures { Prints K.written K.faults self.old sink.old self.new sink.new (budget_text budget.now) }
     {
         self.text(sink, b" n ");
         self.number(sink, budget.n as u64);
@@ -31,7 +30,7 @@ impl Printer {
 
     /// Prints the period line.
     fn head<K: Sink, const N: usize>(&mut self, sink: &mut K, shown: &PeriodRecord<N>)
-        ensures { Prints self.old (K.written sink.old) (K.faults sink.old) self.new (K.written sink.new) (K.faults sink.new) (head_text shown.now) }
+        ensures { Prints K.written K.faults self.old sink.old self.new sink.new (head_text shown.now) }
     {
         self.text(sink, b"period ");
         self.number(sink, shown.period as u64);
@@ -42,7 +41,7 @@ impl Printer {
         self.yes_no(sink, shown.within);
         self.text(sink, b" claim ");
         self.yes_no(sink, shown.claim);
-        self.text(sink, b"\n");
+        self.byte(sink, b'\n');
     }
 
     /// Prints the lines of node `i`.
@@ -50,7 +49,7 @@ impl Printer {
         requires capacity { IsCapacity N }
         requires nodes { shown.now.nodes ≤ N }
         requires node { i < shown.now.nodes }
-        ensures { Prints self.old (K.written sink.old) (K.faults sink.old) self.new (K.written sink.new) (K.faults sink.new) (recorded_text shown.now i (slice_get shown.now.records i)) }
+        ensures { Prints K.written K.faults self.old sink.old self.new sink.new (recorded_text shown.now i (slice_get shown.now.records i)) }
     {
         let letter = letter(shown.classes[i as usize]);
         self.node(sink, shown.nodes, shown.retire, i, letter, shown.node(i));
@@ -60,7 +59,7 @@ impl Printer {
     fn nodes<K: Sink, const N: usize>(&mut self, sink: &mut K, shown: &PeriodRecord<N>)
         requires capacity { IsCapacity N }
         requires nodes { shown.now.nodes ≤ N }
-        ensures { Prints self.old (K.written sink.old) (K.faults sink.old) self.new (K.written sink.new) (K.faults sink.new) (nodes_text shown.now) }
+        ensures { Prints K.written K.faults self.old sink.old self.new sink.new (nodes_text shown.now) }
     {
         // naming a field tells the checker the types of all of them
         let _ = &shown.classes;
@@ -91,7 +90,7 @@ pub fn write_head<const N: usize, K: Sink>(
     shown: &PeriodRecord<N>,
     sink: &mut K,
 ) -> Result<(), WriteFault>
-    ensures { Writes (K.written sink.old) (K.written sink.new) (K.faults sink.old) (K.faults sink.new) (head_text shown.now) result }
+    ensures { WritesText K.written K.faults sink.old sink.new (head_text shown.now) result }
 {
     let mut printer = Printer::new();
     printer.head(sink, shown);
@@ -115,7 +114,7 @@ pub fn write_period<const N: usize, K: Sink>(
     requires capacity { IsCapacity N }
     requires nodes { shown.now.nodes ≤ N }
     requires planned { trace ≡ true → IsPlanOf plan.now shown.now }
-    ensures { Writes (K.written sink.old) (K.written sink.new) (K.faults sink.old) (K.faults sink.new) (period_text plan.now trace shown.now) result }
+    ensures { WritesText K.written K.faults sink.old sink.new (period_text plan.now trace shown.now) result }
 {
     let mut printer = Printer::new();
     printer.head(sink, shown);
@@ -130,12 +129,12 @@ pub fn write_period<const N: usize, K: Sink>(
 /// # Errors
 /// `WriteFault` comes only where the sink's count of faults rose. A prefix of the line was written then.
 pub fn write_end<K: Sink>(periods: u32, sink: &mut K) -> Result<(), WriteFault>
-    ensures { Writes (K.written sink.old) (K.written sink.new) (K.faults sink.old) (K.faults sink.new) (end_text periods) result }
+    ensures { WritesText K.written K.faults sink.old sink.new (end_text periods) result }
 {
     let mut printer = Printer::new();
     printer.text(sink, b"end ");
     printer.number(sink, periods as u64);
-    printer.text(sink, b"\n");
+    printer.byte(sink, b'\n');
     printer.finish(sink)
 }
 
@@ -144,13 +143,13 @@ pub fn write_end<K: Sink>(periods: u32, sink: &mut K) -> Result<(), WriteFault>
 /// # Errors
 /// `WriteFault` comes only where the sink's count of faults rose. A prefix of the line was written then.
 pub fn write_refused<K: Sink>(rule: u8, place: u32, sink: &mut K) -> Result<(), WriteFault>
-    ensures { Writes (K.written sink.old) (K.written sink.new) (K.faults sink.old) (K.faults sink.new) (refused_text rule place) result }
+    ensures { WritesText K.written K.faults sink.old sink.new (refused_text rule place) result }
 {
     let mut printer = Printer::new();
     printer.text(sink, b"refused ");
     printer.number(sink, rule as u64);
-    printer.text(sink, b" ");
+    printer.byte(sink, b' ');
     printer.number(sink, place as u64);
-    printer.text(sink, b"\n");
+    printer.byte(sink, b'\n');
     printer.finish(sink)
 }

@@ -1,5 +1,5 @@
 ghost use Rattle.std.specs.Fmt.{signed_decimal};
-ghost use Rattle.std.specs.Prelude.{◌≡◌, false, [], decimal};
+ghost use Rattle.std.specs.Prelude.{◌≡◌, false, [], ◌∷◌, decimal};
 ghost use Rattle.run_print.specs.Printing.{Prints, Finishes};
 
 use crate::WriteFault;
@@ -32,7 +32,7 @@ impl Printer {
 
     /// Prints a piece of text.
     pub(crate) fn text<K: Sink>(&mut self, sink: &mut K, bytes: &[u8])
-        ensures { Prints self.old (K.written sink.old) (K.faults sink.old) self.new (K.written sink.new) (K.faults sink.new) bytes.now }
+        ensures { Prints K.written K.faults self.old sink.old self.new sink.new bytes.now }
     {
         if self.gathered.try_extend_from_slice(bytes).is_err() {
             self.flush(sink);
@@ -40,38 +40,46 @@ impl Printer {
         }
     }
 
+    /// Prints one byte.
+    pub(crate) fn byte<K: Sink>(&mut self, sink: &mut K, byte: u8)
+        ensures { Prints K.written K.faults self.old sink.old self.new sink.new (byte ∷ []) }
+    {
+        if self.gathered.try_push(byte).is_err() {
+            self.text(sink, &[byte]);
+        }
+    }
+
     /// Prints a number in decimal.
     pub(crate) fn number<K: Sink>(&mut self, sink: &mut K, n: u64)
-        ensures { Prints self.old (K.written sink.old) (K.faults sink.old) self.new (K.written sink.new) (K.faults sink.new) (decimal n) }
+        ensures { Prints K.written K.faults self.old sink.old self.new sink.new (decimal n) }
     {
+        if n < 10 {
+            self.byte(sink, b'0' + n as u8);
+            return;
+        }
         let mut buffer = Buffer::new();
         self.text(sink, buffer.format(n).as_bytes());
     }
 
     /// Prints a number with a sign in decimal.
     pub(crate) fn signed<K: Sink>(&mut self, sink: &mut K, n: i64)
-        ensures { Prints self.old (K.written sink.old) (K.faults sink.old) self.new (K.written sink.new) (K.faults sink.new) (signed_decimal n) }
+        ensures { Prints K.written K.faults self.old sink.old self.new sink.new (signed_decimal n) }
     {
         let mut buffer = Buffer::new();
         self.text(sink, buffer.format(n).as_bytes());
     }
 
     /// Writes what is gathered, and tells whether the whole text reached the sink.
-    pub(crate) fn finish<K: Sink>(self, sink: &mut K) -> Result<(), WriteFault>
-        ensures { Finishes self (K.written sink.old) (K.faults sink.old) (K.written sink.new) (K.faults sink.new) result }
+    pub(crate) fn finish<K: Sink>(&mut self, sink: &mut K) -> Result<(), WriteFault>
+        ensures { Finishes K.written K.faults self.old sink.old sink.new result }
     {
-        let mut printer = self;
-        printer.flush(sink);
-        if printer.failed {
-            Err(WriteFault)
-        } else {
-            Ok(())
-        }
+        self.flush(sink);
+        if self.failed { Err(WriteFault) } else { Ok(()) }
     }
 
     /// Writes what is gathered.
     fn flush<K: Sink>(&mut self, sink: &mut K)
-        ensures prints { Prints self.old (K.written sink.old) (K.faults sink.old) self.new (K.written sink.new) (K.faults sink.new) [] }
+        ensures prints { Prints K.written K.faults self.old sink.old self.new sink.new [] }
         ensures empty { self.new.gathered.items ≡ [] }
     {
         if !self.failed {
@@ -83,7 +91,7 @@ impl Printer {
     /// Prints a piece where nothing is gathered.
     fn text_first<K: Sink>(&mut self, sink: &mut K, bytes: &[u8])
         requires { self.old.gathered.items ≡ [] }
-        ensures { Prints self.old (K.written sink.old) (K.faults sink.old) self.new (K.written sink.new) (K.faults sink.new) bytes.now }
+        ensures { Prints K.written K.faults self.old sink.old self.new sink.new bytes.now }
     {
         let Err(_) = self.gathered.try_extend_from_slice(bytes) else {
             return;

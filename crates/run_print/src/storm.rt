@@ -1,7 +1,6 @@
 //! The printed summary of a storm.
 ghost use Rattle.std.specs.Prelude.{◌≡◌, ◌≤◌};
-ghost use Rattle.span_io.specs.Causes.{Writes};
-ghost use Rattle.run_print.specs.Printing.{Prints};
+ghost use Rattle.run_print.specs.Printing.{Prints, WritesText};
 ghost use Rattle.run_print.specs.StormText.{sums_text, outcome_text, storm_text};
 
 use crate::WriteFault;
@@ -47,7 +46,7 @@ impl<const N: usize> Model for StormSum<N> {
 impl Printer {
     /// Prints the first lines of a summary: its number, periods, lines and restarts, exclusions and readmissions.
     fn sums<K: Sink, const N: usize>(&mut self, sink: &mut K, sum: &StormSum<N>)
-        ensures { Prints self.old (K.written sink.old) (K.faults sink.old) self.new (K.written sink.new) (K.faults sink.new) (sums_text sum.now) }
+        ensures { Prints K.written K.faults self.old sink.old self.new sink.new (sums_text sum.now) }
     {
         self.text(sink, b"storm ");
         self.number(sink, sum.seed);
@@ -68,7 +67,7 @@ impl Printer {
     /// Prints the last lines of a summary: members and counts, and the end.
     fn outcome<K: Sink, const N: usize>(&mut self, sink: &mut K, sum: &StormSum<N>)
         requires { sum.now.nodes ≤ N }
-        ensures { Prints self.old (K.written sink.old) (K.faults sink.old) self.new (K.written sink.new) (K.faults sink.new) (outcome_text sum.now) }
+        ensures { Prints K.written K.faults self.old sink.old self.new sink.new (outcome_text sum.now) }
     {
         self.text(sink, b"\nmembers ");
         self.set(sink, &sum.members);
@@ -76,7 +75,7 @@ impl Printer {
         self.numbers(sink, &sum.counts.counts[..sum.nodes as usize]);
         self.text(sink, b"\nend ");
         self.number(sink, sum.periods as u64);
-        self.text(sink, b"\n");
+        self.byte(sink, b'\n');
     }
 }
 
@@ -89,7 +88,7 @@ pub fn write_storm<const N: usize, K: Sink>(
     sink: &mut K,
 ) -> Result<(), WriteFault>
     requires { sum.now.nodes ≤ N }
-    ensures { Writes (K.written sink.old) (K.written sink.new) (K.faults sink.old) (K.faults sink.new) (storm_text sum.now) result }
+    ensures { WritesText K.written K.faults sink.old sink.new (storm_text sum.now) result }
 {
     let mut printer = Printer::new();
     printer.sums(sink, sum);

@@ -37,45 +37,45 @@ fn vote_of(votes: &[Option<i64>; 8], channel: u8) -> Option<i64>
 
 impl Printer {
     /// Prints the separator before the item at place `k`.
-    fn separator<K: Sink>(&mut self, sink: &mut K, k: usize, separator: &[u8])
-        ensures { Prints self.old (K.written sink.old) (K.faults sink.old) self.new (K.written sink.new) (K.faults sink.new) (separator_at separator.now k) }
+    fn separator<K: Sink>(&mut self, sink: &mut K, k: usize, separator: u8)
+        ensures { Prints K.written K.faults self.old sink.old self.new sink.new (separator_at (separator ∷ []) k) }
     {
         if k > 0 {
-            self.text(sink, separator);
+            self.byte(sink, separator);
         }
     }
 
     /// Prints numbers, joined by commas.
     pub(crate) fn numbers<K: Sink>(&mut self, sink: &mut K, numbers: &[u16])
-        ensures { Prints self.old (K.written sink.old) (K.faults sink.old) self.new (K.written sink.new) (K.faults sink.new) (numbers_text numbers.now) }
+        ensures { Prints K.written K.faults self.old sink.old self.new sink.new (numbers_text numbers.now) }
     {
         for (k, n) in numbers.iter().enumerate() {
-            self.separator(sink, k, b",");
+            self.separator(sink, k, b',');
             self.number(sink, *n as u64);
         }
     }
 
     /// Prints numbers with signs, joined by commas.
     pub(crate) fn signed_numbers<K: Sink>(&mut self, sink: &mut K, numbers: &[i64])
-        ensures { Prints self.old (K.written sink.old) (K.faults sink.old) self.new (K.written sink.new) (K.faults sink.new) (signed_text numbers.now) }
+        ensures { Prints K.written K.faults self.old sink.old self.new sink.new (signed_text numbers.now) }
     {
         for (k, n) in numbers.iter().enumerate() {
-            self.separator(sink, k, b",");
+            self.separator(sink, k, b',');
             self.signed(sink, *n);
         }
     }
 
     /// Prints a set of nodes.
     pub(crate) fn set<K: Sink, const N: usize>(&mut self, sink: &mut K, set: &NodeSet<N>)
-        ensures { Prints self.old (K.written sink.old) (K.faults sink.old) self.new (K.written sink.new) (K.faults sink.new) (set_text set.now) }
+        ensures { Prints K.written K.faults self.old sink.old self.new sink.new (set_text set.now) }
     {
         if set.is_empty() {
-            self.text(sink, b"-");
+            self.byte(sink, b'-');
             return;
         }
         let mut printed: usize = 0;
         for node in set.iter() {
-            self.separator(sink, printed, b",");
+            self.separator(sink, printed, b',');
             self.number(sink, node as u64);
             printed += 1;
         }
@@ -83,7 +83,7 @@ impl Printer {
 
     /// Prints `yes` or `no`.
     pub(crate) fn yes_no<K: Sink>(&mut self, sink: &mut K, yes: bool)
-        ensures { Prints self.old (K.written sink.old) (K.faults sink.old) self.new (K.written sink.new) (K.faults sink.new) (yes_no yes) }
+        ensures { Prints K.written K.faults self.old sink.old self.new sink.new (yes_no yes) }
     {
         if yes {
             self.text(sink, b"yes");
@@ -94,7 +94,7 @@ impl Printer {
 
     /// Prints how a node goes through a period.
     pub(crate) fn mode<K: Sink>(&mut self, sink: &mut K, mode: Mode)
-        ensures { Prints self.old (K.written sink.old) (K.faults sink.old) self.new (K.written sink.new) (K.faults sink.new) (mode_text (mode_of mode)) }
+        ensures { Prints K.written K.faults self.old sink.old self.new sink.new (mode_text (mode_of mode)) }
     {
         match mode {
             Mode::Full => self.text(sink, b"full"),
@@ -105,11 +105,11 @@ impl Printer {
 
     /// Prints the task that a node runs.
     fn run<K: Sink>(&mut self, sink: &mut K, run: Option<(u8, u16)>)
-        ensures { Prints self.old (K.written sink.old) (K.faults sink.old) self.new (K.written sink.new) (K.faults sink.new) (run_text run) }
+        ensures { Prints K.written K.faults self.old sink.old self.new sink.new (run_text run) }
     {
         match run {
             Some((task, _)) => self.number(sink, task as u64),
-            None => self.text(sink, b"-"),
+            None => self.byte(sink, b'-'),
         }
     }
 
@@ -122,55 +122,55 @@ impl Printer {
     )
         requires capacity { IsCapacity N }
         requires nodes { nodes ≤ N }
-        ensures { Prints self.old (K.written sink.old) (K.faults sink.old) self.new (K.written sink.new) (K.faults sink.new) (runs_text nodes copies.now) }
+        ensures { Prints K.written K.faults self.old sink.old self.new sink.new (runs_text nodes copies.now) }
     {
         for node in 0..nodes {
-            self.separator(sink, node as usize, b",");
+            self.separator(sink, node as usize, b',');
             self.run(sink, copies.running(node));
         }
     }
 
     /// Prints a vote.
     fn vote<K: Sink>(&mut self, sink: &mut K, vote: Option<i64>)
-        ensures { Prints self.old (K.written sink.old) (K.faults sink.old) self.new (K.written sink.new) (K.faults sink.new) (vote_text vote) }
+        ensures { Prints K.written K.faults self.old sink.old self.new sink.new (vote_text vote) }
     {
         match vote {
             Some(value) => self.signed(sink, value),
-            None => self.text(sink, b"-"),
+            None => self.byte(sink, b'-'),
         }
     }
 
     /// Prints a channel with its vote.
     fn vote_item<K: Sink>(&mut self, sink: &mut K, votes: &[Option<i64>; 8], channel: u8)
-        ensures { Prints self.old (K.written sink.old) (K.faults sink.old) self.new (K.written sink.new) (K.faults sink.new) (vote_item votes.now channel) }
+        ensures { Prints K.written K.faults self.old sink.old self.new sink.new (vote_item votes.now channel) }
     {
         self.number(sink, channel as u64);
-        self.text(sink, b"=");
+        self.byte(sink, b'=');
         self.vote(sink, vote_of(votes, channel));
     }
 
     /// Prints the votes on the due channels.
     pub(crate) fn votes<K: Sink>(&mut self, sink: &mut K, votes: &[Option<i64>; 8], due: &[u8])
-        ensures { Prints self.old (K.written sink.old) (K.faults sink.old) self.new (K.written sink.new) (K.faults sink.new) (votes_text votes.now due.now) }
+        ensures { Prints K.written K.faults self.old sink.old self.new sink.new (votes_text votes.now due.now) }
     {
         if due.is_empty() {
-            self.text(sink, b"-");
+            self.byte(sink, b'-');
             return;
         }
         for (k, channel) in due.iter().enumerate() {
-            self.separator(sink, k, b" ");
+            self.separator(sink, k, b' ');
             self.vote_item(sink, votes, *channel);
         }
     }
 
     /// Prints a settled claim.
     fn claim<K: Sink>(&mut self, sink: &mut K, claim: Wrapped<u8>)
-        ensures { Prints self.old (K.written sink.old) (K.faults sink.old) self.new (K.written sink.new) (K.faults sink.new) (claim_text claim) }
+        ensures { Prints K.written K.faults self.old sink.old self.new sink.new (claim_text claim) }
     {
         match claim {
-            Wrapped::Plain(NO_CLAIM) => self.text(sink, b"-"),
+            Wrapped::Plain(NO_CLAIM) => self.byte(sink, b'-'),
             Wrapped::Plain(task) => self.number(sink, task as u64),
-            Wrapped::Fault(_) => self.text(sink, b"E"),
+            Wrapped::Fault(_) => self.byte(sink, b'E'),
         }
     }
 
@@ -181,10 +181,10 @@ impl Printer {
         done: &[Wrapped<u8>; N],
         member: u8,
     )
-        ensures { Prints self.old (K.written sink.old) (K.faults sink.old) self.new (K.written sink.new) (K.faults sink.new) (done_item done.now member) }
+        ensures { Prints K.written K.faults self.old sink.old self.new sink.new (done_item done.now member) }
     {
         self.number(sink, member as u64);
-        self.text(sink, b"=");
+        self.byte(sink, b'=');
         self.claim(sink, claim_of(done, member));
     }
 
@@ -195,11 +195,11 @@ impl Printer {
         done: &[Wrapped<u8>; N],
         members: &NodeSet<N>,
     )
-        ensures { Prints self.old (K.written sink.old) (K.faults sink.old) self.new (K.written sink.new) (K.faults sink.new) (joined (codes " ") (map (done_item done.now) members.now)) }
+        ensures { Prints K.written K.faults self.old sink.old self.new sink.new (joined (codes " ") (map (done_item done.now) members.now)) }
     {
         let mut printed: usize = 0;
         for member in members.iter() {
-            self.separator(sink, printed, b" ");
+            self.separator(sink, printed, b' ');
             self.done_item(sink, done, member);
             printed += 1;
         }
@@ -215,13 +215,13 @@ impl Printer {
     )
         requires capacity { IsCapacity N }
         requires nodes { nodes ≤ N }
-        ensures { Prints self.old (K.written sink.old) (K.faults sink.old) self.new (K.written sink.new) (K.faults sink.new) (rows_item nodes rows.now member) }
+        ensures { Prints K.written K.faults self.old sink.old self.new sink.new (rows_item nodes rows.now member) }
     {
         self.number(sink, member as u64);
-        self.text(sink, b"=");
+        self.byte(sink, b'=');
         match rows.get(member) {
             Some(row) => self.numbers(sink, &row.masks[..nodes as usize]),
-            None => self.text(sink, b"E"),
+            None => self.byte(sink, b'E'),
         }
     }
 
@@ -235,11 +235,11 @@ impl Printer {
     )
         requires capacity { IsCapacity N }
         requires nodes { nodes ≤ N }
-        ensures { Prints self.old (K.written sink.old) (K.faults sink.old) self.new (K.written sink.new) (K.faults sink.new) (joined (codes " ") (map (rows_item nodes rows.now) members.now)) }
+        ensures { Prints K.written K.faults self.old sink.old self.new sink.new (joined (codes " ") (map (rows_item nodes rows.now) members.now)) }
     {
         let mut printed: usize = 0;
         for member in members.iter() {
-            self.separator(sink, printed, b" ");
+            self.separator(sink, printed, b' ');
             self.rows_item(sink, nodes, rows, member);
             printed += 1;
         }

@@ -1,26 +1,30 @@
 //! The printed frames of a period.
-ghost use Rattle.std.specs.Prelude.{◌≡◌, true, [], if◌then◌else◌, ◌≢◌, ◌+◌, ◌*◌, ◌≤◌, ◌<◌, length, replicate};
+ghost use Rattle.std.specs.Prelude.{◌≡◌, true, [], ◌++◌, if◌then◌else◌, ◌≢◌, ◌+◌, ◌*◌, ◌≤◌, ◌<◌, codes, length, replicate};
 ghost use Rattle.std.specs.List.{flat_map};
 ghost use Rattle.hex.specs.Hex.{encode_lower};
 ghost use Rattle.slot_plan.specs.Slots.{slot_count};
+ghost use Rattle.slot_plan.specs.Ticks.{on_time};
 ghost use Rattle.fault_classes.specs.Line.{effect_at};
 ghost use Rattle.fault_link.specs.Arrival.{delivered_of};
 ghost use Rattle.cluster_step.specs.Record.{frame_at};
 ghost use Rattle.run_print.specs.Printing.{Prints};
-ghost use Rattle.run_print.specs.TraceText.{IsPlanOf, bytes_text, frame_text, link_text, sender_text, slot_text, frames_text};
+ghost use Rattle.run_print.specs.TraceText.{IsPlanOf, bytes_text, arrival_text, frame_text, link_text, sender_text, slot_text, frames_text};
 
 use crate::printer::Printer;
 use cluster_step::PeriodRecord;
 use fault_classes::FaultPlan;
 use fault_link::{Delivered, deliveries};
-use slot_plan::slot_count;
+use slot_plan::{ON_TIME, slot_count};
 use span_io::Sink;
 
 /// The greatest length of a frame: 16 nodes, three relay rounds.
 const LONGEST_FRAME: usize = 90_104;
 
-/// How many bytes are put into hexadecimal at once.
+/// How many bytes are put into hexadecimal at once, where a fault line touches a frame.
 const PIECE: usize = 512;
+
+/// Room for a frame in hexadecimal, and behind it for its bytes as a fault line changes them.
+const ROOM: usize = 3 * LONGEST_FRAME;
 
 /// Where a frame is sent.
 #[derive(Clone, Copy)]
@@ -41,11 +45,26 @@ fn slots_of<const N: usize>(plan: &FaultPlan<N>, rounds: u8) -> u8
     slot_count(rounds)
 }
 
+/// Bytes in hexadecimal, in this room; no bytes are `-`.
+fn digits_of<'a>(bytes: &[u8], room: &'a mut [u8]) -> &'a [u8]
+    requires { 2 * length bytes.now ≤ length room.old }
+    ensures { result.now ≡ bytes_text bytes.now }
+{
+    if bytes.is_empty() {
+        return b"-";
+    }
+    let digits = &mut room[..2 * bytes.len()];
+    match hex::encode_to_slice(bytes, digits) {
+        Ok(()) => digits,
+        Err(_) => unreachable!(),
+    }
+}
+
 impl Printer {
     /// Prints a few bytes in hexadecimal.
     fn piece<K: Sink>(&mut self, sink: &mut K, bytes: &[u8])
         requires { length bytes.now ≤ 512 }
-        ensures { Prints self.old (K.written sink.old) (K.faults sink.old) self.new (K.written sink.new) (K.faults sink.new) (encode_lower bytes.now) }
+        ensures { Prints K.written K.faults self.old sink.old self.new sink.new (encode_lower bytes.now) }
     {
         let mut digits = [0; 2 * PIECE];
         let room = &mut digits[..2 * bytes.len()];
@@ -57,10 +76,10 @@ impl Printer {
 
     /// Prints bytes in hexadecimal.
     fn bytes<K: Sink>(&mut self, sink: &mut K, bytes: &[u8])
-        ensures { Prints self.old (K.written sink.old) (K.faults sink.old) self.new (K.written sink.new) (K.faults sink.new) (bytes_text bytes.now) }
+        ensures { Prints K.written K.faults self.old sink.old self.new sink.new (bytes_text bytes.now) }
     {
         if bytes.is_empty() {
-            self.text(sink, b"-");
+            self.byte(sink, b'-');
             return;
         }
         let mut rest = bytes;
@@ -72,28 +91,44 @@ impl Printer {
         self.piece(sink, rest);
     }
 
-    /// Prints the line of one frame that arrives.
-    fn frame<K: Sink>(&mut self, sink: &mut K, link: Link, tick: u8, bytes: &[u8])
-        ensures { Prints self.old (K.written sink.old) (K.faults sink.old) self.new (K.written sink.new) (K.faults sink.new) (frame_text link.period link.slot link.from link.to (tick, bytes.now)) }
+    /// Prints the front of the line of a frame, up to its bytes.
+    fn arrival<K: Sink>(&mut self, sink: &mut K, link: Link, tick: u8)
+        ensures { Prints K.written K.faults self.old sink.old self.new sink.new (arrival_text link.period link.slot link.from link.to tick) }
     {
         self.text(sink, b"frame ");
         self.number(sink, link.period as u64);
-        self.text(sink, b" ");
+        self.byte(sink, b' ');
         self.number(sink, link.slot as u64);
-        self.text(sink, b" ");
+        self.byte(sink, b' ');
         self.number(sink, link.from as u64);
-        self.text(sink, b" ");
+        self.byte(sink, b' ');
         self.number(sink, link.to as u64);
-        self.text(sink, b" ");
+        self.byte(sink, b' ');
         self.number(sink, tick as u64);
-        self.text(sink, b" ");
+        self.byte(sink, b' ');
+    }
+
+    /// Prints the line of one frame that arrives as it was sent, by its bytes in hexadecimal.
+    fn untouched<K: Sink>(&mut self, sink: &mut K, link: Link, digits: &[u8])
+        ensures { Prints K.written K.faults self.old sink.old self.new sink.new (arrival_text link.period link.slot link.from link.to on_time ++ digits.now ++ codes "\n") }
+    {
+        self.arrival(sink, link, ON_TIME);
+        self.text(sink, digits);
+        self.byte(sink, b'\n');
+    }
+
+    /// Prints the line of one frame that arrives.
+    fn frame<K: Sink>(&mut self, sink: &mut K, link: Link, tick: u8, bytes: &[u8])
+        ensures { Prints K.written K.faults self.old sink.old self.new sink.new (frame_text link.period link.slot link.from link.to (tick, bytes.now)) }
+    {
+        self.arrival(sink, link, tick);
         self.bytes(sink, bytes);
-        self.text(sink, b"\n");
+        self.byte(sink, b'\n');
     }
 
     /// Prints what arrives at one receiver.
     fn copies<K: Sink>(&mut self, sink: &mut K, link: Link, delivered: &Delivered<'_>)
-        ensures { Prints self.old (K.written sink.old) (K.faults sink.old) self.new (K.written sink.new) (K.faults sink.new) (flat_map (frame_text link.period link.slot link.from link.to) (replicate delivered.now.copies (delivered.now.tick, delivered.now.bytes.now))) }
+        ensures { Prints K.written K.faults self.old sink.old self.new sink.new (flat_map (frame_text link.period link.slot link.from link.to) (replicate delivered.now.copies (delivered.now.tick, delivered.now.bytes.now))) }
     {
         for _copy in 0..delivered.copies {
             self.frame(sink, link, delivered.tick, delivered.bytes);
@@ -108,16 +143,18 @@ impl Printer {
         plan: &FaultPlan<N>,
         slot: u8,
         from: u8,
-        scratch: &mut [u8; LONGEST_FRAME],
+        room: &mut [u8; ROOM],
     )
         requires planned { IsPlanOf plan.now shown.now }
         requires slot { slot < slot_count shown.now.m }
         requires from { from < shown.now.nodes }
-        ensures { Prints self.old (K.written sink.old) (K.faults sink.old) self.new (K.written sink.new) (K.faults sink.new) (sender_text plan.now shown.now slot from) }
+        ensures { Prints K.written K.faults self.old sink.old self.new sink.new (sender_text plan.now shown.now slot from) }
     {
         // naming a field tells the checker the types of all of them
         let _ = &shown.classes;
         let sent = shown.sent(slot, from);
+        let (front, changed) = room.split_at_mut(2 * LONGEST_FRAME);
+        let digits = digits_of(sent, front);
         for to in 0..shown.nodes {
             if to != from {
                 let link = Link {
@@ -126,9 +163,13 @@ impl Printer {
                     from,
                     to,
                 };
-                let room = &mut scratch[..sent.len()];
-                let delivered = deliveries(plan, shown.period, slot, from, to, sent, room);
-                self.copies(sink, link, &delivered);
+                if plan.effect(shown.period, slot, from, to).is_none() {
+                    self.untouched(sink, link, digits);
+                } else {
+                    let scratch = &mut changed[..sent.len()];
+                    let delivered = deliveries(plan, shown.period, slot, from, to, sent, scratch);
+                    self.copies(sink, link, &delivered);
+                }
             }
         }
     }
@@ -140,16 +181,16 @@ impl Printer {
         shown: &PeriodRecord<N>,
         plan: &FaultPlan<N>,
         slot: u8,
-        scratch: &mut [u8; LONGEST_FRAME],
+        room: &mut [u8; ROOM],
     )
         requires planned { IsPlanOf plan.now shown.now }
         requires slot { slot < slot_count shown.now.m }
-        ensures { Prints self.old (K.written sink.old) (K.faults sink.old) self.new (K.written sink.new) (K.faults sink.new) (slot_text plan.now shown.now slot) }
+        ensures { Prints K.written K.faults self.old sink.old self.new sink.new (slot_text plan.now shown.now slot) }
     {
         // naming a field tells the checker the types of all of them
         let _ = &shown.classes;
         for from in 0..shown.nodes {
-            self.sender(sink, shown, plan, slot, from, scratch);
+            self.sender(sink, shown, plan, slot, from, room);
         }
     }
 
@@ -161,13 +202,13 @@ impl Printer {
         plan: &FaultPlan<N>,
     )
         requires planned { IsPlanOf plan.now shown.now }
-        ensures { Prints self.old (K.written sink.old) (K.faults sink.old) self.new (K.written sink.new) (K.faults sink.new) (frames_text plan.now shown.now) }
+        ensures { Prints K.written K.faults self.old sink.old self.new sink.new (frames_text plan.now shown.now) }
     {
         // naming a field tells the checker the types of all of them
         let _ = &shown.classes;
-        let mut scratch = [0; LONGEST_FRAME];
+        let mut room = [0; ROOM];
         for slot in 0..slots_of(plan, shown.m) {
-            self.slot(sink, shown, plan, slot, &mut scratch);
+            self.slot(sink, shown, plan, slot, &mut room);
         }
     }
 
@@ -180,7 +221,7 @@ impl Printer {
         trace: bool,
     )
         requires planned { trace ≡ true → IsPlanOf plan.now shown.now }
-        ensures { Prints self.old (K.written sink.old) (K.faults sink.old) self.new (K.written sink.new) (K.faults sink.new) (if trace then frames_text plan.now shown.now else []) }
+        ensures { Prints K.written K.faults self.old sink.old self.new sink.new (if trace then frames_text plan.now shown.now else []) }
     {
         if trace {
             self.frames(sink, shown, plan);

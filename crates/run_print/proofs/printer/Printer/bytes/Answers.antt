@@ -11,7 +11,7 @@ split_at-requires g c =
     omega (arith, ap length c.loop-piece.invariant.rest, length-drop (512 * c.loop-piece._piece) bytes, c.loop-piece-test.true)
 
 pub loop-piece-init : goal.loop-piece-init
-loop-piece-init g c = record { rest = refl; prints = rw (encode-none lower_digits) (nothing c.args.self.now (g.K.Sink.written c.args.sink.now) (g.K.Sink.faults c.args.sink.now)) }
+loop-piece-init g c = record { rest = refl; prints = rw (encode-none lower_digits) (nothing g.K.Sink.written g.K.Sink.faults c.args.self.now c.args.sink.now) }
 
 pub loop-piece-preserved : goal.loop-piece-preserved
 loop-piece-preserved g c =

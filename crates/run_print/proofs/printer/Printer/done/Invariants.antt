@@ -11,6 +11,6 @@ invariant-loop-member g l = record {
   split : l.members ≡ l.yielded ++ l.member-iterator;
   few : length l.members ≤ 16;
   place : l.printed ≡ length l.yielded;
-  prints : Prints l.initial.self (g.K.Sink.written l.initial.sink) (g.K.Sink.faults l.initial.sink) l.self (g.K.Sink.written l.sink) (g.K.Sink.faults l.sink)
+  prints : Prints g.K.Sink.written g.K.Sink.faults l.initial.self l.initial.sink l.self l.sink
       (joined (codes " ") (map (done_item l.done) l.yielded));
 }

@@ -6,5 +6,5 @@ use Rattle.run_print.proofs.printer.Printer.frames.Given as goal
 
 abbrev pub invariant-loop-slot : goal.invariant-loop-slot
 invariant-loop-slot g l =
-    Prints l.initial.self (g.K.Sink.written l.initial.sink) (g.K.Sink.faults l.initial.sink) l.self (g.K.Sink.written l.sink) (g.K.Sink.faults l.sink)
+    Prints g.K.Sink.written g.K.Sink.faults l.initial.self l.initial.sink l.self l.sink
     (flat_map (slot_text l.plan l.shown) (ids_below l.slot))

@@ -7,5 +7,5 @@ use Rattle.run_print.proofs.printer.Printer.nodes.Given as goal
 
 abbrev pub invariant-loop-i : goal.invariant-loop-i
 invariant-loop-i g l =
-    Prints l.initial.self (g.K.Sink.written l.initial.sink) (g.K.Sink.faults l.initial.sink) l.self (g.K.Sink.written l.sink) (g.K.Sink.faults l.sink)
+    Prints g.K.Sink.written g.K.Sink.faults l.initial.self l.initial.sink l.self l.sink
     (flat_map (λ i. recorded_text l.shown i (slice_get l.shown.records i)) (ids_below l.i))

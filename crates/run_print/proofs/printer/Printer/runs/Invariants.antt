@@ -8,5 +8,5 @@ use Rattle.run_print.proofs.printer.Printer.runs.Given as goal
 
 abbrev pub invariant-loop-node : goal.invariant-loop-node
 invariant-loop-node g l =
-    Prints l.initial.self (g.K.Sink.written l.initial.sink) (g.K.Sink.faults l.initial.sink) l.self (g.K.Sink.written l.sink) (g.K.Sink.faults l.sink)
+    Prints g.K.Sink.written g.K.Sink.faults l.initial.self l.initial.sink l.self l.sink
     (joined (codes ",") (map (λ q. run_text (works l.copies q)) (ids_below l.node)))

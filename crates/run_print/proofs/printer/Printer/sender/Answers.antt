@@ -1,11 +1,13 @@
-use Rattle.std.proofs.Common.{◌≡◌, ap, append-nil}
+use Rattle.std.proofs.Common.{◌≡◌, None, not, ap, ◌∙◌, append-nil}
 use Rattle.std.specs.List.{flat_map}
 use Rattle.node_grid.specs.NodeSet.{ids_below}
+use Rattle.fault_classes.specs.Change.{change_of}
+use Rattle.fault_classes.specs.Line.{effect_at}
 use Rattle.run_print.specs.TraceText.{link_text}
 use Rattle.run_print.proofs.Joining.{then}
-use Rattle.run_print.proofs.Lists.{flat_next, link_some, link_none}
+use Rattle.run_print.proofs.Lists.{flat_next, link_some, link_none, link_untouched, no_effect}
 use Rattle.run_print.proofs.printer.Printer.sender.Goals as goal
-use Rattle.run_print.proofs.printer.Printer.sender.Goals.{then-to-from, else-to-from}
+use Rattle.run_print.proofs.printer.Printer.sender.Goals.{then-to-from+then-is_none, then-to-from+else-is_none, else-to-from}
 
 pub loop-to-preserved : goal.loop-to-preserved
 loop-to-preserved g c =
@@ -16,7 +18,12 @@ loop-to-preserved g c =
     let to = c.loop-to.to in
     let period : c.shown.inside.period ≡ shown.period = ap (λ v. v.period) c.shown.view_is in
     elim c.if-to-from.branch [
-      | then-to-from w ↦
+      | then-to-from+then-is_none w ↦
+          let untouched : effect_at plan.lines c.shown.inside.period slot from to ≡ None =
+          no_effect (λ e. change_of e.now) w.effect.result (effect_at plan.lines c.shown.inside.period slot from to) (ap not (w.is_none.ensures ∙ ap not w.if-is_none.true)) w.effect.ensures in
+          rw (w.self-is, w.sink-is, flat_next (link_text plan shown slot from) to, link_untouched plan shown slot from to w.if-to-from.true (rw period at untouched))
+          (then c.loop-to.invariant (rw (c.digits_of-digits.ensures, c.sent-sent.ensures.bytes, period) at w.untouched.ensures))
+      | then-to-from+else-is_none w ↦
           rw (w.self-is, w.sink-is, flat_next (link_text plan shown slot from) to, link_some plan shown slot from to w.if-to-from.true)
           (then c.loop-to.invariant (rw (w.deliveries-delivered.ensures, c.sent-sent.ensures.bytes, period) at w.copies.ensures))
       | else-to-from w ↦

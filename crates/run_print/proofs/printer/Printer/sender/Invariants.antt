@@ -6,5 +6,5 @@ use Rattle.run_print.proofs.printer.Printer.sender.Given as goal
 
 abbrev pub invariant-loop-to : goal.invariant-loop-to
 invariant-loop-to g l =
-    Prints l.initial.self (g.K.Sink.written l.initial.sink) (g.K.Sink.faults l.initial.sink) l.self (g.K.Sink.written l.sink) (g.K.Sink.faults l.sink)
+    Prints g.K.Sink.written g.K.Sink.faults l.initial.self l.initial.sink l.self l.sink
     (flat_map (link_text l.plan l.shown l.slot l.from) (ids_below l.to))

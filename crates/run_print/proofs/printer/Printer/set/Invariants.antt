@@ -11,6 +11,6 @@ invariant-loop-node g l = record {
   split : l.set ≡ l.yielded ++ l.node-iterator;
   few : length l.set ≤ 16;
   place : l.printed ≡ length l.yielded;
-  prints : Prints l.initial.self (g.K.Sink.written l.initial.sink) (g.K.Sink.faults l.initial.sink) l.self (g.K.Sink.written l.sink) (g.K.Sink.faults l.sink)
+  prints : Prints g.K.Sink.written g.K.Sink.faults l.initial.self l.initial.sink l.self l.sink
       (joined (codes ",") (map decimal l.yielded));
 }

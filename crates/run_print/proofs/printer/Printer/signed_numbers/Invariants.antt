@@ -7,5 +7,5 @@ use Rattle.run_print.proofs.printer.Printer.signed_numbers.Given as goal
 
 abbrev pub invariant-loop-k : goal.invariant-loop-k
 invariant-loop-k g l =
-    Prints l.initial.self (g.K.Sink.written l.initial.sink) (g.K.Sink.faults l.initial.sink) l.self (g.K.Sink.written l.sink) (g.K.Sink.faults l.sink)
+    Prints g.K.Sink.written g.K.Sink.faults l.initial.self l.initial.sink l.self l.sink
     (joined (codes ",") (map signed_decimal (take l.k l.numbers)))

@@ -6,5 +6,5 @@ use Rattle.run_print.proofs.printer.Printer.slot.Given as goal
 
 abbrev pub invariant-loop-from : goal.invariant-loop-from
 invariant-loop-from g l =
-    Prints l.initial.self (g.K.Sink.written l.initial.sink) (g.K.Sink.faults l.initial.sink) l.self (g.K.Sink.written l.sink) (g.K.Sink.faults l.sink)
+    Prints g.K.Sink.written g.K.Sink.faults l.initial.self l.initial.sink l.self l.sink
     (flat_map (sender_text l.plan l.shown l.slot) (ids_below l.from))
