@@ -24,7 +24,7 @@ use heard::Heard;
 use node_grid::{NodeSet, Row};
 use omh_paths::Wrapped;
 pub(crate) use opening::filled;
-use relaying::is_guessed;
+use relaying::{Runs, Sent, is_guessed};
 use slot_plan::Slot;
 use std::marker::Model;
 
@@ -80,6 +80,8 @@ pub struct Controller<'c, const N: usize> {
     rows: Heard<Row<N>, N>,
     found: Findings<N>,
     watch: SlotWatch<N>,
+    // What is known of the runs of what is guessed in the open slot.
+    runs: Option<Runs>,
     outcome: NodeRecord<N>,
     buffers: Buffers<N>,
 }
@@ -121,16 +123,16 @@ impl<'c, const N: usize> Controller<'c, N> {
     }
 
     /// A frame arrives in the open slot. Of one that is as guessed nothing but its tick is kept.
-    pub fn deliver(&mut self, from: u8, tick: u8, bytes: &[u8])
+    pub fn deliver(&mut self, from: u8, tick: u8, sent: &Sent<'_>)
         requires open { self.old.arrived.is_open ≡ true }
         requires node { from < self.old.config.nodes }
         requires other { from ≢ self.old.phase.me }
-        ensures { self.new ≡ given_frame self.old from tick bytes.now }
+        ensures { self.new ≡ given_frame self.old from tick sent.now }
     {
-        if is_guessed(&self.watch, from, bytes) {
+        if is_guessed(&self.watch, &self.runs, from, sent) {
             self.watch.deliver_same(from, tick);
         } else {
-            self.watch.deliver(from, tick, bytes);
+            self.watch.deliver(from, tick, sent.bytes());
         }
     }
 

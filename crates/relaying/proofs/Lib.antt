@@ -13,3 +13,4 @@ pub mod Blocks
 pub mod Convicting
 pub mod Bodies
 pub mod Framing
+pub mod RunParts

@@ -9,3 +9,4 @@ pub mod Table
 pub mod Round
 pub mod Comparing
 pub mod Guessed
+pub mod Runs

@@ -14,8 +14,11 @@ ghost use Rattle.error_detect.specs.Guessing.{is_guessed_of, IsGuessable};
 ghost use Rattle.error_detect.specs.Inside.{said_as};
 ghost use Rattle.error_detect.specs.Watching.{guesses_at, frame_at};
 ghost use Rattle.relaying.specs.Comparing.{marks, IsOver, IsOdd, HasEntries};
+ghost use Rattle.relaying.specs.Runs.{IsKnown};
 
 use crate::item::Item;
+use crate::runs::{Runs, find_runs};
+use crate::sent::{Entries, Sent};
 use error_detect::{Form, SlotWatch};
 use frames::{Expect, HEADER, Head, header};
 use node_grid::{NodeSet, Row};
@@ -198,9 +201,62 @@ fn relay_round<const N: usize>(expect: &Expect<N>) -> Option<u8>
     Some(round)
 }
 
+/// The runs of the table that is guessed in the open slot, where it is runs, one for each member.
+pub(crate) fn guessed_runs<const N: usize>(watch: &SlotWatch<N>) -> Option<Runs>
+    ensures { IsKnown watch.now result }
+{
+    let expect = watch.expect()?;
+    let (form, guess) = watch.guessed()?;
+    let width = match form {
+        Form::State => return None,
+        Form::Claims => <u8 as Item<N>>::entry_width(expect.nodes),
+        Form::Rows => <Row<N> as Item<N>>::entry_width(expect.nodes),
+    };
+    let round = relay_round(expect)?;
+    find_runs(guess, width, expect.members.len(), round - 1)
+}
+
+/// Whether a body and a table of entries of the paths of `r` nodes of a set are known to be runs,
+/// one for each node that may be first on a path, and the first entries of the body's runs are
+/// those of the table's, without the sender's.
+fn has_same_runs<const N: usize>(
+    body: &Entries<'_>,
+    table: &Entries<'_>,
+    cut: Cut,
+    set: &NodeSet<N>,
+    r: u8,
+) -> bool
+    requires capacity { IsCapacity N }
+    requires some { 0 < r }
+    requires few { r ≤ 3 }
+    requires sender { has_id set.now cut.sender ≡ true }
+    ensures { result ≡ true → body.now ≡
+        pieces_without cut.width cut.sender (paths_of_length set.now r) table.now }
+{
+    let (Some(part), Some(whole)) = (body.runs(), table.runs()) else {
+        return false;
+    };
+    let others = set.len() - 1;
+    let width = cut.width;
+    let fewer = count_paths(others.saturating_sub(1), r - 1);
+    if !part.has_shape(width, fewer, others as usize) {
+        return false;
+    }
+    let each = count_paths(others, r - 1);
+    if !whole.has_shape(width, each, others as usize + 1) {
+        return false;
+    }
+    is_without(part.firsts(), whole.firsts(), cut, set, 1)
+}
+
 /// Whether a body is what a member passes on of a table of entries of one width, where the slot is
 /// one of a relay round.
-fn is_part<const N: usize>(body: &[u8], table: &[u8], cut: Cut, expect: &Expect<N>) -> bool
+fn is_part<const N: usize>(
+    body: &Entries<'_>,
+    table: &Entries<'_>,
+    cut: Cut,
+    expect: &Expect<N>,
+) -> bool
     requires capacity { IsCapacity N }
     requires rounds { expect.now.m ≤ 3 }
     requires whole { cut.width * length (paths_of_length expect.now.members
@@ -215,15 +271,16 @@ fn is_part<const N: usize>(body: &[u8], table: &[u8], cut: Cut, expect: &Expect<
     let Some(round) = relay_round(expect) else {
         return false;
     };
-    is_without(body, table, cut, &expect.members, round)
+    has_same_runs(body, table, cut, &expect.members, round)
+        || is_without(body.bytes(), table.bytes(), cut, &expect.members, round)
 }
 
 /// Whether a body is the one that is guessed of a sender, where the guess has this form and these
 /// bytes.
 fn is_guessed_body<const N: usize>(
-    body: &[u8],
+    body: &Entries<'_>,
     form: &Form,
-    guess: &[u8],
+    guess: &Entries<'_>,
     sender: u8,
     expect: &Expect<N>,
 ) -> bool
@@ -240,7 +297,7 @@ fn is_guessed_body<const N: usize>(
         (said_by (expected expect.now) sender (said_as N expect.now.nodes form.now guess.now)) }
 {
     match form {
-        Form::State => is_same(body, guess),
+        Form::State => is_same(body.bytes(), guess.bytes()),
         Form::Claims => {
             let width = <u8 as Item<N>>::entry_width(expect.nodes);
             is_part(body, guess, Cut { sender, width }, expect)
@@ -271,11 +328,17 @@ fn is_header(front: &[u8], head: Head, kind: u8, size: usize) -> bool
     is_same(front, &header(head, kind, size as u32))
 }
 
-/// Whether a frame is the one that its sender is guessed to send in the open slot. No entry of it
-/// is read.
-pub fn is_guessed<const N: usize>(watch: &SlotWatch<N>, from: u8, bytes: &[u8]) -> bool
+/// Whether a frame is the one that its sender is guessed to send in the open slot, where that is
+/// known of the runs of what is guessed. No entry of it is read.
+pub fn is_guessed<const N: usize>(
+    watch: &SlotWatch<N>,
+    runs: &Option<Runs>,
+    from: u8,
+    sent: &Sent<'_>,
+) -> bool
+    requires known { IsKnown watch.now runs.now }
     ensures sender { result ≡ true → guesses_at watch.now from ≡ true }
-    ensures same { result ≡ true → bytes.now ≡ frame_at watch.now from }
+    ensures same { result ≡ true → sent.now ≡ frame_at watch.now from }
 {
     let Some(expect) = watch.expect() else {
         return false;
@@ -283,6 +346,7 @@ pub fn is_guessed<const N: usize>(watch: &SlotWatch<N>, from: u8, bytes: &[u8]) 
     let Some((form, guess)) = watch.guessed() else {
         return false;
     };
+    let bytes = sent.bytes();
     if bytes.len() < HEADER {
         return false;
     }
@@ -297,5 +361,7 @@ pub fn is_guessed<const N: usize>(watch: &SlotWatch<N>, from: u8, bytes: &[u8]) 
     if !is_header(front, head, guessed_kind::<N>(&form), body.len()) {
         return false;
     }
-    is_guessed_body(body, &form, guess, from, expect)
+    let body = Entries::new(body, sent.runs());
+    let table = Entries::new(guess, runs);
+    is_guessed_body(&body, &form, &table, from, expect)
 }

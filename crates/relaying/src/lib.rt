@@ -5,12 +5,16 @@
 mod comparing;
 mod hearing;
 mod item;
+mod runs;
 mod saying;
+mod sent;
 mod settling;
 mod writing;
 
 pub use comparing::is_guessed;
 pub use hearing::hear_round;
 pub use item::Item;
+pub use runs::Runs;
 pub use saying::{guess_round, say_round};
+pub use sent::Sent;
 pub use settling::{convicted, settle_claims, settle_member, settle_rows};

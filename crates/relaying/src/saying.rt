@@ -11,9 +11,12 @@ ghost use Rattle.error_detect.specs.Watching.{nothing};
 ghost use Rattle.relaying.specs.Guessed.{unguessed, IsEchoed};
 ghost use Rattle.relaying.specs.Relaying.{relays};
 ghost use Rattle.relaying.specs.Round.{IsRoundOf};
+ghost use Rattle.relaying.specs.Runs.{IsKnown};
 ghost use Rattle.relaying.specs.Table.{table};
 
+use crate::comparing::guessed_runs;
 use crate::item::Item;
+use crate::runs::Runs;
 use crate::writing::write_passed;
 use error_detect::SlotWatch;
 use frames::{Expect, HEADER, header};
@@ -21,10 +24,11 @@ use heard::Heard;
 use omh_paths::count_paths;
 
 /// Guesses that each member's frame of the open slot says what the node itself passes on, but for
-/// the paths that the member is on. `bytes` has room for an entry of each path of the members, and
-/// is left with any bytes.
+/// the paths that the member is on. `runs` is left with what is known of the runs of the guess.
+/// `bytes` has room for an entry of each path of the members, and is left with any bytes.
 pub fn guess_round<V: Item<N>, const N: usize>(
     watch: &mut SlotWatch<N>,
+    runs: &mut Option<Runs>,
     heard: &Heard<V, N>,
     round: u8,
     bytes: &mut [u8],
@@ -40,6 +44,7 @@ pub fn guess_round<V: Item<N>, const N: usize>(
     ensures kept { unguessed watch.new ≡ unguessed watch.old }
     ensures guess { (watch.new.guess ≡ watch.old.guess) ⊎
         (watch.new.guess ≡ Some (V.form.relay (table heard.now round))) }
+    ensures known { IsKnown watch.new runs.new }
     ensures echoed { watch.old.guess ≡ None → IsEchoed V.form round watch.new heard.now }
     ensures length { length bytes.new ≡ length bytes.old }
 {
@@ -47,6 +52,7 @@ pub fn guess_round<V: Item<N>, const N: usize>(
     let size = V::entry_width(heard.nodes()) * count_paths(members.len(), round);
     write_passed(heard, &members, round, bytes);
     let _had_room = watch.guess(V::guess_form(), &bytes[..size]);
+    *runs = guessed_runs(watch);
 }
 
 /// Writes what the node itself passes on in a relay round to the front of `out`, and answers how

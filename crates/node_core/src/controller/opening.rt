@@ -155,6 +155,7 @@ impl<'c, const N: usize> Controller<'c, N> {
             rows,
             found: Findings::none(notes),
             watch,
+            runs: None,
             outcome: NodeRecord::cold(),
             buffers,
         })

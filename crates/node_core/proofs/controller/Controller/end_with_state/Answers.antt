@@ -24,6 +24,18 @@ convicted-guilty-requires g c =
     let cap = c.self.invariant.place.capacity in
     (elim cap [ inl e ↦ rw e (lit< tt) | inr e ↦ rw e (lit< tt) ], (lit< tt, cap))
 
+pub convicted-guilty-requires-room-V-Item : goal.convicted-guilty-requires-room-V-Item
+convicted-guilty-requires-room-V-Item g c = λ κs. elim c.self.invariant.place.capacity [ inl e ↦ rw e (lit< tt) | inr e ↦ rw e (lit< tt) ]
+
+pub convicted-guilty-requires-room-V-Value : goal.convicted-guilty-requires-room-V-Value
+convicted-guilty-requires-room-V-Value g c = λ κs. elim c.self.invariant.place.capacity [ inl e ↦ rw e (lit< tt) | inr e ↦ rw e (lit< tt) ]
+
+pub convicted-guilty-requires-room-V-Eq : goal.convicted-guilty-requires-room-V-Eq
+convicted-guilty-requires-room-V-Eq g c = λ κs. elim c.self.invariant.place.capacity [ inl e ↦ rw e (lit< tt) | inr e ↦ rw e (lit< tt) ]
+
+pub convicted-guilty-requires-room-V-PartialEq : goal.convicted-guilty-requires-room-V-PartialEq
+convicted-guilty-requires-room-V-PartialEq g c = λ κs. elim c.self.invariant.place.capacity [ inl e ↦ rw e (lit< tt) | inr e ↦ rw e (lit< tt) ]
+
 pub step-requires : goal.step-requires
 step-requires g c =
     let n = c.self.inside in

@@ -16,6 +16,15 @@ use Rattle.node_core.specs.Inside.{seen}
 use Rattle.node_core.proofs.HeardStates.{joining_watch, states_sized, good_are, none_seen, own_state, own_seen, states_kept}
 use Rattle.node_core.proofs.controller.Controller.hear_states.Goals as goal
 
+pub close-found-requires : goal.close-found-requires
+close-found-requires g c =
+    let is = c.self.view_is in
+    let open' = (c.requires.sound.in_slot c.requires.open).watching in
+    (lit< tt, (elim c.self.invariant.place.capacity [ inl e ↦ rw e (lit< tt) | inr e ↦ rw e (lit< tt) ], ap (λ (v : NodeView g.row.N). v.arrived.is_open) is ∙ open'))
+
+pub good_senders-self-inside-requires : goal.good_senders-self-inside-requires
+good_senders-self-inside-requires g c = (elim c.self.invariant.place.capacity [ inl e ↦ rw e (lit< tt) | inr e ↦ rw e (lit< tt) ], (lit< tt, (c.self.invariant.place.capacity, c.self.invariant.place.few)))
+
 pub state_of_period-self-inside-requires : goal.state_of_period-self-inside-requires
 state_of_period-self-inside-requires g c =
     let n = c.self.inside in

@@ -24,6 +24,12 @@ use Rattle.node_core.proofs.controller.Controller.hear_values.Given as given
 use Rattle.node_core.proofs.controller.Controller.hear_values.Goals as goal
 use Rattle.node_core.proofs.controller.Controller.hear_values.Goals.{then-not-self, else-not-self}
 
+pub close-found-requires : goal.close-found-requires
+close-found-requires g c =
+    let is = c.self.view_is in
+    let open' = (c.requires.sound.in_slot c.requires.open).watching in
+    (lit< tt, (elim c.self.invariant.place.capacity [ inl e ↦ rw e (lit< tt) | inr e ↦ rw e (lit< tt) ], ap (λ (v : NodeView g.row.N). v.arrived.is_open) is ∙ open'))
+
 pub invariant_of-self : goal.invariant_of-self
 invariant_of-self g c =
     let n = c.self.inside in
@@ -37,6 +43,7 @@ invariant_of-self g c =
       notes = inv.notes;
       rooms = inv.rooms;
       guessed = λ h. absurd (not_open n.watch c.close-found.new.self shut' h);
+      runs = λ h. absurd (not_open n.watch c.close-found.new.self shut' h);
     }
 
 pub vote-voted-requires : goal.vote-voted-requires
@@ -117,6 +124,15 @@ start-requires g c =
       ),
     )
 
+pub start-requires-room-V-Value : goal.start-requires-room-V-Value
+start-requires-room-V-Value g c = λ κs. elim c.self.invariant.place.capacity [ inl e ↦ rw e (lit< tt) | inr e ↦ rw e (lit< tt) ]
+
+pub start-requires-room-V-Eq : goal.start-requires-room-V-Eq
+start-requires-room-V-Eq g c = λ κs. elim c.self.invariant.place.capacity [ inl e ↦ rw e (lit< tt) | inr e ↦ rw e (lit< tt) ]
+
+pub start-requires-room-V-PartialEq : goal.start-requires-room-V-PartialEq
+start-requires-room-V-PartialEq g c = λ κs. elim c.self.invariant.place.capacity [ inl e ↦ rw e (lit< tt) | inr e ↦ rw e (lit< tt) ]
+
 pub invariant_of-self-2 : goal.invariant_of-self-2
 invariant_of-self-2 g c =
     let n = c.self.inside in
@@ -132,6 +148,7 @@ invariant_of-self-2 g c =
       notes = subst (AreItsNotes n.config.now n.phase.me) (sym (told_is g c)) (still_notes n.config.now n.phase.me n.phase.full c.note_values.new.notes (replicate g.row.N 0) noted);
       rooms = inv.rooms;
       guessed = λ h. absurd (not_open n.watch c.close-found.new.self shut' h);
+      runs = λ h. absurd (not_open n.watch c.close-found.new.self shut' h);
     }
 
 pub returns : goal.returns

@@ -14,6 +14,11 @@ use Rattle.node_core.specs.Inside.{seen}
 use Rattle.node_core.proofs.KnownClaims.{claims_taken, guess_kept}
 use Rattle.node_core.proofs.controller.Controller.know_claims.Goals as goal
 
+pub settle_claims-claims-requires : goal.settle_claims-claims-requires
+settle_claims-claims-requires g c =
+    let cap = c.self.invariant.place.capacity in
+    (lit< tt, (elim cap [ inl e ↦ rw e (lit< tt) | inr e ↦ rw e (lit< tt) ], cap))
+
 pub preview-preview-requires : goal.preview-preview-requires
 preview-preview-requires g c =
     let n = c.self.inside in
@@ -45,6 +50,7 @@ invariant_of-self g c =
       };
       rooms = inv.rooms;
       guessed = λ h. guess_kept n.phase.slot n _ _ (c.convicted-guilty.ensures.kept ∙ c.settle_claims-claims.ensures.kept) (inv.guessed h);
+      runs = inv.runs;
     }
 
 pub returns : goal.returns

@@ -54,15 +54,15 @@ pub invariant_of-self : goal.invariant_of-self
 invariant_of-self g c =
     let n = c.self.inside in
     let slot : IsSlot n.config.now.m c.args.slot = subst (λ (u : NodeView g.row.N). IsSlot u.config.m c.args.slot) (sym c.self.view_is) c.requires.slot in
-    opened_kept n c.args.slot (expected c.expectation-expect.result) c.open_slot.new.self c.open_slot.new.self n.buffers c.open_slot.ensures refl c.self.invariant slot c.self.invariant.rooms
-    (no_guess c.args.slot (moved n c.args.slot c.open_slot.new.self n.buffers) (ap (λ (w : Watch). w.guess) c.open_slot.ensures))
+    opened_kept n c.args.slot (expected c.expectation-expect.result) c.open_slot.new.self c.open_slot.new.self n.buffers None c.open_slot.ensures refl c.self.invariant slot c.self.invariant.rooms
+    (no_guess c.args.slot (moved n c.args.slot c.open_slot.new.self n.buffers None) (ap (λ (w : Watch). w.guess) c.open_slot.ensures)) tt
 
 pub returns-then-round-eq0 : goal.returns-then-round-eq0
 returns-then-round-eq0 g c =
     let n = c.self.inside in
     let is = c.self.view_is in
     let same : expected c.expectation-expect.result ≡ expected_in (seen n) (slot_number n.config.now.m c.args.slot) = c.expectation-expect.ensures ∙ ap (λ (u : NodeView g.row.N). expected_in u (slot_number u.config.m c.args.slot)) (sym is) in
-    opened_seen n c.args.slot (expected c.expectation-expect.result) c.open_slot.new.self c.open_slot.new.self n.buffers c.open_slot.ensures refl same
+    opened_seen n c.args.slot (expected c.expectation-expect.result) c.open_slot.new.self c.open_slot.new.self n.buffers None c.open_slot.ensures refl same
     ∙ ap (λ (u : NodeView g.row.N). slot_open u (slot_number u.config.m c.args.slot)) is
 
 pub as_mut_slice-scratch-requires : goal.as_mut_slice-scratch-requires
@@ -112,8 +112,8 @@ invariant_of-self-in-Claims g c =
     let b = record n.buffers { table = with_items n.buffers.table c.guess_round.new.bytes } in
     let rooms = table_room n.config.now.nodes n.config.now.m n.buffers c.guess_round.new.bytes (c.guess_round.ensures.length ∙ ap (λ (xs : List ℕ). length xs) c.as_mut_slice-scratch.ensures.value) inv.rooms in
     let echoed = subst (λ (q : ℕ). IsEchoed claim_form q u n.done) (c.round-round.ensures ∙ ap round_of c.in-Claims.is) (c.guess_round.ensures.echoed (ap (λ (w : Watch). w.guess) k)) in
-    opened_kept n c.args.slot (expected c.expectation-expect.result) c.open_slot.new.self u b k c.guess_round.ensures.kept inv slot rooms
-    (subst (λ (x : Slot). IsGuessed x (moved n c.args.slot u b)) (sym c.in-Claims.is) (λ some. echoed))
+    opened_kept n c.args.slot (expected c.expectation-expect.result) c.open_slot.new.self u b c.guess_round.new.runs k c.guess_round.ensures.kept inv slot rooms
+    (subst (λ (x : Slot). IsGuessed x (moved n c.args.slot u b c.guess_round.new.runs)) (sym c.in-Claims.is) (λ some. echoed)) c.guess_round.ensures.known
 
 pub guess_round-requires-in-Rows-room-V-Item : goal.guess_round-requires-in-Rows-room-V-Item
 guess_round-requires-in-Rows-room-V-Item g c κs = elim c.requires.capacity [ inl e ↦ rw e (lit< tt) | inr e ↦ rw e (lit< tt) ]
@@ -172,8 +172,8 @@ invariant_of-self-in-Rows g c =
     let b = record n.buffers { table = with_items n.buffers.table c.guess_round-in-Rows.new.bytes } in
     let rooms = table_room n.config.now.nodes n.config.now.m n.buffers c.guess_round-in-Rows.new.bytes (c.guess_round-in-Rows.ensures.length ∙ ap (λ (xs : List ℕ). length xs) c.as_mut_slice-scratch.ensures.value) inv.rooms in
     let echoed = subst (λ (q : ℕ). IsEchoed row_form q u n.rows) (c.round-round.ensures ∙ ap round_of c.in-Rows.is) (c.guess_round-in-Rows.ensures.echoed (ap (λ (w : Watch). w.guess) k)) in
-    opened_kept n c.args.slot (expected c.expectation-expect.result) c.open_slot.new.self u b k c.guess_round-in-Rows.ensures.kept inv slot rooms
-    (subst (λ (x : Slot). IsGuessed x (moved n c.args.slot u b)) (sym c.in-Rows.is) (λ some. echoed))
+    opened_kept n c.args.slot (expected c.expectation-expect.result) c.open_slot.new.self u b c.guess_round-in-Rows.new.runs k c.guess_round-in-Rows.ensures.kept inv slot rooms
+    (subst (λ (x : Slot). IsGuessed x (moved n c.args.slot u b c.guess_round-in-Rows.new.runs)) (sym c.in-Rows.is) (λ some. echoed)) c.guess_round-in-Rows.ensures.known
 
 pub invariant_of-self-in-Sync : goal.invariant_of-self-in-Sync
 invariant_of-self-in-Sync g c =
@@ -183,15 +183,15 @@ invariant_of-self-in-Sync g c =
     let slot : IsSlot n.config.now.m c.args.slot = subst (λ (u : NodeView g.row.N). IsSlot u.config.m c.args.slot) (sym c.self.view_is) c.requires.slot in
     let b = record n.buffers { table = with_items n.buffers.table c.as_mut_slice-scratch.result.now } in
     let rooms = table_room n.config.now.nodes n.config.now.m n.buffers c.as_mut_slice-scratch.result.now (ap (λ (xs : List ℕ). length xs) c.as_mut_slice-scratch.ensures.value) inv.rooms in
-    opened_kept n c.args.slot (expected c.expectation-expect.result) c.open_slot.new.self c.open_slot.new.self b k refl inv slot rooms
-    (no_guess c.args.slot (moved n c.args.slot c.open_slot.new.self b) (ap (λ (w : Watch). w.guess) k))
+    opened_kept n c.args.slot (expected c.expectation-expect.result) c.open_slot.new.self c.open_slot.new.self b None k refl inv slot rooms
+    (no_guess c.args.slot (moved n c.args.slot c.open_slot.new.self b None) (ap (λ (w : Watch). w.guess) k)) tt
 
 pub returns-in-Claims : goal.returns-in-Claims
 returns-in-Claims g c =
     let n = c.self.inside in
     let is = c.self.view_is in
     let same : expected c.expectation-expect.result ≡ expected_in (seen n) (slot_number n.config.now.m c.args.slot) = c.expectation-expect.ensures ∙ ap (λ (u : NodeView g.row.N). expected_in u (slot_number u.config.m c.args.slot)) (sym is) in
-    opened_seen n c.args.slot (expected c.expectation-expect.result) c.open_slot.new.self c.guess_round.new.watch n.buffers c.open_slot.ensures c.guess_round.ensures.kept same
+    opened_seen n c.args.slot (expected c.expectation-expect.result) c.open_slot.new.self c.guess_round.new.watch n.buffers c.guess_round.new.runs c.open_slot.ensures c.guess_round.ensures.kept same
     ∙ ap (λ (u : NodeView g.row.N). slot_open u (slot_number u.config.m c.args.slot)) is
 
 pub returns-in-Rows : goal.returns-in-Rows
@@ -199,7 +199,7 @@ returns-in-Rows g c =
     let n = c.self.inside in
     let is = c.self.view_is in
     let same : expected c.expectation-expect.result ≡ expected_in (seen n) (slot_number n.config.now.m c.args.slot) = c.expectation-expect.ensures ∙ ap (λ (u : NodeView g.row.N). expected_in u (slot_number u.config.m c.args.slot)) (sym is) in
-    opened_seen n c.args.slot (expected c.expectation-expect.result) c.open_slot.new.self c.guess_round-in-Rows.new.watch n.buffers c.open_slot.ensures c.guess_round-in-Rows.ensures.kept same
+    opened_seen n c.args.slot (expected c.expectation-expect.result) c.open_slot.new.self c.guess_round-in-Rows.new.watch n.buffers c.guess_round-in-Rows.new.runs c.open_slot.ensures c.guess_round-in-Rows.ensures.kept same
     ∙ ap (λ (u : NodeView g.row.N). slot_open u (slot_number u.config.m c.args.slot)) is
 
 pub returns-in-Sync : goal.returns-in-Sync
@@ -207,5 +207,5 @@ returns-in-Sync g c =
     let n = c.self.inside in
     let is = c.self.view_is in
     let same : expected c.expectation-expect.result ≡ expected_in (seen n) (slot_number n.config.now.m c.args.slot) = c.expectation-expect.ensures ∙ ap (λ (u : NodeView g.row.N). expected_in u (slot_number u.config.m c.args.slot)) (sym is) in
-    opened_seen n c.args.slot (expected c.expectation-expect.result) c.open_slot.new.self c.open_slot.new.self n.buffers c.open_slot.ensures refl same
+    opened_seen n c.args.slot (expected c.expectation-expect.result) c.open_slot.new.self c.open_slot.new.self n.buffers None c.open_slot.ensures refl same
     ∙ ap (λ (u : NodeView g.row.N). slot_open u (slot_number u.config.m c.args.slot)) is

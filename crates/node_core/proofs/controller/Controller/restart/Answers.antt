@@ -1,7 +1,10 @@
-use Rattle.std.proofs.Common.{ap, refl, ◌∙◌}
+use Rattle.std.proofs.Common.{ap, refl, inl, inr, lit<, ◌∙◌}
 use Rattle.error_reports.specs.Notes.{Notes}
 use Rattle.node_core.proofs.Standing.{guess_forgotten}
 use Rattle.node_core.proofs.controller.Controller.restart.Goals as goal
+
+pub forget-requires : goal.forget-requires
+forget-requires g c = elim c.requires [ inl e ↦ rw e (lit< tt) | inr e ↦ rw e (lit< tt) ]
 
 pub invariant_of-self : goal.invariant_of-self
 invariant_of-self g c =
@@ -19,4 +22,5 @@ invariant_of-self g c =
       notes = inv.notes;
       rooms = inv.rooms;
       guessed = λ h. guess_forgotten c.self.inside.phase.slot c.self.inside _ refl (inv.guessed h);
+      runs = inv.runs;
     }

@@ -26,6 +26,18 @@ write-requires g c =
 pub expectation-expect-requires : goal.expectation-expect-requires
 expectation-expect-requires g c = (elim c.self.invariant.place.capacity [ inl e ↦ rw e (lit< tt) | inr e ↦ rw e (lit< tt) ], (lit< tt, (c.self.invariant.place.capacity, (c.requires.round, few_due c.args.self.now (config_ok c.self.inside c.args.self.now c.self.invariant c.self.view_is) c.requires.ready.sound.sizes))))
 
+pub say_round-requires-room-V-Item : goal.say_round-requires-room-V-Item
+say_round-requires-room-V-Item g c = λ κs. elim c.self.invariant.place.capacity [ inl e ↦ rw e (lit< tt) | inr e ↦ rw e (lit< tt) ]
+
+pub say_round-requires-room-V-Value : goal.say_round-requires-room-V-Value
+say_round-requires-room-V-Value g c = λ κs. elim c.self.invariant.place.capacity [ inl e ↦ rw e (lit< tt) | inr e ↦ rw e (lit< tt) ]
+
+pub say_round-requires-room-V-Eq : goal.say_round-requires-room-V-Eq
+say_round-requires-room-V-Eq g c = λ κs. elim c.self.invariant.place.capacity [ inl e ↦ rw e (lit< tt) | inr e ↦ rw e (lit< tt) ]
+
+pub say_round-requires-room-V-PartialEq : goal.say_round-requires-room-V-PartialEq
+say_round-requires-room-V-PartialEq g c = λ κs. elim c.self.invariant.place.capacity [ inl e ↦ rw e (lit< tt) | inr e ↦ rw e (lit< tt) ]
+
 pub say_round-requires : goal.say_round-requires
 say_round-requires g c =
     let n = c.self.inside in

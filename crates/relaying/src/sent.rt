@@ -1,0 +1,139 @@
+//! A frame as it was sent.
+
+ghost use Rattle.std.specs.Prelude.{◌≡◌, ◌≤◌, drop, IfSome};
+ghost use Rattle.relaying.specs.Runs.{AreRuns};
+
+use crate::runs::{Runs, find_runs};
+use frames::HEADER;
+use std::marker::Model;
+
+/// The bytes of a frame, and what is known of the runs of its body.
+///
+/// Whoever hands one frame to many nodes looks at it once, and each node then compares it with what
+/// it guesses by the first entry of each run.
+#[derive(Drop)]
+pub struct Sent<'a> {
+    bytes: &'a [u8],
+    runs: Option<Runs>,
+}
+
+// Clauses see the bytes.
+impl<'a> Model for Sent<'a> {
+    ghost use Rattle.std.specs.Prelude.{ℕ, List, IfSome, drop};
+    ghost use Rattle.relaying.specs.Runs.{AreRuns};
+
+    ghost Value = { List ℕ };
+
+    ghost view = { λ s. s.bytes.now };
+
+    ghost invariant = { λ s. IfSome s.runs (AreRuns (drop 14 s.bytes.now)) };
+}
+
+/// The bytes of a body, and what is known of its runs.
+#[derive(Drop)]
+pub(crate) struct Entries<'a> {
+    bytes: &'a [u8],
+    runs: &'a Option<Runs>,
+}
+
+impl<'a> Model for Entries<'a> {
+    ghost use Rattle.std.specs.Prelude.{ℕ, List, IfSome};
+    ghost use Rattle.relaying.specs.Runs.{AreRuns};
+
+    ghost Value = { List ℕ };
+
+    ghost view = { λ s. s.bytes.now };
+
+    ghost invariant = { λ s. IfSome s.runs.now (AreRuns s.bytes.now) };
+}
+
+impl<'a> Entries<'a> {
+    /// A body of which that is known.
+    pub(crate) fn new(bytes: &'a [u8], runs: &'a Option<Runs>) -> Entries<'a>
+        requires { IfSome runs.now (AreRuns bytes.now) }
+        ensures { result ≡ bytes.now }
+    {
+        Entries { bytes, runs }
+    }
+
+    /// The bytes.
+    pub(crate) fn bytes(&self) -> &[u8]
+        ensures { result.now ≡ self.now }
+    {
+        self.bytes
+    }
+
+    /// What is known of the runs.
+    pub(crate) fn runs(&self) -> Option<&Runs>
+        ensures { IfSome result (λ r. AreRuns self.now r.now) }
+    {
+        self.runs.as_ref()
+    }
+}
+
+/// The bytes of an entry of a relay frame of such a kind, where it is one.
+fn width_of(kind: u8, nodes: u8) -> Option<usize>
+    requires { nodes ≤ 16 }
+    ensures { IfSome result (λ w. w ≤ 33) }
+{
+    match kind {
+        3 => Some(2),
+        6 => Some(1 + 2 * nodes as usize),
+        _ => None,
+    }
+}
+
+/// The runs of a body, where there is a number of others and of relays of which it is a round: one
+/// run for each of the others.
+fn runs_of(body: &[u8], width: usize, nodes: u8) -> Option<Runs>
+    requires narrow { width ≤ 33 }
+    requires few { nodes ≤ 16 }
+    ensures { IfSome result (AreRuns body.now) }
+{
+    for fewer in 1..nodes {
+        let others = nodes - fewer;
+        for relays in 1..3 {
+            if let Some(runs) = find_runs(body, width, others, relays) {
+                return Some(runs);
+            }
+        }
+    }
+    None
+}
+
+impl<'a> Sent<'a> {
+    /// A frame that isn't looked at.
+    pub fn unread(bytes: &'a [u8]) -> Sent<'a>
+        ensures { result ≡ bytes.now }
+    {
+        Sent { bytes, runs: None }
+    }
+
+    /// A frame of which the runs are found, among so many nodes. The bytes may be any.
+    pub fn look(bytes: &'a [u8], nodes: u8) -> Sent<'a>
+        ensures { result ≡ bytes.now }
+    {
+        if bytes.len() < HEADER || nodes > 16 {
+            return Sent::unread(bytes);
+        }
+        let Some(width) = width_of(bytes[3], nodes) else {
+            return Sent::unread(bytes);
+        };
+        let runs = runs_of(&bytes[HEADER..], width, nodes);
+        Sent { bytes, runs }
+    }
+
+    /// The bytes.
+    pub fn bytes(&self) -> &[u8]
+        ensures { result.now ≡ self.now }
+    {
+        self.bytes
+    }
+
+    /// What is known of the runs of its body.
+    pub(crate) fn runs(&self) -> &Option<Runs>
+        ensures { IfSome result.now (AreRuns (drop 14 self.now)) }
+    {
+        &self.runs
+    }
+}
