@@ -6,7 +6,6 @@ use Rattle.slot_plan.specs.declared.slot.Slot.TheVariants.{Sync}
 use Rattle.frames.specs.Content.{Expectation, Content}
 use Rattle.frames.specs.Content.Content.{State}
 use Rattle.error_detect.specs.Watching.{Watch, opened, guessing}
-use Rattle.error_reports.specs.Notes.{Notes}
 use Rattle.agreed_state.specs.declared.config.Inputs.{Inputs}
 use Rattle.agreed_state.specs.Agreed.{AgreedView}
 use Rattle.agreed_state.specs.Body.{body}

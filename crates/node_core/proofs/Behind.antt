@@ -1,10 +1,8 @@
 -- What stands behind the view of a controller.
 use Rattle.std.specs.Prelude.{is_some}
-use Rattle.std.proofs.Common.{ℕ, ◌≡◌, ◌≤◌, ◌+◌, ◌==◌, Bool, true, false, not, Option, None, Some, refl, sym, ap, subst, ◌∙◌, lit<, inl, inr, arith, ne_eqb}
+use Rattle.std.proofs.Common.{ℕ, ◌≡◌, ◌==◌, Bool, true, false, not, Option, None, Some, refl, sym, ap, subst, ◌∙◌, ne_eqb}
 use Rattle.std.proofs.lemmas.Bool.{cond-false}
-use Rattle.node_grid.specs.Capacity.{IsCapacity}
 use Rattle.slot_plan.specs.declared.slot.Slot.{Slot}
-use Rattle.slot_plan.specs.declared.slot.Slot.TheVariants.{Sync, Claims, Data, Rows}
 use Rattle.slot_plan.specs.Slots.{slot_number, IsSlot}
 use Rattle.agreed_state.specs.Config.{IsConfig}
 use Rattle.node_steps.specs.Parts.{NodeView}

@@ -1,20 +1,18 @@
 -- A slot of claims or rows that was closed, as it is heard.
-use Rattle.std.proofs.Common.{ℕ, ◌≡◌, ◌≢◌, ◌<◌, ◌≤◌, ◌+◌, ◌-◌, ◌*◌, ◌==◌, true, false, List, length, Option, Some, refl, sym, ap, ap₂, subst, ◌∙◌, arith, eq-eqb, ne_eqb}
+use Rattle.std.proofs.Common.{ℕ, ◌≡◌, ◌≢◌, ◌<◌, ◌≤◌, ◌+◌, ◌-◌, ◌==◌, true, List, length, Some, sym, ap, ap₂, subst, ◌∙◌, arith, eq-eqb, ne_eqb}
 use Rattle.std.specs.Prelude.{IsSome, nat_le, if◌then◌else◌}
 use Rattle.std.proofs.lemmas.Bool.{cond-true, cond-false}
 use Rattle.node_grid.specs.NodeSet.{has_id}
 use Rattle.slot_plan.specs.declared.slot.Slot.{Slot}
-use Rattle.slot_plan.specs.declared.slot.Slot.TheVariants.{Sync, Claims, Data, Rows}
+use Rattle.slot_plan.specs.declared.slot.Slot.TheVariants.{Claims, Rows}
 use Rattle.slot_plan.specs.Slots.{slot_number}
 use Rattle.omh_paths.specs.Paths.{path_count}
 use Rattle.omh.specs.FlatLaws.{path_count-mono}
 use Rattle.omh.specs.Heard.{Hearing}
-use Rattle.frames.specs.Content.{Expectation}
 use Rattle.error_detect.specs.Watching.{Watch, closed, findings}
 use Rattle.error_reports.specs.Notes.{Notes, also_noted, also_carried}
 use Rattle.agreed_state.specs.Agreed.{AgreedView}
-use Rattle.protocol.specs.Arrival.{claim_form, row_form, arrived, claims_in, rows_in}
-use Rattle.protocol.specs.Configured.{setting_of}
+use Rattle.protocol.specs.Arrival.{claim_form, row_form}
 use Rattle.relaying.specs.Guessed.{unguessed, IsEchoed}
 use Rattle.relaying.specs.Hearing.{IsHeardBy, Brings, brought, after_round}
 use Rattle.noting.specs.Findings.{found_bad, bad_in}

@@ -6,7 +6,6 @@ use Rattle.node_grid.specs.CapacityLaws.{capacity-le}
 use Rattle.node_grid.specs.Kinds.{state}
 use Rattle.node_grid.specs.NodeSet.{ids_where}
 use Rattle.slot_plan.specs.declared.slot.Slot.{Slot}
-use Rattle.slot_plan.specs.declared.slot.Slot.TheVariants.{Sync}
 use Rattle.slot_plan.specs.Slots.{slot_number}
 use Rattle.omh_paths.specs.declared.wrapped.Wrapped.TheVariants.{Plain}
 use Rattle.omh.specs.Heard.{Hearing}

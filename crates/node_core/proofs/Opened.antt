@@ -1,5 +1,5 @@
 -- A controller whose next slot was opened.
-use Rattle.std.proofs.Common.{ℕ, ◌≡◌, ◌<◌, ◌≤◌, ◌+◌, ◌*◌, List, length, Some, refl, sym, ap, subst, ◌∙◌, arith, Option}
+use Rattle.std.proofs.Common.{ℕ, ◌≡◌, ◌<◌, ◌≤◌, ◌+◌, ◌*◌, length, ap, subst, ◌∙◌, arith, Option}
 use Rattle.std.proofs.Math.Nat.{mul_comm}
 use Rattle.std.proofs.lemmas.Nat.{mul-le}
 use Rattle.slot_plan.specs.declared.slot.Slot.{Slot}
@@ -9,7 +9,6 @@ use Rattle.omh.specs.FlatLaws.{path_count-mono}
 use Rattle.frames.specs.Content.{Expectation}
 use Rattle.error_detect.specs.Watching.{Watch, opened}
 use Rattle.relaying.specs.Guessed.{unguessed}
-use Rattle.node_steps.specs.Parts.{NodeView}
 use Rattle.node_steps.specs.Steps.{expected_in, slot_open}
 use Rattle.node_core.specs.declared.controller.Buffers.{Buffers}
 use Rattle.node_core.specs.declared.controller.Controller.TheInside.{Inside}

@@ -1,5 +1,5 @@
 -- The frame of a relay slot says what the node passes on of what it heard.
-use Rattle.std.proofs.Common.{ℕ, ◌≡◌, ◌<◌, ◌≤◌, ◌+◌, ◌-◌, length, sym, ap, subst, ◌∙◌, arith}
+use Rattle.std.proofs.Common.{ℕ, ◌≡◌, ◌<◌, ◌≤◌, ◌+◌, ◌-◌, sym, ap, subst, ◌∙◌, arith}
 use Rattle.frames.specs.Content.{Expectation, IsClaim, IsRow}
 use Rattle.frames.specs.Content.Content.{DoneRelay, ReportRelay}
 use Rattle.frames.specs.FrameKinds.{claim_relay_kind, row_relay_kind}

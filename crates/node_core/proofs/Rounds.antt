@@ -1,13 +1,11 @@
 -- What a controller expects in a slot has room, and a relay slot is one of a round.
-use Rattle.std.proofs.Common.{ℕ, ◌≡◌, ◌<◌, ◌≤◌, ◌+◌, ◌-◌, ◌==◌, Bool, true, false, List, [], length, Some, refl, sym, ap, subst, ◌∙◌, arith, ne_eqb}
-use Rattle.std.specs.Prelude.{if◌then◌else◌, nat_le}
-use Rattle.std.proofs.lemmas.Bool.{cond-true, cond-false}
+use Rattle.std.proofs.Common.{ℕ, ◌≡◌, ◌<◌, ◌≤◌, ◌+◌, ◌==◌, Bool, true, false, List, [], length, Some, refl, sym, ap, ◌∙◌, arith, ne_eqb}
+use Rattle.std.specs.Prelude.{if◌then◌else◌}
+use Rattle.std.proofs.lemmas.Bool.{cond-false}
 use Rattle.std.proofs.lemmas.Bool.Decides.{nat_tests}
-use Rattle.node_grid.specs.Capacity.{IsCapacity}
 use Rattle.node_grid.specs.NodeSet.{IsIdSet}
-use Rattle.omh.specs.Heard.{Hearing}
 use Rattle.frames.specs.Bound.{IsGreatest}
-use Rattle.frames.specs.Content.{Expectation, kind_in, round_in, IsClaim, IsRow}
+use Rattle.frames.specs.Content.{kind_in, round_in, IsClaim, IsRow}
 use Rattle.frames.specs.FrameKinds.{claim_relay_kind, row_relay_kind}
 use Rattle.error_detect.specs.Watching.{HasRoom}
 use Rattle.agreed_state.specs.declared.config.Config.{Config}

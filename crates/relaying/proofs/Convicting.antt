@@ -1,5 +1,5 @@
 -- Whom a node convicts.
-use Rattle.std.proofs.Common.{ℕ, zero, suc, ◌+◌, ◌≤◌, ◌≡◌, ◌≢◌, ◌==◌, ◌&&◌, Bool, true, false, not, List, [], refl, sym, ap, ◌∙◌, inl, inr, arith, eq-eqb}
+use Rattle.std.proofs.Common.{ℕ, zero, suc, ◌+◌, ◌≡◌, ◌≢◌, ◌==◌, ◌&&◌, Bool, true, false, not, [], refl, sym, ap, ◌∙◌, inl, inr, arith, eq-eqb}
 use Rattle.std.proofs.lemmas.Bool.{cases_Bool, both_ways}
 use Rattle.node_grid.specs.NodeSet.{has_id, without_id, ids_where, ids_where_below}
 use Rattle.node_grid.specs.NodeSetLaws.{has-without_id, ids_where_none, ids_where_all, ids_where_more_no}

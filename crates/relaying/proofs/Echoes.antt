@@ -1,11 +1,10 @@
 -- A guess that is the table of the round is what the node passes on.
-use Rattle.std.proofs.Common.{ℕ, zero, suc, ◌≡◌, ◌<◌, ◌⊎◌, Bool, true, false, List, map, take, Option, Some, None, ap, sym, subst, ◌∙◌, inl, inr, arith}
+use Rattle.std.proofs.Common.{ℕ, zero, suc, ◌≡◌, ◌<◌, ◌⊎◌, Bool, true, false, List, map, Option, Some, None, ap, sym, subst, ◌∙◌, inl, inr, arith}
 use Rattle.std.proofs.lemmas.Bool.{cases_Bool}
-use Rattle.node_grid.specs.NodeSet.{has_id, without_id}
+use Rattle.node_grid.specs.NodeSet.{without_id}
 use Rattle.omh_paths.specs.declared.wrapped.Wrapped.{Wrapped}
-use Rattle.omh_paths.specs.Wrapped.{wrapped}
 use Rattle.omh_paths.specs.Paths.{paths_of_length}
-use Rattle.omh.specs.Heard.{Hearing, heard_in}
+use Rattle.omh.specs.Heard.{Hearing}
 use Rattle.frames.specs.Content.{Expectation, Content, round_in}
 use Rattle.error_detect.specs.Watching.{Watch, guessing}
 use Rattle.protocol.specs.Arrival.{Form}

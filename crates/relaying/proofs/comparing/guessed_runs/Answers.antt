@@ -1,4 +1,4 @@
-use Rattle.std.proofs.Common.{◌≤◌, arith}
+use Rattle.std.proofs.Common.{arith}
 use Rattle.omh_paths.specs.MemberLaws.{few_ids}
 use Rattle.relaying.proofs.comparing.guessed_runs.Goals as goal
 

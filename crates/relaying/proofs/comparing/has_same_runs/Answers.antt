@@ -1,6 +1,5 @@
-use Rattle.std.proofs.Common.{ℕ, ◌≡◌, ◌<◌, ◌≤◌, ◌-◌, ◌+◌, ◌*◌, List, length, sym, ap, ◌∙◌, arith, lit<}
+use Rattle.std.proofs.Common.{ℕ, ◌≡◌, ◌<◌, ◌-◌, ◌*◌, List, length, sym, ap, ◌∙◌, arith, lit<}
 use Rattle.node_grid.specs.ListLaws.{has_some}
-use Rattle.node_grid.specs.Count.{Distinct}
 use Rattle.omh_paths.specs.Paths.{paths_of_length, path_count}
 use Rattle.omh_paths.specs.PathLists.{length-paths}
 use Rattle.omh_paths.specs.MemberLaws.{few_ids, Distinct-ids}

@@ -1,12 +1,9 @@
-use Rattle.std.proofs.Common.{◌≡◌, ◌<◌, ◌≤◌, ◌^◌, ℕ, List, length, Some, sym, ap, subst, ◌∙◌, arith}
-use Rattle.std.specs.Prelude.{Option, option_map}
-use Rattle.frames.specs.Content.{Expectation, Content}
+use Rattle.std.proofs.Common.{◌<◌, ◌^◌, ℕ, length, sym, ap, arith}
+use Rattle.frames.specs.Content.{Content}
 use Rattle.frames.specs.Seen.{expected}
 use Rattle.frames.specs.Spelling.{body_spelling}
-use Rattle.error_detect.specs.Guessing.{IsGuessable}
 use Rattle.error_detect.specs.Inside.{said_as}
-use Rattle.error_detect.specs.Watching.{guesses}
-use Rattle.relaying.proofs.Bodies.{guess_short, guessed_frame}
+use Rattle.relaying.proofs.Bodies.{guess_short}
 use Rattle.relaying.proofs.comparing.is_guessed.Goals as goal
 
 pub is_header-requires : goal.is_header-requires

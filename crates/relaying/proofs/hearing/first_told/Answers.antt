@@ -1,4 +1,4 @@
-use Rattle.std.proofs.Common.{◌≡◌, sym, ap, subst, ◌∙◌, None, true}
+use Rattle.std.proofs.Common.{◌≡◌, ap, subst, ◌∙◌, None, true}
 use Rattle.std.specs.Prelude.{option_map, IfSome}
 use Rattle.frames.specs.Seen.{content}
 use Rattle.error_detect.specs.Watching.{told_at, said_at, guesses_at}

@@ -1,5 +1,4 @@
-use Rattle.std.proofs.Common.{ℕ, ◌≡◌, ◌≢◌, ◌<◌, ◌∷◌, [], true, None, map, sym, ap, subst, ◌∙◌, arith}
-use Rattle.node_grid.specs.NodeSet.{has_id}
+use Rattle.std.proofs.Common.{ℕ, ◌<◌, ◌∷◌, [], None, map, sym, ap, subst, ◌∙◌, arith}
 use Rattle.omh_paths.specs.declared.wrapped.Wrapped.{Wrapped}
 use Rattle.omh.specs.Heard.{with_heard}
 use Rattle.heard.specs.Keep.{IsSmall}

@@ -1,6 +1,5 @@
-use Rattle.std.proofs.Common.{ℕ, List, ◌≡◌, ◌<◌, sym, ap, subst, ◌∙◌, None, true, arith}
+use Rattle.std.proofs.Common.{ℕ, List, ◌≡◌, sym, ap, subst, ◌∙◌, None, true, arith}
 use Rattle.std.specs.Prelude.{option_map, IfSome}
-use Rattle.node_grid.specs.NodeSet.{has_id}
 use Rattle.node_grid.specs.Count.{Distinct}
 use Rattle.omh_paths.specs.declared.wrapped.Wrapped.{Wrapped}
 use Rattle.omh_paths.specs.MemberLaws.{Distinct-ids}

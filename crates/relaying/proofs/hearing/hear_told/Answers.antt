@@ -1,4 +1,4 @@
-use Rattle.std.proofs.Common.{ℕ, List, ◌≡◌, ◌≤◌, ◌-◌, true, length, sym, ap, subst, ◌∙◌, None, arith}
+use Rattle.std.proofs.Common.{ℕ, List, ◌≡◌, ◌-◌, length, sym, ap, subst, ◌∙◌, None, arith}
 use Rattle.std.specs.Prelude.{option_map, IfSome}
 use Rattle.omh_paths.specs.declared.wrapped.Wrapped.{Wrapped}
 use Rattle.omh.specs.Heard.{Hearing}

@@ -1,4 +1,4 @@
-use Rattle.std.proofs.Common.{◌≤◌, arith}
+use Rattle.std.proofs.Common.{arith}
 use Rattle.omh_paths.specs.MemberLaws.{path_count-few}
 use Rattle.relaying.proofs.runs.find_runs.Goals as goal
 

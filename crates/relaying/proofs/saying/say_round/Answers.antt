@@ -1,4 +1,4 @@
-use Rattle.std.proofs.Common.{ℕ, List, ◌≡◌, ap, ap₂, ◌∙◌}
+use Rattle.std.proofs.Common.{ℕ, List, ap, ap₂, ◌∙◌}
 use Rattle.std.specs.List.{flat_map}
 use Rattle.frames.specs.Seen.{expected}
 use Rattle.frames.specs.Spelling.{header_spelling, head_of}

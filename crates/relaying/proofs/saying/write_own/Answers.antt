@@ -1,4 +1,4 @@
-use Rattle.std.proofs.Common.{ℕ, List, [], ◌≡◌, ◌≤◌, ◌*◌, false, length, sym, ap, subst, ◌∙◌, arith}
+use Rattle.std.proofs.Common.{ℕ, List, ◌≡◌, ◌≤◌, ◌*◌, false, length, sym, ap, subst, ◌∙◌, arith}
 use Rattle.std.specs.List.{flat_map}
 use Rattle.node_grid.specs.NodeSet.{has_id}
 use Rattle.node_grid.specs.CapacityLaws.{capacity-le}

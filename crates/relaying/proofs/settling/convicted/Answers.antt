@@ -1,4 +1,4 @@
-use Rattle.std.proofs.Common.{ℕ, ◌≡◌, ◌==◌, ◌&&◌, Bool, not, refl, sym, ap, ◌∙◌, arith}
+use Rattle.std.proofs.Common.{ℕ, ◌≡◌, ◌==◌, ◌&&◌, not, refl, sym, ap, ◌∙◌, arith}
 use Rattle.node_grid.specs.NodeSet.{with_id}
 use Rattle.node_grid.specs.NodeSetLaws.{ids_where_none, ids_where_all, ids_where_more_yes, ids_where_more_no}
 use Rattle.omh.specs.Heard.{Hearing, ear_of}

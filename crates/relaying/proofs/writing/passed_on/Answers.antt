@@ -1,9 +1,9 @@
-use Rattle.std.proofs.Common.{ℕ, ◌≡◌, ◌<◌, ◌+◌, List, length, take, refl, sym, ap, ap₂, subst, ◌∷◌, ◌++◌, [], ◌∙◌, arith, true, false}
+use Rattle.std.proofs.Common.{ℕ, ◌≡◌, ◌<◌, ◌+◌, List, length, take, sym, ap, ap₂, subst, ◌∷◌, ◌++◌, [], ◌∙◌, arith, false}
 use Rattle.std.proofs.lemmas.List.{take_all, take_more, length-take-le}
 use Rattle.node_grid.specs.NodeSet.{has_id}
 use Rattle.heard.specs.Keep.{IsSmall}
 use Rattle.relaying.specs.Table.{own_told, passed}
-use Rattle.relaying.proofs.Tables.{passed_clear, front_short, small_passed, not_full, has_take, next_new, one_front, passed_more}
+use Rattle.relaying.proofs.Tables.{passed_clear, front_short, small_passed, not_full, next_new, one_front, passed_more}
 use Rattle.relaying.proofs.writing.passed_on.Goals as goal
 
 pub returns-then-not-has : goal.returns-then-not-has

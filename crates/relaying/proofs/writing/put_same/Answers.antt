@@ -1,4 +1,4 @@
-use Rattle.std.proofs.Common.{ℕ, ◌≡◌, ◌≤◌, ◌+◌, ◌*◌, arith}
+use Rattle.std.proofs.Common.{◌≤◌, arith}
 use Rattle.node_grid.specs.CapacityLaws.{capacity-le}
 use Rattle.relaying.proofs.writing.put_same.Goals as goal
 

@@ -1,9 +1,6 @@
-use Rattle.std.proofs.Common.{ℕ, ◌≡◌, ◌≤◌, ◌+◌, sym, ap, subst, ◌∙◌, arith}
-use Rattle.omh_paths.specs.declared.wrapped.Wrapped.{Wrapped}
-use Rattle.omh_paths.specs.declared.wrapped.Wrapped.TheVariants.{Fault}
+use Rattle.std.proofs.Common.{◌≤◌, sym, ap, subst, ◌∙◌, arith}
 use Rattle.heard.specs.Keep.{wrapped_times, IsSmall}
 use Rattle.heard.specs.Places.{wrapped_plain, wrapped_fault}
-use Rattle.relaying.specs.Table.{own_told, root_of}
 use Rattle.relaying.proofs.Blocks.{root_other, root_own}
 use Rattle.relaying.proofs.writing.root_passed.Goals as goal
 

@@ -3,7 +3,7 @@ use Rattle.std.specs.List.{flat_map}
 use Rattle.std.proofs.lemmas.List.{take_all}
 use Rattle.node_grid.specs.Count.{Distinct}
 use Rattle.omh_paths.specs.declared.wrapped.Wrapped.TheVariants.{Fault}
-use Rattle.omh_paths.specs.Paths.{paths_of_length, path_at, path_count}
+use Rattle.omh_paths.specs.Paths.{paths_of_length, path_count}
 use Rattle.omh_paths.specs.PathLists.{length-paths}
 use Rattle.omh_paths.specs.MemberLaws.{few_ids, Distinct-ids}
 use Rattle.frames.specs.Writing.{pasted}

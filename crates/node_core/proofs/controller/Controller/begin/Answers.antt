@@ -1,4 +1,4 @@
-use Rattle.std.proofs.Common.{ℕ, ◌≡◌, ◌≤◌, ◌+◌, ◌^◌, List, [], length, Option, None, Some, Bool, true, false, arith, refl, inl, inr, lit<, sym, ap, ap₂, subst, ◌∙◌}
+use Rattle.std.proofs.Common.{ℕ, ◌≡◌, List, length, Option, Bool, true, arith, refl, inl, inr, lit<, sym, ap, ap₂, subst, ◌∙◌}
 use mathlib.Core.List.{not-mem-nil}
 use Rattle.std.specs.Prelude.{IfSome, is_some, replicate}
 use Rattle.node_grid.specs.NodeSet.{IsIdSet}

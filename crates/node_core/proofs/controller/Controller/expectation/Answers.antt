@@ -1,4 +1,4 @@
-use Rattle.std.proofs.Common.{ℕ, ◌≡◌, ◌≤◌, ◌+◌, List, length, arith, inl, inr, lit<, sym, ap, ap₂, subst, ◌∙◌}
+use Rattle.std.proofs.Common.{ℕ, ◌≡◌, ◌≤◌, List, length, arith, inl, inr, lit<, sym, ap, ap₂, subst, ◌∙◌}
 use Rattle.slot_plan.specs.Slots.{slot_number, IsSlot}
 use Rattle.agreed_state.specs.Expecting.{expectation}
 use Rattle.protocol.specs.Run.{members_in}

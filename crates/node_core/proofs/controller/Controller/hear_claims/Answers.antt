@@ -1,19 +1,18 @@
-use Rattle.std.proofs.Common.{◌≡◌, ◌-◌, ◌≢◌, ◌≤◌, ◌<◌, ◌+◌, ℕ, List, length, Option, true, inl, inr, lit<, arith, sym, ap, subst, ◌∙◌}
+use Rattle.std.proofs.Common.{◌≡◌, ◌-◌, ◌≤◌, ◌+◌, ℕ, List, length, Option, true, inl, inr, lit<, arith, sym, ap, subst, ◌∙◌}
 use Rattle.std.specs.Prelude.{IfSome}
 use mathlib.Core.List.{not-mem-nil}
-use Rattle.slot_plan.specs.declared.slot.Slot.TheVariants.{Claims}
 use Rattle.omh.specs.Heard.{Hearing}
 use Rattle.omh_paths.specs.Paths.{path_count}
 use Rattle.error_detect.specs.declared.finding.Finding.{Finding}
 use Rattle.error_detect.specs.Watching.{Watch}
 use Rattle.error_reports.specs.Notes.{Notes, also_noted}
-use Rattle.agreed_state.specs.Agreed.{AgreedView, IsAgreed}
+use Rattle.agreed_state.specs.Agreed.{AgreedView}
 use Rattle.relaying.specs.Guessed.{unguessed}
 use Rattle.noting.specs.Findings.{found_bad}
 use Rattle.node_steps.specs.Parts.{NodeView}
 use Rattle.node_steps.specs.PremiseLaws.{done_hears}
 use Rattle.node_steps.specs.Sound.{IsSound, Hears}
-use Rattle.node_steps.specs.Steps.{shut, taken, claims_known, heard_done}
+use Rattle.node_steps.specs.Steps.{shut, taken, claims_known}
 use Rattle.node_core.specs.Inside.{seen}
 use Rattle.node_core.proofs.Behind.{some_of, none_of}
 use Rattle.node_core.proofs.Places.{in_claims}

@@ -1,6 +1,5 @@
 use Rattle.std.proofs.Common.{◌≡◌, ◌-◌, ◌≤◌, ◌+◌, ℕ, List, length, Option, true, inl, inr, lit<, arith, sym, ap, subst, ◌∙◌}
 use mathlib.Core.List.{not-mem-nil}
-use Rattle.slot_plan.specs.declared.slot.Slot.TheVariants.{Rows}
 use Rattle.omh_paths.specs.Paths.{path_count}
 use Rattle.error_detect.specs.declared.finding.Finding.{Finding}
 use Rattle.error_detect.specs.Watching.{Watch}

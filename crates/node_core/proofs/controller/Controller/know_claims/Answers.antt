@@ -1,4 +1,4 @@
-use Rattle.std.proofs.Common.{ℕ, ◌≡◌, ◌≤◌, ◌==◌, ◌&&◌, not, List, Option, inl, inr, lit<, sym, ap, subst, ◌∙◌}
+use Rattle.std.proofs.Common.{ℕ, ◌≡◌, ◌≤◌, ◌==◌, ◌&&◌, not, Option, inl, inr, lit<, sym, ap, subst, ◌∙◌}
 use Rattle.std.specs.Prelude.{nat_eq, IfSome}
 use Rattle.node_grid.specs.NodeSet.{ids_where}
 use Rattle.omh.specs.Heard.{Hearing, ear_of}

@@ -5,11 +5,11 @@ use Rattle.std.specs.Vec.{with_items}
 use Rattle.omh_paths.specs.Paths.{path_count}
 use Rattle.protocol.specs.Arrival.{claim_form, row_form}
 use Rattle.slot_plan.specs.declared.slot.Slot.{Slot}
-use Rattle.slot_plan.specs.declared.slot.Slot.TheVariants.{Sync, Claims, Data, Rows}
+use Rattle.slot_plan.specs.declared.slot.Slot.TheVariants.{Claims, Rows}
 use Rattle.slot_plan.specs.Slots.{slot_number, round_of, IsSlot}
 use Rattle.frames.specs.Content.{Expectation}
 use Rattle.frames.specs.Seen.{expected}
-use Rattle.error_detect.specs.Watching.{Watch, opened, nothing, HasRoom}
+use Rattle.error_detect.specs.Watching.{Watch, nothing, HasRoom}
 use Rattle.agreed_state.specs.Agreed.{AgreedView}
 use Rattle.relaying.specs.Guessed.{IsEchoed}
 use Rattle.node_steps.specs.Parts.{NodeView}

@@ -1,4 +1,4 @@
-use Rattle.std.proofs.Common.{◌≡◌, false, inl, inr, lit<, sym, ap, ◌∙◌}
+use Rattle.std.proofs.Common.{◌≡◌, inl, inr, lit<, sym, ap, ◌∙◌}
 use Rattle.frames.specs.Content.Content.{Cold}
 use Rattle.node_steps.specs.Parts.{NodeView}
 use Rattle.node_steps.specs.Ready.{IsFullWith}

@@ -1,4 +1,4 @@
-use Rattle.std.proofs.Common.{◌≡◌, ◌<◌, ◌≤◌, ◌+◌, ℕ, List, length, arith, inl, inr, lit<, sym, ap, subst, ◌∙◌}
+use Rattle.std.proofs.Common.{◌≡◌, ◌<◌, ◌≤◌, ℕ, List, length, arith, inl, inr, lit<, sym, ap, subst, ◌∙◌}
 use Rattle.frames.specs.Content.Content.{Done0}
 use Rattle.frames.specs.Writing.{pasted}
 use Rattle.protocol.specs.View.{own_claim}

@@ -1,4 +1,4 @@
-use Rattle.std.proofs.Common.{◌≡◌, ◌+◌, ◌==◌, ℕ, arith, inl, inr, lit<, sym, ◌∙◌, eq-eqb}
+use Rattle.std.proofs.Common.{◌≡◌, ◌==◌, arith, inl, inr, lit<, sym, ◌∙◌, eq-eqb}
 use Rattle.std.proofs.lemmas.Bool.{cond-true}
 use Rattle.slot_plan.specs.declared.slot.Slot.TheVariants.{Sync, Claims, Data, Rows}
 use Rattle.node_steps.specs.Parts.{NodeView}

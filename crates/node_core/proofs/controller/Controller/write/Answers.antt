@@ -1,9 +1,9 @@
-use Rattle.std.proofs.Common.{◌≡◌, ◌≤◌, ◌^◌, ℕ, List, length, arith, inl, inr, lit<, sym, ap, subst, ◌∙◌}
+use Rattle.std.proofs.Common.{◌≡◌, ℕ, List, length, arith, inl, inr, lit<, sym, ap, subst, ◌∙◌}
 use Rattle.frames.specs.Seen.{content, HasWidth}
 use Rattle.frames.specs.Writing.{pasted}
 use Rattle.node_steps.specs.Parts.{NodeView}
 use Rattle.node_steps.specs.Steps.{said_by}
-use Rattle.node_core.proofs.Spelt.{Sends, inside_sends}
+use Rattle.node_core.proofs.Spelt.{inside_sends}
 use Rattle.node_core.proofs.controller.Controller.write.Goals as goal
 
 pub encode-requires : goal.encode-requires
