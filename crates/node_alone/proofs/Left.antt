@@ -9,7 +9,7 @@ use Rattle.node_alone.specs.Log.{Entry, is_before, arriving, arrivals}
 use Rattle.node_alone.specs.Seen.{Ascends, entry_view}
 use Rattle.node_alone.specs.Stepping.{handed, from_slot, IsFromOther, IsReady}
 use Rattle.node_alone.specs.declared.entry.Entry.{Entry as Kept}
-use Rattle.node_alone.proofs.Collect.{drop-here}
+use Rattle.json_parts.proofs.Collect.{drop-here}
 use Rattle.node_alone.proofs.Ordering.{at_from, from_next, passes, ascends_drop, all_later, later_stay, later_bring, bring_next, skip_next}
 
 abbrev views : List Kept → List Entry

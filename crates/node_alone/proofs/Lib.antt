@@ -1,10 +1,8 @@
 mod Ordering
 mod Judged
-mod Collect
 mod Told
 mod Law
 mod Stepped
 mod Left
 mod Accepted
-mod Keys
 mod Fives

@@ -2,7 +2,7 @@
 use Rattle.std.specs.Prelude.{ℕ, ℤ, List, [], ◌∷◌, Option, Some, None, option_map, option_and_then, codes}
 use Rattle.serde_json.specs.Data.{Data, Items, no_items, item}
 use Rattle.serde_json.specs.Find.{as_array, as_str, as_object}
-use Rattle.scenario.specs.Reading.{whole, list_of, required, object_of}
+use Rattle.json_parts.specs.Reading.{whole, list_of, required, object_of}
 use Rattle.scenario.specs.Keys.{◌>>=◌}
 
 -- an entry, before any rule on its numbers is tried: four numbers, and a text, which is the list of its bytes

@@ -6,12 +6,12 @@ ghost use Rattle.scenario.specs.Numbers.{is_within, is_below, natural};
 ghost use Rattle.scenario.specs.Rules.{at_place};
 ghost use Rattle.scenario.specs.Verdict.{Tells};
 ghost use Rattle.node_alone.specs.Log.{is_before};
-ghost use Rattle.node_alone.specs.Rules.{bytes_of, is_placed, is_entry, entry_of, first_bad_entry};
+ghost use Rattle.node_alone.specs.Rules.{is_placed, is_entry, entry_of, first_bad_entry};
 ghost use Rattle.node_alone.specs.Seen.{part_view, limits_view, entry_view};
 
 use crate::entry::Entry;
 use crate::reading::EntryPart;
-use hex::FromHexError;
+use json_parts::bytes_of_hex;
 use scenario::ScenarioError;
 use slot_plan::LAST_TICK;
 use std::alloc::{AllocError, Global};
@@ -67,17 +67,6 @@ fn is_placed(part: &EntryPart<'_>, nodes: u8, slots: u8, periods: u32, id: u8) -
         && is_tick(part.tick)
 }
 
-/// The bytes that a text is in hexadecimal.
-fn bytes_of(alloc: Global, text: &str) -> Result<Option<Vec<u8>>, AllocError>
-    ensures { IfOk result (λ o. option_map (λ v. v.items) o ≡ bytes_of text.now) }
-{
-    match hex::decode(alloc, text.as_bytes()) {
-        Ok(bytes) => Ok(Some(bytes)),
-        Err(FromHexError::OutOfMemory) => Err(AllocError),
-        Err(_) => Ok(None),
-    }
-}
-
 /// The entry that the parts are, where they are in range.
 fn entry(alloc: Global, part: &EntryPart<'_>, limits: &Limits) -> Result<Option<Entry>, AllocError>
     ensures { IfOk result (λ o. option_map entry_view o ≡ (if is_entry (limits_view limits.now) (part_view part.now) then Some (entry_of (part_view part.now)) else None)) }
@@ -85,7 +74,7 @@ fn entry(alloc: Global, part: &EntryPart<'_>, limits: &Limits) -> Result<Option<
     if !is_placed(part, limits.nodes, limits.slots, limits.periods, limits.id) {
         return Ok(None);
     }
-    let Some(bytes) = bytes_of(alloc, part.hex)? else {
+    let Some(bytes) = bytes_of_hex(alloc, part.hex)? else {
         return Ok(None);
     };
     Ok(Some(Entry {

@@ -4,7 +4,7 @@ ghost use Rattle.std.specs.Prelude.{◌≡◌, ◌<◌, ◌+◌, ◌*◌, ℕ, S
 ghost use Rattle.node_grid.specs.Capacity.{IsCapacity};
 ghost use Rattle.serde_json.specs.Data.{Data};
 ghost use Rattle.serde_json.specs.View.{view};
-ghost use Rattle.scenario.specs.Reading.{Reads};
+ghost use Rattle.json_parts.specs.Reading.{Reads};
 ghost use Rattle.scenario.specs.Verdict.{Tells};
 ghost use Rattle.node_alone.specs.Rules.{limits_of, record_refusal, IsAcceptedRecord};
 ghost use Rattle.node_alone.specs.Seen.{limits_view, entry_view, IsRecord};
@@ -13,6 +13,7 @@ use crate::entry::Entry;
 use crate::judging::{Limits, entries};
 use crate::reading::parts;
 use agreed_state::Config;
+use json_parts::PartError;
 use scenario::{Scenario, ScenarioError};
 use serde_json::{Category, Value};
 use slot_plan::slot_count;
@@ -88,11 +89,10 @@ impl<const N: usize> Record<N> {
         ensures accepted { IfOk result (λ r. IsAcceptedRecord id (view value.now) r) }
         ensures refused { IfErr result (Tells (record_refusal N id (view value.now))) }
     {
-        let Ok(found) = parts(alloc, value) else {
-            return Err(ScenarioError::NoMemory);
-        };
-        let Some(parts) = found else {
-            return Err(ScenarioError::Refused { rule: 15, place: 0 });
+        let parts = match parts(alloc, value) {
+            Ok(parts) => parts,
+            Err(PartError::NoPart) => return Err(ScenarioError::Refused { rule: 15, place: 0 }),
+            Err(PartError::NoMemory) => return Err(ScenarioError::NoMemory),
         };
         let scenario = match Scenario::from_value(alloc, parts.scenario) {
             Ok(scenario) => scenario,

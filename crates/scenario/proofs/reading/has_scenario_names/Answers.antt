@@ -2,8 +2,8 @@ use Rattle.std.proofs.Common.{◌≡◌, ℕ, ℤ, pos, true, false, not, List, 
 use Rattle.std.specs.Prelude.{FitsSigned}
 use Rattle.std.specs.Ordering.{int_eq}
 use Rattle.std.proofs.lemmas.Bool.{not-true}
-use Rattle.serde_json.specs.View.{members_view}
-use Rattle.scenario.specs.Reading.{all_among}
+use Rattle.serde_json.specs.View.{view}
+use Rattle.json_parts.specs.Reading.{has_keys}
 use Rattle.scenario.proofs.Keys.{not_false, newer_names, older_names}
 use Rattle.scenario.proofs.reading.has_scenario_names.Goals as goal
 
@@ -12,11 +12,11 @@ returns-then-knows_more c =
     let fits : FitsSigned w64 c.args.version = search rules in
     let knows = c.knows_more.ensures ∙ ap (λ (z : ℤ). not (int_eq z (pos 1))) (to_z-of_z fits) in
     let off : int_eq c.args.version (pos 1) ≡ false = not-true _ (sym knows ∙ c.if-knows_more.true) in
-    c.has_only.ensures ∙ ap (λ (names : List (List ℕ)). all_among names (members_view c.args.object.now.entries)) (sym (newer_names c.args.version off))
+    c.has_keys.ensures ∙ ap (λ (names : List (List ℕ)). has_keys names (view c.args.value.now)) (sym (newer_names c.args.version off))
 
 pub returns-else-knows_more : goal.returns-else-knows_more
 returns-else-knows_more c =
     let fits : FitsSigned w64 c.args.version = search rules in
     let knows = c.knows_more.ensures ∙ ap (λ (z : ℤ). not (int_eq z (pos 1))) (to_z-of_z fits) in
     let on : int_eq c.args.version (pos 1) ≡ true = not_false _ (sym knows ∙ c.if-knows_more.false) in
-    c.has_only-else-knows_more.ensures ∙ ap (λ (names : List (List ℕ)). all_among names (members_view c.args.object.now.entries)) (sym (older_names c.args.version on))
+    c.has_keys-else-knows_more.ensures ∙ ap (λ (names : List (List ℕ)). has_keys names (view c.args.value.now)) (sym (older_names c.args.version on))

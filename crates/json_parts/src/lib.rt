@@ -1,0 +1,14 @@
+//! Parts of a JSON value: a list, the value at a key that must or may be there, numbers and texts.
+#![tactic(auto)]
+
+mod error;
+mod forms;
+mod hexadecimal;
+mod keys;
+mod reading;
+
+pub use error::PartError;
+pub use forms::{Number, Numbers, Text, number_or};
+pub use hexadecimal::bytes_of_hex;
+pub use keys::has_keys;
+pub use reading::{Form, list, lone, optional, optional_list, required, required_list};
