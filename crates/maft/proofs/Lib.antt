@@ -5,3 +5,4 @@ pub mod Words
 pub mod Rooms
 pub mod Logs
 pub mod Gathering
+pub mod Few

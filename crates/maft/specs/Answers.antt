@@ -1,5 +1,5 @@
 -- What the program says of the bytes that it reads.
-use Rattle.std.specs.Prelude.{◌≡◌, ℕ, ◌<◌, ◌≤◌, ◌⊎◌, List, length, Option, Some, IfSome}
+use Rattle.std.specs.Prelude.{◌≡◌, ℕ, ◌<◌, ◌≤◌, ◌⊎◌, List, length, Option, Some, IfSome, Result, Ok, Err}
 use Rattle.std.specs.Io.KnownBytes.{Appends, Keeps, IsAtEnd}
 use Rattle.span_io.specs.Causes.{Rose, AppendsPrefix}
 use Rattle.serde_json.specs.Data.{Data}
@@ -18,6 +18,9 @@ use Rattle.maft.specs.declared.form.Command.{Command}
 use Rattle.maft.specs.declared.form.Command.TheVariants.{Read, Storm}
 use Rattle.maft.specs.declared.status.Status.{Status}
 use Rattle.maft.specs.declared.status.Status.TheVariants.{Done, Usage, Unreadable, Refused, ReadFault, WriteFault, NoMemory, TooLong}
+use Rattle.maft.specs.declared.form.Form.{Form}
+use Rattle.maft.specs.declared.replay.ReplayError.{ReplayError}
+use Rattle.maft.specs.declared.replay.ReplayError.TheVariants as errors
 use Rattle.maft.specs.Run.{run_text, IsSafeRun}
 use Rattle.maft.specs.Alone.{log_text}
 
@@ -109,6 +112,19 @@ Answers reading bytes old new before now NoMemory = Keeps old new × (now ≡ be
 Answers reading bytes old new before now Usage = ⊥
 Answers reading bytes old new before now ReadFault = ⊥
 Answers reading bytes old new before now TooLong = ⊥
+
+abbrev pub error_status : ReplayError → Status
+error_status errors.WriteFault = WriteFault
+error_status errors.NoMemory = NoMemory
+
+-- how a call ends whose run was written so
+abbrev pub status_of : Result (Unit {0}) ReplayError → Status
+status_of (Ok u) = Done
+status_of (Err e) = error_status e
+
+-- what is answered of the JSON value of a scenario, and written
+abbrev pub AnswersValue : Form → Data → Option (List ℕ) → Option (List ℕ) → ℕ → ℕ → Status → Type 0
+AnswersValue form d old new before now status = (bytes : List ℕ) → Reads bytes d → Answers (Scenario form) bytes old new before now status
 
 -- what is answered of a storm, and written
 abbrev pub AnswersStorm : ℕ → Option (List ℕ) → Option (List ℕ) → ℕ → ℕ → Status → Type 0

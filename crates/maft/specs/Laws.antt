@@ -34,6 +34,11 @@ pub record OneTextLaw : Type 0 where
   pub more_room : (d : Data) (small : ScenarioView 8) → IsAcceptedValue d small → (large : ScenarioView 16) × IsAcceptedValue d large × HaveOneText small large
   pub less_room : (d : Data) (large : ScenarioView 16) → IsAcceptedValue d large → large.config.nodes ≤ 8 → (small : ScenarioView 8) × IsAcceptedValue d small × HaveOneText small large
 
+-- what is accepted with room for 8 nodes is accepted with room for 16, with one text, and its run there is safe
+abbrev pub FewNodesLaw : Type 0
+FewNodesLaw = (d : Data) (small : ScenarioView 8) → IsAcceptedValue d small → IsScenario small
+    → (large : ScenarioView 16) × IsAcceptedValue d large × HaveOneText small large × IsSafeRun large
+
 -- ---- the log of a node, and the run that it is a log of
 
 -- the lines of node i, where it has a record, with this text in place of its class

@@ -1,8 +1,9 @@
 //! What holds of the runs that the program prints, over the definitions alone. Each function's promise is its law.
-ghost use Rattle.maft.specs.Laws.{SafeRunLaw, OrderLaw, OneTextLaw, AloneTextLaw};
+ghost use Rattle.maft.specs.Laws.{SafeRunLaw, OrderLaw, OneTextLaw, FewNodesLaw, AloneTextLaw};
 
 use capacities::laws as rooms;
 use cluster_step::laws;
+use scenario_capacities::laws::stays_accepted;
 
 /// Each claimed period of an accepted scenario keeps what is promised of it, and its line says `claim yes` exactly where
 /// it is claimed.
@@ -26,6 +27,15 @@ pub fn one_text()
 {
     rooms::more_room();
     rooms::less_room();
+}
+
+/// What is accepted with room for 8 nodes is accepted with room for 16, has the same text, and is a safe run there too.
+pub fn few_nodes()
+    ensures { FewNodesLaw }
+{
+    one_text();
+    safe_runs();
+    stays_accepted();
 }
 
 /// Where the log of a node holds what a run delivers to it, the text of the log is that node's lines of the run's replay, but

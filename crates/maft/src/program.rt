@@ -2,6 +2,11 @@
 ghost use Rattle.std.specs.Prelude.{◌≡◌, ℕ, ◌<◌, ◌↔◌, ◌⊎◌, List, length, IfSome};
 ghost use Rattle.std.specs.Io.KnownBytes.{Appends, Keeps};
 ghost use Rattle.span_io.specs.Causes.{Rose, AppendsPrefix, GivenPast};
+ghost use Rattle.node_grid.specs.Capacity.{IsCapacity};
+ghost use Rattle.serde_json.specs.Data.{Data};
+ghost use Rattle.serde_json.specs.View.{view};
+ghost use Rattle.scenario.specs.Scenario.{ScenarioView};
+ghost use Rattle.scenario.specs.Verdict.{IsAcceptedValue};
 ghost use Rattle.run_print.specs.PeriodText.{refused_text};
 ghost use Rattle.maft.specs.declared.form.Reading.{Reading as SpecReading};
 ghost use Rattle.maft.specs.declared.form.Reading.TheVariants.{Scenario as SpecScenario, Log as SpecLog};
@@ -9,15 +14,17 @@ ghost use Rattle.maft.specs.declared.form.Command.{Command as SpecCommand};
 ghost use Rattle.maft.specs.declared.form.Command.TheVariants.{Read as SpecRead};
 ghost use Rattle.maft.specs.Words.{texts, Calls};
 ghost use Rattle.maft.specs.Run.{IsRun};
-ghost use Rattle.maft.specs.Answers.{limit, IsRefused, IsUnreadable, IsWhole, IsRead, IsUntouched, WritesSome, HasText, IsDecided, Answers, AnswersStorm};
+ghost use Rattle.maft.specs.Answers.{limit, capacity, status_of, AnswersValue, IsRefused, IsUnreadable, IsWhole, IsRead, IsUntouched, WritesSome, HasText, IsDecided, Answers, AnswersStorm};
 
 use crate::alone::write_log;
 use crate::form::command_of;
+use crate::laws::few_nodes;
 use crate::replay::{check_at, replay_at};
 use crate::{Command, Form, Reading, ReplayError, Status};
 use node_alone::Record;
 use run_print::{WriteFault, write_refused, write_storm};
 use scenario::{Scenario, ScenarioError};
+use serde_json::{Category, Value};
 use span_io::{ReadError, Sink, Source, read_all};
 use std::alloc::Global;
 
@@ -27,17 +34,40 @@ const LIMIT: usize = 4_194_304;
 /// How many nodes a scenario that is read has room for.
 const CAPACITY: usize = 16;
 
+/// How many nodes a scenario has room for that has at most so many.
+const FEW: usize = 8;
+
+/// How a call ends whose run was written so.
+fn ended(run: Result<(), ReplayError>) -> Status
+    ensures { result ≡ status_of run }
+{
+    match run {
+        Ok(()) => Status::Done,
+        Err(ReplayError::WriteFault) => Status::WriteFault,
+        Err(ReplayError::NoMemory) => Status::NoMemory,
+    }
+}
+
+/// Whether the value says that there are so few nodes that types laid out for 8 have room for them.
+fn has_few_nodes(value: &Value) -> bool {
+    match value.get("nodes") {
+        Some(nodes) => matches!(nodes.as_i64(), Some(count) if count <= FEW as i64),
+        None => false,
+    }
+}
+
 /// Runs a scenario, and writes the text that this form has of it.
 ///
 /// # Errors
 ///
 /// As `replay_at`.
-fn write_form<K: Sink>(
+fn write_form<const N: usize, K: Sink>(
     alloc: Global,
-    scenario: &Scenario<CAPACITY>,
+    scenario: &Scenario<N>,
     form: Form,
     sink: &mut K,
 ) -> Result<(), ReplayError>
+    requires { IsCapacity N }
     ensures { IsRun form scenario.now (K.written sink.old) (K.written sink.new) (K.faults sink.old) (K.faults sink.new) result }
 {
     match form {
@@ -47,23 +77,53 @@ fn write_form<K: Sink>(
     }
 }
 
+/// Runs a scenario of few nodes, which with room for all that an input may have has the same run.
+///
+/// # Errors
+///
+/// As `replay_at`.
+fn write_few<K: Sink>(
+    alloc: Global,
+    scenario: &Scenario<FEW>,
+    form: Form,
+    sink: &mut K,
+) -> Result<(), ReplayError>
+    ensures { (d : Data) → IsAcceptedValue d scenario.now → (sc : ScenarioView capacity) × IsAcceptedValue d sc
+        × IsRun form sc (K.written sink.old) (K.written sink.new) (K.faults sink.old) (K.faults sink.new) result }
+{
+    few_nodes();
+    let _periods = scenario.periods();
+    write_form(alloc, scenario, form, sink)
+}
+
+/// Answers the JSON value of a scenario.
+fn answer_value<K: Sink>(alloc: Global, form: Form, value: &Value, sink: &mut K) -> Status
+    ensures { AnswersValue form (view value.now) (K.written sink.old) (K.written sink.new) (K.faults sink.old) (K.faults sink.new) result }
+{
+    if has_few_nodes(value) {
+        if let Ok(scenario) = Scenario::<FEW>::from_value(alloc, value) {
+            return ended(write_few(alloc, &scenario, form, sink));
+        }
+    }
+    match Scenario::<CAPACITY>::from_value(alloc, value) {
+        Ok(scenario) => ended(write_form(alloc, &scenario, form, sink)),
+        Err(ScenarioError::Refused { rule, place }) => {
+            let _ = write_refused(rule, place, sink);
+            Status::Refused
+        }
+        Err(ScenarioError::NoMemory) => Status::NoMemory,
+        Err(ScenarioError::Unreadable) => unreachable!(),
+    }
+}
+
 /// Answers the bytes of a scenario.
 fn answer_scenario<K: Sink>(alloc: Global, form: Form, bytes: &[u8], sink: &mut K) -> Status
     ensures { Answers (SpecScenario form) bytes.now (K.written sink.old) (K.written sink.new) (K.faults sink.old) (K.faults sink.new) result }
 {
-    let scenario = match Scenario::<CAPACITY>::read(alloc, bytes) {
-        Ok(scenario) => scenario,
-        Err(ScenarioError::Unreadable) => return Status::Unreadable,
-        Err(ScenarioError::Refused { rule, place }) => {
-            let _ = write_refused(rule, place, sink);
-            return Status::Refused;
-        }
-        Err(ScenarioError::NoMemory) => return Status::NoMemory,
-    };
-    match write_form(alloc, &scenario, form, sink) {
-        Ok(()) => Status::Done,
-        Err(ReplayError::WriteFault) => Status::WriteFault,
-        Err(ReplayError::NoMemory) => Status::NoMemory,
+    match Value::from_slice(alloc, bytes) {
+        Ok(value) => answer_value(alloc, form, &value, sink),
+        Err(error) if error.classify() == Category::Memory => Status::NoMemory,
+        Err(_) => Status::Unreadable,
     }
 }
 
@@ -80,11 +140,7 @@ fn answer_log<K: Sink>(alloc: Global, id: u8, bytes: &[u8], sink: &mut K) -> Sta
         }
         Err(ScenarioError::NoMemory) => return Status::NoMemory,
     };
-    match write_log(alloc, &log, sink) {
-        Ok(()) => Status::Done,
-        Err(ReplayError::WriteFault) => Status::WriteFault,
-        Err(ReplayError::NoMemory) => Status::NoMemory,
-    }
+    ended(write_log(alloc, &log, sink))
 }
 
 /// Answers the bytes of an input.

@@ -1,0 +1,50 @@
+-- A scenario of few nodes, run with room for few.
+use Rattle.std.proofs.Common.{◌≡◌, ℕ, List, Option, Some, Result, Ok, Err, inr, refl, sym, ap, subst, ◌∙◌}
+use Rattle.serde_json.specs.Data.{Data}
+use Rattle.scenario.specs.Parts.{ScenarioParts}
+use Rattle.scenario.specs.Given.{scenario_of}
+use Rattle.scenario.specs.Scenario.{ScenarioView, IsScenario}
+use Rattle.scenario.specs.Verdict.{IsAcceptedValue}
+use Rattle.node_alone.specs.Log.{RecordView}
+use Rattle.scenario_capacities.specs.Laws.{StaysAcceptedLaw}
+use Rattle.maft.specs.declared.form.Form.{Form}
+use Rattle.maft.specs.declared.form.Reading.TheVariants.{Scenario, Log}
+use Rattle.maft.specs.declared.replay.ReplayError.{ReplayError}
+use Rattle.maft.specs.declared.replay.ReplayError.TheVariants.{WriteFault, NoMemory}
+use Rattle.maft.specs.Run.{run_text, IsSafeRun, IsRun}
+use Rattle.maft.specs.Alone.{log_text, IsLogRun}
+use Rattle.maft.specs.Answers.{capacity, status_of, IsAccepted, IsAcceptedLog, Answers}
+
+same_parts : (a b : ScenarioParts) (found : Option ScenarioParts) → found ≡ Some a → found ≡ Some b → a ≡ b
+same_parts a b found e f = let s : ◌≡◌ {A = Option ScenarioParts} (Some a) (Some b) = sym e ∙ f in cc
+
+-- what is accepted with room for 8 nodes and for 16 is a scenario in the second where it is one in the first
+pub large_is : StaysAcceptedLaw → (d : Data) (small : ScenarioView 8) (large : ScenarioView 16) → IsAcceptedValue d small → IsScenario small → IsAcceptedValue d large → IsScenario large
+large_is stays d small large h is a =
+    subst (λ (sc : ScenarioView 16). IsScenario sc) (ap (scenario_of 16) (same_parts h.parts a.parts _ h.reads a.reads) ∙ sym a.says)
+    (stays 8 8 h.parts (inr refl) h.unrefused (subst (λ (sc : ScenarioView 8). IsScenario sc) h.says is))
+
+-- a run whose text is also that of another, which is safe
+pub run_of : {N M : ℕ} (form : Form) (a : ScenarioView N) (b : ScenarioView M) (old new : Option (List ℕ)) (before now : ℕ) (r : Result (Unit {0}) ReplayError)
+    → run_text form a ≡ run_text form b → IsSafeRun b → IsRun form a old new before now r → IsRun form b old new before now r
+run_of form a b old new before now r same safe h = record {
+  safe = safe;
+  written = rw (sym same) h.written;
+  faultless = h.faultless;
+  write_fault = rw (sym same) h.write_fault;
+  no_memory = h.no_memory;
+}
+
+-- how a run ends is what is answered of its bytes
+pub answered_run : (form : Form) (bytes : List ℕ) (sc : ScenarioView capacity) (old new : Option (List ℕ)) (before now : ℕ) (r : Result (Unit {0}) ReplayError)
+    → IsAccepted bytes sc → IsRun form sc old new before now r → Answers (Scenario form) bytes old new before now (status_of r)
+answered_run form bytes sc old new before now (Ok u) a h = (run_text form sc, (sc, a, refl, h.safe), h.written, h.faultless)
+answered_run form bytes sc old new before now (Err WriteFault) a h = (run_text form sc, (sc, a, refl, h.safe), (h.write_fault refl).0, (h.write_fault refl).1)
+answered_run form bytes sc old new before now (Err NoMemory) a h = h.no_memory refl
+
+-- and of a log
+pub answered_log : (id : ℕ) (bytes : List ℕ) (log : RecordView capacity) (old new : Option (List ℕ)) (before now : ℕ) (r : Result (Unit {0}) ReplayError)
+    → IsAcceptedLog bytes id log → IsLogRun log old new before now r → Answers (Log id) bytes old new before now (status_of r)
+answered_log id bytes log old new before now (Ok u) a h = (log_text log, (log, a, refl), h.written, h.faultless)
+answered_log id bytes log old new before now (Err WriteFault) a h = (log_text log, (log, a, refl), (h.write_fault refl).0, (h.write_fault refl).1)
+answered_log id bytes log old new before now (Err NoMemory) a h = h.no_memory refl
