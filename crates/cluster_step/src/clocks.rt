@@ -12,6 +12,7 @@ ghost use Rattle.cluster_step.specs.Record.{clock_in};
 ghost use Rattle.cluster_step.specs.Shown.{clock_shown};
 ghost use Rattle.cluster_step.specs.Clocking.{AreSteady, AreOthers, start_of, read_by, correction_by, moved, offsets_kept, offsets_before};
 
+use crate::stepping::Period;
 use clock_skew::{ClockPlan, correction};
 use node_core::{Mode, NodeRecord};
 use safety::laws::clocks::offsets;
@@ -162,18 +163,17 @@ pub(crate) fn first_clocks<const N: usize>(scenario: &Scenario<N>) -> Option<Clo
 
 /// The clocks of a period, from those before it and from what all nodes recorded; none where the scenario has none.
 pub(crate) fn next_clocks<const N: usize>(
-    scenario: &Scenario<N>,
-    period: u32,
+    period: &Period<'_, N>,
     records: &[NodeRecord<N>],
     before: Option<ClockRecord<N>>,
 ) -> Option<ClockRecord<N>>
     requires capacity { IsCapacity N }
-    requires more { period < scenario.now.periods }
-    requires records { records.now ≡ map (λ i. outcome_of (view (run_of (system_of scenario.now)) i period)) (ids_below scenario.now.config.nodes) }
-    requires offsets { offsets_kept (option_map clock_shown before) ≡ offsets_before scenario.now period }
-    ensures { option_map clock_shown result ≡ option_map (λ c. clock_in (system_of scenario.now) c period) scenario.now.clock }
+    requires records { records.now ≡ map (λ i. outcome_of (view (run_of (system_of period.now.scenario.now)) i period.now.number)) (ids_below period.now.scenario.now.config.nodes) }
+    requires offsets { offsets_kept (option_map clock_shown before) ≡ offsets_before period.now.scenario.now period.now.number }
+    ensures { option_map clock_shown result ≡ option_map (λ c. clock_in (system_of period.now.scenario.now) c period.now.number) period.now.scenario.now.clock }
 {
     offsets();
+    let scenario = period.scenario;
     let Some(plan) = scenario.clock() else {
         return None;
     };
@@ -185,7 +185,7 @@ pub(crate) fn next_clocks<const N: usize>(
         plan,
         nodes: config.nodes,
         offset: &before.offset,
-        period,
+        period: period.number,
     };
     let correction = clocks.corrections(records, config.m);
     let offset = clocks.all_moved(&correction);

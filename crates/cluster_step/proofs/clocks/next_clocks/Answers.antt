@@ -16,13 +16,19 @@ use Rattle.cluster_step.specs.Clocking.{AreOthers, correction_by, moved}
 use Rattle.cluster_step.proofs.Clocking.{AreAtHand, at_hand, others, corrections_are, moved_are}
 use Rattle.cluster_step.proofs.clocks.next_clocks.Goals as goal
 
+pub clock-requires : goal.clock-requires
+clock-requires g c = elim c.requires.capacity [ inl e ↦ rw e (lit< tt, lit< tt) | inr e ↦ rw e (lit< tt, lit< tt) ]
+
+pub config-config-requires : goal.config-config-requires
+config-config-requires g c = elim c.requires.capacity [ inl e ↦ rw e (lit< tt, lit< tt) | inr e ↦ rw e (lit< tt, lit< tt) ]
+
 pub corrections-correction-requires : goal.corrections-correction-requires
 corrections-correction-requires g c =
-    let sc : ScenarioView g.row.N = c.args.scenario.now in
-    let p : ℕ = c.args.period in
+    let sc : ScenarioView g.row.N = c.args.period.now.scenario.now in
+    let p : ℕ = c.args.period.now.number in
     let k : ClockView = c.in-Some.plan.now in
     let h : AreAtHand sc p k c.config-config.result.now.nodes c.in-Some-before.before.offset =
-    at_hand sc p (option_map clock_shown c.args.before) (clock_shown c.in-Some-before.before) k c.config-config.result.now.nodes c.config-config.ensures.scenario c.requires.capacity c.requires.more c.offsets.ensures (ap (λ (y : Config g.row.N). y.nodes) c.config-config.ensures.config) (ap (option_map clock_shown) c.in-Some-before.is) c.in-Some.ensures.clock c.requires.offsets in (
+    at_hand sc p (option_map clock_shown c.args.before) (clock_shown c.in-Some-before.before) k c.config-config.result.now.nodes c.config-config.ensures.scenario c.requires.capacity c.args.period.now.in_run c.offsets.ensures (ap (λ (y : Config g.row.N). y.nodes) c.config-config.ensures.config) (ap (option_map clock_shown) c.in-Some-before.is) c.in-Some.ensures.clock c.requires.offsets in (
       lit< tt,
       (
         elim c.requires.capacity [ inl e ↦ rw e (lit< tt) | inr e ↦ rw e (lit< tt) ],
@@ -41,20 +47,20 @@ corrections-correction-requires g c =
 
 pub all_moved-offset-requires : goal.all_moved-offset-requires
 all_moved-offset-requires g c =
-    let sc : ScenarioView g.row.N = c.args.scenario.now in
-    let p : ℕ = c.args.period in
+    let sc : ScenarioView g.row.N = c.args.period.now.scenario.now in
+    let p : ℕ = c.args.period.now.number in
     let k : ClockView = c.in-Some.plan.now in
     let h : AreAtHand sc p k c.config-config.result.now.nodes c.in-Some-before.before.offset =
-    at_hand sc p (option_map clock_shown c.args.before) (clock_shown c.in-Some-before.before) k c.config-config.result.now.nodes c.config-config.ensures.scenario c.requires.capacity c.requires.more c.offsets.ensures (ap (λ (y : Config g.row.N). y.nodes) c.config-config.ensures.config) (ap (option_map clock_shown) c.in-Some-before.is) c.in-Some.ensures.clock c.requires.offsets in (lit< tt, (elim c.requires.capacity [ inl e ↦ rw e (lit< tt) | inr e ↦ rw e (lit< tt) ], (h.steady, c.corrections-correction.ensures.range)))
+    at_hand sc p (option_map clock_shown c.args.before) (clock_shown c.in-Some-before.before) k c.config-config.result.now.nodes c.config-config.ensures.scenario c.requires.capacity c.args.period.now.in_run c.offsets.ensures (ap (λ (y : Config g.row.N). y.nodes) c.config-config.ensures.config) (ap (option_map clock_shown) c.in-Some-before.is) c.in-Some.ensures.clock c.requires.offsets in (lit< tt, (elim c.requires.capacity [ inl e ↦ rw e (lit< tt) | inr e ↦ rw e (lit< tt) ], (h.steady, c.corrections-correction.ensures.range)))
 
 pub returns : goal.returns
 returns g c =
-    let sc : ScenarioView g.row.N = c.args.scenario.now in
+    let sc : ScenarioView g.row.N = c.args.period.now.scenario.now in
     let sys : System = system_of sc in
-    let p : ℕ = c.args.period in
+    let p : ℕ = c.args.period.now.number in
     let k : ClockView = c.in-Some.plan.now in
     let h : AreAtHand sc p k c.config-config.result.now.nodes c.in-Some-before.before.offset =
-    at_hand sc p (option_map clock_shown c.args.before) (clock_shown c.in-Some-before.before) k c.config-config.result.now.nodes c.config-config.ensures.scenario c.requires.capacity c.requires.more c.offsets.ensures (ap (λ (y : Config g.row.N). y.nodes) c.config-config.ensures.config) (ap (option_map clock_shown) c.in-Some-before.is) c.in-Some.ensures.clock c.requires.offsets in
+    at_hand sc p (option_map clock_shown c.args.before) (clock_shown c.in-Some-before.before) k c.config-config.result.now.nodes c.config-config.ensures.scenario c.requires.capacity c.args.period.now.in_run c.offsets.ensures (ap (λ (y : Config g.row.N). y.nodes) c.config-config.ensures.config) (ap (option_map clock_shown) c.in-Some-before.is) c.in-Some.ensures.clock c.requires.offsets in
     let few : sc.config.nodes ≤ g.row.N = c.config-config.ensures.scenario.system.config.few_nodes in
     let corrected : c.corrections-correction.result ≡ by_node sys (λ i. correction_at (run sys) k (offsets (run sys) k p) p i) =
     c.corrections-correction.ensures.corrections

@@ -1,0 +1,148 @@
+//! What the links of one sender bring to all nodes.
+
+ghost use Rattle.std.specs.Prelude.{◌≡◌, ◌≢◌, ◌<◌, ◌≤◌, All, map, replicate, length};
+ghost use Rattle.node_grid.specs.Capacity.{IsCapacity};
+ghost use Rattle.slot_plan.specs.Slots.{slot_count};
+ghost use Rattle.cluster_step.specs.Slots.{arriving, handed, handed_from, handed_whole, IsReady};
+
+use fault_classes::FaultPlan;
+use fault_link::{Delivered, deliveries};
+use node_core::Node;
+use node_grid::NoMemory;
+use slot_plan::ON_TIME;
+use std::alloc::Global;
+use std::marker::Model;
+
+/// The length of the longest frame that there is.
+const LONGEST_FRAME: usize = 90_104;
+
+/// Room for a frame of which a fault line sets bytes. It is filled once it is needed.
+///
+/// Contracts see the bytes in it, and promise nothing of them.
+#[derive(Drop)]
+pub(crate) struct Scratch {
+    bytes: Vec<u8>,
+}
+
+impl Model for Scratch {
+    ghost use Rattle.std.specs.Prelude.{ℕ, List, ◌≤◌, vec_capacity};
+
+    ghost Value = { List ℕ };
+
+    ghost view = { λ s. s.bytes.items };
+
+    ghost invariant = { λ s. 90104 ≤ vec_capacity s.bytes };
+}
+
+impl Scratch {
+    /// Takes room for the longest frame.
+    ///
+    /// # Errors
+    ///
+    /// `NoMemory` where there is none.
+    pub(crate) fn open(alloc: Global) -> Result<Scratch, NoMemory> {
+        let Ok(bytes) = Vec::with_capacity(alloc, LONGEST_FRAME) else {
+            return Err(NoMemory);
+        };
+        Ok(Scratch { bytes })
+    }
+
+    /// Makes it at least as long as a frame.
+    fn fit(&mut self, frame: &[u8])
+        requires { length frame.now ≤ 90104 }
+        ensures { length frame.now ≤ length self.new }
+    {
+        if self.bytes.len() < frame.len() {
+            self.bytes.clear();
+            let _within_room = self.bytes.extend_from_slice(frame).is_ok();
+        }
+    }
+}
+
+/// The links of one sender in a slot of a period.
+#[derive(Drop)]
+pub(crate) struct Link<'p, const N: usize> {
+    pub(crate) plan: &'p FaultPlan<N>,
+    pub(crate) period: u32,
+    pub(crate) slot: u8,
+    pub(crate) from: u8,
+    ghost in_plan: { period < plan.now.periods },
+    ghost in_period: { slot < slot_count plan.now.rounds },
+    ghost in_use: { from < plan.now.nodes },
+}
+
+impl<'p, const N: usize> Link<'p, N> {
+    /// Hands a node the frame as it was sent. The sender isn't handed its own.
+    fn hand_whole<'c>(&self, sent: &[u8], node: &mut Node<'c, N>)
+        requires capacity { IsCapacity N }
+        requires ready { IsReady self.now.plan.now node.old }
+        ensures { node.new ≡ handed_whole sent.now self.now.from node.old }
+    {
+        if self.from != node.me() {
+            node.deliver(self.from, ON_TIME, sent);
+        }
+    }
+
+    /// Hands all nodes the frame as it was sent.
+    fn deliver_whole<'c>(&self, sent: &[u8], nodes: &mut [Node<'c, N>])
+        requires capacity { IsCapacity N }
+        requires ready { All (IsReady self.now.plan.now) nodes.old }
+        ensures { nodes.new ≡ map (handed_whole sent.now self.now.from) nodes.old }
+    {
+        for node in nodes.iter_mut() {
+            self.hand_whole(sent, node);
+        }
+    }
+
+    /// Hands another node what arrives of the frame.
+    fn hand<'c>(&self, arrived: &Delivered<'_>, node: &mut Node<'c, N>)
+        requires capacity { IsCapacity N }
+        requires ready { IsReady self.now.plan.now node.old }
+        requires other { self.now.from ≢ node.old.phase.me }
+        ensures { node.new ≡ handed node.old (map (arriving self.now.from) (replicate arrived.now.copies (arrived.now.tick, arrived.now.bytes.now))) }
+    {
+        for _ in 0..arrived.copies {
+            node.deliver(self.from, arrived.tick, arrived.bytes);
+        }
+    }
+
+    /// Delivers to a node what arrives of the frame; to the sender nothing does.
+    fn deliver_to<'c>(&self, sent: &[u8], node: &mut Node<'c, N>, scratch: &mut Scratch)
+        requires capacity { IsCapacity N }
+        requires ready { IsReady self.now.plan.now node.old }
+        requires short { length sent.now ≤ 90104 }
+        ensures { node.new ≡ handed_from self.now.plan.now self.now.period self.now.slot sent.now self.now.from node.old }
+    {
+        let me = node.me();
+        if self.from != me {
+            scratch.fit(sent);
+            let arrived = deliveries(
+                self.plan,
+                self.period,
+                self.slot,
+                self.from,
+                me,
+                sent,
+                &mut scratch.bytes.as_mut_slice()[..sent.len()],
+            );
+            self.hand(&arrived, node);
+        }
+    }
+
+    /// Delivers to all nodes what arrives of the frame. Where no line touches a frame of the sender in the period, it
+    /// is the frame itself.
+    pub(crate) fn deliver<'c>(&self, sent: &[u8], nodes: &mut [Node<'c, N>], scratch: &mut Scratch)
+        requires capacity { IsCapacity N }
+        requires ready { All (IsReady self.now.plan.now) nodes.old }
+        requires short { length sent.now ≤ 90104 }
+        ensures { nodes.new ≡ map (handed_from self.now.plan.now self.now.period self.now.slot sent.now self.now.from) nodes.old }
+    {
+        if self.plan.clean(self.from, self.period) {
+            self.deliver_whole(sent, nodes);
+        } else {
+            for node in nodes.iter_mut() {
+                self.deliver_to(sent, node, scratch);
+            }
+        }
+    }
+}
