@@ -7,7 +7,7 @@ ghost use Rattle.cluster_step.specs.Slots.{arriving, handed, handed_from, handed
 
 use fault_classes::FaultPlan;
 use fault_link::{Delivered, deliveries};
-use node_core::Node;
+use node_core::{Node, Sent};
 use node_grid::NoMemory;
 use slot_plan::ON_TIME;
 use std::alloc::Global;
@@ -73,24 +73,25 @@ pub(crate) struct Link<'p, const N: usize> {
 
 impl<'p, const N: usize> Link<'p, N> {
     /// Hands a node the frame as it was sent. The sender isn't handed its own.
-    fn hand_whole<'c>(&self, sent: &[u8], node: &mut Node<'c, N>)
+    fn hand_whole<'c>(&self, sent: &Sent<'_>, node: &mut Node<'c, N>)
         requires capacity { IsCapacity N }
         requires ready { IsReady self.now.plan.now node.old }
         ensures { node.new ≡ handed_whole sent.now self.now.from node.old }
     {
         if self.from != node.me() {
-            node.deliver(self.from, ON_TIME, sent);
+            node.deliver_sent(self.from, ON_TIME, sent);
         }
     }
 
-    /// Hands all nodes the frame as it was sent.
+    /// Hands all nodes the frame as it was sent. It is looked at once, for all of them.
     fn deliver_whole<'c>(&self, sent: &[u8], nodes: &mut [Node<'c, N>])
         requires capacity { IsCapacity N }
         requires ready { All (IsReady self.now.plan.now) nodes.old }
         ensures { nodes.new ≡ map (handed_whole sent.now self.now.from) nodes.old }
     {
+        let looked = Sent::look(sent, nodes.len().min(16) as u8);
         for node in nodes.iter_mut() {
-            self.hand_whole(sent, node);
+            self.hand_whole(&looked, node);
         }
     }
 
