@@ -1,10 +1,12 @@
 //! A frame as it was sent.
 
-ghost use Rattle.std.specs.Prelude.{◌≡◌, ◌≤◌, drop, IfSome};
+ghost use Rattle.std.specs.Prelude.{◌≡◌, ◌<◌, ◌≤◌, ◌+◌, ◌/◌, true, drop, IfSome};
+ghost use Rattle.omh_paths.specs.Paths.{path_count};
 ghost use Rattle.relaying.specs.Runs.{AreRuns};
 
 use crate::runs::{Runs, find_runs};
 use frames::HEADER;
+use omh_paths::count_paths;
 use std::marker::Model;
 
 /// The bytes of a frame, and what is known of the runs of its body.
@@ -74,7 +76,7 @@ impl<'a> Entries<'a> {
 /// The bytes of an entry of a relay frame of such a kind, where it is one.
 fn width_of(kind: u8, nodes: u8) -> Option<usize>
     requires { nodes ≤ 16 }
-    ensures { IfSome result (λ w. w ≤ 33) }
+    ensures { IfSome result (λ w. (0 < w) × (w ≤ 33)) }
 {
     match kind {
         3 => Some(2),
@@ -83,9 +85,20 @@ fn width_of(kind: u8, nodes: u8) -> Option<usize>
     }
 }
 
+/// Whether so many bytes may be an entry for each path of so many nodes over so many relays.
+fn fits(size: usize, width: usize, nodes: u8, relays: u8) -> bool
+    requires some { 0 < width }
+    requires few { nodes ≤ 16 }
+    requires short { relays ≤ 3 }
+    ensures { result ≡ true → size / width ≡ path_count nodes (relays + 1) }
+{
+    size / width == count_paths(nodes, relays + 1)
+}
+
 /// The runs of a body, where there is a number of others and of relays of which it is a round: one
 /// run for each of the others.
 fn runs_of(body: &[u8], width: usize, nodes: u8) -> Option<Runs>
+    requires some { 0 < width }
     requires narrow { width ≤ 33 }
     requires few { nodes ≤ 16 }
     ensures { IfSome result (AreRuns body.now) }
@@ -93,8 +106,8 @@ fn runs_of(body: &[u8], width: usize, nodes: u8) -> Option<Runs>
     for fewer in 1..nodes {
         let others = nodes - fewer;
         for relays in 1..3 {
-            if let Some(runs) = find_runs(body, width, others, relays) {
-                return Some(runs);
+            if fits(body.len(), width, others, relays) {
+                return find_runs(body, width, others, relays);
             }
         }
     }
