@@ -1,6 +1,6 @@
 -- Entries that no rule refuses: their numbers, and their order.
 use Rattle.std.proofs.Common.{ℕ, ◌≡◌, ◌≢◌, ◌<◌, ◌+◌, ◌==◌, ◌∙◌, ℤ, pos, negsuc, Bool, true, false, if◌then◌else◌, List, [], ◌∷◌, ◌++◌, map, length, get_or, take, drop, refl, sym, ap, ap₂, subst, arith, Option, None, Some, eq-eqb}
-use Rattle.std.specs.Prelude.{All, not, ◌&&◌}
+use Rattle.std.specs.Prelude.{All, not, ◌&&◌, option_map}
 use Rattle.std.proofs.lemmas.Bool.{true≢false, ltb-true, and_parts, not-true}
 use Rattle.std.proofs.lemmas.List.{map_push, map_more, get_or_default}
 use Rattle.std.proofs.lemmas.List.Elements.{All-nil, All-cons, All-weaker}
@@ -76,6 +76,11 @@ bad_entry l p t k e es h = ap (λ (b : Bool). if b && not (is_before p t (entry_
 pub early_entry : (l : Limits) (p t k : ℕ) (e : EntryParts) (es : List EntryParts) → is_entry l e ≡ true → is_before p t (entry_of e) ≡ true → first_bad_entry l p t k (e ∷ es) ≡ Some k
 early_entry l p t k e es h early = ap (λ (b : Bool). if b then first_bad_entry l (entry_of e).period (entry_of e).slot (k + 1) es else Some k) (ap (λ (b : Bool). b && not (is_before p t (entry_of e))) h ∙ ap not early)
 
+pub no_entry : (b : Bool) (o : Option Kept) (y : Entry) → option_map entry_view o ≡ (if b then Some y else None) → ((x : Kept) → o ≡ Some x → ⊥) → b ≡ false
+no_entry false o y h none = refl
+no_entry true None y h none = cc
+no_entry true (Some x) y h none = absurd (none x refl)
+
 -- what stands for a part out of range
 abbrev pub no_part : EntryPart
 no_part = record { period = pos 0; slot = pos 0; from = pos 0; tick = pos 0; hex = record { ref_ptr = (0, 0); now = [] } }
@@ -95,10 +100,10 @@ module _ (parts : List EntryPart) (k : ℕ) (part : EntryPart) (low : k < length
   here = ap (map part_view) (drop-here parts k part low is)
 
   -- one entry more was read
-  pub next_found : (found more : List Kept) (x : Kept) → more ≡ found ++ x ∷ [] → entry_view x ≡ entry_of (part_view part) → map entry_view found ≡ map entry_of (map part_view (take k parts))
-      → map entry_view more ≡ map entry_of (map part_view (take (k + 1) parts))
+  pub next_found : (found more : List Entry) (x : Entry) → more ≡ found ++ x ∷ [] → x ≡ entry_of (part_view part) → found ≡ map entry_of (map part_view (take k parts))
+      → more ≡ map entry_of (map part_view (take (k + 1) parts))
   next_found found more x pushed same before =
-      ap (map entry_view) pushed ∙ map_push entry_view found x ∙ ap₂ (λ ys y. ys ++ y ∷ []) before (same ∙ ap (λ y. entry_of (part_view y)) is)
+      pushed ∙ ap₂ (λ ys y. ys ++ y ∷ []) before (same ∙ ap (λ y. entry_of (part_view y)) is)
       ∙ sym (map_push entry_of (map part_view (take k parts)) (part_view (get_or parts k part))) ∙ sym (ap (map entry_of) (map_more part_view parts k part low))
 
   pub next_left : (l : Limits) (p t : ℕ) (x : Kept) → is_entry l (part_view part) ≡ true → entry_view x ≡ entry_of (part_view part) → is_before p t (entry_view x) ≡ false
@@ -106,6 +111,11 @@ module _ (parts : List EntryPart) (k : ℕ) (part : EntryPart) (low : k < length
   next_left l p t x good same late =
       ap (λ (y : Entry). first_bad_entry l y.period y.slot (k + 1) (map part_view (drop (k + 1) parts))) same
       ∙ good_entry l p t k (part_view part) (map part_view (drop (k + 1) parts)) good (sym (ap (is_before p t) same) ∙ late) ∙ sym (ap (first_bad_entry l p t k) here)
+
+  -- an entry that is none
+  pub bad_here : (l : Limits) (p t : ℕ) (o : Option ℕ) (e : ScenarioError) → is_entry l (part_view part) ≡ false → first_bad_entry l p t k (map part_view (drop k parts)) ≡ o → Tells (Some (17, k)) e → Tells (at_place 17 o) e
+  bad_here l p t o e bad so_far told =
+      subst (λ (y : Option ℕ). Tells (at_place 17 y) e) (sym (bad_entry l p t k (part_view part) (map part_view (drop (k + 1) parts)) bad) ∙ sym (ap (first_bad_entry l p t k) here) ∙ so_far) told
 
   -- an entry that goes back
   pub back_here : (l : Limits) (p t : ℕ) (x : Kept) (o : Option ℕ) (e : ScenarioError) → is_entry l (part_view part) ≡ true → entry_view x ≡ entry_of (part_view part) → is_before p t (entry_view x) ≡ true

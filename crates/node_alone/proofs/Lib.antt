@@ -4,5 +4,6 @@ mod Told
 mod Law
 mod Stepped
 mod Left
+mod Tables
 mod Accepted
 mod Fives

@@ -6,3 +6,4 @@ pub mod Seen
 pub mod Laws
 pub mod Stepping
 pub mod Lending
+pub mod Tabled

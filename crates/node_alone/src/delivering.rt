@@ -1,36 +1,36 @@
 //! What a log brings to its node.
 
-ghost use Rattle.std.specs.Prelude.{◌≡◌, ◌≢◌, ◌<◌, ◌≤◌, ◌+◌, ℕ, true, All, map, drop};
+ghost use Rattle.std.specs.Prelude.{◌≡◌, ◌≢◌, ◌<◌, ◌≤◌, ◌+◌, ℕ, true, All, drop};
 ghost use Rattle.node_grid.specs.Capacity.{IsCapacity};
 ghost use Rattle.node_steps.specs.Period.{slots_run};
 ghost use Rattle.node_alone.specs.Log.{arrivals};
-ghost use Rattle.node_alone.specs.Seen.{entry_view, Ascends};
+ghost use Rattle.node_alone.specs.Seen.{Ascends};
 ghost use Rattle.node_alone.specs.Stepping.{handed, from_slot, IsFromOther, IsReady};
 
-use crate::entry::Entry;
+use crate::table::Table;
 use node_core::Node;
 
 /// Delivers the entries of the open slot to the node, from entry `next` on. Answers the first entry of a later slot.
 fn deliver_slot<'c, const N: usize>(
     node: &mut Node<'c, N>,
-    entries: &[Entry],
+    entries: &Table,
     next: usize,
     period: u32,
     slot: u8,
 ) -> usize
     requires capacity { IsCapacity N }
-    requires ready { IsReady node.old (map entry_view entries.now) }
-    requires ascends { Ascends (map entry_view entries.now) }
-    requires rest { drop next (map entry_view entries.now) ≡ from_slot period slot (map entry_view entries.now) }
-    ensures given { node.new ≡ handed node.old (arrivals (map entry_view entries.now) period slot) }
-    ensures rest { drop result (map entry_view entries.now) ≡ from_slot period (slot + 1) (map entry_view entries.now) }
+    requires ready { IsReady node.old entries.now }
+    requires ascends { Ascends entries.now }
+    requires rest { drop next entries.now ≡ from_slot period slot entries.now }
+    ensures given { node.new ≡ handed node.old (arrivals entries.now period slot) }
+    ensures rest { drop result entries.now ≡ from_slot period (slot + 1) entries.now }
 {
     for place in next..entries.len() {
-        let entry = &entries[place];
+        let entry = entries.entry(place);
         if entry.period != period || entry.slot != slot {
             return place;
         }
-        node.deliver(entry.from, entry.tick, entry.bytes.as_slice());
+        node.deliver(entry.from, entry.tick, entry.bytes);
     }
     entries.len()
 }
@@ -38,17 +38,17 @@ fn deliver_slot<'c, const N: usize>(
 /// Runs so many slots of the period, from entry `next` on. Answers the first entry that is left.
 pub(crate) fn run_slots<'c, const N: usize>(
     node: &mut Node<'c, N>,
-    entries: &[Entry],
+    entries: &Table,
     next: usize,
     period: u32,
     count: u8,
 ) -> usize
     requires capacity { IsCapacity N }
-    requires ready { (t : ℕ) → t < count → IsReady (slots_run (arrivals (map entry_view entries.now) period) t node.old) (map entry_view entries.now) }
-    requires ascends { Ascends (map entry_view entries.now) }
-    requires rest { drop next (map entry_view entries.now) ≡ from_slot period 0 (map entry_view entries.now) }
-    ensures after { node.new ≡ slots_run (arrivals (map entry_view entries.now) period) count node.old }
-    ensures rest { drop result (map entry_view entries.now) ≡ from_slot period count (map entry_view entries.now) }
+    requires ready { (t : ℕ) → t < count → IsReady (slots_run (arrivals entries.now period) t node.old) entries.now }
+    requires ascends { Ascends entries.now }
+    requires rest { drop next entries.now ≡ from_slot period 0 entries.now }
+    ensures after { node.new ≡ slots_run (arrivals entries.now period) count node.old }
+    ensures rest { drop result entries.now ≡ from_slot period count entries.now }
 {
     let mut next = next;
     for slot in 0..count {

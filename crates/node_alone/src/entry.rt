@@ -1,4 +1,4 @@
-//! The entries of a log.
+//! The entries of a log, one by one.
 
 /// One delivery.
 #[derive(Drop)]

@@ -11,6 +11,7 @@ ghost use Rattle.node_alone.specs.Seen.{part_view, limits_view, entry_view};
 
 use crate::entry::Entry;
 use crate::reading::EntryPart;
+use crate::table::Table;
 use json_parts::bytes_of_hex;
 use scenario::ScenarioError;
 use slot_plan::LAST_TICK;
@@ -98,12 +99,12 @@ pub(crate) fn entries(
     alloc: Global,
     parts: &[EntryPart<'_>],
     limits: &Limits,
-) -> Result<Vec<Entry>, ScenarioError>
+) -> Result<Table, ScenarioError>
     ensures accepted { IfOk result (λ v. first_bad_entry (limits_view limits.now) 0 0 0 (map part_view parts.now) ≡ None) }
-    ensures says { IfOk result (λ v. map entry_view v.items ≡ map entry_of (map part_view parts.now)) }
+    ensures says { IfOk result (λ v. v ≡ map entry_of (map part_view parts.now)) }
     ensures refused { IfErr result (Tells (at_place 17 (first_bad_entry (limits_view limits.now) 0 0 0 (map part_view parts.now)))) }
 {
-    let Ok(mut found) = Vec::with_capacity(alloc, parts.len()) else {
+    let Ok(mut found) = Table::with_capacity(alloc, parts.len()) else {
         return Err(ScenarioError::NoMemory);
     };
     // The slot of the entry before.
@@ -121,7 +122,7 @@ pub(crate) fn entries(
         }
         period = entry.period;
         slot = entry.slot;
-        let Ok(()) = found.push(entry) else {
+        let Ok(()) = found.push(&entry) else {
             return Err(ScenarioError::NoMemory);
         };
     }

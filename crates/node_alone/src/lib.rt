@@ -9,6 +9,7 @@ mod judging;
 pub mod laws;
 mod reading;
 mod record;
+mod table;
 
 pub use alone::Alone;
 pub use record::Record;

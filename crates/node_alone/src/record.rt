@@ -1,17 +1,17 @@
 //! A node's log, and how it is read.
 
-ghost use Rattle.std.specs.Prelude.{◌≡◌, ◌<◌, ◌+◌, ◌*◌, ℕ, Some, IfOk, IfErr, IsErrOf, map};
+ghost use Rattle.std.specs.Prelude.{◌≡◌, ◌<◌, ◌+◌, ◌*◌, ℕ, Some, IfOk, IfErr, IsErrOf};
 ghost use Rattle.node_grid.specs.Capacity.{IsCapacity};
 ghost use Rattle.serde_json.specs.Data.{Data};
 ghost use Rattle.serde_json.specs.View.{view};
 ghost use Rattle.json_parts.specs.Reading.{Reads};
 ghost use Rattle.scenario.specs.Verdict.{Tells};
 ghost use Rattle.node_alone.specs.Rules.{limits_of, record_refusal, IsAcceptedRecord};
-ghost use Rattle.node_alone.specs.Seen.{limits_view, entry_view, IsRecord};
+ghost use Rattle.node_alone.specs.Seen.{limits_view, IsRecord};
 
-use crate::entry::Entry;
 use crate::judging::{Limits, entries};
 use crate::reading::parts;
+use crate::table::Table;
 use agreed_state::Config;
 use json_parts::PartError;
 use scenario::{Scenario, ScenarioError};
@@ -25,19 +25,18 @@ use std::marker::Model;
 pub struct Record<const N: usize> {
     scenario: Scenario<N>,
     id: u8,
-    entries: Vec<Entry>,
+    entries: Table,
 }
 
 impl<const N: usize> Model for Record<N> {
-    ghost use Rattle.std.specs.Prelude.{map};
     ghost use Rattle.node_alone.specs.Log.{RecordView};
-    ghost use Rattle.node_alone.specs.Seen.{entry_view, IsRecord};
+    ghost use Rattle.node_alone.specs.Seen.{IsRecord};
 
     ghost Value = { RecordView N };
 
-    ghost view = { λ r. record { scenario = r.scenario; id = r.id; entries = map entry_view r.entries.items } };
+    ghost view = { λ r. record { scenario = r.scenario; id = r.id; entries = r.entries } };
 
-    ghost invariant = { λ r. IsRecord {N = N} (record { scenario = r.scenario; id = r.id; entries = map entry_view r.entries.items }) };
+    ghost invariant = { λ r. IsRecord {N = N} (record { scenario = r.scenario; id = r.id; entries = r.entries }) };
 }
 
 /// The limits of an entry of node `id`'s log, under the scenario.
@@ -144,10 +143,10 @@ impl<const N: usize> Record<N> {
         &self.scenario
     }
 
-    pub(crate) fn entries(&self) -> &[Entry]
-        ensures entries { map entry_view result.now ≡ self.now.entries }
+    pub(crate) fn entries(&self) -> &Table
+        ensures entries { result.now ≡ self.now.entries }
         ensures log { IsRecord self.now }
     {
-        self.entries.as_slice()
+        &self.entries
     }
 }

@@ -1,16 +1,15 @@
-use Rattle.std.proofs.Common.{ℕ, ◌≡◌, ◌+◌, suc, inl, inr, lit<, sym, ap, subst, ◌∙◌, arith, map, List}
+use Rattle.std.proofs.Common.{ℕ, ◌≡◌, ◌+◌, suc, inl, inr, lit<, sym, ap, subst, ◌∙◌, arith, List}
 use Rattle.error_detect.specs.Multiset.{Arriving}
 use Rattle.node_steps.specs.Parts.{NodeView}
 use Rattle.node_steps.specs.Steps.{after_slot}
 use Rattle.node_steps.specs.Period.{slots_run}
 use Rattle.node_alone.specs.Log.{Entry, arrivals}
-use Rattle.node_alone.specs.Seen.{entry_view}
 use Rattle.node_alone.specs.Stepping.{handed, from_slot, IsReady}
 use Rattle.node_alone.proofs.delivering.run_slots.Goals as goal
 
 pub deliver_slot-next-requires : goal.deliver_slot-next-requires
 deliver_slot-next-requires g c =
-    let es : List Entry = map entry_view c.args.entries.now in (
+    let es : List Entry = c.args.entries.now in (
       elim c.requires.capacity [ inl e ↦ rw e (lit< tt) | inr e ↦ rw e (lit< tt) ],
       (c.requires.capacity, (subst (λ (v : NodeView g.row.N). IsReady v es) (sym c.loop-slot.invariant.node) (c.requires.ready c.loop-slot.slot c.loop-slot-test.true), (c.requires.ascends, c.loop-slot.invariant.rest))),
     )
@@ -18,13 +17,13 @@ deliver_slot-next-requires g c =
 pub slot_end-requires : goal.slot_end-requires
 slot_end-requires g c = (
   elim c.requires.capacity [ inl e ↦ rw e (lit< tt) | inr e ↦ rw e (lit< tt) ],
-  ap (λ (v : NodeView g.row.N). v.phase.is_open) (c.deliver_slot-next.ensures.given ∙ ap (λ (v : NodeView g.row.N). handed v (arrivals (map entry_view c.args.entries.now) c.args.period c.loop-slot.slot)) c.loop-slot.invariant.node)
+  ap (λ (v : NodeView g.row.N). v.phase.is_open) (c.deliver_slot-next.ensures.given ∙ ap (λ (v : NodeView g.row.N). handed v (arrivals c.args.entries.now c.args.period c.loop-slot.slot)) c.loop-slot.invariant.node)
       ∙ (c.requires.ready c.loop-slot.slot c.loop-slot-test.true).is_open,
 )
 
 pub loop-slot-preserved : goal.loop-slot-preserved
 loop-slot-preserved g c =
-    let es : List Entry = map entry_view c.args.entries.now in
+    let es : List Entry = c.args.entries.now in
     let ds : ℕ → List Arriving = arrivals es c.args.period in
     let t : ℕ = c.loop-slot.slot in
     record {
@@ -35,8 +34,8 @@ loop-slot-preserved g c =
 
 pub returns-clause-after : goal.returns-clause-after
 returns-clause-after g c =
-    c.loop-slot.invariant.node ∙ ap (λ (t : ℕ). slots_run (arrivals (map entry_view c.args.entries.now) c.args.period) t c.args.node.now) (let e : c.loop-slot.slot ≡ c.args.count = omega (arith, c.loop-slot.auto.slot-end, c.loop-slot-test.false) in e)
+    c.loop-slot.invariant.node ∙ ap (λ (t : ℕ). slots_run (arrivals c.args.entries.now c.args.period) t c.args.node.now) (let e : c.loop-slot.slot ≡ c.args.count = omega (arith, c.loop-slot.auto.slot-end, c.loop-slot-test.false) in e)
 
 pub returns-clause-rest : goal.returns-clause-rest
 returns-clause-rest g c =
-    c.loop-slot.invariant.rest ∙ ap (λ (t : ℕ). from_slot c.args.period t (map entry_view c.args.entries.now)) (let e : c.loop-slot.slot ≡ c.args.count = omega (arith, c.loop-slot.auto.slot-end, c.loop-slot-test.false) in e)
+    c.loop-slot.invariant.rest ∙ ap (λ (t : ℕ). from_slot c.args.period t c.args.entries.now) (let e : c.loop-slot.slot ≡ c.args.count = omega (arith, c.loop-slot.auto.slot-end, c.loop-slot-test.false) in e)

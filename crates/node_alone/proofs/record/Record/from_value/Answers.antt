@@ -3,7 +3,7 @@ use Rattle.serde_json.specs.View.{view}
 use Rattle.scenario.specs.Rules.{at_place}
 use Rattle.scenario.specs.Verdict.{Tells}
 use Rattle.node_alone.specs.Rules.{Limits, entry_of, first_bad_entry}
-use Rattle.node_alone.specs.Seen.{part_view, limits_view, parts_view, entry_view}
+use Rattle.node_alone.specs.Seen.{part_view, limits_view, parts_view}
 use Rattle.node_alone.proofs.Accepted.{no_parts, no_node, entry_refused, accepted, is_record}
 use Rattle.node_alone.proofs.record.Record.from_value.Goals as goal
 
@@ -27,7 +27,7 @@ invariant_of-result g c =
     let nodes : c.limits_of-limits.result.nodes ≡ c.in-Ok-from_value.scenario.config.nodes = ap (λ (l : Limits). l.nodes) c.limits_of-limits.ensures in
     is_record g.row.N c.args.id (view c.args.value.now) parts (sym c.in-Ok.ensures) c.in-Ok-from_value.scenario c.in-Ok-from_value.ensures.accepted (omega (arith, nodes, c.if-id-limits.false))
     (limits_view c.limits_of-limits.result) c.limits_of-limits.ensures (ap (λ xs. first_bad_entry (limits_view c.limits_of-limits.result) 0 0 0 (map part_view xs)) (sym c.as_slice.ensures.value) ∙ c.in-Ok-entries.ensures.accepted)
-    (map entry_view c.in-Ok-entries.entries.items) (c.in-Ok-entries.ensures.says ∙ ap (λ xs. map entry_of (map part_view xs)) c.as_slice.ensures.value) c.in-Ok-from_value.ensures.system
+    c.in-Ok-entries.entries (c.in-Ok-entries.ensures.says ∙ ap (λ xs. map entry_of (map part_view xs)) c.as_slice.ensures.value) c.in-Ok-from_value.ensures.system
 
 pub returns-clause-accepted : goal.returns-clause-accepted
 returns-clause-accepted g c =
@@ -35,7 +35,7 @@ returns-clause-accepted g c =
     let nodes : c.limits_of-limits.result.nodes ≡ c.in-Ok-from_value.scenario.config.nodes = ap (λ (l : Limits). l.nodes) c.limits_of-limits.ensures in
     accepted g.row.N c.args.id (view c.args.value.now) parts (sym c.in-Ok.ensures) c.in-Ok-from_value.scenario c.in-Ok-from_value.ensures.accepted (omega (arith, nodes, c.if-id-limits.false))
     (limits_view c.limits_of-limits.result) c.limits_of-limits.ensures (ap (λ xs. first_bad_entry (limits_view c.limits_of-limits.result) 0 0 0 (map part_view xs)) (sym c.as_slice.ensures.value) ∙ c.in-Ok-entries.ensures.accepted)
-    (map entry_view c.in-Ok-entries.entries.items) (c.in-Ok-entries.ensures.says ∙ ap (λ xs. map entry_of (map part_view xs)) c.as_slice.ensures.value)
+    c.in-Ok-entries.entries (c.in-Ok-entries.ensures.says ∙ ap (λ xs. map entry_of (map part_view xs)) c.as_slice.ensures.value)
 
 pub returns-in-Err-entries-clause-refused : goal.returns-in-Err-entries-clause-refused
 returns-in-Err-entries-clause-refused g c =
