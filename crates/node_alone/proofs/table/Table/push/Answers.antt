@@ -1,4 +1,4 @@
-use Rattle.std.proofs.Common.{◌≡◌, ◌+◌, ◌∷◌, ◌++◌, [], map, length, ◌∙◌, ap, ap₂, List, ℕ, rules}
+use Rattle.std.proofs.Common.{◌≡◌, ◌∷◌, ◌++◌, [], map, length, ◌∙◌, ap, ap₂, List, ℕ, rules}
 use Rattle.std.proofs.lemmas.List.{length-append}
 use Rattle.node_alone.specs.Log.{Entry}
 use Rattle.node_alone.specs.Seen.{entry_view}
