@@ -101,8 +101,10 @@ fn answer_value<K: Sink>(alloc: Global, form: Form, value: &Value, sink: &mut K)
     ensures { AnswersValue form (view value.now) (K.written sink.old) (K.written sink.new) (K.faults sink.old) (K.faults sink.new) result }
 {
     if has_few_nodes(value) {
-        if let Ok(scenario) = Scenario::<FEW>::from_value(alloc, value) {
-            return ended(write_few(alloc, &scenario, form, sink));
+        match Scenario::<FEW>::from_value(alloc, value) {
+            Ok(scenario) => return ended(write_few(alloc, &scenario, form, sink)),
+            Err(ScenarioError::NoMemory) => return Status::NoMemory,
+            Err(_) => {}
         }
     }
     match Scenario::<CAPACITY>::from_value(alloc, value) {
