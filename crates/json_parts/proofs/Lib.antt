@@ -1,3 +1,3 @@
 pub mod Collect
+pub mod Digits
 pub mod Members
-pub mod Pairs

@@ -1,59 +1,62 @@
 //! The bytes that a text is in hexadecimal.
 //!
-//! It is read by a table, so that digits that come in no order cost no wrong guesses of branches.
-ghost use Rattle.std.specs.Prelude.{◌≡◌, ◌*◌, ℕ, true, false, None, Some, IfOk, length, option_map, unwrap_or};
+//! It is read in two passes without a branch in either, so that many digits are read at once.
+ghost use Rattle.std.specs.Prelude.{◌≡◌, ◌*◌, ℕ, true, false, None, Some, Ok, IfOk, length, option_map};
+ghost use Rattle.std.specs.List.{list_all};
 ghost use Rattle.std.specs.Result.{result_ok};
-ghost use Rattle.hex.specs.Hex.{decode_of, decode_pairs, hex_digit_value, pair_value};
+ghost use Rattle.hex.specs.Hex.{decode_of, decode_pairs, is_hex_digit, pair_value};
 
 use std::alloc::{AllocError, Global};
 
-// The value of each character that is a digit; 16 of the others.
-static DIGITS: [u8; 256] = [
-    16, 16, 16, 16, 16, 16, 16, 16, 16, 16, 16, 16, 16, 16, 16, 16, 16, 16, 16, 16, 16, 16, 16, 16,
-    16, 16, 16, 16, 16, 16, 16, 16, 16, 16, 16, 16, 16, 16, 16, 16, 16, 16, 16, 16, 16, 16, 16, 16,
-    0, 1, 2, 3, 4, 5, 6, 7, 8, 9, 16, 16, 16, 16, 16, 16, 16, 10, 11, 12, 13, 14, 15, 16, 16, 16,
-    16, 16, 16, 16, 16, 16, 16, 16, 16, 16, 16, 16, 16, 16, 16, 16, 16, 16, 16, 16, 16, 16, 16, 10,
-    11, 12, 13, 14, 15, 16, 16, 16, 16, 16, 16, 16, 16, 16, 16, 16, 16, 16, 16, 16, 16, 16, 16, 16,
-    16, 16, 16, 16, 16, 16, 16, 16, 16, 16, 16, 16, 16, 16, 16, 16, 16, 16, 16, 16, 16, 16, 16, 16,
-    16, 16, 16, 16, 16, 16, 16, 16, 16, 16, 16, 16, 16, 16, 16, 16, 16, 16, 16, 16, 16, 16, 16, 16,
-    16, 16, 16, 16, 16, 16, 16, 16, 16, 16, 16, 16, 16, 16, 16, 16, 16, 16, 16, 16, 16, 16, 16, 16,
-    16, 16, 16, 16, 16, 16, 16, 16, 16, 16, 16, 16, 16, 16, 16, 16, 16, 16, 16, 16, 16, 16, 16, 16,
-    16, 16, 16, 16, 16, 16, 16, 16, 16, 16, 16, 16, 16, 16, 16, 16, 16, 16, 16, 16, 16, 16, 16, 16,
-    16, 16, 16, 16, 16, 16, 16, 16, 16, 16, 16, 16, 16, 16,
-];
-
-/// The value of a digit, in either case; 16 of another character.
-fn digit(code: u8) -> u8
-    ensures { result ≡ unwrap_or (hex_digit_value code) 16 }
+/// Whether the character is a digit, in either case.
+fn is_digit(code: u8) -> bool
+    ensures { result ≡ is_hex_digit code }
 {
-    DIGITS[code as usize]
+    b'0' <= code && code <= b'9' || b'a' <= code && code <= b'f' || b'A' <= code && code <= b'F'
 }
 
-/// The byte of two digits, where they are digits.
-fn pair(high: u8, low: u8) -> Option<u8>
-    ensures { (place : ℕ) → result ≡ result_ok (pair_value high low place) }
+fn are_digits(digits: &[u8]) -> bool
+    ensures { result ≡ list_all is_hex_digit digits.now }
 {
-    let high = digit(high);
-    let low = digit(low);
-    if high > 15 || low > 15 {
-        None
-    } else {
-        Some(high * 16 + low)
+    let mut all = true;
+    for code in digits {
+        all &= is_digit(*code);
+    }
+    all
+}
+
+/// The byte of two digits. Their values are found together: the low bits of a letter's code are 9 less than its value.
+fn byte_of(high: u8, low: u8) -> u8
+    requires high { is_hex_digit high ≡ true }
+    requires low { is_hex_digit low ≡ true }
+    ensures { (place : ℕ) → pair_value high low place ≡ Ok result }
+{
+    let codes = u16::from(high) | (u16::from(low) << 8);
+    let values = (codes & 0x0f0f) + 9 * ((codes >> 6) & 0x0101);
+    (((values << 4) | (values >> 8)) & 0xff) as u8
+}
+
+/// Writes the bytes of pairs of digits.
+fn decode_digits(digits: &[u8], bytes: &mut [u8])
+    requires length { length digits.now ≡ 2 * length bytes.old }
+    requires digits { list_all is_hex_digit digits.now ≡ true }
+    ensures { decode_pairs 0 digits.now ≡ Ok bytes.new }
+{
+    for i in 0..bytes.len() {
+        bytes[i] = byte_of(digits[2 * i], digits[2 * i + 1]);
     }
 }
 
-/// Writes the bytes of pairs of digits, and answers whether all are digits.
+/// Writes the bytes of pairs of digits where all are digits, and answers whether they are.
 fn decode_pairs(digits: &[u8], bytes: &mut [u8]) -> bool
     requires { length digits.now ≡ 2 * length bytes.old }
     ensures some { result ≡ true → result_ok (decode_pairs 0 digits.now) ≡ Some bytes.new }
     ensures none { result ≡ false → result_ok (decode_pairs 0 digits.now) ≡ None }
 {
-    for i in 0..bytes.len() {
-        let Some(byte) = pair(digits[2 * i], digits[2 * i + 1]) else {
-            return false;
-        };
-        bytes[i] = byte;
+    if !are_digits(digits) {
+        return false;
     }
+    decode_digits(digits, bytes);
     true
 }
 
