@@ -19,7 +19,7 @@ zeros_behind [] (suc n) (suc k) h = zeros_behind [] n k (omega arith)
 zeros_behind (x ∷ xs) n zero h = absurd (omega arith)
 zeros_behind (x ∷ xs) n (suc k) h = zeros_behind xs n k (omega arith)
 
-near_is : (delta v w : ℤ) → is_near delta v w ≡ true → pos (distance v w) ≤ℤ delta
+pub near_is : (delta v w : ℤ) → is_near delta v w ≡ true → pos (distance v w) ≤ℤ delta
 near_is delta v w h = not_less delta (pos (distance v w)) (not-true _ h)
 
 pub close_row : (delta : ℤ) (row : List ℤ) (i j : ℕ) → are_close delta row ≡ true → i < length row → j < length row
