@@ -4,16 +4,17 @@
     bench/workloads.sh [PROGRAM..]
 
 Prints for each workload the least processor time of several interleaved runs, output bytes a second, and peak memory. With more than
-one program each further one's time is also told as a ratio to the first. Without one it is the program that the launcher built.
+one program each has a line, and that of a further one says how many times as long the first takes, and whether it wrote another
+text. Without one it is the program that `maft prove` keeps. The status is 1 where a program failed or a text is another.
 Nothing is claimed of these figures.
 """
+import hashlib
 import os
 import pathlib
 import shutil
 import subprocess
 import sys
 import tempfile
-import time
 
 TOP = pathlib.Path(__file__).resolve().parent.parent
 LONG = (TOP / "tests/cases/long_run/stdin").read_text()
@@ -57,13 +58,18 @@ WORKLOADS = [
 
 
 def run(program, words, given):
-    """Processor seconds, bytes written, peak memory in MB, and the status of one run."""
+    """Processor seconds of one run, what it wrote, as its length and a sum, and the status."""
     with tempfile.TemporaryFile() as source, tempfile.TemporaryFile() as sink:
         source.write(given.encode())
         source.seek(0)
         child = subprocess.Popen([program, *words], stdin=source, stdout=sink)
         _, status, usage = os.wait4(child.pid, 0)
-        return usage.ru_utime + usage.ru_stime, sink.seek(0, 2), os.waitstatus_to_exitcode(status)
+        size = sink.seek(0, os.SEEK_END)
+        sink.seek(0)
+        total = hashlib.sha256()
+        for piece in iter(lambda: sink.read(1 << 20), b""):
+            total.update(piece)
+        return usage.ru_utime + usage.ru_stime, (size, total.digest()), os.waitstatus_to_exitcode(status)
 
 
 def memory(program, words, given):
@@ -78,29 +84,46 @@ def memory(program, words, given):
 
 
 def least(programs, words, given):
-    """By program the least processor seconds of several interleaved runs, and the bytes that it writes; none of one that fails."""
+    """By program the least processor seconds of several interleaved runs, and what it writes; none where one fails."""
     best = {}
     for _ in range(RUNS):
         for program in programs:
-            seconds, size, status = run(program, words, given)
+            seconds, wrote, status = run(program, words, given)
             if status != 0:
                 print(f"{program} {' '.join(words)} ended with {status}")
                 return {}
             if program not in best or seconds < best[program][0]:
-                best[program] = (seconds, size)
+                best[program] = (seconds, wrote)
     return best
 
 
+def told(seconds, size, peak):
+    """Time, bytes a second and memory in words."""
+    memory_in_words = "" if peak is None else f", {peak:.1f} MB"
+    return f"{seconds * 1000:.1f} ms, {size / max(seconds, 1e-6) / 1e6:.0f} MB/s{memory_in_words}"
+
+
 def main():
-    programs = sys.argv[1:] or [str(TOP / ".maft/maft")]
+    programs = [str(pathlib.Path(it).resolve()) for it in sys.argv[1:]] or [str(TOP / ".maft/maft")]
+    lacking = [it for it in programs if not os.access(it, os.X_OK)]
+    if lacking:
+        sys.exit(f"bench/workloads.sh: there is no program {lacking[0]}")
+    if shutil.which("time") is None:
+        print("peak memory is not told: no program 'time' is on the PATH")
+    well = True
     for name, words, given in WORKLOADS:
         best = least(programs, words, given)
-        for program, (seconds, size) in best.items():
-            peak = memory(program, words, given)
-            told = "" if peak is None else f", {peak:.1f} MB"
-            ratio = "" if program == programs[0] else f", {seconds / best[programs[0]][0]:.2f} times the first"
-            print(f"{name}: {seconds * 1000:.1f} ms, {size / max(seconds, 1e-6) / 1e6:.0f} MB/s{told}{ratio}", flush=True)
+        well = well and bool(best)
+        for program, (seconds, wrote) in best.items():
+            line = f"{name}: {told(seconds, wrote[0], memory(program, words, given))}"
+            if program != programs[0]:
+                first, wrote_first = best[programs[0]]
+                line += f" by {program}; the first takes {first / max(seconds, 1e-6):.2f} times as long"
+                line += "" if wrote == wrote_first else "; THE TEXTS DIFFER"
+                well = well and wrote == wrote_first
+            print(line, flush=True)
+    return 0 if well else 1
 
 
 if __name__ == "__main__":
-    main()
+    sys.exit(main())

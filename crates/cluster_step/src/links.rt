@@ -3,7 +3,7 @@
 ghost use Rattle.std.specs.Prelude.{◌≡◌, ◌≢◌, ◌<◌, ◌≤◌, All, map, replicate, length};
 ghost use Rattle.node_grid.specs.Capacity.{IsCapacity};
 ghost use Rattle.slot_plan.specs.Slots.{slot_count};
-ghost use Rattle.cluster_step.specs.Slots.{arriving, handed, handed_from, handed_whole, IsReady};
+ghost use Rattle.cluster_step.specs.Slots.{arriving, handed, handed_from, handed_whole, IsReady, Takes};
 
 use fault_classes::FaultPlan;
 use fault_link::{Delivered, deliveries};
@@ -13,8 +13,8 @@ use slot_plan::ON_TIME;
 use std::alloc::Global;
 use std::marker::Model;
 
-/// The length of the longest frame that there is.
-const LONGEST_FRAME: usize = 90_104;
+/// The length of the longest frame that there is: of 16 nodes, with three relay rounds.
+pub const LONGEST_FRAME: usize = 90_104;
 
 /// Room for a frame of which a fault line sets bytes. It is filled once it is needed.
 ///
@@ -71,42 +71,42 @@ pub(crate) struct Link<'p, const N: usize> {
     ghost in_use: { from < plan.now.nodes },
 }
 
+/// Hands a node the frame as it was sent by node `from`. The sender isn't handed its own.
+fn hand_whole<'c, const N: usize>(from: u8, sent: &Sent<'_>, node: &mut Node<'c, N>)
+    requires capacity { IsCapacity N }
+    requires takes { Takes from node.old }
+    ensures { node.new ≡ handed_whole sent.now from node.old }
+{
+    if from != node.me() {
+        node.deliver_sent(from, ON_TIME, sent);
+    }
+}
+
+/// Hands all nodes the frame as it was sent. It is looked at once, for all of them.
+fn deliver_whole<'c, const N: usize>(from: u8, sent: &[u8], nodes: &mut [Node<'c, N>])
+    requires capacity { IsCapacity N }
+    requires takes { All (Takes from) nodes.old }
+    ensures { nodes.new ≡ map (handed_whole sent.now from) nodes.old }
+{
+    let looked = Sent::look(sent, nodes.len().min(16) as u8);
+    for node in nodes.iter_mut() {
+        hand_whole(from, &looked, node);
+    }
+}
+
+/// Hands another node what arrives of the frame of node `from`.
+fn hand<'c, const N: usize>(from: u8, arrived: &Delivered<'_>, node: &mut Node<'c, N>)
+    requires capacity { IsCapacity N }
+    requires takes { Takes from node.old }
+    requires other { from ≢ node.old.phase.me }
+    ensures { node.new ≡ handed node.old (map (arriving from) (replicate arrived.now.copies (arrived.now.tick, arrived.now.bytes.now))) }
+{
+    for _ in 0..arrived.copies {
+        node.deliver(from, arrived.tick, arrived.bytes);
+    }
+}
+
 impl<'p, const N: usize> Link<'p, N> {
-    /// Hands a node the frame as it was sent. The sender isn't handed its own.
-    fn hand_whole<'c>(&self, sent: &Sent<'_>, node: &mut Node<'c, N>)
-        requires capacity { IsCapacity N }
-        requires ready { IsReady self.now.plan.now node.old }
-        ensures { node.new ≡ handed_whole sent.now self.now.from node.old }
-    {
-        if self.from != node.me() {
-            node.deliver_sent(self.from, ON_TIME, sent);
-        }
-    }
-
-    /// Hands all nodes the frame as it was sent. It is looked at once, for all of them.
-    fn deliver_whole<'c>(&self, sent: &[u8], nodes: &mut [Node<'c, N>])
-        requires capacity { IsCapacity N }
-        requires ready { All (IsReady self.now.plan.now) nodes.old }
-        ensures { nodes.new ≡ map (handed_whole sent.now self.now.from) nodes.old }
-    {
-        let looked = Sent::look(sent, nodes.len().min(16) as u8);
-        for node in nodes.iter_mut() {
-            self.hand_whole(&looked, node);
-        }
-    }
-
-    /// Hands another node what arrives of the frame.
-    fn hand<'c>(&self, arrived: &Delivered<'_>, node: &mut Node<'c, N>)
-        requires capacity { IsCapacity N }
-        requires ready { IsReady self.now.plan.now node.old }
-        requires other { self.now.from ≢ node.old.phase.me }
-        ensures { node.new ≡ handed node.old (map (arriving self.now.from) (replicate arrived.now.copies (arrived.now.tick, arrived.now.bytes.now))) }
-    {
-        for _ in 0..arrived.copies {
-            node.deliver(self.from, arrived.tick, arrived.bytes);
-        }
-    }
-
     /// Delivers to a node what arrives of the frame; to the sender nothing does.
     fn deliver_to<'c>(&self, sent: &[u8], node: &mut Node<'c, N>, scratch: &mut Scratch)
         requires capacity { IsCapacity N }
@@ -126,7 +126,7 @@ impl<'p, const N: usize> Link<'p, N> {
                 sent,
                 &mut scratch.bytes.as_mut_slice()[..sent.len()],
             );
-            self.hand(&arrived, node);
+            hand(self.from, &arrived, node);
         }
     }
 
@@ -139,7 +139,7 @@ impl<'p, const N: usize> Link<'p, N> {
         ensures { nodes.new ≡ map (handed_from self.now.plan.now self.now.period self.now.slot sent.now self.now.from) nodes.old }
     {
         if self.plan.clean(self.from, self.period) {
-            self.deliver_whole(sent, nodes);
+            deliver_whole(self.from, sent, nodes);
         } else {
             for node in nodes.iter_mut() {
                 self.deliver_to(sent, node, scratch);

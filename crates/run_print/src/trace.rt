@@ -1,7 +1,7 @@
 //! The printed frames of a period.
-ghost use Rattle.std.specs.Prelude.{◌≡◌, true, [], ◌++◌, if◌then◌else◌, ◌≢◌, ◌+◌, ◌*◌, ◌≤◌, ◌<◌, codes, length, replicate};
+ghost use Rattle.std.specs.Prelude.{◌≡◌, true, [], ◌++◌, if◌then◌else◌, ◌≢◌, ◌+◌, ◌*◌, ◌≤◌, ◌<◌, codes, length, replicate, slice_index};
 ghost use Rattle.std.specs.List.{flat_map};
-ghost use Rattle.hex.specs.Hex.{encode_lower};
+ghost use Rattle.hex.specs.Hex.{encode_lower, lower_digits};
 ghost use Rattle.slot_plan.specs.Slots.{slot_count};
 ghost use Rattle.slot_plan.specs.Ticks.{on_time};
 ghost use Rattle.fault_classes.specs.Line.{effect_at};
@@ -11,20 +11,17 @@ ghost use Rattle.run_print.specs.Printing.{Prints};
 ghost use Rattle.run_print.specs.TraceText.{IsPlanOf, bytes_text, arrival_text, frame_text, link_text, sender_text, slot_text, frames_text};
 
 use crate::printer::Printer;
-use cluster_step::PeriodRecord;
+use cluster_step::{LONGEST_FRAME, PeriodRecord};
 use fault_classes::FaultPlan;
 use fault_link::{Delivered, deliveries};
 use slot_plan::{ON_TIME, slot_count};
 use span_io::Sink;
 
-/// The greatest length of a frame: 16 nodes, three relay rounds.
-const LONGEST_FRAME: usize = 90_104;
+/// The length of a frame for which little room is taken.
+const SHORT_FRAME: usize = 1024;
 
 /// How many bytes are put into hexadecimal at once, where a fault line touches a frame.
 const PIECE: usize = 512;
-
-/// Room for a frame in hexadecimal, and behind it for its bytes as a fault line changes them.
-const ROOM: usize = 3 * LONGEST_FRAME;
 
 /// Where a frame is sent.
 #[derive(Clone, Copy)]
@@ -45,6 +42,26 @@ fn slots_of<const N: usize>(plan: &FaultPlan<N>, rounds: u8) -> u8
     slot_count(rounds)
 }
 
+/// The digit of a number below 16.
+fn digit(n: u8) -> u8
+    requires { n < 16 }
+    ensures { result ≡ slice_index lower_digits n }
+{
+    if n < 10 { b'0' + n } else { b'a' - 10 + n }
+}
+
+/// Writes bytes in hexadecimal.
+fn spell(bytes: &[u8], digits: &mut [u8])
+    requires { length digits.old ≡ 2 * length bytes.now }
+    ensures { digits.new ≡ encode_lower bytes.now }
+{
+    for i in 0..bytes.len() {
+        let byte = bytes[i];
+        digits[2 * i] = digit(byte >> 4);
+        digits[2 * i + 1] = digit(byte & 15);
+    }
+}
+
 /// Bytes in hexadecimal, in this room; no bytes are `-`.
 fn digits_of<'a>(bytes: &[u8], room: &'a mut [u8]) -> &'a [u8]
     requires { 2 * length bytes.now ≤ length room.old }
@@ -54,10 +71,8 @@ fn digits_of<'a>(bytes: &[u8], room: &'a mut [u8]) -> &'a [u8]
         return b"-";
     }
     let digits = &mut room[..2 * bytes.len()];
-    match hex::encode_to_slice(bytes, digits) {
-        Ok(()) => digits,
-        Err(_) => unreachable!(),
-    }
+    spell(bytes, digits);
+    digits
 }
 
 impl Printer {
@@ -68,10 +83,8 @@ impl Printer {
     {
         let mut digits = [0; 2 * PIECE];
         let room = &mut digits[..2 * bytes.len()];
-        match hex::encode_to_slice(bytes, room) {
-            Ok(()) => self.text(sink, room),
-            Err(_) => unreachable!(),
-        }
+        spell(bytes, room);
+        self.text(sink, room);
     }
 
     /// Prints bytes in hexadecimal.
@@ -135,25 +148,27 @@ impl Printer {
         }
     }
 
-    /// Prints what arrives at each receiver of a sender's frame.
-    fn sender<K: Sink, const N: usize>(
+    /// Prints what arrives at each receiver of a sender's frame, with room for the frame in hexadecimal
+    /// and for its bytes as a fault line changes them.
+    fn receivers<K: Sink, const N: usize>(
         &mut self,
         sink: &mut K,
         shown: &PeriodRecord<N>,
         plan: &FaultPlan<N>,
         slot: u8,
         from: u8,
-        room: &mut [u8; ROOM],
+        room: &mut [u8],
     )
         requires planned { IsPlanOf plan.now shown.now }
         requires slot { slot < slot_count shown.now.m }
         requires from { from < shown.now.nodes }
+        requires room { 3 * length (frame_at shown.now slot from) ≤ length room.old }
         ensures { Prints K.written K.faults self.old sink.old self.new sink.new (sender_text plan.now shown.now slot from) }
     {
         // naming a field tells the checker the types of all of them
         let _ = &shown.classes;
         let sent = shown.sent(slot, from);
-        let (front, changed) = room.split_at_mut(2 * LONGEST_FRAME);
+        let (front, changed) = room.split_at_mut(2 * sent.len());
         let digits = digits_of(sent, front);
         for to in 0..shown.nodes {
             if to != from {
@@ -174,6 +189,49 @@ impl Printer {
         }
     }
 
+    /// Prints what arrives at each receiver of a sender's frame of any length.
+    fn long_sender<K: Sink, const N: usize>(
+        &mut self,
+        sink: &mut K,
+        shown: &PeriodRecord<N>,
+        plan: &FaultPlan<N>,
+        slot: u8,
+        from: u8,
+    )
+        requires planned { IsPlanOf plan.now shown.now }
+        requires slot { slot < slot_count shown.now.m }
+        requires from { from < shown.now.nodes }
+        requires short { length (frame_at shown.now slot from) ≤ 90104 }
+        ensures { Prints K.written K.faults self.old sink.old self.new sink.new (sender_text plan.now shown.now slot from) }
+    {
+        let mut room = [0; 3 * LONGEST_FRAME];
+        self.receivers(sink, shown, plan, slot, from, &mut room);
+    }
+
+    /// Prints what arrives at each receiver of a sender's frame.
+    fn sender<K: Sink, const N: usize>(
+        &mut self,
+        sink: &mut K,
+        shown: &PeriodRecord<N>,
+        plan: &FaultPlan<N>,
+        slot: u8,
+        from: u8,
+    )
+        requires planned { IsPlanOf plan.now shown.now }
+        requires slot { slot < slot_count shown.now.m }
+        requires from { from < shown.now.nodes }
+        ensures { Prints K.written K.faults self.old sink.old self.new sink.new (sender_text plan.now shown.now slot from) }
+    {
+        // naming a field tells the checker the types of all of them
+        let _ = &shown.classes;
+        if shown.sent(slot, from).len() <= SHORT_FRAME {
+            let mut room = [0; 3 * SHORT_FRAME];
+            self.receivers(sink, shown, plan, slot, from, &mut room);
+        } else {
+            self.long_sender(sink, shown, plan, slot, from);
+        }
+    }
+
     /// Prints all frames that arrive in a slot.
     fn slot<K: Sink, const N: usize>(
         &mut self,
@@ -181,7 +239,6 @@ impl Printer {
         shown: &PeriodRecord<N>,
         plan: &FaultPlan<N>,
         slot: u8,
-        room: &mut [u8; ROOM],
     )
         requires planned { IsPlanOf plan.now shown.now }
         requires slot { slot < slot_count shown.now.m }
@@ -190,7 +247,7 @@ impl Printer {
         // naming a field tells the checker the types of all of them
         let _ = &shown.classes;
         for from in 0..shown.nodes {
-            self.sender(sink, shown, plan, slot, from, room);
+            self.sender(sink, shown, plan, slot, from);
         }
     }
 
@@ -206,9 +263,8 @@ impl Printer {
     {
         // naming a field tells the checker the types of all of them
         let _ = &shown.classes;
-        let mut room = [0; ROOM];
         for slot in 0..slots_of(plan, shown.m) {
-            self.slot(sink, shown, plan, slot, &mut room);
+            self.slot(sink, shown, plan, slot);
         }
     }
 

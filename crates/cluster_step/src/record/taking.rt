@@ -19,6 +19,18 @@ fn keep(frame: &[u8], kept: &mut Vec<u8>)
     let _within_room = kept.extend_from_slice(frame).is_ok();
 }
 
+/// Copies a node's frame into room that is there.
+fn copy_frame<'c, const N: usize>(node: &Node<'c, N>, kept: &mut Vec<u8>)
+    requires capacity { IsCapacity N }
+    requires open { node.now.phase.is_open ≡ true }
+    requires fits { node.now.arrived.frame_max ≤ vec_capacity kept.old }
+    ensures bytes { kept.new.items ≡ frame_of node.now }
+    ensures short { length kept.new.items ≤ node.now.arrived.frame_max }
+    ensures room { vec_capacity kept.old ≤ vec_capacity kept.new }
+{
+    keep(node.frame(), kept);
+}
+
 /// Copies the frames of all nodes, each into room for `room` bytes.
 fn copy_frames<'c, const N: usize>(nodes: &[Node<'c, N>], frames: &mut [Vec<u8>], room: usize)
     requires capacity { IsCapacity N }
@@ -30,9 +42,7 @@ fn copy_frames<'c, const N: usize>(nodes: &[Node<'c, N>], frames: &mut [Vec<u8>]
     ensures buffers { All (IsBuffer room) frames.new }
 {
     for i in 0..nodes.len() {
-        let frame = nodes[i].frame();
-        prove!(frame.len() <= room);
-        keep(frame, &mut frames[i]);
+        copy_frame(&nodes[i], &mut frames[i]);
     }
 }
 

@@ -1,11 +1,11 @@
 use Rattle.std.proofs.Common.{inl, inr, lit<, sym, subst, ◌∙◌}
 use Rattle.cluster_step.specs.Slots.{handed_from, IsReady}
 use Rattle.cluster_step.proofs.Cleaning.{clean_same}
-use Rattle.cluster_step.proofs.Handing.{holds_here, put_over}
+use Rattle.cluster_step.proofs.Handing.{holds_here, put_over, all_take}
 use Rattle.cluster_step.proofs.links.Link.deliver.Goals as goal
 
 pub deliver_whole-requires : goal.deliver_whole-requires
-deliver_whole-requires g c = (lit< tt, (elim c.requires.capacity [ inl e ↦ rw e (lit< tt) | inr e ↦ rw e (lit< tt) ], (c.requires.capacity, c.requires.ready)))
+deliver_whole-requires g c = (elim c.requires.capacity [ inl e ↦ rw e (lit< tt) | inr e ↦ rw e (lit< tt) ], (c.requires.capacity, all_take c.args.self.now.plan.now c.args.self.now.from c.args.nodes.now c.args.self.now.in_use c.requires.ready))
 
 pub deliver_to-requires : goal.deliver_to-requires
 deliver_to-requires g c = (

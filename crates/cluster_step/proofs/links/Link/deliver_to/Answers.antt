@@ -4,12 +4,13 @@ use Rattle.error_detect.specs.Finding.{Delivery}
 use Rattle.fault_classes.specs.Line.{effect_at}
 use Rattle.fault_link.specs.Arrival.{delivered_of}
 use Rattle.cluster_step.specs.Slots.{arriving, handed}
+use Rattle.cluster_step.proofs.Handing.{ready_takes}
 use Rattle.cluster_step.proofs.links.Link.deliver_to.Goals as goal
 
 pub hand-requires : goal.hand-requires
 hand-requires g c = (
-  lit< tt,
-  (elim c.requires.capacity [ inl e ↦ rw e (lit< tt) | inr e ↦ rw e (lit< tt) ], (c.requires.capacity, (c.requires.ready, λ e. c.if-self-me.true (e ∙ sym c.me-me.ensures)))),
+  elim c.requires.capacity [ inl e ↦ rw e (lit< tt) | inr e ↦ rw e (lit< tt) ],
+  (c.requires.capacity, (ready_takes c.args.self.now.plan.now c.args.self.now.from c.args.node.now c.args.self.now.in_use c.requires.ready, λ e. c.if-self-me.true (e ∙ sym c.me-me.ensures))),
 )
 
 pub returns-then-self-me : goal.returns-then-self-me

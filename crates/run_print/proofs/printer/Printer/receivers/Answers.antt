@@ -6,8 +6,8 @@ use Rattle.fault_classes.specs.Line.{effect_at}
 use Rattle.run_print.specs.TraceText.{link_text}
 use Rattle.run_print.proofs.Joining.{then}
 use Rattle.run_print.proofs.Lists.{flat_next, link_some, link_none, link_untouched, no_effect}
-use Rattle.run_print.proofs.printer.Printer.sender.Goals as goal
-use Rattle.run_print.proofs.printer.Printer.sender.Goals.{then-to-from+then-is_none, then-to-from+else-is_none, else-to-from}
+use Rattle.run_print.proofs.printer.Printer.receivers.Goals as goal
+use Rattle.run_print.proofs.printer.Printer.receivers.Goals.{then-to-from+then-is_none, then-to-from+else-is_none, else-to-from}
 
 pub loop-to-preserved : goal.loop-to-preserved
 loop-to-preserved g c =

@@ -2,7 +2,7 @@ use Rattle.std.specs.List.{flat_map}
 use Rattle.node_grid.specs.NodeSet.{ids_below}
 use Rattle.run_print.specs.TraceText.{link_text}
 use Rattle.run_print.specs.Printing.{Prints}
-use Rattle.run_print.proofs.printer.Printer.sender.Given as goal
+use Rattle.run_print.proofs.printer.Printer.receivers.Given as goal
 
 abbrev pub invariant-loop-to : goal.invariant-loop-to
 invariant-loop-to g l =

@@ -1,6 +1,0 @@
-use Rattle.std.proofs.Common.{◌≡◌, map, replicate}
-use Rattle.cluster_step.specs.Slots.{arriving, handed}
-use Rattle.cluster_step.proofs.links.Link.hand.Given as goal
-
-abbrev pub invariant-loop : goal.invariant-loop
-invariant-loop g l = l.node ≡ handed l.initial.node (map (arriving l.self.from) (replicate l.counter (l.arrived.tick, l.arrived.bytes.now)))
