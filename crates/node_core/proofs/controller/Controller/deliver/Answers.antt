@@ -1,4 +1,4 @@
-use Rattle.std.proofs.Common.{◌≡◌, ◌<◌, ℕ, true, lit<, sym, ap, subst, ◌∙◌}
+use Rattle.std.proofs.Common.{◌<◌, ℕ, lit<, sym, ap, subst, ◌∙◌}
 use Rattle.error_detect.specs.Watching.{Watch, delivered}
 use Rattle.relaying.specs.Guessed.{unguessed}
 use Rattle.node_steps.specs.Parts.{NodeView}

@@ -1,7 +1,6 @@
 use mathlib.Core.List.{not-mem-nil}
-use Rattle.std.proofs.Common.{ℕ, ◌≡◌, ◌≤◌, ◌<◌, ◌+◌, List, length, Option, None, Some, arith, refl, inl, inr, lit<, sym, ap, subst, ◌∙◌}
+use Rattle.std.proofs.Common.{ℕ, ◌≡◌, ◌≤◌, ◌<◌, ◌+◌, List, length, Option, Some, arith, refl, inl, inr, lit<, sym, ap, subst, ◌∙◌}
 use Rattle.std.specs.Prelude.{◌*◌, IfSome, replicate, vec_capacity}
-use Rattle.std.specs.Vec.{with_items}
 use Rattle.omh_paths.specs.Paths.{path_count}
 use Rattle.protocol.specs.Arrival.{claim_form, row_form}
 use Rattle.slot_plan.specs.declared.slot.Slot.{Slot}
