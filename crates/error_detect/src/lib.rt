@@ -14,7 +14,7 @@ pub mod laws;
 mod watch;
 
 pub use finding::Finding;
-pub use guess::Form;
+pub use guess::{Form, GuessedBytes};
 pub use watch::SlotWatch;
 
 #[cfg(test)]

@@ -2,18 +2,19 @@
 
 ghost use Rattle.std.specs.Prelude.{◌≡◌, ◌≢◌, ◌<◌, ◌≤◌, true, false, None, IfOk, IfSome, IfNone, IsSome, option_map, map, replicate};
 ghost use Rattle.node_grid.specs.Capacity.{IsCapacity};
+ghost use Rattle.frames.specs.Runs.{expanded, spread};
 ghost use Rattle.frames.specs.Seen.{content, expected, HasWidth};
 ghost use Rattle.frames.specs.Spelling.{head_of, body_spelling};
 ghost use Rattle.node_grid.specs.NodeSet.{ids_where};
 ghost use Rattle.error_detect.specs.Finding.{is_good_at};
 ghost use Rattle.error_detect.specs.Watching.{nothing, held_none, emptied, fresh, opened, delivered, closed, of_sender, HasRoom, finding_at, findings, told_at, guessing, guesses_at, frame_at, said_at, IsMeant};
 ghost use Rattle.error_detect.specs.Guessing.{IsGuessable};
-ghost use Rattle.error_detect.specs.Inside.{said_as};
+ghost use Rattle.error_detect.specs.Inside.{said_as, guessed_bytes};
 
 use crate::arrival::Inbox;
 use crate::finding::Finding;
-use crate::guess::{Form, Guess};
-use frames::{Expect, Frame};
+use crate::guess::{Form, Guess, GuessedBytes};
+use frames::{Expect, Frame, Runs};
 use node_grid::{NoMemory, NodeSet};
 use std::alloc::{AllocError, Global};
 use std::marker::Model;
@@ -136,6 +137,21 @@ impl<const N: usize> SlotWatch<N> {
         self.inboxes[from as usize].take(tick, bytes);
     }
 
+    /// Guesses what the slot's frames say by these bytes, or by the runs of them, and answers
+    /// whether there was room for that.
+    fn guess_spread(&mut self, form: Form, runs: Option<Runs>, bytes: &[u8]) -> bool
+        requires before { self.old.arrived ≡ replicate self.old.nodes nothing }
+        requires guessable { IfSome self.old.expect (λ e.
+            IsGuessable e (said_as N self.old.nodes form (spread runs bytes.now))) }
+        requires spelt { spread runs bytes.now
+            ≡ body_spelling self.old.nodes (said_as N self.old.nodes form (spread runs bytes.now)) }
+        ensures yes { result ≡ true → self.new ≡
+            guessing self.old (said_as N self.old.nodes form (spread runs bytes.now)) }
+        ensures no { result ≡ false → self.new ≡ self.old }
+    {
+        self.guess.put(form, runs, bytes)
+    }
+
     /// Guesses what the slot's frames say, before any has come, and answers whether there was room for that.
     pub fn guess(&mut self, form: Form, bytes: &[u8]) -> bool
         requires before { self.old.arrived ≡ replicate self.old.nodes nothing }
@@ -146,7 +162,23 @@ impl<const N: usize> SlotWatch<N> {
         ensures yes { result ≡ true → self.new ≡ guessing self.old (said_as N self.old.nodes form bytes.now) }
         ensures no { result ≡ false → self.new ≡ self.old }
     {
-        self.guess.put(form, bytes)
+        self.guess_spread(form, None, bytes)
+    }
+
+    /// Guesses what the slot's frames say, before any has come, where it is runs of these first
+    /// entries, and answers whether there was room for them. The runs aren't written.
+    pub fn guess_runs(&mut self, form: Form, runs: &Runs, firsts: &[u8]) -> bool
+        requires before { self.old.arrived ≡ replicate self.old.nodes nothing }
+        requires guessable { IfSome self.old.expect (λ e. IsGuessable e (said_as N self.old.nodes
+            form (expanded runs.now.width runs.now.times runs.now.count firsts.now))) }
+        requires spelt { expanded runs.now.width runs.now.times runs.now.count firsts.now
+            ≡ body_spelling self.old.nodes (said_as N self.old.nodes
+            form (expanded runs.now.width runs.now.times runs.now.count firsts.now)) }
+        ensures yes { result ≡ true → self.new ≡ guessing self.old (said_as N self.old.nodes
+            form (expanded runs.now.width runs.now.times runs.now.count firsts.now)) }
+        ensures no { result ≡ false → self.new ≡ self.old }
+    {
+        self.guess_spread(form, Some(*runs), firsts)
     }
 
     /// What is expected of each sender of the last slot, whatever sender it names; None before the first slot.
@@ -162,11 +194,11 @@ impl<const N: usize> SlotWatch<N> {
     }
 
     /// The bytes of what is guessed of the slot's frames, and in which form; None where nothing is guessed.
-    pub fn guessed(&self) -> Option<(Form, &[u8])>
-        ensures said { option_map (λ p. said_as N self.now.nodes p.0 p.1.now) result ≡ self.now.guess }
+    pub fn guessed(&self) -> Option<(Form, GuessedBytes<'_>)>
+        ensures said { option_map (λ p. said_as N self.now.nodes p.0 (guessed_bytes p.1)) result ≡ self.now.guess }
         ensures guessable { IsMeant self.now.expect self.now.guess }
         ensures spelt { IfSome result (λ p.
-            p.1.now ≡ body_spelling self.now.nodes (said_as N self.now.nodes p.0 p.1.now)) }
+            guessed_bytes p.1 ≡ body_spelling self.now.nodes (said_as N self.now.nodes p.0 (guessed_bytes p.1))) }
     {
         match self.guess.form() {
             Some(form) => Some((form, self.guess.bytes())),

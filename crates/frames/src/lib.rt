@@ -25,5 +25,5 @@ pub use filling::fill_entries;
 pub use frame::{Body, Expect, Frame, Head, StateBody};
 pub use known::decode_known;
 pub use relay::{end_claims, end_rows, put_claims, put_rows};
-pub use runs::{are_runs, has_firsts};
+pub use runs::{Runs, are_runs, has_firsts};
 pub use values::{Values, put_value};

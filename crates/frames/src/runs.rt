@@ -4,6 +4,17 @@ ghost use Rattle.std.specs.Prelude.{ℕ, ◌≡◌, ◌*◌, ◌<◌, ◌≤◌,
 ghost use Rattle.frames.specs.Filling.{repeated};
 ghost use Rattle.frames.specs.Runs.{firsts, expanded};
 
+/// So many runs, each of one entry of so many bytes, so many times.
+#[derive(Clone, Copy, Debug, PartialEq, Eq)]
+pub struct Runs {
+    /// The bytes of an entry.
+    pub width: usize,
+    /// How often each entry stands.
+    pub times: usize,
+    /// How many runs there are.
+    pub count: usize,
+}
+
 /// Whether the bytes are the same.
 fn same_bytes(a: &[u8], b: &[u8]) -> bool
     ensures { result ≡ true → a.now ≡ b.now }

@@ -63,7 +63,6 @@ module _ {N : ℕ} (n : Inside N) (e : Expectation) (m : Inside N) (b : Begins n
         rows = m.rows;
         found = f;
         watch = m.watch;
-        runs = None;
         outcome = m.outcome;
         buffers = m.buffers;
       })
@@ -76,7 +75,6 @@ module _ {N : ℕ} (n : Inside N) (e : Expectation) (m : Inside N) (b : Begins n
         rows = k.rows;
         found = f;
         watch = k.watch;
-        runs = None;
         outcome = k.outcome;
         buffers = k.buffers;
       }) in
@@ -89,7 +87,6 @@ module _ {N : ℕ} (n : Inside N) (e : Expectation) (m : Inside N) (b : Begins n
         notes = notes;
         rooms = inv.rooms;
         guessed = λ h. go b.watch.guess b.guess same;
-        runs = λ h. tt;
       }) all where
         go : (o : Option Content) → IsOwnState n o → full ≡ is_some n.kept.state → IfSome o (λ c. (full ≡ true) × IfSome n.kept.state (λ a. c ≡ State (body n.config.now a)))
         go None x same = tt

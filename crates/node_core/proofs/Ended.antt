@@ -46,7 +46,6 @@ recorded n o inv = record {
   notes = inv.notes;
   rooms = inv.rooms;
   guessed = λ h. recorded_guess n.phase.slot n o (inv.guessed h);
-  runs = inv.runs;
 }
 
 over_guess : {N : ℕ} (x : Slot) (n : Inside N) → IsGuessed x n → IsGuessed x (record n { phase = record n.phase { is_open = false } })
@@ -65,7 +64,6 @@ is_over n inv = record {
   notes = inv.notes;
   rooms = inv.rooms;
   guessed = λ h. over_guess n.phase.slot n (inv.guessed h);
-  runs = inv.runs;
 }
 
 -- ---- by whether there is a state
@@ -102,7 +100,6 @@ module _ {N : ℕ} (n : Inside N) (inv : IsController n) (last : slot_number n.c
     rooms = inv.rooms;
     guessed = λ h. subst (λ (x : Slot). IsGuessed x (record n { kept = k; rows = t; outcome = o })) (sym at_last)
         (λ some. subst (IsEchoed row_form n.config.now.m n.watch) (sym same) (subst (λ (x : Slot). IsGuessed x n) at_last (inv.guessed h) some));
-    runs = inv.runs;
   }
 
   module _ (taken : IsTaken (seen n)) (a : AgreedView) (goes : n.phase.before ≡ Some a) where

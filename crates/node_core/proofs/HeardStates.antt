@@ -140,5 +140,4 @@ module _ {N : ℕ} (n : Inside N) (inv : IsController n) (sound : IsSound (seen 
     notes = own;
     rooms = inv.rooms;
     guessed = λ h. absurd (not_open n.watch u shut' h);
-    runs = λ h. absurd (not_open n.watch u shut' h);
   }

@@ -1,5 +1,6 @@
 -- A controller whose next slot was opened.
-use Rattle.std.proofs.Common.{ℕ, ◌≡◌, ◌<◌, ◌≤◌, ◌+◌, ◌*◌, length, ap, subst, ◌∙◌, arith, Option}
+use Rattle.std.proofs.Common.{ℕ, ◌≡◌, ◌<◌, ◌≤◌, ◌+◌, ◌*◌, ap, subst, ◌∙◌, arith}
+use Rattle.std.specs.Prelude.{vec_capacity}
 use Rattle.std.proofs.Math.Nat.{mul_comm}
 use Rattle.std.proofs.lemmas.Nat.{mul-le}
 use Rattle.slot_plan.specs.declared.slot.Slot.{Slot}
@@ -12,14 +13,12 @@ use Rattle.relaying.specs.Guessed.{unguessed}
 use Rattle.node_steps.specs.Steps.{expected_in, slot_open}
 use Rattle.node_core.specs.declared.controller.Buffers.{Buffers}
 use Rattle.node_core.specs.declared.controller.Controller.TheInside.{Inside}
-use Rattle.relaying.specs.Runs.{IsKnown}
-use Rattle.relaying.specs.declared.runs.Runs.{Runs}
 use Rattle.node_core.specs.Inside.{seen, HasRooms, IsGuessed, IsController}
 use Rattle.node_core.proofs.Standing.{watch_open, watch_alike}
 
 -- with another slot, watch and buffers
-abbrev pub moved : {N : ℕ} → Inside N → Slot → Watch → Buffers N → Option Runs → Inside N
-moved n x u b r = record {
+abbrev pub moved : {N : ℕ} → Inside N → Slot → Watch → Buffers N → Inside N
+moved n x u b = record {
   config = n.config;
   phase = record { me = n.phase.me; period = n.phase.period; slot = x; is_open = n.phase.is_open; inputs = n.phase.inputs; full = n.phase.full; before = n.phase.before };
   kept = n.kept;
@@ -27,14 +26,13 @@ moved n x u b r = record {
   rows = n.rows;
   found = n.found;
   watch = u;
-  runs = r;
   outcome = n.outcome;
   buffers = b;
 }
 
-module _ {N : ℕ} (n : Inside N) (x : Slot) (e : Expectation) (w u : Watch) (b : Buffers N) (r : Option Runs) (k : w ≡ opened n.watch e) (alike : unguessed u ≡ unguessed w) where
-  pub opened_kept : IsController n → IsSlot n.config.now.m x → HasRooms n.config.now.nodes n.config.now.m b → IsGuessed x (moved n x u b r) → IsKnown u r → IsController (moved n x u b r)
-  opened_kept inv plan rooms guessed known = record {
+module _ {N : ℕ} (n : Inside N) (x : Slot) (e : Expectation) (w u : Watch) (b : Buffers N) (k : w ≡ opened n.watch e) (alike : unguessed u ≡ unguessed w) where
+  pub opened_kept : IsController n → IsSlot n.config.now.m x → HasRooms n.config.now.nodes n.config.now.m b → IsGuessed x (moved n x u b) → IsController (moved n x u b)
+  opened_kept inv plan rooms guessed = record {
     place = inv.place;
     slot = plan;
     watch = watch_alike n.config.now n.phase.me w (watch_open n.config.now n.phase.me n.watch inv.watch w e k) u alike;
@@ -42,10 +40,9 @@ module _ {N : ℕ} (n : Inside N) (x : Slot) (e : Expectation) (w u : Watch) (b 
     notes = inv.notes;
     rooms = rooms;
     guessed = λ h. guessed;
-    runs = λ h. known;
   }
 
-  pub opened_seen : e ≡ expected_in (seen n) (slot_number n.config.now.m x) → seen (moved n x u b r) ≡ slot_open (seen n) (slot_number n.config.now.m x)
+  pub opened_seen : e ≡ expected_in (seen n) (slot_number n.config.now.m x) → seen (moved n x u b) ≡ slot_open (seen n) (slot_number n.config.now.m x)
   opened_seen same =
       ap (λ (a : Watch). record (seen n) { phase = record (seen n).phase { slot = slot_number n.config.now.m x }; arrived = a }) (alike ∙ ap unguessed k)
       ∙ ap (λ (f : Expectation). record (seen n) { phase = record (seen n).phase { slot = slot_number n.config.now.m x }; arrived = opened (unguessed n.watch) f }) same
@@ -55,14 +52,14 @@ through a b c l m = omega (arith, l, m)
 
 -- there is room for the table of a round
 module _ {N : ℕ} (nodes m : ℕ) (b : Buffers N) (rooms : HasRooms nodes m b) (some : 0 < nodes) (members r : ℕ) (few : members ≤ nodes) (low : r ≤ m) where
-  pub rows_table : (1 + 2 * nodes) * path_count members r ≤ length b.table.items
+  pub rows_table : (1 + 2 * nodes) * path_count members r ≤ vec_capacity b.table
   rows_table =
       let w : ℕ = 1 + 2 * nodes in
       let p = path_count-mono members nodes r few in
-      let q : w * path_count nodes r ≤ length b.table.items = subst (λ (z : ℕ). z ≤ length b.table.items) (mul_comm (path_count nodes r) w) (rooms.table r low) in
-      through (w * path_count members r) (w * path_count nodes r) (length b.table.items) (mul-le w (path_count members r) w (path_count nodes r) (omega arith) p) q
+      let q : w * path_count nodes r ≤ vec_capacity b.table = subst (λ (z : ℕ). z ≤ vec_capacity b.table) (mul_comm (path_count nodes r) w) (rooms.table r low) in
+      through (w * path_count members r) (w * path_count nodes r) (vec_capacity b.table) (mul-le w (path_count members r) w (path_count nodes r) (omega arith) p) q
 
-  pub claims_table : 2 * path_count members r ≤ length b.table.items
+  pub claims_table : 2 * path_count members r ≤ vec_capacity b.table
   claims_table =
       let w : ℕ = 1 + 2 * nodes in
-      through (2 * path_count members r) (w * path_count members r) (length b.table.items) (mul-le 2 (path_count members r) w (path_count members r) (omega (arith, some)) (omega arith)) rows_table
+      through (2 * path_count members r) (w * path_count members r) (vec_capacity b.table) (mul-le 2 (path_count members r) w (path_count members r) (omega (arith, some)) (omega arith)) rows_table

@@ -1,6 +1,6 @@
 -- What holds of a controller is kept where little of it changes.
-use Rattle.std.proofs.Common.{ℕ, ◌≡◌, true, false, List, length, Option, None, Some, Vec, Global, refl, sym, ap, subst, ◌∙◌, arith}
-use Rattle.std.specs.Prelude.{IsSome, IfSome}
+use Rattle.std.proofs.Common.{ℕ, ◌≡◌, ◌≤◌, true, false, List, length, Option, None, Some, Vec, Global, refl, sym, ap, subst, ◌∙◌, arith}
+use Rattle.std.specs.Prelude.{IsSome, IfSome, vec_capacity}
 use Rattle.std.specs.Vec.{with_items}
 use Rattle.std.proofs.lemmas.List.{with_items_is}
 use Rattle.omh_paths.specs.declared.wrapped.Wrapped.{Wrapped}
@@ -17,9 +17,6 @@ use Rattle.relaying.specs.Guessed.{unguessed}
 use Rattle.node_core.specs.declared.controller.Buffers.{Buffers}
 use Rattle.node_core.specs.declared.controller.Keeping.{Keeping}
 use Rattle.node_core.specs.declared.controller.Controller.TheInside.{Inside}
-use Rattle.frames.specs.Spelling.{body_spelling}
-use Rattle.relaying.specs.Runs.{AreRuns, IsKnown}
-use Rattle.relaying.specs.declared.runs.Runs.{Runs}
 use Rattle.node_core.specs.Inside.{IsItsWatch, HasRooms, IsGuessed, IsController}
 
 -- ---- the watch
@@ -76,11 +73,6 @@ no_guess (Claims r) n none = λ some e c expects guesses. absurd (let x = sym no
 no_guess Data n none = none
 no_guess (Rows r) n none = λ some e c expects guesses. absurd (let x = sym none ∙ guesses in cc)
 
--- what is known of the runs of the guess stays with it
-runs_stay : (w u : Watch) (o : Option Runs) → u.nodes ≡ w.nodes → u.guess ≡ w.guess → IsKnown w o → IsKnown u o
-runs_stay w u None n g h = tt
-runs_stay w u (Some r) n g h = λ c guesses. subst (λ (k : ℕ). AreRuns (body_spelling k c) r) (sym n) (h c (sym g ∙ guesses))
-
 -- a frame came
 pub frame_given : {N : ℕ} (n : Inside N) (u : Watch) (from tick : ℕ) (bytes : List ℕ) → u ≡ delivered n.watch from tick bytes → IsController n → IsController (record n { watch = u })
 frame_given n u from tick bytes e inv = record {
@@ -91,7 +83,6 @@ frame_given n u from tick bytes e inv = record {
   notes = inv.notes;
   rooms = inv.rooms;
   guessed = λ h. guess_stays n.phase.slot n u (ap (λ (w : Watch). w.expect) e) (ap (λ (w : Watch). w.guess) e) (inv.guessed (sym (ap (λ (w : Watch). w.is_open) e) ∙ h));
-  runs = λ h. runs_stay n.watch u n.runs (ap (λ (w : Watch). w.nodes) e) (ap (λ (w : Watch). w.guess) e) (inv.runs (sym (ap (λ (w : Watch). w.is_open) e) ∙ h));
 }
 
 -- ---- rooms
@@ -114,9 +105,9 @@ rows_room nodes m b xs e h = record {
   table = h.table;
 }
 
-pub table_room : {N : ℕ} (nodes m : ℕ) (b : Buffers N) (xs : List ℕ) → length xs ≡ length b.table.items → HasRooms nodes m b → HasRooms nodes m (record b { table = with_items b.table xs })
-table_room nodes m b xs e h = record {
+pub table_room : {N : ℕ} (nodes m : ℕ) (b : Buffers N) (v : Vec ℕ Global) → vec_capacity b.table ≤ vec_capacity v → HasRooms nodes m b → HasRooms nodes m (record b { table = v })
+table_room nodes m b v e h = record {
   claims = h.claims;
   rows = h.rows;
-  table = λ r l. (let x = h.table r l in let y = rewritten b.table xs e in omega (arith, x, y));
+  table = λ r l. (let x = h.table r l in omega (arith, x, e));
 }

@@ -24,7 +24,7 @@ use heard::Heard;
 use node_grid::{NodeSet, Row};
 use omh_paths::Wrapped;
 pub(crate) use opening::filled;
-use relaying::{Runs, Sent, is_guessed};
+use relaying::{Sent, is_guessed};
 use slot_plan::Slot;
 use std::marker::Model;
 
@@ -80,8 +80,6 @@ pub struct Controller<'c, const N: usize> {
     rows: Heard<Row<N>, N>,
     found: Findings<N>,
     watch: SlotWatch<N>,
-    // What is known of the runs of what is guessed in the open slot.
-    runs: Option<Runs>,
     outcome: NodeRecord<N>,
     buffers: Buffers<N>,
 }
@@ -129,7 +127,7 @@ impl<'c, const N: usize> Controller<'c, N> {
         requires other { from ≢ self.old.phase.me }
         ensures { self.new ≡ given_frame self.old from tick sent.now }
     {
-        if is_guessed(&self.watch, &self.runs, from, sent) {
+        if is_guessed(&self.watch, from, sent) {
             self.watch.deliver_same(from, tick);
         } else {
             self.watch.deliver(from, tick, sent.bytes());

@@ -110,7 +110,7 @@ block_entry h (suc r) k i w s c v d within some all wide whole inside is value a
     ∙ sym value
 
 -- as many more that are the same
-block_more : {V : Type 0} (spell : Wrapped V → List ℕ) (xs : List (Wrapped V)) (a w : ℕ) (v : Wrapped V) → a + w ≤ length xs → ((k : ℕ) → a ≤ k → k < a + w → get_or xs k (Fault 0) ≡ v)
+pub block_more : {V : Type 0} (spell : Wrapped V → List ℕ) (xs : List (Wrapped V)) (a w : ℕ) (v : Wrapped V) → a + w ≤ length xs → ((k : ℕ) → a ≤ k → k < a + w → get_or xs k (Fault 0) ≡ v)
     → flat_map spell (take (a + w) xs) ≡ flat_map spell (take a xs) ++ repeated w (spell v)
 block_more spell xs a zero v low same = let e : a + zero ≡ a = omega arith in ap (λ n. flat_map spell (take n xs)) e ∙ sym (append-nil (flat_map spell (take a xs)))
 block_more spell xs a (suc w) v low same =

@@ -14,3 +14,4 @@ pub mod Convicting
 pub mod Bodies
 pub mod Framing
 pub mod RunParts
+pub mod Roots

@@ -1,21 +1,23 @@
 -- A sender's part of a table that is runs is runs itself.
-use Rattle.std.proofs.Common.{◌≡◌, ℕ, suc, ◌+◌, ◌-◌, ◌*◌, ◌<◌, ◌==◌, ◌||◌, Bool, true, false, not, List, [], ◌∷◌, ◌++◌, length, take, drop, map, refl, sym, ap, ap₂, ◌∙◌, arith, inl, inr, append_assoc, eq-eqb, eqb-true}
+use Rattle.std.proofs.Common.{◌≡◌, ℕ, suc, ◌+◌, ◌-◌, ◌*◌, ◌<◌, ◌==◌, ◌||◌, Bool, true, false, not, List, [], ◌∷◌, ◌++◌, length, take, drop, map, refl, sym, ap, ap₂, ◌∙◌, arith, inl, inr, append_assoc, append-nil, replicate, ◌≤◌, zero, eq-eqb, eqb-true}
 use Rattle.std.specs.Prelude.{filter, if◌then◌else◌}
 use Rattle.std.specs.List.{flat_map}
 use Rattle.std.proofs.lemmas.Bool.{cases_Bool, cond-true, cond-false, or_left, or_right}
-use Rattle.std.proofs.lemmas.List.{take_at, drop_at, length-take-le, length-drop}
+use Rattle.std.proofs.lemmas.List.{take_at, drop_at, take_all, take-take, drop-take, drop-drop, length-take-le, length-drop}
 use Rattle.std.proofs.Math.Nat.{mul_comm}
 use Rattle.std.proofs.lemmas.List.Concat.{flat_map-cons}
-use Rattle.node_grid.specs.NodeSet.{has_id, without_id}
+use Rattle.node_grid.specs.NodeSet.{has_id, without_id, IsIdSet, place_of}
 use Rattle.node_grid.specs.Count.{Distinct}
 use Rattle.omh_paths.specs.Paths.{paths_of_length, path_count}
 use Rattle.omh_paths.specs.PathLists.{paths-cons, length-paths, length-without, Distinct-without, has-without}
 use Rattle.omh_paths.specs.Tables.{tables_law}
 use Rattle.frames.specs.Filling.{repeated}
-use Rattle.frames.specs.Runs.{expanded}
+use Rattle.frames.specs.Runs.{firsts, expanded}
+use Rattle.frames.proofs.Repeats.{width_within}
 use Rattle.error_detect.specs.Guessing.{pieces_without}
-use Rattle.relaying.specs.Runs.{AreRuns}
-use Rattle.relaying.specs.declared.runs.Runs.{Runs}
+use Rattle.relaying.specs.Comparing.{unmarked, without_entry}
+use Rattle.relaying.proofs.Marks.{pieces_unmarked, unmarked_none, unmarked_all}
+use Rattle.relaying.proofs.Steps.{row_is}
 
 -- the paths that a node isn't on
 clear : ℕ → List (List ℕ) → List (List ℕ)
@@ -159,26 +161,56 @@ part_is_runs w q k s entries d on long =
     ∙ parts w q k s d on s entries (λ c h. h) long
     ∙ ap₂ (λ (n : ℕ) ps. expanded w (path_count (length s - 1 - 1) k) n (pieces_without w q ps entries)) (length-without s q d on) (sym (paths-cons s 0))
 
--- how many bytes the first entries have
-pub firsts_long : (w : ℕ) (s table theirs : List ℕ) (whole : Runs) → AreRuns table whole → whole.width ≡ w → whole.count ≡ length s → theirs ≡ take (whole.count * whole.width) whole.firsts → length theirs ≡ w * length s
-firsts_long w s table theirs whole b width count h =
-    ap length h ∙ length-take-le (whole.count * whole.width) whole.firsts b.room ∙ ap₂ (λ (x y : ℕ). x * y) count width ∙ mul_comm (length s) w
-
--- two bodies are runs, and the first entries of the one are those of the other without the sender's: so is all of it
-pub parts_alike : (w q r fewer each : ℕ) (s body table mine theirs : List ℕ) (part whole : Runs) → Distinct s → has_id s q ≡ true → 0 < r → AreRuns body part → AreRuns table whole
-    → (part.width ≡ w) × (part.times ≡ fewer) × (part.count ≡ length s - 1) → (whole.width ≡ w) × (whole.times ≡ each) × (whole.count ≡ length s)
-    → fewer ≡ path_count (length s - 1 - 1) (r - 1) → each ≡ path_count (length s - 1) (r - 1)
-    → mine ≡ take (part.count * part.width) part.firsts → theirs ≡ take (whole.count * whole.width) whole.firsts
-    → mine ≡ pieces_without w q (paths_of_length s 1) theirs → body ≡ pieces_without w q (paths_of_length s r) table
-parts_alike w q r fewer each s body table mine theirs part whole d on some a b p t f e m h same =
+-- a body is runs of the first entries of a table without the sender's, and the table is runs of them: so the body is the sender's part of it
+pub parts_alike : (w q r fewer each : ℕ) (s body theirs : List ℕ) → Distinct s → has_id s q ≡ true → 0 < r → fewer ≡ path_count (length s - 1 - 1) (r - 1) → each ≡ path_count (length s - 1) (r - 1)
+    → length theirs ≡ w * length s → body ≡ expanded w fewer (length s - 1) (pieces_without w q (paths_of_length s 1) theirs) → body ≡ pieces_without w q (paths_of_length s r) (expanded w each (length s) theirs)
+parts_alike w q r fewer each s body theirs d on some f e long is =
     let round : suc (r - 1) ≡ r = omega arith in
-    let long : length theirs ≡ w * length s = firsts_long w s table theirs whole b t.0 t.2 h in
-    let own : body ≡ expanded w (path_count (length s - 1 - 1) (r - 1)) (length s - 1) mine =
-    a.are ∙ ap₂ (λ (x y : ℕ). expanded x y part.count (take (part.count * part.width) part.firsts)) p.0 (p.1 ∙ f)
-    ∙ ap₂ (λ (x : ℕ) (y : List ℕ). expanded w (path_count (length s - 1 - 1) (r - 1)) x y) p.2 (sym m) in
-    let all : table ≡ expanded w (path_count (length s - 1) (r - 1)) (length s) theirs =
-    b.are ∙ ap₂ (λ (x y : ℕ). expanded x y whole.count (take (whole.count * whole.width) whole.firsts)) t.0 (t.1 ∙ e)
-    ∙ ap₂ (λ (x : ℕ) (y : List ℕ). expanded w (path_count (length s - 1) (r - 1)) x y) t.2 (sym h) in
-    own ∙ ap (expanded w (path_count (length s - 1 - 1) (r - 1)) (length s - 1)) same
+    is ∙ ap (λ (n : ℕ). expanded w n (length s - 1) (pieces_without w q (paths_of_length s 1) theirs)) f
     ∙ sym (part_is_runs w q (r - 1) s theirs d on long)
-    ∙ ap₂ (λ (n : ℕ) (x : List ℕ). pieces_without w q (paths_of_length s n) x) round (sym all)
+    ∙ ap₂ (λ (n k : ℕ). pieces_without w q (paths_of_length s n) (expanded w k (length s) theirs)) round (sym e)
+
+-- ---- the first entries but for one
+
+-- the first entries of some runs, and of those behind them
+pub firsts_apart : (w t a b : ℕ) (body : List ℕ) → 0 < t → firsts w t (a + b) body ≡ firsts w t a (take (a * (t * w)) body) ++ firsts w t b (drop (a * (t * w)) body)
+firsts_apart w t zero b body some =
+    let n : 0 + b ≡ b = omega arith in
+    let z : 0 * (t * w) ≡ 0 = omega arith in
+    ap (λ (k : ℕ). firsts w t k body) n ∙ ap (λ (k : ℕ). firsts w t b (drop k body)) (sym z)
+firsts_apart w t (suc a) b body some =
+    let run : ℕ = t * w in
+    let n : suc a + b ≡ suc (a + b) = omega arith in
+    let m : suc a * run ≡ run + a * run = omega arith in
+    let low : w ≤ suc a * run = omega (arith, width_within w t some, m) in
+    let rest : List ℕ = drop run body in
+    ap (λ (k : ℕ). firsts w t k body) n
+    ∙ ap (λ (y : List ℕ). take w body ++ y) (firsts_apart w t a b rest some)
+    ∙ ap₂ (λ (x y : List ℕ). x ++ (firsts w t a y ++ firsts w t b (drop (a * run) rest))) (sym (take-take w (suc a * run) body low)) (sym (drop-take run (a * run) body) ∙ ap (λ (k : ℕ). drop run (take k body)) (sym m))
+    ∙ ap (λ (y : List ℕ). take w (take (suc a * run) body) ++ (firsts w t a (drop run (take (suc a * run) body)) ++ firsts w t b y)) (drop-drop (a * run) run body ∙ ap (λ (k : ℕ). drop k body) (sym m))
+    ∙ sym (append_assoc (take w (take (suc a * run) body)) (firsts w t a (drop run (take (suc a * run) body))) (firsts w t b (drop (suc a * run) body)))
+
+-- the entries of a table of one for each node, without a sender's
+pub without_sender : (n w : ℕ) (s : List ℕ) (q gap : ℕ) (table : List ℕ) → IsIdSet n s → has_id s q ≡ true → gap ≡ place_of s q → length table ≡ w * length s
+    → (without_entry w gap table ≡ pieces_without w q (paths_of_length s 1) table) × (gap < length s)
+without_sender n w s q gap table ids on place long =
+    let row = row_is n s q gap (length s) ids on place refl in
+    let b : ℕ = length s - gap - 1 in
+    let low : gap < length s = row.1 in
+    let rest : List ℕ = drop (w * gap) table in
+    let far : List ℕ = drop (w * 1) rest in
+    let count : length s ≡ gap + 1 + b = omega (arith, low) in
+    let all : w * length s ≡ w * gap + w * 1 + w * b = ap (λ (k : ℕ). w * k) count ∙ (let g : w * (gap + 1 + b) ≡ w * gap + w * 1 + w * b = grind arith in g) in
+    let lf : length far ≡ w * b = length-drop (w * 1) rest ∙ ap (λ (k : ℕ). k - w * 1) (length-drop (w * gap) table) ∙ (omega (arith, long, all)) in
+    let at : w * gap ≡ gap * w = mul_comm w gap in
+    let past : w * gap + w * 1 ≡ gap * w + w = omega (arith, at) in
+    let last : unmarked w (replicate b false) far ≡ far =
+    ap (λ (bs : List Bool). unmarked w bs far) (sym (append-nil (replicate b false))) ∙ unmarked_none w b [] far ∙ append-nil (take (w * b) far) ∙ take_all (w * b) far (omega (arith, lf)) in (
+      sym (
+          pieces_unmarked w q (paths_of_length s 1) table ∙ ap (λ (bs : List Bool). unmarked w bs table) row.0
+          ∙ unmarked_none w gap (replicate 1 true ++ replicate b false) table
+          ∙ ap (λ (y : List ℕ). take (w * gap) table ++ y) (unmarked_all w 1 (replicate b false) rest ∙ last ∙ drop-drop (w * 1) (w * gap) table)
+          ∙ ap₂ (λ (i j : ℕ). take i table ++ drop j table) at past
+          ),
+      low,
+    )

@@ -17,6 +17,10 @@ abbrev pub unmarked : ℕ → List Bool → List ℕ → List ℕ
 unmarked width [] table = []
 unmarked width (b ∷ bs) table = (if b then [] else take width table) ++ unmarked width bs (drop width table)
 
+-- of a table of entries of one width, those but for the one at a place
+abbrev pub without_entry : ℕ → ℕ → List ℕ → List ℕ
+without_entry width gap table = take (gap * width) table ++ drop (gap * width + width) table
+
 -- what is left of a body, where the entries that are left are marked so
 abbrev pub owed : ℕ → List Bool → Left → List ℕ
 owed width bs left = take left.pending left.table.now ++ unmarked width bs (drop left.pending left.table.now)

@@ -6,7 +6,7 @@ use Rattle.omh_paths.specs.declared.wrapped.Wrapped.TheVariants.{Fault}
 use Rattle.omh_paths.specs.Wrapped.{wrapped}
 use Rattle.omh_paths.specs.Paths.{paths_of_length, path_count}
 use Rattle.omh.specs.Heard.{Hearing, heard_in}
-use Rattle.heard.specs.Keep.{IsSmall}
+use Rattle.heard.specs.Keep.{IsSmall, wrapped_times}
 
 -- what is passed on of a path of so many nodes: where the node isn't on it what it heard for it, and else what the node told
 -- and the ones after it passed on, wrapped
@@ -29,6 +29,10 @@ table h r = passed_of h h.members r
 -- what was heard of a node itself, and of the node that hears what it told
 abbrev pub root_of : {V : Type 0} → Hearing V → ℕ → Wrapped V
 root_of h c = if c == h.me then own_told h else heard_in h.heard (c ∷ [])
+
+-- what is passed on of what each of these members told, after so many relays that all say what is expected
+abbrev pub roots_of : {V : Type 0} → Hearing V → List ℕ → ℕ → List (Wrapped V)
+roots_of h set r = map (λ c. wrapped_times r (root_of h c)) set
 
 -- the entries that are passed on of these members can be written where there is so much room: they are of one width, and none
 -- was wrapped often

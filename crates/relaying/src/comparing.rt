@@ -11,16 +11,17 @@ ghost use Rattle.frames.specs.Seen.{expected};
 ghost use Rattle.frames.specs.Spelling.{header_spelling, body_spelling};
 ghost use Rattle.error_detect.specs.Guessing.{pieces_without, body_without, said_by};
 ghost use Rattle.error_detect.specs.Guessing.{is_guessed_of, IsGuessable};
-ghost use Rattle.error_detect.specs.Inside.{said_as};
+ghost use Rattle.error_detect.specs.Inside.{said_as, guessed_bytes};
+ghost use Rattle.frames.specs.Runs.{expanded, firsts};
 ghost use Rattle.error_detect.specs.Watching.{guesses_at, frame_at};
-ghost use Rattle.relaying.specs.Comparing.{marks, IsOver, IsOdd, HasEntries};
-ghost use Rattle.relaying.specs.Runs.{IsKnown};
+ghost use Rattle.relaying.specs.Comparing.{marks, without_entry, IsOver, IsOdd, HasEntries};
+ghost use Rattle.relaying.specs.Runs.{AreRuns};
 
 use crate::item::Item;
-use crate::runs::{Runs, find_runs};
+use crate::runs::has_shape;
 use crate::sent::{Entries, Sent};
-use error_detect::{Form, SlotWatch};
-use frames::{Expect, HEADER, Head, header};
+use error_detect::{Form, GuessedBytes, SlotWatch};
+use frames::{Expect, HEADER, Head, Runs, has_firsts, header};
 use node_grid::{NodeSet, Row};
 use omh_paths::count_paths;
 use slot_plan::Slot;
@@ -201,27 +202,36 @@ fn relay_round<const N: usize>(expect: &Expect<N>) -> Option<u8>
     Some(round)
 }
 
-/// The runs of the table that is guessed in the open slot, where it is runs, one for each member.
-pub(crate) fn guessed_runs<const N: usize>(watch: &SlotWatch<N>) -> Option<Runs>
-    ensures { IsKnown watch.now result }
+/// Whether the first entries of the runs of a body are those of the runs of a table, but for the
+/// one at place `gap`.
+fn has_firsts_without(body: &[u8], part: &Runs, table: &[u8], gap: usize) -> bool
+    requires runs { AreRuns body.now part.now }
+    requires inside { gap ≤ part.now.count }
+    requires whole { length table.now ≡ part.now.width * (part.now.count + 1) }
+    requires few { part.now.count ≤ 16 }
+    requires narrow { part.now.width ≤ 33 }
+    ensures { result ≡ true → firsts part.now.width part.now.times part.now.count body.now ≡
+        without_entry part.now.width gap table.now }
 {
-    let expect = watch.expect()?;
-    let (form, guess) = watch.guessed()?;
-    let width = match form {
-        Form::State => return None,
-        Form::Claims => <u8 as Item<N>>::entry_width(expect.nodes),
-        Form::Rows => <Row<N> as Item<N>>::entry_width(expect.nodes),
-    };
-    let round = relay_round(expect)?;
-    find_runs(guess, width, expect.members.len(), round - 1)
+    let (width, times) = (part.width, part.times);
+    let (near, far) = body.split_at(gap * (times * width));
+    has_firsts(near, &table[..gap * width], width, times, gap)
+        && has_firsts(
+            far,
+            &table[gap * width + width..],
+            width,
+            times,
+            part.count - gap,
+        )
 }
 
-/// Whether a body and a table of entries of the paths of `r` nodes of a set are known to be runs,
-/// one for each node that may be first on a path, and the first entries of the body's runs are
-/// those of the table's, without the sender's.
+/// Whether a body is known to be runs, one for each other node of a set, and a table of entries of
+/// the paths of `r` nodes of the set is such runs too, whose first entries are those of the body
+/// and the sender's.
 fn has_same_runs<const N: usize>(
     body: &Entries<'_>,
-    table: &Entries<'_>,
+    whole: &Runs,
+    table: &[u8],
     cut: Cut,
     set: &NodeSet<N>,
     r: u8,
@@ -230,40 +240,45 @@ fn has_same_runs<const N: usize>(
     requires some { 0 < r }
     requires few { r ≤ 3 }
     requires sender { has_id set.now cut.sender ≡ true }
-    ensures { result ≡ true → body.now ≡
-        pieces_without cut.width cut.sender (paths_of_length set.now r) table.now }
+    requires narrow { cut.width ≤ 33 }
+    ensures { result ≡ true → body.now ≡ pieces_without cut.width cut.sender
+        (paths_of_length set.now r) (expanded whole.now.width whole.now.times whole.now.count table.now) }
 {
-    let (Some(part), Some(whole)) = (body.runs(), table.runs()) else {
-        return false;
-    };
     let others = set.len() - 1;
-    let width = cut.width;
     let fewer = count_paths(others.saturating_sub(1), r - 1);
-    if !part.has_shape(width, fewer, others as usize) {
-        return false;
-    }
     let each = count_paths(others, r - 1);
-    if !whole.has_shape(width, each, others as usize + 1) {
+    let count = others as usize;
+    if !has_shape(whole, cut.width, each, count + 1) || table.len() != cut.width * (count + 1) {
         return false;
     }
-    is_without(part.firsts(), whole.firsts(), cut, set, 1)
+    let part = Runs {
+        width: cut.width,
+        times: fewer,
+        count,
+    };
+    if !body.are(&part) {
+        return false;
+    }
+    let gap = set.place(cut.sender) as usize;
+    has_firsts_without(body.bytes(), &part, table, gap)
 }
 
 /// Whether a body is what a member passes on of a table of entries of one width, where the slot is
 /// one of a relay round.
 fn is_part<const N: usize>(
     body: &Entries<'_>,
-    table: &Entries<'_>,
+    table: &GuessedBytes<'_>,
     cut: Cut,
     expect: &Expect<N>,
 ) -> bool
     requires capacity { IsCapacity N }
     requires rounds { expect.now.m ≤ 3 }
+    requires narrow { cut.width ≤ 33 }
     requires whole { cut.width * length (paths_of_length expect.now.members
-        (round_in expect.now.m expect.now.slot)) ≡ length table.now }
+        (round_in expect.now.m expect.now.slot)) ≡ length (guessed_bytes table.now) }
     ensures sender { result ≡ true → has_id expect.now.members cut.sender ≡ true }
-    ensures same { result ≡ true →
-        body.now ≡ body_without (expected expect.now) cut.width cut.sender table.now }
+    ensures same { result ≡ true → body.now ≡
+        body_without (expected expect.now) cut.width cut.sender (guessed_bytes table.now) }
 {
     if !expect.members.has(cut.sender) {
         return false;
@@ -271,8 +286,10 @@ fn is_part<const N: usize>(
     let Some(round) = relay_round(expect) else {
         return false;
     };
-    has_same_runs(body, table, cut, &expect.members, round)
-        || is_without(body.bytes(), table.bytes(), cut, &expect.members, round)
+    match &table.runs {
+        Some(whole) => has_same_runs(body, whole, table.bytes, cut, &expect.members, round),
+        None => is_without(body.bytes(), table.bytes, cut, &expect.members, round),
+    }
 }
 
 /// Whether a body is the one that is guessed of a sender, where the guess has this form and these
@@ -280,7 +297,7 @@ fn is_part<const N: usize>(
 fn is_guessed_body<const N: usize>(
     body: &Entries<'_>,
     form: &Form,
-    guess: &Entries<'_>,
+    guess: &GuessedBytes<'_>,
     sender: u8,
     expect: &Expect<N>,
 ) -> bool
@@ -288,16 +305,17 @@ fn is_guessed_body<const N: usize>(
     requires nodes { expect.now.nodes ≤ N }
     requires rounds { expect.now.m ≤ 3 }
     requires guessable { IsGuessable (expected expect.now)
-        (said_as N expect.now.nodes form.now guess.now) }
-    requires spelt { guess.now ≡
-        body_spelling expect.now.nodes (said_as N expect.now.nodes form.now guess.now) }
+        (said_as N expect.now.nodes form.now (guessed_bytes guess.now)) }
+    requires spelt { guessed_bytes guess.now ≡ body_spelling expect.now.nodes
+        (said_as N expect.now.nodes form.now (guessed_bytes guess.now)) }
     ensures sender { result ≡ true → is_guessed_of (expected expect.now) sender
-        (said_as N expect.now.nodes form.now guess.now) ≡ true }
-    ensures same { result ≡ true → body.now ≡ body_spelling expect.now.nodes
-        (said_by (expected expect.now) sender (said_as N expect.now.nodes form.now guess.now)) }
+        (said_as N expect.now.nodes form.now (guessed_bytes guess.now)) ≡ true }
+    ensures same { result ≡ true → body.now ≡ body_spelling expect.now.nodes (said_by
+        (expected expect.now) sender
+        (said_as N expect.now.nodes form.now (guessed_bytes guess.now))) }
 {
     match form {
-        Form::State => is_same(body.bytes(), guess.bytes()),
+        Form::State => guess.runs.is_none() && is_same(body.bytes(), guess.bytes),
         Form::Claims => {
             let width = <u8 as Item<N>>::entry_width(expect.nodes);
             is_part(body, guess, Cut { sender, width }, expect)
@@ -328,15 +346,9 @@ fn is_header(front: &[u8], head: Head, kind: u8, size: usize) -> bool
     is_same(front, &header(head, kind, size as u32))
 }
 
-/// Whether a frame is the one that its sender is guessed to send in the open slot, where that is
-/// known of the runs of what is guessed. No entry of it is read.
-pub fn is_guessed<const N: usize>(
-    watch: &SlotWatch<N>,
-    runs: &Option<Runs>,
-    from: u8,
-    sent: &Sent<'_>,
-) -> bool
-    requires known { IsKnown watch.now runs.now }
+/// Whether a frame is the one that its sender is guessed to send in the open slot. No entry of it
+/// is read.
+pub fn is_guessed<const N: usize>(watch: &SlotWatch<N>, from: u8, sent: &Sent<'_>) -> bool
     ensures sender { result ≡ true → guesses_at watch.now from ≡ true }
     ensures same { result ≡ true → sent.now ≡ frame_at watch.now from }
 {
@@ -347,13 +359,10 @@ pub fn is_guessed<const N: usize>(
         return false;
     };
     let bytes = sent.bytes();
-    if bytes.len() < HEADER {
+    if bytes.len() < HEADER || bytes.len() > u32::MAX as usize {
         return false;
     }
     let (front, body) = bytes.split_at(HEADER);
-    if body.len() > guess.len() {
-        return false;
-    }
     let head = Head {
         sender: from,
         ..expect.head()
@@ -362,6 +371,5 @@ pub fn is_guessed<const N: usize>(
         return false;
     }
     let body = Entries::new(body, sent.runs());
-    let table = Entries::new(guess, runs);
-    is_guessed_body(&body, &form, &table, from, expect)
+    is_guessed_body(&body, &form, &guess, from, expect)
 }

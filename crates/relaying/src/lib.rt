@@ -3,6 +3,7 @@
 #![tactic(auto)]
 
 mod comparing;
+mod guessing;
 mod hearing;
 mod item;
 mod runs;
@@ -14,7 +15,6 @@ mod writing;
 pub use comparing::is_guessed;
 pub use hearing::hear_round;
 pub use item::Item;
-pub use runs::Runs;
 pub use saying::{guess_round, say_round};
 pub use sent::Sent;
 pub use settling::{convicted, settle_claims, settle_member, settle_rows};

@@ -1,8 +1,10 @@
 //! What a node guesses of the relay frames of a round, and what it says itself.
 
-ghost use Rattle.std.specs.Prelude.{◌≡◌, ◌+◌, ◌*◌, ◌<◌, ◌≤◌, ◌⊎◌, length, replicate, Some, None};
+ghost use Rattle.std.specs.Prelude.{ℕ, ◌≡◌, ◌+◌, ◌*◌, ◌<◌, ◌≤◌, length, replicate, Some, None};
+ghost use Rattle.std.specs.Prelude.{vec_capacity};
 ghost use Rattle.std.specs.List.{flat_map};
 ghost use Rattle.omh_paths.specs.Paths.{path_count};
+ghost use Rattle.heard.specs.Passing.{IsAllExpected};
 ghost use Rattle.frames.specs.Content.{Expectation};
 ghost use Rattle.frames.specs.Seen.{expected};
 ghost use Rattle.frames.specs.Spelling.{spelling, head_of};
@@ -11,27 +13,65 @@ ghost use Rattle.error_detect.specs.Watching.{nothing};
 ghost use Rattle.relaying.specs.Guessed.{unguessed, IsEchoed};
 ghost use Rattle.relaying.specs.Relaying.{relays};
 ghost use Rattle.relaying.specs.Round.{IsRoundOf};
-ghost use Rattle.relaying.specs.Runs.{IsKnown};
-ghost use Rattle.relaying.specs.Table.{table};
 
-use crate::comparing::guessed_runs;
+use crate::guessing::guess_each;
 use crate::item::Item;
-use crate::runs::Runs;
-use crate::writing::write_passed;
+use crate::writing::{paths_of_each, write_passed, write_roots};
 use error_detect::SlotWatch;
-use frames::{Expect, HEADER, header};
+use frames::{Expect, HEADER, Runs, header};
 use heard::Heard;
 use omh_paths::count_paths;
 
-/// Guesses that each member's frame of the open slot says what the node itself passes on, but for
-/// the paths that the member is on. `runs` is left with what is known of the runs of the guess.
-/// `bytes` has room for an entry of each path of the members, and is left with any bytes.
-pub fn guess_round<V: Item<N>, const N: usize>(
+/// Guesses that each member's frame of the open slot says what the node itself passes on, where
+/// all of that is as expected: the same of all paths that begin with one member.
+fn guess_expected<V: Item<N>, const N: usize>(
     watch: &mut SlotWatch<N>,
-    runs: &mut Option<Runs>,
     heard: &Heard<V, N>,
     round: u8,
-    bytes: &mut [u8],
+)
+    requires nodes { watch.old.nodes ≡ heard.now.nodes }
+    requires before { watch.old.arrived ≡ replicate watch.old.nodes nothing }
+    requires some_round { 0 < round }
+    requires round { round ≤ heard.now.rounds }
+    requires expected { (r : ℕ) → 0 < r → r ≤ round → IsAllExpected heard.now r }
+    requires slot { (e : Expectation) × (watch.old.expect ≡ Some e) ×
+        IsRoundOf N V.kind V.in_range round heard.now e }
+    ensures kept { unguessed watch.new ≡ unguessed watch.old }
+    ensures echoed { watch.old.guess ≡ None → IsEchoed V.form round watch.new heard.now }
+{
+    let members = heard.members();
+    let runs = Runs {
+        width: V::entry_width(heard.nodes()),
+        times: paths_of_each(&members, round),
+        count: members.len() as usize,
+    };
+    if runs.times == 0 {
+        return;
+    }
+    let mut firsts = [0; 528];
+    write_roots(heard, &members, round, &mut firsts);
+    let _had_room = watch.guess_runs(V::guess_form(), &runs, &firsts[..runs.count * runs.width]);
+}
+
+/// Makes a buffer at least so long, where it has room for that.
+fn lengthen(bytes: &mut Vec<u8>, size: usize)
+    requires room { size ≤ vec_capacity bytes.old }
+    ensures long { size ≤ length bytes.new.items }
+    ensures room { vec_capacity bytes.old ≤ vec_capacity bytes.new }
+{
+    if bytes.len() < size {
+        let _within_room = bytes.resize(size, 0).is_ok();
+    }
+}
+
+/// Guesses that each member's frame of the open slot says what the node itself passes on, but for
+/// the paths that the member is on. `table` has room for an entry of each path of the members. It
+/// is written only where not all is as expected.
+pub fn guess_round<V: Item<N>, const N: usize>(
+    watch: &mut SlotWatch<N>,
+    heard: &Heard<V, N>,
+    round: u8,
+    table: &mut Vec<u8>,
 )
     requires nodes { watch.old.nodes ≡ heard.now.nodes }
     requires before { watch.old.arrived ≡ replicate watch.old.nodes nothing }
@@ -40,19 +80,19 @@ pub fn guess_round<V: Item<N>, const N: usize>(
     requires slot { (e : Expectation) × (watch.old.expect ≡ Some e) ×
         IsRoundOf N V.kind V.in_range round heard.now e }
     requires room { V.width heard.now.nodes * path_count (length heard.now.members) round ≤
-        length bytes.old }
+        vec_capacity table.old }
     ensures kept { unguessed watch.new ≡ unguessed watch.old }
-    ensures guess { (watch.new.guess ≡ watch.old.guess) ⊎
-        (watch.new.guess ≡ Some (V.form.relay (table heard.now round))) }
-    ensures known { IsKnown watch.new runs.new }
     ensures echoed { watch.old.guess ≡ None → IsEchoed V.form round watch.new heard.now }
-    ensures length { length bytes.new ≡ length bytes.old }
+    ensures room { vec_capacity table.old ≤ vec_capacity table.new }
 {
+    if heard.relays_expected(round) {
+        guess_expected(watch, heard, round);
+        return;
+    }
     let members = heard.members();
     let size = V::entry_width(heard.nodes()) * count_paths(members.len(), round);
-    write_passed(heard, &members, round, bytes);
-    let _had_room = watch.guess(V::guess_form(), &bytes[..size]);
-    *runs = guessed_runs(watch);
+    lengthen(table, size);
+    guess_each(watch, heard, round, table.as_mut_slice());
 }
 
 /// Writes what the node itself passes on in a relay round to the front of `out`, and answers how

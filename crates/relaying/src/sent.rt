@@ -4,8 +4,8 @@ ghost use Rattle.std.specs.Prelude.{◌≡◌, ◌<◌, ◌≤◌, ◌+◌, ◌/
 ghost use Rattle.omh_paths.specs.Paths.{path_count};
 ghost use Rattle.relaying.specs.Runs.{AreRuns};
 
-use crate::runs::{Runs, find_runs};
-use frames::HEADER;
+use crate::runs::{find_runs, has_runs, has_shape};
+use frames::{HEADER, Runs};
 use omh_paths::count_paths;
 use std::marker::Model;
 
@@ -65,11 +65,19 @@ impl<'a> Entries<'a> {
         self.bytes
     }
 
-    /// What is known of the runs.
-    pub(crate) fn runs(&self) -> Option<&Runs>
-        ensures { IfSome result (λ r. AreRuns self.now r.now) }
+    /// Whether it is known, or found, that these are its runs.
+    pub(crate) fn are(&self, runs: &Runs) -> bool
+        requires narrow { runs.now.width ≤ 33 }
+        requires few { runs.now.count ≤ 16 }
+        requires small { runs.now.times ≤ 65536 }
+        ensures { result ≡ true → AreRuns self.now runs.now }
     {
-        self.runs.as_ref()
+        match self.runs {
+            Some(known) => {
+                has_shape(known, runs.width, runs.times, runs.count) || has_runs(self.bytes, runs)
+            }
+            None => has_runs(self.bytes, runs),
+        }
     }
 }
 

@@ -1,7 +1,7 @@
 //! The entries of a relay round: what is passed on of each path of a set of members.
 
 ghost use Rattle.std.specs.Prelude.{◌≡◌, ◌≢◌, ◌+◌, ◌-◌, ◌*◌, ◌<◌, ◌≤◌, ℕ, List, true, length};
-ghost use Rattle.std.specs.Prelude.{if◌then◌else◌};
+ghost use Rattle.std.specs.Prelude.{if◌then◌else◌, All};
 ghost use Rattle.std.specs.List.{flat_map};
 ghost use Rattle.node_grid.specs.Capacity.{IsCapacity};
 ghost use Rattle.node_grid.specs.NodeSet.{has_id, IsIdSet};
@@ -13,7 +13,7 @@ ghost use Rattle.heard.specs.Keep.{IsSmall, wrapped_times};
 ghost use Rattle.heard.specs.Passing.{IsAllExpected};
 ghost use Rattle.frames.specs.Filling.{repeated};
 ghost use Rattle.frames.specs.Writing.{pasted};
-ghost use Rattle.relaying.specs.Table.{own_told, passed, passed_of, root_of, CanWrite};
+ghost use Rattle.relaying.specs.Table.{own_told, passed, passed_of, root_of, roots_of, CanWrite};
 
 use crate::item::Item;
 use frames::fill_entries;
@@ -117,8 +117,33 @@ fn put_same<V: Item<N>, const N: usize>(
     fill_entries(out, width * from, &entry[..width], count);
 }
 
+/// Writes what is passed on of each member's item after so many relays to the front of `out`, where
+/// all is as expected: an entry a member.
+pub(crate) fn write_roots<V: Item<N>, const N: usize>(
+    heard: &Heard<V, N>,
+    set: &NodeSet<N>,
+    round: u8,
+    out: &mut [u8],
+)
+    requires some_round { 0 < round }
+    requires round { round ≤ heard.now.rounds }
+    requires few { round ≤ 3 }
+    requires own { IsSmall 3 (own_told heard.now) }
+    requires wide { All (λ w. length (V.spelling heard.now.nodes w) ≡ V.width heard.now.nodes)
+        (roots_of heard.now set.now round) }
+    requires room { V.width heard.now.nodes * length set.now ≤ length out.old }
+    ensures { out.new ≡ pasted 0
+        (flat_map (V.spelling heard.now.nodes) (roots_of heard.now set.now round)) out.old }
+{
+    let nodes = heard.nodes();
+    for i in 0..set.len() {
+        let value = root_passed(heard, set.at(i), round);
+        V::put(out, nodes, i as usize, &value);
+    }
+}
+
 /// How many paths of `round` of a set begin with each of its nodes.
-fn paths_of_each<const N: usize>(set: &NodeSet<N>, round: u8) -> usize
+pub(crate) fn paths_of_each<const N: usize>(set: &NodeSet<N>, round: u8) -> usize
     requires capacity { IsCapacity N }
     requires some { 0 < round }
     requires few { round ≤ 3 }

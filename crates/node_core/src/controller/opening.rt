@@ -77,7 +77,7 @@ impl<const N: usize> Buffers<N> {
         let Ok(rows) = filled(alloc, most, Wrapped::Fault(0)) else {
             return Err(NoMemory);
         };
-        let Ok(table) = filled(alloc, most * (1 + 2 * nodes as usize), 0) else {
+        let Ok(table) = Vec::with_capacity(alloc, most * (1 + 2 * nodes as usize)) else {
             return Err(NoMemory);
         };
         Ok(Buffers {
@@ -128,7 +128,7 @@ impl<'c, const N: usize> Controller<'c, N> {
         let done = Heard::open(alloc, config.nodes, config.m)?;
         let rows = Heard::open(alloc, config.nodes, config.m)?;
         let buffers: Buffers<N> = Buffers::open(alloc, config.nodes, config.m)?;
-        let guess_max = buffers.table.len();
+        let guess_max = buffers.table.capacity();
         let watch = SlotWatch::open(alloc, config.nodes, me, frame_max, guess_max)?;
         let notes = RowBuilder::new(config.nodes, me, kind_count(config.version));
         Ok(Controller {
@@ -155,7 +155,6 @@ impl<'c, const N: usize> Controller<'c, N> {
             rows,
             found: Findings::none(notes),
             watch,
-            runs: None,
             outcome: NodeRecord::cold(),
             buffers,
         })

@@ -31,7 +31,6 @@ impl<'c, const N: usize> Controller<'c, N> {
             let state = agreed.body(self.config);
             self.watch.guess(Form::State, state.as_slice());
         }
-        self.runs = None;
         self.phase = Phase {
             me,
             period,
@@ -71,20 +70,15 @@ impl<'c, const N: usize> Controller<'c, N> {
     {
         let expect = self.expectation(slot);
         self.watch.open_slot(&expect);
-        self.runs = None;
         self.phase.slot = slot;
         let round = slot.round();
         if round == 0 || self.phase.before.is_none() {
             return;
         }
-        let scratch = self.buffers.table.as_mut_slice();
+        let table = &mut self.buffers.table;
         match slot {
-            Slot::Claims(_) => {
-                guess_round(&mut self.watch, &mut self.runs, &self.done, round, scratch)
-            }
-            Slot::Rows(_) => {
-                guess_round(&mut self.watch, &mut self.runs, &self.rows, round, scratch)
-            }
+            Slot::Claims(_) => guess_round(&mut self.watch, &self.done, round, table),
+            Slot::Rows(_) => guess_round(&mut self.watch, &self.rows, round, table),
             Slot::Sync | Slot::Data => {}
         }
     }

@@ -1,4 +1,4 @@
-use Rattle.std.proofs.Common.{◌≡◌, ◌<◌, ℕ, true, lit<, sym, ap, subst, ◌∙◌}
+use Rattle.std.proofs.Common.{◌<◌, ℕ, lit<, sym, ap, subst, ◌∙◌}
 use Rattle.error_detect.specs.Watching.{Watch, delivered}
 use Rattle.relaying.specs.Guessed.{unguessed}
 use Rattle.node_steps.specs.Parts.{NodeView}
@@ -8,8 +8,7 @@ use Rattle.node_core.proofs.controller.Controller.deliver.Goals as goal
 
 pub is_guessed-requires : goal.is_guessed-requires
 is_guessed-requires g c =
-    let open' : c.self.inside.watch.is_open ≡ true = ap (λ (v : NodeView g.row.N). v.arrived.is_open) c.self.view_is ∙ c.requires.open in
-    (lit< tt, c.self.invariant.runs open')
+    lit< tt
 
 pub deliver_same-requires : goal.deliver_same-requires
 deliver_same-requires g c =

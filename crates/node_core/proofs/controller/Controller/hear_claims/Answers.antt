@@ -43,7 +43,6 @@ invariant_of-self g c =
       notes = inv.notes;
       rooms = inv.rooms;
       guessed = λ h. absurd (not_open n.watch u shut' h);
-      runs = λ h. absurd (not_open n.watch u shut' h);
     }
 
 pub returns-then-is_none : goal.returns-then-is_none
@@ -99,7 +98,6 @@ invariant_of-self-then-round-self g c =
       notes = record { nodes = ap (λ (x : Notes). x.nodes) k ∙ inv.notes.nodes; me_is = ap (λ (x : Notes). x.me) k ∙ inv.notes.me_is; kinds = ap (λ (x : Notes). x.kinds) k ∙ inv.notes.kinds };
       rooms = claims_room n.config.now.nodes n.config.now.m n.buffers c.hear_round.new.entries (c.hear_round.ensures.length ∙ ap (λ xs. length xs) c.as_mut_slice.ensures.value) inv.rooms;
       guessed = λ h. absurd (not_open n.watch u shut' h);
-      runs = λ h. absurd (not_open n.watch u shut' h);
     }
 
 pub know_claims-requires : goal.know_claims-requires
@@ -154,7 +152,6 @@ invariant_of-self-else-round-self g c =
       notes = record { nodes = ap (λ (x : Notes). x.nodes) k ∙ inv.notes.nodes; me_is = ap (λ (x : Notes). x.me) k ∙ inv.notes.me_is; kinds = ap (λ (x : Notes). x.kinds) k ∙ inv.notes.kinds };
       rooms = claims_room n.config.now.nodes n.config.now.m n.buffers c.hear_round.new.entries (c.hear_round.ensures.length ∙ ap (λ xs. length xs) c.as_mut_slice.ensures.value) inv.rooms;
       guessed = λ h. absurd (not_open n.watch u shut' h);
-      runs = λ h. absurd (not_open n.watch u shut' h);
     }
 
 pub returns-else-round-self : goal.returns-else-round-self

@@ -43,7 +43,6 @@ invariant_of-self g c =
       notes = inv.notes;
       rooms = inv.rooms;
       guessed = λ h. absurd (not_open n.watch c.close-found.new.self shut' h);
-      runs = λ h. absurd (not_open n.watch c.close-found.new.self shut' h);
     }
 
 pub vote-voted-requires : goal.vote-voted-requires
@@ -148,7 +147,6 @@ invariant_of-self-2 g c =
       notes = subst (AreItsNotes n.config.now n.phase.me) (sym (told_is g c)) (still_notes n.config.now n.phase.me n.phase.full c.note_values.new.notes (replicate g.row.N 0) noted);
       rooms = inv.rooms;
       guessed = λ h. absurd (not_open n.watch c.close-found.new.self shut' h);
-      runs = λ h. absurd (not_open n.watch c.close-found.new.self shut' h);
     }
 
 pub returns : goal.returns

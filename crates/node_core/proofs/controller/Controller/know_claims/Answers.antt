@@ -50,7 +50,6 @@ invariant_of-self g c =
       };
       rooms = inv.rooms;
       guessed = λ h. guess_kept n.phase.slot n _ _ (c.convicted-guilty.ensures.kept ∙ c.settle_claims-claims.ensures.kept) (inv.guessed h);
-      runs = inv.runs;
     }
 
 pub returns : goal.returns

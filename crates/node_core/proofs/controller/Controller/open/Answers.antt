@@ -60,5 +60,4 @@ invariant_of-result g c =
       notes = subst (AreItsNotes c.args.config.now c.args.me) (sym c.none.ensures.notes) its;
       rooms = c.in_ok-buffers.ensures;
       guessed = λ h. absurd (let e = sym (ap (λ (x : Watch). x.is_open) w) ∙ h in cc);
-      runs = λ h. absurd (let e = sym (ap (λ (x : Watch). x.is_open) w) ∙ h in cc);
     }

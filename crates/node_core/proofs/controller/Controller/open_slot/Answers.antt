@@ -1,7 +1,6 @@
 use mathlib.Core.List.{not-mem-nil}
-use Rattle.std.proofs.Common.{ℕ, ◌≡◌, ◌≤◌, ◌<◌, ◌+◌, List, length, Option, None, Some, arith, refl, inl, inr, lit<, sym, ap, subst, ◌∙◌}
-use Rattle.std.specs.Prelude.{◌*◌, IfSome, replicate}
-use Rattle.std.specs.Vec.{with_items}
+use Rattle.std.proofs.Common.{ℕ, ◌≡◌, ◌≤◌, ◌<◌, ◌+◌, List, length, Option, Some, arith, refl, inl, inr, lit<, sym, ap, subst, ◌∙◌}
+use Rattle.std.specs.Prelude.{◌*◌, IfSome, replicate, vec_capacity}
 use Rattle.omh_paths.specs.Paths.{path_count}
 use Rattle.protocol.specs.Arrival.{claim_form, row_form}
 use Rattle.slot_plan.specs.declared.slot.Slot.{Slot}
@@ -54,19 +53,16 @@ pub invariant_of-self : goal.invariant_of-self
 invariant_of-self g c =
     let n = c.self.inside in
     let slot : IsSlot n.config.now.m c.args.slot = subst (λ (u : NodeView g.row.N). IsSlot u.config.m c.args.slot) (sym c.self.view_is) c.requires.slot in
-    opened_kept n c.args.slot (expected c.expectation-expect.result) c.open_slot.new.self c.open_slot.new.self n.buffers None c.open_slot.ensures refl c.self.invariant slot c.self.invariant.rooms
-    (no_guess c.args.slot (moved n c.args.slot c.open_slot.new.self n.buffers None) (ap (λ (w : Watch). w.guess) c.open_slot.ensures)) tt
+    opened_kept n c.args.slot (expected c.expectation-expect.result) c.open_slot.new.self c.open_slot.new.self n.buffers c.open_slot.ensures refl c.self.invariant slot c.self.invariant.rooms
+    (no_guess c.args.slot (moved n c.args.slot c.open_slot.new.self n.buffers) (ap (λ (w : Watch). w.guess) c.open_slot.ensures))
 
 pub returns-then-round-eq0 : goal.returns-then-round-eq0
 returns-then-round-eq0 g c =
     let n = c.self.inside in
     let is = c.self.view_is in
     let same : expected c.expectation-expect.result ≡ expected_in (seen n) (slot_number n.config.now.m c.args.slot) = c.expectation-expect.ensures ∙ ap (λ (u : NodeView g.row.N). expected_in u (slot_number u.config.m c.args.slot)) (sym is) in
-    opened_seen n c.args.slot (expected c.expectation-expect.result) c.open_slot.new.self c.open_slot.new.self n.buffers None c.open_slot.ensures refl same
+    opened_seen n c.args.slot (expected c.expectation-expect.result) c.open_slot.new.self c.open_slot.new.self n.buffers c.open_slot.ensures refl same
     ∙ ap (λ (u : NodeView g.row.N). slot_open u (slot_number u.config.m c.args.slot)) is
-
-pub as_mut_slice-scratch-requires : goal.as_mut_slice-scratch-requires
-as_mut_slice-scratch-requires g c κs = (λ a m. absurd (not-mem-nil m), λ a m. absurd (not-mem-nil m))
 
 pub guess_round-requires : goal.guess_round-requires
 guess_round-requires g c =
@@ -97,8 +93,7 @@ guess_round-requires g c =
     let members = ap (λ (xs : List ℕ). length xs) hears.members in
     let few = few_members (seen n) a taken.sizes some.1 in
     let table = claims_table n.config.now.nodes n.config.now.m n.buffers inv.rooms nodes_some (length n.done.members) r (omega (arith, members, few)) low in
-    let long = ap (λ (xs : List ℕ). length xs) c.as_mut_slice-scratch.ensures.value in
-    (lit< tt, (lit< tt, (nodes, (first, (later, (omega (arith, low, rounds), ((expected_in (seen n) (1 + r), expects, of), omega (arith, table, long))))))))
+    (lit< tt, (lit< tt, (nodes, (first, (later, (omega (arith, low, rounds), ((expected_in (seen n) (1 + r), expects, of), table)))))))
 
 pub invariant_of-self-in-Claims : goal.invariant_of-self-in-Claims
 invariant_of-self-in-Claims g c =
@@ -109,11 +104,11 @@ invariant_of-self-in-Claims g c =
     let r : ℕ = c.in-Claims.field-0 in
     let slot : IsSlot n.config.now.m c.args.slot = subst (λ (u : NodeView g.row.N). IsSlot u.config.m c.args.slot) (sym is) c.requires.slot in
     let u = c.guess_round.new.watch in
-    let b = record n.buffers { table = with_items n.buffers.table c.guess_round.new.bytes } in
-    let rooms = table_room n.config.now.nodes n.config.now.m n.buffers c.guess_round.new.bytes (c.guess_round.ensures.length ∙ ap (λ (xs : List ℕ). length xs) c.as_mut_slice-scratch.ensures.value) inv.rooms in
+    let b = record n.buffers { table = c.guess_round.new.table } in
+    let rooms = table_room n.config.now.nodes n.config.now.m n.buffers c.guess_round.new.table c.guess_round.ensures.room inv.rooms in
     let echoed = subst (λ (q : ℕ). IsEchoed claim_form q u n.done) (c.round-round.ensures ∙ ap round_of c.in-Claims.is) (c.guess_round.ensures.echoed (ap (λ (w : Watch). w.guess) k)) in
-    opened_kept n c.args.slot (expected c.expectation-expect.result) c.open_slot.new.self u b c.guess_round.new.runs k c.guess_round.ensures.kept inv slot rooms
-    (subst (λ (x : Slot). IsGuessed x (moved n c.args.slot u b c.guess_round.new.runs)) (sym c.in-Claims.is) (λ some. echoed)) c.guess_round.ensures.known
+    opened_kept n c.args.slot (expected c.expectation-expect.result) c.open_slot.new.self u b k c.guess_round.ensures.kept inv slot rooms
+    (subst (λ (x : Slot). IsGuessed x (moved n c.args.slot u b)) (sym c.in-Claims.is) (λ some. echoed))
 
 pub guess_round-requires-in-Rows-room-V-Item : goal.guess_round-requires-in-Rows-room-V-Item
 guess_round-requires-in-Rows-room-V-Item g c κs = elim c.requires.capacity [ inl e ↦ rw e (lit< tt) | inr e ↦ rw e (lit< tt) ]
@@ -157,9 +152,8 @@ guess_round-requires-in-Rows g c =
     let members = ap (λ (xs : List ℕ). length xs) hears.members in
     let few = few_members (seen n) a taken.sizes some.1 in
     let table = rows_table n.config.now.nodes n.config.now.m n.buffers inv.rooms nodes_some (length n.rows.members) r (omega (arith, members, few)) low in
-    let long = ap (λ (xs : List ℕ). length xs) c.as_mut_slice-scratch.ensures.value in
-    let fits = subst (λ (q : ℕ). (1 + 2 * q) * path_count (length n.rows.members) r ≤ length n.buffers.table.items) (sym taken.sizes.rows.nodes_are) table in
-    (lit< tt, (elim inv.place.capacity [ inl e ↦ rw e (lit< tt) | inr e ↦ rw e (lit< tt) ], (nodes, (first, (later, (omega (arith, low, rounds), ((expected_in (seen n) (n.config.now.m + 3 + r), expects, of), subst (λ (q : ℕ). (1 + 2 * n.rows.nodes) * path_count (length n.rows.members) r ≤ q) (sym long) fits)))))))
+    let fits = subst (λ (q : ℕ). (1 + 2 * q) * path_count (length n.rows.members) r ≤ vec_capacity n.buffers.table) (sym taken.sizes.rows.nodes_are) table in
+    (lit< tt, (elim inv.place.capacity [ inl e ↦ rw e (lit< tt) | inr e ↦ rw e (lit< tt) ], (nodes, (first, (later, (omega (arith, low, rounds), ((expected_in (seen n) (n.config.now.m + 3 + r), expects, of), fits)))))))
 
 pub invariant_of-self-in-Rows : goal.invariant_of-self-in-Rows
 invariant_of-self-in-Rows g c =
@@ -169,29 +163,25 @@ invariant_of-self-in-Rows g c =
     let k = c.open_slot.ensures in
     let slot : IsSlot n.config.now.m c.args.slot = subst (λ (u : NodeView g.row.N). IsSlot u.config.m c.args.slot) (sym is) c.requires.slot in
     let u = c.guess_round-in-Rows.new.watch in
-    let b = record n.buffers { table = with_items n.buffers.table c.guess_round-in-Rows.new.bytes } in
-    let rooms = table_room n.config.now.nodes n.config.now.m n.buffers c.guess_round-in-Rows.new.bytes (c.guess_round-in-Rows.ensures.length ∙ ap (λ (xs : List ℕ). length xs) c.as_mut_slice-scratch.ensures.value) inv.rooms in
+    let b = record n.buffers { table = c.guess_round-in-Rows.new.table } in
+    let rooms = table_room n.config.now.nodes n.config.now.m n.buffers c.guess_round-in-Rows.new.table c.guess_round-in-Rows.ensures.room inv.rooms in
     let echoed = subst (λ (q : ℕ). IsEchoed row_form q u n.rows) (c.round-round.ensures ∙ ap round_of c.in-Rows.is) (c.guess_round-in-Rows.ensures.echoed (ap (λ (w : Watch). w.guess) k)) in
-    opened_kept n c.args.slot (expected c.expectation-expect.result) c.open_slot.new.self u b c.guess_round-in-Rows.new.runs k c.guess_round-in-Rows.ensures.kept inv slot rooms
-    (subst (λ (x : Slot). IsGuessed x (moved n c.args.slot u b c.guess_round-in-Rows.new.runs)) (sym c.in-Rows.is) (λ some. echoed)) c.guess_round-in-Rows.ensures.known
+    opened_kept n c.args.slot (expected c.expectation-expect.result) c.open_slot.new.self u b k c.guess_round-in-Rows.ensures.kept inv slot rooms
+    (subst (λ (x : Slot). IsGuessed x (moved n c.args.slot u b)) (sym c.in-Rows.is) (λ some. echoed))
 
 pub invariant_of-self-in-Sync : goal.invariant_of-self-in-Sync
 invariant_of-self-in-Sync g c =
     let n = c.self.inside in
-    let inv = c.self.invariant in
-    let k = c.open_slot.ensures in
     let slot : IsSlot n.config.now.m c.args.slot = subst (λ (u : NodeView g.row.N). IsSlot u.config.m c.args.slot) (sym c.self.view_is) c.requires.slot in
-    let b = record n.buffers { table = with_items n.buffers.table c.as_mut_slice-scratch.result.now } in
-    let rooms = table_room n.config.now.nodes n.config.now.m n.buffers c.as_mut_slice-scratch.result.now (ap (λ (xs : List ℕ). length xs) c.as_mut_slice-scratch.ensures.value) inv.rooms in
-    opened_kept n c.args.slot (expected c.expectation-expect.result) c.open_slot.new.self c.open_slot.new.self b None k refl inv slot rooms
-    (no_guess c.args.slot (moved n c.args.slot c.open_slot.new.self b None) (ap (λ (w : Watch). w.guess) k)) tt
+    opened_kept n c.args.slot (expected c.expectation-expect.result) c.open_slot.new.self c.open_slot.new.self n.buffers c.open_slot.ensures refl c.self.invariant slot c.self.invariant.rooms
+    (no_guess c.args.slot (moved n c.args.slot c.open_slot.new.self n.buffers) (ap (λ (w : Watch). w.guess) c.open_slot.ensures))
 
 pub returns-in-Claims : goal.returns-in-Claims
 returns-in-Claims g c =
     let n = c.self.inside in
     let is = c.self.view_is in
     let same : expected c.expectation-expect.result ≡ expected_in (seen n) (slot_number n.config.now.m c.args.slot) = c.expectation-expect.ensures ∙ ap (λ (u : NodeView g.row.N). expected_in u (slot_number u.config.m c.args.slot)) (sym is) in
-    opened_seen n c.args.slot (expected c.expectation-expect.result) c.open_slot.new.self c.guess_round.new.watch n.buffers c.guess_round.new.runs c.open_slot.ensures c.guess_round.ensures.kept same
+    opened_seen n c.args.slot (expected c.expectation-expect.result) c.open_slot.new.self c.guess_round.new.watch n.buffers c.open_slot.ensures c.guess_round.ensures.kept same
     ∙ ap (λ (u : NodeView g.row.N). slot_open u (slot_number u.config.m c.args.slot)) is
 
 pub returns-in-Rows : goal.returns-in-Rows
@@ -199,7 +189,7 @@ returns-in-Rows g c =
     let n = c.self.inside in
     let is = c.self.view_is in
     let same : expected c.expectation-expect.result ≡ expected_in (seen n) (slot_number n.config.now.m c.args.slot) = c.expectation-expect.ensures ∙ ap (λ (u : NodeView g.row.N). expected_in u (slot_number u.config.m c.args.slot)) (sym is) in
-    opened_seen n c.args.slot (expected c.expectation-expect.result) c.open_slot.new.self c.guess_round-in-Rows.new.watch n.buffers c.guess_round-in-Rows.new.runs c.open_slot.ensures c.guess_round-in-Rows.ensures.kept same
+    opened_seen n c.args.slot (expected c.expectation-expect.result) c.open_slot.new.self c.guess_round-in-Rows.new.watch n.buffers c.open_slot.ensures c.guess_round-in-Rows.ensures.kept same
     ∙ ap (λ (u : NodeView g.row.N). slot_open u (slot_number u.config.m c.args.slot)) is
 
 pub returns-in-Sync : goal.returns-in-Sync
@@ -207,5 +197,5 @@ returns-in-Sync g c =
     let n = c.self.inside in
     let is = c.self.view_is in
     let same : expected c.expectation-expect.result ≡ expected_in (seen n) (slot_number n.config.now.m c.args.slot) = c.expectation-expect.ensures ∙ ap (λ (u : NodeView g.row.N). expected_in u (slot_number u.config.m c.args.slot)) (sym is) in
-    opened_seen n c.args.slot (expected c.expectation-expect.result) c.open_slot.new.self c.open_slot.new.self n.buffers None c.open_slot.ensures refl same
+    opened_seen n c.args.slot (expected c.expectation-expect.result) c.open_slot.new.self c.open_slot.new.self n.buffers c.open_slot.ensures refl same
     ∙ ap (λ (u : NodeView g.row.N). slot_open u (slot_number u.config.m c.args.slot)) is

@@ -22,5 +22,4 @@ invariant_of-self g c =
       notes = inv.notes;
       rooms = inv.rooms;
       guessed = λ h. guess_forgotten c.self.inside.phase.slot c.self.inside _ refl (inv.guessed h);
-      runs = inv.runs;
     }
