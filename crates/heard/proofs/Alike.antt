@@ -63,8 +63,9 @@ changed p as_expected echoes in_cells cells expected = record p { as_expected = 
 pub changed_stored : {V : Type 0} (capacity : ℕ) (p : Parts V) → IsStored capacity p → (as_expected echoes in_cells : List (List ℕ)) (cells expected : List (Wrapped V))
     → length as_expected ≡ length p.as_expected → length echoes ≡ length p.echoes → length in_cells ≡ length p.in_cells → length cells ≡ length p.cells
     → ((r q k : ℕ) → r ≤ p.rounds → q < p.nodes → k < path_count (p.nodes - 1) r → IsSmall (3 + r) (get_or cells (frame_at p.nodes r q + k) (Fault 0)))
-    → length expected ≡ length p.expected → All (IsSmall 3) expected → IsStored capacity (changed p as_expected echoes in_cells cells expected)
-changed_stored capacity p h as_expected echoes in_cells cells expected a b c many small d small_expected = record {
+    → length expected ≡ length p.expected → All (IsSmall 3) expected → (p.alike ≡ true → (c : ℕ) → has_id p.members c ≡ true → get_or cells c (Fault 0) ≡ get_or expected c (Fault 0))
+    → IsStored capacity (changed p as_expected echoes in_cells cells expected)
+changed_stored capacity p h as_expected echoes in_cells cells expected a b c many small d small_expected same = record {
   capacity_ok = h.capacity_ok;
   nodes_ok = h.nodes_ok;
   rounds_ok = h.rounds_ok;
@@ -78,12 +79,39 @@ changed_stored capacity p h as_expected echoes in_cells cells expected a b c man
   small = small;
   expected_ok = d ∙ h.expected_ok;
   small_expected = small_expected;
+  alike_ok = same;
+}
+
+-- nor does it matter what is said of all own values, where it is so
+pub alike_stored : {V : Type 0} (capacity : ℕ) (p : Parts V) → IsStored capacity p → (b : Bool) → (b ≡ true → (c : ℕ) → has_id p.members c ≡ true → root p c ≡ base p c) → IsStored capacity (record p { alike = b })
+alike_stored capacity p h b same = record {
+  capacity_ok = h.capacity_ok;
+  nodes_ok = h.nodes_ok;
+  rounds_ok = h.rounds_ok;
+  members_ok = h.members_ok;
+  low = h.low;
+  me_ok = h.me_ok;
+  as_expected_ok = h.as_expected_ok;
+  echoes_ok = h.echoes_ok;
+  in_cells_ok = h.in_cells_ok;
+  cells_ok = h.cells_ok;
+  small = h.small;
+  expected_ok = h.expected_ok;
+  small_expected = h.small_expected;
+  alike_ok = same;
 }
 
 -- ---- one choice of a value
 
 abbrev pub pick : {V : Type 0} → Bool → Wrapped V → Bool → Wrapped V → Bool → Wrapped V → Wrapped V
 pick b v e w o x = if b then v else (if e then wrapped w else (if o then x else Fault 0))
+
+-- what came from a node is by the frames alone
+pub relayed_any : {V : Type 0} (p : Parts V) (b : Bool) (r q : ℕ) (path : List ℕ) → relayed (record p { alike = b }) r q path ≡ relayed p r q path
+relayed_any p b zero q path = refl
+relayed_any {V} p b (suc r) q path =
+    ap (λ (w : Wrapped V). pick (has_id (set_at p.as_expected (suc r)) q) (wrapped_times (suc r) (base p (first_node path))) (has_id (set_at p.echoes (suc r)) q) w (has_id (set_at p.in_cells (suc r)) q) (cell p (suc r) q (place_of p (suc r) q path)))
+    (relayed_any p b r (get_or path r 0) (take (suc r) path))
 
 pub pick_alike : {V : Type 0} (b b' e e' o o' : Bool) (v v' w w' x x' : Wrapped V) → b ≡ b' → v ≡ v' → e ≡ e' → (b' ≡ false → e' ≡ true → w ≡ w') → o ≡ o' → x ≡ x' → pick b v e w o x ≡ pick b' v' e' w' o' x'
 pick_alike {V} b b' e e' o o' v v' w w' x x' hb hv he hw ho hx =
