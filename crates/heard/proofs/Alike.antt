@@ -1,5 +1,5 @@
--- Two stores that differ in one frame alone keep the same for all other paths.
-use Rattle.std.proofs.Common.{ℕ, zero, suc, ◌≡◌, ◌<◌, ◌≤◌, ◌+◌, ◌-◌, Bool, true, false, not, ◌||◌, ◌&&◌, ◌==◌, List, [], length, get_or, set, take, refl, sym, ap, ap₂, ◌∙◌, inl, inr, arith, eq-eqb, ne_eqb}
+-- Two stores that differ in frames of one round alone keep the same for all other paths.
+use Rattle.std.proofs.Common.{ℕ, zero, suc, ◌≡◌, ◌<◌, ◌≤◌, ◌+◌, ◌-◌, Bool, true, false, not, ◌||◌, ◌&&◌, ◌==◌, List, [], length, get_or, set, take, refl, sym, ap, ap₂, subst, ◌∙◌, inl, inr, arith, eq-eqb, ne_eqb}
 use Rattle.std.specs.Prelude.{if◌then◌else◌}
 use Rattle.std.specs.List.{All}
 use Rattle.std.proofs.lemmas.Bool.{cases_Bool, cases_eq, cases_lt, both_ways, or_left}
@@ -125,13 +125,13 @@ pick_alike {V} b b' e e' o o' v v' w w' x x' hb hv he hw ho hx =
       ]
     ]
 
-module _ {V : Type 0} (capacity : ℕ) (p : Parts V) (h : IsStored capacity p) (cl ec od : List (List ℕ)) (ce sa : List (Wrapped V)) (top r q : ℕ) (newest : IsNewest top p r)
-    (cleans : (s n : ℕ) → n < capacity → (s ≡ r → n ≡ q → ⊥) → has_id (set_at cl s) n ≡ has_id (set_at p.as_expected s) n)
-    (echoings : (s n : ℕ) → n < capacity → (s ≡ r → n ≡ q → ⊥) → has_id (set_at ec s) n ≡ has_id (set_at p.echoes s) n)
-    (odds : (s n : ℕ) → n < capacity → (s ≡ r → n ≡ q → ⊥) → has_id (set_at od s) n ≡ has_id (set_at p.in_cells s) n)
-    (cells : (s n k : ℕ) → 0 < s → s ≤ top → n < p.nodes → k < path_count (p.nodes - 1) s → (s ≡ r → n ≡ q → ⊥) → get_or ce (frame_at p.nodes s n + k) (Fault 0) ≡ cell p s n k)
+module _ {V : Type 0} (capacity : ℕ) (p : Parts V) (h : IsStored capacity p) (cl ec od : List (List ℕ)) (ce sa : List (Wrapped V)) (top r : ℕ) (Q : ℕ → Type 0) (newest : IsNewest top p r)
+    (cleans : (s n : ℕ) → n < capacity → (s ≡ r → Q n → ⊥) → has_id (set_at cl s) n ≡ has_id (set_at p.as_expected s) n)
+    (echoings : (s n : ℕ) → n < capacity → (s ≡ r → Q n → ⊥) → has_id (set_at ec s) n ≡ has_id (set_at p.echoes s) n)
+    (odds : (s n : ℕ) → n < capacity → (s ≡ r → Q n → ⊥) → has_id (set_at od s) n ≡ has_id (set_at p.in_cells s) n)
+    (cells : (s n k : ℕ) → 0 < s → s ≤ top → n < p.nodes → k < path_count (p.nodes - 1) s → (s ≡ r → Q n → ⊥) → get_or ce (frame_at p.nodes s n + k) (Fault 0) ≡ cell p s n k)
     (bases : (c : ℕ) → c < p.nodes → get_or sa c (Fault 0) ≡ base p c) where
-  pub relayed_alike : (s : ℕ) (path : List ℕ) → length path ≡ s + 1 → s ≤ top → Distinct path → ((x : ℕ) → has_id path x ≡ true → has_id p.members x ≡ true) → (s ≡ r → get_or path s 0 ≡ q → ⊥)
+  pub relayed_alike : (s : ℕ) (path : List ℕ) → length path ≡ s + 1 → s ≤ top → Distinct path → ((x : ℕ) → has_id path x ≡ true → has_id p.members x ≡ true) → (s ≡ r → Q (get_or path s 0) → ⊥)
       → relayed (changed p cl ec od ce sa) s (get_or path s 0) path ≡ relayed p s (get_or path s 0) path
   relayed_alike zero path long short d within other = bases (first_node path) (h.low (first_node path) (within (first_node path) (on-at path 0 (omega arith))))
   relayed_alike (suc s) path long short d within other =
@@ -158,7 +158,7 @@ module _ {V : Type 0} (capacity : ℕ) (p : Parts V) (h : IsStored capacity p) (
       (cells (suc s) n (place_of p (suc s) n path) (omega arith) short low place other)
 
   pub kept_alike : ((c : ℕ) → c < p.nodes → get_or ce c (Fault 0) ≡ root p c) → (path : List ℕ) → 0 < length path → length path ≤ top + 1 → Distinct path
-      → ((x : ℕ) → has_id path x ≡ true → has_id p.members x ≡ true) → (length path ≡ r + 1 → get_or path r 0 ≡ q → ⊥) → kept (changed p cl ec od ce sa) path ≡ kept p path
+      → ((x : ℕ) → has_id path x ≡ true → has_id p.members x ≡ true) → (length path ≡ r + 1 → Q (get_or path r 0) → ⊥) → kept (changed p cl ec od ce sa) path ≡ kept p path
   kept_alike roots path some short d within other = elim (cases_lt 1 (length path)) [
     | inr one ↦
         kept_root (changed p cl ec od ce sa) path one ∙ roots (first_node path) (h.low (first_node path) (within (first_node path) (on-at path 0 (omega arith)))) ∙ sym (kept_root p path one)
@@ -166,6 +166,6 @@ module _ {V : Type 0} (capacity : ℕ) (p : Parts V) (h : IsStored capacity p) (
         let s : ℕ = length path - 1 in
         let long : length path ≡ s + 1 = omega arith in
         kept_relayed (changed p cl ec od ce sa) path s long (omega arith)
-        ∙ relayed_alike s path long (omega arith) d within (λ e f. other (omega arith) (ap (λ (k : ℕ). get_or path k 0) (sym e) ∙ f))
+        ∙ relayed_alike s path long (omega arith) d within (λ e f. other (omega arith) (subst (λ (k : ℕ). Q (get_or path k 0)) e f))
         ∙ sym (kept_relayed p path s long (omega arith))
   ]

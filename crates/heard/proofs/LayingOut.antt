@@ -75,7 +75,7 @@ module _ {V : Type 0} (capacity : ℕ) (p : Parts V) (h : IsStored capacity p) (
         → relayed (record p { cells = cells }) (r - 1) (get_or path (r - 1) 0) path ≡ relayed p (r - 1) (get_or path (r - 1) 0) path
     read_alike path is =
         let real : IsListed (without_id p.members q) r path = subst (IsListed (without_id p.members q) r) (sym is) (path_real k low) in
-        relayed_alike capacity p h p.as_expected p.echoes p.in_cells cells p.expected (r - 1) r q (λ s n after under on off. absurd (omega arith))
+        relayed_alike capacity p h p.as_expected p.echoes p.in_cells cells p.expected (r - 1) r (λ n. n ≡ q) (λ s n after under on off. absurd (omega arith))
         (λ s n few other. refl) (λ s n few other. refl) (λ s n few other. refl)
         (λ s n i above under node inside other. laid.left (frame_at p.nodes s n + i) (elsewhere p.nodes r q s n i (path_count (length (without_id p.members q)) r) (h.low q sender) node others_few inside other))
         (λ c few. refl) (r - 1) path (let l = real.long in omega arith) (omega arith) real.distinct (λ x on. has-of-without p.members q x (real.within x on)) (λ e f. absurd (omega arith))
