@@ -1,10 +1,10 @@
 -- What is told of a node whose finding was Good, by what is held of it.
-use Rattle.std.proofs.Common.{◌≡◌, ◌≢◌, ℕ, ◌<◌, ◌≤◌, Bool, true, false, List, [], length, get_or, Option, Some, refl, sym, ap, ◌∙◌, subst, arith}
+use Rattle.std.proofs.Common.{◌≡◌, ◌≢◌, ℕ, ◌<◌, ◌≤◌, Bool, true, false, List, [], length, get_or, Option, Some, None, refl, sym, ap, ◌∙◌, subst, arith}
 use Rattle.std.specs.Prelude.{IsSome, IfSome}
 use Rattle.node_grid.specs.NodeSet.{has_id}
 use Rattle.frames.specs.Content.{Expectation, Content}
 use Rattle.error_detect.specs.declared.finding.Finding.TheVariants.{Good}
-use Rattle.error_detect.specs.Watching.{Box, Watch, watch_of, frame_in, guesses, guesses_at, said_at, arrival_at, is_same, of_sender, finding_at, found_by, told_by, told_at}
+use Rattle.error_detect.specs.Watching.{Box, Watch, watch_of, frame_in, guesses, guesses_at, said_at, arrival_at, is_same, of_sender, finding_at, found_by, told_by, told_at, IsAsGuessed}
 use Rattle.error_detect.specs.Inside.{Guessed, IsKept}
 use Rattle.error_detect.proofs.Boxes.{at_same, found_at, told_from, told_said, good_is, seen_alike}
 use Rattle.error_detect.proofs.Guesses.{IsRead, read_same}
@@ -48,3 +48,15 @@ held_as_seen n nodes me room o shown boxes x marks kept_guess w e j b some kept 
     (subst (λ k. j < k) (sym (ap (λ (y : Watch). y.nodes) seen)) node)
     (λ y. other (y ∙ ap (λ (y : Watch). y.me) seen))
     marked box)
+
+-- who is held as the guessed one told just what was guessed
+pub as_guessed : (n nodes me room : ℕ) (o : Option Expectation) (shown : Bool) (boxes : List Box) (x : Option Content) (marks : List ℕ) (kept_guess : Guessed) (w : Watch) (j : ℕ) (b : Box)
+    → IsKept n (watch_of nodes me room o shown boxes x) boxes marks kept_guess → watch_of nodes me room o shown boxes x ≡ w → w.is_open ≡ false → IsSome w.expect → j < w.nodes → j ≢ w.me
+    → has_id marks j ≡ true → b ≡ get_or boxes j b → is_same b.held ≡ true → IsAsGuessed w j
+as_guessed n nodes me room o shown boxes x marks kept_guess w j b kept seen shut has node other marked box held = by_case o refl where
+  by_case : (p : Option Expectation) → o ≡ p → IsAsGuessed w j
+  by_case None none = absurd (let h : IsSome o = subst IsSome (sym (ap (λ (y : Watch). y.expect) seen)) has in let f = subst IsSome none h in cc)
+  by_case (Some e) some =
+      let h : IsHeld w e j b = held_as_seen n nodes me room o shown boxes x marks kept_guess w e j b some kept seen shut has node other marked box in
+      let told = h.same held in
+      record { node = node; other = other; guessed = told.0; same = told.1 }

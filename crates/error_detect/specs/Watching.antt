@@ -1,5 +1,5 @@
 -- What a watch keeps of a slot's deliveries, and what it finds by that.
-use Rattle.std.specs.Prelude.{◌≡◌, ℕ, suc, ◌<◌, ◌≤◌, All, IsSome, IfSome, ◌==◌, ◌||◌, Bool, true, false, List, [], ◌∷◌, Option, Some, None, nat_lt, nat_le, length, map, replicate, slice_set, if◌then◌else◌}
+use Rattle.std.specs.Prelude.{◌≡◌, ◌≢◌, ℕ, suc, ◌<◌, ◌≤◌, All, IsSome, IfSome, ◌==◌, ◌||◌, Bool, true, false, List, [], ◌∷◌, Option, Some, None, nat_lt, nat_le, length, map, replicate, slice_set, if◌then◌else◌}
 use Rattle.node_grid.specs.Capacity.{IsCapacity}
 use Rattle.node_grid.specs.NodeSet.{has_id}
 use Rattle.std.specs.List.{slice_index_or, range_with_len}
@@ -215,6 +215,13 @@ guesses_at w j = guesses w.expect w.guess j
 
 abbrev pub said_at : Watch → ℕ → Option Content
 said_at w j = said_in w.expect w.guess j
+
+-- another node told just what it was guessed to say
+pub record IsAsGuessed (w : Watch) (j : ℕ) : Type 0 where
+  pub node : j < w.nodes
+  pub other : j ≢ w.me
+  pub guessed : guesses_at w j ≡ true
+  pub same : told_at w j ≡ said_at w j
 
 -- how a watch is seen
 abbrev pub watch_of : ℕ → ℕ → ℕ → Option Expectation → Bool → List Box → Option Content → Watch

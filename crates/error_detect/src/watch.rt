@@ -1,13 +1,13 @@
 //! What arrived from each sender in a slot.
 
-ghost use Rattle.std.specs.Prelude.{◌≡◌, ◌≢◌, ◌<◌, ◌≤◌, true, false, None, IfOk, IfSome, IfNone, IsSome, option_map, map, replicate};
+ghost use Rattle.std.specs.Prelude.{ℕ, ◌≡◌, ◌≢◌, ◌<◌, ◌≤◌, true, false, None, IfOk, IfSome, IfNone, IsSome, option_map, map, replicate};
 ghost use Rattle.node_grid.specs.Capacity.{IsCapacity};
 ghost use Rattle.frames.specs.Runs.{expanded, spread};
 ghost use Rattle.frames.specs.Seen.{content, expected, HasWidth};
 ghost use Rattle.frames.specs.Spelling.{head_of, body_spelling};
-ghost use Rattle.node_grid.specs.NodeSet.{ids_where};
+ghost use Rattle.node_grid.specs.NodeSet.{has_id, ids_where};
 ghost use Rattle.error_detect.specs.Finding.{is_good_at};
-ghost use Rattle.error_detect.specs.Watching.{nothing, held_none, emptied, fresh, opened, delivered, closed, of_sender, HasRoom, finding_at, findings, told_at, guessing, guesses_at, frame_at, said_at, IsMeant};
+ghost use Rattle.error_detect.specs.Watching.{nothing, held_none, emptied, fresh, opened, delivered, closed, of_sender, HasRoom, finding_at, findings, told_at, guessing, guesses_at, frame_at, said_at, IsMeant, IsAsGuessed};
 ghost use Rattle.error_detect.specs.Guessing.{IsGuessable};
 ghost use Rattle.error_detect.specs.Inside.{said_as, guessed_bytes};
 
@@ -226,10 +226,7 @@ impl<const N: usize> SlotWatch<N> {
         }
         match &self.expect {
             None => Finding::Good,
-            Some(expect) => self.inboxes[node as usize].finding(&Expect {
-                sender: node,
-                ..*expect
-            }),
+            Some(expect) => self.inboxes[node as usize].finding(expect, node),
         }
     }
 
@@ -257,6 +254,35 @@ impl<const N: usize> SlotWatch<N> {
         found
     }
 
+    /// Whether another node told in the slot that was closed last just what it was guessed to say.
+    fn is_same(&self, node: u8) -> bool
+        requires closed { self.now.is_open ≡ false }
+        requires some_slot { IsSome self.now.expect }
+        ensures { result ≡ true → IsAsGuessed self.now node }
+    {
+        if node == self.me || node >= self.nodes || !self.good.has(node) {
+            return false;
+        }
+        self.inboxes[node as usize].is_same()
+    }
+
+    /// The other nodes that told in the slot that was closed last just what they were guessed to
+    /// say: those of which [`SlotWatch::told`] answers None.
+    pub fn same(&self) -> NodeSet<N>
+        requires closed { self.now.is_open ≡ false }
+        requires some_slot { IsSome self.now.expect }
+        ensures same { (j : ℕ) → has_id result j ≡ true → IsAsGuessed self.now j }
+    {
+        let _ = &self.nodes;
+        let mut same = NodeSet::empty();
+        for node in 0..N {
+            if self.is_same(node as u8) {
+                same.put(node as u8);
+            }
+        }
+        same
+    }
+
     /// What a node told in the slot that was closed last: None where it says what it was guessed to say, and else its
     /// frame, exactly where its finding was Good.
     pub fn told(&self, from: u8) -> Option<Option<Frame<'_, N>>>
@@ -275,14 +301,14 @@ impl<const N: usize> SlotWatch<N> {
         match &self.expect {
             None => Some(None),
             Some(expect) => {
-                let expect = Expect {
-                    sender: from,
-                    ..*expect
-                };
                 let inbox = &self.inboxes[from as usize];
                 if inbox.is_same() {
                     return None;
                 }
+                let expect = Expect {
+                    sender: from,
+                    ..*expect
+                };
                 Some(Some(inbox.good_frame(&expect)))
             }
         }

@@ -1,5 +1,5 @@
--- Two stores that differ in one frame alone keep the same for all other paths.
-use Rattle.std.proofs.Common.{ℕ, zero, suc, ◌≡◌, ◌<◌, ◌≤◌, ◌+◌, ◌-◌, Bool, true, false, not, ◌||◌, ◌&&◌, ◌==◌, List, [], length, get_or, set, take, refl, sym, ap, ap₂, ◌∙◌, inl, inr, arith, eq-eqb, ne_eqb}
+-- Two stores that differ in frames of one round alone keep the same for all other paths.
+use Rattle.std.proofs.Common.{ℕ, zero, suc, ◌≡◌, ◌<◌, ◌≤◌, ◌+◌, ◌-◌, Bool, true, false, not, ◌||◌, ◌&&◌, ◌==◌, List, [], length, get_or, set, take, refl, sym, ap, ap₂, subst, ◌∙◌, inl, inr, arith, eq-eqb, ne_eqb}
 use Rattle.std.specs.Prelude.{if◌then◌else◌}
 use Rattle.std.specs.List.{All}
 use Rattle.std.proofs.lemmas.Bool.{cases_Bool, cases_eq, cases_lt, both_ways, or_left}
@@ -63,8 +63,9 @@ changed p as_expected echoes in_cells cells expected = record p { as_expected = 
 pub changed_stored : {V : Type 0} (capacity : ℕ) (p : Parts V) → IsStored capacity p → (as_expected echoes in_cells : List (List ℕ)) (cells expected : List (Wrapped V))
     → length as_expected ≡ length p.as_expected → length echoes ≡ length p.echoes → length in_cells ≡ length p.in_cells → length cells ≡ length p.cells
     → ((r q k : ℕ) → r ≤ p.rounds → q < p.nodes → k < path_count (p.nodes - 1) r → IsSmall (3 + r) (get_or cells (frame_at p.nodes r q + k) (Fault 0)))
-    → length expected ≡ length p.expected → All (IsSmall 3) expected → IsStored capacity (changed p as_expected echoes in_cells cells expected)
-changed_stored capacity p h as_expected echoes in_cells cells expected a b c many small d small_expected = record {
+    → length expected ≡ length p.expected → All (IsSmall 3) expected → (p.alike ≡ true → (c : ℕ) → has_id p.members c ≡ true → get_or cells c (Fault 0) ≡ get_or expected c (Fault 0))
+    → IsStored capacity (changed p as_expected echoes in_cells cells expected)
+changed_stored capacity p h as_expected echoes in_cells cells expected a b c many small d small_expected same = record {
   capacity_ok = h.capacity_ok;
   nodes_ok = h.nodes_ok;
   rounds_ok = h.rounds_ok;
@@ -78,12 +79,39 @@ changed_stored capacity p h as_expected echoes in_cells cells expected a b c man
   small = small;
   expected_ok = d ∙ h.expected_ok;
   small_expected = small_expected;
+  alike_ok = same;
+}
+
+-- nor does it matter what is said of all own values, where it is so
+pub alike_stored : {V : Type 0} (capacity : ℕ) (p : Parts V) → IsStored capacity p → (b : Bool) → (b ≡ true → (c : ℕ) → has_id p.members c ≡ true → root p c ≡ base p c) → IsStored capacity (record p { alike = b })
+alike_stored capacity p h b same = record {
+  capacity_ok = h.capacity_ok;
+  nodes_ok = h.nodes_ok;
+  rounds_ok = h.rounds_ok;
+  members_ok = h.members_ok;
+  low = h.low;
+  me_ok = h.me_ok;
+  as_expected_ok = h.as_expected_ok;
+  echoes_ok = h.echoes_ok;
+  in_cells_ok = h.in_cells_ok;
+  cells_ok = h.cells_ok;
+  small = h.small;
+  expected_ok = h.expected_ok;
+  small_expected = h.small_expected;
+  alike_ok = same;
 }
 
 -- ---- one choice of a value
 
 abbrev pub pick : {V : Type 0} → Bool → Wrapped V → Bool → Wrapped V → Bool → Wrapped V → Wrapped V
 pick b v e w o x = if b then v else (if e then wrapped w else (if o then x else Fault 0))
+
+-- what came from a node is by the frames alone
+pub relayed_any : {V : Type 0} (p : Parts V) (b : Bool) (r q : ℕ) (path : List ℕ) → relayed (record p { alike = b }) r q path ≡ relayed p r q path
+relayed_any p b zero q path = refl
+relayed_any {V} p b (suc r) q path =
+    ap (λ (w : Wrapped V). pick (has_id (set_at p.as_expected (suc r)) q) (wrapped_times (suc r) (base p (first_node path))) (has_id (set_at p.echoes (suc r)) q) w (has_id (set_at p.in_cells (suc r)) q) (cell p (suc r) q (place_of p (suc r) q path)))
+    (relayed_any p b r (get_or path r 0) (take (suc r) path))
 
 pub pick_alike : {V : Type 0} (b b' e e' o o' : Bool) (v v' w w' x x' : Wrapped V) → b ≡ b' → v ≡ v' → e ≡ e' → (b' ≡ false → e' ≡ true → w ≡ w') → o ≡ o' → x ≡ x' → pick b v e w o x ≡ pick b' v' e' w' o' x'
 pick_alike {V} b b' e e' o o' v v' w w' x x' hb hv he hw ho hx =
@@ -97,13 +125,13 @@ pick_alike {V} b b' e e' o o' v v' w w' x x' hb hv he hw ho hx =
       ]
     ]
 
-module _ {V : Type 0} (capacity : ℕ) (p : Parts V) (h : IsStored capacity p) (cl ec od : List (List ℕ)) (ce sa : List (Wrapped V)) (top r q : ℕ) (newest : IsNewest top p r)
-    (cleans : (s n : ℕ) → n < capacity → (s ≡ r → n ≡ q → ⊥) → has_id (set_at cl s) n ≡ has_id (set_at p.as_expected s) n)
-    (echoings : (s n : ℕ) → n < capacity → (s ≡ r → n ≡ q → ⊥) → has_id (set_at ec s) n ≡ has_id (set_at p.echoes s) n)
-    (odds : (s n : ℕ) → n < capacity → (s ≡ r → n ≡ q → ⊥) → has_id (set_at od s) n ≡ has_id (set_at p.in_cells s) n)
-    (cells : (s n k : ℕ) → 0 < s → s ≤ top → n < p.nodes → k < path_count (p.nodes - 1) s → (s ≡ r → n ≡ q → ⊥) → get_or ce (frame_at p.nodes s n + k) (Fault 0) ≡ cell p s n k)
+module _ {V : Type 0} (capacity : ℕ) (p : Parts V) (h : IsStored capacity p) (cl ec od : List (List ℕ)) (ce sa : List (Wrapped V)) (top r : ℕ) (Q : ℕ → Type 0) (newest : IsNewest top p r)
+    (cleans : (s n : ℕ) → n < capacity → (s ≡ r → Q n → ⊥) → has_id (set_at cl s) n ≡ has_id (set_at p.as_expected s) n)
+    (echoings : (s n : ℕ) → n < capacity → (s ≡ r → Q n → ⊥) → has_id (set_at ec s) n ≡ has_id (set_at p.echoes s) n)
+    (odds : (s n : ℕ) → n < capacity → (s ≡ r → Q n → ⊥) → has_id (set_at od s) n ≡ has_id (set_at p.in_cells s) n)
+    (cells : (s n k : ℕ) → 0 < s → s ≤ top → n < p.nodes → k < path_count (p.nodes - 1) s → (s ≡ r → Q n → ⊥) → get_or ce (frame_at p.nodes s n + k) (Fault 0) ≡ cell p s n k)
     (bases : (c : ℕ) → c < p.nodes → get_or sa c (Fault 0) ≡ base p c) where
-  pub relayed_alike : (s : ℕ) (path : List ℕ) → length path ≡ s + 1 → s ≤ top → Distinct path → ((x : ℕ) → has_id path x ≡ true → has_id p.members x ≡ true) → (s ≡ r → get_or path s 0 ≡ q → ⊥)
+  pub relayed_alike : (s : ℕ) (path : List ℕ) → length path ≡ s + 1 → s ≤ top → Distinct path → ((x : ℕ) → has_id path x ≡ true → has_id p.members x ≡ true) → (s ≡ r → Q (get_or path s 0) → ⊥)
       → relayed (changed p cl ec od ce sa) s (get_or path s 0) path ≡ relayed p s (get_or path s 0) path
   relayed_alike zero path long short d within other = bases (first_node path) (h.low (first_node path) (within (first_node path) (on-at path 0 (omega arith))))
   relayed_alike (suc s) path long short d within other =
@@ -130,7 +158,7 @@ module _ {V : Type 0} (capacity : ℕ) (p : Parts V) (h : IsStored capacity p) (
       (cells (suc s) n (place_of p (suc s) n path) (omega arith) short low place other)
 
   pub kept_alike : ((c : ℕ) → c < p.nodes → get_or ce c (Fault 0) ≡ root p c) → (path : List ℕ) → 0 < length path → length path ≤ top + 1 → Distinct path
-      → ((x : ℕ) → has_id path x ≡ true → has_id p.members x ≡ true) → (length path ≡ r + 1 → get_or path r 0 ≡ q → ⊥) → kept (changed p cl ec od ce sa) path ≡ kept p path
+      → ((x : ℕ) → has_id path x ≡ true → has_id p.members x ≡ true) → (length path ≡ r + 1 → Q (get_or path r 0) → ⊥) → kept (changed p cl ec od ce sa) path ≡ kept p path
   kept_alike roots path some short d within other = elim (cases_lt 1 (length path)) [
     | inr one ↦
         kept_root (changed p cl ec od ce sa) path one ∙ roots (first_node path) (h.low (first_node path) (within (first_node path) (on-at path 0 (omega arith)))) ∙ sym (kept_root p path one)
@@ -138,6 +166,6 @@ module _ {V : Type 0} (capacity : ℕ) (p : Parts V) (h : IsStored capacity p) (
         let s : ℕ = length path - 1 in
         let long : length path ≡ s + 1 = omega arith in
         kept_relayed (changed p cl ec od ce sa) path s long (omega arith)
-        ∙ relayed_alike s path long (omega arith) d within (λ e f. other (omega arith) (ap (λ (k : ℕ). get_or path k 0) (sym e) ∙ f))
+        ∙ relayed_alike s path long (omega arith) d within (λ e f. other (omega arith) (subst (λ (k : ℕ). Q (get_or path k 0)) e f))
         ∙ sym (kept_relayed p path s long (omega arith))
   ]

@@ -143,6 +143,7 @@ module _ {V : Type 0} (capacity : ℕ) (p : Parts V) (h : IsStored capacity p) (
   stored_laid =
       changed_stored capacity p h p.as_expected (set p.echoes r (without_id (set_at p.echoes r) q)) (set p.in_cells r (with_id capacity (set_at p.in_cells r) q)) cells p.expected
       refl (length-set p.echoes r (without_id (set_at p.echoes r) q)) (length-set p.in_cells r (with_id capacity (set_at p.in_cells r) q)) laid.long small_laid refl h.small_expected
+      (λ same c on. laid.left c (inl (let a = frames_before-le p.nodes 1 r (omega arith) in let b : frames_before p.nodes 1 ≡ p.nodes = omega arith in let l = h.low c on in omega arith)) ∙ h.alike_ok same c on)
 
   pub hit_laid : (doubted new : List (List ℕ)) → AreHit p doubted → DoubtsMore capacity doubted new → ((c : ℕ) → c < p.nodes → has_id (set_at new c) q ≡ true) → AreHit (laid_parts capacity p r q cells) new
   hit_laid doubted new hit more all path s long above distinct within off on trusted =

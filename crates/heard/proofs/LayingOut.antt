@@ -9,7 +9,7 @@ use Rattle.omh_paths.specs.declared.wrapped.Wrapped.TheVariants.{Fault}
 use Rattle.omh_paths.specs.Wrapped.{wrapped}
 use Rattle.omh_paths.specs.Paths.{paths_of_length, path_at, path_count, IsListed}
 use Rattle.omh_paths.specs.PathLists.{has-of-without, length-without, Distinct-without, IsListed-at}
-use Rattle.heard.specs.Keep.{Parts, relayed, set_at, frame_at, IsSmall, IsStored}
+use Rattle.heard.specs.Keep.{Parts, relayed, set_at, frame_at, frames_before, IsSmall, IsStored}
 use Rattle.heard.specs.Laid.{IsLaidUpTo, laid_parts, IsPut}
 use Rattle.omh.specs.FlatLaws.{path_count-mono}
 use Rattle.heard.specs.Places.{frames_before-le, frames_before-next, frames_before-few, row_le}
@@ -59,6 +59,7 @@ module _ {V : Type 0} (capacity : ℕ) (p : Parts V) (h : IsStored capacity p) (
   put_stored k value low small =
       changed_stored capacity p h p.as_expected p.echoes p.in_cells (set p.cells (frame_at p.nodes r q + k) value) p.expected
       refl refl refl (length-set p.cells (frame_at p.nodes r q + k) value) (put_small k value low small) refl h.small_expected
+      (λ same c on. get_or-set_other p.cells (frame_at p.nodes r q + k) c value (Fault 0) (λ e. let a = frames_before-le p.nodes 1 r (omega arith) in let b : frames_before p.nodes 1 ≡ p.nodes = omega arith in let l = h.low c on in omega arith) ∙ h.alike_ok same c on)
 
   -- ---- one after another
 
@@ -74,7 +75,7 @@ module _ {V : Type 0} (capacity : ℕ) (p : Parts V) (h : IsStored capacity p) (
         → relayed (record p { cells = cells }) (r - 1) (get_or path (r - 1) 0) path ≡ relayed p (r - 1) (get_or path (r - 1) 0) path
     read_alike path is =
         let real : IsListed (without_id p.members q) r path = subst (IsListed (without_id p.members q) r) (sym is) (path_real k low) in
-        relayed_alike capacity p h p.as_expected p.echoes p.in_cells cells p.expected (r - 1) r q (λ s n after under on off. absurd (omega arith))
+        relayed_alike capacity p h p.as_expected p.echoes p.in_cells cells p.expected (r - 1) r (λ n. n ≡ q) (λ s n after under on off. absurd (omega arith))
         (λ s n few other. refl) (λ s n few other. refl) (λ s n few other. refl)
         (λ s n i above under node inside other. laid.left (frame_at p.nodes s n + i) (elsewhere p.nodes r q s n i (path_count (length (without_id p.members q)) r) (h.low q sender) node others_few inside other))
         (λ c few. refl) (r - 1) path (let l = real.long in omega arith) (omega arith) real.distinct (λ x on. has-of-without p.members q x (real.within x on)) (λ e f. absurd (omega arith))

@@ -16,6 +16,7 @@ mod LayingOut
 mod LaidOut
 mod Methods
 mod Settles
+mod Together
 mod EchoesKept
 mod PassingLaws
 mod Convictions

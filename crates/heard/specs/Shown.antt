@@ -15,4 +15,5 @@ parts_of s = record {
   in_cells = s.in_cells.items;
   cells = s.cells;
   expected = s.expected;
+  alike = s.alike;
 }

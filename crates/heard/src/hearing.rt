@@ -14,7 +14,8 @@ ghost use Rattle.equivocation.specs.Conviction.{convicts};
 ghost use Rattle.omh.specs.Heard.{ear_of, heard_in, heard_paths, nothing_heard, with_heard};
 ghost use Rattle.heard.specs.Keep.{IsSmall, wrapped_times, IsSize, AreNodes};
 ghost use Rattle.heard.specs.Passing.{IsAllExpected};
-ghost use Rattle.heard.specs.Seen.{with_frame, with_written, TakesUp, SaysExpected, SaysEcho};
+ghost use Rattle.heard.specs.Seen.{with_frame, with_written, with_echoes, TakesUp};
+ghost use Rattle.heard.specs.Seen.{SaysExpected, SaysEcho};
 
 use crate::doubts::doubt_of_all;
 use crate::places::{are_one, clear, copies, unheard, value_at, wrapped_by};
@@ -264,6 +265,52 @@ impl<V: Value, const N: usize> Heard<V, N> {
         }
         self.any_frame = true;
         self.store.take_echo(q, r);
+        true
+    }
+
+    /// Takes up the frames of relay round `r` of these nodes, where all that the node itself passes
+    /// on is what is expected, and the values are that. Answers false, and takes up nothing, where
+    /// the frames have to be read.
+    fn hear_all_expected(&mut self, senders: &NodeSet<N>, r: u8) -> bool
+        requires round { (0 < r) × (r ≤ self.old.rounds) }
+        requires expected { IsAllExpected self.old r }
+        ensures is { result ≡ true → self.new ≡ with_echoes senders.now r self.old }
+        ensures left { result ≡ false → self.new ≡ self.old }
+    {
+        if !self.store.agrees() {
+            return false;
+        }
+        if !self.store.is_newest(r) {
+            return false;
+        }
+        self.any_frame = true;
+        self.store.take_all_expected(senders, r);
+        true
+    }
+
+    /// Takes up the frames of relay round `r` of all these nodes at once, whose values are what the
+    /// node itself passes on for each path: what it heard for it, wrapped; without reading them.
+    /// Answers false, and takes up nothing, where they have to be taken up one by one.
+    pub fn hear_echoes(&mut self, senders: &NodeSet<N>, r: u8) -> bool
+        ensures is { result ≡ true → self.new ≡ with_echoes senders.now r self.old }
+        ensures left { result ≡ false → self.new ≡ self.old }
+        ensures paths { map (λ e. e.path) self.old.heard ≡
+            heard_paths self.old.members self.old.me self.old.rounds }
+    {
+        if !self.store.has_round(r) {
+            return false;
+        }
+        if r == 1 {
+            return self.hear_all_expected(senders, r);
+        }
+        if self.relays_expected(r) {
+            return self.hear_all_expected(senders, r);
+        }
+        if !self.store.is_newest(r) {
+            return false;
+        }
+        self.any_frame = true;
+        self.store.take_all_echoes(senders, r);
         true
     }
 

@@ -2,7 +2,7 @@
 
 ghost use Rattle.std.specs.Prelude.{ℕ, ◌≡◌, ◌+◌, ◌-◌, ◌*◌, ◌<◌, ◌≤◌, []};
 ghost use Rattle.std.specs.Prelude.{true, length, take, slice_set, slice_index_or, replicate, IfOk};
-ghost use Rattle.node_grid.specs.NodeSet.{has_id, with_id, without_id};
+ghost use Rattle.node_grid.specs.NodeSet.{has_id, with_id, without_id, union_of, minus_of};
 ghost use Rattle.omh_paths.specs.declared.wrapped.Wrapped.TheVariants.{Fault};
 ghost use Rattle.heard.specs.Keep.{frames_before, frame_at, wrapped_times, set_at, IsSmall};
 ghost use Rattle.heard.specs.Keep.{AreFew, IsSeat};
@@ -104,6 +104,30 @@ pub fn cut_node<const N: usize>(sets: &mut [NodeSet<N>], place: usize, q: u8)
         return;
     }
     let set = without_node(&sets[place], q);
+    sets[place] = set;
+}
+
+/// Puts nodes into the set at a place, where there is one.
+#[tactic(auto, using(crate::proofs::SetLaws::set_beyond))]
+pub fn put_nodes<const N: usize>(sets: &mut [NodeSet<N>], place: usize, nodes: &NodeSet<N>)
+    ensures { sets.new ≡ slice_set sets.old place (union_of N (set_at sets.old place) nodes.now) }
+{
+    if place >= sets.len() {
+        return;
+    }
+    let set = sets[place].union(nodes);
+    sets[place] = set;
+}
+
+/// Takes nodes out of the set at a place, where there is one.
+#[tactic(auto, using(crate::proofs::SetLaws::set_beyond))]
+pub fn cut_nodes<const N: usize>(sets: &mut [NodeSet<N>], place: usize, nodes: &NodeSet<N>)
+    ensures { sets.new ≡ slice_set sets.old place (minus_of (set_at sets.old place) nodes.now) }
+{
+    if place >= sets.len() {
+        return;
+    }
+    let set = sets[place].minus(nodes);
     sets[place] = set;
 }
 

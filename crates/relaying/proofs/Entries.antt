@@ -49,7 +49,7 @@ shape_pushed r q (x ∷ ps) p a h = elim (or_cases (same_nodes (x ++ q ∷ []) p
   | inr n ↦ shape_pushed r q ps p a.1 n
 ]
 
-shape_told : (members : List ℕ) (me r q : ℕ) (p : List ℕ) → Distinct members → has_path (paths_from members me r q) p ≡ true → (length p ≡ r + 1) × (last_node p ≡ q)
+pub shape_told : (members : List ℕ) (me r q : ℕ) (p : List ℕ) → Distinct members → has_path (paths_from members me r q) p ≡ true → (length p ≡ r + 1) × (last_node p ≡ q)
 shape_told members me r q p d h =
     let s : List ℕ = without_id members q in
     shape_pushed r q (paths_of_length s r) p
@@ -101,7 +101,7 @@ entry_says (Good xs) members r q front long low =
     let t : take r (front ++ q ∷ []) ≡ front = ap (λ (n : ℕ). take n (front ++ q ∷ [])) (sym long) ∙ take-front front (q ∷ []) in
     ap (λ (p : List ℕ). slice_index_or xs (place_in ps p) (Fault 0)) t ∙ sym (looked_up-place ps xs front low)
 
-says_heard : {V : Type 0} (form : Form V) (members : List ℕ) (w : Watch) (me rounds r q : ℕ) (p : List ℕ) → Distinct members → IsHeardPath members me rounds p → has_id members q ≡ true → 0 < r → length p ≡ r + 1 → last_node p ≡ q
+pub says_heard : {V : Type 0} (form : Form V) (members : List ℕ) (w : Watch) (me rounds r q : ℕ) (p : List ℕ) → Distinct members → IsHeardPath members me rounds p → has_id members q ≡ true → 0 < r → length p ≡ r + 1 → last_node p ≡ q
     → frame_says members q r (arrived form.relay_in None (told_at w q)) p ≡ heard (slot_rounds form members w) p
 says_heard {V} form members w me rounds r q p d real on some long end =
     let b : Behind members r q p = behind members me rounds r q p d real long end in

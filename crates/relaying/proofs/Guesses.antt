@@ -51,7 +51,7 @@ brings_echo {V} form r q w h d on echo g same = by_case w.expect refl w.guess re
       }
 
 -- what was heard for a path of which nothing was told
-untold : {V : Type 0} (ps : List (List ℕ)) (f : List ℕ → Wrapped V) (p : List ℕ) (es : List (Entry V)) → has_path ps p ≡ false → heard_in (map (told_to ps f) es) p ≡ heard_in es p
+pub untold : {V : Type 0} (ps : List (List ℕ)) (f : List ℕ → Wrapped V) (p : List ℕ) (es : List (Entry V)) → has_path ps p ≡ false → heard_in (map (told_to ps f) es) p ≡ heard_in es p
 untold ps f p [] none = refl
 untold {V} ps f p (e ∷ es) none =
     let rest : Wrapped V = heard_in (map (told_to ps f) es) p in
@@ -80,7 +80,7 @@ still_echoed {V} form r n w f h d echo e c eo ec =
     ]
 
 -- an echo's value for a path
-echo_at : {V : Type 0} (h : Hearing V) (r q : ℕ) (values : List (Wrapped V)) (path : List ℕ) → Distinct h.members → length values ≡ path_count (length (without_id h.members q)) r
+pub echo_at : {V : Type 0} (h : Hearing V) (r q : ℕ) (values : List (Wrapped V)) (path : List ℕ) → Distinct h.members → length values ≡ path_count (length (without_id h.members q)) r
     → SaysEcho h.me r (without_id h.members q) h.heard values (length values) → has_id path h.me ≡ false → (b : Behind h.members r q path)
     → as_written h.members q r values path ≡ wrapped (heard_in h.heard b.front)
 echo_at {V} h r q values path d count echo off b =

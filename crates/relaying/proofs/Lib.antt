@@ -7,6 +7,7 @@ pub mod Marks
 pub mod Steps
 pub mod Guesses
 pub mod Filling
+pub mod Together
 pub mod Echoes
 pub mod Ranges
 pub mod Blocks

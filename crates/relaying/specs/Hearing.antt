@@ -6,7 +6,7 @@ use Rattle.omh_paths.specs.declared.wrapped.Wrapped.{Wrapped}
 use Rattle.omh_paths.specs.declared.wrapped.Wrapped.TheVariants.{Fault}
 use Rattle.omh_paths.specs.Paths.{same_nodes, paths_of_length}
 use Rattle.omh.specs.Heard.{Entry, Hearing, heard_paths}
-use Rattle.heard.specs.Keep.{IsSmall}
+use Rattle.heard.specs.Keep.{IsSmall, last_node}
 use Rattle.heard.specs.Seen.{as_written, with_frame}
 use Rattle.error_detect.specs.Watching.{Watch, told_at}
 use Rattle.node_grid.specs.Kinds.{malformed}
@@ -88,6 +88,11 @@ IsByPath h = map (λ e. e.path) h.heard ≡ heard_paths h.members h.me h.rounds
 -- what was heard after a round, by what the frames of one slot say
 abbrev pub after_round : {V : Type 0} → Form V → ℕ → Watch → ℕ → Hearing V → Hearing V
 after_round form nodes w r h = record h { heard = map (told_to (all_told h.members h.me r nodes) (heard (slot_rounds form h.members w))) h.heard }
+
+-- what was heard after those frames of a round that these nodes sent
+abbrev pub told_by : {V : Type 0} → Form V → ℕ → Watch → ℕ → List ℕ → Hearing V → Hearing V
+told_by form nodes w r senders h =
+    record h { heard = map (told_to (filter (λ p. has_id senders (last_node p)) (all_told h.members h.me r nodes)) (heard (slot_rounds form h.members w))) h.heard }
 
 -- what the relay frame of node q in a slot brings of items
 abbrev pub brought : {V : Type 0} → Form V → Watch → ℕ → Arrival (List (Wrapped V))

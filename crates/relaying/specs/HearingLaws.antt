@@ -117,7 +117,7 @@ length_all members me r (suc n) p d h = elim (or_cases (has_path (all_told membe
   | inr b ↦ length_told members me r n p d b
 ]
 
-told_all : (members : List ℕ) (me r n q : ℕ) (p : List ℕ) → q < n → has_path (paths_told members me r q) p ≡ true → has_path (all_told members me r n) p ≡ true
+pub told_all : (members : List ℕ) (me r n q : ℕ) (p : List ℕ) → q < n → has_path (paths_told members me r q) p ≡ true → has_path (all_told members me r n) p ≡ true
 told_all members me r zero q p low h = absurd (omega arith)
 told_all members me r (suc n) q p low h =
     has_path-append (all_told members me r n) (paths_told members me r n) p ∙ elim (cases_eq q n) [

@@ -17,7 +17,8 @@ ghost use Rattle.error_detect.specs.Watching.{told_at};
 ghost use Rattle.protocol.specs.Arrival.{arrived, said};
 ghost use Rattle.protocol.specs.Arrival.Arrival.{Good};
 ghost use Rattle.relaying.specs.Hearing.{Brings, FitsIn, read_out, with_told, IsByPath};
-ghost use Rattle.relaying.specs.Hearing.{IsHeardBy, brought, told_from, after_round};
+ghost use Rattle.relaying.specs.Hearing.{IsHeardBy, brought, told_from, told_by};
+ghost use Rattle.relaying.specs.Hearing.{after_round};
 ghost use Rattle.relaying.specs.Guessed.{AreSmall, IsFilled, IsEchoed};
 ghost use Rattle.relaying.specs.Items.{entries_in as entries_of};
 
@@ -391,6 +392,30 @@ fn hear_from<V: Item<N>, const N: usize>(
     hear_relay(table, entries, watch, round, sender);
 }
 
+/// Takes what the frames of a relay round say of items that say what they were guessed to say, all
+/// at once, where that is possible, and answers whose it took.
+fn hear_guesses<V: Item<N>, const N: usize>(
+    table: &mut Heard<V, N>,
+    watch: &SlotWatch<N>,
+    round: u8,
+) -> NodeSet<N>
+    requires watching { IsHeardBy watch.now table.old.nodes table.old.me }
+    requires echoed { 0 < round → IsEchoed V.form round watch.now table.old }
+    ensures { table.new ≡ told_by V.form table.old.nodes watch.now round result table.old }
+{
+    let _members = table.members();
+    let _capacity = table.nodes();
+    let none = NodeSet::empty();
+    if round == 0 {
+        return none;
+    }
+    let same = watch.same();
+    if !table.hear_echoes(&same, round) {
+        return none;
+    }
+    same
+}
+
 /// Takes what the frames of all other members say of items in a round: of each its own item in
 /// round 0, and later what it passes on. Where something is guessed of relay frames, it is what the
 /// node itself passes on. `entries` has room for those of a frame, and is left with any values.
@@ -411,8 +436,9 @@ pub fn hear_round<V: Item<N>, const N: usize>(
 {
     let me = table.me();
     let members = table.members();
+    let taken = hear_guesses(table, watch, round);
     for q in 0..table.nodes() {
-        if q != me && members.has(q) {
+        if q != me && members.has(q) && !taken.has(q) {
             hear_from(table, entries, watch, round, q);
         }
     }

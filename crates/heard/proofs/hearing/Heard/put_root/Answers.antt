@@ -1,6 +1,6 @@
-use Rattle.std.proofs.Common.{◌≡◌, true, false, not, set, sym, ◌∙◌, arith}
+use Rattle.std.proofs.Common.{◌≡◌, ◌&&◌, true, false, not, set, sym, ◌∙◌, arith}
 use Rattle.std.specs.Prelude.{if◌then◌else◌}
-use Rattle.heard.proofs.Methods.{root_seen, root_kept, said_if, still_if, member_seen, unheard_root}
+use Rattle.heard.proofs.Methods.{root_seen, root_kept, said_if, still_if, alike_if, member_seen, unheard_root}
 use Rattle.heard.proofs.hearing.Heard.put_root.Goals as goal
 
 pub returns-then-not-has : goal.returns-then-not-has
@@ -18,7 +18,8 @@ invariant_of-self g c =
     let s = c.self.inside in
     let now = set s.store.expected c.args.c c.args.value in
     let small = said_if g.row.N s.store c.self.invariant.stored (not s.any_frame) c.args.c c.args.value c.requires.small in
-    root_kept c.self.invariant c.self.view_is c.args.c c.args.value c.put_root.new.self (if not s.any_frame then now else s.store.expected) on (still_if s.store s.any_frame now) c.put_root.ensures c.requires.small small.0 small.1
+    root_kept c.self.invariant c.self.view_is c.args.c c.args.value c.put_root.new.self (if not s.any_frame then now else s.store.expected) (not s.any_frame && s.store.alike) on (still_if s.store s.any_frame now) c.put_root.ensures c.requires.small small.0 small.1
+    (alike_if g.row.N s.store c.self.invariant.stored (not s.any_frame) c.args.c c.args.value)
 
 pub returns : goal.returns
 returns g c =
@@ -26,4 +27,4 @@ returns g c =
     let on = member_seen c.self.invariant c.self.view_is c.args.c (sym c.has.ensures ∙ yes) in
     let s = c.self.inside in
     let now = set s.store.expected c.args.c c.args.value in
-    root_seen c.self.invariant c.self.view_is c.args.c c.args.value c.put_root.new.self (if not s.any_frame then now else s.store.expected) on (still_if s.store s.any_frame now) c.put_root.ensures
+    root_seen c.self.invariant c.self.view_is c.args.c c.args.value c.put_root.new.self (if not s.any_frame then now else s.store.expected) (not s.any_frame && s.store.alike) on (still_if s.store s.any_frame now) c.put_root.ensures

@@ -22,12 +22,12 @@ returns-then-len-self-clause-hit g c =
     let a = c.args in
     let f = a.frame.now in
     let was : c.index-doubted-c.result ≡ set_at a.doubted.now a.c = c.index-doubted-c.is ∙ get_or_default a.doubted.now a.c c.index-doubted-c.result [] c.requires.low in
-    λ j above below. relays_blamed g.row.N a.self.now.me f.relays (f.relays - 2) f.sender f.others (without_id f.others a.c) f.values.now a.doubted.now c.put_doubts.new.doubted a.c a.from j a.expected c.index-doubted-c.result c.relays_of-found.result
-    f.fits.others_ok (omega (arith, c.if-frame-gt1.true)) c.requires.block.commander c.requires.low refl was c.put_doubts.ensures c.requires.block.paths c.relays_of-found.ensures above below
+    λ j above below. relays_blamed g.row.N a.self.now.me f.relays (f.relays - 2) f.sender f.others (without_id f.others a.c) f.values.now a.doubted.now c.put_nodes.new.sets a.c a.from j a.expected c.index-doubted-c.result c.relays_of-found.result
+    f.fits.others_ok (omega (arith, c.if-frame-gt1.true)) c.requires.block.commander c.requires.low refl was c.put_nodes.ensures c.requires.block.paths c.relays_of-found.ensures above below
 
 pub returns-then-len-self-clause-more : goal.returns-then-len-self-clause-more
 returns-then-len-self-clause-more g c =
-    union_more g.row.N c.args.doubted.now c.put_doubts.new.doubted c.args.c c.relays_of-found.result c.requires.low c.put_doubts.ensures
+    union_more g.row.N c.args.doubted.now c.put_nodes.new.sets c.args.c c.relays_of-found.result c.requires.low c.put_nodes.ensures
 
 pub returns-clause-hit : goal.returns-clause-hit
 returns-clause-hit g c =

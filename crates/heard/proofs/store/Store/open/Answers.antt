@@ -28,5 +28,6 @@ invariant_of-result g c = record {
   cells_ok = ap length c.in-Ok-open.ensures ∙ length-replicate c.frames_before.result (Fault 0) ∙ c.frames_before.ensures.begins;
   small = λ r q k under node inside. subst (IsSmall (3 + r)) (read_none (Fault 0) c.frames_before.result (frame_at c.args.nodes r q + k) c.in-Ok-open.cells c.in-Ok-open.ensures) (omega arith);
   expected_ok = ap length c.in-Ok-open-2.ensures ∙ length-replicate c.args.nodes (Fault 0);
+  alike_ok = λ same q on. absurd (both_ways _ (ap (λ xs. has_id xs q) c.empty-none.ensures) on);
   small_expected = subst (All (IsSmall 3)) (sym c.in-Ok-open-2.ensures) (All-replicate (IsSmall 3) c.args.nodes (Fault 0) (omega arith));
 }

@@ -1,4 +1,4 @@
-use Rattle.std.proofs.Common.{◌+◌, length, ap, ◌∙◌, arith}
+use Rattle.std.proofs.Common.{◌+◌, ◌<◌, length, sym, ap, ◌∙◌, arith}
 use Rattle.std.proofs.lemmas.List.Elements.{All-get_or, All-from_get_or}
 use Rattle.omh_paths.specs.declared.wrapped.Wrapped.TheVariants.{Fault}
 use Rattle.heard.specs.Keep.{set_at, frame_at, IsSmall}
@@ -26,6 +26,7 @@ invariant_of-self g c =
       cells_ok = c.forget.ensures.count ∙ h.cells_ok;
       small = λ r q i under node inside. c.forget.ensures.small (3 + r) (frame_at s.nodes r q + i) (h.small r q i under node inside);
       expected_ok = c.forget-2.ensures.count ∙ h.expected_ok;
+      alike_ok = λ same q on. let low : q < s.nodes = omega (arith, c.requires.members q on, ap (λ x. x.nodes) v) in c.forget.ensures.none q low ∙ sym (c.forget-2.ensures.none q low);
       small_expected = All-from_get_or (IsSmall 3) c.forget-2.new.self (Fault 0) (λ i low. c.forget-2.ensures.small 3 i (All-get_or (IsSmall 3) s.expected i (Fault 0) (omega (arith, c.forget-2.ensures.count)) h.small_expected));
     }
 

@@ -1,0 +1,13 @@
+use Rattle.std.proofs.Common.{◌≡◌, true, arith}
+use Rattle.heard.proofs.Together.{all_expected_seen, all_expected_kept}
+use Rattle.heard.proofs.hearing.Heard.hear_all_expected.Goals as goal
+
+pub invariant_of-self : goal.invariant_of-self
+invariant_of-self g c =
+    all_expected_kept c.self.invariant c.self.view_is c.args.senders.now c.args.r c.requires.round.0 c.requires.round.1 c.take_all_expected.new.self c.take_all_expected.ensures
+
+pub returns-clause-is : goal.returns-clause-is
+returns-clause-is g c e =
+    let agree : c.agrees.result ≡ true = grind (arith, c.if-not-agrees.false) in
+    let fresh : c.is_newest.result ≡ true = grind (arith, c.if-not-is_newest.false) in
+    all_expected_seen c.self.invariant c.self.view_is c.args.senders.now c.args.r c.requires.round.0 c.requires.round.1 (c.is_newest.ensures fresh) (c.agrees.ensures agree) c.requires.expected c.take_all_expected.new.self c.take_all_expected.ensures
