@@ -19,3 +19,4 @@ mod Settles
 mod EchoesKept
 mod PassingLaws
 mod Convictions
+mod PathsRead
