@@ -14,3 +14,5 @@ pub mod Convicting
 pub mod Bodies
 pub mod Framing
 pub mod RunParts
+pub mod Tabling
+pub mod OwnPaths

@@ -3,6 +3,7 @@
 #![tactic(auto)]
 
 mod comparing;
+mod guessing;
 mod hearing;
 mod item;
 mod runs;

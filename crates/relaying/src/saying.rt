@@ -1,6 +1,6 @@
 //! What a node guesses of the relay frames of a round, and what it says itself.
 
-ghost use Rattle.std.specs.Prelude.{◌≡◌, ◌+◌, ◌*◌, ◌<◌, ◌≤◌, ◌⊎◌, length, replicate, Some, None};
+ghost use Rattle.std.specs.Prelude.{◌≡◌, ◌+◌, ◌*◌, ◌<◌, ◌≤◌, length, replicate, Some, None};
 ghost use Rattle.std.specs.List.{flat_map};
 ghost use Rattle.omh_paths.specs.Paths.{path_count};
 ghost use Rattle.frames.specs.Content.{Expectation};
@@ -12,9 +12,9 @@ ghost use Rattle.relaying.specs.Guessed.{unguessed, IsEchoed};
 ghost use Rattle.relaying.specs.Relaying.{relays};
 ghost use Rattle.relaying.specs.Round.{IsRoundOf};
 ghost use Rattle.relaying.specs.Runs.{IsKnown};
-ghost use Rattle.relaying.specs.Table.{table};
 
 use crate::comparing::guessed_runs;
+use crate::guessing::guess_each;
 use crate::item::Item;
 use crate::runs::Runs;
 use crate::writing::write_passed;
@@ -24,8 +24,34 @@ use heard::Heard;
 use omh_paths::count_paths;
 
 /// Guesses that each member's frame of the open slot says what the node itself passes on, but for
-/// the paths that the member is on. `runs` is left with what is known of the runs of the guess.
-/// `bytes` has room for an entry of each path of the members, and is left with any bytes.
+/// the paths that the member is on.
+fn guess_expected<V: Item<N>, const N: usize>(
+    watch: &mut SlotWatch<N>,
+    heard: &Heard<V, N>,
+    round: u8,
+    bytes: &mut [u8],
+)
+    requires nodes { watch.old.nodes ≡ heard.now.nodes }
+    requires before { watch.old.arrived ≡ replicate watch.old.nodes nothing }
+    requires some_round { 0 < round }
+    requires round { round ≤ heard.now.rounds }
+    requires slot { (e : Expectation) × (watch.old.expect ≡ Some e) ×
+        IsRoundOf N V.kind V.in_range round heard.now e }
+    requires room { V.width heard.now.nodes * path_count (length heard.now.members) round ≤
+        length bytes.old }
+    ensures kept { unguessed watch.new ≡ unguessed watch.old }
+    ensures echoed { watch.old.guess ≡ None → IsEchoed V.form round watch.new heard.now }
+    ensures length { length bytes.new ≡ length bytes.old }
+{
+    let members = heard.members();
+    let size = V::entry_width(heard.nodes()) * count_paths(members.len(), round);
+    write_passed(heard, &members, round, bytes);
+    let _had_room = watch.guess(V::guess_form(), &bytes[..size]);
+}
+
+/// Guesses what each member's frame of the open slot says: for each path that neither the member
+/// nor the node itself is on, what the node itself passes on of it. `runs` is left with what is
+/// known of the runs of the guess. `bytes` has room for an entry of each path of the members, and is left with any bytes.
 pub fn guess_round<V: Item<N>, const N: usize>(
     watch: &mut SlotWatch<N>,
     runs: &mut Option<Runs>,
@@ -42,16 +68,15 @@ pub fn guess_round<V: Item<N>, const N: usize>(
     requires room { V.width heard.now.nodes * path_count (length heard.now.members) round ≤
         length bytes.old }
     ensures kept { unguessed watch.new ≡ unguessed watch.old }
-    ensures guess { (watch.new.guess ≡ watch.old.guess) ⊎
-        (watch.new.guess ≡ Some (V.form.relay (table heard.now round))) }
     ensures known { IsKnown watch.new runs.new }
     ensures echoed { watch.old.guess ≡ None → IsEchoed V.form round watch.new heard.now }
     ensures length { length bytes.new ≡ length bytes.old }
 {
-    let members = heard.members();
-    let size = V::entry_width(heard.nodes()) * count_paths(members.len(), round);
-    write_passed(heard, &members, round, bytes);
-    let _had_room = watch.guess(V::guess_form(), &bytes[..size]);
+    if heard.relays_expected(round) {
+        guess_expected(watch, heard, round, bytes);
+    } else {
+        guess_each(watch, heard, round, bytes);
+    }
     *runs = guessed_runs(watch);
 }
 

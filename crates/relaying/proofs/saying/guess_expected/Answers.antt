@@ -12,7 +12,7 @@ use Rattle.error_detect.specs.Inside.{said_as}
 use Rattle.relaying.specs.Table.{passed_of}
 use Rattle.relaying.proofs.Ranges.{can_write, can_guess, entries_front, entries_read}
 use Rattle.relaying.proofs.Echoes.{guess_kept, guessed_or_not, guess_echoed}
-use Rattle.relaying.proofs.saying.guess_round.Goals as goal
+use Rattle.relaying.proofs.saying.guess_expected.Goals as goal
 
 pub count_paths-requires-clause-nodes : goal.count_paths-requires-clause-nodes
 count_paths-requires-clause-nodes g c = omega (arith, few_ids g.row.N c.members-members.result c.nodes.ensures.capacity c.members-members.ensures.ids, c.len.ensures.count)
@@ -55,23 +55,9 @@ guess-had_room-requires g c =
       ),
     )
 
-pub returns-clause-guess : goal.returns-clause-guess
-returns-clause-guess g c =
-    let h = c.args.heard.now in
-    let r : ℕ = c.args.round in
-    let s : List ℕ = c.members-members.result in
-    let d : Distinct s = Distinct-ids g.row.N s c.members-members.ensures.ids in
-    let room : g.V.Item.width h.nodes * path_count (length s) r ≤ length c.args.bytes.now = subst (λ (ms : List ℕ). g.V.Item.width h.nodes * path_count (length ms) r ≤ length c.args.bytes.now) (sym c.members-members.ensures.members) c.requires.room in
-    let w = c.args.watch.now in
-    let es = passed_of h s r in
-    let front : List ℕ = take (c.entry_width.result * c.count_paths.result) c.write_passed.new.out in
-    let bytes : front ≡ flat_map (g.V.Item.spelling h.nodes) es =
-    entries_front g.row.N g.V.Item.kind r g.V.Item.in_range g.V.Item.width g.V.Item.spelling g.V.Item.read g.met.V.Item.format h c.requires.slot.0 c.requires.slot.2 c.requires.some_round s d c.entry_width.result c.count_paths.result c.write_passed.new.out c.args.bytes.now (c.entry_width.ensures ∙ ap g.V.Item.width c.nodes.ensures.nodes) (c.count_paths.ensures.product ∙ ap (λ (n : ℕ). path_count n r) c.len.ensures.count) c.write_passed.ensures room in
-    let said : said_as g.row.N w.nodes c.guess_form.result front ≡ g.V.Item.form.relay es =
-    ap (λ f. said_as g.row.N w.nodes f front) c.guess_form.ensures ∙ ap (λ (n : ℕ). said_as g.row.N n g.V.Item.guessed_as front) c.requires.nodes
-    ∙ g.met.V.Item.guessed h.nodes front ∙ ap g.V.Item.form.relay (entries_read g.row.N g.V.Item.kind r g.V.Item.in_range g.V.Item.width g.V.Item.spelling g.V.Item.read g.met.V.Item.format h c.requires.slot.0 c.requires.slot.2 c.requires.some_round s d front bytes) in
-    guessed_or_not g.V.Item.form h r w c.guess-had_room.new.self (said_as g.row.N w.nodes c.guess_form.result front) c.guess-had_room.result c.guess-had_room.ensures.yes c.guess-had_room.ensures.no
-    (said ∙ ap (λ (ms : List ℕ). g.V.Item.form.relay (passed_of h ms r)) c.members-members.ensures.members)
+pub returns-clause-kept : goal.returns-clause-kept
+returns-clause-kept g c =
+    guess_kept c.args.watch.now c.guess-had_room.new.self _ c.guess-had_room.result c.guess-had_room.ensures.yes c.guess-had_room.ensures.no
 
 pub returns-clause-echoed : goal.returns-clause-echoed
 returns-clause-echoed g c none =
