@@ -20,3 +20,4 @@ mod Together
 mod EchoesKept
 mod PassingLaws
 mod Convictions
+mod PathsRead

@@ -34,10 +34,10 @@ use std::marker::Model;
 /// commander it is kept which nodes may have said something else.
 #[derive(Drop)]
 pub struct Heard<V, const N: usize> {
-    store: Store<V, N>,
+    pub(crate) store: Store<V, N>,
     own: Wrapped<V>,
     any_frame: bool,
-    doubted: Vec<NodeSet<N>>,
+    pub(crate) doubted: Vec<NodeSet<N>>,
     scratch: Vec<Wrapped<V>>,
 }
 

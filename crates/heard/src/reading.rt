@@ -2,7 +2,7 @@
 
 ghost use Rattle.std.specs.Prelude.{◌≡◌, ◌+◌, ◌-◌, ◌≤◌, true, false, length};
 ghost use Rattle.node_grid.specs.NodeSet.{without_id};
-ghost use Rattle.heard.specs.Keep.{kept, IsSmall, IsOwnPath, IsFrameOf};
+ghost use Rattle.heard.specs.Keep.{kept, IsSmall, IsMemberPath, IsOwnPath, IsFrameOf};
 ghost use Rattle.heard.specs.Passing.{AreExpected};
 
 use crate::frame::Frame;
@@ -11,17 +11,13 @@ use crate::value::Value;
 use omh_paths::{Path, Wrapped};
 
 impl<V: Value, const N: usize> Store<V, N> {
-    /// Whether something is heard for a path: whether it is one of other members, and has no more
-    /// relays than there are rounds.
-    pub fn hears_for(&self, path: &Path) -> bool
-        ensures yes { result ≡ true → IsOwnPath self.now path.now }
-        ensures none { result ≡ false → IsOwnPath self.now path.now → ⊥ }
+    /// Whether a path is one of members, and has no more relays than there are rounds.
+    pub fn is_of_members(&self, path: &Path) -> bool
+        ensures yes { result ≡ true → IsMemberPath self.now path.now }
+        ensures none { result ≡ false → IsMemberPath self.now path.now → ⊥ }
     {
         let relays = path.len() - 1;
         if relays > self.rounds {
-            return false;
-        }
-        if path.has(self.me) {
             return false;
         }
         for k in 0..path.len() {
@@ -30,6 +26,18 @@ impl<V: Value, const N: usize> Store<V, N> {
             }
         }
         true
+    }
+
+    /// Whether something is heard for a path: whether it is one of other members, and has no more
+    /// relays than there are rounds.
+    pub fn hears_for(&self, path: &Path) -> bool
+        ensures yes { result ≡ true → IsOwnPath self.now path.now }
+        ensures none { result ≡ false → IsOwnPath self.now path.now → ⊥ }
+    {
+        if path.has(self.me) {
+            return false;
+        }
+        self.is_of_members(path)
     }
 
     /// What was heard for a path.

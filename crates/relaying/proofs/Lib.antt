@@ -16,3 +16,5 @@ pub mod Bodies
 pub mod Framing
 pub mod RunParts
 pub mod Roots
+pub mod Tabling
+pub mod OwnPaths

@@ -10,3 +10,4 @@ pub mod Round
 pub mod Comparing
 pub mod Guessed
 pub mod Runs
+pub mod Tabled

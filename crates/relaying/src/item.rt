@@ -21,7 +21,7 @@ ghost use Rattle.error_detect.specs.Guessing.{said_by, is_guessed_of, IsGuessabl
 ghost use Rattle.error_detect.specs.Inside.{said_as};
 ghost use Rattle.error_detect.specs.declared.guess.Form.{Form as GuessForm};
 ghost use Rattle.error_detect.specs.declared.guess.Form.TheVariants.{Claims, Rows};
-ghost use Rattle.frames.specs.Seen.{content, HasWidth};
+ghost use Rattle.frames.specs.Seen.{content, expected, HasWidth};
 ghost use Rattle.protocol.specs.Arrival.{Form, claim_form, row_form, arrived, said};
 ghost use Rattle.frames.specs.Content.{kind as kind_of};
 ghost use Rattle.frames.specs.FrameKinds.{claim_relay_kind, row_relay_kind};
@@ -37,9 +37,9 @@ ghost use Rattle.relaying.specs.ItemLaws.{claims_passed_on, rows_passed_on};
 ghost use Rattle.relaying.specs.Guessed.{PassesOn};
 
 use error_detect::Form;
-use frames::{Body, Cells, Frame, put_done, put_row};
+use frames::{Body, Cells, Expect, Frame, put_done, put_row};
 use heard::Value;
-use node_grid::Row;
+use node_grid::{NO_CLAIM, Row};
 use omh_paths::Wrapped;
 
 /// An item that each node tells of itself, and passes on of the others.
@@ -111,6 +111,12 @@ pub trait Item<const N: usize>: Value {
     fn of_masks(masks: &[u16]) -> Option<Self>
         requires { length masks.now ≡ N }
         ensures { result ≡ reported masks.now };
+
+    /// Whether it is in range, where this is expected.
+    fn is_in_range(&self, expect: &Expect<N>) -> bool
+        requires capacity { IsCapacity N }
+        requires nodes { expect.now.nodes ≤ N }
+        ensures { result ≡ true → in_range (expected expect.now) self.now };
 
     /// The form of what is guessed of relay frames of such items.
     fn guess_form() -> Form
@@ -237,9 +243,38 @@ impl<const N: usize> Item<N> for u8 {
         None
     }
 
+    fn is_in_range(&self, expect: &Expect<N>) -> bool {
+        *self == NO_CLAIM || *self < expect.tasks
+    }
+
     fn guess_form() -> Form {
         Form::Claims
     }
+}
+
+/// Whether all masks are below a bound.
+fn are_below(masks: &[u16], bound: u32) -> bool
+    ensures { result ≡ true → All (λ mask. mask < bound) masks.now }
+{
+    for k in 0..masks.len() {
+        if masks[k] as u32 >= bound {
+            return false;
+        }
+    }
+    true
+}
+
+/// Whether all masks from one on are 0.
+fn are_zero_from(masks: &[u16], first: usize) -> bool
+    ensures { result ≡ true → (k : ℕ) → first ≤ k → k < length masks.now →
+        slice_index_or masks.now k 0 ≡ 0 }
+{
+    for k in first..masks.len() {
+        if masks[k] != 0 {
+            return false;
+        }
+    }
+    true
 }
 
 impl<const N: usize> Item<N> for Row<N> {
@@ -313,6 +348,11 @@ impl<const N: usize> Item<N> for Row<N> {
         let mut row = [0; N];
         row.copy_from_slice(masks);
         Some(Row { masks: row })
+    }
+
+    fn is_in_range(&self, expect: &Expect<N>) -> bool {
+        let bound = if expect.version == 1 { 256 } else { 65536 };
+        are_below(&self.masks, bound) && are_zero_from(&self.masks, expect.nodes as usize)
     }
 
     fn guess_form() -> Form {

@@ -1,0 +1,38 @@
+use Rattle.std.proofs.Common.{ℕ, List, ◌≡◌, ◌<◌, ◌≤◌, ◌+◌, ◌*◌, true, length, sym, ap, subst, ◌∙◌, arith}
+use Rattle.omh_paths.specs.Paths.{paths_of_length, path_count, place_in}
+use Rattle.node_grid.specs.Count.{Distinct}
+use Rattle.omh_paths.specs.Wrapped.{wrapped}
+use Rattle.omh_paths.specs.MemberLaws.{Distinct-ids}
+use Rattle.frames.specs.Content.{IsEntry}
+use Rattle.frames.specs.Seen.{expected}
+use Rattle.frames.specs.Writing.{pasted}
+use Rattle.relaying.proofs.Tabling.{room_for, entry_put}
+use Rattle.relaying.proofs.guessing.write_said.Goals as goal
+
+pub put-requires-clause-fits : goal.put-requires-clause-fits
+put-requires-clause-fits g c =
+    let h = c.args.heard.now in
+    let e = expected c.args.expect.now in
+    let w : ℕ = g.V.Item.width h.nodes in
+    let r : ℕ = length c.args.path.now in
+    let P = g.V.Item.in_range e in
+    let format : (v : _) → IsEntry P r v → length (g.V.Item.spelling h.nodes v) ≡ w = λ v range. subst (λ (n : ℕ). length (g.V.Item.spelling n v) ≡ g.V.Item.width n) c.requires.slot.nodes_are ((g.met.V.Item.format e r).long v range) in
+    let low : c.rank-place.result < path_count (length h.members) r = subst (λ (ms : List ℕ). c.rank-place.result < path_count (length ms) r) c.members.ensures.members c.rank-place.ensures.in_range in
+    subst (λ (n : ℕ). g.V.Item.width n * c.rank-place.result + g.V.Item.width n ≤ length c.args.out.now) (sym c.nodes-nodes.ensures.nodes)
+    (room_for P (g.V.Item.spelling h.nodes) w r h format c.args.out.now c.requires.table c.rank-place.result low)
+
+pub returns-clause-table : goal.returns-clause-table
+returns-clause-table g c =
+    let h = c.args.heard.now in
+    let e = expected c.args.expect.now in
+    let w : ℕ = g.V.Item.width h.nodes in
+    let r : ℕ = length c.args.path.now in
+    let P = g.V.Item.in_range e in
+    let format : (v : _) → IsEntry P r v → length (g.V.Item.spelling h.nodes v) ≡ w = λ v range. subst (λ (n : ℕ). length (g.V.Item.spelling n v) ≡ g.V.Item.width n) c.requires.slot.nodes_are ((g.met.V.Item.format e r).long v range) in
+    let low : c.rank-place.result < path_count (length h.members) r = subst (λ (ms : List ℕ). c.rank-place.result < path_count (length ms) r) c.members.ensures.members c.rank-place.ensures.in_range in
+    let yes : c.can_pass.result ≡ true = grind (arith, c.if-not-can_pass.false) in
+    let range : IsEntry P r c.wrap.result = subst (IsEntry P r) (sym c.wrap.ensures) (subst (λ (n : ℕ). IsEntry P n (wrapped c.in-Some.said)) c.len.ensures.count (c.can_pass.ensures yes)) in
+    entry_put P (g.V.Item.spelling h.nodes) w r h format c.args.out.now c.put.new.out c.requires.table c.args.path.now c.rank-place.result c.wrap.result
+    (c.rank-place.ensures.place ∙ ap (λ (ms : List ℕ). place_in (paths_of_length ms r) c.args.path.now) c.members.ensures.members) low
+    (subst Distinct c.members.ensures.members (Distinct-ids g.row.N c.members.result c.members.ensures.ids)) c.requires.on range
+    (c.put.ensures ∙ ap (λ (n : ℕ). pasted (g.V.Item.width n * c.rank-place.result) (g.V.Item.spelling n c.wrap.result) c.args.out.now) c.nodes-nodes.ensures.nodes)

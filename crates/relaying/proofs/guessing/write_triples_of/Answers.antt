@@ -1,0 +1,80 @@
+use Rattle.std.proofs.Common.{ℕ, List, [], ◌∷◌, ◌++◌, ◌≡◌, ◌≢◌, length, refl, sym, ap, ap₂, subst, ◌∙◌, arith}
+use Rattle.node_grid.specs.NodeSet.{has_id, without_id}
+use Rattle.omh_paths.specs.MemberLaws.{member-lt}
+use Rattle.omh_paths.specs.PathLists.{has-of-without, has-without-left}
+use Rattle.frames.specs.Seen.{expected}
+use Rattle.relaying.specs.Round.{IsRoundOf}
+use Rattle.relaying.specs.Tabled.{HasGuess}
+use Rattle.relaying.proofs.OwnPaths.{IsOwn, near_own, far_own, other_at, off_own, off_root, off_grown}
+use Rattle.relaying.proofs.guessing.write_triples_of.Goals as goal
+
+pub then-front-requires-clause-off : goal.then-front-requires-clause-off
+then-front-requires-clause-off g c =
+    let h = c.args.heard.now in
+    off_own h.members h.me c.args.x c.root.result (c.root.ensures ∙ ap (λ (n : ℕ). n ∷ []) c.me-me.ensures.me) c.requires.other
+
+pub without-others-requires : goal.without-others-requires
+without-others-requires g c =
+    let h = c.args.heard.now in
+    (omega arith, member-lt g.row.N c.members.result c.args.x c.members.ensures.ids (ap (λ (s : List ℕ). has_id s c.args.x) c.members.ensures.members ∙ has-of-without h.members h.me c.args.x c.requires.other))
+
+pub then-near-requires-clause-off : goal.then-near-requires-clause-off
+then-near-requires-clause-off g c =
+    let h = c.args.heard.now in
+    let other = other_at (without_id h.members h.me) c.without.result c.without-others.result c.args.x c.args.x c.loop-i.i c.at-y.result (c.without.ensures ∙ ap₂ without_id c.members.ensures.members c.me-me.ensures.me) refl c.without-others.ensures (omega (arith, c.loop-i-test.true, c.len-i-end.ensures.count)) c.at-y.ensures in
+    let y = has-without-left (without_id h.members h.me) c.args.x c.at-y.result other in
+    ap (λ (p : List ℕ). has_id p c.at-y.result) c.then-front.ensures
+    ∙ off_grown c.root.result c.args.x c.at-y.result (off_own h.members h.me c.at-y.result c.root.result (c.root.ensures ∙ ap (λ (n : ℕ). n ∷ []) c.me-me.ensures.me) y.1) (λ e. y.0 (sym e))
+
+pub write_said-requires : goal.write_said-requires
+write_said-requires g c =
+    let h = c.args.heard.now in
+    let e = expected c.args.expect.now in
+    let other = other_at (without_id h.members h.me) c.without.result c.without-others.result c.args.x c.args.x c.loop-i.i c.at-y.result (c.without.ensures ∙ ap₂ without_id c.members.ensures.members c.me-me.ensures.me) refl c.without-others.ensures (omega (arith, c.loop-i-test.true, c.len-i-end.ensures.count)) c.at-y.ensures in
+    let y = has-without-left (without_id h.members h.me) c.args.x c.at-y.result other in
+    let own : IsOwn h.members h.me 3 c.then-near.result = near_own h.members h.me c.requires.member c.args.x c.at-y.result c.then-near.result (has-of-without h.members h.me c.args.x c.requires.other) (has-of-without h.members h.me c.at-y.result y.1)
+    (c.then-near.ensures ∙ ap (λ (p : List ℕ). p ++ c.at-y.result ∷ []) (c.then-front.ensures ∙ ap (λ (p : List ℕ). p ++ c.args.x ∷ []) (c.root.ensures ∙ ap (λ (n : ℕ). n ∷ []) c.me-me.ensures.me))) in (
+      omega arith,
+      (
+        omega arith,
+        (
+          subst (λ (n : ℕ). IsRoundOf g.row.N g.V.Item.kind g.V.Item.in_range n h e) (sym own.long) c.requires.slot,
+          (own.on, (own.within, (c.said_of.ensures.small, subst (λ (n : ℕ). HasGuess (g.V.Item.in_range e) (g.V.Item.spelling h.nodes) n h c.loop-i.out) (sym own.long) c.loop-i.invariant))),
+        ),
+      ),
+    )
+
+pub then-far-requires-clause-off : goal.then-far-requires-clause-off
+then-far-requires-clause-off g c =
+    let h = c.args.heard.now in
+    let other = other_at (without_id h.members h.me) c.without.result c.without-others.result c.args.x c.args.x c.loop-i.i c.at-y.result (c.without.ensures ∙ ap₂ without_id c.members.ensures.members c.me-me.ensures.me) refl c.without-others.ensures (omega (arith, c.loop-i-test.true, c.len-i-end.ensures.count)) c.at-y.ensures in
+    let y = has-without-left (without_id h.members h.me) c.args.x c.at-y.result other in
+    let not_me : c.at-y.result ≢ h.me = (has-without-left h.members h.me c.at-y.result y.1).0 in
+    ap (λ (p : List ℕ). has_id p c.at-y.result) c.then-back.ensures
+    ∙ off_grown c.root-2.result c.me-me.result c.at-y.result (ap (λ (p : List ℕ). has_id p c.at-y.result) c.root-2.ensures ∙ off_root c.args.x c.at-y.result (λ e. y.0 (sym e))) (λ e. not_me (sym (sym c.me-me.ensures.me ∙ e)))
+
+pub write_said-requires-in-loop-i : goal.write_said-requires-in-loop-i
+write_said-requires-in-loop-i g c =
+    let h = c.args.heard.now in
+    let e = expected c.args.expect.now in
+    let other = other_at (without_id h.members h.me) c.without.result c.without-others.result c.args.x c.args.x c.loop-i.i c.at-y.result (c.without.ensures ∙ ap₂ without_id c.members.ensures.members c.me-me.ensures.me) refl c.without-others.ensures (omega (arith, c.loop-i-test.true, c.len-i-end.ensures.count)) c.at-y.ensures in
+    let y = has-without-left (without_id h.members h.me) c.args.x c.at-y.result other in
+    let near : length c.then-near.result ≡ 3 = ap length (c.then-near.ensures ∙ ap (λ (p : List ℕ). p ++ c.at-y.result ∷ []) (c.then-front.ensures ∙ ap (λ (p : List ℕ). p ++ c.args.x ∷ []) c.root.ensures)) in
+    let own : IsOwn h.members h.me 3 c.then-far.result = far_own h.members h.me c.requires.member c.args.x c.at-y.result c.then-far.result (has-of-without h.members h.me c.args.x c.requires.other) (has-of-without h.members h.me c.at-y.result y.1)
+    (c.then-far.ensures ∙ ap (λ (p : List ℕ). p ++ c.at-y.result ∷ []) (c.then-back.ensures ∙ ap₂ (λ (p : List ℕ) (n : ℕ). p ++ n ∷ []) c.root-2.ensures c.me-me.ensures.me)) in (
+      omega arith,
+      (
+        omega arith,
+        (
+          subst (λ (n : ℕ). IsRoundOf g.row.N g.V.Item.kind g.V.Item.in_range n h e) (sym own.long) c.requires.slot,
+          (own.on, (own.within, (c.said_of-in-loop-i.ensures.small, subst (λ (n : ℕ). HasGuess (g.V.Item.in_range e) (g.V.Item.spelling h.nodes) n h c.write_said.new.out) (near ∙ sym own.long) c.write_said.ensures.table))),
+        ),
+      ),
+    )
+
+pub loop-i-preserved : goal.loop-i-preserved
+loop-i-preserved g c =
+    let h = c.args.heard.now in
+    let e = expected c.args.expect.now in
+    let far : length c.then-far.result ≡ 3 = ap length (c.then-far.ensures ∙ ap (λ (p : List ℕ). p ++ c.at-y.result ∷ []) (c.then-back.ensures ∙ ap (λ (p : List ℕ). p ++ c.me-me.result ∷ []) c.root-2.ensures)) in
+    subst (λ (n : ℕ). HasGuess (g.V.Item.in_range e) (g.V.Item.spelling h.nodes) n h c.write_said-in-loop-i.new.out) far c.write_said-in-loop-i.ensures.table
