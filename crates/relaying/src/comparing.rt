@@ -242,7 +242,8 @@ fn has_same_runs<const N: usize>(
     requires sender { has_id set.now cut.sender ≡ true }
     requires narrow { cut.width ≤ 33 }
     ensures { result ≡ true → body.now ≡ pieces_without cut.width cut.sender
-        (paths_of_length set.now r) (expanded whole.now.width whole.now.times whole.now.count table.now) }
+        (paths_of_length set.now r)
+        (expanded whole.now.width whole.now.times whole.now.count table.now) }
 {
     let others = set.len() - 1;
     let fewer = count_paths(others.saturating_sub(1), r - 1);
