@@ -1,6 +1,6 @@
 -- A slot of claims or rows that was closed, as it is heard.
 use Rattle.std.proofs.Common.{ℕ, ◌≡◌, ◌≢◌, ◌<◌, ◌≤◌, ◌+◌, ◌-◌, ◌==◌, true, List, length, Some, sym, ap, ap₂, subst, ◌∙◌, arith, eq-eqb, ne_eqb}
-use Rattle.std.specs.Prelude.{IsSome, nat_le, if◌then◌else◌}
+use Rattle.std.specs.Prelude.{IsSome, nat_le, if◌then◌else◌, vec_capacity}
 use Rattle.std.proofs.lemmas.Bool.{cond-true, cond-false}
 use Rattle.node_grid.specs.NodeSet.{has_id}
 use Rattle.slot_plan.specs.declared.slot.Slot.{Slot}
@@ -74,7 +74,7 @@ module _ {N : ℕ} (n : Inside N) (inv : IsController n) (sound : IsSound (seen 
           (subst (λ (k : ℕ). Brings (path_count (length a.standing.members - 1) k) (brought claim_form (closed n.watch) j)) less
           (claims_asked v a inv.place.config_is slot (omega (arith, claims_number)) (omega (arith, claims_number, low)) goes j (ap (λ (xs : List ℕ). has_id xs j) (sym claims_hears.members) ∙ on))))
 
-      pub claims_fit : path_count (length n.done.members - 1) r ≤ length n.buffers.claims.items
+      pub claims_fit : path_count (length n.done.members - 1) r ≤ vec_capacity n.buffers.claims
       claims_fit =
           let m = ap (λ (xs : List ℕ). length xs) claims_hears.members in
           let p = path_count-mono (length n.done.members - 1) n.config.now.nodes r (omega (arith, m, few)) in
@@ -124,7 +124,7 @@ module _ {N : ℕ} (n : Inside N) (inv : IsController n) (sound : IsSound (seen 
           (subst (λ (k : ℕ). Brings (path_count (length a.standing.members - 1) k) (brought row_form (closed n.watch) j)) less
           (rows_asked v a inv.place.config_is slot (omega (arith, rows_number)) goes j (ap (λ (xs : List ℕ). has_id xs j) (sym rows_hear.members) ∙ on))))
 
-      pub rows_fit : path_count (length n.rows.members - 1) r ≤ length n.buffers.rows.items
+      pub rows_fit : path_count (length n.rows.members - 1) r ≤ vec_capacity n.buffers.rows
       rows_fit =
           let m = ap (λ (xs : List ℕ). length xs) rows_hear.members in
           let p = path_count-mono (length n.rows.members - 1) n.config.now.nodes r (omega (arith, m, few)) in

@@ -1,8 +1,6 @@
 -- What holds of a controller is kept where little of it changes.
 use Rattle.std.proofs.Common.{ℕ, ◌≡◌, ◌≤◌, true, false, List, length, Option, None, Some, Vec, Global, refl, sym, ap, subst, ◌∙◌, arith}
 use Rattle.std.specs.Prelude.{IsSome, IfSome, vec_capacity}
-use Rattle.std.specs.Vec.{with_items}
-use Rattle.std.proofs.lemmas.List.{with_items_is}
 use Rattle.omh_paths.specs.declared.wrapped.Wrapped.{Wrapped}
 use Rattle.slot_plan.specs.declared.slot.Slot.{Slot}
 use Rattle.slot_plan.specs.declared.slot.Slot.TheVariants.{Sync, Claims, Data, Rows}
@@ -87,21 +85,18 @@ frame_given n u from tick bytes e inv = record {
 
 -- ---- rooms
 
-rewritten : {X : Type 0} (v : Vec X Global) (xs : List X) → length xs ≡ length v.items → length (with_items v xs).items ≡ length v.items
-rewritten v xs e = ap length (with_items_is v xs (let o = v.ok.0 in omega (arith, e))) ∙ e
-
--- the entries of a frame were written, or a table
-pub claims_room : {N : ℕ} (nodes m : ℕ) (b : Buffers N) (xs : List (Wrapped ℕ)) → length xs ≡ length b.claims.items → HasRooms nodes m b → HasRooms nodes m (record b { claims = with_items b.claims xs })
-claims_room nodes m b xs e h = record {
-  claims = λ r l. (let x = h.claims r l in let y = rewritten b.claims xs e in omega (arith, x, y));
+-- the buffer of a frame's entries was written, or that of a table
+pub claims_room : {N : ℕ} (nodes m : ℕ) (b : Buffers N) (v : Vec (Wrapped ℕ) Global) → vec_capacity b.claims ≤ vec_capacity v → HasRooms nodes m b → HasRooms nodes m (record b { claims = v })
+claims_room nodes m b v e h = record {
+  claims = λ r l. (let x = h.claims r l in omega (arith, x, e));
   rows = h.rows;
   table = h.table;
 }
 
-pub rows_room : {N : ℕ} (nodes m : ℕ) (b : Buffers N) (xs : List (Wrapped (List ℕ))) → length xs ≡ length b.rows.items → HasRooms nodes m b → HasRooms nodes m (record b { rows = with_items b.rows xs })
-rows_room nodes m b xs e h = record {
+pub rows_room : {N : ℕ} (nodes m : ℕ) (b : Buffers N) (v : Vec (Wrapped (List ℕ)) Global) → vec_capacity b.rows ≤ vec_capacity v → HasRooms nodes m b → HasRooms nodes m (record b { rows = v })
+rows_room nodes m b v e h = record {
   claims = h.claims;
-  rows = λ r l. (let x = h.rows r l in let y = rewritten b.rows xs e in omega (arith, x, y));
+  rows = λ r l. (let x = h.rows r l in omega (arith, x, e));
   table = h.table;
 }
 

@@ -2,6 +2,7 @@
 
 ghost use Rattle.std.specs.Prelude.{ℕ, ◌≡◌, ◌≢◌, ◌+◌, ◌-◌, ◌*◌, ◌<◌, ◌≤◌, List, ◌∷◌, []};
 ghost use Rattle.std.specs.Prelude.{true, false, length, take, slice_index_or, slice_set};
+ghost use Rattle.std.specs.Prelude.{vec_capacity};
 ghost use Rattle.std.specs.Prelude.{IfSome, IsSome, option_map, None};
 ghost use Rattle.node_grid.specs.Capacity.{IsCapacity};
 ghost use Rattle.node_grid.specs.NodeSet.{has_id, without_id};
@@ -226,10 +227,21 @@ fn hear_expected<V: Item<N>, const N: usize>(
     take_expected(table, &cells, round, sender)
 }
 
+/// Makes a buffer as long as there is room for, once a frame has to be read.
+fn fill_room<V: Item<N>, const N: usize>(entries: &mut Vec<Wrapped<V>>)
+    ensures long { vec_capacity entries.old ≤ length entries.new.items }
+    ensures room { vec_capacity entries.old ≤ vec_capacity entries.new }
+{
+    let room = entries.capacity();
+    if entries.len() < room {
+        let _within_room = entries.resize(room, Wrapped::Fault(0)).is_ok();
+    }
+}
+
 /// Takes what the relay frame of another member says of items: None where no frame was told.
 fn hear_told<V: Item<N>, const N: usize>(
     table: &mut Heard<V, N>,
-    entries: &mut [Wrapped<V>],
+    entries: &mut Vec<Wrapped<V>>,
     frame: &Option<Frame<'_, N>>,
     round: u8,
     sender: u8,
@@ -241,19 +253,20 @@ fn hear_told<V: Item<N>, const N: usize>(
     requires brings { Brings (path_count (length table.old.members - 1) round)
         (arrived V.form.relay_in None
         (option_map (λ f. content table.old.nodes f.body) frame.now)) }
-    requires room { path_count (length table.old.members - 1) round ≤ length entries.old }
+    requires room { path_count (length table.old.members - 1) round ≤ vec_capacity entries.old }
     ensures is { table.new ≡ with_told round sender
         (arrived V.form.relay_in None (option_map (λ f. content table.old.nodes f.body) frame.now))
         table.old }
     ensures paths { IsByPath table.old }
-    ensures length { length entries.new ≡ length entries.old }
+    ensures room { vec_capacity entries.old ≤ vec_capacity entries.new }
 {
     let nodes = table.nodes();
     if hear_expected(table, frame, round, sender) {
         return;
     }
-    let read = read_entries(frame, nodes, entries);
-    take_frame(table, sender, round, entries, read);
+    fill_room(entries);
+    let read = read_entries(frame, nodes, entries.as_mut_slice());
+    take_frame(table, sender, round, entries.as_slice(), read);
 }
 
 /// What the node itself passes on of a path, and the error where it is on the path itself.
@@ -296,14 +309,14 @@ fn fill_echo<V: Item<N>, const N: usize>(
 /// reading it.
 fn hear_guessed<V: Item<N>, const N: usize>(
     table: &mut Heard<V, N>,
-    entries: &mut [Wrapped<V>],
+    entries: &mut Vec<Wrapped<V>>,
     round: u8,
     sender: u8,
 )
     requires sender { has_id table.old.members sender ≡ true }
     requires some_round { 0 < round }
     requires round { round ≤ table.old.rounds }
-    requires room { path_count (length table.old.members - 1) round ≤ length entries.old }
+    requires room { path_count (length table.old.members - 1) round ≤ vec_capacity entries.old }
     requires small { AreSmall round (without_id table.old.members sender) table.old }
     ensures is { (values : List (Wrapped V)) →
         length values ≡ path_count (length table.old.members - 1) round →
@@ -311,14 +324,15 @@ fn hear_guessed<V: Item<N>, const N: usize>(
         (length values) →
         table.new ≡ with_told round sender (Good values) table.old }
     ensures paths { IsByPath table.old }
-    ensures length { length entries.new ≡ length entries.old }
+    ensures room { vec_capacity entries.old ≤ vec_capacity entries.new }
 {
     let others = table.members().without(sender);
     if table.hear_echo(sender, round) {
         return;
     }
-    let count = fill_echo(table, entries, &others, round);
-    table.hear_frame(sender, round, &entries[..count]);
+    fill_room(entries);
+    let count = fill_echo(table, entries.as_mut_slice(), &others, round);
+    table.hear_frame(sender, round, &entries.as_slice()[..count]);
 }
 
 /// What the frame of round 0 of another node says of its item, and the error where it says nothing.
@@ -339,7 +353,7 @@ fn first_told<V: Item<N>, const N: usize>(watch: &SlotWatch<N>, sender: u8) -> W
 /// Takes what the relay frame of another member says of items.
 fn hear_relay<V: Item<N>, const N: usize>(
     table: &mut Heard<V, N>,
-    entries: &mut [Wrapped<V>],
+    entries: &mut Vec<Wrapped<V>>,
     watch: &SlotWatch<N>,
     round: u8,
     sender: u8,
@@ -353,9 +367,9 @@ fn hear_relay<V: Item<N>, const N: usize>(
     requires round { round ≤ table.old.rounds }
     requires brings { Brings (path_count (length table.old.members - 1) round)
         (brought V.form watch.now sender) }
-    requires room { path_count (length table.old.members - 1) round ≤ length entries.old }
+    requires room { path_count (length table.old.members - 1) round ≤ vec_capacity entries.old }
     ensures heard { table.new ≡ told_from V.form watch.now round sender table.old }
-    ensures length { length entries.new ≡ length entries.old }
+    ensures room { vec_capacity entries.old ≤ vec_capacity entries.new }
 {
     let _members = table.members();
     match watch.told(sender) {
@@ -367,7 +381,7 @@ fn hear_relay<V: Item<N>, const N: usize>(
 /// Takes what the frame of another member says of items in a round.
 fn hear_from<V: Item<N>, const N: usize>(
     table: &mut Heard<V, N>,
-    entries: &mut [Wrapped<V>],
+    entries: &mut Vec<Wrapped<V>>,
     watch: &SlotWatch<N>,
     round: u8,
     sender: u8,
@@ -381,9 +395,9 @@ fn hear_from<V: Item<N>, const N: usize>(
     requires round { round ≤ table.old.rounds }
     requires brings { Brings (path_count (length table.old.members - 1) round)
         (brought V.form watch.now sender) }
-    requires room { path_count (length table.old.members - 1) round ≤ length entries.old }
+    requires room { path_count (length table.old.members - 1) round ≤ vec_capacity entries.old }
     ensures heard { table.new ≡ told_from V.form watch.now round sender table.old }
-    ensures length { length entries.new ≡ length entries.old }
+    ensures room { vec_capacity entries.old ≤ vec_capacity entries.new }
 {
     if round == 0 {
         table.put_root(sender, first_told(watch, sender));
@@ -418,10 +432,11 @@ fn hear_guesses<V: Item<N>, const N: usize>(
 
 /// Takes what the frames of all other members say of items in a round: of each its own item in
 /// round 0, and later what it passes on. Where something is guessed of relay frames, it is what the
-/// node itself passes on. `entries` has room for those of a frame, and is left with any values.
+/// node itself passes on. `entries` has room for those of a frame, is first written where one has
+/// to be read, and is left with any values.
 pub fn hear_round<V: Item<N>, const N: usize>(
     table: &mut Heard<V, N>,
-    entries: &mut [Wrapped<V>],
+    entries: &mut Vec<Wrapped<V>>,
     watch: &SlotWatch<N>,
     round: u8,
 )
@@ -430,9 +445,9 @@ pub fn hear_round<V: Item<N>, const N: usize>(
     requires round { round ≤ table.old.rounds }
     requires brings { (j : ℕ) → has_id table.old.members j ≡ true →
         Brings (path_count (length table.old.members - 1) round) (brought V.form watch.now j) }
-    requires room { path_count (length table.old.members - 1) round ≤ length entries.old }
+    requires room { path_count (length table.old.members - 1) round ≤ vec_capacity entries.old }
     ensures heard { table.new ≡ after_round V.form table.old.nodes watch.now round table.old }
-    ensures length { length entries.new ≡ length entries.old }
+    ensures room { vec_capacity entries.old ≤ vec_capacity entries.new }
 {
     let me = table.me();
     let members = table.members();

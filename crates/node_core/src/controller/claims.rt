@@ -28,7 +28,7 @@ impl<'c, const N: usize> Controller<'c, N> {
         note_found(&mut self.found.notes, &found);
         hear_round(
             &mut self.done,
-            self.buffers.claims.as_mut_slice(),
+            &mut self.buffers.claims,
             &self.watch,
             round,
         );

@@ -71,10 +71,10 @@ impl<const N: usize> Buffers<N> {
         ensures { IfOk result (λ b. HasRooms nodes m b) }
     {
         let most = most_entries(nodes, m);
-        let Ok(claims) = filled(alloc, most, Wrapped::Fault(0)) else {
+        let Ok(claims) = Vec::with_capacity(alloc, most) else {
             return Err(NoMemory);
         };
-        let Ok(rows) = filled(alloc, most, Wrapped::Fault(0)) else {
+        let Ok(rows) = Vec::with_capacity(alloc, most) else {
             return Err(NoMemory);
         };
         let Ok(table) = Vec::with_capacity(alloc, most * (1 + 2 * nodes as usize)) else {

@@ -24,7 +24,7 @@ impl<'c, const N: usize> Controller<'c, N> {
         carry_found(&mut self.found.notes, &found);
         hear_round(
             &mut self.rows,
-            self.buffers.rows.as_mut_slice(),
+            &mut self.buffers.rows,
             &self.watch,
             round,
         );

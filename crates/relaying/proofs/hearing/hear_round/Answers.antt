@@ -1,4 +1,5 @@
 use Rattle.std.proofs.Common.{◌==◌, not, ◌≡◌, ◌≢◌, ◌≤◌, ◌<◌, ◌-◌, true, arith, ℕ, List, length, refl, sym, ap, subst, ◌∙◌}
+use Rattle.std.specs.Prelude.{vec_capacity}
 use Rattle.node_grid.specs.NodeSet.{has_id}
 use Rattle.node_grid.specs.Count.{Distinct}
 use Rattle.omh_paths.specs.Paths.{path_count}
@@ -16,7 +17,7 @@ use Rattle.relaying.proofs.hearing.hear_round.Goals.{then-q-me+then-has+then-not
 pub loop-q-init : goal.loop-q-init
 loop-q-init g c =
     let start = c.hear_guesses-taken.new.table in
-    (told_nothing (heard (slot_rounds g.V.Item.form start.members c.args.watch.now)) start, refl)
+    (told_nothing (heard (slot_rounds g.V.Item.form start.members c.args.watch.now)) start, omega arith)
 
 pub loop-q-preserved : goal.loop-q-preserved
 loop-q-preserved g c =
@@ -35,7 +36,7 @@ loop-q-preserved g c =
             (ap (λ (ms : List ℕ). has_id ms q) members ∙ sym x.has.ensures ∙ x.if-has.true)
             (λ same. x.if-q-me.true (same ∙ sym me)) c.loop-q.invariant.0
             (x.table-is ∙ x.hear_from.ensures.heard ∙ ap (λ (h : Hearing g.row.V.Denot). told (paths_from h.members h.me r q) (heard (slot_rounds g.V.Item.form h.members w)) c.loop-q.table) c.loop-q.invariant.0),
-        ap length x.entries-is ∙ x.hear_from.ensures.length ∙ c.loop-q.invariant.1,
+        omega (arith, ap vec_capacity x.entries-is, x.hear_from.ensures.room, c.loop-q.invariant.1),
       )
       | else-q-me x ↦ (
         elim x.else-q-me.branch [
@@ -53,7 +54,7 @@ loop-q-preserved g c =
               (not_here (has_id start.members q) q start.me (y.if-q-me.false ∙ me))
               (x.table-is ∙ c.loop-q.invariant.0)
         ],
-        ap length x.entries-is ∙ c.loop-q.invariant.1,
+        omega (arith, ap vec_capacity x.entries-is, c.loop-q.invariant.1),
       )
     ]
 
@@ -73,7 +74,7 @@ hear_from-requires g c =
     let on : has_id was.members q ≡ true = ap (λ (ms : List ℕ). has_id ms q) (sym c.members-members.ensures.members) ∙ sym c.has.ensures ∙ c.if-has.true in
     let d : Distinct was.members = subst Distinct c.members-members.ensures.members (Distinct-ids g.row.N c.members-members.result c.members-members.ensures.ids) in
     let low : q < start.nodes = omega (arith, c.loop-q-test.true, c.nodes-q-end.ensures.nodes) in
-    let room : path_count (length was.members - 1) r ≤ length c.loop-q.entries = subst (λ (n : ℕ). path_count (length was.members - 1) r ≤ n) (sym c.loop-q.invariant.1) c.requires.room in (
+    let room : path_count (length was.members - 1) r ≤ vec_capacity c.loop-q.entries = omega (arith, c.requires.room, c.loop-q.invariant.1) in (
       omega arith,
       (
         omega arith,
@@ -93,7 +94,7 @@ hear_from-requires g c =
                       back (λ h. r ≤ h.rounds) (first (λ h. r ≤ h.rounds) c.requires.round),
                       (
                         back (λ h. Brings (path_count (length h.members - 1) r) (brought g.V.Item.form w q)) (first (λ h. Brings (path_count (length h.members - 1) r) (brought g.V.Item.form w q)) (c.requires.brings q on)),
-                        back (λ h. path_count (length h.members - 1) r ≤ length c.loop-q.entries) (first (λ h. path_count (length h.members - 1) r ≤ length c.loop-q.entries) room),
+                        back (λ h. path_count (length h.members - 1) r ≤ vec_capacity c.loop-q.entries) (first (λ h. path_count (length h.members - 1) r ≤ vec_capacity c.loop-q.entries) room),
                       ),
                     ),
                   ),

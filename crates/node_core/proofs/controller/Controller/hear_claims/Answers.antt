@@ -56,9 +56,6 @@ returns-then-is_none g c =
 pub note_found-requires : goal.note_found-requires
 note_found-requires g c = (elim c.self.invariant.place.capacity [ inl e ↦ rw e (lit< tt) | inr e ↦ rw e (lit< tt) ], (elim c.self.invariant.place.capacity [ inl e ↦ rw e (lit< tt) | inr e ↦ rw e (lit< tt) ], c.self.invariant.place.capacity))
 
-pub as_mut_slice-requires : goal.as_mut_slice-requires
-as_mut_slice-requires g c = λ κs. (λ a m. absurd (not-mem-nil m), λ a m. absurd (not-mem-nil m))
-
 pub hear_round-requires : goal.hear_round-requires
 hear_round-requires g c =
     let n = c.self.inside in
@@ -79,9 +76,7 @@ hear_round-requires g c =
     let rounds = claims_rounds n inv sound open' u shut' a some.1 r low at in
     let bring = claims_bring n inv sound open' u shut' a some.1 r low at in
     let fits = claims_fit n inv sound open' u shut' a some.1 r low at in
-    let long = ap (λ xs. length xs) c.as_mut_slice.ensures.value in
-    let room : path_count (length n.done.members - 1) r ≤ length c.as_mut_slice.result.now = omega (arith, fits, long) in
-    (lit< tt, (lit< tt, (watching, (echoed, (rounds, (bring, room))))))
+    (lit< tt, (lit< tt, (watching, (echoed, (rounds, (bring, fits))))))
 
 pub invariant_of-self-then-round-self : goal.invariant_of-self-then-round-self
 invariant_of-self-then-round-self g c =
@@ -96,7 +91,7 @@ invariant_of-self-then-round-self g c =
       watch = watch_shut n.config.now n.phase.me n.watch inv.watch u shut';
       kept_notes = inv.kept_notes;
       notes = record { nodes = ap (λ (x : Notes). x.nodes) k ∙ inv.notes.nodes; me_is = ap (λ (x : Notes). x.me) k ∙ inv.notes.me_is; kinds = ap (λ (x : Notes). x.kinds) k ∙ inv.notes.kinds };
-      rooms = claims_room n.config.now.nodes n.config.now.m n.buffers c.hear_round.new.entries (c.hear_round.ensures.length ∙ ap (λ xs. length xs) c.as_mut_slice.ensures.value) inv.rooms;
+      rooms = claims_room n.config.now.nodes n.config.now.m n.buffers c.hear_round.new.entries c.hear_round.ensures.room inv.rooms;
       guessed = λ h. absurd (not_open n.watch u shut' h);
     }
 
@@ -150,7 +145,7 @@ invariant_of-self-else-round-self g c =
       watch = watch_shut n.config.now n.phase.me n.watch inv.watch u shut';
       kept_notes = inv.kept_notes;
       notes = record { nodes = ap (λ (x : Notes). x.nodes) k ∙ inv.notes.nodes; me_is = ap (λ (x : Notes). x.me) k ∙ inv.notes.me_is; kinds = ap (λ (x : Notes). x.kinds) k ∙ inv.notes.kinds };
-      rooms = claims_room n.config.now.nodes n.config.now.m n.buffers c.hear_round.new.entries (c.hear_round.ensures.length ∙ ap (λ xs. length xs) c.as_mut_slice.ensures.value) inv.rooms;
+      rooms = claims_room n.config.now.nodes n.config.now.m n.buffers c.hear_round.new.entries c.hear_round.ensures.room inv.rooms;
       guessed = λ h. absurd (not_open n.watch u shut' h);
     }
 

@@ -53,9 +53,6 @@ returns-then-is_none g c =
 pub carry_found-requires : goal.carry_found-requires
 carry_found-requires g c = (elim c.self.invariant.place.capacity [ inl e ↦ rw e (lit< tt) | inr e ↦ rw e (lit< tt) ], (elim c.self.invariant.place.capacity [ inl e ↦ rw e (lit< tt) | inr e ↦ rw e (lit< tt) ], c.self.invariant.place.capacity))
 
-pub as_mut_slice-requires : goal.as_mut_slice-requires
-as_mut_slice-requires g c = λ κs. (λ a m. absurd (not-mem-nil m), λ a m. absurd (not-mem-nil m))
-
 pub hear_round-requires-room-V-Item : goal.hear_round-requires-room-V-Item
 hear_round-requires-room-V-Item g c = λ κs. elim c.self.invariant.place.capacity [ inl e ↦ rw e (lit< tt) | inr e ↦ rw e (lit< tt) ]
 
@@ -88,9 +85,7 @@ hear_round-requires g c =
     let rounds = rows_rounds n inv sound open' u shut' a some.1 r low at in
     let bring = rows_bring n inv sound open' u shut' a some.1 r low at in
     let fits = rows_fit n inv sound open' u shut' a some.1 r low at in
-    let long = ap (λ xs. length xs) c.as_mut_slice.ensures.value in
-    let room : path_count (length n.rows.members - 1) r ≤ length c.as_mut_slice.result.now = omega (arith, fits, long) in
-    (elim inv.place.capacity [ inl e ↦ rw e (lit< tt) | inr e ↦ rw e (lit< tt) ], (lit< tt, (watching, (echoed, (rounds, (bring, room))))))
+    (elim inv.place.capacity [ inl e ↦ rw e (lit< tt) | inr e ↦ rw e (lit< tt) ], (lit< tt, (watching, (echoed, (rounds, (bring, fits))))))
 
 pub invariant_of-self-2 : goal.invariant_of-self-2
 invariant_of-self-2 g c =
@@ -105,7 +100,7 @@ invariant_of-self-2 g c =
       watch = watch_shut n.config.now n.phase.me n.watch inv.watch u shut';
       kept_notes = inv.kept_notes;
       notes = record { nodes = ap (λ (x : Notes). x.nodes) k ∙ inv.notes.nodes; me_is = ap (λ (x : Notes). x.me) k ∙ inv.notes.me_is; kinds = ap (λ (x : Notes). x.kinds) k ∙ inv.notes.kinds };
-      rooms = rows_room n.config.now.nodes n.config.now.m n.buffers c.hear_round.new.entries (c.hear_round.ensures.length ∙ ap (λ xs. length xs) c.as_mut_slice.ensures.value) inv.rooms;
+      rooms = rows_room n.config.now.nodes n.config.now.m n.buffers c.hear_round.new.entries c.hear_round.ensures.room inv.rooms;
       guessed = λ h. absurd (not_open n.watch u shut' h);
     }
 
