@@ -26,12 +26,7 @@ impl<'c, const N: usize> Controller<'c, N> {
             return;
         }
         note_found(&mut self.found.notes, &found);
-        hear_round(
-            &mut self.done,
-            &mut self.buffers.claims,
-            &self.watch,
-            round,
-        );
+        hear_round(&mut self.done, &mut self.buffers.claims, &self.watch, round);
         if round == self.config.m {
             self.know_claims();
         }

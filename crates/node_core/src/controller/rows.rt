@@ -22,11 +22,6 @@ impl<'c, const N: usize> Controller<'c, N> {
             return;
         }
         carry_found(&mut self.found.notes, &found);
-        hear_round(
-            &mut self.rows,
-            &mut self.buffers.rows,
-            &self.watch,
-            round,
-        );
+        hear_round(&mut self.rows, &mut self.buffers.rows, &self.watch, round);
     }
 }
