@@ -37,7 +37,7 @@ pub struct Heard<V, const N: usize> {
     pub(crate) store: Store<V, N>,
     own: Wrapped<V>,
     any_frame: bool,
-    pub(crate) doubted: Vec<NodeSet<N>>,
+    doubted: Vec<NodeSet<N>>,
     scratch: Vec<Wrapped<V>>,
 }
 

@@ -4,13 +4,11 @@ ghost use Rattle.std.specs.Prelude.{◌≡◌, ◌≢◌, true, false, IfSome};
 ghost use Rattle.node_grid.specs.NodeSet.{has_id};
 ghost use Rattle.omh.specs.Heard.{heard_in};
 ghost use Rattle.heard.specs.Keep.{IsSmall, last_node};
-ghost use Rattle.heard.specs.Passing.{IsExpectedOff};
 
 use crate::hearing::Heard;
 use crate::places::{are_one, has_at};
 use crate::store::Store;
 use crate::value::Value;
-use node_grid::NodeSet;
 use omh_paths::{Path, Wrapped};
 
 impl<V: Value, const N: usize> Store<V, N> {
@@ -55,16 +53,5 @@ impl<V: Value, const N: usize> Heard<V, N> {
             return None;
         }
         Some(self.store.relayed(path))
-    }
-
-    /// Which nodes are on each path of another member that something else was heard for than is
-    /// expected, behind it; None where that isn't known of the member.
-    pub fn doubted_of(&self, c: u8) -> Option<NodeSet<N>>
-        ensures { IfSome result (λ doubted. IsExpectedOff self.now c doubted) }
-    {
-        if !self.store.hears_of(c) || !self.store.agrees_on(c) {
-            return None;
-        }
-        Some(self.store.all_doubted(&self.doubted[c as usize]))
     }
 }
