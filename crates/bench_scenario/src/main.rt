@@ -1,70 +1,66 @@
-//! Times the reading and judging of a scenario from standard input beside the reading of its JSON alone.
+//! Times the first reading of a scenario from standard input: with the word `json` of its JSON alone, with `judged` of the
+//! whole. Without a word it reads and prints nothing.
 //!
-//! Without words it reads and prints nothing.
+//! A process times one reading, since the program reads one scenario, in memory that it uses for the first time. As in the
+//! program, the memory of the JSON value is left until the process ends.
 #![tactic(auto)]
 
 use scenario::{Scenario, ScenarioError};
 use serde_json::Value;
 use span_io::{StdSource, read_all};
+use std::alloc::Global;
+use std::mem::forget;
 use std::time::Instant;
 use std::{env, io};
 
 /// How many bytes an input may have.
 const LIMIT: usize = 4_194_304;
 
-/// Of so many rounds the fastest counts.
-const ROUNDS: u32 = 9;
-
-/// How long the reading of the JSON alone takes, in microseconds.
-fn time_of_json(rt: &HostRuntime, bytes: &[u8]) -> io::Result<u128> {
-    let mut least = u128::MAX;
-    for _ in 0..ROUNDS {
-        let start = Instant::now(rt)?;
-        let value = Value::from_slice(rt.alloc(), bytes);
-        let took = start.elapsed(rt)?.as_micros();
-        if value.is_ok() {
-            least = least.min(took);
-        }
+/// Times the reading of the JSON.
+fn time_json(rt: &HostRuntime, bytes: &[u8]) -> io::Result<()> {
+    let start = Instant::now(rt)?;
+    let value = Value::from_slice(rt.alloc(), bytes);
+    let took = start.elapsed(rt)?.as_micros();
+    let read = value.is_ok();
+    forget(value);
+    if read {
+        println!(rt; "{took} us")
+    } else {
+        println!(rt; "unreadable")
     }
-    Ok(least)
 }
 
-/// How long reading and judging takes, in microseconds.
-fn time_of_scenario(rt: &HostRuntime, bytes: &[u8]) -> io::Result<u128> {
-    let mut least = u128::MAX;
-    for _ in 0..ROUNDS {
-        let start = Instant::now(rt)?;
-        let scenario = Scenario::<16>::read(rt.alloc(), bytes);
-        let took = start.elapsed(rt)?.as_micros();
-        if scenario.is_ok() {
-            least = least.min(took);
-        }
-    }
-    Ok(least)
+/// The scenario in the bytes, read as the program does.
+fn scenario_of(alloc: Global, bytes: &[u8]) -> Result<Scenario<16>, ScenarioError> {
+    let Ok(value) = Value::from_slice(alloc, bytes) else {
+        return Err(ScenarioError::Unreadable);
+    };
+    let scenario = Scenario::from_value(alloc, &value);
+    forget(value);
+    scenario
 }
 
-/// What the scenario in the bytes is.
-fn verdict(rt: &HostRuntime, bytes: &[u8]) -> io::Result<()> {
-    match Scenario::<16>::read(rt.alloc(), bytes) {
-        Ok(_) => println!(rt; "accepted"),
-        Err(ScenarioError::Refused { rule, place }) => println!(rt; "refused {rule} {place}"),
+/// Times the reading and judging of the scenario.
+fn time_judged(rt: &HostRuntime, bytes: &[u8]) -> io::Result<()> {
+    let start = Instant::now(rt)?;
+    let scenario = scenario_of(rt.alloc(), bytes);
+    let took = start.elapsed(rt)?.as_micros();
+    match scenario {
+        Ok(_) => println!(rt; "{took} us"),
         Err(error) => println!(rt; "{error}"),
     }
 }
 
 fn main(rt: HostRuntime) -> io::Result<()> {
-    if env::args(&rt)?.skip(1).next().is_none() {
+    let Some(word) = env::args(&rt)?.skip(1).next() else {
         return Ok(());
-    }
+    };
     let mut source = StdSource::new(rt.stdin());
     let Ok(bytes) = read_all(rt.alloc(), &mut source, LIMIT) else {
         return Ok(());
     };
-    verdict(&rt, bytes.as_slice())?;
-    let json = time_of_json(&rt, bytes.as_slice())?;
-    let whole = time_of_scenario(&rt, bytes.as_slice())?;
-    println!(rt;
-        "{} bytes: JSON alone {json} us, read and judged {whole} us",
-        bytes.len()
-    )
+    match word.as_str() {
+        "json" => time_json(&rt, bytes.as_slice()),
+        _ => time_judged(&rt, bytes.as_slice()),
+    }
 }

@@ -27,6 +27,7 @@ use scenario::{Scenario, ScenarioError};
 use serde_json::{Category, Value};
 use span_io::{ReadError, Sink, Source, read_all};
 use std::alloc::Global;
+use std::mem::forget;
 
 /// How many bytes an input may have.
 const LIMIT: usize = 4_194_304;
@@ -118,12 +119,16 @@ fn answer_value<K: Sink>(alloc: Global, form: Form, value: &Value, sink: &mut K)
     }
 }
 
-/// Answers the bytes of a scenario.
+/// Answers the bytes of a scenario, and leaves the memory of their JSON value until the process ends.
 fn answer_scenario<K: Sink>(alloc: Global, form: Form, bytes: &[u8], sink: &mut K) -> Status
     ensures { Answers (SpecScenario form) bytes.now (K.written sink.old) (K.written sink.new) (K.faults sink.old) (K.faults sink.new) result }
 {
     match Value::from_slice(alloc, bytes) {
-        Ok(value) => answer_value(alloc, form, &value, sink),
+        Ok(value) => {
+            let status = answer_value(alloc, form, &value, sink);
+            forget(value);
+            status
+        }
         Err(error) if error.classify() == Category::Memory => Status::NoMemory,
         Err(_) => Status::Unreadable,
     }
