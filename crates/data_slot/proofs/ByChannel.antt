@@ -1,5 +1,5 @@
 -- Values by channel: how they are filled, channel by channel, and what stands there.
-use Rattle.std.proofs.Common.{ℕ, zero, suc, ◌≡◌, ◌≢◌, ◌<◌, ◌+◌, ◌==◌, ◌||◌, Bool, true, false, if◌then◌else◌, List, [], ◌∷◌, length, length-set, take, replicate, get_or, set, get_or-set_other, get_or-set_same, refl, sym, ap, ◌∙◌, inl, inr, arith, eq-eqb, ne_eqb, Option, None, ℤ, pos}
+use Rattle.std.proofs.Common.{ℕ, zero, suc, ◌≡◌, ◌≢◌, ◌<◌, ◌+◌, ◌==◌, ◌||◌, true, false, if◌then◌else◌, List, [], ◌∷◌, length, length-set, take, replicate, get_or, set, get_or-set_other, get_or-set_same, refl, sym, ap, ◌∙◌, inl, inr, arith, eq-eqb, ne_eqb, Option, None, ℤ, pos}
 use Rattle.std.specs.Prelude.{slice_index_or, All}
 use Rattle.std.proofs.Math.Bool.{or-false}
 use Rattle.std.proofs.lemmas.Bool.{cases_eq, cond-true, cond-false, or_cases, or_right}
@@ -76,13 +76,6 @@ by_all due f xs wide each = fill_by_all (λ c. if has_id due c then f c else Non
 by_wide : (due : List ℕ) (f : ℕ → Option ℤ) → length (by_channel due f) ≡ channel_room
 unfolding by_channel
 by_wide due f = length-map-range_with_len (λ c. if has_id due c then f c else None) 0 channel_room
-
--- functions that agree on the due channels
-pub by_alike : (due : List ℕ) (f g : ℕ → Option ℤ) → ((c : ℕ) → c < channel_room → has_id due c ≡ true → f c ≡ g c) → by_channel due f ≡ by_channel due g
-by_alike due f g h = by_all due g (by_channel due f) (by_wide due f) (λ c low. by_at_any due f c low ∙ same c low (has_id due c) refl) where
-  same : (c : ℕ) → c < channel_room → (b : Bool) → has_id due c ≡ b → (if b then f c else None) ≡ (if b then g c else None)
-  same c low true on = h c low on
-  same c low false off = refl
 
 -- a channel more
 pub by_more : (due : List ℕ) (f : ℕ → Option ℤ) (xs : List (Option ℤ)) (k : ℕ) (v : Option ℤ) → k < length due → All (λ c. c < channel_room) due → v ≡ f (get_or due k 0) → xs ≡ by_channel (take k due) f → set xs (get_or due k 0) v ≡ by_channel (take (k + 1) due) f

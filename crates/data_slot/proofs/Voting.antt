@@ -1,17 +1,13 @@
 -- Votes and deviations by the values that were told are those of the protocol.
-use Rattle.std.proofs.Common.{not, ◌&&◌, ℕ, ◌≡◌, ◌≢◌, ◌<◌, ◌==◌, ◌||◌, Bool, true, if◌then◌else◌, List, [], ◌∷◌, refl, sym, ap, ap₂, ◌∙◌, inl, inr, arith, eq-eqb, ne_eqb, Option, None, Some, ℤ}
-use Rattle.std.specs.List.{filter_map, list_any, cons_option}
-use Rattle.std.proofs.lemmas.Bool.{cases_eq, cond-false, or_left, or_right, and_parts}
+use Rattle.std.proofs.Common.{not, ◌&&◌, ℕ, ◌≡◌, ◌≢◌, ◌<◌, ◌==◌, Bool, true, if◌then◌else◌, List, [], ◌∷◌, refl, sym, ap, ap₂, ◌∙◌, inl, inr, arith, eq-eqb, ne_eqb, Option, None, Some, ℤ}
+use Rattle.std.specs.List.{filter_map, cons_option}
+use Rattle.std.proofs.lemmas.Bool.{cases_eq, cond-false, or_left, or_right}
 use Rattle.node_grid.specs.NodeSet.{has_id, ids_where, IsIdSet}
-use Rattle.node_grid.specs.NodeSetLaws.{filter_range, passes_where}
+use Rattle.node_grid.specs.NodeSetLaws.{filter_range}
 use Rattle.omh_paths.specs.MemberLaws.{member-lt}
 use Rattle.omh_paths.specs.declared.wrapped.Wrapped.{Wrapped}
-use Rattle.mme_vote.specs.declared.channel.Channel.{Channel}
-use Rattle.mme_vote.specs.declared.channel.Channel.TheVariants.{State, Sensor, Copy}
 use Rattle.mme_vote.specs.Channel.{delta_of, is_judged}
 use Rattle.mme_vote.specs.Vote.{vote_of}
-use Rattle.list_scheduler.specs.Copies.{copy_at, is_passed}
-use Rattle.list_scheduler.specs.Schedule.{copies_completed}
 use Rattle.agreed_state.specs.declared.config.Config.{Config}
 use Rattle.agreed_state.specs.Agreed.{AgreedView}
 use Rattle.error_detect.specs.Watching.{Watch}
@@ -23,7 +19,7 @@ use Rattle.data_slot.specs.Values.{only_values}
 use Rattle.data_slot.specs.Told.{value_told}
 use Rattle.data_slot.specs.Votes.{is_off, vote_due}
 use Rattle.data_slot.specs.Values.{by_channel}
-use Rattle.data_slot.proofs.ByChannel.{by_alike}
+use Rattle.data_slot.specs.VoteLaws.{by_alike, list_any_alike, voter_member}
 
 -- what a node has of the values of the due channels
 pub record TellsValues (nodes me : ℕ) (full : Bool) (due : List ℕ) (own : List (Option ℤ)) (w : Watch) (told : List (Option (List ℤ))) : Type 0 where
@@ -32,14 +28,6 @@ pub record TellsValues (nodes me : ℕ) (full : Bool) (due : List ℕ) (own : Li
 filter_map_members : (f g : ℕ → Option ℤ) (ms : List ℕ) → ((q : ℕ) → has_id ms q ≡ true → f q ≡ g q) → filter_map f ms ≡ filter_map g ms
 filter_map_members f g [] h = refl
 filter_map_members f g (q ∷ ms) h = ap₂ cons_option (h q (or_left (q == q) (has_id ms q) (eq-eqb q q refl))) (filter_map_members f g ms (λ x on. h x (or_right (q == x) (has_id ms x) on)))
-
--- who votes on a channel is a member
-voter_member : (s : Setting) (a : AgreedView) (done : List (Wrapped ℕ)) (x : Channel s.capacity) (q : ℕ) → has_id (voters s a done x) q ≡ true → has_id a.standing.members q ≡ true
-voter_member s a done (State delta start step) q on = on
-voter_member s a done (Sensor delta task) q on = on
-voter_member s a done (Copy delta t lies) q on =
-    let after = copies_completed s.capacity s.config.graph a.standing.members a.copies done in
-    (and_parts _ _ (passes_where (λ r. has_id a.standing.members r && is_passed (copy_at after t r)) s.capacity q on)).0
 
 -- the votes
 pub votes_are : {N : ℕ} (config : Config N) (me : ℕ) (full : Bool) (a : AgreedView) (done : List (Wrapped ℕ)) (due : List ℕ) (own : List (Option ℤ)) (w : Watch) (told : List (Option (List ℤ))) → TellsValues config.nodes me full due own w told → IsIdSet config.nodes a.standing.members
@@ -51,11 +39,6 @@ votes_are {N} config me full a done due own w told t ids =
     (λ c low on. ap (λ (vs : List ℤ). vote_of vs (tolerated s (channel s c)))
     (filter_map_members (λ q. value_told told q c) (λ q. value_from me full due own (only_values w) c q) (voters s a done (channel s c))
     (λ q voter. t.each q c (member-lt config.nodes a.standing.members q ids (voter_member s a done (channel s c) q voter)) on)))
-
--- a test of the due channels
-list_any_alike : (f g : ℕ → Bool) (due : List ℕ) → ((c : ℕ) → has_id due c ≡ true → f c ≡ g c) → list_any f due ≡ list_any g due
-list_any_alike f g [] h = refl
-list_any_alike f g (c ∷ due) h = ap₂ ◌||◌ (h c (or_left (c == c) (has_id due c) (eq-eqb c c refl))) (list_any_alike f g due (λ x on. h x (or_right (c == x) (has_id due x) on)))
 
 -- whether a value of another node deviates
 off_is : {N : ℕ} (config : Config N) (me : ℕ) (full : Bool) (due : List ℕ) (own : List (Option ℤ)) (w : Watch) (told : List (Option (List ℤ))) (votes : List (Option ℤ)) (j : ℕ) → TellsValues config.nodes me full due own w told → j < config.nodes → j ≢ me

@@ -4,6 +4,7 @@ pub mod Own
 pub mod TaskMasks
 pub mod Told
 pub mod Values
+pub mod VoteLaws
 pub mod Votes
 pub use Rattle.protocol.specs.Configured
 pub use Rattle.protocol.specs.View

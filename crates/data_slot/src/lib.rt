@@ -9,4 +9,5 @@ mod vote;
 
 pub use due::due_channels;
 pub use own::{own_values, put_values};
-pub use vote::{DataSlot, Voted};
+pub use told::own_by_channel;
+pub use vote::{DataSlot, Voted, is_off, vote_due};

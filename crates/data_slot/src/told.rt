@@ -66,7 +66,7 @@ fn values_in_frame<const N: usize>(
 }
 
 /// A node's own values by channel, and 0 where it has none.
-fn own_by_channel(own: &[Option<i64>; 8]) -> [i64; 8]
+pub fn own_by_channel(own: &[Option<i64>; 8]) -> [i64; 8]
     ensures { (c : ℕ) → c < 8 → slice_index_or result c (pos 0) ≡ own_in own.now c }
 {
     let mut values = [0; 8];

@@ -161,7 +161,7 @@ fn vote_over<const N: usize>(
 }
 
 /// The votes by channel, with none on those that aren't due.
-fn vote_due<const N: usize>(
+pub fn vote_due<const N: usize>(
     config: &Config<N>,
     agreed: &Agreed<N>,
     claims: &[Wrapped<u8>; N],
@@ -197,7 +197,7 @@ fn is_far(delta: i64, value: Option<i64>, vote: Option<i64>) -> bool
 }
 
 /// Whether a node told a value of a due channel that is too far from the vote.
-fn is_off<const N: usize>(
+pub fn is_off<const N: usize>(
     config: &Config<N>,
     due: &[u8],
     told: &[Option<[i64; 8]>; N],
