@@ -1,0 +1,2 @@
+pub mod Law
+pub use Rattle.calm_period.specs.Calm

@@ -1,0 +1,4 @@
+mod Members
+mod RowOf
+mod Said
+mod Votes
