@@ -86,7 +86,7 @@ module _ {N : ℕ} (n : Inside N) (e : Expectation) (m : Inside N) (b : Begins n
         kept_notes = inv.kept_notes;
         notes = notes;
         rooms = inv.rooms;
-        guessed = λ h. go b.watch.guess b.guess same;
+        guessed = λ o h. go b.watch.guess b.guess same;
       }) all where
         go : (o : Option Content) → IsOwnState n o → full ≡ is_some n.kept.state → IfSome o (λ c. (full ≡ true) × IfSome n.kept.state (λ a. c ≡ State (body n.config.now a)))
         go None x same = tt

@@ -45,14 +45,8 @@ recorded n o inv = record {
   kept_notes = inv.kept_notes;
   notes = inv.notes;
   rooms = inv.rooms;
-  guessed = λ h. recorded_guess n.phase.slot n o (inv.guessed h);
+  guessed = λ p h. recorded_guess n.phase.slot n o (inv.guessed p h);
 }
-
-over_guess : {N : ℕ} (x : Slot) (n : Inside N) → IsGuessed x n → IsGuessed x (record n { phase = record n.phase { is_open = false } })
-over_guess Sync n h = h
-over_guess (Claims r) n h = h
-over_guess Data n h = h
-over_guess (Rows r) n h = h
 
 -- the period is over
 pub is_over : {N : ℕ} (n : Inside N) → IsController n → IsController (record n { phase = record n.phase { is_open = false } })
@@ -63,7 +57,7 @@ is_over n inv = record {
   kept_notes = inv.kept_notes;
   notes = inv.notes;
   rooms = inv.rooms;
-  guessed = λ h. over_guess n.phase.slot n (inv.guessed h);
+  guessed = λ o h. absurd (cc);
 }
 
 -- ---- by whether there is a state
@@ -98,8 +92,8 @@ module _ {N : ℕ} (n : Inside N) (inv : IsController n) (last : slot_number n.c
     };
     notes = inv.notes;
     rooms = inv.rooms;
-    guessed = λ h. subst (λ (x : Slot). IsGuessed x (record n { kept = k; rows = t; outcome = o })) (sym at_last)
-        (λ some. subst (IsEchoed row_form n.config.now.m n.watch) (sym same) (subst (λ (x : Slot). IsGuessed x n) at_last (inv.guessed h) some));
+    guessed = λ p h. subst (λ (x : Slot). IsGuessed x (record n { kept = k; rows = t; outcome = o })) (sym at_last)
+        (λ some. subst (IsEchoed row_form n.config.now.m n.watch) (sym same) (subst (λ (x : Slot). IsGuessed x n) at_last (inv.guessed p h) some));
   }
 
   module _ (taken : IsTaken (seen n)) (a : AgreedView) (goes : n.phase.before ≡ Some a) where

@@ -61,7 +61,7 @@ module _ {N : ℕ} (n : Inside N) (inv : IsController n) (sound : IsSound (seen 
 
       pub claims_echoed : 0 < r → IsEchoed claim_form r u n.done
       claims_echoed some e c expects' guesses =
-          subst (λ (x : Slot). IsGuessed x n) at (inv.guessed slot.watching) some e c (sym (ap (λ (w : Watch). w.expect) shut') ∙ expects') (sym (ap (λ (w : Watch). w.guess) shut') ∙ guesses)
+          subst (λ (x : Slot). IsGuessed x n) at (inv.guessed open' slot.watching) some e c (sym (ap (λ (w : Watch). w.expect) shut') ∙ expects') (sym (ap (λ (w : Watch). w.guess) shut') ∙ guesses)
 
       pub claims_rounds : r ≤ n.done.rounds
       claims_rounds = let s = sound.sizes.done.rounds_are in omega (arith, s, low)
@@ -111,7 +111,7 @@ module _ {N : ℕ} (n : Inside N) (inv : IsController n) (sound : IsSound (seen 
 
       pub rows_echoed : 0 < r → IsEchoed row_form r u n.rows
       rows_echoed some e c expects' guesses =
-          subst (λ (x : Slot). IsGuessed x n) at (inv.guessed slot.watching) some e c (sym (ap (λ (w : Watch). w.expect) shut') ∙ expects') (sym (ap (λ (w : Watch). w.guess) shut') ∙ guesses)
+          subst (λ (x : Slot). IsGuessed x n) at (inv.guessed open' slot.watching) some e c (sym (ap (λ (w : Watch). w.expect) shut') ∙ expects') (sym (ap (λ (w : Watch). w.guess) shut') ∙ guesses)
 
       pub rows_rounds : r ≤ n.rows.rounds
       rows_rounds = let s = sound.sizes.rows.rounds_are in omega (arith, s, low)

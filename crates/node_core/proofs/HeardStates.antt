@@ -52,7 +52,7 @@ module _ {N : ℕ} (n : Inside N) (inv : IsController n) (sound : IsSound (seen 
 
   -- a node without a state of its own guesses nothing, and another one its own
   guessed : IfSome n.watch.guess (λ c. (n.phase.full ≡ true) × IfSome n.kept.state (λ a. c ≡ State (body n.config.now a)))
-  guessed = subst (λ (x : Slot). IsGuessed x n) (in_sync n.config.now.m n.phase.slot inv.slot first) (inv.guessed slot.watching)
+  guessed = subst (λ (x : Slot). IsGuessed x n) (in_sync n.config.now.m n.phase.slot inv.slot first) (inv.guessed open' slot.watching)
 
   none_guessed : (o : Option Content) → n.phase.full ≡ false → IfSome o (λ c. (n.phase.full ≡ true) × IfSome n.kept.state (λ a. c ≡ State (body n.config.now a))) → o ≡ None
   none_guessed None joins h = refl
@@ -139,5 +139,5 @@ module _ {N : ℕ} (n : Inside N) (inv : IsController n) (sound : IsSound (seen 
     kept_notes = inv.kept_notes;
     notes = own;
     rooms = inv.rooms;
-    guessed = λ h. absurd (not_open n.watch u shut' h);
+    guessed = λ o h. absurd (not_open n.watch u shut' h);
   }

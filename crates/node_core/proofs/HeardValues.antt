@@ -44,7 +44,7 @@ module _ {N : ℕ} (n : Inside N) (inv : IsController n) (sound : IsSound (seen 
   values_expected = subst IsSome (sym (ap (λ (w : Watch). w.expect) shut')) (inv.watch.expects slot.watching)
 
   pub values_unguessed : u.guess ≡ None
-  values_unguessed = ap (λ (w : Watch). w.guess) shut' ∙ subst (λ (x : Slot). IsGuessed x n) at (inv.guessed slot.watching)
+  values_unguessed = ap (λ (w : Watch). w.guess) shut' ∙ subst (λ (x : Slot). IsGuessed x n) at (inv.guessed open' slot.watching)
 
   pub values_nodes : u.nodes ≡ n.config.now.nodes
   values_nodes = ap (λ (w : Watch). w.nodes) shut' ∙ inv.watch.nodes

@@ -39,7 +39,7 @@ module _ {N : ℕ} (n : Inside N) (x : Slot) (e : Expectation) (w u : Watch) (b 
     kept_notes = inv.kept_notes;
     notes = inv.notes;
     rooms = rooms;
-    guessed = λ h. guessed;
+    guessed = λ o h. guessed;
   }
 
   pub opened_seen : e ≡ expected_in (seen n) (slot_number n.config.now.m x) → seen (moved n x u b) ≡ slot_open (seen n) (slot_number n.config.now.m x)

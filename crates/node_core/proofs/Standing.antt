@@ -80,7 +80,7 @@ frame_given n u from tick bytes e inv = record {
   kept_notes = inv.kept_notes;
   notes = inv.notes;
   rooms = inv.rooms;
-  guessed = λ h. guess_stays n.phase.slot n u (ap (λ (w : Watch). w.expect) e) (ap (λ (w : Watch). w.guess) e) (inv.guessed (sym (ap (λ (w : Watch). w.is_open) e) ∙ h));
+  guessed = λ o h. guess_stays n.phase.slot n u (ap (λ (w : Watch). w.expect) e) (ap (λ (w : Watch). w.guess) e) (inv.guessed o (sym (ap (λ (w : Watch). w.is_open) e) ∙ h));
 }
 
 -- ---- rooms

@@ -5,6 +5,7 @@ ghost use Rattle.node_grid.specs.Capacity.{IsCapacity};
 ghost use Rattle.protocol.specs.Run.{members_in};
 ghost use Rattle.node_steps.specs.Steps.{restarted, given_frame};
 
+mod calm;
 mod claims;
 mod data;
 mod ending;

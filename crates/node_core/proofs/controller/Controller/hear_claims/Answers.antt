@@ -42,7 +42,7 @@ invariant_of-self g c =
       kept_notes = inv.kept_notes;
       notes = inv.notes;
       rooms = inv.rooms;
-      guessed = λ h. absurd (not_open n.watch u shut' h);
+      guessed = λ o h. absurd (not_open n.watch u shut' h);
     }
 
 pub returns-then-is_none : goal.returns-then-is_none
@@ -92,7 +92,7 @@ invariant_of-self-then-round-self g c =
       kept_notes = inv.kept_notes;
       notes = record { nodes = ap (λ (x : Notes). x.nodes) k ∙ inv.notes.nodes; me_is = ap (λ (x : Notes). x.me) k ∙ inv.notes.me_is; kinds = ap (λ (x : Notes). x.kinds) k ∙ inv.notes.kinds };
       rooms = claims_room n.config.now.nodes n.config.now.m n.buffers c.hear_round.new.entries c.hear_round.ensures.room inv.rooms;
-      guessed = λ h. absurd (not_open n.watch u shut' h);
+      guessed = λ o h. absurd (not_open n.watch u shut' h);
     }
 
 pub know_claims-requires : goal.know_claims-requires
@@ -146,7 +146,7 @@ invariant_of-self-else-round-self g c =
       kept_notes = inv.kept_notes;
       notes = record { nodes = ap (λ (x : Notes). x.nodes) k ∙ inv.notes.nodes; me_is = ap (λ (x : Notes). x.me) k ∙ inv.notes.me_is; kinds = ap (λ (x : Notes). x.kinds) k ∙ inv.notes.kinds };
       rooms = claims_room n.config.now.nodes n.config.now.m n.buffers c.hear_round.new.entries c.hear_round.ensures.room inv.rooms;
-      guessed = λ h. absurd (not_open n.watch u shut' h);
+      guessed = λ o h. absurd (not_open n.watch u shut' h);
     }
 
 pub returns-else-round-self : goal.returns-else-round-self

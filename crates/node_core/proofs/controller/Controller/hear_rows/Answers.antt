@@ -39,7 +39,7 @@ invariant_of-self g c =
       kept_notes = inv.kept_notes;
       notes = inv.notes;
       rooms = inv.rooms;
-      guessed = λ h. absurd (not_open n.watch u shut' h);
+      guessed = λ o h. absurd (not_open n.watch u shut' h);
     }
 
 pub returns-then-is_none : goal.returns-then-is_none
@@ -101,7 +101,7 @@ invariant_of-self-2 g c =
       kept_notes = inv.kept_notes;
       notes = record { nodes = ap (λ (x : Notes). x.nodes) k ∙ inv.notes.nodes; me_is = ap (λ (x : Notes). x.me) k ∙ inv.notes.me_is; kinds = ap (λ (x : Notes). x.kinds) k ∙ inv.notes.kinds };
       rooms = rows_room n.config.now.nodes n.config.now.m n.buffers c.hear_round.new.entries c.hear_round.ensures.room inv.rooms;
-      guessed = λ h. absurd (not_open n.watch u shut' h);
+      guessed = λ o h. absurd (not_open n.watch u shut' h);
     }
 
 pub returns : goal.returns

@@ -42,7 +42,7 @@ invariant_of-self g c =
       kept_notes = inv.kept_notes;
       notes = inv.notes;
       rooms = inv.rooms;
-      guessed = λ h. absurd (not_open n.watch c.close-found.new.self shut' h);
+      guessed = λ o h. absurd (not_open n.watch c.close-found.new.self shut' h);
     }
 
 pub vote-voted-requires : goal.vote-voted-requires
@@ -146,7 +146,7 @@ invariant_of-self-2 g c =
       kept_notes = inv.kept_notes;
       notes = subst (AreItsNotes n.config.now n.phase.me) (sym (told_is g c)) (still_notes n.config.now n.phase.me n.phase.full c.note_values.new.notes (replicate g.row.N 0) noted);
       rooms = inv.rooms;
-      guessed = λ h. absurd (not_open n.watch c.close-found.new.self shut' h);
+      guessed = λ o h. absurd (not_open n.watch c.close-found.new.self shut' h);
     }
 
 pub returns : goal.returns

@@ -49,7 +49,7 @@ invariant_of-self g c =
         kinds = ap (λ (x : Notes). x.kinds) k ∙ ap (λ (x : Notes). x.kinds) l ∙ inv.notes.kinds;
       };
       rooms = inv.rooms;
-      guessed = λ h. guess_kept n.phase.slot n _ _ (c.convicted-guilty.ensures.kept ∙ c.settle_claims-claims.ensures.kept) (inv.guessed h);
+      guessed = λ o h. guess_kept n.phase.slot n _ _ (c.convicted-guilty.ensures.kept ∙ c.settle_claims-claims.ensures.kept) (inv.guessed o h);
     }
 
 pub returns : goal.returns

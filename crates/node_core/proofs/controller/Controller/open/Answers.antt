@@ -59,5 +59,5 @@ invariant_of-result g c =
       kept_notes = its;
       notes = subst (AreItsNotes c.args.config.now c.args.me) (sym c.none.ensures.notes) its;
       rooms = c.in_ok-buffers.ensures;
-      guessed = λ h. absurd (let e = sym (ap (λ (x : Watch). x.is_open) w) ∙ h in cc);
+      guessed = λ o h. absurd (let e = sym (ap (λ (x : Watch). x.is_open) w) ∙ h in cc);
     }

@@ -21,5 +21,5 @@ invariant_of-self g c =
       };
       notes = inv.notes;
       rooms = inv.rooms;
-      guessed = λ h. guess_forgotten c.self.inside.phase.slot c.self.inside _ refl (inv.guessed h);
+      guessed = λ o h. guess_forgotten c.self.inside.phase.slot c.self.inside _ refl (inv.guessed o h);
     }
