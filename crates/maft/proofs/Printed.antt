@@ -1,8 +1,8 @@
 -- What is written of a period is its printed text.
-use Rattle.std.proofs.Common.{◌≡◌, ℕ, refl, ap, ◌∙◌, Result, Ok, Err}
+use Rattle.std.proofs.Common.{◌≡◌, ℕ, Bool, refl, ap, subst, ◌∙◌, Result, Ok, Err}
 use Rattle.fault_classes.specs.Plan.{Plan}
 use Rattle.scenario.specs.Scenario.{ScenarioView, system_of}
-use Rattle.cluster_step.specs.Record.{PeriodView, period_record}
+use Rattle.cluster_step.specs.Record.{PeriodView, Shows, period_record}
 use Rattle.agreed_state.specs.declared.config.Config.{Config}
 use Rattle.node_steps.specs.Outcome.{Outcome}
 use Rattle.node_steps.specs.Stages.{outcome_of}
@@ -11,19 +11,27 @@ use Rattle.node_alone.specs.Log.{RecordView}
 use Rattle.node_alone.specs.Stepping.{AloneView}
 use Rattle.node_alone.specs.View.{view_alone}
 use Rattle.maft.specs.declared.form.Form.{Form}
+use Rattle.maft.specs.declared.form.Form.TheVariants.{Replay, Trace, Check}
 use Rattle.maft.specs.declared.replay.ReplayError.{ReplayError}
 use Rattle.maft.specs.declared.replay.ReplayError.TheVariants.{WriteFault, NoMemory}
-use Rattle.maft.specs.Run.{printed, shown_text}
+use Rattle.maft.specs.Run.{has_frames, printed, shown_text}
 use Rattle.maft.specs.Alone.{log_printed}
 
 same_shown : (f form : Form) (plan q : Plan) (t u : PeriodView) → form ≡ f → plan ≡ q → t ≡ u → shown_text f plan t ≡ shown_text form q u
 same_shown f form plan q t u e g h = rw (e, g, h) refl
 
-pub printed_is : {N : ℕ} (form f : Form) (sc run : ScenarioView N) (plan : Plan) (t : PeriodView) (p : ℕ)
-    → form ≡ f → run ≡ sc → plan ≡ sc.plan → t ≡ period_record (system_of run) run.clock p → shown_text f plan t ≡ printed form sc p
+-- what a form prints of a record that shows frames where the form prints them
+shown_so : (f : Form) (plan : Plan) (t r : PeriodView) → Shows (has_frames f) t r → shown_text f plan t ≡ shown_text f plan r
+shown_so Replay plan t r h = ap (shown_text Replay plan) h
+shown_so Trace plan t r h = ap (shown_text Trace plan) h
+shown_so Check plan t r h = ap (shown_text Check plan) h
+
+pub printed_is : {N : ℕ} (form f : Form) (sc run : ScenarioView N) (plan : Plan) (frames : Bool) (t : PeriodView) (p : ℕ)
+    → form ≡ f → run ≡ sc → plan ≡ sc.plan → frames ≡ has_frames form → Shows frames t (period_record (system_of run) run.clock p) → shown_text f plan t ≡ printed form sc p
 unfolding printed
-printed_is {N} form f sc run plan t p e same g h =
-    same_shown f form plan sc.plan t (period_record (system_of sc) sc.clock p) e g (h ∙ ap (λ (s : ScenarioView N). period_record (system_of s) s.clock p) same)
+printed_is {N} form f sc run plan frames t p e same g framed h =
+    shown_so f plan t (period_record (system_of run) run.clock p) (subst (λ (b : Bool). Shows b t (period_record (system_of run) run.clock p)) (framed ∙ ap has_frames e) h)
+    ∙ same_shown f form plan sc.plan (period_record (system_of run) run.clock p) (period_record (system_of sc) sc.clock p) e g (ap (λ (s : ScenarioView N). period_record (system_of s) s.clock p) same)
 
 -- what is Ok is no error
 pub is_ok : {T E : Type 0} (x : T) (e : E) → ◌≡◌ {A = Result T E} (Ok x) (Err e) → ⊥

@@ -23,6 +23,12 @@ shown_text Replay plan t = period_text plan false t
 shown_text Trace plan t = period_text plan true t
 shown_text Check plan t = head_text t
 
+-- whether a form prints frames
+abbrev pub has_frames : Form → Bool
+has_frames Replay = false
+has_frames Trace = true
+has_frames Check = false
+
 -- the printed text of period p of a scenario's run
 unfoldable pub printed : {N : ℕ} → Form → ScenarioView N → ℕ → List ℕ
 printed form sc p = shown_text form sc.plan (period_record (system_of sc) sc.clock p)

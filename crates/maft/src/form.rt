@@ -15,6 +15,20 @@ pub enum Form {
     Check,
 }
 
+impl Form {
+    ghost use Rattle.maft.specs.Run.{has_frames};
+
+    /// Whether it prints the frames of a run.
+    pub fn has_frames(self) -> bool
+        ensures { result ≡ has_frames self }
+    {
+        match self {
+            Form::Trace => true,
+            Form::Replay | Form::Check => false,
+        }
+    }
+}
+
 /// What is read from the source, and what is done with it.
 #[derive(Clone, Copy, Debug, PartialEq, Eq)]
 pub enum Reading {

@@ -2,7 +2,7 @@
 ghost use Rattle.std.specs.Prelude.{◌≡◌, ◌+◌, ◌<◌};
 ghost use Rattle.node_grid.specs.Capacity.{IsCapacity};
 ghost use Rattle.span_io.specs.Causes.{Writes};
-ghost use Rattle.maft.specs.Run.{traced, printed, run_text, IsRun};
+ghost use Rattle.maft.specs.Run.{traced, has_frames, printed, run_text, IsRun};
 
 use crate::Form;
 use crate::laws::safe_runs;
@@ -34,6 +34,7 @@ fn write_next<const N: usize, K: Sink>(
 ) -> Result<(), WriteFault>
     requires capacity { IsCapacity N }
     requires same { cluster.old.scenario ≡ scenario.now }
+    requires frames { cluster.old.frames ≡ has_frames form }
     requires more { cluster.old.run < scenario.now.periods }
     ensures ran { cluster.new ≡ record cluster.old { run = cluster.old.run + 1 } }
     ensures wrote { Writes (K.written sink.old) (K.written sink.new) (K.faults sink.old) (K.faults sink.new)
@@ -57,7 +58,7 @@ fn write_run<const N: usize, K: Sink>(
     sink: &mut K,
 ) -> Result<(), WriteFault>
     requires capacity { IsCapacity N }
-    requires fresh { cluster.old ≡ record { scenario = scenario.now; run = 0 } }
+    requires fresh { cluster.old ≡ record { scenario = scenario.now; run = 0; frames = has_frames form } }
     requires periods { periods ≡ scenario.now.periods }
     ensures { Writes (K.written sink.old) (K.written sink.new) (K.faults sink.old) (K.faults sink.new) (run_text form scenario.now) result }
 {
@@ -83,7 +84,7 @@ fn run_and_write<const N: usize, K: Sink>(
 {
     safe_runs();
     let periods = scenario.periods();
-    let Ok(mut cluster) = Cluster::open(alloc, scenario) else {
+    let Ok(mut cluster) = Cluster::open(alloc, scenario, form.has_frames()) else {
         return Err(ReplayError::NoMemory);
     };
     let Ok(()) = write_run(scenario, &mut cluster, periods, form, sink) else {

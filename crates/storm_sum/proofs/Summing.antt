@@ -1,12 +1,13 @@
 -- One period more, and all of them.
-use Rattle.std.proofs.Common.{◌≡◌, ℕ, suc, ◌+◌, ◌-◌, ◌<◌, ◌≤◌, List, length, Option, Some, sym, ap, ◌∙◌, subst, arith}
+use Rattle.std.proofs.Common.{◌≡◌, ℕ, suc, Bool, ◌+◌, ◌-◌, ◌<◌, ◌≤◌, List, length, Option, Some, sym, ap, ◌∙◌, subst, arith}
 use Rattle.node_grid.specs.Count.{bit}
 use Rattle.node_grid.specs.ListLaws.{bit_le}
 use Rattle.clock_skew.specs.Clock.{ClockView}
 use Rattle.protocol.specs.Run.{System, members_in}
 use Rattle.scenario.specs.Scenario.{ScenarioView, system_of}
 use Rattle.run_print.specs.StormText.{StormView}
-use Rattle.cluster_step.specs.Record.{PeriodView, period_record}
+use Rattle.cluster_step.specs.Record.{PeriodView, without_frames, Shows, period_record}
+use Rattle.cluster_step.specs.RecordLaws.{shows_rest}
 use Rattle.cluster_step.proofs.Members.{reference_low}
 use Rattle.storm_sum.specs.declared.sums.Sums.{Sums}
 use Rattle.storm_sum.specs.Summary.{how_many, total, state_after, excluded, readmitted, counts_in, claim_at, excluded_at, readmitted_at, state_at, summary_of}
@@ -38,9 +39,10 @@ sums_first sys s a b d = record {
 same_period : (p q : ℕ) → p + 1 ≡ suc q → p ≡ q
 same_period p q e = omega arith
 
-pub sums_more : (sys : System) (clock : Option ClockView) (p : ℕ) (old new : Sums) (shown : PeriodView) → shown ≡ period_record sys clock p → Adds old new shown → AreSums sys p old → AreSums sys (p + 1) new
+pub sums_more : (sys : System) (clock : Option ClockView) (p : ℕ) (frames : Bool) (old new : Sums) (shown : PeriodView) → Shows frames shown (period_record sys clock p) → Adds old new shown → AreSums sys p old → AreSums sys (p + 1) new
 unfolding claim_at excluded_at readmitted_at state_at
-sums_more sys clock p old new shown is a s =
+sums_more sys clock p frames old new shown shows a s =
+    let is : without_frames shown ≡ without_frames (period_record sys clock p) = shows_rest frames shown (period_record sys clock p) shows in
     let here : bit shown.claim ≡ bit (claim_at sys p) = ap (λ (r : PeriodView). bit r.claim) is in
     let gone : excluded shown ≡ excluded_at sys p = ap excluded is in
     let back : readmitted shown ≡ readmitted_at sys p = ap readmitted is in
@@ -64,8 +66,10 @@ sums_more sys clock p old new shown is a s =
     }
 
 -- the reference node of a period is in use
-pub reference_shown : (sys : System) (clock : Option ClockView) (p : ℕ) (shown : PeriodView) → shown ≡ period_record sys clock p → (r : ℕ) → shown.reference ≡ Some r → r < shown.nodes
-reference_shown sys clock p shown is r e = subst (λ (v : PeriodView). r < v.nodes) (sym is) (reference_low sys p r (sym (ap (λ (v : PeriodView). v.reference) is) ∙ e))
+pub reference_shown : (sys : System) (clock : Option ClockView) (p : ℕ) (frames : Bool) (shown : PeriodView) → Shows frames shown (period_record sys clock p) → (r : ℕ) → shown.reference ≡ Some r → r < shown.nodes
+reference_shown sys clock p frames shown shows r e =
+    let is : without_frames shown ≡ without_frames (period_record sys clock p) = shows_rest frames shown (period_record sys clock p) shows in
+    subst (λ (v : PeriodView). r < v.nodes) (sym is) (reference_low sys p r (sym (ap (λ (v : PeriodView). v.reference) is) ∙ e))
 
 -- ---- all periods
 

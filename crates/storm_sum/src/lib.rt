@@ -19,7 +19,7 @@ use std::alloc::Global;
 fn run(alloc: Global, scenario: &Scenario<8>, seed: u64) -> Result<StormSum<8>, NoMemory>
     ensures { IfOk result (λ s. s ≡ summary_of seed scenario.now) }
 {
-    let mut cluster = Cluster::open(alloc, scenario)?;
+    let mut cluster = Cluster::open(alloc, scenario, false)?;
     let mut sums = Sums::none();
     let periods = scenario.periods();
     for _period in 0..periods {

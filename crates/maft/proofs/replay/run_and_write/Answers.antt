@@ -1,4 +1,5 @@
-use Rattle.std.proofs.Common.{inl, inr, lit<}
+use Rattle.std.proofs.Common.{◌≡◌, Bool, subst, inl, inr, lit<}
+use Rattle.cluster_step.specs.Stepped.{ClusterView}
 use Rattle.maft.proofs.Printed.{is_ok, other_error}
 use Rattle.maft.proofs.replay.run_and_write.Goals as goal
 
@@ -25,3 +26,18 @@ returns-in_default-write_run g c = record {
   write_fault = λ e. (c.in_default-write_run.ensures.prefix, c.in_default-write_run.ensures.failed);
   no_memory = λ e. absurd (other_error e);
 }
+
+pub write_run-requires : goal.write_run-requires
+write_run-requires g c = (
+  elim c.requires [ inl e ↦ rw e (lit< tt) | inr e ↦ rw e (lit< tt) ],
+  (
+    elim c.requires [ inl e ↦ rw e (lit< tt) | inr e ↦ rw e (lit< tt) ],
+    (
+      c.requires,
+      (
+        subst (λ (b : Bool). ◌≡◌ {A = ClusterView g.row.N} c.in-Ok.cluster (record { scenario = c.args.scenario.now; run = 0; frames = b })) c.has_frames.ensures c.in-Ok.ensures,
+        c.periods-periods.ensures.periods,
+      ),
+    ),
+  ),
+)

@@ -9,6 +9,7 @@ pub periods-init : goal.periods-init
 periods-init g c = record {
   run = ap (λ (s : ClusterView g.row.N). s.run) c.requires.fresh;
   scenario = ap (λ (s : ClusterView g.row.N). s.scenario) c.requires.fresh;
+  frames = ap (λ (s : ClusterView g.row.N). s.frames) c.requires.fresh;
   so_far = rw (rest-first (printed c.args.form c.args.scenario.now) c.args.scenario.now.periods) (start _ _ _);
 }
 
@@ -28,6 +29,7 @@ periods-preserved g c =
     record {
       run = ap (λ (s : ClusterView g.row.N). s.run) ran ∙ ap (λ k. k + 1) c.periods.invariant.run;
       scenario = ap (λ (s : ClusterView g.row.N). s.scenario) ran ∙ c.periods.invariant.scenario;
+      frames = ap (λ (s : ClusterView g.row.N). s.frames) ran ∙ c.periods.invariant.frames;
       so_far = more _ _ _ _ _ _ _ _ _ _ (rw (rest-next (printed c.args.form sc) sc.periods c.periods.counter below) at c.periods.invariant.so_far)
           (rw c.periods.invariant.run at c.in_ok-write_next.ensures.wrote);
     }

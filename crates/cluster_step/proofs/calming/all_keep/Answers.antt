@@ -1,0 +1,20 @@
+use Rattle.std.proofs.Common.{◌≡◌, ℕ, get_or, sym, ap, ◌∙◌, inl, inr, lit<, arith}
+use Rattle.std.proofs.lemmas.Bool.{cases_eq}
+use Rattle.std.proofs.lemmas.List.{get_or_default}
+use Rattle.node_steps.specs.Parts.{NodeView}
+use Rattle.cluster_step.proofs.calming.all_keep.Goals as goal
+
+pub keeps-requires : goal.keeps-requires
+keeps-requires g c = (elim c.requires [ inl e ↦ rw e (lit< tt) | inr e ↦ rw e (lit< tt) ], elim c.requires [ inl e ↦ rw e (lit< tt) | inr e ↦ rw e (lit< tt) ])
+
+pub loop-node-preserved : goal.loop-node-preserved
+loop-node-preserved g c = λ k d low. elim (cases_eq k c.loop-node.node-index) [
+  | inl e ↦
+      let same : get_or c.args.nodes.now k d ≡ c.node-item.result =
+      ap (λ (i : ℕ). get_or c.args.nodes.now i d) e ∙ get_or_default c.args.nodes.now c.loop-node.node-index d c.node-item.result c.loop-node-test.true ∙ sym c.node-item.is in
+      ap (λ (v : NodeView g.row.N). v.kept.state) same ∙ c.keeps.ensures c.if-not-keeps.false
+  | inr e ↦ c.loop-node.invariant k d (omega (arith, low, e))
+]
+
+pub returns : goal.returns
+returns g c = λ x k d low. c.loop-node.invariant k d (omega (arith, low, c.loop-node-test.false))

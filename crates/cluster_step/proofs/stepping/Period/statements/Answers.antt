@@ -1,0 +1,103 @@
+use Rattle.std.proofs.Common.{◌≡◌, ◌<◌, ℕ, length, get_or, set, ap, subst, sym, ◌∙◌, inl, inr, lit<, arith}
+use Rattle.std.proofs.lemmas.Bool.{cases_eq}
+use Rattle.std.proofs.lemmas.List.{get_or-set_same, get_or-set_other, length-set, length-replicate}
+use Rattle.cluster_step.specs.Calming.{IsSaid}
+use Rattle.cluster_step.proofs.Listed.{many_nodes}
+use Rattle.cluster_step.proofs.Calmed.{one_there, all_said}
+use Rattle.cluster_step.proofs.stepping.Period.statements.Goals as goal
+
+pub bounds-nodes-0 : goal.bounds-nodes-0
+bounds-nodes-0 g c =
+    let sc = c.args.self.now.scenario.now in
+    let many = many_nodes sc c.requires.before.room c.args.self.now.number c.args.nodes.now c.requires.before.before in
+    let some = c.requires.calm.scenario.system.config.some_nodes in
+    omega (arith, many, some)
+
+pub statement-statements-requires : goal.statement-statements-requires
+statement-statements-requires g c =
+    let sc = c.args.self.now.scenario.now in
+    let some = c.requires.calm.scenario.system.config.some_nodes in (
+      lit< tt,
+      (
+        elim c.requires.capacity [ inl e ↦ rw e (lit< tt) | inr e ↦ rw e (lit< tt) ],
+        (
+          elim c.requires.capacity [ inl e ↦ rw e (lit< tt) | inr e ↦ rw e (lit< tt) ],
+          (
+            elim c.requires.capacity [ inl e ↦ rw e (lit< tt) | inr e ↦ rw e (lit< tt) ],
+            (c.requires.capacity, ((one_there sc c.args.self.now.number c.args.nodes.now c.requires.before 0 c.index-nodes-0.result (omega (arith, some)) c.index-nodes-0.is).1, c.requires.calm)),
+          ),
+        ),
+      ),
+    )
+
+pub loop-i-init : goal.loop-i-init
+loop-i-init g c = (length-replicate g.row.N c.statement-statements.result, λ k d low. absurd (omega (arith, low)))
+
+pub statement-requires : goal.statement-requires
+statement-requires g c =
+    let sc = c.args.self.now.scenario.now in
+    let many = many_nodes sc c.requires.before.room c.args.self.now.number c.args.nodes.now c.requires.before.before in (
+      lit< tt,
+      (
+        elim c.requires.capacity [ inl e ↦ rw e (lit< tt) | inr e ↦ rw e (lit< tt) ],
+        (
+          elim c.requires.capacity [ inl e ↦ rw e (lit< tt) | inr e ↦ rw e (lit< tt) ],
+          (
+            elim c.requires.capacity [ inl e ↦ rw e (lit< tt) | inr e ↦ rw e (lit< tt) ],
+            (c.requires.capacity, ((one_there sc c.args.self.now.number c.args.nodes.now c.requires.before c.loop-i.i c.index-nodes-i.result (omega (arith, many, c.loop-i-test.true)) c.index-nodes-i.is).1, c.requires.calm)),
+          ),
+        ),
+      ),
+    )
+
+pub listed : goal.listed
+listed g c =
+    let sc = c.args.self.now.scenario.now in
+    let many = many_nodes sc c.requires.before.room c.args.self.now.number c.args.nodes.now c.requires.before.before in
+    let few = c.requires.calm.scenario.system.config.few_nodes in
+    let long = c.loop-i.invariant.0 in
+    omega (arith, many, few, long, c.loop-i-test.true)
+
+pub bounds-statements-i : goal.bounds-statements-i
+bounds-statements-i g c =
+    let sc = c.args.self.now.scenario.now in
+    let many = many_nodes sc c.requires.before.room c.args.self.now.number c.args.nodes.now c.requires.before.before in
+    let few = c.requires.calm.scenario.system.config.few_nodes in
+    omega (arith, many, few, c.loop-i-test.true)
+
+pub loop-i-preserved : goal.loop-i-preserved
+loop-i-preserved g c =
+    let sc = c.args.self.now.scenario.now in
+    let many = many_nodes sc c.requires.before.room c.args.self.now.number c.args.nodes.now c.requires.before.before in
+    let few = c.requires.calm.scenario.system.config.few_nodes in
+    let long = c.loop-i.invariant.0 in
+    let me : c.index-nodes-i.result.phase.me ≡ c.loop-i.i = (one_there sc c.args.self.now.number c.args.nodes.now c.requires.before c.loop-i.i c.index-nodes-i.result (omega (arith, many, c.loop-i-test.true)) c.index-nodes-i.is).0 in (
+      length-set c.loop-i.statements c.loop-i.i c.statement.result ∙ long,
+      λ k d low. elim (cases_eq k c.loop-i.i) [
+        | inl e ↦
+            let at : get_or (set c.loop-i.statements c.loop-i.i c.statement.result) k d ≡ c.statement.result =
+            ap (λ (j : ℕ). get_or (set c.loop-i.statements c.loop-i.i c.statement.result) j d) e ∙ get_or-set_same c.loop-i.statements c.loop-i.i c.statement.result d (omega (arith, many, few, long, c.loop-i-test.true)) in
+            subst (IsSaid sc c.args.self.now.number c.args.state.now k) (sym at) (subst (λ (j : ℕ). IsSaid sc c.args.self.now.number c.args.state.now j c.statement.result) (me ∙ sym e) c.statement.ensures)
+        | inr e ↦
+            subst (IsSaid sc c.args.self.now.number c.args.state.now k) (sym (get_or-set_other c.loop-i.statements c.loop-i.i k c.statement.result d e)) (c.loop-i.invariant.1 k d (omega (arith, low, e)))
+      ],
+    )
+
+pub returns : goal.returns
+returns g c =
+    let sc = c.args.self.now.scenario.now in
+    let many = many_nodes sc c.requires.before.room c.args.self.now.number c.args.nodes.now c.requires.before.before in
+    let few = c.requires.calm.scenario.system.config.few_nodes in
+    let long = c.loop-i.invariant.0 in
+    all_said sc c.args.self.now.number c.args.state.now (length c.args.nodes.now) c.loop-i.statements many (omega (arith, many, few, long))
+    (λ k d low. c.loop-i.invariant.1 k d (omega (arith, low, c.loop-i-test.false)))
+
+pub offset_bounds-statements-i : goal.offset_bounds-statements-i
+offset_bounds-statements-i g c =
+    let sc = c.args.self.now.scenario.now in
+    let many = many_nodes sc c.requires.before.room c.args.self.now.number c.args.nodes.now c.requires.before.before in
+    let few = c.requires.calm.scenario.system.config.few_nodes in
+    elim c.requires.capacity [
+      | inl e ↦ rw e (let low : c.loop-i.i < 8 = omega (arith, e, many, few, c.loop-i-test.true) in omega arith)
+      | inr e ↦ rw e (let low : c.loop-i.i < 16 = omega (arith, e, many, few, c.loop-i-test.true) in omega arith)
+    ]

@@ -1,0 +1,38 @@
+-- A calm period of all nodes of a scenario.
+use Rattle.std.specs.Prelude.{◌≡◌, ◌<◌, ℕ, true, false, List}
+use Rattle.fault_classes.specs.Plan.{Plan, restarts_at, is_clean}
+use Rattle.agreed_state.specs.Agreed.{AgreedView, IsAgreed}
+use Rattle.calm_period.specs.declared.statement.Statement.{Statement}
+use Rattle.calm_period.specs.Made.{said_of, said_by, AreNotesOf, AreStatements}
+use Rattle.calm_law.specs.Law.{IsCalm, said_in}
+use Rattle.node_steps.specs.Parts.{NodeView}
+use Rattle.scenario.specs.Scenario.{ScenarioView, system_of, IsScenario}
+use Rattle.cluster_step.specs.Periods.{IsBefore}
+
+-- no line touches a frame of a node in use, and none of them restarts
+pub record IsUntouched (plan : Plan) (p : ℕ) : Type 0 where
+  pub clean : (j : ℕ) → j < plan.nodes → is_clean plan p j ≡ true
+  pub stays : (j : ℕ) → j < plan.nodes → restarts_at plan j p ≡ false
+
+-- all nodes go into period p with this state, and the period is calm
+pub record IsCalmWith {N : ℕ} (sc : ScenarioView N) (p : ℕ) (a : AgreedView) : Type 0 where
+  pub scenario : IsScenario sc
+  pub untouched : IsUntouched sc.plan p
+  pub calm : IsCalm (system_of sc) p a
+  pub agreed : IsAgreed N sc.config a
+
+-- one of the nodes before period p of the scenario's run
+pub record IsOneOf {N : ℕ} (sc : ScenarioView N) (p : ℕ) (v : NodeView N) : Type 0 where
+  pub room : ℕ
+  pub low : v.phase.me < sc.config.nodes
+  pub before : IsBefore sc room v.phase.me p v
+
+-- a statement of what node i says in period p, into which it goes with state a
+pub record IsSaid {N : ℕ} (sc : ScenarioView N) (p : ℕ) (a : AgreedView) (i : ℕ) (x : Statement N) : Type 0 where
+  pub says : said_of x ≡ said_in (system_of sc) p a i
+  pub notes : AreNotesOf sc.config i x.notes
+
+-- statements of what all nodes say in period p, into which they go with state a
+pub record AreSaid {N : ℕ} (sc : ScenarioView N) (p : ℕ) (a : AgreedView) (xs : List (Statement N)) : Type 0 where
+  pub are : AreStatements sc.config xs
+  pub said : (j : ℕ) → j < sc.config.nodes → said_by xs j ≡ said_in (system_of sc) p a j
