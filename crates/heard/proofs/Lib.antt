@@ -2,6 +2,7 @@ mod Counts
 mod SetLaws
 mod Backing
 mod OneReceiverLaws
+mod Echoers
 mod EchoLaws
 mod Readings
 mod Members

@@ -13,7 +13,7 @@ ghost use Rattle.omh.specs.Omh.{settled_from};
 ghost use Rattle.equivocation.specs.Conviction.{convicts};
 ghost use Rattle.omh.specs.Heard.{ear_of, heard_in, heard_paths, nothing_heard, with_heard};
 ghost use Rattle.heard.specs.Keep.{IsSmall, wrapped_times, IsSize, AreNodes};
-ghost use Rattle.heard.specs.Passing.{IsAllExpected};
+ghost use Rattle.heard.specs.Passing.{IsAllExpected, IsEchoing};
 ghost use Rattle.heard.specs.Seen.{with_frame, with_written, with_echoes, TakesUp};
 ghost use Rattle.heard.specs.Seen.{SaysExpected, SaysEcho};
 
@@ -351,12 +351,23 @@ impl<V: Value, const N: usize> Heard<V, N> {
     /// of up to `r` of the others what was heard of its first node, wrapped by each relay. False
     /// may be said where it is, too.
     pub fn relays_expected(&self, r: u8) -> bool
-        ensures { result ≡ true → (s : ℕ) → 0 < s → s ≤ r → IsAllExpected self.now s }
+        ensures yes { result ≡ true → (s : ℕ) → 0 < s → s ≤ r → IsAllExpected self.now s }
+        ensures no { result ≡ false → 1 < r }
     {
         if r <= 1 {
             return true;
         }
         self.store.are_as_expected(r - 1)
+    }
+
+    /// Members whose frames of relay round `r` are known to say what the node itself passes on:
+    /// what was heard for a path that ends in one of them is what was heard for the path before it,
+    /// wrapped. Not all of which this holds are told.
+    pub fn echoing(&self, r: u8) -> NodeSet<N>
+        requires round { (0 < r) × (r ≤ self.now.rounds) }
+        ensures { (q : ℕ) → has_id result q ≡ true → IsEchoing self.now r q }
+    {
+        self.store.echoing(r)
     }
 
     /// What was heard of a node itself, after `r` relays passed it on; the error of all but the

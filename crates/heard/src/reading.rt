@@ -1,13 +1,14 @@
 //! What was heard for a path.
 
-ghost use Rattle.std.specs.Prelude.{◌≡◌, ◌+◌, ◌-◌, ◌≤◌, true, false, length};
-ghost use Rattle.node_grid.specs.NodeSet.{without_id};
-ghost use Rattle.heard.specs.Keep.{kept, IsSmall, IsMemberPath, IsOwnPath, IsFrameOf};
-ghost use Rattle.heard.specs.Passing.{AreExpected};
+ghost use Rattle.std.specs.Prelude.{ℕ, ◌≡◌, ◌+◌, ◌-◌, ◌≤◌, true, false, length};
+ghost use Rattle.node_grid.specs.NodeSet.{has_id, without_id};
+ghost use Rattle.heard.specs.Keep.{kept, IsSmall, IsMemberPath, IsOwnPath, IsFrameOf, IsRound};
+ghost use Rattle.heard.specs.Passing.{AreExpected, AreEchoesOf};
 
 use crate::frame::Frame;
 use crate::store::Store;
 use crate::value::Value;
+use node_grid::NodeSet;
 use omh_paths::{Path, Wrapped};
 
 impl<V: Value, const N: usize> Store<V, N> {
@@ -86,5 +87,19 @@ impl<V: Value, const N: usize> Store<V, N> {
             }
         }
         self.agrees()
+    }
+
+    /// Members whose frames of relay round `r` are known to say what the node itself passes on.
+    pub fn echoing(&self, r: u8) -> NodeSet<N>
+        requires { IsRound self.now r }
+        ensures { (q : ℕ) → has_id result q ≡ true → AreEchoesOf self.now r q }
+    {
+        if self.are_as_expected(r - 1) {
+            return self.as_expected[r as usize];
+        }
+        if r == 1 {
+            return NodeSet::empty();
+        }
+        self.echoes[r as usize].minus(&self.as_expected[r as usize])
     }
 }

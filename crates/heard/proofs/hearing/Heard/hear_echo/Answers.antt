@@ -19,7 +19,7 @@ returns-then-r-eq1-clause-is g c e values count told =
 pub returns-then-relays_expected-clause-is : goal.returns-then-relays_expected-clause-is
 returns-then-relays_expected-clause-is g c e values count told =
     let come = relay_frame c.self.invariant c.self.view_is c.args.q c.args.r (c.hears_relays.ensures (grind (arith, c.if-not-hears_relays.false))) in
-    let all = c.relays_expected.ensures c.if-relays_expected.true c.args.r come.1.0 (omega arith) in
+    let all = c.relays_expected.ensures.yes c.if-relays_expected.true c.args.r come.1.0 (omega arith) in
     c.hear_expected-then-relays_expected.ensures.is e values count (echo_expected c.self.invariant c.self.view_is c.args.q c.args.r values come.0 come.1.0 all count told)
 
 pub invariant_of-self : goal.invariant_of-self

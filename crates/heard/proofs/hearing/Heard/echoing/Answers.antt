@@ -1,0 +1,5 @@
+use Rattle.heard.proofs.Echoers.{echo_seen}
+use Rattle.heard.proofs.hearing.Heard.echoing.Goals as goal
+
+pub returns : goal.returns
+returns g c = λ q on. echo_seen c.self.invariant c.self.view_is c.args.r q c.requires.round.0 c.requires.round.1 (c.echoing.ensures q on)
