@@ -3,6 +3,7 @@ pub mod Lengths
 pub mod Entries
 pub mod Expected
 pub mod Tables
+pub mod Rows
 pub mod Marks
 pub mod Steps
 pub mod Guesses

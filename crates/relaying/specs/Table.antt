@@ -1,10 +1,10 @@
 -- The table of a relay round: what is passed on of each path of the members.
-use Rattle.std.specs.Prelude.{ℕ, zero, suc, ◌≡◌, ◌<◌, ◌≤◌, ◌*◌, ◌==◌, All, length, List, [], ◌∷◌, map, take, if◌then◌else◌}
+use Rattle.std.specs.Prelude.{ℕ, zero, suc, ◌≡◌, ◌<◌, ◌≤◌, ◌+◌, ◌*◌, ◌==◌, true, All, length, List, [], ◌∷◌, ◌++◌, map, take, if◌then◌else◌}
 use Rattle.node_grid.specs.NodeSet.{has_id}
 use Rattle.omh_paths.specs.declared.wrapped.Wrapped.{Wrapped}
 use Rattle.omh_paths.specs.declared.wrapped.Wrapped.TheVariants.{Fault}
 use Rattle.omh_paths.specs.Wrapped.{wrapped}
-use Rattle.omh_paths.specs.Paths.{paths_of_length, path_count}
+use Rattle.omh_paths.specs.Paths.{paths_of_length, path_count, IsListed}
 use Rattle.omh.specs.Heard.{Hearing, heard_in}
 use Rattle.heard.specs.Keep.{IsSmall, wrapped_times}
 
@@ -21,6 +21,17 @@ own_told h = if h.full then h.own else Fault 0
 -- what is passed on of the paths of r of these members, in lexicographic order
 abbrev pub passed_of : {V : Type 0} → Hearing V → List ℕ → ℕ → List (Wrapped V)
 passed_of h set r = map (passed (own_told h) h r) (paths_of_length set r)
+
+-- what is passed on of the path that goes on from a path with one more node, and of those that do so with one of these
+abbrev pub passed_after : {V : Type 0} → Hearing V → List ℕ → ℕ → Wrapped V
+passed_after h front q = passed (own_told h) h (suc (length front)) (front ++ q ∷ [])
+
+abbrev pub passed_behind : {V : Type 0} → Hearing V → List ℕ → List ℕ → List (Wrapped V)
+passed_behind h front rest = map (passed_after h front) rest
+
+-- node q passes on of each path of so many relays that ends in it what the node itself passes on of the path before q
+abbrev pub IsRepeating : {V : Type 0} → Hearing V → ℕ → ℕ → Type 0
+IsRepeating h relays q = (front : List ℕ) → IsListed h.members (relays + 1) (front ++ q ∷ []) → passed (own_told h) h (suc relays) (front ++ q ∷ []) ≡ wrapped (passed (own_told h) h relays front)
 
 -- and of those of all members
 abbrev pub table : {V : Type 0} → Hearing V → ℕ → List (Wrapped V)
@@ -43,3 +54,14 @@ pub record CanWrite {V : Type 0} (width : ℕ) (spell : Wrapped V → List ℕ) 
   pub small : (p : List ℕ) → length p ≤ 4 → IsSmall 6 (heard_in h.heard p)
   pub wide : All (λ w. length (spell w) ≡ width) (passed_of h set r)
   pub room : width * path_count (length set) r ≤ size
+
+-- and those of the paths that go on from a path with one of these nodes, from entry `from` on
+pub record CanWriteRow {V : Type 0} (width : ℕ) (spell : Wrapped V → List ℕ) (h : Hearing V) (front rest : List ℕ) (from size : ℕ) : Type 0 where
+  pub some : 0 < length front
+  pub short : length front ≤ 2
+  pub paths : (q : ℕ) → has_id rest q ≡ true → IsListed h.members (length front + 1) (front ++ q ∷ [])
+  pub own : IsSmall 3 (own_told h)
+  pub small : (p : List ℕ) → length p ≤ 4 → IsSmall 6 (heard_in h.heard p)
+  pub wide : All (λ w. length (spell w) ≡ width) (passed_behind h front rest)
+  pub few : from + length rest ≤ 65536
+  pub room : width * (from + length rest) ≤ size

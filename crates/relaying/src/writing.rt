@@ -13,12 +13,14 @@ ghost use Rattle.heard.specs.Keep.{IsSmall, wrapped_times};
 ghost use Rattle.heard.specs.Passing.{IsAllExpected};
 ghost use Rattle.frames.specs.Filling.{repeated};
 ghost use Rattle.frames.specs.Writing.{pasted};
-ghost use Rattle.relaying.specs.Table.{own_told, passed, passed_of, root_of, roots_of, CanWrite};
+ghost use Rattle.relaying.specs.Table.{own_told, passed, passed_of, passed_behind, root_of};
+ghost use Rattle.relaying.specs.Table.{roots_of, CanWrite, CanWriteRow, IsRepeating};
 
 use crate::item::Item;
 use frames::fill_entries;
 use heard::Heard;
 use node_grid::NodeSet;
+use omh::outside;
 use omh_paths::{Path, Wrapped, count_paths, unrank};
 
 /// What is passed on of a path, where `before` is what is passed on of the path without its last
@@ -59,6 +61,62 @@ fn passed_on<V: Item<N>, const N: usize>(heard: &Heard<V, N>, path: &Path) -> Wr
     value
 }
 
+/// The nodes of which it is known that they pass on, after so many relays, what the node itself
+/// passes on: itself, and those whose frames say so.
+fn repeating<V: Item<N>, const N: usize>(heard: &Heard<V, N>, relays: u8) -> NodeSet<N>
+    requires round { (0 < relays) × (relays ≤ heard.now.rounds) }
+    ensures { (q : ℕ) → has_id result q ≡ true → IsRepeating heard.now relays q }
+{
+    let mut nodes = heard.echoing(relays);
+    nodes.put(heard.me());
+    nodes
+}
+
+/// Writes bytes from a place on.
+fn paste(out: &mut [u8], at: usize, bytes: &[u8])
+    requires { at + length bytes.now ≤ length out.old }
+    ensures { out.new ≡ pasted at bytes.now out.old }
+{
+    out[at..at + bytes.len()].copy_from_slice(bytes);
+}
+
+/// Writes what is passed on of the paths that go on from this one with one of these nodes, as
+/// entries from entry `from` on. Of the nodes that pass on the same it is one entry.
+fn write_row<V: Item<N>, const N: usize>(
+    heard: &Heard<V, N>,
+    front: &Path,
+    rest: &NodeSet<N>,
+    same: &NodeSet<N>,
+    from: usize,
+    out: &mut [u8],
+)
+    requires can { CanWriteRow (V.width heard.now.nodes) (V.spelling heard.now.nodes)
+        heard.now front.now rest.now from (length out.old) }
+    requires same { (q : ℕ) → has_id same.now q ≡ true → IsRepeating heard.now (length front.now) q }
+    ensures { out.new ≡ pasted (V.width heard.now.nodes * from)
+        (flat_map (V.spelling heard.now.nodes) (passed_behind heard.now front.now rest.now)) out.old }
+{
+    let nodes = heard.nodes();
+    let width = V::entry_width(nodes);
+    let before = passed_on(heard, front);
+    let mut entry = [0; 33];
+    V::put(&mut entry, nodes, 0, &before.wrap());
+    let mut k = from;
+    for node in rest.iter() {
+        if same.has(node) {
+            paste(out, width * k, &entry[..width]);
+        } else {
+            V::put(
+                out,
+                nodes,
+                k,
+                &passed_next(heard, before, &front.then(node)),
+            );
+        }
+        k += 1;
+    }
+}
+
 /// Writes what is passed on of the paths of `round` of these members, path by path.
 fn write_each<V: Item<N>, const N: usize>(
     heard: &Heard<V, N>,
@@ -66,15 +124,21 @@ fn write_each<V: Item<N>, const N: usize>(
     round: u8,
     out: &mut [u8],
 )
+    requires within { (q : ℕ) → has_id set.now q ≡ true → has_id heard.now.members q ≡ true }
+    requires round { round ≤ heard.now.rounds }
+    requires relayed { 1 < round }
     requires can { CanWrite (V.width heard.now.nodes) (V.spelling heard.now.nodes)
         heard.now set.now round (length out.old) }
     ensures { out.new ≡ pasted 0
         (flat_map (V.spelling heard.now.nodes) (passed_of heard.now set.now round)) out.old }
 {
-    let nodes = heard.nodes();
-    for k in 0..count_paths(set.len(), round) {
-        let path = unrank(set, round, k);
-        V::put(out, nodes, k, &passed_on(heard, &path));
+    // its clause bounds the capacity
+    let _nodes = heard.nodes();
+    let same = repeating(heard, round - 1);
+    let each = (set.len() + 1).saturating_sub(round) as usize;
+    for i in 0..count_paths(set.len(), round - 1) {
+        let front = unrank(set, round - 1, i);
+        write_row(heard, &front, &outside(set, &front), &same, i * each, out);
     }
 }
 
