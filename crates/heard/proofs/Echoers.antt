@@ -1,6 +1,6 @@
 -- Frames that say what the node itself passes on.
 use Rattle.std.proofs.Common.{ℕ, zero, suc, ◌≡◌, ◌<◌, ◌≤◌, ◌+◌, ◌-◌, ◌==◌, ◌&&◌, Bool, true, false, not, List, [], ◌∷◌, ◌++◌, length, take, get_or, sym, ap, ap₂, subst, ◌∙◌, inl, inr, arith, eqb-true}
-use Rattle.std.proofs.lemmas.Bool.{cases_eq, and_parts, not-true}
+use Rattle.std.proofs.lemmas.Bool.{cases_eq, both_ways, and_parts, not-true}
 use Rattle.std.proofs.lemmas.List.{get_or_append_left, length_push, take-append-le, take_all}
 use Rattle.std.proofs.lemmas.Map.Views.{any-filter_same}
 use Rattle.std.proofs.Math.Seq.{get_or-append_seam}
@@ -9,13 +9,16 @@ use Rattle.node_grid.specs.Count.{Distinct}
 use Rattle.omh_paths.specs.declared.wrapped.Wrapped.{Wrapped}
 use Rattle.omh_paths.specs.Wrapped.{wrapped}
 use Rattle.omh_paths.specs.Paths.{IsListed}
-use Rattle.omh_paths.specs.PathLists.{has-of-without}
+use Rattle.omh_paths.specs.PathLists.{has-without, has-of-without}
+use Rattle.omh_paths.specs.PathLaws.{Distinct-push}
 use Rattle.omh.specs.Heard.{Hearing}
-use Rattle.heard.specs.Keep.{Parts, relayed, root, base, set_at, first_node, wrapped_times}
+use Rattle.heard.specs.Keep.{Parts, relayed, root, base, set_at, first_node, wrapped_times, kept_ear}
 use Rattle.heard.specs.Passing.{AreExpected, AreEchoesOf, IsEchoing}
+use Rattle.heard.specs.Echo.{IsEchoBut}
 use Rattle.heard.specs.Places.{on-at, front-listed}
 use Rattle.heard.specs.Seen.{hearing_of, IsKept}
 use Rattle.heard.proofs.Readings.{kept_root, kept_relayed, relayed_clean, relayed_echo}
+use Rattle.heard.proofs.Members.{has_minus, push_within}
 use Rattle.heard.proofs.PassingLaws.{real, at_path}
 
 -- the nodes of a path that ends in q
@@ -88,3 +91,21 @@ in_minus these those q on =
     any-filter_same (λ y. y == q) (λ j. not (has_id those j)) (not (has_id those q)) (λ j e. ap (λ (n : ℕ). not (has_id those n)) (eqb-true j q e)) these in
     let parts = and_parts (not (has_id those q)) (has_id these q) (sym is ∙ on) in
     (parts.1, not-true (has_id those q) parts.0)
+
+-- ---- members that pass on what the node itself heard
+
+module _ {V : Type 0} (p : Parts V) where
+  pub echo_but : (least : ℕ) (doubted : List ℕ) → ((q r : ℕ) → has_id p.members q ≡ true → has_id doubted q ≡ false → least ≤ r → r ≤ p.rounds → AreEchoesOf p r q) → IsEchoBut (kept_ear p) least doubted
+  echo_but least doubted echoes = record {
+    says = λ front q real away above room on off ne good.
+        let inside : (x : ℕ) → has_id front x ≡ true → has_id (without_id p.members p.me) x ≡ true =
+        λ x here. has-without p.members p.me x (λ e. both_ways _ away (ap (has_id front) (sym e) ∙ here)) (real.within x here) in
+        echoes q (length front) on good above room front (record {
+          distinct = Distinct-push front q real.distinct off;
+          within = push_within (without_id p.members p.me) front (front ++ q ∷ []) q inside (has-without p.members p.me q ne on) (λ i. front ++ q ∷ []);
+          long = length_push front q;
+        });
+  }
+
+pub not_left : (s t : List ℕ) (q : ℕ) → has_id s q ≡ true → has_id (minus_of s t) q ≡ false → has_id t q ≡ true
+not_left s t q on off = has_minus s t q on off

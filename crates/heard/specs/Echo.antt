@@ -17,6 +17,14 @@ IsBackedAt x path doubted =
     length (outside x.members path) + (x.rounds + 1 - length path)
     ≤ 2 * (length (outside (outside x.members path) (x.me ∷ doubted)) + bit (has_id (outside x.members path) x.me && x.full)) + bit (has_id (outside x.members path) x.me && not x.full)
 
+-- so many of these members pass on, of paths of `least` nodes or more, what the node itself heard that they outvote all others in each majority
+pub record AreEchoing {V : Type 0} (x : Ear V) (least : ℕ) (others : List ℕ) : Type 0 where
+  pub doubted : List ℕ
+  pub echo : IsEchoBut x least doubted
+  pub backed :
+      length others + (x.rounds + 1 - least)
+      ≤ 2 * (length (outside others (x.me ∷ doubted)) + bit (has_id others x.me && x.full)) + bit (has_id others x.me && not x.full)
+
 -- Law of echoes: what the node heard for a path, it settles
 abbrev pub EchoLaw : {V : Type 0} → (V → V → Bool) → Type 0
 EchoLaw {V} eq =

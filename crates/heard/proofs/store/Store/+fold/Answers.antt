@@ -4,7 +4,7 @@ use Rattle.node_grid.specs.NodeSet.{has_id}
 use Rattle.omh_paths.specs.Paths.{outside}
 use Rattle.omh_paths.specs.PathLists.{has-at}
 use Rattle.omh_paths.specs.PathLaws.{off_from}
-use Rattle.omh_paths.specs.MemberLaws.{few_ids}
+use Rattle.omh_paths.specs.MemberLaws.{few_ids, Distinct-ids}
 use Rattle.omh_paths.specs.MajorityLaws.{majority_sound}
 use Rattle.std.specs.Prelude.{if◌then◌else◌}
 use Rattle.omh_paths.specs.declared.wrapped.Wrapped.TheVariants.{Fault}
@@ -12,6 +12,8 @@ use Rattle.omh_paths.specs.Wrapped.{wrapped}
 use Rattle.omh.specs.Omh.{settled_at}
 use Rattle.heard.specs.Keep.{IsStored, kept_ear}
 use Rattle.heard.specs.Doubts.{term_in}
+use Rattle.heard.specs.Echo.{AreEchoing}
+use Rattle.heard.proofs.EchoLaws.{echo_law}
 use Rattle.heard.proofs.Members.{has_outside, push_within}
 use Rattle.heard.proofs.Folds.{fold_end, fold_later, term_me, term_other, terms_more}
 use Rattle.heard.proofs.store.Store.+fold.Goals.{then-q-self, else-q-self}
@@ -34,6 +36,19 @@ outside-others-requires g t c =
     let h : IsStored g.row.N k = subst (IsStored g.row.N) v c.self.invariant in
     let path = c.args.path.now in
     (omega arith, λ q on. let l = h.low q (c.requires.path.within q on) in let n = h.nodes_ok in omega arith)
+
+pub returns-then-is_echoed : goal.returns-then-is_echoed
+returns-then-is_echoed g t c =
+    let k = c.args.self.now in
+    let v = c.self.view_is in
+    let h : IsStored g.row.N k = subst (IsStored g.row.N) v c.self.invariant in
+    let path = c.args.path.now in
+    let count : c.len-2.result ≡ length path = c.len-2.ensures.count in
+    let o : c.outside-others.result ≡ outside k.members path = c.outside-others.ensures ∙ ap (λ x. outside x.members path) v in
+    let e : AreEchoing (kept_ear k) (length path) (outside k.members path) = subst (λ n. AreEchoing (kept_ear k) n (outside k.members path)) count (subst (AreEchoing (kept_ear k) c.len-2.result) o (c.is_echoed.ensures c.if-is_echoed.true)) in
+    c.at-heard.ensures.kept
+    ∙ sym (echo_law g.V.PartialEq.eq g.met.V.Value.exact (kept_ear k) path e.doubted (Distinct-ids g.row.N k.members h.members_ok)
+    (record { distinct = c.len.ensures.distinct; within = c.requires.path.within; short = c.requires.path.short }) c.requires.path.other e.echo e.backed)
 
 pub then-requires-clause-off : goal.then-requires-clause-off
 then-requires-clause-off g t c =
