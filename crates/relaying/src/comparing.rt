@@ -21,7 +21,7 @@ use crate::item::Item;
 use crate::runs::has_shape;
 use crate::sent::{Entries, Sent};
 use error_detect::{Form, GuessedBytes, SlotWatch};
-use frames::{Expect, HEADER, Head, Runs, has_firsts, header};
+use frames::{Expect, HEADER, Head, Runs, has_firsts};
 use node_grid::{NodeSet, Row};
 use omh_paths::count_paths;
 use slot_plan::Slot;
@@ -359,7 +359,7 @@ pub(crate) fn is_header(front: &[u8], head: Head, kind: u8, size: usize) -> bool
     requires { size < 2 ^ 32 }
     ensures { Decides result (front.now ≡ header_spelling head kind size) }
 {
-    is_same(front, &header(head, kind, size as u32))
+    frames::is_header(front, head, kind, size as u32)
 }
 
 /// Whether a frame is the one that its sender is guessed to send in the open slot. No entry of it
