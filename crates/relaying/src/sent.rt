@@ -39,7 +39,8 @@ impl<'a> Model for Sent<'a> {
 
     ghost view = { λ s. s.bytes.now };
 
-    ghost invariant = { λ s. IfSome s.header (λ h. BeginsWith h.head h.kind s.bytes.now) × IfSome s.runs (AreRuns (drop 14 s.bytes.now)) };
+    ghost invariant = { λ s. IfSome s.header (λ h. BeginsWith h.head h.kind s.bytes.now)
+        × IfSome s.runs (AreRuns (drop 14 s.bytes.now)) };
 }
 
 /// The bytes of a body, and what is known of its runs.
