@@ -3,3 +3,4 @@ pub mod Bounds
 pub mod Words
 pub mod Relays
 pub mod Repeats
+pub mod Headers

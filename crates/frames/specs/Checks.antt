@@ -1,12 +1,21 @@
 -- Tests on pieces of a body, each by the bytes alone.
-use Rattle.std.specs.Prelude.{◌≡◌, ◌⊎◌, ◌+◌, ◌*◌, length, ℕ, Bool, ◌&&◌, ◌||◌, ◌==◌, nat_le, nat_lt, List, drop, slice_index, if◌then◌else◌}
+use Rattle.std.specs.Prelude.{◌≡◌, ◌⊎◌, ◌+◌, ◌*◌, length, ℕ, Bool, ◌&&◌, ◌||◌, ◌==◌, nat_le, nat_lt, List, take, drop, slice_index, if◌then◌else◌}
 use Rattle.std.specs.List.{list_all}
-use Rattle.std.specs.Int.{w16, from_be_bytes}
+use Rattle.std.specs.Int.{w16, w32, from_be_bytes, to_be_bytes}
+use Rattle.std.specs.Str.{bytes_eq}
 use Rattle.node_grid.specs.Version.{mask_bound}
 use Rattle.frames.specs.Content.{Expectation, Content, kind, kind_in, round_in, entries_due, IsSized}
+use Rattle.frames.specs.declared.frame.Head.{Head}
 use Rattle.frames.specs.FrameKinds.{cold_kind}
 use Rattle.frames.specs.Spelling.{body_spelling}
 use Rattle.frames.specs.Reading.{cut, value_in, fits_claim, fits_value}
+
+-- bytes whose fields are those of a header
+abbrev pub has_fields : Head → ℕ → ℕ → List ℕ → Bool
+has_fields head k size bytes =
+    (length bytes == 14) && ((slice_index bytes 0 == 77) && ((slice_index bytes 1 == 70) && ((slice_index bytes 2 == head.version) && ((slice_index bytes 3 == k)
+    && (bytes_eq (take 4 (drop 4 bytes)) (to_be_bytes w32 head.period) && ((slice_index bytes 8 == head.sender) && ((slice_index bytes 9 == head.slot)
+    && bytes_eq (take 4 (drop 10 bytes)) (to_be_bytes w32 size))))))))
 
 -- two bytes that are an entry of a relayed claim
 abbrev pub is_claim_entry : ℕ → ℕ → List ℕ → Bool

@@ -26,20 +26,26 @@ use Rattle.frames.specs.EntryLaws.{claim_format, claim_fits, claim_valid, value_
 
 -- ---- the header
 
-glued : (n m : ℕ) (bytes xs ys : List ℕ) → take n bytes ≡ xs → take m (drop n bytes) ≡ ys → take (n + m) bytes ≡ xs ++ ys
+pub glued : (n m : ℕ) (bytes xs ys : List ℕ) → take n bytes ≡ xs → take m (drop n bytes) ≡ ys → take (n + m) bytes ≡ xs ++ ys
 glued n m bytes xs ys h k =
     sym (take-append-drop n (take (n + m) bytes))
     ∙ ap (λ l. l ++ drop n (take (n + m) bytes)) (take-take n (n + m) bytes (omega arith) ∙ h)
     ∙ ap (λ l. xs ++ l) (drop-take n m bytes ∙ k)
 
+-- a header is its fields, one after another
+pub header_fields : (head : Head) (k size : ℕ) (bytes : List ℕ) → take 2 bytes ≡ 77 ∷ 70 ∷ [] → take 1 (drop 2 bytes) ≡ head.version ∷ [] → take 1 (drop 3 bytes) ≡ k ∷ []
+    → take 4 (drop 4 bytes) ≡ to_be_bytes w32 head.period → take 1 (drop 8 bytes) ≡ head.sender ∷ [] → take 1 (drop 9 bytes) ≡ head.slot ∷ []
+    → take 4 (drop 10 bytes) ≡ to_be_bytes w32 size → take 14 bytes ≡ header_spelling head k size
+header_fields head k size bytes magic version kind_byte period sender slot length_field =
+    let t3 : take 3 bytes ≡ 77 ∷ 70 ∷ head.version ∷ [] = glued 2 1 bytes (77 ∷ 70 ∷ []) (head.version ∷ []) magic version in
+    let t4 : take 4 bytes ≡ 77 ∷ 70 ∷ head.version ∷ k ∷ [] = glued 3 1 bytes (77 ∷ 70 ∷ head.version ∷ []) (k ∷ []) t3 kind_byte in
+    let t8 : take 8 bytes ≡ 77 ∷ 70 ∷ head.version ∷ k ∷ to_be_bytes w32 head.period = glued 4 4 bytes (77 ∷ 70 ∷ head.version ∷ k ∷ []) (to_be_bytes w32 head.period) t4 period in
+    let t9 : take 9 bytes ≡ 77 ∷ 70 ∷ head.version ∷ k ∷ (to_be_bytes w32 head.period ++ (head.sender ∷ [])) = glued 8 1 bytes (77 ∷ 70 ∷ head.version ∷ k ∷ to_be_bytes w32 head.period) (head.sender ∷ []) t8 sender in
+    let t10 : take 10 bytes ≡ 77 ∷ 70 ∷ head.version ∷ k ∷ (to_be_bytes w32 head.period ++ (head.sender ∷ head.slot ∷ [])) = glued 9 1 bytes (77 ∷ 70 ∷ head.version ∷ k ∷ (to_be_bytes w32 head.period ++ (head.sender ∷ []))) (head.slot ∷ []) t9 slot in
+    glued 10 4 bytes (77 ∷ 70 ∷ head.version ∷ k ∷ (to_be_bytes w32 head.period ++ (head.sender ∷ head.slot ∷ []))) (to_be_bytes w32 size) t10 length_field
+
 pub header_told : (e : Expectation) (c : Content) (bytes : List ℕ) → IsFrame e c bytes → take 14 bytes ≡ header_spelling (head_of e) (kind c) (length bytes - 14)
-header_told e c bytes h =
-    let t3 : take 3 bytes ≡ 77 ∷ 70 ∷ e.version ∷ [] = glued 2 1 bytes (77 ∷ 70 ∷ []) (e.version ∷ []) h.magic h.version in
-    let t4 : take 4 bytes ≡ 77 ∷ 70 ∷ e.version ∷ kind c ∷ [] = glued 3 1 bytes (77 ∷ 70 ∷ e.version ∷ []) (kind c ∷ []) t3 h.kind_byte in
-    let t8 : take 8 bytes ≡ 77 ∷ 70 ∷ e.version ∷ kind c ∷ to_be_bytes w32 e.period = glued 4 4 bytes (77 ∷ 70 ∷ e.version ∷ kind c ∷ []) (to_be_bytes w32 e.period) t4 h.period in
-    let t9 : take 9 bytes ≡ 77 ∷ 70 ∷ e.version ∷ kind c ∷ (to_be_bytes w32 e.period ++ (e.sender ∷ [])) = glued 8 1 bytes (77 ∷ 70 ∷ e.version ∷ kind c ∷ to_be_bytes w32 e.period) (e.sender ∷ []) t8 h.sender in
-    let t10 : take 10 bytes ≡ 77 ∷ 70 ∷ e.version ∷ kind c ∷ (to_be_bytes w32 e.period ++ (e.sender ∷ e.slot ∷ [])) = glued 9 1 bytes (77 ∷ 70 ∷ e.version ∷ kind c ∷ (to_be_bytes w32 e.period ++ (e.sender ∷ []))) (e.slot ∷ []) t9 h.slot in
-    glued 10 4 bytes (77 ∷ 70 ∷ e.version ∷ kind c ∷ (to_be_bytes w32 e.period ++ (e.sender ∷ e.slot ∷ []))) (to_be_bytes w32 (length bytes - 14)) t10 h.length_field
+header_told e c bytes h = header_fields (head_of e) (kind c) (length bytes - 14) bytes h.magic h.version h.kind_byte h.period h.sender h.slot h.length_field
 
 pub body_length : (nodes : ℕ) (head : Head) (c : Content) → length (spelling nodes head c) ≡ 14 + length (body_spelling nodes c)
 body_length nodes head c = omega arith

@@ -10,7 +10,7 @@ ghost use Rattle.frames.specs.Checks.{is_claim_entry, is_row_entry, is_value, ar
 ghost use Rattle.frames.specs.Seen.{content, expected, HasWidth};
 
 use crate::cells::{Cells, read_row};
-use crate::encoding::{HEADER, header};
+use crate::encoding::{HEADER, is_header};
 use crate::frame::{Body, Expect, Frame};
 use crate::kind::Kind;
 use crate::pieces::{are_masks, are_zero};
@@ -240,8 +240,7 @@ fn body_of<'a, const N: usize>(expect: &Expect<N>, kind: u8, bytes: &'a [u8]) ->
 fn has_header<const N: usize>(expect: &Expect<N>, front: &[u8], kind: u8, size: u32) -> bool
     ensures { IsTrue result ↔ (front.now ≡ header_spelling (head_of (expected expect.now)) kind size) }
 {
-    let header = header(expect.head(), kind, size);
-    front == &header[..]
+    is_header(front, expect.head(), kind, size)
 }
 
 /// The frame that the bytes are for what is expected, by the relation between bytes and contents.

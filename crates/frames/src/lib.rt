@@ -20,7 +20,7 @@ mod values;
 pub use bound::frame_bound;
 pub use cells::{Cells, put_done, put_row};
 pub use decoding::decode;
-pub use encoding::{HEADER, encode, header};
+pub use encoding::{HEADER, encode, header, is_header};
 pub use filling::fill_entries;
 pub use frame::{Body, Expect, Frame, Head, StateBody};
 pub use known::decode_known;

@@ -3,7 +3,7 @@ use Rattle.std.proofs.Common.{◌≡◌, ℕ, suc, ◌+◌, ◌-◌, ◌*◌, �
 use Rattle.std.specs.Prelude.{filter, if◌then◌else◌}
 use Rattle.std.specs.List.{flat_map}
 use Rattle.std.proofs.lemmas.Bool.{cases_Bool, cond-true, cond-false, or_left, or_right}
-use Rattle.std.proofs.lemmas.List.{take_at, drop_at, take_all, take-take, drop-take, drop-drop, length-take-le, length-drop}
+use Rattle.std.proofs.lemmas.List.{take_at, drop_at, take_all, take-take, take-append-drop, nil_from_length, drop-take, drop-drop, length-take-le, length-drop}
 use Rattle.std.proofs.Math.Nat.{mul_comm}
 use Rattle.std.proofs.lemmas.List.Concat.{flat_map-cons}
 use Rattle.node_grid.specs.NodeSet.{has_id, without_id, IsIdSet, place_of}
@@ -214,3 +214,22 @@ without_sender n w s q gap table ids on place long =
           ),
       low,
     )
+
+-- ---- runs of one entry each
+
+-- entries that stand once each are their own runs
+pub expanded_once : (w n : ℕ) (entries : List ℕ) → length entries ≡ w * n → expanded w 1 n entries ≡ entries
+expanded_once w zero entries long = sym (nil_from_length entries (omega (arith, long)))
+expanded_once w (suc n) entries long =
+    let rest : List ℕ = drop w entries in
+    let room : w * suc n ≡ w + w * n = omega arith in
+    let left : length rest ≡ w * n = length-drop w entries ∙ (omega (arith, long, room)) in
+    ap₂ (λ (x y : List ℕ). x ++ y) (append-nil (take w entries)) (expanded_once w n rest left) ∙ take-append-drop w entries
+
+-- an entry before the end of a table lies within it
+pub entry_within : (w gap n : ℕ) → gap < n → gap * w + w ≤ w * n
+entry_within w gap n low =
+    let b : ℕ = n - gap - 1 in
+    let count : n ≡ gap + 1 + b = omega (arith, low) in
+    let all : w * n ≡ gap * w + w + w * b = ap (λ (k : ℕ). w * k) count ∙ (let g : w * (gap + 1 + b) ≡ gap * w + w + w * b = grind arith in g) in
+    omega (arith, all)

@@ -10,4 +10,5 @@ pub mod Round
 pub mod Comparing
 pub mod Guessed
 pub mod Runs
+pub mod Headers
 pub mod Tabled

@@ -21,7 +21,7 @@ use crate::item::Item;
 use crate::runs::has_shape;
 use crate::sent::{Entries, Sent};
 use error_detect::{Form, GuessedBytes, SlotWatch};
-use frames::{Expect, HEADER, Head, Runs, has_firsts, header};
+use frames::{Expect, HEADER, Head, Runs, has_firsts};
 use node_grid::{NodeSet, Row};
 use omh_paths::count_paths;
 use slot_plan::Slot;
@@ -225,6 +225,18 @@ fn has_firsts_without(body: &[u8], part: &Runs, table: &[u8], gap: usize) -> boo
         )
 }
 
+/// Whether entries are those of a table but for the one at place `gap`.
+fn is_without_entry(entries: &[u8], table: &[u8], width: usize, gap: usize) -> bool
+    requires { gap * width + width ≤ length table.now }
+    ensures { result ≡ true → entries.now ≡ without_entry width gap table.now }
+{
+    if entries.len() != table.len() - width {
+        return false;
+    }
+    let (near, far) = entries.split_at(gap * width);
+    is_same(near, &table[..gap * width]) && is_same(far, &table[gap * width + width..])
+}
+
 /// Whether a body is known to be runs, one for each other node of a set, and a table of entries of
 /// the paths of `r` nodes of the set is such runs too, whose first entries are those of the body
 /// and the sender's.
@@ -252,6 +264,10 @@ fn has_same_runs<const N: usize>(
     if !has_shape(whole, cut.width, each, count + 1) || table.len() != cut.width * (count + 1) {
         return false;
     }
+    let gap = set.place(cut.sender) as usize;
+    if r == 1 {
+        return is_without_entry(body.bytes(), table, cut.width, gap);
+    }
     let part = Runs {
         width: cut.width,
         times: fewer,
@@ -260,7 +276,6 @@ fn has_same_runs<const N: usize>(
     if !body.are(&part) {
         return false;
     }
-    let gap = set.place(cut.sender) as usize;
     has_firsts_without(body.bytes(), &part, table, gap)
 }
 
@@ -340,11 +355,11 @@ fn guessed_kind<const N: usize>(form: &Form) -> u8
 }
 
 /// Whether bytes are the header of a body of `size` bytes.
-fn is_header(front: &[u8], head: Head, kind: u8, size: usize) -> bool
+pub(crate) fn is_header(front: &[u8], head: Head, kind: u8, size: usize) -> bool
     requires { size < 2 ^ 32 }
     ensures { Decides result (front.now ≡ header_spelling head kind size) }
 {
-    is_same(front, &header(head, kind, size as u32))
+    frames::is_header(front, head, kind, size as u32)
 }
 
 /// Whether a frame is the one that its sender is guessed to send in the open slot. No entry of it
@@ -363,14 +378,13 @@ pub fn is_guessed<const N: usize>(watch: &SlotWatch<N>, from: u8, sent: &Sent<'_
     if bytes.len() < HEADER || bytes.len() > u32::MAX as usize {
         return false;
     }
-    let (front, body) = bytes.split_at(HEADER);
     let head = Head {
         sender: from,
         ..expect.head()
     };
-    if !is_header(front, head, guessed_kind::<N>(&form), body.len()) {
+    if !sent.has_header(head, guessed_kind::<N>(&form)) {
         return false;
     }
-    let body = Entries::new(body, sent.runs());
+    let body = Entries::new(&bytes[HEADER..], sent.runs());
     is_guessed_body(&body, &form, &guess, from, expect)
 }

@@ -5,7 +5,7 @@ use Rattle.omh_paths.specs.Paths.{paths_of_length, path_count}
 use Rattle.omh_paths.specs.MemberLaws.{few_ids, Distinct-ids, member-lt, path_count-few}
 use Rattle.error_detect.specs.Guessing.{pieces_without}
 use Rattle.relaying.specs.Runs.{AreRuns}
-use Rattle.relaying.proofs.RunParts.{parts_alike, without_sender}
+use Rattle.relaying.proofs.RunParts.{parts_alike, without_sender, entry_within, expanded_once}
 use Rattle.relaying.proofs.comparing.has_same_runs.Goals as goal
 
 pub count_paths-fewer-requires-clause-nodes : goal.count_paths-fewer-requires-clause-nodes
@@ -26,6 +26,36 @@ are-requires-clause-small g c =
 pub place-gap-requires : goal.place-gap-requires
 place-gap-requires g c = (omega arith, member-lt g.row.N c.args.set.now c.args.cut.sender c.len-others.ensures.ids c.requires.sender)
 
+pub is_without_entry-requires : goal.is_without_entry-requires
+is_without_entry-requires g c =
+    let s : List ℕ = c.args.set.now in
+    let w : ℕ = c.args.cut.width in
+    let some : 0 < length s = has_some s c.args.cut.sender c.requires.sender in
+    let count : c.len-others.result - 1 + 1 ≡ length s = omega (arith, some, c.len-others.ensures.count) in
+    let long : length c.args.table.now ≡ w * length s = c.if-table-cut.false ∙ ap (λ (n : ℕ). w * n) count in
+    let low : c.place-gap.result < length s = (without_sender g.row.N 0 s c.args.cut.sender c.place-gap.result [] c.len-others.ensures.ids c.requires.sender c.place-gap.ensures.count (omega arith)).1 in
+    omega (arith, entry_within w c.place-gap.result (length s) low, long)
+
+pub returns-then-r-eq1 : goal.returns-then-r-eq1
+returns-then-r-eq1 g c is =
+    let s : List ℕ = c.args.set.now in
+    let w : ℕ = c.args.cut.width in
+    let q : ℕ = c.args.cut.sender in
+    let table : List ℕ = c.args.table.now in
+    let some : 0 < length s = has_some s q c.requires.sender in
+    let count : c.len-others.result - 1 + 1 ≡ length s = omega (arith, some, c.len-others.ensures.count) in
+    let shape = c.has_shape.ensures c.if-not-has_shape.false in
+    let long : length table ≡ w * length s = c.if-table-cut.false ∙ ap (λ (n : ℕ). w * n) count in
+    let one : c.args.r ≡ 1 = c.if-r-eq1.true in
+    let once : c.count_paths-each.result ≡ 1 = c.count_paths-each.ensures.product ∙ ap (λ (r : ℕ). path_count (c.len-others.result - 1) (r - 1)) one in
+    let whole : expanded c.args.whole.now.width c.args.whole.now.times c.args.whole.now.count table ≡ table =
+    ap₂ (λ (x n : ℕ). expanded x c.args.whole.now.times n table) shape.0 (shape.2 ∙ count)
+    ∙ ap (λ (t : ℕ). expanded w t (length s) table) (shape.1 ∙ once) ∙ expanded_once w (length s) table long in
+    let mine : c.args.body.now ≡ pieces_without w q (paths_of_length s 1) table =
+    sym c.bytes.ensures ∙ c.is_without_entry.ensures is
+    ∙ (without_sender g.row.N w s q c.place-gap.result table c.len-others.ensures.ids c.requires.sender c.place-gap.ensures.count long).0 in
+    mine ∙ ap₂ (λ (r : ℕ) (t : List ℕ). pieces_without w q (paths_of_length s r) t) (sym one) (sym whole)
+
 pub has_firsts_without-requires : goal.has_firsts_without-requires
 has_firsts_without-requires g c =
     let s : List ℕ = c.args.set.now in
@@ -34,7 +64,7 @@ has_firsts_without-requires g c =
     let few = few_ids g.row.N s c.requires.capacity c.len-others.ensures.ids in
     let low : c.place-gap.result < length s = (without_sender g.row.N 0 s c.args.cut.sender c.place-gap.result [] c.len-others.ensures.ids c.requires.sender c.place-gap.ensures.count (omega arith)).1 in
     record {
-      runs = subst (λ (b : List ℕ). AreRuns b (record { width = c.args.cut.width; times = c.count_paths-fewer.result; count = c.len-others.result - 1 })) (sym c.bytes.ensures) (c.are.ensures c.if-not-are.false);
+      runs = subst (λ (b : List ℕ). AreRuns b (record { width = c.args.cut.width; times = c.count_paths-fewer.result; count = c.len-others.result - 1 })) (sym c.bytes-2.ensures) (c.are.ensures c.if-not-are.false);
       inside = omega (arith, low, c.len-others.ensures.count);
       whole = long;
       few = omega (arith, few, c.len-others.ensures.count);
@@ -55,7 +85,7 @@ returns g c is =
     let long : length table ≡ w * length s = c.if-table-cut.false ∙ ap (λ (n : ℕ). w * n) count in
     let apart = without_sender g.row.N w s q c.place-gap.result table c.len-others.ensures.ids c.requires.sender c.place-gap.ensures.count long in
     let mine : firsts w c.count_paths-fewer.result (c.len-others.result - 1) c.args.body.now ≡ pieces_without w q (paths_of_length s 1) table =
-    ap (firsts w c.count_paths-fewer.result (c.len-others.result - 1)) (sym c.bytes.ensures) ∙ c.has_firsts_without.ensures is ∙ apart.0 in
+    ap (firsts w c.count_paths-fewer.result (c.len-others.result - 1)) (sym c.bytes-2.ensures) ∙ c.has_firsts_without.ensures is ∙ apart.0 in
     let body : c.args.body.now ≡ expanded w c.count_paths-fewer.result (length s - 1) (pieces_without w q (paths_of_length s 1) table) =
     (c.are.ensures c.if-not-are.false).are ∙ ap₂ (λ (n : ℕ) (es : List ℕ). expanded w c.count_paths-fewer.result n es) less mine in
     parts_alike w q c.args.r c.count_paths-fewer.result c.count_paths-each.result s c.args.body.now table
