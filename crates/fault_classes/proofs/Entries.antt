@@ -198,7 +198,7 @@ table_push nodes slots periods xs l k old new t many m = record {
       ∙ sym (entry_push (touches_cell nodes slots c) xs l k many (λ e. sym (t.entries c) ∙ m.free c e));
 }
 
-witness : (test ok : Line → Bool) (xs : List Line) → list_any test xs ≡ true → list_all ok xs ≡ true
+pub witness : (test ok : Line → Bool) (xs : List Line) → list_any test xs ≡ true → list_all ok xs ≡ true
     → (x : Line) × (test x ≡ true) × (ok x ≡ true) × ((f : Line → Bool) → f x ≡ true → list_any f xs ≡ true)
 witness test ok [] h a = cc
 witness test ok (x ∷ xs) h a =
@@ -249,7 +249,7 @@ cell_below nodes slots periods p s i j hp hs hi hj =
     mul_comm nodes (slots * (nodes * periods)) ∙ ap (λ x. x * nodes) (mul_comm slots (nodes * periods) ∙ ap (λ x. x * slots) (mul_comm nodes periods)) in
     omega (arith, d, e)
 
-find_none : (test : Line → Bool) (xs : List Line) → list_any test xs ≡ false → find test xs ≡ None
+pub find_none : (test : Line → Bool) (xs : List Line) → list_any test xs ≡ false → find test xs ≡ None
 find_none test [] h = refl
 find_none test (x ∷ xs) h = let p = or_parts (test x) (list_any test xs) h in let fails : test x ≡ false = p.0 in rw fails (find_none test xs p.1)
 

@@ -6,6 +6,7 @@ pub mod Entries
 pub mod Slots
 pub mod Places
 pub mod Restarting
+pub mod Sending
 pub mod Refusals
 pub mod Loops
 pub mod Classing

@@ -1,6 +1,6 @@
 -- What it says of a line that it is in range, and where the cells of its frames lie.
 use Rattle.node_grid.specs.ListLaws.{all_at}
-use Rattle.std.proofs.Common.{◌≡◌, ℕ, ◌+◌, ◌*◌, ◌^◌, ◌<◌, ◌≤◌, true, false, List, arith, ltb-true, leb-true}
+use Rattle.std.proofs.Common.{◌≡◌, ℕ, ◌+◌, ◌*◌, ◌^◌, ◌<◌, ◌≤◌, true, false, List, length, arith, ltb-true, leb-true}
 use Rattle.std.specs.Prelude.{nat_lt}
 use Rattle.std.proofs.lemmas.Bool.{and_parts, not-true}
 use Rattle.std.proofs.lemmas.Nat.{mul-add-lt}
@@ -14,12 +14,17 @@ use Rattle.node_grid.specs.CapacityLaws.{capacity-le}
 pub below_from : (n : ℕ) (xs : List ℕ) (k : ℕ) → are_below n xs ≡ true → has_id xs k ≡ true → k < n
 below_from n xs k h on = ltb-true k n (all_at (λ x. nat_lt x n) xs k (and_parts _ _ h).1 on)
 
+some_from : (n : ℕ) (xs : List ℕ) → are_below n xs ≡ true → 0 < length xs
+some_from n xs h = ltb-true 0 (length xs) (and_parts _ _ h).0
+
 pub record LineFacts (nodes slots periods : ℕ) (l : Line) : Type 0 where
   pub from : l.from < nodes
+  pub some : 0 < length l.to
   pub to : (j : ℕ) → has_id l.to j ≡ true → j < nodes
   pub other : has_id l.to l.from ≡ false
   pub ordered : l.first ≤ l.last
   pub last : l.last < periods
+  pub some_slots : 0 < length l.slots
   pub in_slots : (s : ℕ) → has_id l.slots s ≡ true → s < slots
   pub change : is_change l.change ≡ true
 
@@ -33,10 +38,12 @@ line_facts nodes slots periods l h =
     let i = and_parts _ _ f.1 in
     record {
       from = ltb-true l.from nodes a.0;
+      some = some_from nodes l.to b.0;
       to = λ j on. below_from nodes l.to j b.0 on;
       other = not-true (has_id l.to l.from) d.0;
       ordered = leb-true l.first l.last e.0;
       last = ltb-true l.last periods f.0;
+      some_slots = some_from slots l.slots i.0;
       in_slots = λ s on. below_from slots l.slots s i.0 on;
       change = i.1;
     }

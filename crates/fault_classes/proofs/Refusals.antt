@@ -1,5 +1,5 @@
 -- Which rule refuses a plan, one rule after the other.
-use Rattle.std.proofs.Common.{◌≡◌, ℕ, ◌+◌, ◌<◌, ◌≤◌, true, List, [], ◌∷◌, length, None, Some, refl, inl, inr}
+use Rattle.std.proofs.Common.{◌≡◌, ℕ, ◌+◌, ◌<◌, ◌≤◌, true, List, [], ◌∷◌, length, Option, None, Some, refl, sym, ◌∙◌, inl, inr}
 use Rattle.std.specs.List.{list_all}
 use Rattle.std.proofs.lemmas.Bool.{cases_Bool, lt-ltb, le-ltb, and_from}
 use Rattle.fault_classes.specs.declared.error.PlanError.TheVariants.{Range, Overlap, Restart, TooMany}
@@ -33,3 +33,11 @@ module _ (plan : Plan) where
   pub by_none : first_bad_line plan.nodes (slot_count plan.rounds) plan.periods 0 plan.lines ≡ None → first_overlap [] plan.lines ≡ None
       → first_bad_restart plan.nodes plan.periods None 0 plan.restarts ≡ None → length plan.lines ≤ 4096 → refusal_of plan ≡ None
   by_none a b d h = rw (a, b, d, le-ltb 4096 (length plan.lines) h) refl
+
+-- the lines of a plan that no rule refuses are in range
+pub lines_good : (plan : Plan) → refusal_of plan ≡ None → list_all (is_line plan.nodes (slot_count plan.rounds) plan.periods) plan.lines ≡ true
+lines_good plan h = all_good plan.nodes (slot_count plan.rounds) plan.periods 0 plan.lines (go (first_bad_line plan.nodes (slot_count plan.rounds) plan.periods 0 plan.lines) refl)
+  where
+    go : (o : Option ℕ) → first_bad_line plan.nodes (slot_count plan.rounds) plan.periods 0 plan.lines ≡ o → first_bad_line plan.nodes (slot_count plan.rounds) plan.periods 0 plan.lines ≡ None
+    go None e = e
+    go (Some k) e = let no_way : Some (Range k) ≡ None = sym (by_range plan k e) ∙ h in cc

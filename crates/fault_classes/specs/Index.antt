@@ -1,9 +1,10 @@
 -- What the index of a plan keeps beside the plan.
-use Rattle.std.specs.Prelude.{◌≡◌, ℕ, ◌^◌, ◌<◌, ◌≤◌, [], List, length, None}
+use Rattle.std.specs.Prelude.{◌≡◌, ℕ, ◌^◌, ◌<◌, ◌≤◌, ◌==◌, ◌&&◌, nat_le, Bool, [], List, length, None, if◌then◌else◌}
 use Rattle.std.specs.List.{slice_index_or, list_any}
 use Rattle.fault_classes.specs.declared.line.Restart.{Restart}
-use Rattle.node_grid.specs.NodeSet.{ids_where}
+use Rattle.node_grid.specs.NodeSet.{ids_where, with_id}
 use Rattle.slot_plan.specs.Slots.{slot_count}
+use Rattle.fault_classes.specs.Line.{Line}
 use Rattle.fault_classes.specs.Plan.{Plan, is_restart_of}
 use Rattle.fault_classes.specs.Rules.{refusal_of}
 use Rattle.fault_classes.specs.Cells.{IsShape, IsTable}
@@ -13,7 +14,21 @@ pub record IsRestarting (n periods : ℕ) (restarts : List Restart) (sets : List
   pub long : length sets ≡ periods
   pub members : (p : ℕ) → p < periods → slice_index_or sets p [] ≡ ids_where (λ i. list_any (is_restart_of i p) restarts) n
 
-pub record IsIndex (n : ℕ) (plan : Plan) (slots : ℕ) (cells : List ℕ) (sets : List (List ℕ)) : Type 0 where
+-- whether the line touches frames that node i sends in period p
+abbrev pub touches_sender : ℕ → ℕ → Line → Bool
+touches_sender p i l = l.from == i && (nat_le l.first p && nat_le p l.last)
+
+-- the sender of a line was put into the set of each of the line's periods
+pub record IsSent (n : ℕ) (l : Line) (old new : List (List ℕ)) : Type 0 where
+  pub long : length new ≡ length old
+  pub members : (p : ℕ) → slice_index_or new p [] ≡ (if nat_le l.first p && nat_le p l.last then with_id n (slice_index_or old p []) l.from else slice_index_or old p [])
+
+-- for each period the set of the nodes a frame of which some line touches
+pub record IsTouched (n periods : ℕ) (lines : List Line) (sets : List (List ℕ)) : Type 0 where
+  pub long : length sets ≡ periods
+  pub members : (p : ℕ) → p < periods → slice_index_or sets p [] ≡ ids_where (λ i. list_any (touches_sender p i) lines) n
+
+pub record IsIndex (n : ℕ) (plan : Plan) (slots : ℕ) (cells : List ℕ) (sets senders : List (List ℕ)) : Type 0 where
   pub shape : IsShape n plan.nodes slots plan.periods
   pub all_slots : slots ≡ slot_count plan.rounds
   pub accepted : refusal_of plan ≡ None
@@ -21,3 +36,4 @@ pub record IsIndex (n : ℕ) (plan : Plan) (slots : ℕ) (cells : List ℕ) (set
   pub few_restarts : length plan.restarts < 2 ^ 32
   pub table : IsTable plan.nodes slots plan.periods plan.lines cells
   pub restarting : IsRestarting n plan.periods plan.restarts sets
+  pub touched : IsTouched n plan.periods plan.lines senders

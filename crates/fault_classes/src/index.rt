@@ -1,12 +1,14 @@
-ghost use Rattle.std.specs.Prelude.{◌≡◌, ℕ, ◌^◌, ◌<◌, ◌≤◌, ◌⊎◌, None, Some, IfOk, MatchResult, IsTrue, map, length, option_map};
+ghost use Rattle.std.specs.Prelude.{◌≡◌, ℕ, ◌^◌, ◌<◌, ◌≤◌, ◌⊎◌, true, not, None, Some, IfOk, MatchResult, IsTrue, map, length, option_map};
+ghost use Rattle.std.specs.List.{list_all};
 ghost use Rattle.fault_classes.specs.Change.{change_of};
 ghost use Rattle.fault_classes.specs.Line.{line_of, effect_at, touches};
 ghost use Rattle.slot_plan.specs.Slots.{slot_count};
-ghost use Rattle.fault_classes.specs.Plan.{plan_of, restarts_at};
-ghost use Rattle.fault_classes.specs.Rules.{refusal_of, first_bad_restart};
+ghost use Rattle.fault_classes.specs.Plan.{plan_of, restarts_at, is_clean};
+ghost use Rattle.fault_classes.specs.Rules.{is_line, refusal_of, first_bad_restart};
 ghost use Rattle.fault_classes.specs.Cells.{IsShape, entry_of};
-ghost use Rattle.fault_classes.specs.Index.{IsRestarting};
+ghost use Rattle.fault_classes.specs.Index.{IsRestarting, IsSent, IsTouched};
 ghost use Rattle.node_grid.specs.Capacity.{IsCapacity};
+ghost use Rattle.node_grid.specs.NodeSet.{ids_where};
 
 use crate::cells::{Shape, cells_of};
 use crate::rules::{first_bad_line, first_bad_restart};
@@ -28,6 +30,7 @@ pub struct PlanIndex<const N: usize> {
     restarts: Vec<Restart>,
     cells: Vec<u16>,
     restarting: Vec<NodeSet<N>>,
+    touched: Vec<NodeSet<N>>,
 }
 
 // Clauses see the plan.
@@ -41,7 +44,7 @@ impl<const N: usize> Model for PlanIndex<N> {
 
     ghost view = { λ x. plan_of x.shape.nodes x.rounds x.shape.periods (map line_of x.lines.items) x.restarts.items };
 
-    ghost invariant = { λ x. IsIndex N (plan_of x.shape.nodes x.rounds x.shape.periods (map line_of x.lines.items) x.restarts.items) x.shape.slots x.cells.items x.restarting.items };
+    ghost invariant = { λ x. IsIndex N (plan_of x.shape.nodes x.rounds x.shape.periods (map line_of x.lines.items) x.restarts.items) x.shape.slots x.cells.items x.restarting.items x.touched.items };
 }
 
 /// For each period the set of the nodes that restart at it.
@@ -60,6 +63,38 @@ fn restarting_sets<const N: usize>(
     for restart in restarts {
         let set = &mut sets[restart.period as usize];
         set.put(restart.node);
+    }
+    Ok(sets)
+}
+
+/// Puts the line's sender into the set of each of the line's periods.
+fn put_sender<const N: usize>(sets: &mut [NodeSet<N>], line: &FaultLine<N>)
+    requires capacity { IsCapacity N }
+    requires sender { line.now.from < N }
+    requires order { line.now.first ≤ line.now.last }
+    requires last { line.now.last < length sets.old }
+    requires few { length sets.old < 2 ^ 32 }
+    ensures { IsSent N (line_of line.now) sets.old sets.new }
+{
+    for period in line.first..line.last + 1 {
+        let set = &mut sets[period as usize];
+        set.put(line.from);
+    }
+}
+
+/// For each period the set of the nodes a frame of which some line touches.
+fn touched_sets<const N: usize>(
+    alloc: Global,
+    lines: &[FaultLine<N>],
+    shape: &Shape,
+) -> Result<Vec<NodeSet<N>>, AllocError>
+    requires shape { IsShape N shape.now.nodes shape.now.slots shape.now.periods }
+    requires lines { list_all (is_line shape.now.nodes shape.now.slots shape.now.periods) (map line_of lines.now) ≡ true }
+    ensures { IfOk result (λ v. IsTouched N shape.now.periods (map line_of lines.now) v.items) }
+{
+    let mut sets = vec![in alloc; NodeSet::empty(); shape.periods as usize]?;
+    for line in lines {
+        put_sender(sets.as_mut_slice(), line);
     }
     Ok(sets)
 }
@@ -97,6 +132,9 @@ impl<const N: usize> PlanIndex<N> {
         let Ok(restarting) = restarting_sets(alloc, restarts.as_slice(), nodes, periods) else {
             return Err(PlanError::NoMemory);
         };
+        let Ok(touched) = touched_sets(alloc, lines.as_slice(), &shape) else {
+            return Err(PlanError::NoMemory);
+        };
         Ok(PlanIndex {
             shape,
             rounds: m,
@@ -104,6 +142,7 @@ impl<const N: usize> PlanIndex<N> {
             restarts,
             cells,
             restarting,
+            touched,
         })
     }
 
@@ -187,5 +226,13 @@ impl<const N: usize> PlanIndex<N> {
     {
         let set = &self.restarting[period as usize];
         set.has(node)
+    }
+
+    /// The nodes a frame of which some line touches in the period.
+    pub fn touched(&self, period: u32) -> NodeSet<N>
+        requires { period < self.now.periods }
+        ensures { result ≡ ids_where (λ i. not (is_clean self.now period i)) N }
+    {
+        self.touched[period as usize]
     }
 }

@@ -24,35 +24,6 @@ pub struct Standing<const N: usize> {
     pub reference: Option<u8>,
 }
 
-/// Whether no line touches the node's frames in a slot.
-fn is_clean_at<const N: usize>(index: &PlanIndex<N>, period: u32, node: u8, slot: u8) -> bool
-    requires period { period < index.now.periods }
-    requires node { node < index.now.nodes }
-    requires slot { slot < slot_count index.now.rounds }
-    ensures { result ≡ each_in_slot index.now is_untouched period node slot }
-{
-    for to in 0..index.nodes() {
-        if to != node && index.effect(period, slot, node, to).is_some() {
-            return false;
-        }
-    }
-    true
-}
-
-/// Whether no line touches the node's frames.
-fn is_clean<const N: usize>(index: &PlanIndex<N>, period: u32, node: u8) -> bool
-    requires period { period < index.now.periods }
-    requires node { node < index.now.nodes }
-    ensures { result ≡ is_clean index.now period node }
-{
-    for slot in 0..index.slots() {
-        if !is_clean_at(index, period, node, slot) {
-            return false;
-        }
-    }
-    true
-}
-
 /// Whether a receiver sees by itself that the frame is faulty.
 fn is_manifest(effect: Option<&Effect>) -> bool
     ensures { result ≡ is_manifest (option_map (λ e. change_of e.now) effect.entry) }
@@ -193,13 +164,8 @@ fn clean_nodes<const N: usize>(index: &PlanIndex<N>, period: u32) -> NodeSet<N>
     requires period { period < index.now.periods }
     ensures { result ≡ ids_where (is_clean index.now period) index.now.nodes }
 {
-    let mut found = NodeSet::empty();
-    for node in 0..index.nodes() {
-        if is_clean(index, period, node) {
-            found.put(node);
-        }
-    }
-    found
+    let all = NodeSet::full(index.nodes());
+    all.minus(&index.touched(period))
 }
 
 /// Whether a node is of class N, where these are clean in the period and those were sound before it.

@@ -206,11 +206,6 @@ module _ (capacity : ℕ) (p : ScenarioParts) (r : HasRanges capacity p) where
   clocks_are h c e = any_are p.clock c h e
 
 -- the refusal by clocks, where the parts have some, and where they have none
-pub refused_is : (p : ScenarioParts) (nodes : ℕ) (plan : Plan) (c : ClockParts) → nodes ≡ natural p.nodes → plan ≡ plan_in p → p.clock ≡ Some c → clock_refused nodes plan (Some c) ≡ clock_refusal p
+pub refused_is : (p : ScenarioParts) (nodes : ℕ) (plan : Plan) → nodes ≡ natural p.nodes → plan ≡ plan_in p → clock_refused nodes plan p.clock ≡ clock_refusal p
 unfolding clock_refusal
-refused_is p nodes plan c a b d =
-    ap (λ (n : ℕ). clock_refused n plan (Some c)) a ∙ ap (λ (x : Plan). clock_refused (natural p.nodes) x (Some c)) b ∙ ap (clock_refused (natural p.nodes) (plan_in p)) (sym d)
-
-pub none_refused : (p : ScenarioParts) → p.clock ≡ None → clock_refusal p ≡ None
-unfolding clock_refusal
-none_refused p d = ap (clock_refused (natural p.nodes) (plan_in p)) d
+refused_is p nodes plan a b = ap (λ (n : ℕ). clock_refused n plan p.clock) a ∙ ap (λ (x : Plan). clock_refused (natural p.nodes) x p.clock) b

@@ -4,16 +4,16 @@ ghost use Rattle.node_grid.specs.Capacity.{IsCapacity};
 ghost use Rattle.clock_skew.specs.Clock.{lie_of};
 ghost use Rattle.scenario.specs.Numbers.{natural};
 ghost use Rattle.scenario.specs.Line.{lie_in};
-ghost use Rattle.scenario.specs.Given.{padded, clock_in, plan_in};
-ghost use Rattle.scenario.specs.Rules.{at_place, first_bad, are_rows, are_up_to, is_bound, is_drift, is_clock, hears, is_to_all, may_tell, is_fair, is_said, is_lie, fits_lie, clock_refused, clock_refusal, HasRanges};
-ghost use Rattle.scenario.specs.Seen.{lie_view, clock_view, parts_view};
+ghost use Rattle.scenario.specs.Given.{padded, clock_in};
+ghost use Rattle.scenario.specs.Rules.{at_place, first_bad, are_rows, are_up_to, is_bound, is_drift, is_clock, hears, is_to_all, may_tell, is_fair, is_said, is_lie, fits_lie, clock_refused};
+ghost use Rattle.scenario.specs.Seen.{lie_view, clock_view};
 ghost use Rattle.scenario.specs.Verdict.{Tells};
 
 use crate::configuring::padded;
 use crate::error::{ScenarioError, refused};
 use crate::numbers::{all_within, is_within, natural};
-use crate::parts::{ClockPart, LiePart, Parts};
-use crate::planning::{first_of, is_addressed, last_of, others_of};
+use crate::parts::{ClockPart, LiePart};
+use crate::planning::{Bounds, first_of, is_addressed, last_of, others_of};
 use crate::rules::{are_close, is_row_count};
 use clock_skew::{ClockPlan, Lie};
 use fault_classes::FaultPlan;
@@ -293,21 +293,25 @@ fn clocks<const N: usize>(
 /// `Refused` with the first of rules 18 and 19 that fails and its place; `NoMemory`.
 pub(crate) fn clock<const N: usize>(
     alloc: Global,
-    parts: &Parts,
+    part: &Option<ClockPart>,
     plan: &FaultPlan<N>,
+    bounds: Bounds,
 ) -> Result<Option<ClockPlan<N>>, ScenarioError>
     requires capacity { IsCapacity N }
-    requires ranges { HasRanges N (parts_view parts.now) }
-    requires plan { plan.now ≡ plan_in (parts_view parts.now) }
+    requires some { 3 ≤ bounds.nodes }
+    requires few { bounds.nodes ≤ N }
+    requires nodes { bounds.nodes ≡ plan.now.nodes }
+    requires periods { bounds.periods ≡ plan.now.periods }
+    requires few_periods { bounds.periods ≤ 1024 }
     ensures clock { IfOk result (λ o.
-        o ≡ option_map (clock_in N (natural parts.now.nodes)) (parts_view parts.now).clock) }
-    ensures unrefused { IfOk result (λ o. clock_refusal (parts_view parts.now) ≡ None) }
-    ensures refused { IfErr result (Tells (clock_refusal (parts_view parts.now))) }
+        o ≡ option_map (clock_in N bounds.nodes) (option_map clock_view part.now)) }
+    ensures unrefused { IfOk result (λ o.
+        clock_refused bounds.nodes plan.now (option_map clock_view part.now) ≡ None) }
+    ensures refused { IfErr result (Tells
+        (clock_refused bounds.nodes plan.now (option_map clock_view part.now))) }
 {
-    let Some(part) = &parts.clock else {
+    let Some(part) = part else {
         return Ok(None);
     };
-    let nodes = natural(parts.nodes) as u8;
-    let periods = natural(parts.periods) as u32;
-    Ok(Some(clocks(alloc, part, plan, nodes, periods)?))
+    Ok(Some(clocks(alloc, part, plan, bounds.nodes, bounds.periods)?))
 }

@@ -1,0 +1,44 @@
+use Rattle.std.proofs.Common.{◌≡◌, ℕ, ◌^◌, ◌<◌, ◌+◌, ◌++◌, ◌∷◌, [], true, List, map, length, take, drop, get_or, sym, ap, ◌∙◌, arith, lit<, subst}
+use Rattle.std.proofs.lemmas.List.{length-map, take-append-le, take_all}
+use Rattle.fault_classes.specs.Line.{Line, line_of}
+use Rattle.fault_classes.specs.Rules.{is_line}
+use Rattle.fault_classes.specs.Index.{IsTouched}
+use Rattle.fault_classes.proofs.Entries.{all_here}
+use Rattle.fault_classes.proofs.Places.{line_at, front_at}
+use Rattle.fault_classes.proofs.Ranges.{line_facts}
+use Rattle.fault_classes.proofs.Sending.{touched_push}
+use Rattle.fault_classes.proofs.index.touched_sets.Goals as goal
+
+written : (new old : List (List ℕ)) (n : ℕ) → length new ≡ length old → length old ≡ n → take n (new ++ drop (length new) old) ≡ new
+written new old n a b = take-append-le n new (drop (length new) old) (omega arith) ∙ take_all n new (omega arith)
+
+pub put_sender-requires : goal.put_sender-requires
+put_sender-requires g c =
+    let n = c.args.shape.now.nodes in
+    let s = c.args.shape.now.slots in
+    let t = c.args.shape.now.periods in
+    let x = c.line-item.result in
+    let k = c.loop-line.line-index in
+    let all : List Line = map line_of c.args.lines.now in
+    let many : k < length all = omega (arith, length-map c.args.lines.now (line_of {n = g.row.N})) in
+    let at : get_or all k (line_of x) ≡ line_of x = line_at c.args.lines.now k x c.loop-line-test.true c.line-item.is in
+    let ok : is_line n s t (line_of x) ≡ true = ap (is_line n s t) (sym at) ∙ all_here (is_line n s t) all k (line_of x) many c.requires.lines in
+    let f = line_facts n s t (line_of x) ok in
+    let long : length c.as_mut_slice.result.now ≡ t = ap length c.as_mut_slice.ensures.value ∙ c.loop-line.invariant.long in
+    let few : t < 2 ^ 32 = omega (arith, c.requires.shape.few_periods) in
+    (lit< tt, (lit< tt, (c.requires.shape.capacity, (omega (arith, f.from, c.requires.shape.few_nodes), (f.ordered, (omega (arith, f.last, long), omega (arith, few, long)))))))
+
+pub loop-line-preserved : goal.loop-line-preserved
+loop-line-preserved g c =
+    let t = c.args.shape.now.periods in
+    let x = c.line-item.result in
+    let k = c.loop-line.line-index in
+    let all : List Line = map line_of c.args.lines.now in
+    let front : take (k + 1) all ≡ take k all ++ line_of x ∷ [] = front_at c.args.lines.now k x c.loop-line-test.true c.line-item.is in
+    let old = c.as_mut_slice.result.now in
+    let new = c.put_sender.new.sets in
+    let before : IsTouched g.row.N t (take k all) old = subst (λ v. IsTouched g.row.N t (take k all) v) (sym c.as_mut_slice.ensures.value) c.loop-line.invariant in
+    let items : take c.loop-line.sets.len (new ++ drop (length new) c.loop-line.sets.items) ≡ new =
+    written new c.loop-line.sets.items c.loop-line.sets.len (omega (arith, c.put_sender.ensures.long, ap length c.as_mut_slice.ensures.value)) (omega (arith, c.as_mut_slice.ensures.len, ap length c.as_mut_slice.ensures.value))
+    in
+    rw (items, front) (touched_push g.row.N t (take k all) (line_of x) old new before c.put_sender.ensures)
