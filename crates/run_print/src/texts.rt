@@ -35,7 +35,7 @@ fn vote_of(votes: &[Option<i64>; 8], channel: u8) -> Option<i64>
     }
 }
 
-impl Printer {
+impl<const ROOM: usize> Printer<ROOM> {
     /// Prints the separator before the item at place `k`.
     fn separator<K: Sink>(&mut self, sink: &mut K, k: usize, separator: u8)
         ensures { Prints K.written K.faults self.old sink.old self.new sink.new (separator_at (separator ∷ []) k) }

@@ -106,7 +106,7 @@ fn start_of(period: u32, slot: u8, from: u8) -> Start
     start
 }
 
-impl Printer {
+impl<const ROOM: usize> Printer<ROOM> {
     /// Prints a few bytes in hexadecimal.
     fn piece<K: Sink>(&mut self, sink: &mut K, bytes: &[u8])
         requires { length bytes.now ≤ 512 }
