@@ -55,6 +55,15 @@ impl<const ROOM: usize> Printer<ROOM> {
         }
     }
 
+    /// Prints two bytes.
+    pub(crate) fn pair<K: Sink>(&mut self, sink: &mut K, pair: [u8; 2])
+        ensures { Prints K.written K.faults self.old sink.old self.new sink.new pair }
+    {
+        if self.gathered.try_extend_from_slice(&pair).is_err() {
+            self.text(sink, &pair);
+        }
+    }
+
     /// Prints a number in decimal.
     pub(crate) fn number<K: Sink>(&mut self, sink: &mut K, n: u64)
         ensures { Prints K.written K.faults self.old sink.old self.new sink.new (decimal n) }
