@@ -1,5 +1,5 @@
 //! The printed frames of a period.
-ghost use Rattle.std.specs.Prelude.{◌≡◌, true, [], ◌++◌, if◌then◌else◌, ◌≢◌, ◌+◌, ◌*◌, ◌≤◌, ◌<◌, codes, length, replicate, slice_index};
+ghost use Rattle.std.specs.Prelude.{◌≡◌, true, [], ◌++◌, if◌then◌else◌, ◌≢◌, ◌+◌, ◌*◌, ◌≤◌, ◌<◌, codes, decimal, length, replicate, slice_index};
 ghost use Rattle.arrayvec.specs.ArrayVec.{array_vec_len};
 ghost use Rattle.std.specs.List.{flat_map};
 ghost use Rattle.hex.specs.Hex.{encode_lower, lower_digits};
@@ -25,6 +25,9 @@ const SHORT_FRAME: usize = 1024;
 
 /// How many bytes are put into hexadecimal at once, where a fault line touches a frame.
 const PIECE: usize = 512;
+
+/// How many bytes stand before and behind the digits in the rest of a line.
+const AROUND: usize = 5;
 
 /// Room for the start of a line: a word, three numbers, and the spaces behind them.
 type Start = ArrayVec<u8, 32>;
@@ -59,17 +62,19 @@ fn spell(bytes: &[u8], digits: &mut [u8])
     }
 }
 
-/// Bytes in hexadecimal, in this room; no bytes are `-`.
-fn digits_of<'a>(bytes: &[u8], room: &'a mut [u8]) -> &'a [u8]
-    requires { 2 * length bytes.now ≤ length room.old }
-    ensures { result.now ≡ bytes_text bytes.now }
+/// The rest of the line of a frame that arrives as it was sent, behind its receiver, in this room.
+fn rest_of<'a>(bytes: &[u8], room: &'a mut [u8]) -> &'a [u8]
+    requires { 2 * length bytes.now + 5 ≤ length room.old }
+    ensures { result.now ≡ codes " 15 " ++ bytes_text bytes.now ++ codes "\n" }
 {
     if bytes.is_empty() {
-        return b"-";
+        return b" 15 -\n";
     }
-    let digits = &mut room[..2 * bytes.len()];
-    spell(bytes, digits);
-    digits
+    let end = 4 + 2 * bytes.len();
+    room[..4].copy_from_slice(b" 15 ");
+    spell(bytes, &mut room[4..end]);
+    room[end] = b'\n';
+    &room[..end + 1]
 }
 
 /// Appends a piece of text.
@@ -146,15 +151,13 @@ impl<const ROOM: usize> Printer<ROOM> {
         self.byte(sink, b' ');
     }
 
-    /// Prints the line of one frame that arrives as it was sent, by its bytes in hexadecimal.
-    fn untouched<K: Sink>(&mut self, sink: &mut K, start: &[u8], to: u8, digits: &[u8])
-        ensures { Prints K.written K.faults self.old sink.old self.new sink.new (arrival_text start.now to on_time ++ digits.now ++ codes "\n") }
+    /// Prints the line of one frame that arrives as it was sent, by the start and the rest of the line.
+    fn untouched<K: Sink>(&mut self, sink: &mut K, start: &[u8], to: u8, rest: &[u8])
+        ensures { Prints K.written K.faults self.old sink.old self.new sink.new (start.now ++ decimal to ++ rest.now) }
     {
         self.text(sink, start);
         self.number(sink, to as u64);
-        self.text(sink, b" 15 ");
-        self.text(sink, digits);
-        self.byte(sink, b'\n');
+        self.text(sink, rest);
     }
 
     /// Prints the line of one frame that arrives.
@@ -189,20 +192,20 @@ impl<const ROOM: usize> Printer<ROOM> {
         requires planned { IsPlanOf plan.now shown.now }
         requires slot { slot < slot_count shown.now.m }
         requires from { from < shown.now.nodes }
-        requires room { 3 * length (frame_at shown.now slot from) ≤ length room.old }
+        requires room { 3 * length (frame_at shown.now slot from) + 5 ≤ length room.old }
         ensures { Prints K.written K.faults self.old sink.old self.new sink.new (sender_text plan.now shown.now slot from) }
     {
         // naming a field tells the checker the types of all of them
         let _ = &shown.classes;
         let sent = shown.sent(slot, from);
-        let (front, changed) = room.split_at_mut(2 * sent.len());
-        let digits = digits_of(sent, front);
+        let (front, changed) = room.split_at_mut(2 * sent.len() + AROUND);
+        let rest = rest_of(sent, front);
         let written = start_of(shown.period, slot, from);
         let start = written.as_slice();
         for to in 0..shown.nodes {
             if to != from {
                 if plan.effect(shown.period, slot, from, to).is_none() {
-                    self.untouched(sink, start, to, digits);
+                    self.untouched(sink, start, to, rest);
                 } else {
                     let scratch = &mut changed[..sent.len()];
                     let delivered = deliveries(plan, shown.period, slot, from, to, sent, scratch);
@@ -227,7 +230,7 @@ impl<const ROOM: usize> Printer<ROOM> {
         requires short { length (frame_at shown.now slot from) ≤ 90104 }
         ensures { Prints K.written K.faults self.old sink.old self.new sink.new (sender_text plan.now shown.now slot from) }
     {
-        let mut room = [0; 3 * LONGEST_FRAME];
+        let mut room = [0; 3 * LONGEST_FRAME + AROUND];
         self.receivers(sink, shown, plan, slot, from, &mut room);
     }
 
@@ -244,7 +247,7 @@ impl<const ROOM: usize> Printer<ROOM> {
         requires planned { IsPlanOf plan.now shown.now }
         requires slot { slot < slot_count shown.now.m }
         requires from { from < shown.now.nodes }
-        requires room { length room.old ≡ 3 * 1024 }
+        requires room { length room.old ≡ 3 * 1024 + 5 }
         ensures { Prints K.written K.faults self.old sink.old self.new sink.new (sender_text plan.now shown.now slot from) }
     {
         // naming a field tells the checker the types of all of them
@@ -270,7 +273,7 @@ impl<const ROOM: usize> Printer<ROOM> {
     {
         // naming a field tells the checker the types of all of them
         let _ = &shown.classes;
-        let mut room = [0; 3 * SHORT_FRAME];
+        let mut room = [0; 3 * SHORT_FRAME + AROUND];
         for from in 0..shown.nodes {
             self.sender(sink, shown, plan, slot, from, &mut room);
         }
