@@ -14,23 +14,23 @@ joined-push separator (y ∷ ys) x =
     ap (λ z. y ++ z) (flat_map-append f ys (x ∷ []) ∙ ap (λ z. flat_map f ys ++ z) (append-nil (separator ++ x)))
     ∙ sym (append_assoc y (flat_map f ys) (separator ++ x))
 
-module _ {S : Type 0} {written : S → Option (List ℕ)} {faults : S → ℕ} where
+module _ {S : Type 0} {room : ℕ} {written : S → Option (List ℕ)} {faults : S → ℕ} where
   -- one text after the other
-  pub then : {a b c : Printer} {r s t : S} {xs ys : List ℕ} → Prints written faults a r b s xs → Prints written faults b s c t ys → Prints written faults a r c t (xs ++ ys)
+  pub then : {a b c : Printer room} {r s t : S} {xs ys : List ℕ} → Prints written faults a r b s xs → Prints written faults b s c t ys → Prints written faults a r c t (xs ++ ys)
   then {a} {b} {c} {r} {s} {t} {xs} {ys} first second = record {
     goes_on = λ old before done h.
         subst (λ text. Printed old before text c (written t) (faults t)) (append_assoc done xs ys) (second.goes_on old before (done ++ xs) (first.goes_on old before done h));
   }
 
   -- the text of a further item, behind a separator
-  pub further : {a b c d : Printer} {r s t u : S} (separator : List ℕ) (items : List (List ℕ)) (item : List ℕ)
+  pub further : {a b c d : Printer room} {r s t u : S} (separator : List ℕ) (items : List (List ℕ)) (item : List ℕ)
       → Prints written faults a r b s (joined separator items) → Prints written faults b s c t (separator_at separator (length items)) → Prints written faults c t d u item
       → Prints written faults a r d u (joined separator (items ++ item ∷ []))
   further {a} {b} {c} {d} {r} {s} {t} {u} separator items item before between last =
       subst (λ text. Prints written faults a r d u text) (sym (joined-push separator items item)) (then before (then between last))
 
   -- a text that is printed from the start, and then finished
-  pub finished : {T E : Type 0} {a b : Printer} {r s t : S} {text : List ℕ} {result : Result T E} → a.gathered.items ≡ [] → a.failed ≡ false
+  pub finished : {T E : Type 0} {a b : Printer room} {r s t : S} {text : List ℕ} {result : Result T E} → a.gathered.items ≡ [] → a.failed ≡ false
       → Prints written faults a r b s text → Finishes written faults b s t result → WritesText written faults r t text result
   finished {T} {E} {a} {b} {r} {s} {t} {text} {result} empty going prints finishes =
       let v : Option (List ℕ) = written r in
@@ -39,5 +39,5 @@ module _ {S : Type 0} {written : S → Option (List ℕ)} {faults : S → ℕ} w
       finishes v k text (prints.goes_on v k [] (subst (λ b. PrintedIf b v v k k a.gathered.items []) (sym going) gathers))
 
 -- nothing is printed where nothing happens
-pub nothing : {S : Type 0} (written : S → Option (List ℕ)) (faults : S → ℕ) (p : Printer) (s : S) → Prints written faults p s p s []
+pub nothing : {S : Type 0} {room : ℕ} (written : S → Option (List ℕ)) (faults : S → ℕ) (p : Printer room) (s : S) → Prints written faults p s p s []
 nothing written faults p s = record { goes_on = λ old before done h. subst (λ text. Printed old before text p (written s) (faults s)) (sym (append-nil done)) h }

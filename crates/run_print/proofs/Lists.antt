@@ -1,10 +1,11 @@
 -- Lists of texts, a number at a time.
-use Rattle.std.proofs.Common.{◌≡◌, ◌≢◌, ℕ, zero, suc, ◌+◌, ◌/◌, ◌%◌, ◌<◌, true, List, [], ◌∷◌, ◌++◌, length, map, take, drop, replicate, refl, sym, ap, ◌∙◌, arith, append-nil, Option, None, Some, ℤ}
+use Rattle.std.proofs.Common.{◌≡◌, ◌≢◌, ℕ, zero, suc, ◌+◌, ◌/◌, ◌%◌, ◌<◌, true, List, [], ◌∷◌, ◌++◌, length, map, take, drop, replicate, refl, sym, ap, ◌∙◌, arith, append_assoc, append-nil, Option, None, Some, ℤ}
 use Rattle.std.proofs.Common.{ne_eqb}
 use Rattle.std.proofs.lemmas.Bool.{cond-true, cond-false}
-use Rattle.std.specs.Prelude.{◌==◌, codes, slice_index_or, is_none, option_map}
+use Rattle.std.specs.Prelude.{◌==◌, codes, decimal, slice_index_or, is_none, option_map}
 use Rattle.std.specs.List.{flat_map, range_with_len}
 use Rattle.std.proofs.Math.Seq.{take-add}
+use Rattle.std.proofs.lemmas.Fmt.{decimal_digit, decimal_step}
 use Rattle.std.proofs.lemmas.Grind.{flat_map-append, replicate_next}
 use Rattle.std.proofs.lemmas.List.FromFn.{map-range_with_len_more, length-map-range_with_len}
 use Rattle.hex.specs.Hex.{encode_with, encode_lower, lower_digits}
@@ -16,7 +17,7 @@ use Rattle.fault_classes.specs.Line.{effect_at}
 use Rattle.fault_classes.specs.Plan.{Plan}
 use Rattle.fault_link.specs.Arrival.{delivered_of}
 use Rattle.cluster_step.specs.Record.{PeriodView, frame_at}
-use Rattle.run_print.specs.TraceText.{bytes_text, arrival_text, frame_text, link_text}
+use Rattle.run_print.specs.TraceText.{bytes_text, start_text, frame_text, link_text}
 use Rattle.run_print.proofs.Joining.{joined-push}
 
 range_next : (a n k : ℕ) → a + n ≡ k → range_with_len a (n + 1) ≡ range_with_len a n ++ k ∷ []
@@ -64,9 +65,23 @@ pub some_bytes : (bytes : List ℕ) → 0 < length bytes → bytes_text bytes �
 some_bytes [] h = absurd (omega (arith, h))
 some_bytes (b ∷ bs) h = refl
 
+on_time_text : decimal on_time ≡ codes "15"
+on_time_text = decimal_step 15 (omega arith) (omega arith) ∙ ap (λ tens. tens ++ codes "5") (decimal_digit 1 (omega arith))
+
+between_on_time : (start : List ℕ) → start ++ codes " " ++ decimal on_time ++ codes " " ≡ start ++ codes " 15 "
+between_on_time start =
+    ap (λ tick. start ++ codes " " ++ tick ++ codes " ") on_time_text
+    ∙ append_assoc (start ++ codes " ") (codes "15") (codes " ") ∙ append_assoc start (codes " ") (codes "15 ")
+
+-- the line of a frame that is on time, by what stands before the tick and what stands from there on
+on_time_line : (start bytes : List ℕ) → start ++ codes " " ++ decimal on_time ++ codes " " ++ bytes ++ codes "\n" ≡ start ++ (codes " 15 " ++ bytes ++ codes "\n")
+on_time_line start bytes =
+    ap (λ front. front ++ bytes ++ codes "\n") (between_on_time start)
+    ∙ ap (λ front. front ++ codes "\n") (append_assoc start (codes " 15 ") bytes) ∙ append_assoc start (codes " 15 " ++ bytes) (codes "\n")
+
 -- what a link's lines are, of another receiver than the sender, and of the sender itself
 pub link_some : (plan : Plan) (t : PeriodView) (slot from to : ℕ) → to ≢ from
-    → link_text plan t slot from to ≡ flat_map (frame_text t.period slot from to) (delivered_of (effect_at plan.lines t.period slot from to) (frame_at t slot from))
+    → link_text plan t slot from to ≡ flat_map (frame_text (start_text t.period slot from) to) (delivered_of (effect_at plan.lines t.period slot from to) (frame_at t slot from))
 link_some plan t slot from to h = cond-false (to == from) _ _ (ne_eqb to from h)
 
 pub link_none : (plan : Plan) (t : PeriodView) (slot from to : ℕ) → to ≡ from → link_text plan t slot from to ≡ []
@@ -74,11 +89,13 @@ link_none plan t slot from to h = let same : (to == from) ≡ true = grind (arit
 
 -- and what they are where no fault line touches the frame
 pub link_untouched : (plan : Plan) (t : PeriodView) (slot from to : ℕ) → to ≢ from → effect_at plan.lines t.period slot from to ≡ None
-    → link_text plan t slot from to ≡ arrival_text t.period slot from to on_time ++ bytes_text (frame_at t slot from) ++ codes "\n"
+    → link_text plan t slot from to ≡ start_text t.period slot from ++ decimal to ++ (codes " 15 " ++ bytes_text (frame_at t slot from) ++ codes "\n")
 link_untouched plan t slot from to h untouched =
+    let start = start_text t.period slot from in
     link_some plan t slot from to h
-    ∙ ap (λ (e : Option Change). flat_map (frame_text t.period slot from to) (delivered_of e (frame_at t slot from))) untouched
-    ∙ append-nil (frame_text t.period slot from to (on_time, frame_at t slot from))
+    ∙ ap (λ (e : Option Change). flat_map (frame_text start to) (delivered_of e (frame_at t slot from))) untouched
+    ∙ append-nil (frame_text start to (on_time, frame_at t slot from))
+    ∙ on_time_line (start ++ decimal to) (bytes_text (frame_at t slot from))
 
 pub no_effect : {X Y : Type 0} (f : X → Y) (found : Option X) (e : Option Y) → is_none found ≡ true → option_map f found ≡ e → e ≡ None
 no_effect f None e h k = sym k

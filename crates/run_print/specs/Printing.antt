@@ -22,16 +22,16 @@ PrintedIf false old now before count gathered text = Gathers old now before coun
 PrintedIf true old now before count gathered text = Fails old now before count text
 
 -- since the sink had `old` written and `before` faults, the text was printed
-abbrev pub Printed : Option (List ℕ) → ℕ → List ℕ → Printer → Option (List ℕ) → ℕ → Type 0
+abbrev pub Printed : {room : ℕ} → Option (List ℕ) → ℕ → List ℕ → Printer room → Option (List ℕ) → ℕ → Type 0
 Printed old before text printer now count = PrintedIf printer.failed old now before count printer.gathered.items text
 
 -- Whatever was printed before, the text is printed after it: from a printer and a sink to what they are then. What was written to a sink,
 -- and how often it failed, is as its kind of sinks tells it.
-pub record Prints {S : Type 0} (written : S → Option (List ℕ)) (faults : S → ℕ) (p : Printer) (s : S) (p' : Printer) (s' : S) (text : List ℕ) : Type 0 where
+pub record Prints {S : Type 0} {room : ℕ} (written : S → Option (List ℕ)) (faults : S → ℕ) (p : Printer room) (s : S) (p' : Printer room) (s' : S) (text : List ℕ) : Type 0 where
   pub goes_on : (old : Option (List ℕ)) (before : ℕ) (done : List ℕ) → Printed old before done p (written s) (faults s) → Printed old before (done ++ text) p' (written s') (faults s')
 
 -- all that was printed is written, and the count of faults stayed; or a prefix of it, and the count rose
-abbrev pub Finishes : {S T E : Type 0} → (S → Option (List ℕ)) → (S → ℕ) → Printer → S → S → Result T E → Type 0
+abbrev pub Finishes : {S T E : Type 0} {room : ℕ} → (S → Option (List ℕ)) → (S → ℕ) → Printer room → S → S → Result T E → Type 0
 Finishes written faults p s s' result =
     (old : Option (List ℕ)) (before : ℕ) (done : List ℕ) → Printed old before done p (written s) (faults s) → Writes old (written s') before (faults s') done result
 

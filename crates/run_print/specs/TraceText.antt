@@ -16,20 +16,22 @@ abbrev pub bytes_text : List ℕ → List ℕ
 bytes_text [] = codes "-"
 bytes_text (b ∷ bs) = encode_lower (b ∷ bs)
 
--- the front of the line of a frame that arrives, with its tick
-abbrev pub arrival_text : ℕ → ℕ → ℕ → ℕ → ℕ → List ℕ
-arrival_text period slot from to tick =
-    codes "frame " ++ decimal period ++ codes " " ++ decimal slot ++ codes " " ++ decimal from ++ codes " " ++ decimal to
-    ++ codes " " ++ decimal tick ++ codes " "
+-- the start of the lines of a sender's frame, up to their receivers
+abbrev pub start_text : ℕ → ℕ → ℕ → List ℕ
+start_text period slot from = codes "frame " ++ decimal period ++ codes " " ++ decimal slot ++ codes " " ++ decimal from ++ codes " "
+
+-- the line of a frame that arrives, by its start, up to its bytes: the receiver, and the tick
+abbrev pub arrival_text : List ℕ → ℕ → ℕ → List ℕ
+arrival_text start to tick = start ++ decimal to ++ codes " " ++ decimal tick ++ codes " "
 
 -- the line, with its bytes
-abbrev pub frame_text : ℕ → ℕ → ℕ → ℕ → ℕ × List ℕ → List ℕ
-frame_text period slot from to d = arrival_text period slot from to d.0 ++ bytes_text d.1 ++ codes "\n"
+abbrev pub frame_text : List ℕ → ℕ → ℕ × List ℕ → List ℕ
+frame_text start to d = arrival_text start to d.0 ++ bytes_text d.1 ++ codes "\n"
 
 -- what arrives of a sender's frame at one receiver, which isn't the sender
 abbrev pub link_text : Plan → PeriodView → ℕ → ℕ → ℕ → List ℕ
 link_text plan t slot from to =
-    if to == from then [] else flat_map (frame_text t.period slot from to) (delivered_of (effect_at plan.lines t.period slot from to) (frame_at t slot from))
+    if to == from then [] else flat_map (frame_text (start_text t.period slot from) to) (delivered_of (effect_at plan.lines t.period slot from to) (frame_at t slot from))
 
 abbrev pub sender_text : Plan → PeriodView → ℕ → ℕ → List ℕ
 sender_text plan t slot from = flat_map (link_text plan t slot from) (ids_below t.nodes)

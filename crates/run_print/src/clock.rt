@@ -44,7 +44,7 @@ fn sound_range(classes: &[Class], numbers: &[i64]) -> Option<(i64, i64)>
     range
 }
 
-impl Printer {
+impl<const ROOM: usize> Printer<ROOM> {
     /// Prints how far the least and the greatest number of a sound node are apart.
     fn spread<K: Sink>(&mut self, sink: &mut K, classes: &[Class], numbers: &[i64])
         requires { length classes.now ≡ length numbers.now }

@@ -7,13 +7,13 @@ ghost use Rattle.run_print.specs.NodeText.{left_text, state_text, settled_text, 
 ghost use Rattle.run_print.specs.PeriodText.{alone_text};
 
 use crate::WriteFault;
-use crate::printer::Printer;
+use crate::printer::{Printer, SMALL};
 use agreed_state::Agreed;
 use membership::Left;
 use node_core::NodeRecord;
 use span_io::Sink;
 
-impl Printer {
+impl<const ROOM: usize> Printer<ROOM> {
     /// Prints how often each node left, where nodes retire.
     fn left<K: Sink, const N: usize>(
         &mut self,
@@ -118,7 +118,7 @@ pub fn write_alone<const N: usize, K: Sink>(
     requires nodes { nodes ≤ N }
     ensures { WritesText K.written K.faults sink.old sink.new (alone_text period id nodes retire shown.now) result }
 {
-    let mut printer = Printer::new();
+    let mut printer = Printer::<SMALL>::new();
     printer.text(sink, b"period ");
     printer.number(sink, period as u64);
     printer.byte(sink, b'\n');

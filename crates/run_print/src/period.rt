@@ -1,5 +1,5 @@
 //! The printed lines of a period, of the end of a run, and of a refusal.
-ghost use Rattle.std.specs.Prelude.{◌≡◌, ◌≤◌, ◌<◌, true, slice_get};
+ghost use Rattle.std.specs.Prelude.{◌≡◌, ◌≤◌, ◌<◌, true, false, slice_get};
 ghost use Rattle.node_grid.specs.Capacity.{IsCapacity};
 ghost use Rattle.run_print.specs.Printing.{Prints, WritesText};
 ghost use Rattle.run_print.specs.Text.{class_text};
@@ -7,13 +7,13 @@ ghost use Rattle.run_print.specs.TraceText.{IsPlanOf, period_text};
 ghost use Rattle.run_print.specs.PeriodText.{budget_text, head_text, recorded_text, nodes_text, end_text, refused_text};
 
 use crate::WriteFault;
-use crate::printer::Printer;
+use crate::printer::{LARGE, Printer, SMALL};
 use cluster_step::PeriodRecord;
 use fault_classes::{Budget, FaultPlan};
 use node_grid::Class;
 use span_io::Sink;
 
-impl Printer {
+impl<const ROOM: usize> Printer<ROOM> {
     /// Prints the members of a period by class.
     fn budget<K: Sink>(&mut self, sink: &mut K, budget: &Budget)
         ensures { Prints K.written K.faults self.old sink.old self.new sink.new (budget_text budget.now) }
@@ -67,6 +67,25 @@ impl Printer {
             self.recorded(sink, shown, i);
         }
     }
+
+    /// Prints all lines of a period, with `trace` those of its frames too.
+    fn period<K: Sink, const N: usize>(
+        &mut self,
+        sink: &mut K,
+        shown: &PeriodRecord<N>,
+        plan: &FaultPlan<N>,
+        trace: bool,
+    )
+        requires capacity { IsCapacity N }
+        requires nodes { shown.now.nodes ≤ N }
+        requires planned { trace ≡ true → IsPlanOf plan.now shown.now }
+        ensures { Prints K.written K.faults self.old sink.old self.new sink.new (period_text plan.now trace shown.now) }
+    {
+        self.head(sink, shown);
+        self.nodes(sink, shown);
+        self.clock(sink, shown);
+        self.traced(sink, shown, plan, trace);
+    }
 }
 
 /// A class's letter.
@@ -92,8 +111,39 @@ pub fn write_head<const N: usize, K: Sink>(
 ) -> Result<(), WriteFault>
     ensures { WritesText K.written K.faults sink.old sink.new (head_text shown.now) result }
 {
-    let mut printer = Printer::new();
+    let mut printer = Printer::<SMALL>::new();
     printer.head(sink, shown);
+    printer.finish(sink)
+}
+
+/// Writes all lines of a period but those of its frames.
+fn write_untraced<const N: usize, K: Sink>(
+    shown: &PeriodRecord<N>,
+    plan: &FaultPlan<N>,
+    sink: &mut K,
+) -> Result<(), WriteFault>
+    requires capacity { IsCapacity N }
+    requires nodes { shown.now.nodes ≤ N }
+    ensures { WritesText K.written K.faults sink.old sink.new (period_text plan.now false shown.now) result }
+{
+    let mut printer = Printer::<SMALL>::new();
+    printer.period(sink, shown, plan, false);
+    printer.finish(sink)
+}
+
+/// Writes all lines of a period, with those of its frames.
+fn write_traced<const N: usize, K: Sink>(
+    shown: &PeriodRecord<N>,
+    plan: &FaultPlan<N>,
+    sink: &mut K,
+) -> Result<(), WriteFault>
+    requires capacity { IsCapacity N }
+    requires nodes { shown.now.nodes ≤ N }
+    requires planned { IsPlanOf plan.now shown.now }
+    ensures { WritesText K.written K.faults sink.old sink.new (period_text plan.now true shown.now) result }
+{
+    let mut printer = Printer::<LARGE>::new();
+    printer.period(sink, shown, plan, true);
     printer.finish(sink)
 }
 
@@ -116,12 +166,11 @@ pub fn write_period<const N: usize, K: Sink>(
     requires planned { trace ≡ true → IsPlanOf plan.now shown.now }
     ensures { WritesText K.written K.faults sink.old sink.new (period_text plan.now trace shown.now) result }
 {
-    let mut printer = Printer::new();
-    printer.head(sink, shown);
-    printer.nodes(sink, shown);
-    printer.clock(sink, shown);
-    printer.traced(sink, shown, plan, trace);
-    printer.finish(sink)
+    if trace {
+        write_traced(shown, plan, sink)
+    } else {
+        write_untraced(shown, plan, sink)
+    }
 }
 
 /// Writes the last line of a run of so many periods.
@@ -131,7 +180,7 @@ pub fn write_period<const N: usize, K: Sink>(
 pub fn write_end<K: Sink>(periods: u32, sink: &mut K) -> Result<(), WriteFault>
     ensures { WritesText K.written K.faults sink.old sink.new (end_text periods) result }
 {
-    let mut printer = Printer::new();
+    let mut printer = Printer::<SMALL>::new();
     printer.text(sink, b"end ");
     printer.number(sink, periods as u64);
     printer.byte(sink, b'\n');
@@ -145,7 +194,7 @@ pub fn write_end<K: Sink>(periods: u32, sink: &mut K) -> Result<(), WriteFault>
 pub fn write_refused<K: Sink>(rule: u8, place: u32, sink: &mut K) -> Result<(), WriteFault>
     ensures { WritesText K.written K.faults sink.old sink.new (refused_text rule place) result }
 {
-    let mut printer = Printer::new();
+    let mut printer = Printer::<SMALL>::new();
     printer.text(sink, b"refused ");
     printer.number(sink, rule as u64);
     printer.byte(sink, b' ');

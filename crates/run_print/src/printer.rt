@@ -7,18 +7,24 @@ use arrayvec::ArrayVec;
 use itoa::Buffer;
 use span_io::{Sink, write_all};
 
+/// Room for the lines of a few nodes.
+pub(crate) const SMALL: usize = 4096;
+
+/// Room for the lines of frames, which are many and long.
+pub(crate) const LARGE: usize = 65536;
+
 /// Gathers the small pieces of a text before they go to a sink.
 ///
 /// After a fault of the sink it drops what comes, and tells of the fault in the end. It takes no memory.
 #[derive(Drop)]
-pub(crate) struct Printer {
+pub(crate) struct Printer<const ROOM: usize> {
     /// What isn't written yet.
-    pub gathered: ArrayVec<u8, 4096>,
+    pub gathered: ArrayVec<u8, ROOM>,
     /// Whether the sink failed.
     pub failed: bool,
 }
 
-impl Printer {
+impl<const ROOM: usize> Printer<ROOM> {
     /// A printer that has gathered nothing.
     pub(crate) fn new() -> Self
         ensures gathered { result.gathered.items ≡ [] }
@@ -46,6 +52,15 @@ impl Printer {
     {
         if self.gathered.try_push(byte).is_err() {
             self.text(sink, &[byte]);
+        }
+    }
+
+    /// Prints two bytes.
+    pub(crate) fn pair<K: Sink>(&mut self, sink: &mut K, pair: [u8; 2])
+        ensures { Prints K.written K.faults self.old sink.old self.new sink.new pair }
+    {
+        if self.gathered.try_extend_from_slice(&pair).is_err() {
+            self.text(sink, &pair);
         }
     }
 

@@ -4,7 +4,7 @@ ghost use Rattle.run_print.specs.Printing.{Prints, WritesText};
 ghost use Rattle.run_print.specs.StormText.{sums_text, outcome_text, storm_text};
 
 use crate::WriteFault;
-use crate::printer::Printer;
+use crate::printer::{Printer, SMALL};
 use node_grid::NodeSet;
 use penalty::Counts;
 use span_io::Sink;
@@ -43,7 +43,7 @@ impl<const N: usize> Model for StormSum<N> {
     ghost view = { λ s. record { seed = s.seed; periods = s.periods; claimed = s.claimed; lines = s.lines; restarts = s.restarts; excluded = s.excluded; readmitted = s.readmitted; members = s.members; counts = s.counts.counts; nodes = s.nodes } };
 }
 
-impl Printer {
+impl<const ROOM: usize> Printer<ROOM> {
     /// Prints the first lines of a summary: its number, periods, lines and restarts, exclusions and readmissions.
     fn sums<K: Sink, const N: usize>(&mut self, sink: &mut K, sum: &StormSum<N>)
         ensures { Prints K.written K.faults self.old sink.old self.new sink.new (sums_text sum.now) }
@@ -90,7 +90,7 @@ pub fn write_storm<const N: usize, K: Sink>(
     requires { sum.now.nodes ≤ N }
     ensures { WritesText K.written K.faults sink.old sink.new (storm_text sum.now) result }
 {
-    let mut printer = Printer::new();
+    let mut printer = Printer::<SMALL>::new();
     printer.sums(sink, sum);
     printer.outcome(sink, sum);
     printer.finish(sink)

@@ -1,5 +1,5 @@
 //! The printed texts of values.
-ghost use Rattle.std.specs.Prelude.{◌≡◌, ◌≤◌, ◌<◌, ◌∷◌, [], None, codes, decimal, length, take, map, slice_index_or};
+ghost use Rattle.std.specs.Prelude.{◌≡◌, ◌≤◌, ◌<◌, ◌∷◌, ◌++◌, [], None, codes, decimal, length, take, map, slice_index_or};
 ghost use Rattle.node_grid.specs.Capacity.{IsCapacity};
 ghost use Rattle.omh_paths.specs.declared.wrapped.Wrapped.TheVariants.{Fault};
 ghost use Rattle.list_scheduler.specs.Copies.{works};
@@ -35,7 +35,7 @@ fn vote_of(votes: &[Option<i64>; 8], channel: u8) -> Option<i64>
     }
 }
 
-impl Printer {
+impl<const ROOM: usize> Printer<ROOM> {
     /// Prints the separator before the item at place `k`.
     fn separator<K: Sink>(&mut self, sink: &mut K, k: usize, separator: u8)
         ensures { Prints K.written K.faults self.old sink.old self.new sink.new (separator_at (separator ∷ []) k) }
@@ -45,13 +45,35 @@ impl Printer {
         }
     }
 
+    /// Prints a number behind a separator.
+    fn number_behind<K: Sink>(&mut self, sink: &mut K, separator: u8, n: u64)
+        ensures { Prints K.written K.faults self.old sink.old self.new sink.new (separator ∷ decimal n) }
+    {
+        if n < 10 {
+            self.pair(sink, [separator, b'0' + n as u8]);
+        } else {
+            self.byte(sink, separator);
+            self.number(sink, n);
+        }
+    }
+
+    /// Prints the number at place `k` of some, behind a separator where it isn't the first.
+    fn number_at<K: Sink>(&mut self, sink: &mut K, k: usize, separator: u8, n: u64)
+        ensures { Prints K.written K.faults self.old sink.old self.new sink.new (separator_at (separator ∷ []) k ++ decimal n) }
+    {
+        if k > 0 {
+            self.number_behind(sink, separator, n);
+        } else {
+            self.number(sink, n);
+        }
+    }
+
     /// Prints numbers, joined by commas.
     pub(crate) fn numbers<K: Sink>(&mut self, sink: &mut K, numbers: &[u16])
         ensures { Prints K.written K.faults self.old sink.old self.new sink.new (numbers_text numbers.now) }
     {
         for (k, n) in numbers.iter().enumerate() {
-            self.separator(sink, k, b',');
-            self.number(sink, *n as u64);
+            self.number_at(sink, k, b',', *n as u64);
         }
     }
 
@@ -75,8 +97,7 @@ impl Printer {
         }
         let mut printed: usize = 0;
         for node in set.iter() {
-            self.separator(sink, printed, b',');
-            self.number(sink, node as u64);
+            self.number_at(sink, printed, b',', node as u64);
             printed += 1;
         }
     }

@@ -1,5 +1,6 @@
 //! The printed frames of a period.
-ghost use Rattle.std.specs.Prelude.{◌≡◌, true, [], ◌++◌, if◌then◌else◌, ◌≢◌, ◌+◌, ◌*◌, ◌≤◌, ◌<◌, codes, length, replicate, slice_index};
+ghost use Rattle.std.specs.Prelude.{◌≡◌, true, [], ◌++◌, if◌then◌else◌, ◌≢◌, ◌+◌, ◌*◌, ◌≤◌, ◌<◌, codes, decimal, length, replicate, slice_index};
+ghost use Rattle.arrayvec.specs.ArrayVec.{array_vec_len};
 ghost use Rattle.std.specs.List.{flat_map};
 ghost use Rattle.hex.specs.Hex.{encode_lower, lower_digits};
 ghost use Rattle.slot_plan.specs.Slots.{slot_count};
@@ -8,29 +9,28 @@ ghost use Rattle.fault_classes.specs.Line.{effect_at};
 ghost use Rattle.fault_link.specs.Arrival.{delivered_of};
 ghost use Rattle.cluster_step.specs.Record.{frame_at};
 ghost use Rattle.run_print.specs.Printing.{Prints};
-ghost use Rattle.run_print.specs.TraceText.{IsPlanOf, bytes_text, arrival_text, frame_text, link_text, sender_text, slot_text, frames_text};
+ghost use Rattle.run_print.specs.TraceText.{IsPlanOf, bytes_text, start_text, arrival_text, frame_text, link_text, sender_text, slot_text, frames_text};
 
 use crate::printer::Printer;
+use arrayvec::ArrayVec;
 use cluster_step::{LONGEST_FRAME, PeriodRecord};
 use fault_classes::FaultPlan;
 use fault_link::{Delivered, deliveries};
-use slot_plan::{ON_TIME, slot_count};
+use itoa::{Buffer, Integer};
+use slot_plan::slot_count;
 use span_io::Sink;
 
-/// The length of a frame for which little room is taken.
+/// The length of a frame up to which all frames of a slot share their room.
 const SHORT_FRAME: usize = 1024;
 
 /// How many bytes are put into hexadecimal at once, where a fault line touches a frame.
 const PIECE: usize = 512;
 
-/// Where a frame is sent.
-#[derive(Clone, Copy)]
-struct Link {
-    period: u32,
-    slot: u8,
-    from: u8,
-    to: u8,
-}
+/// How many bytes stand before and behind the digits in the rest of a line.
+const AROUND: usize = 5;
+
+/// Room for the start of a line: a word, three numbers, and the spaces behind them.
+type Start = ArrayVec<u8, 32>;
 
 /// How many slots a period has, by the relay rounds of the plan.
 fn slots_of<const N: usize>(plan: &FaultPlan<N>, rounds: u8) -> u8
@@ -62,20 +62,56 @@ fn spell(bytes: &[u8], digits: &mut [u8])
     }
 }
 
-/// Bytes in hexadecimal, in this room; no bytes are `-`.
-fn digits_of<'a>(bytes: &[u8], room: &'a mut [u8]) -> &'a [u8]
-    requires { 2 * length bytes.now ≤ length room.old }
-    ensures { result.now ≡ bytes_text bytes.now }
+/// The rest of the line of a frame that arrives as it was sent, behind its receiver, in this room.
+fn rest_of<'a>(bytes: &[u8], room: &'a mut [u8]) -> &'a [u8]
+    requires { 2 * length bytes.now + 5 ≤ length room.old }
+    ensures { result.now ≡ codes " 15 " ++ bytes_text bytes.now ++ codes "\n" }
 {
     if bytes.is_empty() {
-        return b"-";
+        return b" 15 -\n";
     }
-    let digits = &mut room[..2 * bytes.len()];
-    spell(bytes, digits);
-    digits
+    let end = 4 + 2 * bytes.len();
+    room[..4].copy_from_slice(b" 15 ");
+    spell(bytes, &mut room[4..end]);
+    room[end] = b'\n';
+    &room[..end + 1]
 }
 
-impl Printer {
+/// Appends a piece of text.
+fn put(start: &mut Start, bytes: &[u8])
+    requires { array_vec_len start.old + length bytes.now ≤ 32 }
+    ensures items { start.new.items ≡ start.old.items ++ bytes.now }
+    ensures len { array_vec_len start.new ≡ array_vec_len start.old + length bytes.now }
+{
+    let _ = start.try_extend_from_slice(bytes);
+}
+
+/// Appends a number in decimal.
+fn put_number<I: Integer>(start: &mut Start, n: I)
+    requires { array_vec_len start.old + I.MAX_STR_LEN ≤ 32 }
+    ensures items { start.new.items ≡ start.old.items ++ I.text n }
+    ensures len { array_vec_len start.new ≤ array_vec_len start.old + I.MAX_STR_LEN }
+{
+    let mut buffer = Buffer::new();
+    put(start, buffer.format(n).as_bytes());
+}
+
+/// The start of the lines of a sender's frame, up to their receivers.
+fn start_of(period: u32, slot: u8, from: u8) -> Start
+    ensures { result.items ≡ start_text period slot from }
+{
+    let mut start = ArrayVec::new();
+    put(&mut start, b"frame ");
+    put_number(&mut start, period);
+    put(&mut start, b" ");
+    put_number(&mut start, slot);
+    put(&mut start, b" ");
+    put_number(&mut start, from);
+    put(&mut start, b" ");
+    start
+}
+
+impl<const ROOM: usize> Printer<ROOM> {
     /// Prints a few bytes in hexadecimal.
     fn piece<K: Sink>(&mut self, sink: &mut K, bytes: &[u8])
         requires { length bytes.now ≤ 512 }
@@ -104,47 +140,41 @@ impl Printer {
         self.piece(sink, rest);
     }
 
-    /// Prints the front of the line of a frame, up to its bytes.
-    fn arrival<K: Sink>(&mut self, sink: &mut K, link: Link, tick: u8)
-        ensures { Prints K.written K.faults self.old sink.old self.new sink.new (arrival_text link.period link.slot link.from link.to tick) }
+    /// Prints the line of one frame up to its bytes, by the start of the line.
+    fn arrival<K: Sink>(&mut self, sink: &mut K, start: &[u8], to: u8, tick: u8)
+        ensures { Prints K.written K.faults self.old sink.old self.new sink.new (arrival_text start.now to tick) }
     {
-        self.text(sink, b"frame ");
-        self.number(sink, link.period as u64);
-        self.byte(sink, b' ');
-        self.number(sink, link.slot as u64);
-        self.byte(sink, b' ');
-        self.number(sink, link.from as u64);
-        self.byte(sink, b' ');
-        self.number(sink, link.to as u64);
+        self.text(sink, start);
+        self.number(sink, to as u64);
         self.byte(sink, b' ');
         self.number(sink, tick as u64);
         self.byte(sink, b' ');
     }
 
-    /// Prints the line of one frame that arrives as it was sent, by its bytes in hexadecimal.
-    fn untouched<K: Sink>(&mut self, sink: &mut K, link: Link, digits: &[u8])
-        ensures { Prints K.written K.faults self.old sink.old self.new sink.new (arrival_text link.period link.slot link.from link.to on_time ++ digits.now ++ codes "\n") }
+    /// Prints the line of one frame that arrives as it was sent, by the start and the rest of the line.
+    fn untouched<K: Sink>(&mut self, sink: &mut K, start: &[u8], to: u8, rest: &[u8])
+        ensures { Prints K.written K.faults self.old sink.old self.new sink.new (start.now ++ decimal to ++ rest.now) }
     {
-        self.arrival(sink, link, ON_TIME);
-        self.text(sink, digits);
-        self.byte(sink, b'\n');
+        self.text(sink, start);
+        self.number(sink, to as u64);
+        self.text(sink, rest);
     }
 
     /// Prints the line of one frame that arrives.
-    fn frame<K: Sink>(&mut self, sink: &mut K, link: Link, tick: u8, bytes: &[u8])
-        ensures { Prints K.written K.faults self.old sink.old self.new sink.new (frame_text link.period link.slot link.from link.to (tick, bytes.now)) }
+    fn frame<K: Sink>(&mut self, sink: &mut K, start: &[u8], to: u8, tick: u8, bytes: &[u8])
+        ensures { Prints K.written K.faults self.old sink.old self.new sink.new (frame_text start.now to (tick, bytes.now)) }
     {
-        self.arrival(sink, link, tick);
+        self.arrival(sink, start, to, tick);
         self.bytes(sink, bytes);
         self.byte(sink, b'\n');
     }
 
     /// Prints what arrives at one receiver.
-    fn copies<K: Sink>(&mut self, sink: &mut K, link: Link, delivered: &Delivered<'_>)
-        ensures { Prints K.written K.faults self.old sink.old self.new sink.new (flat_map (frame_text link.period link.slot link.from link.to) (replicate delivered.now.copies (delivered.now.tick, delivered.now.bytes.now))) }
+    fn copies<K: Sink>(&mut self, sink: &mut K, start: &[u8], to: u8, delivered: &Delivered<'_>)
+        ensures { Prints K.written K.faults self.old sink.old self.new sink.new (flat_map (frame_text start.now to) (replicate delivered.now.copies (delivered.now.tick, delivered.now.bytes.now))) }
     {
         for _copy in 0..delivered.copies {
-            self.frame(sink, link, delivered.tick, delivered.bytes);
+            self.frame(sink, start, to, delivered.tick, delivered.bytes);
         }
     }
 
@@ -162,28 +192,24 @@ impl Printer {
         requires planned { IsPlanOf plan.now shown.now }
         requires slot { slot < slot_count shown.now.m }
         requires from { from < shown.now.nodes }
-        requires room { 3 * length (frame_at shown.now slot from) ≤ length room.old }
+        requires room { 3 * length (frame_at shown.now slot from) + 5 ≤ length room.old }
         ensures { Prints K.written K.faults self.old sink.old self.new sink.new (sender_text plan.now shown.now slot from) }
     {
         // naming a field tells the checker the types of all of them
         let _ = &shown.classes;
         let sent = shown.sent(slot, from);
-        let (front, changed) = room.split_at_mut(2 * sent.len());
-        let digits = digits_of(sent, front);
+        let (front, changed) = room.split_at_mut(2 * sent.len() + AROUND);
+        let rest = rest_of(sent, front);
+        let written = start_of(shown.period, slot, from);
+        let start = written.as_slice();
         for to in 0..shown.nodes {
             if to != from {
-                let link = Link {
-                    period: shown.period,
-                    slot,
-                    from,
-                    to,
-                };
                 if plan.effect(shown.period, slot, from, to).is_none() {
-                    self.untouched(sink, link, digits);
+                    self.untouched(sink, start, to, rest);
                 } else {
                     let scratch = &mut changed[..sent.len()];
                     let delivered = deliveries(plan, shown.period, slot, from, to, sent, scratch);
-                    self.copies(sink, link, &delivered);
+                    self.copies(sink, start, to, &delivered);
                 }
             }
         }
@@ -204,11 +230,11 @@ impl Printer {
         requires short { length (frame_at shown.now slot from) ≤ 90104 }
         ensures { Prints K.written K.faults self.old sink.old self.new sink.new (sender_text plan.now shown.now slot from) }
     {
-        let mut room = [0; 3 * LONGEST_FRAME];
+        let mut room = [0; 3 * LONGEST_FRAME + AROUND];
         self.receivers(sink, shown, plan, slot, from, &mut room);
     }
 
-    /// Prints what arrives at each receiver of a sender's frame.
+    /// Prints what arrives at each receiver of a sender's frame, with room for a short one.
     fn sender<K: Sink, const N: usize>(
         &mut self,
         sink: &mut K,
@@ -216,17 +242,18 @@ impl Printer {
         plan: &FaultPlan<N>,
         slot: u8,
         from: u8,
+        room: &mut [u8],
     )
         requires planned { IsPlanOf plan.now shown.now }
         requires slot { slot < slot_count shown.now.m }
         requires from { from < shown.now.nodes }
+        requires room { length room.old ≡ 3 * 1024 + 5 }
         ensures { Prints K.written K.faults self.old sink.old self.new sink.new (sender_text plan.now shown.now slot from) }
     {
         // naming a field tells the checker the types of all of them
         let _ = &shown.classes;
         if shown.sent(slot, from).len() <= SHORT_FRAME {
-            let mut room = [0; 3 * SHORT_FRAME];
-            self.receivers(sink, shown, plan, slot, from, &mut room);
+            self.receivers(sink, shown, plan, slot, from, room);
         } else {
             self.long_sender(sink, shown, plan, slot, from);
         }
@@ -246,8 +273,9 @@ impl Printer {
     {
         // naming a field tells the checker the types of all of them
         let _ = &shown.classes;
+        let mut room = [0; 3 * SHORT_FRAME + AROUND];
         for from in 0..shown.nodes {
-            self.sender(sink, shown, plan, slot, from);
+            self.sender(sink, shown, plan, slot, from, &mut room);
         }
     }
 

@@ -5,5 +5,4 @@ use Rattle.run_print.proofs.printer.Printer.copies.Goals as goal
 
 pub loop-copy-preserved : goal.loop-copy-preserved
 loop-copy-preserved g c =
-    let l = c.args.link in
-    rw (copy_next (frame_text l.period l.slot l.from l.to) (c.args.delivered.now.tick, c.args.delivered.now.bytes.now) c.loop-copy._copy) (then c.loop-copy.invariant c.frame.ensures)
+    rw (copy_next (frame_text c.args.start.now c.args.to) (c.args.delivered.now.tick, c.args.delivered.now.bytes.now) c.loop-copy._copy) (then c.loop-copy.invariant c.frame.ensures)

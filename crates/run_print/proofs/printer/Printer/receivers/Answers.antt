@@ -22,10 +22,10 @@ loop-to-preserved g c =
           let untouched : effect_at plan.lines c.shown.inside.period slot from to ≡ None =
           no_effect (λ e. change_of e.now) w.effect.result (effect_at plan.lines c.shown.inside.period slot from to) (ap not (w.is_none.ensures ∙ ap not w.if-is_none.true)) w.effect.ensures in
           rw (w.self-is, w.sink-is, flat_next (link_text plan shown slot from) to, link_untouched plan shown slot from to w.if-to-from.true (rw period at untouched))
-          (then c.loop-to.invariant (rw (c.digits_of-digits.ensures, c.sent-sent.ensures.bytes, period) at w.untouched.ensures))
+          (then c.loop-to.invariant (rw (c.rest_of-rest.ensures, c.sent-sent.ensures.bytes, c.as_slice-start.ensures.value, c.start_of-written.ensures, period) at w.untouched.ensures))
       | then-to-from+else-is_none w ↦
           rw (w.self-is, w.sink-is, flat_next (link_text plan shown slot from) to, link_some plan shown slot from to w.if-to-from.true)
-          (then c.loop-to.invariant (rw (w.deliveries-delivered.ensures, c.sent-sent.ensures.bytes, period) at w.copies.ensures))
+          (then c.loop-to.invariant (rw (w.deliveries-delivered.ensures, c.sent-sent.ensures.bytes, c.as_slice-start.ensures.value, c.start_of-written.ensures, period) at w.copies.ensures))
       | else-to-from w ↦
           rw (w.self-is, w.sink-is, flat_next (link_text plan shown slot from) to, link_none plan shown slot from to w.if-to-from.false, append-nil (flat_map (link_text plan shown slot from) (ids_below to))) c.loop-to.invariant
     ]

@@ -1,0 +1,5 @@
+use Rattle.run_print.proofs.Joining.{finished}
+use Rattle.run_print.proofs.period.write_untraced.Goals as goal
+
+pub returns : goal.returns
+returns g c = finished c.new-printer.ensures.gathered c.new-printer.ensures.failed c.period.ensures c.finish.ensures
