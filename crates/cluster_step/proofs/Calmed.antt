@@ -1,5 +1,5 @@
 -- A calm period of all nodes: that it is one, what all nodes say in it, and where it leaves them.
-use Rattle.std.proofs.Common.{ℕ, suc, ◌≡◌, ◌<◌, ◌≤◌, ◌+◌, Bool, false, List, [], ◌∷◌, length, take, get_or, refl, sym, ap, ap₂, subst, ◌∙◌, arith, Option, Some, ℤ}
+use Rattle.std.proofs.Common.{ℕ, zero, suc, ◌≡◌, ◌<◌, ◌≤◌, ◌+◌, Bool, false, List, [], ◌∷◌, length, take, get_or, refl, sym, ap, ap₂, subst, ◌∙◌, arith, Option, Some, ℤ}
 use Rattle.std.specs.Prelude.{slice_index_or, not, ◌==◌}
 use Rattle.std.proofs.lemmas.List.{get_or-take, get_or-map, length-take-le}
 use Rattle.std.proofs.lemmas.List.FromFn.{fill_by_all, get_or-map-range_with_len}
@@ -30,6 +30,12 @@ use Rattle.cluster_step.specs.Calming.{IsUntouched, IsCalmWith, IsOneOf, IsSaid,
 use Rattle.cluster_step.specs.Periods.{IsAfter, IsBefore, AreBefore, AreNodes}
 use Rattle.cluster_step.proofs.Cleaning.{clean_at}
 use Rattle.cluster_step.proofs.Nodes.{valid_begins}
+
+-- all nodes keep the state that the first and the others keep
+pub all_keep : {N : ℕ} (vs rest : List (NodeView N)) (v : NodeView N) (a : AgreedView) → vs ≡ v ∷ rest → v.kept.state ≡ Some a
+    → ((k : ℕ) (d : NodeView N) → k < length rest → (get_or rest k d).kept.state ≡ Some a) → (k : ℕ) (d : NodeView N) → k < length vs → (get_or vs k d).kept.state ≡ Some a
+all_keep {N} vs rest v a e here others zero d low = ap (λ (xs : List (NodeView N)). (get_or xs 0 d).kept.state) e ∙ here
+all_keep {N} vs rest v a e here others (suc k) d low = ap (λ (xs : List (NodeView N)). (get_or xs (suc k) d).kept.state) e ∙ others k d (let long = ap (λ (xs : List (NodeView N)). length xs) e in omega (arith, low, long))
 
 module _ {N : ℕ} (sc : ScenarioView N) (p : ℕ) where
   abbrev sys : System

@@ -12,14 +12,6 @@ use agreed_state::Agreed;
 use calm_period::{Calm, Statement};
 use node_core::Node;
 
-/// The agreed state that the first node keeps.
-fn first_state<'c, const N: usize>(nodes: &[Node<'c, N>]) -> Option<Agreed<N>>
-    requires { IsCapacity N }
-{
-    let node = nodes.first()?;
-    node.state()
-}
-
 /// Whether all nodes keep this agreed state.
 fn all_keep<'c, const N: usize>(nodes: &[Node<'c, N>], agreed: &Agreed<N>) -> bool
     requires { IsCapacity N }
@@ -57,8 +49,9 @@ impl<'s, const N: usize> Period<'s, N> {
         if !self.is_untouched() {
             return None;
         }
-        let state = first_state(nodes)?;
-        if state.members.len() <= self.scenario.config().m || !all_keep(nodes, &state) {
+        let (first, others) = nodes.split_first()?;
+        let state = first.state()?;
+        if state.members.len() <= self.scenario.config().m || !all_keep(others, &state) {
             return None;
         }
         Some(state)

@@ -1,18 +1,25 @@
-use Rattle.std.proofs.Common.{◌≡◌, length, ap, ◌∙◌, inl, inr, lit<, arith}
+use Rattle.std.proofs.Common.{◌≡◌, ◌∷◌, length, Some, sym, ap, ◌∙◌, inl, inr, lit<, arith}
 use Rattle.agreed_state.specs.declared.config.Config.{Config}
 use Rattle.agreed_state.specs.Agreed.{AgreedView}
 use Rattle.cluster_step.proofs.Listed.{many_nodes}
-use Rattle.cluster_step.proofs.Calmed.{calm_with}
+use Rattle.cluster_step.proofs.Calmed.{calm_with, all_keep}
 use Rattle.cluster_step.proofs.stepping.Period.calm_state.Goals as goal
 
 pub config-requires : goal.config-requires
 config-requires g c = elim c.requires.capacity [ inl e ↦ rw e (lit< tt, lit< tt) | inr e ↦ rw e (lit< tt, lit< tt) ]
 
+pub state-requires : goal.state-requires
+state-requires g c = (elim c.requires.capacity [ inl e ↦ rw e (lit< tt) | inr e ↦ rw e (lit< tt) ], elim c.requires.capacity [ inl e ↦ rw e (lit< tt) | inr e ↦ rw e (lit< tt) ])
+
 pub returns : goal.returns
 returns g c =
     let sc = c.args.self.now.scenario.now in
+    let nodes = c.args.nodes.now in
     let m : c.config.result.now.m ≡ sc.config.m = ap (λ (y : Config g.row.N). y.m) c.config.ensures.config in
-    let many : c.len.result ≡ length c.in_ok-state.state.standing.members = c.len.ensures.count ∙ ap (λ (a : AgreedView). length a.standing.members) c.state.view_is in
-    calm_with sc c.args.self.now.number c.requires.capacity c.config.ensures.scenario c.args.nodes.now c.requires.before
-    (many_nodes sc c.requires.before.room c.args.self.now.number c.args.nodes.now c.requires.before.before)
-    (c.is_untouched.ensures c.if-not-is_untouched.false) c.in_ok-state.state (omega (arith, m, many, c.if-len-config.false)) (c.all_keep.ensures c.if-not-all_keep.false)
+    let many : c.len.result ≡ length c.in_ok-state.state.standing.members = c.len.ensures.count ∙ ap (λ (a : AgreedView). length a.standing.members) c.state-2.view_is in
+    let parted : nodes ≡ c.in_ok-first.first.now ∷ c.in_ok-first.others.now = c.in_ok-first.ensures.cases.0 in
+    let here : c.in_ok-first.first.now.kept.state ≡ Some c.in_ok-state.state = sym c.in_ok-state.ensures in
+    calm_with sc c.args.self.now.number c.requires.capacity c.config.ensures.scenario nodes c.requires.before
+    (many_nodes sc c.requires.before.room c.args.self.now.number nodes c.requires.before.before)
+    (c.is_untouched.ensures c.if-not-is_untouched.false) c.in_ok-state.state (omega (arith, m, many, c.if-len-config.false))
+    (all_keep nodes c.in_ok-first.others.now c.in_ok-first.first.now c.in_ok-state.state parted here (c.all_keep.ensures c.if-not-all_keep.false))
