@@ -26,7 +26,7 @@ use Rattle.node_steps.specs.Stages.{outcome_of as shown_of}
 use Rattle.node_steps.specs.Sending.{Fixed, fixed}
 use Rattle.node_core.specs.Passing.{kept_of, outcome_of}
 use Rattle.scenario.specs.Scenario.{ScenarioView, inputs_of, system_of, IsScenario}
-use Rattle.cluster_step.specs.Calming.{IsUntouched, IsCalmWith, IsOneOf, IsSaid, AreSaid}
+use Rattle.cluster_step.specs.Calming.{IsUntouched, IsCalmWith, IsOneOf, IsSaid, AreSaid, AreAlike}
 use Rattle.cluster_step.specs.Periods.{IsAfter, IsBefore, AreBefore, AreNodes}
 use Rattle.cluster_step.proofs.Cleaning.{clean_at}
 use Rattle.cluster_step.proofs.Nodes.{valid_begins}
@@ -36,6 +36,13 @@ pub all_keep : {N : ℕ} (vs rest : List (NodeView N)) (v : NodeView N) (a : Agr
     → ((k : ℕ) (d : NodeView N) → k < length rest → (get_or rest k d).kept.state ≡ Some a) → (k : ℕ) (d : NodeView N) → k < length vs → (get_or vs k d).kept.state ≡ Some a
 all_keep {N} vs rest v a e here others zero d low = ap (λ (xs : List (NodeView N)). (get_or xs 0 d).kept.state) e ∙ here
 all_keep {N} vs rest v a e here others (suc k) d low = ap (λ (xs : List (NodeView N)). (get_or xs (suc k) d).kept.state) e ∙ others k d (let long = ap (λ (xs : List (NodeView N)). length xs) e in omega (arith, low, long))
+
+-- and the others do where all are known to keep one
+pub others_keep : {N : ℕ} (vs rest : List (NodeView N)) (v : NodeView N) (a : AgreedView) → vs ≡ v ∷ rest → v.kept.state ≡ Some a → AreAlike vs
+    → (k : ℕ) (d : NodeView N) → k < length rest → (get_or rest k d).kept.state ≡ Some a
+others_keep {N} vs rest v a e here alike k d low =
+    let long = ap (λ (xs : List (NodeView N)). length xs) e in
+    ap (λ (xs : List (NodeView N)). (get_or xs (suc k) d).kept.state) (sym e) ∙ alike (suc k) d (omega (arith, low, long)) ∙ ap (λ (xs : List (NodeView N)). (get_or xs 0 d).kept.state) e ∙ here
 
 module _ {N : ℕ} (sc : ScenarioView N) (p : ℕ) where
   abbrev sys : System
@@ -160,3 +167,17 @@ module _ {N : ℕ} (sc : ScenarioView N) (p : ℕ) where
               record { same = y.same ∙ b.same; keeps = y.keeps; shut = y.shut; last = y.last };
         };
       }
+
+  -- and then all keep one state
+  pub alike_after : CalmLaw → IsScenario sc → (a : AgreedView) → IsCalmWith sc p a → (xs : List (Statement N)) → AreSaid sc p a xs → (calm : Calm N) → IsMade sc.config p a (said_by xs) calm
+      → (ys : List (NodeView N)) → length ys ≡ sc.config.nodes → AreNodes sc (p + 1) ys → AreAlike ys
+  alike_after law is a with xs said calm made ys many h i d low =
+      keeps i (omega (arith, low, many)) ∙ sym (keeps 0 (omega (arith, low, many)))
+    where
+      keeps : (j : ℕ) → j < sc.config.nodes → (get_or ys j d).kept.state ≡ Some calm.after
+      keeps j inside =
+          let v : View = calm_view (system_of sc).setting a (said_by xs) p j in
+          let views : view (run (system_of sc)) j p ≡ v = law (system_of sc) is.system refl p a with.calm (said_by xs) said.said j inside in
+          ap (λ (k : Kept). k.state)
+          ((node_there sc (p + 1) h.room ys h.before j d inside).keeps ∙ ap (kept (run (system_of sc)) j) (let e : p + 1 ≡ suc p = omega arith in e) ∙ sym (kept_after j v views))
+          ∙ ap Some (sym made.after)

@@ -1,5 +1,5 @@
 -- A calm period of all nodes of a scenario.
-use Rattle.std.specs.Prelude.{◌≡◌, ◌<◌, ℕ, true, false, List}
+use Rattle.std.specs.Prelude.{◌≡◌, ◌<◌, ℕ, true, false, List, length, slice_index_or}
 use Rattle.fault_classes.specs.Plan.{Plan, restarts_at, is_clean}
 use Rattle.agreed_state.specs.Agreed.{AgreedView, IsAgreed}
 use Rattle.calm_period.specs.declared.statement.Statement.{Statement}
@@ -36,3 +36,7 @@ pub record IsSaid {N : ℕ} (sc : ScenarioView N) (p : ℕ) (a : AgreedView) (i 
 pub record AreSaid {N : ℕ} (sc : ScenarioView N) (p : ℕ) (a : AgreedView) (xs : List (Statement N)) : Type 0 where
   pub are : AreStatements sc.config xs
   pub said : (j : ℕ) → j < sc.config.nodes → said_by xs j ≡ said_in (system_of sc) p a j
+
+-- all nodes keep the agreed state that the first of them keeps
+abbrev pub AreAlike : {N : ℕ} → List (NodeView N) → Type 0
+AreAlike {N} vs = (i : ℕ) (d : NodeView N) → i < length vs → (slice_index_or vs i d).kept.state ≡ (slice_index_or vs 0 d).kept.state

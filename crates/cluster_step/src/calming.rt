@@ -4,7 +4,7 @@
 ghost use Rattle.std.specs.Prelude.{◌≡◌, ◌<◌, ◌+◌, true, false, Some, All, IfSome, length, take};
 ghost use Rattle.node_grid.specs.Capacity.{IsCapacity};
 ghost use Rattle.calm_period.specs.Made.{said_by, IsMade};
-ghost use Rattle.cluster_step.specs.Calming.{IsUntouched, IsCalmWith, IsOneOf, IsSaid, AreSaid};
+ghost use Rattle.cluster_step.specs.Calming.{IsUntouched, IsCalmWith, IsOneOf, IsSaid, AreSaid, AreAlike};
 ghost use Rattle.cluster_step.specs.Periods.{AreNodes};
 
 use crate::stepping::Period;
@@ -12,11 +12,15 @@ use agreed_state::Agreed;
 use calm_period::{Calm, Statement};
 use node_core::Node;
 
-/// Whether all nodes keep this agreed state.
-fn all_keep<'c, const N: usize>(nodes: &[Node<'c, N>], agreed: &Agreed<N>) -> bool
-    requires { IsCapacity N }
+/// Whether all nodes keep this agreed state. None is asked where it is known that they do.
+fn all_keep<'c, const N: usize>(nodes: &[Node<'c, N>], agreed: &Agreed<N>, known: bool) -> bool
+    requires capacity { IsCapacity N }
+    requires known { known ≡ true → All (λ v. v.kept.state ≡ Some agreed.now) nodes.now }
     ensures { result ≡ true → All (λ v. v.kept.state ≡ Some agreed.now) nodes.now }
 {
+    if known {
+        return true;
+    }
     for node in nodes {
         if !node.keeps(agreed) {
             return false;
@@ -40,10 +44,12 @@ impl<'s, const N: usize> Period<'s, N> {
         true
     }
 
-    /// The agreed state with which all nodes go into the period, where the period is calm.
-    fn calm_state<'c>(&self, nodes: &[Node<'c, N>]) -> Option<Agreed<N>>
+    /// The agreed state with which all nodes go into the period, where the period is calm. `alike` tells that they all
+    /// keep one state, as far as it is known.
+    fn calm_state<'c>(&self, nodes: &[Node<'c, N>], alike: bool) -> Option<Agreed<N>>
         requires capacity { IsCapacity N }
         requires before { AreNodes self.now.scenario.now self.now.number nodes.now }
+        requires alike { alike ≡ true → AreAlike nodes.now }
         ensures { IfSome result (λ a. IsCalmWith self.now.scenario.now self.now.number a) }
     {
         if !self.is_untouched() {
@@ -51,7 +57,7 @@ impl<'s, const N: usize> Period<'s, N> {
         }
         let (first, others) = nodes.split_first()?;
         let state = first.state()?;
-        if state.members.len() <= self.scenario.config().m || !all_keep(others, &state) {
+        if state.members.len() <= self.scenario.config().m || !all_keep(others, &state, alike) {
             return None;
         }
         Some(state)
@@ -95,7 +101,8 @@ impl<'s, const N: usize> Period<'s, N> {
         requires calm { IsCalmWith self.now.scenario.now self.now.number state.now }
         requires said { AreSaid self.now.scenario.now self.now.number state.now statements.now }
         requires made { IsMade self.now.scenario.now.config self.now.number state.now (said_by statements.now) calm.now }
-        ensures { AreNodes self.now.scenario.now (self.now.number + 1) nodes.new }
+        ensures after { AreNodes self.now.scenario.now (self.now.number + 1) nodes.new }
+        ensures alike { AreAlike nodes.new }
     {
         calm_law::calm();
         for i in 0..nodes.len() {
@@ -103,14 +110,17 @@ impl<'s, const N: usize> Period<'s, N> {
         }
     }
 
-    /// Takes all nodes through the period at once where it is calm, and answers whether it is.
-    pub(crate) fn pass<'c>(&self, nodes: &mut [Node<'c, N>]) -> bool
+    /// Takes all nodes through the period at once where it is calm, and answers whether it is. After it all keep one
+    /// state; `alike` tells that they do so before, as far as it is known.
+    pub(crate) fn pass<'c>(&self, nodes: &mut [Node<'c, N>], alike: bool) -> bool
         requires capacity { IsCapacity N }
         requires before { AreNodes self.now.scenario.now self.now.number nodes.old }
+        requires alike { alike ≡ true → AreAlike nodes.old }
         ensures yes { result ≡ true → AreNodes self.now.scenario.now (self.now.number + 1) nodes.new }
+        ensures alike { result ≡ true → AreAlike nodes.new }
         ensures no { result ≡ false → nodes.new ≡ nodes.old }
     {
-        let Some(state) = self.calm_state(nodes) else {
+        let Some(state) = self.calm_state(nodes, alike) else {
             return false;
         };
         let all = self.statements(nodes, &state);

@@ -5,7 +5,7 @@ use Rattle.node_steps.specs.Parts.{NodeView}
 use Rattle.cluster_step.proofs.calming.all_keep.Goals as goal
 
 pub keeps-requires : goal.keeps-requires
-keeps-requires g c = (elim c.requires [ inl e ↦ rw e (lit< tt) | inr e ↦ rw e (lit< tt) ], elim c.requires [ inl e ↦ rw e (lit< tt) | inr e ↦ rw e (lit< tt) ])
+keeps-requires g c = (elim c.requires.capacity [ inl e ↦ rw e (lit< tt) | inr e ↦ rw e (lit< tt) ], elim c.requires.capacity [ inl e ↦ rw e (lit< tt) | inr e ↦ rw e (lit< tt) ])
 
 pub loop-node-preserved : goal.loop-node-preserved
 loop-node-preserved g c = λ k d low. elim (cases_eq k c.loop-node.node-index) [

@@ -2,7 +2,7 @@ use Rattle.std.proofs.Common.{◌≡◌, ◌∷◌, length, Some, sym, ap, ◌�
 use Rattle.agreed_state.specs.declared.config.Config.{Config}
 use Rattle.agreed_state.specs.Agreed.{AgreedView}
 use Rattle.cluster_step.proofs.Listed.{many_nodes}
-use Rattle.cluster_step.proofs.Calmed.{calm_with, all_keep}
+use Rattle.cluster_step.proofs.Calmed.{calm_with, all_keep, others_keep}
 use Rattle.cluster_step.proofs.stepping.Period.calm_state.Goals as goal
 
 pub config-requires : goal.config-requires
@@ -23,3 +23,10 @@ returns g c =
     (many_nodes sc c.requires.before.room c.args.self.now.number nodes c.requires.before.before)
     (c.is_untouched.ensures c.if-not-is_untouched.false) c.in_ok-state.state (omega (arith, m, many, c.if-len-config.false))
     (all_keep nodes c.in_ok-first.others.now c.in_ok-first.first.now c.in_ok-state.state parted here (c.all_keep.ensures c.if-not-all_keep.false))
+
+pub all_keep-requires : goal.all_keep-requires
+all_keep-requires g c =
+    let nodes = c.args.nodes.now in
+    let parted : nodes ≡ c.in_ok-first.first.now ∷ c.in_ok-first.others.now = c.in_ok-first.ensures.cases.0 in
+    let here : c.in_ok-first.first.now.kept.state ≡ Some c.in_ok-state.state = sym c.in_ok-state.ensures in
+    (elim c.requires.capacity [ inl e ↦ rw e (lit< tt) | inr e ↦ rw e (lit< tt) ], (elim c.requires.capacity [ inl e ↦ rw e (lit< tt) | inr e ↦ rw e (lit< tt) ], (c.requires.capacity, λ told. others_keep nodes c.in_ok-first.others.now c.in_ok-first.first.now c.in_ok-state.state parted here (c.requires.alike told))))

@@ -10,7 +10,7 @@ use Rattle.node_steps.specs.Parts.{NodeView}
 use Rattle.node_steps.specs.Sending.{Fixed}
 use Rattle.cluster_step.specs.Periods.{IsBefore}
 use Rattle.cluster_step.proofs.Listed.{many_nodes}
-use Rattle.cluster_step.proofs.Calmed.{node_there, IsPassed, passed_well, all_passed}
+use Rattle.cluster_step.proofs.Calmed.{node_there, IsPassed, passed_well, all_passed, alike_after}
 use Rattle.cluster_step.proofs.stepping.Period.pass_all.Goals as goal
 
 pub offset_bounds-statements-i : goal.offset_bounds-statements-i
@@ -74,8 +74,17 @@ loop-i-preserved g c =
       λ k d l. get_or-set_other c.loop-i.nodes i k c.pass.new.self d (λ e. let f : k ≡ i = e in omega (arith, l, f)) ∙ c.loop-i.invariant.1 k d (omega (arith, l)),
     )
 
-pub returns : goal.returns
-returns g c =
+pub returns-clause-after : goal.returns-clause-after
+returns-clause-after g c =
     let sc = c.args.self.now.scenario.now in
     all_passed sc c.args.self.now.number c.args.nodes.now c.loop-i.nodes c.requires.before (many_nodes sc c.requires.before.room c.args.self.now.number c.args.nodes.now c.requires.before.before) c.loop-i.auto.nodes
     (λ k d low. c.loop-i.invariant.0 k d (omega (arith, low, c.loop-i-test.false)))
+
+pub returns-clause-alike : goal.returns-clause-alike
+returns-clause-alike g c =
+    let sc = c.args.self.now.scenario.now in
+    let p : ℕ = c.args.self.now.number in
+    let many = many_nodes sc c.requires.before.room p c.args.nodes.now c.requires.before.before in
+    let after = all_passed sc p c.args.nodes.now c.loop-i.nodes c.requires.before many c.loop-i.auto.nodes (λ k d low. c.loop-i.invariant.0 k d (omega (arith, low, c.loop-i-test.false))) in
+    alike_after sc p c.calm.ensures c.requires.calm.scenario c.args.state.now c.requires.calm c.args.statements.now c.requires.said c.args.calm.now c.requires.made c.loop-i.nodes
+    (let n = c.loop-i.auto.nodes in omega (arith, n, many)) after

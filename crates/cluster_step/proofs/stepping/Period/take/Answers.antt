@@ -25,3 +25,12 @@ step-requires-2 g c = (
 
 pub returns-clause-slots : goal.returns-clause-slots
 returns-clause-slots g c = ap (λ (r : PeriodView). length r.sent) c.step-2.ensures.shown ∙ many_slots (system_of c.args.self.now.scenario.now) c.args.self.now.number
+
+pub pass-requires : goal.pass-requires
+pass-requires g c = (
+  lit< tt,
+  (
+    elim c.requires.capacity [ inl e ↦ rw e (lit< tt) | inr e ↦ rw e (lit< tt) ],
+    (c.requires.capacity, (c.requires.before, c.requires.alike)),
+  ),
+)
