@@ -131,7 +131,9 @@ fn write_untraced<const N: usize, K: Sink>(
     printer.finish(sink)
 }
 
-/// Writes all lines of a period, with those of its frames.
+/// Writes all lines of a period, with those of its frames. It stays a function of its own, since it takes much room on the
+/// stack, which other periods don't need.
+#[inline(never)]
 fn write_traced<const N: usize, K: Sink>(
     shown: &PeriodRecord<N>,
     plan: &FaultPlan<N>,

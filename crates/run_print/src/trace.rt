@@ -215,7 +215,9 @@ impl<const ROOM: usize> Printer<ROOM> {
         }
     }
 
-    /// Prints what arrives at each receiver of a sender's frame of any length.
+    /// Prints what arrives at each receiver of a sender's frame of any length. It stays a function of its own, since it
+    /// takes much room on the stack, which short frames don't need.
+    #[inline(never)]
     fn long_sender<K: Sink, const N: usize>(
         &mut self,
         sink: &mut K,
