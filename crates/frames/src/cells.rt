@@ -123,7 +123,9 @@ pub(crate) fn read_row<const N: usize>(bytes: &[u8], nodes: u8) -> Row<N>
 {
     let mut row = Row::zero();
     for j in 0..nodes as usize {
-        row.masks[j] = u16::from_be_bytes([bytes[2 * j], bytes[2 * j + 1]]);
+        let mut mask = [0; 2];
+        mask.copy_from_slice(&bytes[2 * j..2 * j + 2]);
+        row.masks[j] = u16::from_be_bytes(mask);
     }
     row
 }

@@ -4,6 +4,7 @@ ghost use Rattle.std.specs.Prelude.{ℕ, ◌≡◌, ◌+◌, ◌-◌, ◌*◌, �
 ghost use Rattle.std.specs.Prelude.{true, length, take, slice_set, slice_index_or, replicate, IfOk};
 ghost use Rattle.node_grid.specs.NodeSet.{has_id, with_id, without_id, union_of, minus_of};
 ghost use Rattle.omh_paths.specs.declared.wrapped.Wrapped.TheVariants.{Fault};
+ghost use Rattle.omh_paths.specs.Paths.{path_count};
 ghost use Rattle.heard.specs.Keep.{frames_before, frame_at, wrapped_times, set_at, IsSmall};
 ghost use Rattle.heard.specs.Keep.{AreFew, IsSeat};
 
@@ -12,17 +13,32 @@ use node_grid::NodeSet;
 use omh_paths::{Path, Wrapped, count_paths};
 use std::alloc::{AllocError, Global};
 
+/// How many values the frames of `r` relays of so many nodes have together.
+fn values_in(nodes: u8, r: u8) -> usize
+    requires few { nodes ≤ 16 }
+    requires short { r ≤ 3 }
+    ensures count { result ≡ nodes * path_count (nodes - 1) r }
+    ensures small { result ≤ 1048576 }
+{
+    nodes as usize * count_paths(nodes.saturating_sub(1), r)
+}
+
 /// Where the values of the frames of `r` relays begin.
 pub fn frames_before(nodes: u8, r: u8) -> usize
     requires { AreFew nodes r }
     ensures begins { result ≡ frames_before nodes r }
     ensures small { result ≤ 4194304 }
 {
-    let mut begins = 0;
-    for shorter in 0..r {
-        begins += nodes as usize * count_paths(nodes.saturating_sub(1), shorter);
+    let of_none = values_in(nodes, 0);
+    let of_one = values_in(nodes, 1);
+    let of_two = values_in(nodes, 2);
+    match r {
+        0 => 0,
+        1 => of_none,
+        2 => of_none + of_one,
+        3 => of_none + of_one + of_two,
+        _ => of_none + of_one + of_two + values_in(nodes, 3),
     }
-    begins
 }
 
 /// Where the values of node `q`'s frame of `r` relays begin.
@@ -38,12 +54,13 @@ pub fn frame_at(nodes: u8, r: u8, q: u8) -> usize
 pub fn front_of(path: &Path) -> Path
     ensures { 1 < length path.now → result ≡ take (length path.now - 1) path.now }
 {
-    let last = path.len() - 1;
-    let mut front = Path::root(path.at(0));
-    for k in 1..last {
-        front = front.then(path.at(k));
+    let len = path.len();
+    let first = Path::root(path.at(0));
+    match len {
+        1 | 2 => first,
+        3 => first.then(path.at(1)),
+        _ => first.then(path.at(1)).then(path.at(2)),
     }
-    front
 }
 
 /// The value after so many relays passed it on.
@@ -202,6 +219,13 @@ pub fn are_one<V: Value>(value: Wrapped<V>, expected: Wrapped<V>) -> bool
     ensures { result ≡ true → value ≡ expected }
 {
     value == expected
+}
+
+/// Whether the value at a place is this one.
+pub fn is_value_at<V: Value>(values: &[Wrapped<V>], place: usize, expected: &Wrapped<V>) -> bool
+    ensures { result ≡ true → slice_index_or values.now place (Fault 0) ≡ expected.now }
+{
+    place < values.len() && values[place] == *expected
 }
 
 /// Puts a value in place of another one, where there is one.

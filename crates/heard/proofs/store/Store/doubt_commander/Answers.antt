@@ -13,21 +13,21 @@ returns-then-has-clause-hit g c =
     let was : c.index-doubted-c.result ≡ set_at a.doubted.now a.c = c.index-doubted-c.is ∙ get_or_default a.doubted.now a.c c.index-doubted-c.result [] c.requires.low in
     λ j above below. sender_doubted a.self.now.me f.relays f.sender f.others f.values.now a.doubted.now a.doubted.now a.c a.from j a.expected c.index-doubted-c.result refl was (sym c.has.ensures ∙ c.if-has.true) c.requires.block.paths above below
 
-pub relays_of-found-requires : goal.relays_of-found-requires
-relays_of-found-requires g c =
+pub relays_of-requires : goal.relays_of-requires
+relays_of-requires g c =
     (omega arith, (omega arith, (omega arith, record { behind = omega (arith, c.if-frame-gt1.true); block = c.requires.block })))
 
-pub returns-then-len-self-clause-hit : goal.returns-then-len-self-clause-hit
-returns-then-len-self-clause-hit g c =
+pub returns-in-Some-clause-hit : goal.returns-in-Some-clause-hit
+returns-in-Some-clause-hit g c =
     let a = c.args in
     let f = a.frame.now in
     let was : c.index-doubted-c.result ≡ set_at a.doubted.now a.c = c.index-doubted-c.is ∙ get_or_default a.doubted.now a.c c.index-doubted-c.result [] c.requires.low in
-    λ j above below. relays_blamed g.row.N a.self.now.me f.relays (f.relays - 2) f.sender f.others (without_id f.others a.c) f.values.now a.doubted.now c.put_nodes.new.sets a.c a.from j a.expected c.index-doubted-c.result c.relays_of-found.result
-    f.fits.others_ok (omega (arith, c.if-frame-gt1.true)) c.requires.block.commander c.requires.low refl was c.put_nodes.ensures c.requires.block.paths c.relays_of-found.ensures above below
+    λ j above below. relays_blamed g.row.N a.self.now.me f.relays (f.relays - 2) f.sender f.others (without_id f.others a.c) f.values.now a.doubted.now c.put_nodes.new.sets a.c a.from j a.expected c.index-doubted-c.result c.in-Some.found
+    f.fits.others_ok (omega (arith, c.if-frame-gt1.true)) c.requires.block.commander c.requires.low refl was c.put_nodes.ensures c.requires.block.paths c.in-Some.ensures above below
 
-pub returns-then-len-self-clause-more : goal.returns-then-len-self-clause-more
-returns-then-len-self-clause-more g c =
-    union_more g.row.N c.args.doubted.now c.put_nodes.new.sets c.args.c c.relays_of-found.result c.requires.low c.put_nodes.ensures
+pub returns-in-Some-clause-more : goal.returns-in-Some-clause-more
+returns-in-Some-clause-more g c =
+    union_more g.row.N c.args.doubted.now c.put_nodes.new.sets c.args.c c.in-Some.found c.requires.low c.put_nodes.ensures
 
 pub returns-clause-hit : goal.returns-clause-hit
 returns-clause-hit g c =
