@@ -49,18 +49,19 @@ within_calm nodes rounds members below more =
     let asymmetric = nowhere (λ q. is_asymmetric (class_in nodes q)) members (λ q on. ap is_asymmetric (in_use nodes q (below q on))) in
     record { enough = omega arith; few = omega arith }
 
+-- only members are convicted
+if_member : {V : Type 0} (eq : V → V → Bool) (x : Ear V) (j : ℕ) → (has_id x.members j ≡ true → convicts eq x j ≡ false) → convicts_member eq x j ≡ false
+if_member eq x j none = elim (cases_Bool (has_id x.members j)) [
+  | inl on ↦ ap (λ b. b && convicts eq x j) on ∙ none on
+  | inr off ↦ ap (λ b. b && convicts eq x j) off
+]
+
 -- who is not convicted is not given the kind
-not_given : {V : Type 0} (eq : V → V → Bool) (x : Ear V) (j k : ℕ) (further : Bool) → (has_id x.members j ≡ true → convicts eq x j ≡ false) → ((k == equivocate && convicts_member eq x j) && further) ≡ false
-not_given eq x j k further none =
-    let e : convicts_member eq x j ≡ false = elim (cases_Bool (has_id x.members j)) [
-      | inl on ↦ ap (λ b. b && convicts eq x j) on ∙ none on
-      | inr off ↦ ap (λ b. b && convicts eq x j) off
-    ] in
-    ap (λ b. (k == equivocate && b) && further) e ∙ last_fails (k == equivocate) further
-  where
-    last_fails : (a c : Bool) → ((a && false) && c) ≡ false
-    last_fails true c = refl
-    last_fails false c = refl
+not_given : {V : Type 0} (eq : V → V → Bool) (x : Ear V) (j k : ℕ) (further : Bool) → convicts_member eq x j ≡ false → ((k == equivocate && convicts_member eq x j) && further) ≡ false
+not_given eq x j k further none = ap (λ b. (k == equivocate && b) && further) none ∙ last_fails (k == equivocate) further where
+  last_fails : (a c : Bool) → ((a && false) && c) ≡ false
+  last_fails true c = refl
+  last_fails false c = refl
 
 -- an item of each member, of which all nodes are told what each says
 module _ {V : Type 0} (eq : V → V → Bool) (exact : IsExact eq) (nodes rounds : ℕ) (members : List ℕ) (item : ℕ → V) (x : ℕ → Rounds V)
@@ -72,14 +73,18 @@ module _ {V : Type 0} (eq : V → V → Bool) (exact : IsExact eq) (nodes rounds
       (any_below (λ r. is_bad ((x i).relay r j) k) 1 rounds (λ r l u. good_not_bad _ k (told.relay_good r j i (in_use nodes j low_j) (sound_in_use nodes i low_i) ne (omega arith) (omega arith))))
 
   module _ (distinct : Distinct members) (below : (q : ℕ) → has_id members q ≡ true → q < nodes) (more : rounds < length members) where
-    -- a node convicts no other one
-    pub none_convicted : (i j k : ℕ) (further : Bool) → i < nodes → j ≢ i → ((k == equivocate && convicts_member eq (ear_of rounds i true members (x i)) j) && further) ≡ false
-    none_convicted i j k further low ne =
+    -- a node convicts no other one, whether that is in use or not
+    pub none_convicted : (i j : ℕ) → i < nodes → j ≢ i → convicts_member eq (ear_of rounds i true members (x i)) j ≡ false
+    none_convicted i j low ne =
         let w : World V = world rounds (class_in nodes) members x in
         let claimed : IsClaimed w (class_in nodes) item = record { fits = fits told distinct; within = within_calm nodes rounds members below more } in
-        not_given eq (ear_of rounds i true members (x i)) j k further
+        if_member eq (ear_of rounds i true members (x i)) j
         (λ on. ap (λ b. convicts eq (ear_of rounds i b members (x i)) j) (sym (ap is_nonfaulty (in_use nodes i low)))
         ∙ spares_law eq exact w (class_in nodes) item claimed j i on (not_asymmetric _ (in_use nodes j (below j on))) (sound_in_use nodes i low) ne)
+
+    -- so none is given the kind
+    pub none_given : (i j k : ℕ) (further : Bool) → i < nodes → j ≢ i → ((k == equivocate && convicts_member eq (ear_of rounds i true members (x i)) j) && further) ≡ false
+    none_given i j k further low ne = not_given eq (ear_of rounds i true members (x i)) j k further (none_convicted i j low ne)
 
     -- what all settle stands
     well : (capacity : ℕ) → ((q : ℕ) → has_id members q ≡ true → q < capacity) → SettledWell members (class_in nodes) item (lists_of eq capacity rounds (class_in nodes) members x item)

@@ -15,12 +15,15 @@ use Rattle.safety.specs.Talk.{Told}
 abbrev pub class_in : ℕ → ℕ → Class
 class_in nodes j = if nat_lt j nodes then N else A
 
--- each node has what each other one says
-pub record CalmReceived (sys : System) (p : ℕ) (a : AgreedView) : Type 0 where
+-- each node has the state and the claim of each other one as it says them
+pub record ClaimsReceived (sys : System) (p : ℕ) (a : AgreedView) : Type 0 where
   pub valid : IsAgreed sys.setting.capacity sys.setting.config a
   pub before : (i : ℕ) → i < sys.setting.config.nodes → (view (run sys) i p).before ≡ Some a
   pub sync : (j i : ℕ) → j < sys.setting.config.nodes → i < sys.setting.config.nodes → j ≢ i → ((run sys).received i p).sync j ≡ Good (body sys.setting.config a)
   pub done : Told sys.setting.config.m a.standing.members (class_in sys.setting.config.nodes) (λ j. own_claim j (sys.inputs j p) a) (λ i. ((run sys).received i p).done)
+
+-- and its values and its row
+pub record RestReceived (sys : System) (p : ℕ) (a : AgreedView) : Type 0 where
   pub values : (due : List ℕ) → ((i : ℕ) → i < sys.setting.config.nodes → (view (run sys) i p).due ≡ due)
       → (j i : ℕ) → j < sys.setting.config.nodes → i < sys.setting.config.nodes → j ≢ i → ((run sys).received i p).values j ≡ Good (map (own_in (view (run sys) j p).own) due)
   pub report : Told sys.setting.config.m a.standing.members (class_in sys.setting.config.nodes) (λ j. (view (run sys) j p).found) (λ i. ((run sys).received i p).report)

@@ -8,7 +8,8 @@ use Rattle.node_grid.specs.Count.{Distinct}
 use Rattle.omh_paths.specs.declared.wrapped.Wrapped.{Wrapped}
 use Rattle.omh_paths.specs.MemberLaws.{Distinct-ids, member-lt}
 use Rattle.agreed_state.specs.Agreed.{AgreedView, agreed_after}
-use Rattle.protocol.specs.Arrival.{is_good}
+use Rattle.agreed_state.specs.Body.{body}
+use Rattle.protocol.specs.Arrival.{is_good, is_bad}
 use Rattle.protocol.specs.Arrival.Arrival.{Good}
 use Rattle.protocol.specs.Heard.{rounds_bad}
 use Rattle.protocol.specs.Settled.{settled_items}
@@ -21,10 +22,10 @@ use Rattle.protocol.specs.FurtherKinds.{convictions}
 use Rattle.safety.proofs.Induction.{numbers_exact}
 use Rattle.safety.proofs.Sync.{bytes_exact}
 use Rattle.calm_period.specs.Calm.{Said, calm_claims, calm_due, calm_votes, calm_noted, calm_row, calm_rows, calm_view}
-use Rattle.calm_law.specs.Law.{IsCalm, said_in}
-use Rattle.calm_law.proofs.Received.{CalmReceived}
-use Rattle.calm_law.proofs.Items.{all_settled, none_bad, none_convicted}
-use Rattle.calm_law.proofs.Rows.{row_same, row_none, all_synced, votes_same, noted_same}
+use Rattle.calm_law.specs.Law.{IsCalmTo, said_in, HearsClaims}
+use Rattle.calm_law.proofs.Received.{ClaimsReceived, RestReceived}
+use Rattle.calm_law.proofs.Items.{all_settled, none_bad, none_convicted, none_given}
+use Rattle.calm_law.proofs.Rows.{row_same, row_none, all_synced, no_other_state, votes_same, noted_same}
 
 -- a full node's view, from its parts
 abbrev filled : Setting → ℕ → AgreedView → List (Wrapped ℕ) → List ℕ → List (Option ℤ) → List (Option ℤ) → List ℕ → List (Option (List ℕ)) → List ℕ → List ℕ → View
@@ -57,8 +58,8 @@ view_by s i p kept x a done own =
     let found = row_with s i kept x a done own in
     filled s p a done due own (votes_on s i true a done due own x) found (settled_items (pointwise ◌==◌) s.capacity s.config.m i true a.standing.members x.report found) (synced_by s i x) (carried_by s i true a x)
 
-module _ (sys : System) (accepted : IsAccepted sys) (further : sys.setting.further ≡ convictions sys.setting.config.m) (p : ℕ) (a : AgreedView) (calm : IsCalm sys p a) (got : CalmReceived sys p a)
-    (said : ℕ → Said) (same : (j : ℕ) → j < sys.setting.config.nodes → said j ≡ said_in sys p a j) where
+module _ (sys : System) (accepted : IsAccepted sys) (further : sys.setting.further ≡ convictions sys.setting.config.m) (p : ℕ) (a : AgreedView)
+    {slots : ℕ} (calm : IsCalmTo sys p a slots) (got : ClaimsReceived sys p a) (said : ℕ → Said) (same : (j : ℕ) → j < sys.setting.config.nodes → said j ≡ said_in sys p a j) where
   -- what a node has of the frames
   abbrev has : ℕ → Received
   has i = (run sys).received i p
@@ -78,7 +79,33 @@ module _ (sys : System) (accepted : IsAccepted sys) (further : sys.setting.furth
       (all_settled nat_eq numbers_exact sys.setting.config.nodes sys.setting.config.m a.standing.members (λ j. own_claim j (sys.inputs j p) a) (λ j. (has j).done) got.done distinct below calm.more
       sys.setting.capacity accepted.config.few_nodes (λ j. (said j).claim) (λ j low. ap (λ (x : Said). x.claim) (sym (same j low))) i low)
 
-  -- so each goes through the period with them
+  -- each is synced with all others
+  synced_at : (i : ℕ) → i < sys.setting.config.nodes → synced_by sys.setting i (has i) ≡ ids_where (λ j. not (j == i)) sys.setting.config.nodes
+  synced_at i low = all_synced sys.setting i (has i) (λ j low_j ne. ap is_good (got.sync j i low_j low ne))
+
+  -- none of the claims' frames is an error
+  no_bad_claims : (i j k : ℕ) → i < sys.setting.config.nodes → j < sys.setting.config.nodes → j ≢ i → rounds_bad sys.setting.config.m (has i).done j k ≡ false
+  no_bad_claims = none_bad nat_eq numbers_exact sys.setting.config.nodes sys.setting.config.m a.standing.members (λ j. own_claim j (sys.inputs j p) a) (λ j. (has j).done) got.done
+
+  -- what a node makes of the slots before the data slot
+  pub heard : (i : ℕ) → i < sys.setting.config.nodes → HearsClaims sys.setting a said i (sys.inputs i p) (has i)
+  heard i low = record {
+    claims = claims_at i low;
+    synced = synced_at i low;
+    good = λ j k low_j ne. ap (λ f. is_bad f k) (got.sync j i low_j low ne);
+    same = λ j low_j ne. no_other_state (body sys.setting.config a) ((has i).sync j) (got.sync j i low_j low ne);
+    rounds = λ j k low_j ne. no_bad_claims i j k low low_j ne;
+    acquitted = λ j ne. none_convicted nat_eq numbers_exact sys.setting.config.nodes sys.setting.config.m a.standing.members (λ j. own_claim j (sys.inputs j p) a) (λ j. (has j).done)
+        got.done distinct below calm.more i j low ne;
+  }
+
+  -- nothing further is said of a node over the claims
+  no_further_claims : (i j k : ℕ) → i < sys.setting.config.nodes → j ≢ i → (sys.setting.further.claims i true a.standing.members (has i).done j k && is_further k) ≡ false
+  no_further_claims i j k low ne =
+      ap (λ (f : Further). f.claims i true a.standing.members (has i).done j k && is_further k) further
+      ∙ none_given nat_eq numbers_exact sys.setting.config.nodes sys.setting.config.m a.standing.members (λ j. own_claim j (sys.inputs j p) a) (λ j. (has j).done) got.done distinct below calm.more i j k (is_further k) low ne
+
+  -- each goes through the period with the settled claims
   view_at : (i : ℕ) → i < sys.setting.config.nodes → view (run sys) i p ≡ view_by sys.setting i p (goes_in sys p i) (has i) a (calm_claims sys.setting a said) (said i).own
   unfolding through
   view_at i low =
@@ -90,63 +117,58 @@ module _ (sys : System) (accepted : IsAccepted sys) (further : sys.setting.furth
   due_at : (i : ℕ) → i < sys.setting.config.nodes → (view (run sys) i p).due ≡ calm_due sys.setting a said
   due_at i low = ap (λ (v : View). v.due) (view_at i low)
 
-  -- and has the values of the due channels that each other node says
-  values_at : (i : ℕ) → i < sys.setting.config.nodes → (j : ℕ) → j < sys.setting.config.nodes → j ≢ i → (has i).values j ≡ Good (map (own_in (said j).own) (calm_due sys.setting a said))
-  values_at i low j low_j ne =
-      got.values (calm_due sys.setting a said) due_at j i low_j low ne
-      ∙ ap (λ (v : View). Good (map (own_in v.own) (calm_due sys.setting a said))) (view_at j low_j)
+  -- ---- from the data slot on
 
-  -- and votes over them
-  votes_at : (i : ℕ) → i < sys.setting.config.nodes → votes_on sys.setting i true a (calm_claims sys.setting a said) (calm_due sys.setting a said) (said i).own (has i) ≡ calm_votes sys.setting a said
-  votes_at i low = votes_same sys.setting a said i (has i) (values_at i low) below
+  module _ (later : RestReceived sys p a) where
+    -- each has the values of the due channels that each other node says
+    values_at : (i : ℕ) → i < sys.setting.config.nodes → (j : ℕ) → j < sys.setting.config.nodes → j ≢ i → (has i).values j ≡ Good (map (own_in (said j).own) (calm_due sys.setting a said))
+    values_at i low j low_j ne =
+        later.values (calm_due sys.setting a said) due_at j i low_j low ne
+        ∙ ap (λ (v : View). Good (map (own_in v.own) (calm_due sys.setting a said))) (view_at j low_j)
 
-  -- nothing further is said of a node, over claims or rows
-  no_further_claims : (i j k : ℕ) → i < sys.setting.config.nodes → j ≢ i → (sys.setting.further.claims i true a.standing.members (has i).done j k && is_further k) ≡ false
-  no_further_claims i j k low ne =
-      ap (λ (f : Further). f.claims i true a.standing.members (has i).done j k && is_further k) further
-      ∙ none_convicted nat_eq numbers_exact sys.setting.config.nodes sys.setting.config.m a.standing.members (λ j. own_claim j (sys.inputs j p) a) (λ j. (has j).done) got.done distinct below calm.more i j k (is_further k) low ne
+    -- and votes over them
+    votes_at : (i : ℕ) → i < sys.setting.config.nodes → votes_on sys.setting i true a (calm_claims sys.setting a said) (calm_due sys.setting a said) (said i).own (has i) ≡ calm_votes sys.setting a said
+    votes_at i low = votes_same sys.setting a said i (has i) (values_at i low) below
 
-  no_further_rows : (i j k : ℕ) → i < sys.setting.config.nodes → j ≢ i → (sys.setting.further.rows i true a.standing.members (has i).report j k && is_further k) ≡ false
-  no_further_rows i j k low ne =
-      ap (λ (f : Further). f.rows i true a.standing.members (has i).report j k && is_further k) further
-      ∙ none_convicted (pointwise ◌==◌) bytes_exact sys.setting.config.nodes sys.setting.config.m a.standing.members (λ j. (view (run sys) j p).found) (λ j. (has j).report) got.report distinct below calm.more i j k (is_further k) low ne
+    -- nothing further is said of a node over the rows
+    no_further_rows : (i j k : ℕ) → i < sys.setting.config.nodes → j ≢ i → (sys.setting.further.rows i true a.standing.members (has i).report j k && is_further k) ≡ false
+    no_further_rows i j k low ne =
+        ap (λ (f : Further). f.rows i true a.standing.members (has i).report j k && is_further k) further
+        ∙ none_given (pointwise ◌==◌) bytes_exact sys.setting.config.nodes sys.setting.config.m a.standing.members (λ j. (view (run sys) j p).found) (λ j. (has j).report) later.report distinct below calm.more i j k (is_further k) low ne
 
-  -- the row of a node
-  row_at : (i : ℕ) → i < sys.setting.config.nodes → row_with sys.setting i (goes_in sys p i) (has i) a (calm_claims sys.setting a said) (said i).own ≡ calm_row sys.setting a said i
-  row_at i low =
-      ap (λ (votes : List (Option ℤ)). row_by sys.setting i (noted sys.setting i a (goes_in sys p i) (calm_claims sys.setting a said) (calm_due sys.setting a said) votes (has i))) (votes_at i low)
-      ∙ row_same sys.setting i (noted sys.setting i a (goes_in sys p i) (calm_claims sys.setting a said) (calm_due sys.setting a said) (calm_votes sys.setting a said) (has i)) (calm_noted sys.setting a said i)
-      (λ j k low_j ne. noted_same sys.setting a said i (has i) (values_at i low) (goes_in sys p i) j k low_j ne
-      (ap (λ (x : Said). x.carried) (sym (same i low)))
-      (got.sync j i low_j low ne)
-      (none_bad nat_eq numbers_exact sys.setting.config.nodes sys.setting.config.m a.standing.members (λ j. own_claim j (sys.inputs j p) a) (λ j. (has j).done) got.done i j k low low_j ne)
-      (no_further_claims i j k low ne))
+    -- the row of a node
+    row_at : (i : ℕ) → i < sys.setting.config.nodes → row_with sys.setting i (goes_in sys p i) (has i) a (calm_claims sys.setting a said) (said i).own ≡ calm_row sys.setting a said i
+    row_at i low =
+        ap (λ (votes : List (Option ℤ)). row_by sys.setting i (noted sys.setting i a (goes_in sys p i) (calm_claims sys.setting a said) (calm_due sys.setting a said) votes (has i))) (votes_at i low)
+        ∙ row_same sys.setting i (noted sys.setting i a (goes_in sys p i) (calm_claims sys.setting a said) (calm_due sys.setting a said) (calm_votes sys.setting a said) (has i)) (calm_noted sys.setting a said i)
+        (λ j k low_j ne. noted_same sys.setting a said i (has i) (values_at i low) (goes_in sys p i) j k low_j ne
+        (ap (λ (x : Said). x.carried) (sym (same i low)))
+        (got.sync j i low_j low ne)
+        (no_bad_claims i j k low low_j ne)
+        (no_further_claims i j k low ne))
 
-  -- which is the one in its view
-  found_at : (i : ℕ) → i < sys.setting.config.nodes → (view (run sys) i p).found ≡ calm_row sys.setting a said i
-  found_at i low = ap (λ (v : View). v.found) (view_at i low) ∙ row_at i low
+    -- which is the one in its view
+    found_at : (i : ℕ) → i < sys.setting.config.nodes → (view (run sys) i p).found ≡ calm_row sys.setting a said i
+    found_at i low = ap (λ (v : View). v.found) (view_at i low) ∙ row_at i low
 
-  -- all settle the rows that all say
-  rows_at : (i : ℕ) → i < sys.setting.config.nodes
-      → settled_items (pointwise ◌==◌) sys.setting.capacity sys.setting.config.m i true a.standing.members (has i).report (row_with sys.setting i (goes_in sys p i) (has i) a (calm_claims sys.setting a said) (said i).own)
-      ≡ calm_rows sys.setting a said
-  rows_at i low =
-      ap (λ (v : View). settled_items (pointwise ◌==◌) sys.setting.capacity sys.setting.config.m i true a.standing.members (has i).report v.found) (sym (view_at i low))
-      ∙ all_settled (pointwise ◌==◌) bytes_exact sys.setting.config.nodes sys.setting.config.m a.standing.members (λ j. (view (run sys) j p).found) (λ j. (has j).report) got.report distinct below calm.more
-      sys.setting.capacity accepted.config.few_nodes (calm_row sys.setting a said) found_at i low
+    -- all settle the rows that all say
+    rows_at : (i : ℕ) → i < sys.setting.config.nodes
+        → settled_items (pointwise ◌==◌) sys.setting.capacity sys.setting.config.m i true a.standing.members (has i).report (row_with sys.setting i (goes_in sys p i) (has i) a (calm_claims sys.setting a said) (said i).own)
+        ≡ calm_rows sys.setting a said
+    rows_at i low =
+        ap (λ (v : View). settled_items (pointwise ◌==◌) sys.setting.capacity sys.setting.config.m i true a.standing.members (has i).report v.found) (sym (view_at i low))
+        ∙ all_settled (pointwise ◌==◌) bytes_exact sys.setting.config.nodes sys.setting.config.m a.standing.members (λ j. (view (run sys) j p).found) (λ j. (has j).report) later.report distinct below calm.more
+        sys.setting.capacity accepted.config.few_nodes (calm_row sys.setting a said) found_at i low
 
-  -- each is synced with all others
-  synced_at : (i : ℕ) → i < sys.setting.config.nodes → synced_by sys.setting i (has i) ≡ ids_where (λ j. not (j == i)) sys.setting.config.nodes
-  synced_at i low = all_synced sys.setting i (has i) (λ j low_j ne. ap is_good (got.sync j i low_j low ne))
+    -- nothing is carried over
+    carried_at : (i : ℕ) → i < sys.setting.config.nodes → carried_by sys.setting i true a (has i) ≡ empty_row sys.setting
+    carried_at i low = row_none sys.setting i
+        (λ j k. rounds_bad sys.setting.config.m (has i).report j k || (sys.setting.further.rows i true a.standing.members (has i).report j k && is_further k)) (λ j k low_j ne. or_from _ _
+        (none_bad (pointwise ◌==◌) bytes_exact sys.setting.config.nodes sys.setting.config.m a.standing.members (λ j. (view (run sys) j p).found) (λ j. (has j).report) later.report i j k low low_j ne)
+        (no_further_rows i j k low ne))
 
-  -- nothing is carried over
-  carried_at : (i : ℕ) → i < sys.setting.config.nodes → carried_by sys.setting i true a (has i) ≡ empty_row sys.setting
-  carried_at i low = row_none sys.setting i (λ j k. rounds_bad sys.setting.config.m (has i).report j k || (sys.setting.further.rows i true a.standing.members (has i).report j k && is_further k)) (λ j k low_j ne. or_from _ _
-      (none_bad (pointwise ◌==◌) bytes_exact sys.setting.config.nodes sys.setting.config.m a.standing.members (λ j. (view (run sys) j p).found) (λ j. (has j).report) got.report i j k low low_j ne)
-      (no_further_rows i j k low ne))
-
-  -- what each node believes is worked out from what all say
-  pub viewed : (i : ℕ) → i < sys.setting.config.nodes → view (run sys) i p ≡ calm_view sys.setting a said p i
-  viewed i low =
-      view_at i low
-      ∙ filled_same sys.setting p a (calm_claims sys.setting a said) (calm_due sys.setting a said) (said i).own _ _ _ _ _ _ _ _ _ _ (votes_at i low) (row_at i low) (rows_at i low) (synced_at i low) (carried_at i low)
+    -- what each node believes is worked out from what all say
+    pub viewed : (i : ℕ) → i < sys.setting.config.nodes → view (run sys) i p ≡ calm_view sys.setting a said p i
+    viewed i low =
+        view_at i low
+        ∙ filled_same sys.setting p a (calm_claims sys.setting a said) (calm_due sys.setting a said) (said i).own _ _ _ _ _ _ _ _ _ _ (votes_at i low) (row_at i low) (rows_at i low) (synced_at i low) (carried_at i low)

@@ -2,10 +2,14 @@
 use Rattle.std.specs.Prelude.{ℕ, ◌≡◌, ◌<◌, List, [], map, length, slice_index_or}
 use Rattle.node_grid.specs.Version.{kind_count}
 use Rattle.agreed_state.specs.declared.config.Config.{Config}
-use Rattle.agreed_state.specs.Agreed.{AgreedView, IsAgreed}
+use Rattle.agreed_state.specs.Agreed.{AgreedView, IsAgreed, AreCopies}
 use Rattle.protocol.specs.Configured.{setting_of}
 use Rattle.error_reports.specs.Notes.{Notes}
 use Rattle.calm_period.specs.declared.statement.Statement.{Statement}
+use Rattle.list_scheduler.specs.OneNode.{verdicts}
+use Rattle.list_scheduler.specs.Schedule.{copies_completed}
+use Rattle.protocol.specs.View.{due_channels, empty_row}
+use Rattle.calm_period.specs.declared.claimed.Claimed.{Claimed}
 use Rattle.calm_period.specs.declared.calm.Calm.{Calm}
 use Rattle.calm_period.specs.Calm.{Said, calm_claims, calm_due, calm_votes, calm_row, calm_rows, calm_after}
 
@@ -22,6 +26,7 @@ pub record AreNotesOf {N : ℕ} (config : Config N) (j : ℕ) (x : Notes) : Type
   pub nodes : x.nodes ≡ config.nodes
   pub me_is : x.me ≡ j
   pub kinds : x.kinds ≡ kind_count config.version
+  pub late : x.carried ≡ empty_row (setting_of config)
 
 -- a statement of each node, with notes of its own
 pub record AreStatements {N : ℕ} (config : Config N) (xs : List (Statement N)) : Type 0 where
@@ -38,3 +43,16 @@ pub record IsMade {N : ℕ} (config : Config N) (p : ℕ) (a : AgreedView) (said
   pub rows : c.rows ≡ calm_rows (setting_of config) a said
   pub after : c.after ≡ calm_after (setting_of config) a said p
   pub agreed : IsAgreed N config c.after
+
+-- what follows from claims in a period into which all go with state a
+pub record FollowsFrom {N : ℕ} (config : Config N) (a : AgreedView) (c : Claimed N) : Type 0 where
+  pub members : c.members ≡ a.standing.members
+  pub due : c.due.items ≡ due_channels (setting_of config) a c.claims
+  pub verdicts : c.preview.verdicts ≡ verdicts N config.graph a.standing.members a.copies c.claims
+  pub copies : c.preview.copies ≡ copies_completed N config.graph a.standing.members a.copies c.claims
+  pub shape : AreCopies N config c.preview.copies
+
+-- the claims, and what follows from them
+pub record IsClaimed {N : ℕ} (config : Config N) (a : AgreedView) (said : ℕ → Said) (c : Claimed N) : Type 0 where
+  pub claims : c.claims ≡ calm_claims (setting_of config) a said
+  pub follows : FollowsFrom config a c

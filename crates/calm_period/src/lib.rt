@@ -2,9 +2,11 @@
 #![tactic(auto)]
 
 mod calm;
+mod claimed;
 mod rows;
 mod statement;
 mod values;
 
 pub use calm::Calm;
+pub use claimed::Claimed;
 pub use statement::Statement;

@@ -9,7 +9,7 @@ use Rattle.omh_paths.specs.declared.wrapped.Wrapped.{Wrapped}
 use Rattle.slot_plan.specs.Slots.{slot_count}
 use Rattle.fault_classes.specs.Plan.{restarts_at}
 use Rattle.agreed_state.specs.declared.config.Config.{Config}
-use Rattle.agreed_state.specs.Agreed.{AgreedView}
+use Rattle.agreed_state.specs.Agreed.{AgreedView, agreed_after}
 use Rattle.protocol.specs.View.{Kept, View, own_claim, own_values, opened}
 use Rattle.protocol.specs.View.Mode.{Full}
 use Rattle.protocol.specs.Cluster.{kept, view}
@@ -26,9 +26,9 @@ use Rattle.node_steps.specs.Stages.{outcome_of as shown_of}
 use Rattle.node_steps.specs.Sending.{Fixed, fixed}
 use Rattle.node_core.specs.Passing.{kept_of, outcome_of}
 use Rattle.scenario.specs.Scenario.{ScenarioView, inputs_of, system_of, IsScenario}
-use Rattle.cluster_step.specs.Calming.{IsUntouched, IsCalmWith, IsOneOf, IsSaid, AreSaid, AreAlike}
+use Rattle.cluster_step.specs.Calming.{IsUntouched, IsCalmWith, IsOneOf, IsSaid, AreSaid, AreAlike, AreSettledAlike}
+use Rattle.cluster_step.specs.Late.{StepsByRows}
 use Rattle.cluster_step.specs.Periods.{IsAfter, IsBefore, AreBefore, AreNodes}
-use Rattle.cluster_step.proofs.Cleaning.{clean_at}
 use Rattle.cluster_step.proofs.Nodes.{valid_begins}
 
 -- all nodes keep the state that the first and the others keep
@@ -43,6 +43,12 @@ pub others_keep : {N : ℕ} (vs rest : List (NodeView N)) (v : NodeView N) (a : 
 others_keep {N} vs rest v a e here alike k d low =
     let long = ap (λ (xs : List (NodeView N)). length xs) e in
     ap (λ (xs : List (NodeView N)). (get_or xs (suc k) d).kept.state) (sym e) ∙ alike (suc k) d (omega (arith, low, long)) ∙ ap (λ (xs : List (NodeView N)). (get_or xs 0 d).kept.state) e ∙ here
+
+-- all nodes settled the rows that the first and the others settled
+pub all_settled : {N : ℕ} (vs rest : List (NodeView N)) (v : NodeView N) → vs ≡ v ∷ rest → ((k : ℕ) (d : NodeView N) → k < length rest → (get_or rest k d).outcome.rows ≡ v.outcome.rows) → AreSettledAlike vs
+all_settled {N} vs rest v e others zero d low = refl
+all_settled {N} vs rest v e others (suc k) d low =
+    ap (λ (xs : List (NodeView N)). (get_or xs (suc k) d).outcome.rows) e ∙ others k d (let long = ap (λ (xs : List (NodeView N)). length xs) e in omega (arith, low, long)) ∙ sym (ap (λ (xs : List (NodeView N)). (get_or xs 0 d).outcome.rows) e)
 
 module _ {N : ℕ} (sc : ScenarioView N) (p : ℕ) where
   abbrev sys : System
@@ -65,10 +71,10 @@ module _ {N : ℕ} (sc : ScenarioView N) (p : ℕ) where
   goes_with_kept room i v b stays =
       ap (λ (r : Bool). opened sys.setting r (all_kept sys p i)) stays ∙ sym (kept_is sys i p) ∙ sym b.keeps
 
-  -- the period is calm where all nodes keep one state
-  pub calm_with : IsCapacity N → IsScenario sc → (vs : List (NodeView N)) → AreNodes sc p vs → length vs ≡ sc.config.nodes → IsUntouched sc.plan p → (a : AgreedView) → sc.config.m < length a.standing.members
-      → ((k : ℕ) (d : NodeView N) → k < length vs → (get_or vs k d).kept.state ≡ Some a) → IsCalmWith sc p a
-  calm_with capacity is vs h many untouched a more keep =
+  -- its first slots are calm where all nodes keep one state
+  pub calm_with : IsCapacity N → IsScenario sc → (vs : List (NodeView N)) → AreNodes sc p vs → length vs ≡ sc.config.nodes → (slots : ℕ) → IsUntouched sc.plan p slots → (a : AgreedView) → sc.config.m < length a.standing.members
+      → ((k : ℕ) (d : NodeView N) → k < length vs → (get_or vs k d).kept.state ≡ Some a) → IsCalmWith sc p a slots
+  calm_with capacity is vs h many slots untouched a more keep =
       let goes : (i : ℕ) → i < sc.config.nodes → (goes_in sys p i).state ≡ Some a =
       λ i low.
       ap (λ (k : Kept). k.state) (goes_with_kept h.room i (get_or vs i (h.before.node i)) (node_there h.room vs h.before i (h.before.node i) low) (untouched.stays i (let e = is.system.plan_nodes in omega (arith, low, e))))
@@ -76,15 +82,23 @@ module _ {N : ℕ} (sc : ScenarioView N) (p : ℕ) where
       in
       record {
         scenario = is;
-        untouched = untouched;
+        stays = untouched.stays;
         calm = record {
           more = more;
           goes = goes;
-          untouched = λ t j i slot lj li ne.
-              clean_at sc.plan p t j i (untouched.clean j (let e = is.system.plan_nodes in omega (arith, lj, e))) (subst (λ (m : ℕ). t < slot_count m) (sym is.system.plan_rounds) slot) (let e = is.system.plan_nodes in omega (arith, li, e)) ne;
+          untouched = λ t j i slot lj li ne. untouched.frames t j i slot (let e = is.system.plan_nodes in omega (arith, lj, e)) (let e = is.system.plan_nodes in omega (arith, li, e)) ne;
         };
         agreed = valid_begins sc capacity is.system.config 0 p a (ap (λ (k : Kept). k.state) (begins_is sys 0 p) ∙ goes 0 (let e = is.system.config.some_nodes in omega (arith, e)));
       }
+
+  -- and fewer of them are too
+  pub fewer_calm : (a : AgreedView) (slots fewer : ℕ) → fewer ≤ slots → IsCalmWith sc p a slots → IsCalmWith sc p a fewer
+  fewer_calm a slots fewer low h = record {
+    scenario = h.scenario;
+    stays = h.stays;
+    calm = record { more = h.calm.more; goes = h.calm.goes; untouched = λ t j i slot lj li ne. h.calm.untouched t j i (omega (arith, slot, low)) lj li ne };
+    agreed = h.agreed;
+  }
 
   -- ---- what all say
 
@@ -92,10 +106,10 @@ module _ {N : ℕ} (sc : ScenarioView N) (p : ℕ) where
       → carried ≡ v.kept.carried → ◌≡◌ {A = Said} (record { claim = claim; own = own; carried = carried }) (said_in sys p a i)
   said_is claim own carried i a v goes c o k = rw (c, o, k, goes) refl
 
-  pub statement_said : (a : AgreedView) (v : NodeView N) (x : Statement N) → IsOneOf sc p v → IsUntouched sc.plan p → IsScenario sc → x.claim ≡ own_claim v.phase.me (inputs_of sc v.phase.me p) a
+  pub statement_said : (a : AgreedView) (v : NodeView N) (x : Statement N) → IsOneOf sc p v → ((j : ℕ) → j < sc.plan.nodes → restarts_at sc.plan j p ≡ false) → IsScenario sc → x.claim ≡ own_claim v.phase.me (inputs_of sc v.phase.me p) a
       → x.own ≡ own_values sys.setting v.phase.me p (inputs_of sc v.phase.me p) v.kept → x.notes.row ≡ v.kept.carried → said_of x ≡ said_in sys p a v.phase.me
-  statement_said a v x one untouched is c o k =
-      said_is x.claim x.own x.notes.row v.phase.me a v (goes_with_kept one.room v.phase.me v one.before (untouched.stays v.phase.me (let e = is.system.plan_nodes in let l = one.low in omega (arith, l, e)))) c o k
+  statement_said a v x one stays is c o k =
+      said_is x.claim x.own x.notes.row v.phase.me a v (goes_with_kept one.room v.phase.me v one.before (stays v.phase.me (let e = is.system.plan_nodes in let l = one.low in omega (arith, l, e)))) c o k
 
   pub all_said : (a : AgreedView) (n : ℕ) (xs : List (Statement N)) → n ≡ sc.config.nodes → n ≤ length xs → ((k : ℕ) (d : Statement N) → k < n → IsSaid sc p a k (get_or xs k d)) → AreSaid sc p a (take n xs)
   all_said a n xs many room each = record {
@@ -133,7 +147,7 @@ module _ {N : ℕ} (sc : ScenarioView N) (p : ℕ) where
   kept_after i x e = ap (λ (v : View). v.kept) (sym e)
 
   -- a node that takes up what is made of a calm period
-  pub passed_well : CalmLaw → IsScenario sc → (a : AgreedView) → IsCalmWith sc p a → (xs : List (Statement N)) → AreSaid sc p a xs → (calm : Calm N) → IsMade sc.config p a (said_by xs) calm
+  pub passed_well : CalmLaw → IsScenario sc → (a : AgreedView) → IsCalmWith sc p a (slot_count sc.config.m) → (xs : List (Statement N)) → AreSaid sc p a xs → (calm : Calm N) → IsMade sc.config p a (said_by xs) calm
       → (i : ℕ) (old new : NodeView N) (own : List (Option ℤ)) → i < sc.config.nodes → old.config ≡ sc.config → old.phase.me ≡ i → own ≡ (said_by xs i).own → fixed new ≡ fixed old → new.phase.is_open ≡ false → new.phase.period ≡ p
       → new.kept ≡ kept_of old calm own → new.outcome ≡ outcome_of old calm → IsPassed sc p i old new
   passed_well law is a with xs said calm made i old new own low configured me told same shut period keeps records =
@@ -169,7 +183,7 @@ module _ {N : ℕ} (sc : ScenarioView N) (p : ℕ) where
       }
 
   -- and then all keep one state
-  pub alike_after : CalmLaw → IsScenario sc → (a : AgreedView) → IsCalmWith sc p a → (xs : List (Statement N)) → AreSaid sc p a xs → (calm : Calm N) → IsMade sc.config p a (said_by xs) calm
+  pub alike_after : CalmLaw → IsScenario sc → (a : AgreedView) → IsCalmWith sc p a (slot_count sc.config.m) → (xs : List (Statement N)) → AreSaid sc p a xs → (calm : Calm N) → IsMade sc.config p a (said_by xs) calm
       → (ys : List (NodeView N)) → length ys ≡ sc.config.nodes → AreNodes sc (p + 1) ys → AreAlike ys
   alike_after law is a with xs said calm made ys many h i d low =
       keeps i (omega (arith, low, many)) ∙ sym (keeps 0 (omega (arith, low, many)))
@@ -181,3 +195,23 @@ module _ {N : ℕ} (sc : ScenarioView N) (p : ℕ) where
           ap (λ (k : Kept). k.state)
           ((node_there sc (p + 1) h.room ys h.before j d inside).keeps ∙ ap (kept (run (system_of sc)) j) (let e : p + 1 ≡ suc p = omega arith in e) ∙ sym (kept_after j v views))
           ∙ ap Some (sym made.after)
+
+  -- and they do where their states follow from rows that all settled
+  pub alike_by_rows : StepsByRows sc p → (ys : List (NodeView N)) → length ys ≡ sc.config.nodes → AreNodes sc (p + 1) ys → AreSettledAlike ys → AreAlike ys
+  alike_by_rows steps ys many h same i d low =
+      state_of i (omega (arith, low, many))
+      ∙ ap (λ (rows : List (Option (List ℕ))). Some (agreed_after N sc.config p steps.before steps.claims rows))
+      (sym (rows_of i (omega (arith, low, many))) ∙ same i d low ∙ rows_of 0 (omega (arith, low, many)))
+      ∙ sym (state_of 0 (omega (arith, low, many)))
+    where
+      next : p + 1 ≡ suc p
+      next = omega arith
+
+      rows_of : (j : ℕ) → j < sc.config.nodes → (get_or ys j d).outcome.rows ≡ (view (run (system_of sc)) j p).rows
+      rows_of j inside = ap (λ (o : Outcome). o.rows) ((node_there sc (p + 1) h.room ys h.before j d inside).last p next).outcome
+
+      state_of : (j : ℕ) → j < sc.config.nodes → (get_or ys j d).kept.state ≡ Some (agreed_after N sc.config p steps.before steps.claims (view (run (system_of sc)) j p).rows)
+      state_of j inside =
+          ap (λ (k : Kept). k.state)
+          ((node_there sc (p + 1) h.room ys h.before j d inside).keeps ∙ ap (kept (run (system_of sc)) j) next ∙ sym (kept_after j (view (run (system_of sc)) j p) refl))
+          ∙ steps.each j inside

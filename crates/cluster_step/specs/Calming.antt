@@ -1,24 +1,25 @@
 -- A calm period of all nodes of a scenario.
-use Rattle.std.specs.Prelude.{◌≡◌, ◌<◌, ℕ, true, false, List, length, slice_index_or}
-use Rattle.fault_classes.specs.Plan.{Plan, restarts_at, is_clean}
+use Rattle.std.specs.Prelude.{◌≡◌, ◌≢◌, ◌<◌, ℕ, false, List, None, length, slice_index_or}
+use Rattle.fault_classes.specs.Line.{effect_at}
+use Rattle.fault_classes.specs.Plan.{Plan, restarts_at}
 use Rattle.agreed_state.specs.Agreed.{AgreedView, IsAgreed}
 use Rattle.calm_period.specs.declared.statement.Statement.{Statement}
 use Rattle.calm_period.specs.Made.{said_of, said_by, AreNotesOf, AreStatements}
-use Rattle.calm_law.specs.Law.{IsCalm, said_in}
+use Rattle.calm_law.specs.Law.{IsCalmTo, said_in}
 use Rattle.node_steps.specs.Parts.{NodeView}
 use Rattle.scenario.specs.Scenario.{ScenarioView, system_of, IsScenario}
 use Rattle.cluster_step.specs.Periods.{IsBefore}
 
--- no line touches a frame of a node in use, and none of them restarts
-pub record IsUntouched (plan : Plan) (p : ℕ) : Type 0 where
-  pub clean : (j : ℕ) → j < plan.nodes → is_clean plan p j ≡ true
+-- no line touches a frame of the first so many slots, and no node restarts
+pub record IsUntouched (plan : Plan) (p slots : ℕ) : Type 0 where
+  pub frames : (t j i : ℕ) → t < slots → j < plan.nodes → i < plan.nodes → j ≢ i → effect_at plan.lines p t j i ≡ None
   pub stays : (j : ℕ) → j < plan.nodes → restarts_at plan j p ≡ false
 
--- all nodes go into period p with this state, and the period is calm
-pub record IsCalmWith {N : ℕ} (sc : ScenarioView N) (p : ℕ) (a : AgreedView) : Type 0 where
+-- all nodes go into period p with this state, and the first so many slots are calm
+pub record IsCalmWith {N : ℕ} (sc : ScenarioView N) (p : ℕ) (a : AgreedView) (slots : ℕ) : Type 0 where
   pub scenario : IsScenario sc
-  pub untouched : IsUntouched sc.plan p
-  pub calm : IsCalm (system_of sc) p a
+  pub stays : (j : ℕ) → j < sc.plan.nodes → restarts_at sc.plan j p ≡ false
+  pub calm : IsCalmTo (system_of sc) p a slots
   pub agreed : IsAgreed N sc.config a
 
 -- one of the nodes before period p of the scenario's run
@@ -40,3 +41,7 @@ pub record AreSaid {N : ℕ} (sc : ScenarioView N) (p : ℕ) (a : AgreedView) (x
 -- all nodes keep the agreed state that the first of them keeps
 abbrev pub AreAlike : {N : ℕ} → List (NodeView N) → Type 0
 AreAlike {N} vs = (i : ℕ) (d : NodeView N) → i < length vs → (slice_index_or vs i d).kept.state ≡ (slice_index_or vs 0 d).kept.state
+
+-- all nodes settled the rows that the first of them settled
+abbrev pub AreSettledAlike : {N : ℕ} → List (NodeView N) → Type 0
+AreSettledAlike {N} vs = (i : ℕ) (d : NodeView N) → i < length vs → (slice_index_or vs i d).outcome.rows ≡ (slice_index_or vs 0 d).outcome.rows

@@ -82,15 +82,14 @@ fn hand_whole<'c, const N: usize>(from: u8, sent: &Sent<'_>, node: &mut Node<'c,
     }
 }
 
-/// Hands all nodes the frame as it was sent. It is looked at once, for all of them.
-fn deliver_whole<'c, const N: usize>(from: u8, sent: &[u8], nodes: &mut [Node<'c, N>])
+/// Hands all nodes the frame as it was sent.
+fn deliver_whole<'c, const N: usize>(from: u8, sent: &Sent<'_>, nodes: &mut [Node<'c, N>])
     requires capacity { IsCapacity N }
     requires takes { All (Takes from) nodes.old }
     ensures { nodes.new ≡ map (handed_whole sent.now from) nodes.old }
 {
-    let looked = Sent::look(sent, nodes.len().min(16) as u8);
     for node in nodes.iter_mut() {
-        hand_whole(from, &looked, node);
+        hand_whole(from, sent, node);
     }
 }
 
@@ -107,42 +106,63 @@ fn hand<'c, const N: usize>(from: u8, arrived: &Delivered<'_>, node: &mut Node<'
 }
 
 impl<'p, const N: usize> Link<'p, N> {
+    /// Delivers to another node what arrives of a frame that a line touches.
+    fn deliver_changed<'c>(&self, sent: &[u8], node: &mut Node<'c, N>, scratch: &mut Scratch)
+        requires capacity { IsCapacity N }
+        requires ready { IsReady self.now.plan.now node.old }
+        requires other { self.now.from ≢ node.old.phase.me }
+        requires short { length sent.now ≤ 90104 }
+        ensures { node.new ≡ handed_from self.now.plan.now self.now.period self.now.slot sent.now self.now.from node.old }
+    {
+        scratch.fit(sent);
+        let arrived = deliveries(
+            self.plan,
+            self.period,
+            self.slot,
+            self.from,
+            node.me(),
+            sent,
+            &mut scratch.bytes.as_mut_slice()[..sent.len()],
+        );
+        hand(self.from, &arrived, node);
+    }
+
     /// Delivers to a node what arrives of the frame; to the sender nothing does.
-    fn deliver_to<'c>(&self, sent: &[u8], node: &mut Node<'c, N>, scratch: &mut Scratch)
+    fn deliver_to<'c>(&self, sent: &Sent<'_>, node: &mut Node<'c, N>, scratch: &mut Scratch)
         requires capacity { IsCapacity N }
         requires ready { IsReady self.now.plan.now node.old }
         requires short { length sent.now ≤ 90104 }
         ensures { node.new ≡ handed_from self.now.plan.now self.now.period self.now.slot sent.now self.now.from node.old }
     {
         let me = node.me();
-        if self.from != me {
-            scratch.fit(sent);
-            let arrived = deliveries(
-                self.plan,
-                self.period,
-                self.slot,
-                self.from,
-                me,
-                sent,
-                &mut scratch.bytes.as_mut_slice()[..sent.len()],
-            );
-            hand(self.from, &arrived, node);
+        if self.from == me {
+            return;
+        }
+        if self
+            .plan
+            .effect(self.period, self.slot, self.from, me)
+            .is_some()
+        {
+            self.deliver_changed(sent.bytes(), node, scratch);
+        } else {
+            node.deliver_sent(self.from, ON_TIME, sent);
         }
     }
 
-    /// Delivers to all nodes what arrives of the frame. Where no line touches a frame of the sender in the period, it
-    /// is the frame itself.
+    /// Delivers to all nodes what arrives of the frame. It is looked at once, for all of them. Where no line touches a
+    /// frame of the sender in the period, it is the frame itself.
     pub(crate) fn deliver<'c>(&self, sent: &[u8], nodes: &mut [Node<'c, N>], scratch: &mut Scratch)
         requires capacity { IsCapacity N }
         requires ready { All (IsReady self.now.plan.now) nodes.old }
         requires short { length sent.now ≤ 90104 }
         ensures { nodes.new ≡ map (handed_from self.now.plan.now self.now.period self.now.slot sent.now self.now.from) nodes.old }
     {
+        let looked = Sent::look(sent, nodes.len().min(16) as u8);
         if self.plan.clean(self.from, self.period) {
-            deliver_whole(self.from, sent, nodes);
+            deliver_whole(self.from, &looked, nodes);
         } else {
             for node in nodes.iter_mut() {
-                self.deliver_to(sent, node, scratch);
+                self.deliver_to(&looked, node, scratch);
             }
         }
     }

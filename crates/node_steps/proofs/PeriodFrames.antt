@@ -101,7 +101,7 @@ module _ {N : ℕ} (config : Config N) (i p : ℕ) (g : Inputs) (k : Kept) (x : 
     unfolding through
     found_is = ap (λ (v : View). v.found) view_is
 
-    says_stage : (t : ℕ) (v : NodeView N) → Stands config i p g k x room o a t v → Says t v
+    pub says_stage : (t : ℕ) (v : NodeView N) → Stands config i p g k x room o a t v → Says t v
     says_stage t v (Stands.hearing zero rows f w short base en em late) =
         owes.claim rows f w o ∙ ap (λ (b : Option AgreedView). if_full k (Done0 (claim_sent i g b))) (sym before)
     says_stage t v (Stands.hearing (suc r) rows f w short base en em late) =
@@ -119,7 +119,7 @@ module _ {N : ℕ} (config : Config N) (i p : ℕ) (g : Inputs) (k : Kept) (x : 
         ∙ ap₂ (λ (n : ℕ) (b : Option AgreedView). if_full k (ReportRelay (map (λ path. wrapped (heard x.report path)) (paths_of (members_in b) n i)))) (let e : suc r ≡ config.m + 3 + suc r - (config.m + 3) = omega arith in e) (sym before)
         ∙ sym (at_rows config.m (config.m + 3 + suc r) _ _ _ _ _ _ (omega arith))
 
-    stands_at : (t : ℕ) (v : NodeView N) → Stands config i p g k x room o a t v → (v.config ≡ config) × (v.phase.period ≡ p) × (v.phase.me ≡ i) × (v.phase.slot ≡ t) × (v.phase.is_open ≡ true)
+    pub stands_at : (t : ℕ) (v : NodeView N) → Stands config i p g k x room o a t v → (v.config ≡ config) × (v.phase.period ≡ p) × (v.phase.me ≡ i) × (v.phase.slot ≡ t) × (v.phase.is_open ≡ true)
     stands_at t v (Stands.hearing r rows f w short base en em late) = (refl, refl, refl, refl, refl)
     stands_at t v (Stands.voting rows f w base en em late) = (refl, refl, refl, refl, refl)
     stands_at t v (Stands.reporting r w short base) = (refl, refl, refl, refl, refl)
@@ -142,7 +142,7 @@ module _ {N : ℕ} (config : Config N) (i p : ℕ) (g : Inputs) (k : Kept) (x : 
   says_cold o t v e (StandsCold.cold t' d rows f w later) = cold_says t' e
 
 -- the head of a frame and its bytes
-frame_is : {N : ℕ} (config : Config N) (p i t : ℕ) (v : NodeView N) (c : Content) → v.config ≡ config → v.phase.period ≡ p → v.phase.me ≡ i → v.phase.slot ≡ t → said_by v v.phase.before ≡ c
+pub frame_is : {N : ℕ} (config : Config N) (p i t : ℕ) (v : NodeView N) (c : Content) → v.config ≡ config → v.phase.period ≡ p → v.phase.me ≡ i → v.phase.slot ≡ t → said_by v v.phase.before ≡ c
     → frame_of v ≡ spelling config.nodes (record { version = config.version; period = p; sender = i; slot = t }) c
 frame_is {N} config p i t v c a b d e f =
     ap (λ (y : Config N). spelling y.nodes (record { version = y.version; period = v.phase.period; sender = v.phase.me; slot = v.phase.slot }) (said_by v v.phase.before)) a

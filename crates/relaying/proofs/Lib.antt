@@ -6,6 +6,8 @@ pub mod Tables
 pub mod Rows
 pub mod Marks
 pub mod Steps
+pub mod Copied
+pub mod Sides
 pub mod Guesses
 pub mod Filling
 pub mod Together
@@ -19,3 +21,4 @@ pub mod RunParts
 pub mod Roots
 pub mod Tabling
 pub mod OwnPaths
+pub mod CutOut

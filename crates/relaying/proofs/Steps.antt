@@ -1,12 +1,8 @@
 -- Going over the entries of a table, a run at a time.
 use Rattle.std.proofs.Common.{◌≡◌, ◌≢◌, ℕ, ◌+◌, ◌-◌, ◌*◌, ◌<◌, ◌==◌, Bool, true, false, List, [], ◌∷◌, ◌++◌, length, take, drop, replicate, refl, sym, ap, ap₂, subst, ◌∙◌, arith, append_assoc, append-nil}
-use Rattle.std.specs.List.{flat_map}
-use Rattle.std.specs.Prelude.{Option, Some, None, IfSome, IfNone}
-use Rattle.std.proofs.lemmas.Grind.{flat_map-append}
 use Rattle.std.proofs.Math.Seq.{take-add}
 use Rattle.std.proofs.lemmas.Bool.{eq-eqb}
 use Rattle.std.proofs.lemmas.List.{drop-drop, take-append-drop, take_at, drop_at, length-take-le, length-append, length-replicate, length-drop}
-use Rattle.std.proofs.lemmas.List.Concat.{flat_map-cons}
 use Rattle.node_grid.specs.NodeSet.{has_id, without_id}
 use Rattle.node_grid.specs.Count.{Distinct}
 use Rattle.omh_paths.specs.Paths.{paths_of_length, path_count, index_in}
@@ -18,11 +14,11 @@ use Rattle.omh_paths.specs.MemberLaws.{Distinct-ids, place-index}
 use Rattle.node_grid.specs.NodeSet.{IsIdSet, place_of}
 use Rattle.omh_paths.specs.PathLists.{index_in-lt}
 use Rattle.std.proofs.lemmas.Bool.{or_left, or_right}
-use Rattle.relaying.proofs.Marks.{unmarked_none, unmarked_all, pieces_unmarked, over_more, odd_more, behind, behind-sender, behind-other, marks-cons, row_of, alone}
+use Rattle.relaying.proofs.Marks.{unmarked_none, unmarked_all, pieces_unmarked, behind, behind-sender, behind-other, marks-cons, row_of, alone}
 
 -- ---- one run
 
-keep_owed : (w n p : ℕ) (rest : List Bool) (t : List ℕ) → take p t ++ unmarked w (replicate n false ++ rest) (drop p t) ≡ take (p + w * n) t ++ unmarked w rest (drop (p + w * n) t)
+pub keep_owed : (w n p : ℕ) (rest : List Bool) (t : List ℕ) → take p t ++ unmarked w (replicate n false ++ rest) (drop p t) ≡ take (p + w * n) t ++ unmarked w rest (drop (p + w * n) t)
 keep_owed w n p rest t =
     ap (λ xs. take p t ++ xs) (unmarked_none w n rest (drop p t))
     ∙ sym (append_assoc (take p t) (take (w * n) (drop p t)) (unmarked w rest (drop (w * n) (drop p t))))
@@ -135,32 +131,6 @@ sender_piece q s r c k count d on same long counted =
 -- and those of another node
 pub other_piece : (q : ℕ) (s others : List ℕ) (r c : ℕ) → c ≢ q → others ≡ without_id s c → behind q s r c ≡ marks q others r
 other_piece q s others r c ne e = behind-other q s r c ne ∙ ap (λ t. marks q t r) (sym e)
-
--- room for what begins with the first of the nodes that are left
-pub room_piece : (w : ℕ) (f : ℕ → List Bool) (x : ℕ) (items xs : List ℕ) (bs : List Bool) (left : Left) → items ≡ x ∷ xs → f x ≡ bs → HasEntries w (flat_map f items) left → HasEntries w (bs ++ flat_map f xs) left
-room_piece w f x items xs bs left e is h = room_of w (flat_map f items) (bs ++ flat_map f xs) left (ap (flat_map f) e ∙ flat_map-cons f x xs ∙ ap (λ b. b ++ flat_map f xs) is) h
-
-pub room_of_piece : (w : ℕ) (f : ℕ → List Bool) (x : ℕ) (items xs : List ℕ) (bs : List Bool) (left : Left) → items ≡ x ∷ xs → f x ≡ bs → HasEntries w (flat_map f items) left → HasEntries w bs left
-room_of_piece w f x items xs bs left e is h = room_first w bs (flat_map f xs) left (room_piece w f x items xs bs left e is h)
-
--- one node more was gone over
-pub over_next : (w : ℕ) (f : ℕ → List Bool) (ys : List ℕ) (x : ℕ) (bs : List Bool) (a b c : Left) → f x ≡ bs → IsOver w (flat_map f ys) a b → IsOver w bs b c → IsOver w (flat_map f (ys ++ x ∷ [])) a c
-over_next w f ys x bs a b c is o p =
-    let one : flat_map f (x ∷ []) ≡ bs = flat_map-cons f x [] ∙ append-nil (f x) ∙ is in
-    over_of w (flat_map f ys ++ bs) (flat_map f (ys ++ x ∷ [])) a c (sym (flat_map-append f ys (x ∷ []) ∙ ap (λ b. flat_map f ys ++ b) one)) (over_more w (flat_map f ys) bs a b c o p)
-
-pub odd_next : (w : ℕ) (f : ℕ → List Bool) (s ys : List ℕ) (x : ℕ) (xs : List ℕ) (bs : List Bool) (a b : Left) → s ≡ ys ++ x ∷ xs → f x ≡ bs → IsOver w (flat_map f ys) a b → IsOdd w bs b → IsOdd w (flat_map f s) a
-odd_next w f s ys x xs bs a b e is o odd =
-    odd_of w (flat_map f ys ++ (bs ++ flat_map f xs)) (flat_map f s) a
-    (sym (ap (flat_map f) e ∙ flat_map-append f ys (x ∷ xs) ∙ ap (λ b. flat_map f ys ++ b) (flat_map-cons f x xs ∙ ap (λ b. b ++ flat_map f xs) is)))
-    (odd_more w (flat_map f ys) bs (flat_map f xs) a b o odd)
-
--- what a call answers, once it's known whether that is a value
-pub some_of : (P : Left → Type 0) (o p : Option Left) (x : Left) → p ≡ o → p ≡ Some x → IfSome o P → P x
-some_of P o p x e is h = subst (λ q. IfSome q P) (sym e ∙ is) h
-
-pub none_of : {P : Type 0} (o p : Option Left) → p ≡ o → p ≡ None → IfNone o P → P
-none_of {P} o p e is h = subst (λ q. IfNone q P) (sym e ∙ is) h
 
 -- ---- the whole body
 

@@ -1,7 +1,7 @@
 -- What is left to compare of a body and the table that it is guessed from.
-use Rattle.std.specs.Prelude.{◌≡◌, ◌≢◌, ℕ, ◌+◌, ◌*◌, ◌≤◌, Bool, List, [], ◌∷◌, ◌++◌, length, take, drop, map, if◌then◌else◌}
+use Rattle.std.specs.Prelude.{◌≡◌, ◌≢◌, ℕ, zero, suc, ◌+◌, ◌-◌, ◌*◌, ◌≤◌, Bool, true, false, List, replicate, [], ◌∷◌, ◌++◌, length, take, drop, map, if◌then◌else◌}
 use Rattle.node_grid.specs.NodeSet.{has_id}
-use Rattle.omh_paths.specs.Paths.{paths_of_length}
+use Rattle.omh_paths.specs.Paths.{paths_of_length, path_count}
 use Rattle.relaying.specs.declared.comparing.Left.{Left}
 
 -- of each path, whether a node is on it
@@ -11,6 +11,16 @@ marks_of q ps = map (λ p. has_id p q) ps
 -- and of all paths of r nodes of a set
 abbrev pub marks : ℕ → List ℕ → ℕ → List Bool
 marks q s r = marks_of q (paths_of_length s r)
+
+-- the same marks so many times
+abbrev pub times : ℕ → List Bool → List Bool
+times zero bs = []
+times (suc n) bs = bs ++ times n bs
+
+-- of all paths of r nodes, of so many before a node and behind it, whether that node is on it
+abbrev pub sides : ℕ → ℕ → ℕ → List Bool
+sides a b zero = false ∷ []
+sides a b (suc r) = times a (sides (a - 1) b r) ++ (replicate (path_count (a + b) r) true ++ times b (sides a (b - 1) r))
 
 -- of a table of entries of one width, those that aren't marked
 abbrev pub unmarked : ℕ → List Bool → List ℕ → List ℕ

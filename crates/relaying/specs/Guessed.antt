@@ -1,5 +1,6 @@
 -- What is guessed of the relay frames of a round: what the node itself passes on.
-use Rattle.std.specs.Prelude.{ℕ, ◌≡◌, ◌-◌, ◌<◌, true, false, slice_index_or, List, Some, None, map, length}
+use Rattle.std.specs.Prelude.{ℕ, ◌≡◌, ◌-◌, ◌*◌, ◌<◌, true, false, slice_index_or, List, Some, None, map, length}
+use Rattle.std.specs.List.{flat_map}
 use Rattle.node_grid.specs.NodeSet.{has_id, without_id}
 use Rattle.omh_paths.specs.declared.wrapped.Wrapped.{Wrapped}
 use Rattle.omh_paths.specs.declared.wrapped.Wrapped.TheVariants.{Fault}
@@ -9,7 +10,8 @@ use Rattle.omh.specs.Heard.{Hearing, heard_in}
 use Rattle.heard.specs.Keep.{IsSmall}
 use Rattle.heard.specs.Seen.{SaysEcho}
 use Rattle.frames.specs.Content.{Expectation, Content, round_in}
-use Rattle.error_detect.specs.Guessing.{said_by}
+use Rattle.frames.specs.Spelling.{body_spelling}
+use Rattle.error_detect.specs.Guessing.{said_by, body_without, IsGuessable}
 use Rattle.error_detect.specs.Watching.{Watch}
 use Rattle.protocol.specs.Arrival.{Form}
 use Rattle.protocol.specs.Arrival.Arrival.{Good}
@@ -27,6 +29,16 @@ abbrev pub PassesOn : {V : Type 0} → Form V → Type 0
 PassesOn {V} form =
     (e : Expectation) (j : ℕ) (of : List ℕ → Wrapped V) → let r = round_in e.m e.slot in
     form.relay_in (said_by e j (form.relay (map of (paths_of_length e.members r)))) ≡ Some (map of (paths_of_length (without_id e.members j) r))
+
+-- the bytes of what a sender passes on of a guess are those of the guess without the entries of its paths, and the guess has an entry
+-- for each path
+pub record IsCutOut {V : Type 0} (width : ℕ) (spell : Wrapped V → List ℕ) (e : Expectation) (j : ℕ) (c : Content) (es : List (Wrapped V)) : Type 0 where
+  pub bytes : body_without e width j (body_spelling e.nodes c) ≡ flat_map spell es
+  pub whole : width * length (paths_of_length e.members (round_in e.m e.slot)) ≡ length (body_spelling e.nodes c)
+
+abbrev pub CutsOut : {V : Type 0} → Form V → (ℕ → ℕ) → (ℕ → Wrapped V → List ℕ) → Type 0
+CutsOut {V} form width spell =
+    (e : Expectation) (j : ℕ) (c : Content) (es : List (Wrapped V)) → IsGuessable e c → form.relay_in (said_by e j c) ≡ Some es → IsCutOut (width e.nodes) (spell e.nodes) e j c es
 
 -- a watch without what is guessed
 abbrev pub unguessed : Watch → Watch

@@ -1,21 +1,25 @@
 -- What holds of claims and of rows as items.
-use Rattle.std.proofs.Common.{ℕ, List, ◌==◌, ◌≡◌, ◌<◌, ◌≤◌, ◌+◌, ◌*◌, ◌^◌, true, length, refl, sym, ap, subst, arith}
+use Rattle.std.proofs.Common.{ℕ, List, ◌==◌, ◌≡◌, ◌<◌, ◌≤◌, ◌+◌, ◌*◌, ◌^◌, true, length, refl, sym, ap, subst, ◌∙◌, arith}
 use Rattle.std.specs.Prelude.{All, IfSome, Some, None}
 use Rattle.std.specs.List.{flat_map}
 use Rattle.node_grid.specs.Count.{Distinct}
 use Rattle.omh_paths.specs.declared.wrapped.Wrapped.{Wrapped}
-use Rattle.omh_paths.specs.Paths.{path_count}
+use Rattle.omh_paths.specs.Paths.{path_count, paths_of_length}
+use Rattle.omh_paths.specs.PathLists.{length-paths}
 use Rattle.frames.specs.declared.frame.Body.{Body}
 use Rattle.frames.specs.declared.frame.Body.TheVariants as body
 use Rattle.frames.specs.Content.{Expectation, Content, State, Done0, DoneRelay, Data, Report0, ReportRelay, Cold, IsEntry, IsClaim, IsRow, kind, kind_in, round_in}
+use Rattle.frames.specs.EntryLaws.{claim_format, relayed_row_format}
+use Rattle.frames.specs.PieceLaws.{length_spelt}
 use Rattle.frames.specs.Spelling.{claim_spelling, relayed_row_spelling}
-use Rattle.error_detect.specs.Guessing.{said_by, is_guessed_of, IsGuessable}
+use Rattle.error_detect.specs.Guessing.{said_by, is_guessed_of, IsGuessable, entries_without}
 use Rattle.frames.specs.FrameKinds.{claim_relay_kind, row_relay_kind}
 use Rattle.frames.specs.Reading.{claim_in, relayed_row_in}
 use Rattle.frames.specs.Seen.{content, HasWidth}
 use Rattle.error_detect.proofs.Guesses.{entries_by_path}
+use Rattle.error_detect.proofs.Pieces.{claim_pieces, row_pieces}
 use Rattle.protocol.specs.Arrival.{claim_form, row_form}
-use Rattle.relaying.specs.Guessed.{PassesOn}
+use Rattle.relaying.specs.Guessed.{PassesOn, CutsOut}
 use Rattle.relaying.specs.Items.{cells_in, width_in, told_entries, first_in}
 
 pub claims_told : {N : ℕ} (nodes : ℕ) (b : Body N) → told_entries (kind (content nodes b) == claim_relay_kind) claim_in 2 (cells_in b) ≡ claim_form.relay_in (content nodes b)
@@ -112,3 +116,36 @@ claims_passed_on e j of = ap Some ((entries_by_path e.members j (round_in e.m e.
 
 pub rows_passed_on : PassesOn row_form
 rows_passed_on e j of = ap Some ((entries_by_path e.members j (round_in e.m e.slot)).1 of)
+
+pub claims_cut_out : CutsOut claim_form (λ nodes. 2) (λ nodes. claim_spelling)
+claims_cut_out e j (State bytes) es h is = absurd (cc)
+claims_cut_out e j (Done0 task) es h is = absurd (cc)
+claims_cut_out e j (DoneRelay entries) es h is =
+    let r : ℕ = round_in e.m e.slot in
+    let same : entries_without j (paths_of_length e.members r) entries ≡ es = cc in
+    record {
+      bytes = sym (claim_pieces e entries j h) ∙ ap (flat_map claim_spelling) same;
+      whole = ap (λ (n : ℕ). 2 * n) (length-paths e.members r h.1 ∙ sym h.2) ∙ sym (length_spelt 2 claim_spelling claim_in (IsEntry (IsClaim e.tasks) r) (claim_format e.tasks r) entries h.3);
+    }
+claims_cut_out e j (Data numbers) es h is = absurd (cc)
+claims_cut_out e j (Report0 masks) es h is = absurd (cc)
+claims_cut_out e j (ReportRelay entries) es h is = absurd (cc)
+claims_cut_out e j Cold es h is = absurd (cc)
+
+pub rows_cut_out : CutsOut row_form (λ nodes. 1 + 2 * nodes) relayed_row_spelling
+rows_cut_out e j (State bytes) es h is = absurd (cc)
+rows_cut_out e j (Done0 task) es h is = absurd (cc)
+rows_cut_out e j (DoneRelay entries) es h is = absurd (cc)
+rows_cut_out e j (Data numbers) es h is = absurd (cc)
+rows_cut_out e j (Report0 masks) es h is = absurd (cc)
+rows_cut_out e j (ReportRelay entries) es h is =
+    let r : ℕ = round_in e.m e.slot in
+    let w : ℕ = 1 + 2 * e.nodes in
+    let same : entries_without j (paths_of_length e.members r) entries ≡ es = cc in
+    record {
+      bytes = sym (row_pieces e entries j h) ∙ ap (flat_map (relayed_row_spelling e.nodes)) same;
+      whole =
+          ap (λ (n : ℕ). w * n) (length-paths e.members r h.1 ∙ sym h.2)
+          ∙ sym (length_spelt w (relayed_row_spelling e.nodes) (relayed_row_in e.capacity e.nodes) (IsEntry (IsRow e.version e.capacity e.nodes) r) (relayed_row_format e.version e.capacity e.nodes r) entries h.3);
+    }
+rows_cut_out e j Cold es h is = absurd (cc)

@@ -8,6 +8,7 @@ pub mod Ranged
 pub mod Table
 pub mod Round
 pub mod Comparing
+pub mod Copying
 pub mod Guessed
 pub mod Runs
 pub mod Headers

@@ -14,7 +14,7 @@ ghost use Rattle.error_detect.specs.Guessing.{is_guessed_of, IsGuessable};
 ghost use Rattle.error_detect.specs.Inside.{said_as, guessed_bytes};
 ghost use Rattle.frames.specs.Runs.{expanded, firsts};
 ghost use Rattle.error_detect.specs.Watching.{guesses_at, frame_at};
-ghost use Rattle.relaying.specs.Comparing.{marks, without_entry, IsOver, IsOdd, HasEntries};
+ghost use Rattle.relaying.specs.Comparing.{sides, times, without_entry, IsOver, IsOdd, HasEntries};
 ghost use Rattle.relaying.specs.Runs.{AreRuns};
 
 use crate::item::Item;
@@ -82,40 +82,35 @@ fn skip<'a>(left: Left<'a>, width: usize, count: usize) -> Option<Left<'a>>
     })
 }
 
-/// Goes over the entries of the paths of one node.
-fn row<'a, const N: usize>(left: Left<'a>, cut: Cut, set: &NodeSet<N>) -> Option<Left<'a>>
-    requires capacity { IsCapacity N }
-    requires sender { has_id set.now cut.sender ≡ true }
-    requires room { HasEntries cut.width (marks cut.sender set.now 1) left }
-    ensures over { IfSome result (λ l. IsOver cut.width (marks cut.sender set.now 1) left.entry l) }
-    ensures odd { IfNone result (IsOdd cut.width (marks cut.sender set.now 1) left.entry) }
+/// Goes over the entries of the paths of one node of a set, where so many nodes come before the
+/// sender and so many behind it; None where they differ.
+fn row<'a>(left: Left<'a>, width: usize, before: usize, behind: usize) -> Option<Left<'a>>
+    requires room { HasEntries width (sides before behind 1) left }
+    ensures over { IfSome result (λ l. IsOver width (sides before behind 1) left.entry l) }
+    ensures odd { IfNone result (IsOdd width (sides before behind 1) left.entry) }
 {
-    let all = set.len() as usize;
-    let before = set.place(cut.sender) as usize;
-    let near = keep(left, cut.width, before);
-    let Some(far) = skip(near, cut.width, 1) else {
+    let near = keep(left, width, before);
+    let Some(far) = skip(near, width, 1) else {
         return None;
     };
-    Some(keep(far, cut.width, all - before - 1))
+    Some(keep(far, width, behind))
 }
 
-/// Goes over the entries of the paths of two nodes.
-fn pairs<'a, const N: usize>(left: Left<'a>, cut: Cut, set: &NodeSet<N>) -> Option<Left<'a>>
-    requires capacity { IsCapacity N }
-    requires sender { has_id set.now cut.sender ≡ true }
-    requires room { HasEntries cut.width (marks cut.sender set.now 2) left }
-    ensures over { IfSome result (λ l. IsOver cut.width (marks cut.sender set.now 2) left.entry l) }
-    ensures odd { IfNone result (IsOdd cut.width (marks cut.sender set.now 2) left.entry) }
+/// Goes over so many rows, each with as many nodes before the sender and behind it.
+fn rows<'a>(
+    left: Left<'a>,
+    width: usize,
+    before: usize,
+    behind: usize,
+    count: usize,
+) -> Option<Left<'a>>
+    requires room { HasEntries width (times count (sides before behind 1)) left }
+    ensures over { IfSome result (λ l. IsOver width (times count (sides before behind 1)) left.entry l) }
+    ensures odd { IfNone result (IsOdd width (times count (sides before behind 1)) left.entry) }
 {
-    let behind = count_paths(set.len() - 1, 1);
     let mut now = left;
-    for node in set.iter() {
-        let next = if node == cut.sender {
-            skip(now, cut.width, behind)
-        } else {
-            row(now, cut, &set.without(node))
-        };
-        let Some(next) = next else {
+    for _ in 0..count {
+        let Some(next) = row(now, width, before, behind) else {
             return None;
         };
         now = next;
@@ -123,23 +118,40 @@ fn pairs<'a, const N: usize>(left: Left<'a>, cut: Cut, set: &NodeSet<N>) -> Opti
     Some(now)
 }
 
-/// Goes over the entries of the paths of three nodes.
-fn triples<'a, const N: usize>(left: Left<'a>, cut: Cut, set: &NodeSet<N>) -> Option<Left<'a>>
-    requires capacity { IsCapacity N }
-    requires sender { has_id set.now cut.sender ≡ true }
-    requires room { HasEntries cut.width (marks cut.sender set.now 3) left }
-    ensures over { IfSome result (λ l. IsOver cut.width (marks cut.sender set.now 3) left.entry l) }
-    ensures odd { IfNone result (IsOdd cut.width (marks cut.sender set.now 3) left.entry) }
+/// Goes over the entries of the paths of two nodes of a set: a first node before the sender leaves
+/// one node less before it, one behind it one less behind it, and the sender only entries that the
+/// body hasn't.
+fn pairs<'a>(left: Left<'a>, width: usize, before: usize, behind: usize) -> Option<Left<'a>>
+    requires few { before + behind < 16 }
+    requires room { HasEntries width (sides before behind 2) left }
+    ensures over { IfSome result (λ l. IsOver width (sides before behind 2) left.entry l) }
+    ensures odd { IfNone result (IsOdd width (sides before behind 2) left.entry) }
 {
-    let behind = count_paths(set.len() - 1, 2);
+    let Some(near) = rows(left, width, before.saturating_sub(1), behind, before) else {
+        return None;
+    };
+    let Some(far) = skip(near, width, before + behind) else {
+        return None;
+    };
+    rows(far, width, before, behind.saturating_sub(1), behind)
+}
+
+/// Goes over so many tables of pairs, each with as many nodes before the sender and behind it.
+fn pair_tables<'a>(
+    left: Left<'a>,
+    width: usize,
+    before: usize,
+    behind: usize,
+    count: usize,
+) -> Option<Left<'a>>
+    requires few { before + behind < 16 }
+    requires room { HasEntries width (times count (sides before behind 2)) left }
+    ensures over { IfSome result (λ l. IsOver width (times count (sides before behind 2)) left.entry l) }
+    ensures odd { IfNone result (IsOdd width (times count (sides before behind 2)) left.entry) }
+{
     let mut now = left;
-    for node in set.iter() {
-        let next = if node == cut.sender {
-            skip(now, cut.width, behind)
-        } else {
-            pairs(now, cut, &set.without(node))
-        };
-        let Some(next) = next else {
+    for _ in 0..count {
+        let Some(next) = pairs(now, width, before, behind) else {
             return None;
         };
         now = next;
@@ -147,23 +159,38 @@ fn triples<'a, const N: usize>(left: Left<'a>, cut: Cut, set: &NodeSet<N>) -> Op
     Some(now)
 }
 
-/// Goes over the entries of the paths of `r` nodes.
-fn over<'a, const N: usize>(left: Left<'a>, cut: Cut, set: &NodeSet<N>, r: u8) -> Option<Left<'a>>
-    requires capacity { IsCapacity N }
+/// Goes over the entries of the paths of three nodes of a set, by their first node like pairs.
+fn triples<'a>(left: Left<'a>, width: usize, before: usize, behind: usize) -> Option<Left<'a>>
+    requires few { before + behind < 16 }
+    requires room { HasEntries width (sides before behind 3) left }
+    ensures over { IfSome result (λ l. IsOver width (sides before behind 3) left.entry l) }
+    ensures odd { IfNone result (IsOdd width (sides before behind 3) left.entry) }
+{
+    let others = before + behind;
+    let Some(near) = pair_tables(left, width, before.saturating_sub(1), behind, before) else {
+        return None;
+    };
+    let Some(far) = skip(near, width, others * others.saturating_sub(1)) else {
+        return None;
+    };
+    pair_tables(far, width, before, behind.saturating_sub(1), behind)
+}
+
+/// Goes over the entries of the paths of `r` nodes of a set, which are told by how many nodes come
+/// before the sender and how many behind it.
+fn over<'a>(left: Left<'a>, width: usize, before: usize, behind: usize, r: u8) -> Option<Left<'a>>
+    requires few { before + behind < 16 }
     requires some { 0 < r }
-    requires few { r ≤ 3 }
-    requires sender { has_id set.now cut.sender ≡ true }
-    requires room { HasEntries cut.width (marks cut.sender set.now r) left }
-    ensures over { IfSome result (λ l. IsOver cut.width (marks cut.sender set.now r) left.entry l) }
-    ensures odd { IfNone result (IsOdd cut.width (marks cut.sender set.now r) left.entry) }
+    requires short { r ≤ 3 }
+    requires room { HasEntries width (sides before behind r) left }
+    ensures over { IfSome result (λ l. IsOver width (sides before behind r) left.entry l) }
+    ensures odd { IfNone result (IsOdd width (sides before behind r) left.entry) }
 {
-    if r == 1 {
-        return row(left, cut, set);
+    match r {
+        1 => row(left, width, before, behind),
+        2 => pairs(left, width, before, behind),
+        _ => triples(left, width, before, behind),
     }
-    if r == 2 {
-        return pairs(left, cut, set);
-    }
-    triples(left, cut, set)
 }
 
 /// Whether a body is a table of entries, one for each path of `r` nodes of a set, without those of
@@ -183,7 +210,9 @@ fn is_without<const N: usize>(body: &[u8], table: &[u8], cut: Cut, set: &NodeSet
         table,
         pending: 0,
     };
-    match over(start, cut, set, r) {
+    let all = set.len() as usize;
+    let before = set.place(cut.sender) as usize;
+    match over(start, cut.width, before, all - before - 1, r) {
         None => false,
         Some(left) => is_same(left.body, &left.table[..left.pending]),
     }

@@ -34,7 +34,8 @@ ghost use Rattle.relaying.specs.ItemLaws.{claims_unguessed, rows_unguessed};
 ghost use Rattle.relaying.specs.ItemLaws.{claims_guessable, rows_guessable};
 ghost use Rattle.relaying.specs.ItemLaws.{claims_narrow, rows_narrow};
 ghost use Rattle.relaying.specs.ItemLaws.{claims_passed_on, rows_passed_on};
-ghost use Rattle.relaying.specs.Guessed.{PassesOn};
+ghost use Rattle.relaying.specs.ItemLaws.{claims_cut_out, rows_cut_out};
+ghost use Rattle.relaying.specs.Guessed.{PassesOn, CutsOut};
 
 use error_detect::Form;
 use frames::{Body, Cells, Expect, Frame, put_done, put_row};
@@ -139,6 +140,9 @@ pub trait Item<const N: usize>: Value {
     /// isn't on.
     ghost passed_on: { PassesOn form };
 
+    /// The bytes of that are those of the guess without the entries of these paths.
+    ghost cut_out: { CutsOut form width spelling };
+
     /// It can be guessed, where it has an entry in range for each path.
     ghost guessable: { (e : Expectation) (es : List (Wrapped Self)) → e.capacity ≡ N →
         kind ≡ kind_in e.m e.slot → Distinct e.members →
@@ -185,6 +189,8 @@ impl<const N: usize> Item<N> for u8 {
     ghost guessed = { λ nodes bytes. refl };
 
     ghost passed_on = { claims_passed_on };
+
+    ghost cut_out = { claims_cut_out };
 
     ghost guessable = { claims_guessable };
 
@@ -293,6 +299,8 @@ impl<const N: usize> Item<N> for Row<N> {
     ghost guessed = { λ nodes bytes. refl };
 
     ghost passed_on = { rows_passed_on };
+
+    ghost cut_out = { rows_cut_out };
 
     ghost guessable = { rows_guessable };
 

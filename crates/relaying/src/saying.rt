@@ -1,7 +1,8 @@
 //! What a node guesses of the relay frames of a round, and what it says itself.
 
-ghost use Rattle.std.specs.Prelude.{ℕ, ◌≡◌, ◌+◌, ◌*◌, ◌<◌, ◌≤◌, length, replicate, Some, None};
-ghost use Rattle.std.specs.Prelude.{vec_capacity};
+ghost use Rattle.std.specs.Prelude.{ℕ, ◌≡◌, ◌+◌, ◌*◌, ◌<◌, ◌≤◌, length, replicate, true};
+ghost use Rattle.std.specs.Prelude.{vec_capacity, Some, None};
+ghost use Rattle.node_grid.specs.NodeSet.{has_id, without_id};
 ghost use Rattle.std.specs.List.{flat_map};
 ghost use Rattle.omh_paths.specs.Paths.{path_count};
 ghost use Rattle.heard.specs.Passing.{IsAllExpected};
@@ -14,12 +15,14 @@ ghost use Rattle.relaying.specs.Guessed.{unguessed, IsEchoed};
 ghost use Rattle.relaying.specs.Relaying.{relays};
 ghost use Rattle.relaying.specs.Round.{IsRoundOf};
 
+use crate::copying::copy_guessed;
 use crate::guessing::guess_each;
 use crate::item::Item;
 use crate::writing::{paths_of_each, write_passed, write_roots};
 use error_detect::SlotWatch;
 use frames::{Expect, HEADER, Runs, header};
 use heard::Heard;
+use node_grid::NodeSet;
 use omh_paths::count_paths;
 
 /// Guesses that each member's frame of the open slot says what the node itself passes on, where
@@ -95,12 +98,50 @@ pub fn guess_round<V: Item<N>, const N: usize>(
     guess_each(watch, heard, round, table.as_mut_slice());
 }
 
-/// Writes what the node itself passes on in a relay round to the front of `out`, and answers how
-/// many bytes that is: nothing where it is no member.
-fn write_own<V: Item<N>, const N: usize>(heard: &Heard<V, N>, round: u8, out: &mut [u8]) -> usize
+/// Writes what the node itself passes on in a relay round to the front of `out`, as a member among
+/// these others: from what is guessed of the others, where that is known, and else path by path.
+fn write_entries<V: Item<N>, const N: usize>(
+    watch: &SlotWatch<N>,
+    heard: &Heard<V, N>,
+    others: &NodeSet<N>,
+    round: u8,
+    out: &mut [u8],
+)
+    requires nodes { watch.now.nodes ≡ heard.now.nodes }
     requires some_round { 0 < round }
     requires round { round ≤ heard.now.rounds }
-    requires slot { (e : Expectation) × IsRoundOf N V.kind V.in_range round heard.now e }
+    requires member { has_id heard.now.members heard.now.me ≡ true }
+    requires others { others.now ≡ without_id heard.now.members heard.now.me }
+    requires slot { (e : Expectation) × (watch.now.expect ≡ Some e) ×
+        IsRoundOf N V.kind V.in_range round heard.now e }
+    requires echoed { IsEchoed V.form round watch.now heard.now }
+    requires room { length (flat_map (V.spelling heard.now.nodes) (relays heard.now round)) ≤
+        length out.old }
+    ensures { out.new ≡ pasted 0
+        (flat_map (V.spelling heard.now.nodes) (relays heard.now round)) out.old }
+{
+    // its clauses bound the rounds
+    let _members = heard.members();
+    if copy_guessed(watch, heard, round, out) {
+        return;
+    }
+    write_passed(heard, others, round, out);
+}
+
+/// Writes what the node itself passes on in a relay round to the front of `out`, and answers how
+/// many bytes that is: nothing where it is no member.
+fn write_own<V: Item<N>, const N: usize>(
+    watch: &SlotWatch<N>,
+    heard: &Heard<V, N>,
+    round: u8,
+    out: &mut [u8],
+) -> usize
+    requires nodes { watch.now.nodes ≡ heard.now.nodes }
+    requires some_round { 0 < round }
+    requires round { round ≤ heard.now.rounds }
+    requires slot { (e : Expectation) × (watch.now.expect ≡ Some e) ×
+        IsRoundOf N V.kind V.in_range round heard.now e }
+    requires echoed { IsEchoed V.form round watch.now heard.now }
     requires room { length (flat_map (V.spelling heard.now.nodes) (relays heard.now round)) ≤
         length out.old }
     ensures written { out.new ≡ pasted 0
@@ -115,13 +156,14 @@ fn write_own<V: Item<N>, const N: usize>(heard: &Heard<V, N>, round: u8, out: &m
         return 0;
     }
     let others = members.without(me);
-    write_passed(heard, &others, round, out);
+    write_entries(watch, heard, &others, round, out);
     V::entry_width(heard.nodes()) * count_paths(others.len(), round)
 }
 
 /// Writes the node's own frame of the relay round to the front of `out`, and answers its length: of
-/// each path of the others what it heard for it, wrapped.
+/// each path of the others what it heard for it, wrapped. `watch` is as [`guess_round`] left it.
 pub fn say_round<V: Item<N>, const N: usize>(
+    watch: &SlotWatch<N>,
     heard: &Heard<V, N>,
     expect: &Expect<N>,
     round: u8,
@@ -129,7 +171,10 @@ pub fn say_round<V: Item<N>, const N: usize>(
 ) -> usize
     requires some_round { 0 < round }
     requires round { round ≤ heard.now.rounds }
+    requires nodes { watch.now.nodes ≡ heard.now.nodes }
+    requires expects { watch.now.expect ≡ Some (expected expect.now) }
     requires slot { IsRoundOf N V.kind V.in_range round heard.now (expected expect.now) }
+    requires echoed { IsEchoed V.form round watch.now heard.now }
     requires room { length (spelling heard.now.nodes (head_of (expected expect.now))
         (V.form.relay (relays heard.now round))) ≤ length out.old }
     ensures written { out.new ≡ pasted 0 (spelling heard.now.nodes (head_of (expected expect.now))
@@ -138,7 +183,7 @@ pub fn say_round<V: Item<N>, const N: usize>(
         (V.form.relay (relays heard.now round))) }
 {
     let (front, body) = out.split_at_mut(HEADER);
-    let size = write_own(heard, round, body);
+    let size = write_own(watch, heard, round, body);
     front.copy_from_slice(&header(expect.head(), V::relay_kind(), size as u32));
     HEADER + size
 }

@@ -73,7 +73,7 @@ fn repeating<V: Item<N>, const N: usize>(heard: &Heard<V, N>, relays: u8) -> Nod
 }
 
 /// Writes bytes from a place on.
-fn paste(out: &mut [u8], at: usize, bytes: &[u8])
+pub(crate) fn paste(out: &mut [u8], at: usize, bytes: &[u8])
     requires { at + length bytes.now ≤ length out.old }
     ensures { out.new ≡ pasted at bytes.now out.old }
 {

@@ -21,7 +21,7 @@ returns g c =
     let here : c.in_ok-first.first.now.kept.state ≡ Some c.in_ok-state.state = sym c.in_ok-state.ensures in
     calm_with sc c.args.self.now.number c.requires.capacity c.config.ensures.scenario nodes c.requires.before
     (many_nodes sc c.requires.before.room c.args.self.now.number nodes c.requires.before.before)
-    (c.is_untouched.ensures c.if-not-is_untouched.false) c.in_ok-state.state (omega (arith, m, many, c.if-len-config.false))
+    c.args.untouched c.requires.untouched c.in_ok-state.state (omega (arith, m, many, c.if-len-config.false))
     (all_keep nodes c.in_ok-first.others.now c.in_ok-first.first.now c.in_ok-state.state parted here (c.all_keep.ensures c.if-not-all_keep.false))
 
 pub all_keep-requires : goal.all_keep-requires

@@ -23,7 +23,7 @@ returns g c =
     let given : c.inputs-inputs.result ≡ inputs_of sc v.phase.me p = c.inputs-inputs.ensures ∙ ap (λ (i : ℕ). inputs_of sc i p) c.me.ensures in
     let configured : v.config ≡ sc.config = ap (λ (f : Fixed g.row.N). f.config) c.requires.node.before.same in
     record {
-      says = statement_said sc p c.args.state.now v c.statement.result c.requires.node c.requires.calm.untouched c.requires.calm.scenario
+      says = statement_said sc p c.args.state.now v c.statement.result c.requires.node c.requires.calm.stays c.requires.calm.scenario
           (c.statement.ensures.claim ∙ ap (λ (y : Inputs). own_claim v.phase.me y c.args.state.now) given)
           (c.statement.ensures.own ∙ ap₂ (λ (k : Config g.row.N) (y : Inputs). own_values (setting_of k) v.phase.me p y v.kept) configured given)
           c.statement.ensures.carried;

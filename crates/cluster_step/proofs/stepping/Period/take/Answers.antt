@@ -1,30 +1,11 @@
-use Rattle.std.proofs.Common.{length, ap, subst, sym, ◌∙◌, inl, inr, lit<}
+use Rattle.std.proofs.Common.{ℕ, ◌+◌, length, ap, subst, sym, ◌∙◌, inl, inr, lit<}
 use Rattle.scenario.specs.Scenario.{system_of}
 use Rattle.cluster_step.specs.Record.{PeriodView}
 use Rattle.cluster_step.specs.Periods.{AreNodes}
 use Rattle.cluster_step.proofs.Showing.{many_slots}
+use Rattle.cluster_step.proofs.Calmed.{alike_by_rows}
+use Rattle.cluster_step.proofs.Listed.{many_nodes}
 use Rattle.cluster_step.proofs.stepping.Period.take.Goals as goal
-
-pub returns-then-frames-clause-slots : goal.returns-then-frames-clause-slots
-returns-then-frames-clause-slots g c = ap (λ (r : PeriodView). length r.sent) c.step.ensures.shown ∙ many_slots (system_of c.args.self.now.scenario.now) c.args.self.now.number
-
-pub returns-then-pass-clause-after : goal.returns-then-pass-clause-after
-returns-then-pass-clause-after g c = c.pass.ensures.yes c.if-pass.true
-
-pub step-requires-2 : goal.step-requires-2
-step-requires-2 g c = (
-  lit< tt,
-  (
-    elim c.requires.capacity [ inl e ↦ rw e (lit< tt) | inr e ↦ rw e (lit< tt) ],
-    (
-      elim c.requires.capacity [ inl e ↦ rw e (lit< tt) | inr e ↦ rw e (lit< tt) ],
-      (c.requires.capacity, (subst (AreNodes c.args.self.now.scenario.now c.args.self.now.number) (sym (c.pass.ensures.no c.if-pass.false)) c.requires.before, c.requires.shape)),
-    ),
-  ),
-)
-
-pub returns-clause-slots : goal.returns-clause-slots
-returns-clause-slots g c = ap (λ (r : PeriodView). length r.sent) c.step-2.ensures.shown ∙ many_slots (system_of c.args.self.now.scenario.now) c.args.self.now.number
 
 pub pass-requires : goal.pass-requires
 pass-requires g c = (
@@ -34,3 +15,46 @@ pass-requires g c = (
     (c.requires.capacity, (c.requires.before, c.requires.alike)),
   ),
 )
+
+pub returns-then-frames-clause-slots : goal.returns-then-frames-clause-slots
+returns-then-frames-clause-slots g c = ap (λ (r : PeriodView). length r.sent) c.step.ensures.shown ∙ many_slots (system_of c.args.self.now.scenario.now) c.args.self.now.number
+
+pub step-requires-in-Nothing : goal.step-requires-in-Nothing
+step-requires-in-Nothing g c = (
+  lit< tt,
+  (
+    elim c.requires.capacity [ inl e ↦ rw e (lit< tt) | inr e ↦ rw e (lit< tt) ],
+    (
+      elim c.requires.capacity [ inl e ↦ rw e (lit< tt) | inr e ↦ rw e (lit< tt) ],
+      (c.requires.capacity, (subst (AreNodes c.args.self.now.scenario.now c.args.self.now.number) (sym (c.pass.ensures.nothing c.in-Nothing.is)) c.requires.before, c.requires.shape)),
+    ),
+  ),
+)
+
+pub step_late-requires : goal.step_late-requires
+step_late-requires g c = (
+  lit< tt,
+  (
+    elim c.requires.capacity [ inl e ↦ rw e (lit< tt) | inr e ↦ rw e (lit< tt) ],
+    (
+      elim c.requires.capacity [ inl e ↦ rw e (lit< tt) | inr e ↦ rw e (lit< tt) ],
+      (c.requires.capacity, (c.pass.ensures.data c.in-Data.is, c.requires.shape)),
+    ),
+  ),
+)
+
+pub returns-in-Nothing-clause-slots : goal.returns-in-Nothing-clause-slots
+returns-in-Nothing-clause-slots g c = ap (λ (r : PeriodView). length r.sent) c.step-in-Nothing.ensures.shown ∙ many_slots (system_of c.args.self.now.scenario.now) c.args.self.now.number
+
+pub returns-in-Data-clause-alike : goal.returns-in-Data-clause-alike
+returns-in-Data-clause-alike g c = λ told.
+    let sc = c.args.self.now.scenario.now in
+    let p : ℕ = c.args.self.now.number in
+    let after : AreNodes sc (p + 1) c.step_late.new.nodes = c.step_late.ensures.after in
+    alike_by_rows sc p (c.pass.ensures.data c.in-Data.is).steps c.step_late.new.nodes (many_nodes sc after.room (p + 1) c.step_late.new.nodes after.before) after (c.settled_alike.ensures told)
+
+pub returns-in-End-clause-after : goal.returns-in-End-clause-after
+returns-in-End-clause-after g c = c.pass.ensures.end c.in-End.is
+
+pub returns-in-End-clause-alike : goal.returns-in-End-clause-alike
+returns-in-End-clause-alike g c = λ yes'. c.pass.ensures.alike c.in-End.is

@@ -5,6 +5,7 @@ use Rattle.node_steps.specs.Parts.{NodeView}
 use Rattle.node_steps.specs.PremiseLaws.{few_due}
 use Rattle.node_core.proofs.Behind.{config_ok}
 use Rattle.node_core.proofs.RelaySaid.{rows_asked_now, rows_frame}
+use Rattle.node_core.proofs.WatchSaid.{rows_nodes, expects_now, rows_echoed_now}
 use Rattle.node_core.proofs.Spelt.{inside_fits, says_row}
 use Rattle.node_core.proofs.controller.Controller.say_rows.Goals as goal
 
@@ -50,7 +51,11 @@ say_round-requires g c =
     let asked = rows_asked_now n v is c.args.agreed.now c.requires.own s.sizes (s.in_slot c.requires.ready.is_open) _ c.args.round some low c.requires.slot c.expectation-expect.ensures in
     let frame = rows_frame n v is c.args.agreed.now c.requires.own s.sizes (s.in_slot c.requires.ready.is_open) _ c.args.round some c.requires.slot c.expectation-expect.ensures in
     let room = inside_fits n v (length c.args.out.now) c.self.invariant is c.requires.ready in
-    (elim c.self.invariant.place.capacity [ inl e ↦ rw e (lit< tt) | inr e ↦ rw e (lit< tt) ], (lit< tt, (some, (omega (arith, low, rounds), (asked, subst (λ (bytes : List ℕ). length bytes ≤ length c.args.out.now) (sym frame) room)))))
+    let here = s.in_slot c.requires.ready.is_open in
+    let nodes = rows_nodes n c.self.invariant v is here c.requires.ready.is_open s.sizes in
+    let expects = expects_now n c.self.invariant v is here c.requires.ready.is_open _ (v.config.m + 3 + c.args.round) c.requires.slot c.expectation-expect.ensures in
+    let echoed = rows_echoed_now n c.self.invariant v is here c.requires.ready.is_open c.args.round some c.requires.slot in
+    (lit< tt, (elim c.self.invariant.place.capacity [ inl e ↦ rw e (lit< tt) | inr e ↦ rw e (lit< tt) ], (lit< tt, (some, (omega (arith, low, rounds), (nodes, (expects, (asked, (echoed, subst (λ (bytes : List ℕ). length bytes ≤ length c.args.out.now) (sym frame) room)))))))))
 
 pub returns-clause-written : goal.returns-clause-written
 returns-clause-written g c =

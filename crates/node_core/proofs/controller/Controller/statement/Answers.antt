@@ -1,4 +1,4 @@
-use Rattle.std.proofs.Common.{ap, sym, subst, ◌∙◌, inl, inr, lit<, arith}
+use Rattle.std.proofs.Common.{ap, subst, ◌∙◌, inl, inr, lit<, arith}
 use Rattle.error_reports.specs.Notes.{Notes}
 use Rattle.protocol.specs.Configured.{setting_of}
 use Rattle.protocol.specs.View.{own_values}
@@ -25,4 +25,5 @@ returns-clause-notes g c =
       nodes = ap (λ (x : Notes). x.nodes) k ∙ its.nodes;
       me_is = ap (λ (x : Notes). x.me) k ∙ its.me_is;
       kinds = ap (λ (x : Notes). x.kinds) k ∙ its.kinds;
+      late = ap (λ (x : Notes). x.carried) k;
     })

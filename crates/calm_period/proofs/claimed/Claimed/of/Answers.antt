@@ -1,0 +1,18 @@
+use Rattle.std.proofs.Common.{ap, ◌∙◌}
+use Rattle.agreed_state.specs.Agreed.{AgreedView}
+use Rattle.data_slot.specs.DueLaws.{dues_are}
+use Rattle.calm_period.proofs.claimed.Claimed.of.Goals as goal
+
+pub returns : goal.returns
+returns g c =
+    let preview = c.preview-preview.ensures in
+    record {
+      claims = c.claims_of-claims.ensures;
+      follows = record {
+        members = ap (λ (v : AgreedView). v.standing.members) c.before-2.view_is;
+        due = c.due_channels-due.ensures ∙ dues_are c.args.config.now c.args.before.now c.claims_of-claims.result c.preview-preview.result.finished_now preview.finished_now c.requires.config;
+        verdicts = preview.verdicts;
+        copies = preview.copies;
+        shape = preview.shape;
+      };
+    }

@@ -1,0 +1,24 @@
+use Rattle.std.proofs.Common.{ℕ, List, [], map, inl, inr, lit<, ap, sym, ◌∙◌, ◌==◌, ne_eqb}
+use Rattle.std.proofs.lemmas.Bool.{cond-false}
+use Rattle.error_detect.specs.Finding.{Delivery}
+use Rattle.fault_classes.specs.Line.{effect_at}
+use Rattle.fault_link.specs.Arrival.{delivered_of}
+use Rattle.cluster_step.specs.Slots.{arriving, handed}
+use Rattle.cluster_step.proofs.Handing.{ready_takes}
+use Rattle.cluster_step.proofs.links.Link.deliver_changed.Goals as goal
+
+pub hand-requires : goal.hand-requires
+hand-requires g c = (
+  elim c.requires.capacity [ inl e ↦ rw e (lit< tt) | inr e ↦ rw e (lit< tt) ],
+  (c.requires.capacity, (ready_takes c.args.self.now.plan.now c.args.self.now.from c.args.node.now c.args.self.now.in_use c.requires.ready, c.requires.other)),
+)
+
+pub returns : goal.returns
+returns g c =
+    let me : ℕ = c.args.node.now.phase.me in
+    let from : ℕ = c.args.self.now.from in
+    c.hand.ensures
+    ∙ ap (λ (ds : List Delivery). handed c.args.node.now (map (arriving from) ds))
+    (c.deliveries-arrived.ensures ∙ ap (λ (i : ℕ). delivered_of (effect_at c.args.self.now.plan.now.lines c.args.self.now.period c.args.self.now.slot from i) c.args.sent.now) c.me.ensures)
+    ∙ ap (handed c.args.node.now)
+    (sym (cond-false (from == me) [] (map (arriving from) (delivered_of (effect_at c.args.self.now.plan.now.lines c.args.self.now.period c.args.self.now.slot from me) c.args.sent.now)) (ne_eqb from me c.requires.other)))

@@ -1,0 +1,53 @@
+use Rattle.std.proofs.Common.{◌<◌, [], map, inl, inr, lit<, ap, arith}
+use Rattle.std.specs.Prelude.{slice_index_or}
+use Rattle.slot_plan.specs.Slots.{slot_count}
+use Rattle.node_steps.specs.Steps.{frame_of}
+use Rattle.cluster_step.proofs.Slotting.{slot_done, open_still, open_all, shape_kept, taken_frames}
+use Rattle.cluster_step.proofs.stepping.Period.step_slot.Goals as goal
+
+pub take_frames-requires : goal.take_frames-requires
+take_frames-requires g c =
+    let shape = c.requires.shape in (
+      elim c.requires.capacity [ inl e ↦ rw e (lit< tt) | inr e ↦ rw e (lit< tt) ],
+      (
+        elim c.requires.capacity [ inl e ↦ rw e (lit< tt) | inr e ↦ rw e (lit< tt) ],
+        (
+          c.requires.capacity,
+          (
+            omega (arith, c.requires.slot, ap slot_count shape.m),
+            (
+              open_all c.args.self.now.scenario.now.plan c.args.nodes.now c.requires.ready,
+              (c.requires.each, c.requires.short),
+            ),
+          ),
+        ),
+      ),
+    )
+
+pub deliver_all-requires : goal.deliver_all-requires
+deliver_all-requires g c = (
+  lit< tt,
+  (
+    elim c.requires.capacity [ inl e ↦ rw e (lit< tt) | inr e ↦ rw e (lit< tt) ],
+    (
+      elim c.requires.capacity [ inl e ↦ rw e (lit< tt) | inr e ↦ rw e (lit< tt) ],
+      (c.requires.capacity, (c.requires.ready, (shape_kept c.args.self.now.scenario.now.config c.args.slot c.args.shown.now c.take_frames.new.self (map frame_of c.args.nodes.now) c.requires.shape c.take_frames.ensures, c.requires.slot))),
+    ),
+  ),
+)
+
+pub end_all-requires : goal.end_all-requires
+end_all-requires g c =
+    let sc = c.args.self.now.scenario.now in (
+      elim c.requires.capacity [ inl e ↦ rw e (lit< tt) | inr e ↦ rw e (lit< tt) ],
+      (
+        c.requires.capacity,
+        open_still sc.plan sc.order sc.config.nodes c.args.self.now.number c.args.slot (slice_index_or c.take_frames.new.self.sent c.args.slot []) c.args.nodes.now c.deliver_all.new.nodes c.deliver_all.ensures c.requires.ready,
+      ),
+    )
+
+pub returns-clause-nodes : goal.returns-clause-nodes
+returns-clause-nodes g c =
+    let sc = c.args.self.now.scenario.now in
+    slot_done sc.plan sc.order sc.config.nodes c.args.self.now.number c.args.slot c.args.nodes.now c.deliver_all.new.nodes c.end_all.new.nodes (slice_index_or c.take_frames.new.self.sent c.args.slot [])
+    (taken_frames c.args.slot c.args.shown.now c.take_frames.new.self (map frame_of c.args.nodes.now) (let many = c.requires.shape.slots in omega (arith, c.requires.slot, many)) c.take_frames.ensures) c.deliver_all.ensures c.end_all.ensures
