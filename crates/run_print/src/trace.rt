@@ -1,5 +1,5 @@
 //! The printed frames of a period.
-ghost use Rattle.std.specs.Prelude.{◌≡◌, true, [], ◌++◌, if◌then◌else◌, ◌≢◌, ◌+◌, ◌*◌, ◌≤◌, ◌<◌, codes, decimal, length, replicate, slice_index};
+ghost use Rattle.std.specs.Prelude.{◌≡◌, ℕ, true, [], ◌++◌, if◌then◌else◌, ◌≢◌, ◌+◌, ◌*◌, ◌≤◌, ◌<◌, codes, decimal, length, replicate, slice_index};
 ghost use Rattle.arrayvec.specs.ArrayVec.{array_vec_len};
 ghost use Rattle.std.specs.List.{flat_map};
 ghost use Rattle.hex.specs.Hex.{encode_lower, lower_digits};
@@ -20,7 +20,7 @@ use itoa::{Buffer, Integer};
 use slot_plan::slot_count;
 use span_io::Sink;
 
-/// The length of a frame up to which all frames of a slot share their room.
+/// The length up to which frames are short.
 const SHORT_FRAME: usize = 1024;
 
 /// How many bytes are put into hexadecimal at once, where a fault line touches a frame.
@@ -109,6 +109,21 @@ fn start_of(period: u32, slot: u8, from: u8) -> Start
     put_number(&mut start, from);
     put(&mut start, b" ");
     start
+}
+
+/// The length of the longest frame of a slot.
+fn longest<const N: usize>(shown: &PeriodRecord<N>, slot: u8) -> usize
+    requires slot { slot < slot_count shown.now.m }
+    ensures each { (from : ℕ) → from < shown.now.nodes → length (frame_at shown.now slot from) ≤ result }
+    ensures short { result ≤ 90104 }
+{
+    // naming a field tells the checker the types of all of them
+    let _ = &shown.classes;
+    let mut most = 0;
+    for from in 0..shown.nodes {
+        most = most.max(shown.sent(slot, from).len());
+    }
+    most
 }
 
 impl<const ROOM: usize> Printer<ROOM> {
@@ -215,50 +230,61 @@ impl<const ROOM: usize> Printer<ROOM> {
         }
     }
 
-    /// Prints what arrives at each receiver of a sender's frame of any length. It stays a function of its own, since it
-    /// takes much room on the stack, which short frames don't need.
-    #[inline(never)]
-    fn long_sender<K: Sink, const N: usize>(
+    /// Prints all frames that arrive in a slot, with room for the longest of them.
+    fn senders<K: Sink, const N: usize>(
         &mut self,
         sink: &mut K,
         shown: &PeriodRecord<N>,
         plan: &FaultPlan<N>,
         slot: u8,
-        from: u8,
-    )
-        requires planned { IsPlanOf plan.now shown.now }
-        requires slot { slot < slot_count shown.now.m }
-        requires from { from < shown.now.nodes }
-        requires short { length (frame_at shown.now slot from) ≤ 90104 }
-        ensures { Prints K.written K.faults self.old sink.old self.new sink.new (sender_text plan.now shown.now slot from) }
-    {
-        let mut room = [0; 3 * LONGEST_FRAME + AROUND];
-        self.receivers(sink, shown, plan, slot, from, &mut room);
-    }
-
-    /// Prints what arrives at each receiver of a sender's frame, with room for a short one.
-    fn sender<K: Sink, const N: usize>(
-        &mut self,
-        sink: &mut K,
-        shown: &PeriodRecord<N>,
-        plan: &FaultPlan<N>,
-        slot: u8,
-        from: u8,
         room: &mut [u8],
     )
         requires planned { IsPlanOf plan.now shown.now }
         requires slot { slot < slot_count shown.now.m }
-        requires from { from < shown.now.nodes }
-        requires room { length room.old ≡ 3 * 1024 + 5 }
-        ensures { Prints K.written K.faults self.old sink.old self.new sink.new (sender_text plan.now shown.now slot from) }
+        requires room { (from : ℕ) → from < shown.now.nodes → 3 * length (frame_at shown.now slot from) + 5 ≤ length room.old }
+        ensures { Prints K.written K.faults self.old sink.old self.new sink.new (slot_text plan.now shown.now slot) }
     {
         // naming a field tells the checker the types of all of them
         let _ = &shown.classes;
-        if shown.sent(slot, from).len() <= SHORT_FRAME {
+        for from in 0..shown.nodes {
             self.receivers(sink, shown, plan, slot, from, room);
-        } else {
-            self.long_sender(sink, shown, plan, slot, from);
         }
+    }
+
+    /// Prints all frames that arrive in a slot, of any length. It stays a function of its own, since it takes much room on
+    /// the stack, which short frames don't need.
+    #[inline(never)]
+    fn long_slot<K: Sink, const N: usize>(
+        &mut self,
+        sink: &mut K,
+        shown: &PeriodRecord<N>,
+        plan: &FaultPlan<N>,
+        slot: u8,
+    )
+        requires planned { IsPlanOf plan.now shown.now }
+        requires slot { slot < slot_count shown.now.m }
+        requires short { (from : ℕ) → from < shown.now.nodes → length (frame_at shown.now slot from) ≤ 90104 }
+        ensures { Prints K.written K.faults self.old sink.old self.new sink.new (slot_text plan.now shown.now slot) }
+    {
+        let mut room = [0; 3 * LONGEST_FRAME + AROUND];
+        self.senders(sink, shown, plan, slot, &mut room);
+    }
+
+    /// Prints all frames that arrive in a slot, all of them short.
+    fn short_slot<K: Sink, const N: usize>(
+        &mut self,
+        sink: &mut K,
+        shown: &PeriodRecord<N>,
+        plan: &FaultPlan<N>,
+        slot: u8,
+    )
+        requires planned { IsPlanOf plan.now shown.now }
+        requires slot { slot < slot_count shown.now.m }
+        requires short { (from : ℕ) → from < shown.now.nodes → length (frame_at shown.now slot from) ≤ 1024 }
+        ensures { Prints K.written K.faults self.old sink.old self.new sink.new (slot_text plan.now shown.now slot) }
+    {
+        let mut room = [0; 3 * SHORT_FRAME + AROUND];
+        self.senders(sink, shown, plan, slot, &mut room);
     }
 
     /// Prints all frames that arrive in a slot.
@@ -273,11 +299,10 @@ impl<const ROOM: usize> Printer<ROOM> {
         requires slot { slot < slot_count shown.now.m }
         ensures { Prints K.written K.faults self.old sink.old self.new sink.new (slot_text plan.now shown.now slot) }
     {
-        // naming a field tells the checker the types of all of them
-        let _ = &shown.classes;
-        let mut room = [0; 3 * SHORT_FRAME + AROUND];
-        for from in 0..shown.nodes {
-            self.sender(sink, shown, plan, slot, from, &mut room);
+        if longest(shown, slot) <= SHORT_FRAME {
+            self.short_slot(sink, shown, plan, slot);
+        } else {
+            self.long_slot(sink, shown, plan, slot);
         }
     }
 
