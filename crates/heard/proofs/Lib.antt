@@ -10,8 +10,9 @@ mod Behind
 mod FrameBlocks
 mod Folds
 mod Alike
+mod Pasting
 mod SeenLaws
-mod Fronts
+mod ChunksKept
 mod Laying
 mod LayingOut
 mod LaidOut

@@ -11,6 +11,12 @@ set_beyond [] place x h = refl
 set_beyond (y ∷ ys) zero x h = absurd (omega arith)
 set_beyond (y ∷ ys) (suc place) x h = ap (λ (zs : List _). y ∷ zs) (set_beyond ys place x (omega arith))
 
+-- a value that is set anew
+pub set_same : {X : Type 0} (xs : List X) (place : ℕ) (x : X) → get_or xs place x ≡ x → xs ≡ set xs place x
+set_same [] place x e = refl
+set_same (y ∷ ys) zero x e = ap (λ (z : _). z ∷ ys) e
+set_same (y ∷ ys) (suc place) x e = ap (λ (zs : List _). y ∷ zs) (set_same ys place x e)
+
 pub get_beyond : {X : Type 0} (xs : List X) (place : ℕ) (d : X) → length xs ≤ place → d ≡ get_or xs place d
 get_beyond [] place d h = refl
 get_beyond (y ∷ ys) zero d h = absurd (omega arith)

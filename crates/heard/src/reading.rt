@@ -35,10 +35,8 @@ impl<V: Value, const N: usize> Store<V, N> {
         ensures yes { result ≡ true → IsOwnPath self.now path.now }
         ensures none { result ≡ false → IsOwnPath self.now path.now → ⊥ }
     {
-        for k in 0..path.len() {
-            if path.at(k) == self.me {
-                return false;
-            }
+        if path.has(self.me) {
+            return false;
         }
         self.is_of_members(path)
     }

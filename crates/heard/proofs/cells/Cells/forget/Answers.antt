@@ -10,16 +10,16 @@ pub loop-c-preserved : goal.loop-c-preserved
 loop-c-preserved g c =
     let at = c.loop-c.c in
     let before = c.loop-c.self in
-    let here : get_or c.set.new.self at (Fault 0) ≡ Fault 0 = ap (λ xs. get_or xs at (Fault 0)) c.set.ensures ∙ read_back before at (Fault 0) in
-    let there : (k : ℕ) → (k ≡ at → ⊥) → get_or c.set.new.self k (Fault 0) ≡ get_or before k (Fault 0) = λ k ne. ap (λ xs. get_or xs k (Fault 0)) c.set.ensures ∙ get_or-set_other before at k (Fault 0) (Fault 0) ne in
+    let here : get_or c.erase.new.self at (Fault 0) ≡ Fault 0 = ap (λ xs. get_or xs at (Fault 0)) c.erase.ensures ∙ read_back before at (Fault 0) in
+    let there : (k : ℕ) → (k ≡ at → ⊥) → get_or c.erase.new.self k (Fault 0) ≡ get_or before k (Fault 0) = λ k ne. ap (λ xs. get_or xs k (Fault 0)) c.erase.ensures ∙ get_or-set_other before at k (Fault 0) (Fault 0) ne in
     record {
       none = λ i under. elim (cases_eq i at) [
-        | inl e ↦ ap (λ j. get_or c.set.new.self j (Fault 0)) e ∙ here
+        | inl e ↦ ap (λ j. get_or c.erase.new.self j (Fault 0)) e ∙ here
         | inr ne ↦ there i ne ∙ c.loop-c.invariant.none i (omega arith)
       ];
       small = λ most k h. elim (cases_eq k at) [
-        | inl e ↦ subst (IsSmall most) (sym (ap (λ j. get_or c.set.new.self j (Fault 0)) e ∙ here)) (omega arith)
+        | inl e ↦ subst (IsSmall most) (sym (ap (λ j. get_or c.erase.new.self j (Fault 0)) e ∙ here)) (omega arith)
         | inr ne ↦ subst (IsSmall most) (sym (there k ne)) (c.loop-c.invariant.small most k h)
       ];
-      count = ap length c.set.ensures ∙ length-set before at (Fault 0) ∙ c.loop-c.invariant.count;
+      count = ap length c.erase.ensures ∙ length-set before at (Fault 0) ∙ c.loop-c.invariant.count;
     }

@@ -1,15 +1,33 @@
-use Rattle.std.proofs.Common.{◌+◌, List, set, ap, ◌∙◌, arith}
+use Rattle.std.proofs.Common.{ℕ, ◌+◌, ◌%◌, List, length, length-set, set, ap, ◌∙◌, arith}
+use Rattle.std.specs.Prelude.{vec_capacity}
 use Rattle.omh_paths.specs.declared.wrapped.Wrapped.{Wrapped}
-use Rattle.omh_paths.specs.declared.wrapped.Wrapped.TheVariants.{Fault}
-use Rattle.heard.specs.Front.{until_filled}
-use Rattle.heard.proofs.Fronts.{filled_length, filled_twice, set_filled}
+use Rattle.heard.specs.Chunks.{all_values}
+use Rattle.heard.proofs.ChunksKept.{length-all, all_alike, set_all, still_kept}
+use Rattle.heard.proofs.Methods.{written}
+use Rattle.heard.proofs.SetLaws.{set_beyond}
 use Rattle.heard.proofs.cells.Cells.set.Goals as goal
+
+pub returns-then-place-self : goal.returns-then-place-self
+returns-then-place-self g c =
+    let s = c.self.inside in
+    set_beyond c.args.self.now c.args.place c.args.value (omega (arith, ap length c.self.view_is, length-all s.count s.chunks.items s.kept.items))
+
+pub invariant_of-self : goal.invariant_of-self
+invariant_of-self g c =
+    let s = c.self.inside in
+    let now = c.keep-begins.new.kept in
+    let chunks = c.keep-begins.new.chunks in
+    let all = written s.chunks.items c.deref_mut.result.now chunks s.chunks.len s.chunks.ok.0 c.deref_mut.ensures.value c.keep-begins.auto.chunks in
+    still_kept s.count s.chunks.items chunks _ (length now.items) _ (vec_capacity now) c.self.invariant.all (c.keep-begins.auto.chunks ∙ ap length c.deref_mut.ensures.value) c.keep-begins.ensures.chunks all
+    (length-set now.items (c.keep-begins.result + c.args.place % 64) c.args.value)
 
 pub returns : goal.returns
 returns g c =
     let s = c.self.inside in
+    let now = c.keep-begins.new.kept in
+    let chunks = c.keep-begins.new.chunks in
     let at = c.args.place in
-    let kept = c.fill.new.kept.items in
-    let long = filled_length (Fault 0) (at + 1) s.kept.items kept c.fill.ensures.values in
-    set_filled (Fault 0) s.count at kept c.args.value (omega (arith, long))
-    ∙ ap (λ (xs : List (Wrapped _)). set xs at c.args.value) (ap (λ (xs : List (Wrapped _)). until_filled s.count xs) c.fill.ensures.values ∙ filled_twice (Fault 0) s.count (at + 1) s.kept.items (omega (arith, c.if-place-self.false)) ∙ c.self.view_is)
+    let all = written s.chunks.items c.deref_mut.result.now chunks s.chunks.len s.chunks.ok.0 c.deref_mut.ensures.value c.keep-begins.auto.chunks in
+    ap (λ (cs : List ℕ). all_values s.count cs (set now.items (c.keep-begins.result + at % 64) c.args.value)) all
+    ∙ set_all s.count chunks now.items (vec_capacity now) c.keep-begins.ensures.chunks at c.keep-begins.result c.args.value c.keep-begins.ensures.begins c.if-place-self.false
+    ∙ ap (λ (xs : List (Wrapped _)). set xs at c.args.value) (all_alike s.count s.chunks.items c.deref_mut.result.now chunks s.kept.items now.items c.deref_mut.ensures.value c.keep-begins.ensures.values ∙ c.self.view_is)

@@ -7,7 +7,7 @@ use Rattle.std.specs.List.{All}
 use Rattle.node_grid.specs.NodeSet.{has_id}
 use Rattle.omh_paths.specs.declared.wrapped.Wrapped.TheVariants.{Fault}
 use Rattle.heard.specs.Keep.{frame_at, IsSmall}
-use Rattle.heard.proofs.Fronts.{read_none}
+use Rattle.heard.proofs.ChunksKept.{read_none}
 use Rattle.heard.proofs.store.Store.open.Goals as goal
 
 pub frames_before-requires : goal.frames_before-requires

@@ -68,8 +68,8 @@ loop-j-preserved g c =
           c.loop-j.found c.if-is_blamed.found (f.relays - 2) (a.from + c.loop-j.j * w) b.found-is refl refl (c.is_blamed.ensures b.if-is_blamed.false) c.loop-j.invariant
     ]
 
-pub returns-else-len-self-2 : goal.returns-else-len-self-2
-returns-else-len-self-2 g c =
+pub returns : goal.returns
+returns g c =
     let f = c.args.frame.now in
     let free = c.without-free.result in
     let w = c.count_paths-width.result in
