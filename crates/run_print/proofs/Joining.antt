@@ -30,13 +30,13 @@ module _ {S : Type 0} {room : ℕ} {written : S → Option (List ℕ)} {faults :
       subst (λ text. Prints written faults a r d u text) (sym (joined-push separator items item)) (then before (then between last))
 
   -- a text that is printed from the start, and then finished
-  pub finished : {T E : Type 0} {a b : Printer room} {r s t : S} {text : List ℕ} {result : Result T E} → a.gathered.items ≡ [] → a.failed ≡ false
+  pub finished : {T E : Type 0} {a b : Printer room} {r s t : S} {text : List ℕ} {result : Result T E} → a.gathered ≡ [] → a.failed ≡ false
       → Prints written faults a r b s text → Finishes written faults b s t result → WritesText written faults r t text result
   finished {T} {E} {a} {b} {r} {s} {t} {text} {result} empty going prints finishes =
       let v : Option (List ℕ) = written r in
       let k : ℕ = faults r in
-      let gathers : Gathers v v k k a.gathered.items [] = record { front = []; splits = empty; written = Appends-nil v; same = refl } in
-      finishes v k text (prints.goes_on v k [] (subst (λ b. PrintedIf b v v k k a.gathered.items []) (sym going) gathers))
+      let gathers : Gathers v v k k a.gathered [] = record { front = []; splits = empty; written = Appends-nil v; same = refl } in
+      finishes v k text (prints.goes_on v k [] (subst (λ b. PrintedIf b v v k k a.gathered []) (sym going) gathers))
 
 -- nothing is printed where nothing happens
 pub nothing : {S : Type 0} {room : ℕ} (written : S → Option (List ℕ)) (faults : S → ℕ) (p : Printer room) (s : S) → Prints written faults p s p s []

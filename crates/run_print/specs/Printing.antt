@@ -23,7 +23,7 @@ PrintedIf true old now before count gathered text = Fails old now before count t
 
 -- since the sink had `old` written and `before` faults, the text was printed
 abbrev pub Printed : {room : ℕ} → Option (List ℕ) → ℕ → List ℕ → Printer room → Option (List ℕ) → ℕ → Type 0
-Printed old before text printer now count = PrintedIf printer.failed old now before count printer.gathered.items text
+Printed old before text printer now count = PrintedIf printer.failed old now before count printer.gathered text
 
 -- Whatever was printed before, the text is printed after it: from a printer and a sink to what they are then. What was written to a sink,
 -- and how often it failed, is as its kind of sinks tells it.

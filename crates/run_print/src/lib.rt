@@ -2,6 +2,7 @@
 #![tactic(auto)]
 
 mod clock;
+mod gathered;
 mod node;
 mod period;
 mod printer;

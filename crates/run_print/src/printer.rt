@@ -3,7 +3,7 @@ ghost use Rattle.std.specs.Prelude.{◌≡◌, false, [], ◌∷◌, decimal};
 ghost use Rattle.run_print.specs.Printing.{Prints, Finishes};
 
 use crate::WriteFault;
-use arrayvec::ArrayVec;
+use crate::gathered::Gathered;
 use itoa::Buffer;
 use span_io::{Sink, write_all};
 
@@ -19,7 +19,7 @@ pub(crate) const LARGE: usize = 65536;
 #[derive(Drop)]
 pub(crate) struct Printer<const ROOM: usize> {
     /// What isn't written yet.
-    pub gathered: ArrayVec<u8, ROOM>,
+    pub gathered: Gathered<ROOM>,
     /// Whether the sink failed.
     pub failed: bool,
 }
@@ -27,11 +27,11 @@ pub(crate) struct Printer<const ROOM: usize> {
 impl<const ROOM: usize> Printer<ROOM> {
     /// A printer that has gathered nothing.
     pub(crate) fn new() -> Self
-        ensures gathered { result.gathered.items ≡ [] }
+        ensures gathered { result.gathered ≡ [] }
         ensures failed { result.failed ≡ false }
     {
         Printer {
-            gathered: ArrayVec::new(),
+            gathered: Gathered::new(),
             failed: false,
         }
     }
@@ -40,7 +40,7 @@ impl<const ROOM: usize> Printer<ROOM> {
     pub(crate) fn text<K: Sink>(&mut self, sink: &mut K, bytes: &[u8])
         ensures { Prints K.written K.faults self.old sink.old self.new sink.new bytes.now }
     {
-        if self.gathered.try_extend_from_slice(bytes).is_err() {
+        if !self.gathered.extend(bytes) {
             self.flush(sink);
             self.text_first(sink, bytes);
         }
@@ -50,7 +50,7 @@ impl<const ROOM: usize> Printer<ROOM> {
     pub(crate) fn byte<K: Sink>(&mut self, sink: &mut K, byte: u8)
         ensures { Prints K.written K.faults self.old sink.old self.new sink.new (byte ∷ []) }
     {
-        if self.gathered.try_push(byte).is_err() {
+        if !self.gathered.push(byte) {
             self.text(sink, &[byte]);
         }
     }
@@ -59,7 +59,7 @@ impl<const ROOM: usize> Printer<ROOM> {
     pub(crate) fn pair<K: Sink>(&mut self, sink: &mut K, pair: [u8; 2])
         ensures { Prints K.written K.faults self.old sink.old self.new sink.new pair }
     {
-        if self.gathered.try_extend_from_slice(&pair).is_err() {
+        if !self.gathered.extend(&pair) {
             self.text(sink, &pair);
         }
     }
@@ -95,7 +95,7 @@ impl<const ROOM: usize> Printer<ROOM> {
     /// Writes what is gathered.
     fn flush<K: Sink>(&mut self, sink: &mut K)
         ensures prints { Prints K.written K.faults self.old sink.old self.new sink.new [] }
-        ensures empty { self.new.gathered.items ≡ [] }
+        ensures empty { self.new.gathered ≡ [] }
     {
         if !self.failed {
             self.failed = write_all(sink, self.gathered.as_slice()).is_err();
@@ -105,13 +105,10 @@ impl<const ROOM: usize> Printer<ROOM> {
 
     /// Prints a piece where nothing is gathered.
     fn text_first<K: Sink>(&mut self, sink: &mut K, bytes: &[u8])
-        requires { self.old.gathered.items ≡ [] }
+        requires { self.old.gathered ≡ [] }
         ensures { Prints K.written K.faults self.old sink.old self.new sink.new bytes.now }
     {
-        let Err(_) = self.gathered.try_extend_from_slice(bytes) else {
-            return;
-        };
-        if !self.failed {
+        if !self.gathered.extend(bytes) && !self.failed {
             self.failed = write_all(sink, bytes).is_err();
         }
     }

@@ -9,9 +9,9 @@ returns-clause-prints g c =
       | then-not-self w ↦
           rw (w.sink-is, w.self-is, c.clear.ensures) (record {
             goes_on = λ old before done h.
-                sent c.args.self.now.failed w.is_err-self.result old _ _ before _ _ c.args.self.now.gathered.items done [] w.write_all.result w.if-not-self.true w.is_err-self.ensures.value
-                (rw (append-nil, ← w.as_slice.ensures.value) w.write_all.ensures) h;
+                sent c.args.self.now.failed w.is_err-self.result old _ _ before _ _ c.args.self.now.gathered done [] w.write_all.result w.if-not-self.true w.is_err-self.ensures.value
+                (rw (append-nil, ← w.as_slice.ensures) w.write_all.ensures) h;
           })
       | else-not-self w ↦
-          rw (w.sink-is, w.self-is) (record { goes_on = λ old before done h. dropped c.args.self.now.failed c.args.self.now.failed old _ before _ c.args.self.now.gathered.items _ done [] w.if-not-self.false refl h })
+          rw (w.sink-is, w.self-is) (record { goes_on = λ old before done h. dropped c.args.self.now.failed c.args.self.now.failed old _ before _ c.args.self.now.gathered _ done [] w.if-not-self.false refl h })
     ]
