@@ -19,7 +19,7 @@ use Rattle.protocol.specs.FurtherKinds.{convicts_member}
 use Rattle.protocol.specs.Heard.{rounds_bad}
 use Rattle.protocol.specs.Settled.{ear_of}
 use Rattle.protocol.specs.View.{Setting, Kept, Received, View, claims_settled, due_channels, empty_row, goes_with, other_body, own_claim, own_values, row_by, through, view_from}
-use Rattle.protocol.specs.Cluster.{kept, begins, view}
+use Rattle.protocol.specs.Cluster.{begins, view}
 use Rattle.protocol.specs.Run.{System, goes_in, run}
 use Rattle.protocol.specs.RunLaws.{begins_is, view_is}
 use Rattle.calm_period.specs.declared.claimed.Claimed.{Claimed}

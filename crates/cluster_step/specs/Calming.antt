@@ -2,12 +2,13 @@
 use Rattle.std.specs.Prelude.{◌≡◌, ◌≢◌, ◌<◌, ℕ, false, List, None, length, slice_index_or}
 use Rattle.fault_classes.specs.Line.{effect_at}
 use Rattle.fault_classes.specs.Plan.{Plan, restarts_at}
+use Rattle.agreed_state.specs.declared.config.Inputs.{Inputs}
 use Rattle.agreed_state.specs.Agreed.{AgreedView, IsAgreed}
 use Rattle.calm_period.specs.declared.statement.Statement.{Statement}
 use Rattle.calm_period.specs.Made.{said_of, said_by, AreNotesOf, AreStatements}
 use Rattle.calm_law.specs.Law.{IsCalmTo, said_in}
 use Rattle.node_steps.specs.Parts.{NodeView}
-use Rattle.scenario.specs.Scenario.{ScenarioView, system_of, IsScenario}
+use Rattle.scenario.specs.Scenario.{ScenarioView, inputs_of, system_of, IsScenario}
 use Rattle.cluster_step.specs.Periods.{IsBefore}
 
 -- no line touches a frame of the first so many slots, and no node restarts
@@ -27,6 +28,10 @@ pub record IsOneOf {N : ℕ} (sc : ScenarioView N) (p : ℕ) (v : NodeView N) : 
   pub room : ℕ
   pub low : v.phase.me < sc.config.nodes
   pub before : IsBefore sc room v.phase.me p v
+
+-- what each node is given for period p
+abbrev pub AreInputs : {N : ℕ} → ScenarioView N → ℕ → List Inputs → Type 0
+AreInputs {N} sc p xs = (i : ℕ) (d : Inputs) → i < sc.config.nodes → slice_index_or xs i d ≡ inputs_of sc i p
 
 -- a statement of what node i says in period p, into which it goes with state a
 pub record IsSaid {N : ℕ} (sc : ScenarioView N) (p : ℕ) (a : AgreedView) (i : ℕ) (x : Statement N) : Type 0 where

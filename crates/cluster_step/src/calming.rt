@@ -10,12 +10,12 @@ ghost use Rattle.fault_classes.specs.Plan.{restarts_at};
 ghost use Rattle.calm_period.specs.Made.{said_by, FollowsFrom, IsClaimed, IsMade};
 ghost use Rattle.node_core.specs.Passing.{claims_taken};
 ghost use Rattle.scenario.specs.Scenario.{inputs_of};
-ghost use Rattle.cluster_step.specs.Calming.{IsUntouched, IsCalmWith, IsOneOf, IsSaid, AreSaid, AreAlike};
+ghost use Rattle.cluster_step.specs.Calming.{IsUntouched, IsCalmWith, IsOneOf, AreInputs, IsSaid, AreSaid, AreAlike};
 ghost use Rattle.cluster_step.specs.Late.{AreAtData};
 ghost use Rattle.cluster_step.specs.Periods.{AreNodes};
 
 use crate::stepping::Period;
-use agreed_state::Agreed;
+use agreed_state::{Agreed, Inputs};
 use calm_period::{Calm, Claimed, Statement};
 use node_core::Node;
 use slot_plan::slot_count;
@@ -135,27 +135,49 @@ impl<'s, const N: usize> Period<'s, N> {
         Some(state)
     }
 
-    /// What a node says in the period, into which it goes with this state.
-    fn statement<'c>(&self, node: &Node<'c, N>, state: &Agreed<N>) -> Statement<N>
+    /// What each node is given for the period.
+    fn all_inputs(&self) -> [Inputs; N]
+        requires { IsCapacity N }
+        ensures { AreInputs self.now.scenario.now self.now.number result }
+    {
+        let nothing = Inputs {
+            run: [0; 32],
+            reading: [0; 8],
+        };
+        let mut inputs = [nothing; N];
+        for node in 0..self.scenario.config().nodes {
+            inputs[node as usize] = self.scenario.inputs(node, self.number);
+        }
+        inputs
+    }
+
+    /// What a node says in the period, into which it goes with this state, and for which it is given this.
+    fn statement<'c>(&self, node: &Node<'c, N>, inputs: &Inputs, state: &Agreed<N>) -> Statement<N>
         requires capacity { IsCapacity N }
         requires node { IsOneOf self.now.scenario.now self.now.number node.now }
+        requires inputs { inputs.now ≡ inputs_of self.now.scenario.now node.now.phase.me self.now.number }
         requires calm { IsCalmWith self.now.scenario.now self.now.number state.now 0 }
         ensures { IsSaid self.now.scenario.now self.now.number state.now node.now.phase.me result }
     {
-        let inputs = self.scenario.inputs(node.me(), self.number);
-        node.statement(self.number, &inputs, state)
+        node.statement(self.number, inputs, state)
     }
 
-    /// What all nodes say in the period, into which they go with this state.
-    fn statements<'c>(&self, nodes: &[Node<'c, N>], state: &Agreed<N>) -> [Statement<N>; N]
+    /// What all nodes say in the period, into which they go with this state, and for which they are given this.
+    fn statements<'c>(
+        &self,
+        nodes: &[Node<'c, N>],
+        inputs: &[Inputs; N],
+        state: &Agreed<N>,
+    ) -> [Statement<N>; N]
         requires capacity { IsCapacity N }
         requires before { AreNodes self.now.scenario.now self.now.number nodes.now }
+        requires inputs { AreInputs self.now.scenario.now self.now.number inputs.now }
         requires calm { IsCalmWith self.now.scenario.now self.now.number state.now 0 }
         ensures { AreSaid self.now.scenario.now self.now.number state.now (take (length nodes.now) result) }
     {
-        let mut statements = [self.statement(&nodes[0], state); N];
-        for i in 0..nodes.len() {
-            statements[i] = self.statement(&nodes[i], state);
+        let mut statements = [self.statement(&nodes[0], &inputs[0], state); N];
+        for i in 1..nodes.len() {
+            statements[i] = self.statement(&nodes[i], &inputs[i], state);
         }
         statements
     }
@@ -186,31 +208,34 @@ impl<'s, const N: usize> Period<'s, N> {
     fn open_data<'c>(
         &self,
         node: &mut Node<'c, N>,
+        inputs: &Inputs,
         state: &Agreed<N>,
         statement: &Statement<N>,
         claimed: &Claimed<N>,
     )
         requires capacity { IsCapacity N }
         requires node { IsOneOf self.now.scenario.now self.now.number node.old }
+        requires inputs { inputs.now ≡ inputs_of self.now.scenario.now node.old.phase.me self.now.number }
         requires calm { IsCalmWith self.now.scenario.now self.now.number state.now 0 }
         requires statement { IsSaid self.now.scenario.now self.now.number state.now node.old.phase.me statement.now }
         requires claimed { FollowsFrom self.now.scenario.now.config state.now claimed.now }
         ensures { node.new ≡ claims_taken node.old self.now.number (inputs_of self.now.scenario.now node.old.phase.me self.now.number) state.now claimed.now }
     {
-        let inputs = self.scenario.inputs(node.me(), self.number);
-        node.take_claims(self.number, &inputs, state, claimed, statement);
+        node.take_claims(self.number, inputs, state, claimed, statement);
     }
 
     /// Opens the data slot of all nodes, by what all make of the claims.
     fn open_data_all<'c>(
         &self,
         nodes: &mut [Node<'c, N>],
+        inputs: &[Inputs; N],
         state: &Agreed<N>,
         statements: &[Statement<N>],
         claimed: &Claimed<N>,
     )
         requires capacity { IsCapacity N }
         requires before { AreNodes self.now.scenario.now self.now.number nodes.old }
+        requires inputs { AreInputs self.now.scenario.now self.now.number inputs.now }
         requires calm { IsCalmWith self.now.scenario.now self.now.number state.now (self.now.scenario.now.config.m + 2) }
         requires said { AreSaid self.now.scenario.now self.now.number state.now statements.now }
         requires claimed { IsClaimed self.now.scenario.now.config state.now (said_by statements.now) claimed.now }
@@ -218,7 +243,7 @@ impl<'s, const N: usize> Period<'s, N> {
     {
         calm_law::claims();
         for i in 0..nodes.len() {
-            self.open_data(&mut nodes[i], state, &statements[i], claimed);
+            self.open_data(&mut nodes[i], &inputs[i], state, &statements[i], claimed);
         }
     }
 
@@ -243,7 +268,8 @@ impl<'s, const N: usize> Period<'s, N> {
         let Some(state) = self.calm_state(nodes, alike, untouched) else {
             return Reached::Nothing;
         };
-        let all = self.statements(nodes, &state);
+        let inputs = self.all_inputs();
+        let all = self.statements(nodes, &inputs, &state);
         let statements = &all[..nodes.len()];
         if untouched == slot_count(config.m) {
             let calm = Calm::of(config, self.number, &state, statements);
@@ -251,7 +277,7 @@ impl<'s, const N: usize> Period<'s, N> {
             return Reached::End;
         }
         let claimed = Claimed::of(config, &state, statements);
-        self.open_data_all(nodes, &state, statements, &claimed);
+        self.open_data_all(nodes, &inputs, &state, statements, &claimed);
         Reached::Data
     }
 }

@@ -1,15 +1,15 @@
 //! What the links of one sender bring to all nodes.
 
-ghost use Rattle.std.specs.Prelude.{◌≡◌, ◌≢◌, ◌<◌, ◌≤◌, All, map, replicate, length};
+ghost use Rattle.std.specs.Prelude.{◌≡◌, ◌≢◌, ◌<◌, ◌≤◌, true, false, None, map, replicate, length};
 ghost use Rattle.node_grid.specs.Capacity.{IsCapacity};
 ghost use Rattle.slot_plan.specs.Slots.{slot_count};
-ghost use Rattle.cluster_step.specs.Slots.{arriving, handed, handed_from, handed_whole, IsReady, Takes};
+ghost use Rattle.fault_classes.specs.Line.{effect_at};
+ghost use Rattle.cluster_step.specs.Slots.{arriving, handed, handed_from, IsReady, Takes};
 
 use fault_classes::FaultPlan;
 use fault_link::{Delivered, deliveries};
-use node_core::{Node, Sent};
+use node_core::Node;
 use node_grid::NoMemory;
-use slot_plan::ON_TIME;
 use std::alloc::Global;
 use std::marker::Model;
 
@@ -71,28 +71,6 @@ pub(crate) struct Link<'p, const N: usize> {
     ghost in_use: { from < plan.now.nodes },
 }
 
-/// Hands a node the frame as it was sent by node `from`. The sender isn't handed its own.
-fn hand_whole<'c, const N: usize>(from: u8, sent: &Sent<'_>, node: &mut Node<'c, N>)
-    requires capacity { IsCapacity N }
-    requires takes { Takes from node.old }
-    ensures { node.new ≡ handed_whole sent.now from node.old }
-{
-    if from != node.me() {
-        node.deliver_sent(from, ON_TIME, sent);
-    }
-}
-
-/// Hands all nodes the frame as it was sent.
-fn deliver_whole<'c, const N: usize>(from: u8, sent: &Sent<'_>, nodes: &mut [Node<'c, N>])
-    requires capacity { IsCapacity N }
-    requires takes { All (Takes from) nodes.old }
-    ensures { nodes.new ≡ map (handed_whole sent.now from) nodes.old }
-{
-    for node in nodes.iter_mut() {
-        hand_whole(from, sent, node);
-    }
-}
-
 /// Hands another node what arrives of the frame of node `from`.
 fn hand<'c, const N: usize>(from: u8, arrived: &Delivered<'_>, node: &mut Node<'c, N>)
     requires capacity { IsCapacity N }
@@ -107,7 +85,12 @@ fn hand<'c, const N: usize>(from: u8, arrived: &Delivered<'_>, node: &mut Node<'
 
 impl<'p, const N: usize> Link<'p, N> {
     /// Delivers to another node what arrives of a frame that a line touches.
-    fn deliver_changed<'c>(&self, sent: &[u8], node: &mut Node<'c, N>, scratch: &mut Scratch)
+    pub(crate) fn deliver_changed<'c>(
+        &self,
+        sent: &[u8],
+        node: &mut Node<'c, N>,
+        scratch: &mut Scratch,
+    )
         requires capacity { IsCapacity N }
         requires ready { IsReady self.now.plan.now node.old }
         requires other { self.now.from ≢ node.old.phase.me }
@@ -127,43 +110,20 @@ impl<'p, const N: usize> Link<'p, N> {
         hand(self.from, &arrived, node);
     }
 
-    /// Delivers to a node what arrives of the frame; to the sender nothing does.
-    fn deliver_to<'c>(&self, sent: &Sent<'_>, node: &mut Node<'c, N>, scratch: &mut Scratch)
+    /// Whether a line touches the frame on its way to another node. It is looked up only where one touches a frame of the
+    /// sender in the period.
+    pub(crate) fn is_touched(&self, to: u8) -> bool
         requires capacity { IsCapacity N }
-        requires ready { IsReady self.now.plan.now node.old }
-        requires short { length sent.now ≤ 90104 }
-        ensures { node.new ≡ handed_from self.now.plan.now self.now.period self.now.slot sent.now self.now.from node.old }
+        requires to { to < self.now.plan.now.nodes }
+        ensures untouched { result ≡ false → self.now.from ≢ to →
+            effect_at self.now.plan.now.lines self.now.period self.now.slot self.now.from to ≡ None }
+        ensures other { result ≡ true → self.now.from ≢ to }
     {
-        let me = node.me();
-        if self.from == me {
-            return;
+        if self.from == to || self.plan.clean(self.from, self.period) {
+            return false;
         }
-        if self
-            .plan
-            .effect(self.period, self.slot, self.from, me)
+        self.plan
+            .effect(self.period, self.slot, self.from, to)
             .is_some()
-        {
-            self.deliver_changed(sent.bytes(), node, scratch);
-        } else {
-            node.deliver_sent(self.from, ON_TIME, sent);
-        }
-    }
-
-    /// Delivers to all nodes what arrives of the frame. It is looked at once, for all of them. Where no line touches a
-    /// frame of the sender in the period, it is the frame itself.
-    pub(crate) fn deliver<'c>(&self, sent: &[u8], nodes: &mut [Node<'c, N>], scratch: &mut Scratch)
-        requires capacity { IsCapacity N }
-        requires ready { All (IsReady self.now.plan.now) nodes.old }
-        requires short { length sent.now ≤ 90104 }
-        ensures { nodes.new ≡ map (handed_from self.now.plan.now self.now.period self.now.slot sent.now self.now.from) nodes.old }
-    {
-        let looked = Sent::look(sent, nodes.len().min(16) as u8);
-        if self.plan.clean(self.from, self.period) {
-            deliver_whole(self.from, &looked, nodes);
-        } else {
-            for node in nodes.iter_mut() {
-                self.deliver_to(&looked, node, scratch);
-            }
-        }
     }
 }

@@ -12,18 +12,18 @@ use Rattle.agreed_state.specs.Body.{body}
 use Rattle.relaying.specs.Guessed.{unguessed}
 use Rattle.node_core.specs.declared.controller.Findings.{Findings}
 use Rattle.node_core.specs.declared.controller.Controller.TheInside.{Inside}
-use Rattle.node_core.specs.Inside.{IsItsWatch, AreItsNotes, IsController}
+use Rattle.node_core.specs.Inside.{IsItsWatch, AreItsNotes, IsStateOf, IsController}
 use Rattle.node_core.proofs.Standing.{watch_open, watch_alike}
 
 -- what is guessed, if anything, is the state that is kept
-abbrev pub IsOwnState : {N : ℕ} → Inside N → Option Content → Type 0
-IsOwnState n g = IfSome g (λ c. (is_some n.kept.state ≡ true) × IfSome n.kept.state (λ a. c ≡ State (body n.config.now a)))
+abbrev pub IsKeptState : {N : ℕ} → Inside N → Option Content → Type 0
+IsKeptState n g = IfSome g (λ c. (is_some n.kept.state ≡ true) × IsStateOf n.config.now n.kept.state c)
 
 pub record Begins {N : ℕ} (n : Inside N) (e : Expectation) (m : Inside N) : Type 0 where
   pub watch : Watch
   pub is : m ≡ record n { watch = watch }
   pub seen_as : unguessed watch ≡ opened (unguessed n.watch) e
-  pub guess : IsOwnState n watch.guess
+  pub guess : IsKeptState n watch.guess
 
 module _ {N : ℕ} (n : Inside N) (e : Expectation) (m : Inside N) where
   pub begins_plain : (w : Watch) → m ≡ record n { watch = w } → w ≡ opened n.watch e → Begins n e m
@@ -31,7 +31,7 @@ module _ {N : ℕ} (n : Inside N) (e : Expectation) (m : Inside N) where
     watch = w;
     is = is;
     seen_as = ap unguessed k;
-    guess = subst (λ (u : Watch). IsOwnState n u.guess) (sym k) tt;
+    guess = subst (λ (u : Watch). IsKeptState n u.guess) (sym k) tt;
   }
 
   pub begins_guessed : (w u : Watch) (a : AgreedView) (bytes : List ℕ) (b : Bool) → m ≡ record n { watch = u } → w ≡ opened n.watch e → n.kept.state ≡ Some a → bytes ≡ body n.config.now a
@@ -41,8 +41,8 @@ module _ {N : ℕ} (n : Inside N) (e : Expectation) (m : Inside N) where
       watch = u;
       is = is;
       seen_as = ap unguessed (yes' y ∙ ap (λ (x : Watch). guessing x (State bytes)) k);
-      guess = subst (λ (x : Watch). IsOwnState n x.guess) (sym (yes' y))
-          (ap is_some kept, subst (λ (o : Option AgreedView). IfSome o (λ s. State bytes ≡ State (body n.config.now s))) (sym kept) (ap State same));
+      guess = subst (λ (x : Watch). IsKeptState n x.guess) (sym (yes' y))
+          (ap is_some kept, subst (λ (o : Option AgreedView). IsStateOf n.config.now o (State bytes)) (sym kept) (ap State same));
     }
     | inr f ↦ begins_plain u is (no' f ∙ k)
   ]
@@ -88,6 +88,6 @@ module _ {N : ℕ} (n : Inside N) (e : Expectation) (m : Inside N) (b : Begins n
         rooms = inv.rooms;
         guessed = λ o h. go b.watch.guess b.guess same;
       }) all where
-        go : (o : Option Content) → IsOwnState n o → full ≡ is_some n.kept.state → IfSome o (λ c. (full ≡ true) × IfSome n.kept.state (λ a. c ≡ State (body n.config.now a)))
+        go : (o : Option Content) → IsKeptState n o → full ≡ is_some n.kept.state → IfSome o (λ c. (full ≡ true) × IsStateOf n.config.now n.kept.state c × IsStateOf n.config.now n.kept.state c)
         go None x same = tt
-        go (Some c) x same = (same ∙ x.0, x.1)
+        go (Some c) x same = (same ∙ x.0, x.1, x.1)

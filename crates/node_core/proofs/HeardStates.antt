@@ -29,7 +29,7 @@ use Rattle.node_steps.specs.Sound.{IsInSlot, IsSound}
 use Rattle.node_steps.specs.Steps.{expected_in, shut, noting, started, synced, with_sync, after_sync}
 use Rattle.node_core.specs.declared.controller.Controller.TheInside.{Inside}
 use Rattle.node_core.specs.HeardBy.{IsHeardBy}
-use Rattle.node_core.specs.Inside.{seen, IsGuessed, AreItsNotes, IsController}
+use Rattle.node_core.specs.Inside.{seen, IsStateOf, IsOwnState, IsGuessed, AreItsNotes, IsController}
 use Rattle.node_core.proofs.NotedRows.{noted_by}
 use Rattle.node_core.proofs.Places.{in_sync}
 use Rattle.node_core.proofs.Standing.{watch_shut, not_open}
@@ -51,17 +51,17 @@ module _ {N : ℕ} (n : Inside N) (inv : IsController n) (sound : IsSound (seen 
   some_slot = subst IsSome (sym (ap (λ (x : Watch). x.expect) shut')) (inv.watch.expects slot.watching)
 
   -- a node without a state of its own guesses nothing, and another one its own
-  guessed : IfSome n.watch.guess (λ c. (n.phase.full ≡ true) × IfSome n.kept.state (λ a. c ≡ State (body n.config.now a)))
+  guessed : IfSome n.watch.guess (IsOwnState n)
   guessed = subst (λ (x : Slot). IsGuessed x n) (in_sync n.config.now.m n.phase.slot inv.slot first) (inv.guessed open' slot.watching)
 
-  none_guessed : (o : Option Content) → n.phase.full ≡ false → IfSome o (λ c. (n.phase.full ≡ true) × IfSome n.kept.state (λ a. c ≡ State (body n.config.now a))) → o ≡ None
+  none_guessed : (o : Option Content) → n.phase.full ≡ false → IfSome o (IsOwnState n) → o ≡ None
   none_guessed None joins h = refl
   none_guessed (Some c) joins h = absurd (false≢true (sym joins ∙ h.0))
 
   own_guessed : (o : Option Content) (a : AgreedView) → (n.phase.full ≡ true → n.kept.state ≡ Some a)
-      → IfSome o (λ c. (n.phase.full ≡ true) × IfSome n.kept.state (λ x. c ≡ State (body n.config.now x))) → IfSome o (λ c. c ≡ State (body n.config.now a))
+      → IfSome o (IsOwnState n) → IfSome o (λ c. c ≡ State (body n.config.now a))
   own_guessed None a keeps h = tt
-  own_guessed (Some c) a keeps h = subst (λ (o : Option AgreedView). IfSome o (λ x. c ≡ State (body n.config.now x))) (keeps h.0) h.1
+  own_guessed (Some c) a keeps h = subst (λ (o : Option AgreedView). IsStateOf n.config.now o c) (keeps h.0) h.1
 
   pub joining_watch : n.phase.full ≡ false → IsHeardBy u n.config.now.nodes n.phase.me
   joining_watch joins = record {

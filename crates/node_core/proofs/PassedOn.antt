@@ -1,5 +1,5 @@
 -- A node that passed a calm period is sound.
-use Rattle.std.proofs.Common.{ℕ, ℤ, ◌≡◌, false, List, Option, sym, ap, subst, ◌∙◌}
+use Rattle.std.proofs.Common.{ℕ, ℤ, ◌≡◌, false, List, Option, sym, subst, ◌∙◌}
 use Rattle.agreed_state.specs.Agreed.{IsAgreed}
 use Rattle.agreed_state.specs.Config.{IsConfig}
 use Rattle.protocol.specs.Configured.{setting_of}

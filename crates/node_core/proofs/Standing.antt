@@ -1,21 +1,20 @@
 -- What holds of a controller is kept where little of it changes.
-use Rattle.std.proofs.Common.{ℕ, ◌≡◌, ◌≤◌, true, false, List, length, Option, None, Some, Vec, Global, refl, sym, ap, subst, ◌∙◌, arith}
+use Rattle.std.proofs.Common.{ℕ, ◌≡◌, ◌≤◌, true, false, List, Option, None, Some, Vec, Global, refl, sym, ap, subst, ◌∙◌, arith}
 use Rattle.std.specs.Prelude.{IsSome, IfSome, vec_capacity}
 use Rattle.omh_paths.specs.declared.wrapped.Wrapped.{Wrapped}
 use Rattle.slot_plan.specs.declared.slot.Slot.{Slot}
 use Rattle.slot_plan.specs.declared.slot.Slot.TheVariants.{Sync, Claims, Data, Rows}
 use Rattle.frames.specs.Bound.{IsGreatest}
 use Rattle.frames.specs.Content.{Content, Expectation}
-use Rattle.frames.specs.Content.Content.{State}
 use Rattle.error_detect.specs.Watching.{Watch, closed, opened, delivered}
 use Rattle.agreed_state.specs.declared.config.Config.{Config}
 use Rattle.agreed_state.specs.Agreed.{AgreedView}
-use Rattle.agreed_state.specs.Body.{body, state_len}
+use Rattle.agreed_state.specs.Body.{state_len}
 use Rattle.relaying.specs.Guessed.{unguessed}
 use Rattle.node_core.specs.declared.controller.Buffers.{Buffers}
 use Rattle.node_core.specs.declared.controller.Keeping.{Keeping}
 use Rattle.node_core.specs.declared.controller.Controller.TheInside.{Inside}
-use Rattle.node_core.specs.Inside.{IsItsWatch, HasRooms, IsGuessed, IsController}
+use Rattle.node_core.specs.Inside.{IsItsWatch, HasRooms, IsStateOf, IsOwnState, IsGuessed, IsController}
 
 -- ---- the watch
 
@@ -46,7 +45,7 @@ not_open w u e h = let x : u.is_open ≡ false = ap (λ (v : Watch). v.is_open) 
 
 -- the guess stands while frames come
 pub guess_stays : {N : ℕ} (x : Slot) (n : Inside N) (u : Watch) → u.expect ≡ n.watch.expect → u.guess ≡ n.watch.guess → IsGuessed x n → IsGuessed x (record n { watch = u })
-guess_stays Sync n u e g h = subst (λ c. IfSome c (λ s. (n.phase.full ≡ true) × IfSome n.kept.state (λ a. s ≡ State (body n.config.now a)))) (sym g) h
+guess_stays Sync n u e g h = subst (λ c. IfSome c (IsOwnState n)) (sym g) h
 guess_stays (Claims r) n u e g h = λ some x c expects guesses. h some x c (sym e ∙ expects) (sym g ∙ guesses)
 guess_stays Data n u e g h = g ∙ h
 guess_stays (Rows r) n u e g h = λ some x c expects guesses. h some x c (sym e ∙ expects) (sym g ∙ guesses)
@@ -54,19 +53,19 @@ guess_stays (Rows r) n u e g h = λ some x c expects guesses. h some x c (sym e 
 -- and where what is kept was forgotten
 pub guess_forgotten : {N : ℕ} (x : Slot) (n : Inside N) (k : Keeping N) → k.state ≡ None → IsGuessed x n → IsGuessed x (record n { kept = k })
 guess_forgotten {N} Sync n k none h = go n.watch.guess h where
-  nothing_kept : (c : Content) → IfSome k.state (λ a. c ≡ State (body n.config.now a))
-  nothing_kept c = subst (λ (o : Option AgreedView). IfSome o (λ a. c ≡ State (body n.config.now a))) (sym none) tt
+  nothing_kept : (c : Content) → IsStateOf n.config.now k.state c
+  nothing_kept c = subst (λ (o : Option AgreedView). IsStateOf n.config.now o c) (sym none) tt
 
-  go : (o : Option Content) → IfSome o (λ c. (n.phase.full ≡ true) × IfSome n.kept.state (λ a. c ≡ State (body n.config.now a))) → IfSome o (λ c. (n.phase.full ≡ true) × IfSome k.state (λ a. c ≡ State (body n.config.now a)))
+  go : (o : Option Content) → IfSome o (IsOwnState n) → IfSome o (IsOwnState (record n { kept = k }))
   go None i = tt
-  go (Some c) i = (i.0, nothing_kept c)
+  go (Some c) i = (i.0, nothing_kept c, i.2)
 guess_forgotten (Claims r) n k none h = h
 guess_forgotten Data n k none h = h
 guess_forgotten (Rows r) n k none h = h
 
 -- where nothing is guessed that is no matter
 pub no_guess : {N : ℕ} (x : Slot) (n : Inside N) → n.watch.guess ≡ None → IsGuessed x n
-no_guess Sync n none = subst (λ (o : Option Content). IfSome o (λ c. (n.phase.full ≡ true) × IfSome n.kept.state (λ a. c ≡ State (body n.config.now a)))) (sym none) tt
+no_guess Sync n none = subst (λ (o : Option Content). IfSome o (IsOwnState n)) (sym none) tt
 no_guess (Claims r) n none = λ some e c expects guesses. absurd (let x = sym none ∙ guesses in cc)
 no_guess Data n none = none
 no_guess (Rows r) n none = λ some e c expects guesses. absurd (let x = sym none ∙ guesses in cc)

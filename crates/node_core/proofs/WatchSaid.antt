@@ -1,6 +1,8 @@
 -- What a node's watch guesses in a relay slot, as the node says its own frame of the slot.
 use Rattle.std.proofs.Common.{ℕ, ◌≡◌, ◌<◌, ◌≤◌, ◌+◌, true, Some, sym, ap, subst, ◌∙◌, arith}
+use Rattle.std.specs.Prelude.{IfSome}
 use Rattle.slot_plan.specs.declared.slot.Slot.{Slot}
+use Rattle.slot_plan.specs.declared.slot.Slot.TheVariants.{Sync}
 use Rattle.slot_plan.specs.Slots.{slot_number}
 use Rattle.frames.specs.Content.{Expectation}
 use Rattle.protocol.specs.Arrival.{claim_form, row_form}
@@ -9,8 +11,8 @@ use Rattle.node_steps.specs.Parts.{NodeView}
 use Rattle.node_steps.specs.Sound.{HasSizes, IsInSlot}
 use Rattle.node_steps.specs.Steps.{expected_in}
 use Rattle.node_core.specs.declared.controller.Controller.TheInside.{Inside}
-use Rattle.node_core.specs.Inside.{seen, IsGuessed, IsController}
-use Rattle.node_core.proofs.Places.{in_claims, in_rows}
+use Rattle.node_core.specs.Inside.{seen, IsOwnState, IsGuessed, IsController}
+use Rattle.node_core.proofs.Places.{in_sync, in_claims, in_rows}
 
 module _ {N : ℕ} (n : Inside N) (inv : IsController n) (v : NodeView N) (is : seen n ≡ v) (s : IsInSlot v) (open' : v.phase.is_open ≡ true) where
   goes_on : n.phase.is_open ≡ true
@@ -25,6 +27,12 @@ module _ {N : ℕ} (n : Inside N) (inv : IsController n) (v : NodeView N) (is : 
   -- it expects what is expected in the slot
   pub expects_now : (e : Expectation) (k : ℕ) → v.phase.slot ≡ k → e ≡ expected_in v k → n.watch.expect ≡ Some e
   expects_now e k at due = ap (λ (w : NodeView N). w.arrived.expect) is ∙ s.expects ∙ ap (λ (j : ℕ). Some (expected_in v j)) at ∙ ap Some (sym due)
+
+  -- and guesses in the sync slot the node's own state
+  pub state_guessed_now : v.phase.slot ≡ 0 → IfSome n.watch.guess (IsOwnState n)
+  state_guessed_now at =
+      let place : n.phase.slot ≡ Sync = in_sync n.config.now.m n.phase.slot inv.slot (ap (λ (w : NodeView N). w.phase.slot) is ∙ at) in
+      subst (λ (x : Slot). IsGuessed x n) place (inv.guessed goes_on watches)
 
   -- among as many nodes as the tables are of
   pub claims_nodes : HasSizes v → n.watch.nodes ≡ n.done.nodes

@@ -1,9 +1,13 @@
 //! A node's controller: what the node knows, without the frame that lies ready.
 
-ghost use Rattle.std.specs.Prelude.{◌≡◌, ◌≢◌, ◌<◌, true};
+ghost use Rattle.std.specs.Prelude.{◌≡◌, ◌≢◌, ◌<◌, ◌≤◌, ◌-◌, [], true, All, map, length};
 ghost use Rattle.node_grid.specs.Capacity.{IsCapacity};
+ghost use Rattle.error_detect.specs.Multiset.{all_delivered};
 ghost use Rattle.protocol.specs.Run.{members_in};
-ghost use Rattle.node_steps.specs.Steps.{restarted, given_frame};
+ghost use Rattle.relaying.specs.Common.{IsGuessedIn, AreGuessedIn, frame_by, whole_from};
+ghost use Rattle.node_steps.specs.Sound.{IsSound};
+ghost use Rattle.node_steps.specs.Steps.{restarted, given_frame, frame_of};
+ghost use Rattle.node_core.specs.Telling.{SaysAsGuessed};
 
 mod calm;
 mod claims;
@@ -25,9 +29,10 @@ use heard::Heard;
 use node_grid::{NodeSet, Row};
 use omh_paths::Wrapped;
 pub(crate) use opening::filled;
-use relaying::{Sent, is_guessed};
+use relaying::{CommonGuess, deliver_whole, is_guessed};
 use slot_plan::Slot;
 use std::marker::Model;
+use std::ops::Range;
 
 /// Where a node stands.
 #[derive(Clone, Copy, Debug)]
@@ -122,17 +127,77 @@ impl<'c, const N: usize> Controller<'c, N> {
     }
 
     /// A frame arrives in the open slot. Of one that is as guessed nothing but its tick is kept.
-    pub fn deliver(&mut self, from: u8, tick: u8, sent: &Sent<'_>)
+    pub fn deliver(&mut self, from: u8, tick: u8, bytes: &[u8])
         requires open { self.old.arrived.is_open ≡ true }
         requires node { from < self.old.config.nodes }
         requires other { from ≢ self.old.phase.me }
-        ensures { self.new ≡ given_frame self.old from tick sent.now }
+        ensures { self.new ≡ given_frame self.old from tick bytes.now }
     {
-        if is_guessed(&self.watch, from, sent) {
+        if is_guessed(&self.watch, from, bytes) {
             self.watch.deliver_same(from, tick);
         } else {
-            self.watch.deliver(from, tick, sent.bytes());
+            self.watch.deliver(from, tick, bytes);
         }
+    }
+
+    /// The frames of these nodes, but for its own, arrive in the open slot as they were sent, on
+    /// time.
+    pub fn deliver_whole(
+        &mut self,
+        senders: Range<u8>,
+        frames: &[Vec<u8>],
+        commons: &[CommonGuess<N>],
+    )
+        requires open { self.old.arrived.is_open ≡ true }
+        requires ascending { senders.start ≤ senders.end }
+        requires nodes { senders.end ≤ self.old.config.nodes }
+        requires each { senders.end ≤ length frames.now }
+        requires known { All (λ c. AreGuessedIn c (frame_by (map (λ f. f.items) frames.now)))
+            commons.now }
+        ensures { self.new ≡ record self.old {
+          arrived = all_delivered self.old.arrived
+              (whole_from self.old.phase.me (frame_by (map (λ f. f.items) frames.now)) senders.start
+              (senders.end - senders.start));
+        } }
+    {
+        deliver_whole(&mut self.watch, self.phase.me, senders, frames, commons);
+    }
+
+    /// Gives what it guesses of the frames of the open slot, if anything.
+    pub fn lend_guess(&self, common: &mut CommonGuess<N>)
+        requires { IsCapacity N }
+        ensures { common.new.senders ≡ [] }
+    {
+        common.take(&self.watch);
+    }
+
+    /// Whether what it says in the open slot is, where something is guessed, what it guesses of each
+    /// other node: it is Full, and the slot is the sync slot, or that of a relay round of which it
+    /// is a member.
+    fn says_as_guessed(&self) -> bool
+        requires { IsCapacity N }
+        ensures { result ≡ true → SaysAsGuessed self.now }
+    {
+        if !self.phase.full || self.phase.before.is_none() {
+            return false;
+        }
+        match self.phase.slot {
+            Slot::Sync => true,
+            Slot::Claims(round) | Slot::Rows(round) => {
+                round > 0 && self.members().has(self.phase.me)
+            }
+            Slot::Data => false,
+        }
+    }
+
+    /// Whether its frame of the open slot is known to be what is commonly guessed of it.
+    pub fn tells(&self, common: &CommonGuess<N>) -> bool
+        requires capacity { IsCapacity N }
+        requires sound { IsSound self.now }
+        requires open { self.now.phase.is_open ≡ true }
+        ensures { result ≡ true → IsGuessedIn common.now self.now.phase.me (frame_of self.now) }
+    {
+        self.says_as_guessed() && common.is_of(&self.watch)
     }
 
     /// Forgets what it keeps from one period to the next.

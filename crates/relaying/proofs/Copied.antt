@@ -1,19 +1,17 @@
 -- Copying the entries of a table, a run at a time.
-use Rattle.std.proofs.Common.{◌≡◌, ℕ, ◌+◌, ◌-◌, ◌*◌, ◌≤◌, Bool, true, false, List, [], ◌∷◌, ◌++◌, length, take, drop, replicate, refl, sym, ap, ap₂, subst, ◌∙◌, arith, append_assoc, append-nil}
-use Rattle.std.specs.List.{flat_map}
+use Rattle.std.proofs.Common.{◌≡◌, ℕ, suc, ◌+◌, ◌-◌, ◌*◌, ◌<◌, ◌≤◌, Bool, true, false, List, [], ◌∷◌, ◌++◌, length, take, drop, replicate, refl, sym, ap, ap₂, subst, ◌∙◌, arith, append_assoc, append-nil}
 use Rattle.std.specs.Prelude.{if◌then◌else◌}
-use Rattle.std.proofs.lemmas.Grind.{flat_map-append}
 use Rattle.std.proofs.lemmas.List.{length-take-le, length-append, length-replicate, length-drop, length-map}
-use Rattle.std.proofs.lemmas.List.Concat.{flat_map-cons}
 use Rattle.node_grid.specs.NodeSet.{has_id}
 use Rattle.frames.specs.Writing.{pasted}
 use Rattle.frames.specs.PieceLaws.{pasted_twice, length-pasted}
 use Rattle.error_detect.specs.Guessing.{pieces_without}
 use Rattle.relaying.specs.declared.copying.Rest.{Rest}
-use Rattle.relaying.specs.Comparing.{marks_of, unmarked}
+use Rattle.relaying.specs.Comparing.{marks_of, unmarked, times}
 use Rattle.relaying.specs.Copying.{due, CanCopy, IsCopied}
 use Rattle.relaying.proofs.Marks.{unmarked_all, pieces_unmarked}
 use Rattle.relaying.proofs.Steps.{keep_owed}
+use Rattle.relaying.proofs.Sides.{times_first, times_next}
 
 -- ---- one run
 
@@ -126,21 +124,38 @@ can_keep w n l size h =
     let m : w * length (replicate n false) ≡ w * n = ap (λ k. w * k) (length-replicate n false) in
     omega (arith, entries, m)
 
--- ---- the paths of more nodes
+-- ---- three parts of what is gone over
 
--- room for what begins with the first of the nodes that are left
-pub can_piece : (w : ℕ) (f : ℕ → List Bool) (x : ℕ) (items xs : List ℕ) (bs : List Bool) (l : Rest) (size : ℕ) → items ≡ x ∷ xs → f x ≡ bs → CanCopy w (flat_map f items) l size → CanCopy w (bs ++ flat_map f xs) l size
-can_piece w f x items xs bs l size e is h = can_of w (flat_map f items) (bs ++ flat_map f xs) l size (ap (flat_map f) e ∙ flat_map-cons f x xs ∙ ap (λ b. b ++ flat_map f xs) is) h
+module _ (w : ℕ) (bs cs ds all : List Bool) (parts : bs ++ (cs ++ ds) ≡ all) (a b c d : Rest) (o1 o2 o3 o4 : List ℕ) (can : CanCopy w all a (length o1)) where
+  whole : CanCopy w (bs ++ (cs ++ ds)) a (length o1)
+  whole = can_of w all (bs ++ (cs ++ ds)) a (length o1) (sym parts) can
 
-pub can_of_piece : (w : ℕ) (f : ℕ → List Bool) (x : ℕ) (items xs : List ℕ) (bs : List Bool) (l : Rest) (size : ℕ) → items ≡ x ∷ xs → f x ≡ bs → CanCopy w (flat_map f items) l size → CanCopy w bs l size
-can_of_piece w f x items xs bs l size e is h = can_first w bs (flat_map f xs) l size (can_piece w f x items xs bs l size e is h)
+  pub can_one : CanCopy w bs a (length o1)
+  can_one = can_first w bs (cs ++ ds) a (length o1) whole
 
--- one node more was gone over
-pub copied_next : (w : ℕ) (f : ℕ → List Bool) (ys : List ℕ) (x : ℕ) (bs : List Bool) (a b c : Rest) (o1 o2 o3 : List ℕ) → f x ≡ bs → IsCopied w (flat_map f ys) a b o1 o2 → IsCopied w bs b c o2 o3
-    → IsCopied w (flat_map f (ys ++ x ∷ [])) a c o1 o3
-copied_next w f ys x bs a b c o1 o2 o3 is o p =
-    let one : flat_map f (x ∷ []) ≡ bs = flat_map-cons f x [] ∙ append-nil (f x) ∙ is in
-    copied_of w (flat_map f ys ++ bs) (flat_map f (ys ++ x ∷ [])) a c o1 o3 (sym (flat_map-append f ys (x ∷ []) ∙ ap (λ b. flat_map f ys ++ b) one)) (copied_more w (flat_map f ys) bs a b c o1 o2 o3 o p)
+  pub can_two : IsCopied w bs a b o1 o2 → CanCopy w cs b (length o2)
+  can_two x = can_first w cs ds b (length o2) (can_next w bs (cs ++ ds) a b o1 o2 whole x)
+
+  pub can_three : IsCopied w bs a b o1 o2 → IsCopied w cs b c o2 o3 → CanCopy w ds c (length o3)
+  can_three x y = can_next w cs ds b c o2 o3 (can_next w bs (cs ++ ds) a b o1 o2 whole x) y
+
+  pub all_copied : IsCopied w bs a b o1 o2 → IsCopied w cs b c o2 o3 → IsCopied w ds c d o3 o4 → IsCopied w all a d o1 o4
+  all_copied x y z = copied_of w (bs ++ (cs ++ ds)) all a d o1 o4 parts (copied_more w bs (cs ++ ds) a b d o1 o2 o4 x (copied_more w cs ds b c d o2 o3 o4 y z))
+
+-- ---- the same so many times
+
+pub can_times : (w n k : ℕ) (bs : List Bool) (l : Rest) (size : ℕ) → k < n → CanCopy w (times (n - k) bs) l size → CanCopy w (bs ++ times (n - suc k) bs) l size
+can_times w n k bs l size low h = can_of w (times (n - k) bs) (bs ++ times (n - suc k) bs) l size (times_first n k bs low) h
+
+pub copied_times : (w k : ℕ) (bs : List Bool) (a b c : Rest) (o1 o2 o3 : List ℕ) → IsCopied w (times k bs) a b o1 o2 → IsCopied w bs b c o2 o3 → IsCopied w (times (k + 1) bs) a c o1 o3
+copied_times w k bs a b c o1 o2 o3 x y =
+    let next : suc k ≡ k + 1 = omega arith in
+    copied_of w (times k bs ++ bs) (times (k + 1) bs) a c o1 o3 (times_next k bs ∙ ap (λ m. times m bs) next) (copied_more w (times k bs) bs a b c o1 o2 o3 x y)
+
+pub can_less : (w n k : ℕ) (bs : List Bool) (a b : Rest) (o1 o2 : List ℕ) → k < n → CanCopy w (times (n - k) bs) a (length o1) → IsCopied w bs a b o1 o2 → CanCopy w (times (n - (k + 1)) bs) b (length o2)
+can_less w n k bs a b o1 o2 low can o =
+    let next : suc k ≡ k + 1 = omega arith in
+    can_of w (times (n - suc k) bs) (times (n - (k + 1)) bs) b (length o2) (ap (λ m. times (n - m) bs) next) (can_next w bs (times (n - suc k) bs) a b o1 o2 (can_times w n k bs a (length o1) low can) o)
 
 -- ---- the whole table
 

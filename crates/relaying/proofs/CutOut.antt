@@ -1,6 +1,5 @@
 -- A guess without a node's own paths is what the node passes on itself.
 use Rattle.std.proofs.Common.{ℕ, suc, ◌≡◌, ◌<◌, ◌*◌, true, false, List, [], ◌∷◌, length, map, refl, sym, ap, ap₂, ◌∙◌, inl, inr, arith}
-use Rattle.std.specs.Prelude.{Option, Some, None, is_some}
 use Rattle.std.specs.List.{flat_map}
 use Rattle.std.proofs.lemmas.Bool.{cases_Bool}
 use Rattle.node_grid.specs.NodeSet.{has_id, without_id}
@@ -11,8 +10,6 @@ use Rattle.omh_paths.specs.Paths.{paths_of_length, path_at, IsListed}
 use Rattle.omh_paths.specs.PathLists.{length-paths, Distinct-without, IsListed-at, has-without-left}
 use Rattle.omh.specs.Heard.{Hearing, heard_in}
 use Rattle.frames.specs.Content.{Expectation, Content, round_in}
-use Rattle.frames.specs.Runs.{spread}
-use Rattle.frames.specs.declared.runs.Runs.{Runs}
 use Rattle.frames.specs.Spelling.{body_spelling}
 use Rattle.error_detect.specs.Guessing.{pieces_without, IsGuessable}
 use Rattle.protocol.specs.Arrival.{Form}
@@ -20,11 +17,6 @@ use Rattle.protocol.specs.TalkLaws.{paths_of_member}
 use Rattle.relaying.specs.Guessed.{IsEchoOf, IsCutOut, CutsOut}
 use Rattle.relaying.specs.Relaying.{relays}
 use Rattle.relaying.specs.Round.{IsRoundOf}
-
--- bytes that aren't runs stand for themselves
-pub spread_plain : (o : Option Runs) (bytes : List ℕ) → is_some o ≡ false → spread o bytes ≡ bytes
-spread_plain None bytes h = refl
-spread_plain (Some r) bytes h = absurd (cc)
 
 alike : {X : Type 0} (f g : List ℕ → X) (ps : List (List ℕ)) → ((k : ℕ) → k < length ps → f (path_at ps k) ≡ g (path_at ps k)) → map f ps ≡ map g ps
 alike f g [] h = refl

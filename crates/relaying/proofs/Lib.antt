@@ -4,6 +4,7 @@ pub mod Entries
 pub mod Expected
 pub mod Tables
 pub mod Rows
+pub mod Overwriting
 pub mod Marks
 pub mod Steps
 pub mod Copied
@@ -18,7 +19,9 @@ pub mod Convicting
 pub mod Bodies
 pub mod Framing
 pub mod RunParts
+pub mod OwnRuns
 pub mod Roots
 pub mod Tabling
 pub mod OwnPaths
 pub mod CutOut
+pub mod Wholes

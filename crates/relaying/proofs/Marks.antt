@@ -12,7 +12,6 @@ use Rattle.omh_paths.specs.Paths.{paths_of_length, index_in}
 use Rattle.omh_paths.specs.PathLists.{paths-cons}
 use Rattle.error_detect.specs.Guessing.{pieces_without}
 use Rattle.relaying.specs.declared.comparing.Left.{Left}
-use Rattle.relaying.specs.Copying.{marks_behind}
 use Rattle.relaying.specs.Comparing.{marks_of, marks, unmarked, owed, IsOver, IsOdd}
 
 -- ---- marked entries
@@ -79,10 +78,6 @@ begin_with q c ps = elim (cases_Bool (c == q)) [
     same : (ps : List (List ℕ)) → (c == q) ≡ false → marks_of q (map (λ path. c ∷ path) ps) ≡ marks_of q ps
     same [] n = refl
     same (p ∷ ps) n = ap₂ (λ (b : Bool) (bs : List Bool). (b || has_id p q) ∷ bs) n (same ps n)
-
-pub marks_begin : (q : ℕ) (s : List ℕ) (r c : ℕ) → marks_behind q s r c ≡ behind q s r c
-unfolding behind
-marks_begin q s r c = begin_with q c (paths_of_length (without_id s c) r)
 
 marks_over : (q : ℕ) (f : ℕ → List (List ℕ)) (g : ℕ → List Bool) (xs : List ℕ) → ((c : ℕ) → marks_of q (f c) ≡ g c) → marks_of q (flat_map f xs) ≡ flat_map g xs
 marks_over q f g [] h = refl

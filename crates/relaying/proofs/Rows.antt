@@ -1,14 +1,14 @@
 -- What is passed on of the paths that go on from a path with one more node.
-use Rattle.std.proofs.Common.{ℕ, suc, ◌≡◌, ◌≢◌, ◌<◌, ◌≤◌, ◌+◌, ◌-◌, ◌*◌, ◌==◌, ◌||◌, ◌&&◌, ◌⊎◌, not, if◌then◌else◌, Bool, true, false, List, [], ◌∷◌, ◌++◌, length, map, take, drop, get_or, refl, sym, ap, ap₂, subst, ◌∙◌, inl, inr, arith, eqb-true, eq-eqb, length-append}
+use Rattle.std.proofs.Common.{ℕ, suc, ◌≡◌, ◌≢◌, ◌<◌, ◌≤◌, ◌+◌, ◌-◌, ◌*◌, ◌==◌, ◌||◌, ◌&&◌, ◌⊎◌, not, if◌then◌else◌, Bool, true, false, List, [], ◌∷◌, ◌++◌, length, take, drop, get_or, refl, sym, ap, ap₂, subst, ◌∙◌, inl, inr, arith, eqb-true, eq-eqb}
 use Rattle.std.specs.Prelude.{All}
 use Rattle.std.specs.List.{flat_map}
 use Rattle.std.proofs.lemmas.Bool.{cases_Bool, cond-true, both_ways, or_cases, or_left, or_right, and_parts, not-true}
-use Rattle.std.proofs.lemmas.List.{length_push, take-append-le, take_all, ext_get_or, get_or-map, get_or_default, length-map, get_or-drop, get_or-take, length-take-le, length-drop, map-append, get_or_append_left, append-nil}
+use Rattle.std.proofs.lemmas.List.{length_push, take-append-le, take_all, ext_get_or, get_or-map, get_or_default, length-map, get_or-drop, get_or-take, length-take-le, length-drop}
 use Rattle.std.proofs.lemmas.List.Elements.{All-take}
 use Rattle.std.proofs.lemmas.Map.Views.{any-filter_same}
 use Rattle.std.proofs.lemmas.Grind.{flat_map-append}
 use Rattle.std.proofs.Math.Nat.{mul-le-mul_left}
-use Rattle.std.proofs.Math.Seq.{take-add, get_or-append_seam, take-append_seam}
+use Rattle.std.proofs.Math.Seq.{take-add, take-append_seam}
 use Rattle.node_grid.specs.NodeSet.{has_id, with_id}
 use Rattle.node_grid.specs.NodeSetLaws.{passes_where}
 use Rattle.node_grid.specs.Count.{Distinct}
@@ -131,46 +131,7 @@ module _ {V : Type 0} (h : Hearing V) where
         ∙ pasted_twice 0 (width * (i * each)) (flat_map spell (take (i * each) xs)) (flat_map spell (passed_behind h front (outside s front))) was (omega (arith, written)) (omega (arith, new, split, whole, room))
         ∙ ap (λ (t : List ℕ). pasted 0 t was) (sym (ap (flat_map spell) more_rows ∙ flat_map-append spell (take (i * each) xs) (passed_behind h front (outside s front))))
 
--- ---- the entries of a row, one by one
-
-module _ {V : Type 0} (w : ℕ) (spell : Wrapped V → List ℕ) (f : ℕ → Wrapped V) (done rest : List ℕ) (q : ℕ) (wide : All (λ x. length (spell x) ≡ w) (map f (done ++ q ∷ rest))) where
-  whole : map f (done ++ q ∷ rest) ≡ map f done ++ f q ∷ map f rest
-  whole = map-append f done (q ∷ rest)
-
-  long : length (map f (done ++ q ∷ rest)) ≡ length done + suc (length rest)
-  long = length-map (done ++ q ∷ rest) f ∙ length-append done (q ∷ rest)
-
-  pub entry_wide : length (spell (f q)) ≡ w
-  entry_wide =
-      let at : get_or (map f (done ++ q ∷ rest)) (length done) (Fault 0) ≡ f q =
-      ap (λ (xs : List (Wrapped V)). get_or xs (length done) (Fault 0)) whole
-      ∙ ap (λ (n : ℕ). get_or (map f done ++ f q ∷ map f rest) n (Fault 0)) (sym (length-map done f))
-      ∙ get_or-append_seam (map f done) (f q) (map f rest) (Fault 0) in
-      ap (λ (x : Wrapped V). length (spell x)) (sym at) ∙ wide (length done) (Fault 0) (omega (arith, long))
-
-  done_wide : All (λ x. length (spell x) ≡ w) (map f done)
-  done_wide j d low =
-      let here : j < length done = omega (arith, low, length-map done f) in
-      let same : get_or (map f (done ++ q ∷ rest)) j d ≡ get_or (map f done) j d = ap (λ (xs : List (Wrapped V)). get_or xs j d) whole ∙ get_or_append_left (map f done) (f q ∷ map f rest) d j low in
-      ap (λ (x : Wrapped V). length (spell x)) (sym same) ∙ wide j d (omega (arith, here, long))
-
-  pub row_room : (from size : ℕ) → w * (from + length (done ++ q ∷ rest)) ≤ size → w * (from + length done) + w ≤ size
-  row_room from size fits =
-      let e : from + length (done ++ q ∷ rest) ≡ (from + length done + 1) + length rest = omega (arith, length-append done (q ∷ rest)) in
-      let m : w * (from + length (done ++ q ∷ rest)) ≡ w * ((from + length done + 1) + length rest) = ap (λ (n : ℕ). w * n) e in
-      let g : w * ((from + length done + 1) + length rest) ≡ w * (from + length done) + w + w * length rest = grind arith in
-      omega (arith, fits, m, g)
-
-  pub row_more : (from k : ℕ) (was now after : List ℕ) → w * (from + length (done ++ q ∷ rest)) ≤ length was → k ≡ from + length done → now ≡ pasted (w * from) (flat_map spell (map f done)) was
-      → after ≡ pasted (w * k) (spell (f q)) now → after ≡ pasted (w * from) (flat_map spell (map f (done ++ q ∷ []))) was
-  row_more from k was now after room place before then' =
-      let written : length (flat_map spell (map f done)) ≡ w * length done = length_wide w spell (map f done) done_wide ∙ ap (λ (n : ℕ). w * n) (length-map done f) in
-      let next : w * from + w * length done ≡ w * k = sym (ap (λ (n : ℕ). w * n) place ∙ (let g : w * (from + length done) ≡ w * from + w * length done = grind arith in g)) in
-      let at : w * k ≡ w * (from + length done) = ap (λ (n : ℕ). w * n) place in
-      then' ∙ ap (pasted (w * k) (spell (f q))) before
-      ∙ pasted_twice (w * from) (w * k) (flat_map spell (map f done)) (spell (f q)) was (omega (arith, written, next)) (omega (arith, entry_wide, at, row_room from (length was) room))
-      ∙ ap (λ (t : List ℕ). pasted (w * from) t was)
-      (sym (ap (flat_map spell) (map-append f done (q ∷ [])) ∙ flat_map-append spell (map f done) (f q ∷ []) ∙ ap (λ (t : List ℕ). flat_map spell (map f done) ++ t) (append-nil (spell (f q)))))
+-- ---- an entry of a row
 
 module _ {V : Type 0} (h : Hearing V) (front : List ℕ) (q : ℕ) (before : Wrapped V) (is : before ≡ passed (own_told h) h (length front) front) where
   -- of a node that repeats what the node itself passes on

@@ -27,7 +27,7 @@ times_one (suc n) b = ap (λ bs. b ∷ bs) (times_one n b)
 pub row_sides : (a b : ℕ) → sides a b 1 ≡ row_of a b
 row_sides a b = ap₂ (λ (x y : List Bool). x ++ (true ∷ y)) (times_one a false) (times_one b false)
 
-times_next : (n : ℕ) (bs : List Bool) → times n bs ++ bs ≡ times (suc n) bs
+pub times_next : (n : ℕ) (bs : List Bool) → times n bs ++ bs ≡ times (suc n) bs
 times_next zero bs = times_none bs
   where
     times_none : (bs : List Bool) → bs ≡ bs ++ []
@@ -35,7 +35,7 @@ times_next zero bs = times_none bs
     times_none (b ∷ bs) = ap (λ cs. b ∷ cs) (times_none bs)
 times_next (suc n) bs = append_assoc bs (times n bs) bs ∙ ap (λ cs. bs ++ cs) (times_next n bs)
 
-times_first : (n k : ℕ) (bs : List Bool) → k < n → times (n - k) bs ≡ bs ++ times (n - suc k) bs
+pub times_first : (n k : ℕ) (bs : List Bool) → k < n → times (n - k) bs ≡ bs ++ times (n - suc k) bs
 times_first n k bs h =
     let e : n - k ≡ suc (n - suc k) = omega (arith, h) in
     ap (λ m. times m bs) e

@@ -14,7 +14,7 @@ use Rattle.omh_paths.specs.MemberLaws.{Distinct-ids, place-index}
 use Rattle.node_grid.specs.NodeSet.{IsIdSet, place_of}
 use Rattle.omh_paths.specs.PathLists.{index_in-lt}
 use Rattle.std.proofs.lemmas.Bool.{or_left, or_right}
-use Rattle.relaying.proofs.Marks.{unmarked_none, unmarked_all, pieces_unmarked, behind, behind-sender, behind-other, marks-cons, row_of, alone}
+use Rattle.relaying.proofs.Marks.{unmarked_none, unmarked_all, pieces_unmarked, marks-cons, row_of, alone}
 
 -- ---- one run
 
@@ -119,18 +119,6 @@ behind_count s c r d on = sym (length-paths (without_id s c) r (Distinct-without
 pub has_here : (ys xs : List ℕ) (x : ℕ) → has_id (ys ++ x ∷ xs) x ≡ true
 has_here [] xs x = or_left (x == x) (has_id xs x) (eq-eqb x x refl)
 has_here (y ∷ ys) xs x = or_right (y == x) (has_id (ys ++ x ∷ xs) x) (has_here ys xs x)
-
-pub has_split : (s ys xs : List ℕ) (x : ℕ) → s ≡ ys ++ x ∷ xs → has_id s x ≡ true
-has_split s ys xs x e = ap (λ zs. has_id zs x) e ∙ has_here ys xs x
-
--- the marks of the paths that begin with the sender, as many as are counted
-pub sender_piece : (q : ℕ) (s : List ℕ) (r c k count : ℕ) → Distinct s → has_id s c ≡ true → c ≡ q → k ≡ length s → count ≡ path_count (k - 1) r → behind q s r c ≡ replicate count true
-sender_piece q s r c k count d on same long counted =
-    behind-sender q s r c same ∙ ap (λ n. replicate n true) (sym (counted ∙ ap (λ n. path_count (n - 1) r) long ∙ behind_count s c r d on))
-
--- and those of another node
-pub other_piece : (q : ℕ) (s others : List ℕ) (r c : ℕ) → c ≢ q → others ≡ without_id s c → behind q s r c ≡ marks q others r
-other_piece q s others r c ne e = behind-other q s r c ne ∙ ap (λ t. marks q t r) (sym e)
 
 -- ---- the whole body
 

@@ -31,7 +31,7 @@ use Rattle.relaying.proofs.Ranges.{entries_ranged, size_few}
 use Rattle.relaying.proofs.Tables.{length_wide, length-passed, passed_at, passed_clear}
 
 -- what is written behind a front leaves it
-pasted_behind : (n : ℕ) (s a b : List ℕ) → pasted (length a + n) s (a ++ b) ≡ a ++ pasted n s b
+pub pasted_behind : (n : ℕ) (s a b : List ℕ) → pasted (length a + n) s (a ++ b) ≡ a ++ pasted n s b
 pasted_behind n s a b =
     let e : length a + n + length s ≡ length a + (n + length s) = omega arith in
     ap₂ (λ (x y : List ℕ). x ++ s ++ y) (take-append-add a b n) (ap (λ (k : ℕ). drop k (a ++ b)) e ∙ drop-append-add a b (n + length s))

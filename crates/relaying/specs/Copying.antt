@@ -1,18 +1,20 @@
 -- What is left to copy of a table, where a node leaves out its own paths.
-use Rattle.std.specs.Prelude.{◌≡◌, ℕ, ◌+◌, ◌*◌, ◌≤◌, Bool, List, ◌∷◌, ◌++◌, length, take, drop, map}
-use Rattle.node_grid.specs.NodeSet.{without_id}
-use Rattle.omh_paths.specs.Paths.{paths_of_length}
+use Rattle.std.specs.Prelude.{◌≡◌, ℕ, ◌+◌, ◌-◌, ◌*◌, ◌≤◌, Bool, List, ◌++◌, length, take, drop}
+use Rattle.omh_paths.specs.Paths.{paths_of_length, path_count}
+use Rattle.frames.specs.Runs.{expanded}
+use Rattle.error_detect.specs.Guessing.{pieces_without}
 use Rattle.frames.specs.Writing.{pasted}
-use Rattle.relaying.specs.Comparing.{marks_of, unmarked}
+use Rattle.relaying.specs.Comparing.{unmarked}
 use Rattle.relaying.specs.declared.copying.Rest.{Rest}
 
 -- what is left to copy, where the entries that are left are marked so
 abbrev pub due : ℕ → List Bool → Rest → List ℕ
 due width bs rest = take rest.pending rest.table.now ++ unmarked width bs (drop rest.pending rest.table.now)
 
--- of the paths that begin with a node and go on with r others, whether a node is on them
-abbrev pub marks_behind : ℕ → List ℕ → ℕ → ℕ → List Bool
-marks_behind q s r c = marks_of q (map (λ path. c ∷ path) (paths_of_length (without_id s c) r))
+-- of runs of first entries, one for each node of a set, as many as there are paths of r that begin with it: the entries of the
+-- paths that a node isn't on
+abbrev pub runs_without : ℕ → ℕ → List ℕ → ℕ → List ℕ → List ℕ
+runs_without width q s r firsts = pieces_without width q (paths_of_length s r) (expanded width (path_count (length s - 1) (r - 1)) (length s) firsts)
 
 -- there are as many entries, and a buffer of so many bytes has room for those that aren't marked
 pub record CanCopy (width : ℕ) (bs : List Bool) (rest : Rest) (size : ℕ) : Type 0 where

@@ -11,5 +11,5 @@ pub mod Comparing
 pub mod Copying
 pub mod Guessed
 pub mod Runs
-pub mod Headers
+pub mod Common
 pub mod Tabled

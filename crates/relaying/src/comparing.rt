@@ -18,8 +18,7 @@ ghost use Rattle.relaying.specs.Comparing.{sides, times, without_entry, IsOver, 
 ghost use Rattle.relaying.specs.Runs.{AreRuns};
 
 use crate::item::Item;
-use crate::runs::has_shape;
-use crate::sent::{Entries, Sent};
+use crate::runs::{has_runs, has_shape};
 use error_detect::{Form, GuessedBytes, SlotWatch};
 use frames::{Expect, HEADER, Head, Runs, has_firsts};
 use node_grid::{NodeSet, Row};
@@ -43,7 +42,7 @@ struct Cut {
 }
 
 /// Whether the bytes are the same.
-fn is_same(a: &[u8], b: &[u8]) -> bool
+pub(crate) fn is_same(a: &[u8], b: &[u8]) -> bool
     ensures { Decides result (a.now ≡ b.now) }
 {
     a == b
@@ -270,7 +269,7 @@ fn is_without_entry(entries: &[u8], table: &[u8], width: usize, gap: usize) -> b
 /// the paths of `r` nodes of the set is such runs too, whose first entries are those of the body
 /// and the sender's.
 fn has_same_runs<const N: usize>(
-    body: &Entries<'_>,
+    body: &[u8],
     whole: &Runs,
     table: &[u8],
     cut: Cut,
@@ -295,23 +294,23 @@ fn has_same_runs<const N: usize>(
     }
     let gap = set.place(cut.sender) as usize;
     if r == 1 {
-        return is_without_entry(body.bytes(), table, cut.width, gap);
+        return is_without_entry(body, table, cut.width, gap);
     }
     let part = Runs {
         width: cut.width,
         times: fewer,
         count,
     };
-    if !body.are(&part) {
+    if !has_runs(body, &part) {
         return false;
     }
-    has_firsts_without(body.bytes(), &part, table, gap)
+    has_firsts_without(body, &part, table, gap)
 }
 
 /// Whether a body is what a member passes on of a table of entries of one width, where the slot is
 /// one of a relay round.
 fn is_part<const N: usize>(
-    body: &Entries<'_>,
+    body: &[u8],
     table: &GuessedBytes<'_>,
     cut: Cut,
     expect: &Expect<N>,
@@ -333,14 +332,14 @@ fn is_part<const N: usize>(
     };
     match &table.runs {
         Some(whole) => has_same_runs(body, whole, table.bytes, cut, &expect.members, round),
-        None => is_without(body.bytes(), table.bytes, cut, &expect.members, round),
+        None => is_without(body, table.bytes, cut, &expect.members, round),
     }
 }
 
 /// Whether a body is the one that is guessed of a sender, where the guess has this form and these
 /// bytes.
 fn is_guessed_body<const N: usize>(
-    body: &Entries<'_>,
+    body: &[u8],
     form: &Form,
     guess: &GuessedBytes<'_>,
     sender: u8,
@@ -360,7 +359,7 @@ fn is_guessed_body<const N: usize>(
         (said_as N expect.now.nodes form.now (guessed_bytes guess.now))) }
 {
     match form {
-        Form::State => guess.runs.is_none() && is_same(body.bytes(), guess.bytes),
+        Form::State => guess.runs.is_none() && is_same(body, guess.bytes),
         Form::Claims => {
             let width = <u8 as Item<N>>::entry_width(expect.nodes);
             is_part(body, guess, Cut { sender, width }, expect)
@@ -384,7 +383,7 @@ fn guessed_kind<const N: usize>(form: &Form) -> u8
 }
 
 /// Whether bytes are the header of a body of `size` bytes.
-pub(crate) fn is_header(front: &[u8], head: Head, kind: u8, size: usize) -> bool
+fn is_header(front: &[u8], head: Head, kind: u8, size: usize) -> bool
     requires { size < 2 ^ 32 }
     ensures { Decides result (front.now ≡ header_spelling head kind size) }
 {
@@ -393,9 +392,9 @@ pub(crate) fn is_header(front: &[u8], head: Head, kind: u8, size: usize) -> bool
 
 /// Whether a frame is the one that its sender is guessed to send in the open slot. No entry of it
 /// is read.
-pub fn is_guessed<const N: usize>(watch: &SlotWatch<N>, from: u8, sent: &Sent<'_>) -> bool
+pub fn is_guessed<const N: usize>(watch: &SlotWatch<N>, from: u8, bytes: &[u8]) -> bool
     ensures sender { result ≡ true → guesses_at watch.now from ≡ true }
-    ensures same { result ≡ true → sent.now ≡ frame_at watch.now from }
+    ensures same { result ≡ true → bytes.now ≡ frame_at watch.now from }
 {
     let Some(expect) = watch.expect() else {
         return false;
@@ -403,7 +402,6 @@ pub fn is_guessed<const N: usize>(watch: &SlotWatch<N>, from: u8, sent: &Sent<'_
     let Some((form, guess)) = watch.guessed() else {
         return false;
     };
-    let bytes = sent.bytes();
     if bytes.len() < HEADER || bytes.len() > u32::MAX as usize {
         return false;
     }
@@ -411,9 +409,9 @@ pub fn is_guessed<const N: usize>(watch: &SlotWatch<N>, from: u8, sent: &Sent<'_
         sender: from,
         ..expect.head()
     };
-    if !sent.has_header(head, guessed_kind::<N>(&form)) {
+    let (front, body) = bytes.split_at(HEADER);
+    if !is_header(front, head, guessed_kind::<N>(&form), body.len()) {
         return false;
     }
-    let body = Entries::new(&bytes[HEADER..], sent.runs());
-    is_guessed_body(&body, &form, &guess, from, expect)
+    is_guessed_body(body, &form, &guess, from, expect)
 }

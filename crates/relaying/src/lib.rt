@@ -2,6 +2,7 @@
 //! settles: once for claims and rows.
 #![tactic(auto)]
 
+mod common;
 mod comparing;
 mod copying;
 mod guessing;
@@ -9,13 +10,12 @@ mod hearing;
 mod item;
 mod runs;
 mod saying;
-mod sent;
 mod settling;
 mod writing;
 
+pub use common::{CommonGuess, deliver_whole};
 pub use comparing::is_guessed;
 pub use hearing::hear_round;
 pub use item::Item;
 pub use saying::{guess_round, say_round};
-pub use sent::Sent;
 pub use settling::{convicted, settle_claims, settle_member, settle_rows};

@@ -1,11 +1,10 @@
 //! Bodies of relay frames that are runs of equal entries: found once, so that such a body is known
 //! by the first entry of each run.
 
-ghost use Rattle.std.specs.Prelude.{◌≡◌, ◌*◌, ◌<◌, ◌≤◌, true, length, IfSome};
+ghost use Rattle.std.specs.Prelude.{◌≡◌, ◌*◌, ◌<◌, ◌≤◌, true, length};
 ghost use Rattle.relaying.specs.Runs.{AreRuns};
 
 use frames::{Runs, are_runs};
-use omh_paths::count_paths;
 
 /// Whether there are so many runs, of so many entries of so many bytes.
 pub(crate) fn has_shape(runs: &Runs, width: usize, times: usize, count: usize) -> bool
@@ -27,23 +26,4 @@ pub(crate) fn has_runs(body: &[u8], runs: &Runs) -> bool
         return false;
     }
     are_runs(body, runs.width, runs.times, runs.count)
-}
-
-/// The runs of a body of entries of so many bytes, where it has an entry for each path of so many
-/// nodes over so many relays, and is one run for each node that is first on a path.
-pub(crate) fn find_runs(body: &[u8], width: usize, nodes: u8, relays: u8) -> Option<Runs>
-    requires narrow { width ≤ 33 }
-    requires few { nodes ≤ 16 }
-    requires short { relays ≤ 3 }
-    ensures { IfSome result (AreRuns body.now) }
-{
-    let runs = Runs {
-        width,
-        times: count_paths(nodes.saturating_sub(1), relays),
-        count: nodes as usize,
-    };
-    if !has_runs(body, &runs) {
-        return None;
-    }
-    Some(runs)
 }

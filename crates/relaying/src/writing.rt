@@ -81,7 +81,8 @@ pub(crate) fn paste(out: &mut [u8], at: usize, bytes: &[u8])
 }
 
 /// Writes what is passed on of the paths that go on from this one with one of these nodes, as
-/// entries from entry `from` on. Of the nodes that pass on the same it is one entry.
+/// entries from entry `from` on: one entry for all of them, and over it those of the nodes that may
+/// pass on another.
 fn write_row<V: Item<N>, const N: usize>(
     heard: &Heard<V, N>,
     front: &Path,
@@ -101,19 +102,10 @@ fn write_row<V: Item<N>, const N: usize>(
     let before = passed_on(heard, front);
     let mut entry = [0; 33];
     V::put(&mut entry, nodes, 0, &before.wrap());
-    let mut k = from;
-    for node in rest.iter() {
-        if same.has(node) {
-            paste(out, width * k, &entry[..width]);
-        } else {
-            V::put(
-                out,
-                nodes,
-                k,
-                &passed_next(heard, before, &front.then(node)),
-            );
-        }
-        k += 1;
+    fill_entries(out, width * from, &entry[..width], rest.len() as usize);
+    for node in rest.minus(same).iter() {
+        let value = passed_next(heard, before, &front.then(node));
+        V::put(out, nodes, from + rest.place(node) as usize, &value);
     }
 }
 

@@ -40,6 +40,23 @@ impl<'c, const N: usize> Controller<'c, N> {
         encode(frame, self.config.nodes, out)
     }
 
+    /// Writes the node's agreed state, in the sync slot. The other slots need no room for a state.
+    #[inline(never)]
+    fn say_state(&self, agreed: &Agreed<N>, out: &mut [u8]) -> usize
+        requires ready { IsReady self.now (length out.old) }
+        requires own { IsFullWith self.now agreed.now }
+        requires slot { self.now.phase.slot ≡ 0 }
+        ensures written { out.new ≡ pasted 0 (frame_of self.now) out.old }
+        ensures length { result ≡ length (frame_of self.now) }
+    {
+        let state = agreed.body(self.config);
+        let frame = Frame {
+            head: self.head(),
+            body: Body::State(state.as_slice()),
+        };
+        self.write(&frame, out)
+    }
+
     /// Writes the node's claim, or in a relay slot what it passes on of claims.
     fn say_claims(&self, agreed: &Agreed<N>, round: u8, out: &mut [u8]) -> usize
         requires ready { IsReady self.now (length out.old) }
@@ -110,14 +127,7 @@ impl<'c, const N: usize> Controller<'c, N> {
         ensures length { result ≡ length (frame_of self.now) }
     {
         match self.phase.slot {
-            Slot::Sync => {
-                let state = agreed.body(self.config);
-                let frame = Frame {
-                    head: self.head(),
-                    body: Body::State(state.as_slice()),
-                };
-                self.write(&frame, out)
-            }
+            Slot::Sync => self.say_state(agreed, out),
             Slot::Claims(round) => self.say_claims(agreed, round, out),
             Slot::Data => self.say_values(agreed, out),
             Slot::Rows(round) => self.say_rows(agreed, round, out),

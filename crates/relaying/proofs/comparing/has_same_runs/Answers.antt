@@ -1,10 +1,9 @@
-use Rattle.std.proofs.Common.{ℕ, ◌≡◌, ◌<◌, ◌≤◌, ◌+◌, ◌-◌, ◌*◌, List, [], length, subst, sym, ap, ap₂, ◌∙◌, arith}
+use Rattle.std.proofs.Common.{ℕ, ◌≡◌, ◌<◌, ◌≤◌, ◌+◌, ◌-◌, ◌*◌, List, [], length, sym, ap, ap₂, ◌∙◌, arith}
 use Rattle.node_grid.specs.ListLaws.{has_some}
 use Rattle.frames.specs.Runs.{expanded, firsts}
 use Rattle.omh_paths.specs.Paths.{paths_of_length, path_count}
 use Rattle.omh_paths.specs.MemberLaws.{few_ids, Distinct-ids, member-lt, path_count-few}
 use Rattle.error_detect.specs.Guessing.{pieces_without}
-use Rattle.relaying.specs.Runs.{AreRuns}
 use Rattle.relaying.proofs.RunParts.{parts_alike, without_sender, entry_within, expanded_once}
 use Rattle.relaying.proofs.comparing.has_same_runs.Goals as goal
 
@@ -15,11 +14,11 @@ count_paths-fewer-requires-clause-nodes g c =
 pub count_paths-each-requires-clause-nodes : goal.count_paths-each-requires-clause-nodes
 count_paths-each-requires-clause-nodes g c = omega (arith, c.len-others.ensures.count, few_ids g.row.N c.args.set.now c.requires.capacity c.len-others.ensures.ids)
 
-pub are-requires-clause-few : goal.are-requires-clause-few
-are-requires-clause-few g c = omega (arith, c.len-others.ensures.count, few_ids g.row.N c.args.set.now c.requires.capacity c.len-others.ensures.ids)
+pub has_runs-requires-clause-few : goal.has_runs-requires-clause-few
+has_runs-requires-clause-few g c = omega (arith, c.len-others.ensures.count, few_ids g.row.N c.args.set.now c.requires.capacity c.len-others.ensures.ids)
 
-pub are-requires-clause-small : goal.are-requires-clause-small
-are-requires-clause-small g c =
+pub has_runs-requires-clause-small : goal.has_runs-requires-clause-small
+has_runs-requires-clause-small g c =
     let few : c.saturating_sub.result ≤ 16 = omega (arith, c.saturating_sub.ensures, c.len-others.ensures.count, few_ids g.row.N c.args.set.now c.requires.capacity c.len-others.ensures.ids) in
     omega (arith, c.count_paths-fewer.ensures.product, path_count-few c.saturating_sub.result (c.args.r - 1) few (omega (arith, c.requires.few)))
 
@@ -52,7 +51,7 @@ returns-then-r-eq1 g c is =
     ap₂ (λ (x n : ℕ). expanded x c.args.whole.now.times n table) shape.0 (shape.2 ∙ count)
     ∙ ap (λ (t : ℕ). expanded w t (length s) table) (shape.1 ∙ once) ∙ expanded_once w (length s) table long in
     let mine : c.args.body.now ≡ pieces_without w q (paths_of_length s 1) table =
-    sym c.bytes.ensures ∙ c.is_without_entry.ensures is
+    c.is_without_entry.ensures is
     ∙ (without_sender g.row.N w s q c.place-gap.result table c.len-others.ensures.ids c.requires.sender c.place-gap.ensures.count long).0 in
     mine ∙ ap₂ (λ (r : ℕ) (t : List ℕ). pieces_without w q (paths_of_length s r) t) (sym one) (sym whole)
 
@@ -64,7 +63,7 @@ has_firsts_without-requires g c =
     let few = few_ids g.row.N s c.requires.capacity c.len-others.ensures.ids in
     let low : c.place-gap.result < length s = (without_sender g.row.N 0 s c.args.cut.sender c.place-gap.result [] c.len-others.ensures.ids c.requires.sender c.place-gap.ensures.count (omega arith)).1 in
     record {
-      runs = subst (λ (b : List ℕ). AreRuns b (record { width = c.args.cut.width; times = c.count_paths-fewer.result; count = c.len-others.result - 1 })) (sym c.bytes-2.ensures) (c.are.ensures c.if-not-are.false);
+      runs = c.has_runs.ensures c.if-not-has_runs.false;
       inside = omega (arith, low, c.len-others.ensures.count);
       whole = long;
       few = omega (arith, few, c.len-others.ensures.count);
@@ -85,9 +84,9 @@ returns g c is =
     let long : length table ≡ w * length s = c.if-table-cut.false ∙ ap (λ (n : ℕ). w * n) count in
     let apart = without_sender g.row.N w s q c.place-gap.result table c.len-others.ensures.ids c.requires.sender c.place-gap.ensures.count long in
     let mine : firsts w c.count_paths-fewer.result (c.len-others.result - 1) c.args.body.now ≡ pieces_without w q (paths_of_length s 1) table =
-    ap (firsts w c.count_paths-fewer.result (c.len-others.result - 1)) (sym c.bytes-2.ensures) ∙ c.has_firsts_without.ensures is ∙ apart.0 in
+    c.has_firsts_without.ensures is ∙ apart.0 in
     let body : c.args.body.now ≡ expanded w c.count_paths-fewer.result (length s - 1) (pieces_without w q (paths_of_length s 1) table) =
-    (c.are.ensures c.if-not-are.false).are ∙ ap₂ (λ (n : ℕ) (es : List ℕ). expanded w c.count_paths-fewer.result n es) less mine in
+    (c.has_runs.ensures c.if-not-has_runs.false).are ∙ ap₂ (λ (n : ℕ) (es : List ℕ). expanded w c.count_paths-fewer.result n es) less mine in
     parts_alike w q c.args.r c.count_paths-fewer.result c.count_paths-each.result s c.args.body.now table
     (Distinct-ids g.row.N s c.len-others.ensures.ids) c.requires.sender c.requires.some
     (c.count_paths-fewer.ensures.product ∙ ap (λ (n : ℕ). path_count n (c.args.r - 1)) (c.saturating_sub.ensures ∙ ap (λ (n : ℕ). n - 1) less))

@@ -1,60 +1,61 @@
-use Rattle.std.proofs.Common.{ℕ, List, [], ◌∷◌, ◌++◌, Bool, ◌≡◌, length, refl, sym, ap, ◌∙◌, arith, append-nil, append_assoc}
-use Rattle.std.specs.List.{flat_map}
-use Rattle.relaying.specs.Comparing.{marks}
-use Rattle.relaying.specs.Copying.{marks_behind, IsCopied}
-use Rattle.relaying.proofs.Marks.{behind, marks-cons, marks_begin}
-use Rattle.relaying.proofs.Steps.{has_split}
-use Rattle.relaying.proofs.Copied.{can_of, can_next, can_piece, can_of_piece, copied_nothing, copied_next, copied_of}
+use Rattle.std.proofs.Common.{ℕ, List, Bool, true, ◌+◌, ◌-◌, replicate, refl, arith}
+use Rattle.relaying.specs.Comparing.{times, sides}
+use Rattle.relaying.proofs.Sides.{sides_as}
+use Rattle.relaying.proofs.Copied.{can_one, can_two, can_three, all_copied}
 use Rattle.relaying.proofs.copying.pairs.Goals as goal
 
-pub loop-first-init : goal.loop-first-init
-loop-first-init g c =
-    let w : ℕ = c.args.own.width in
-    let q : ℕ = c.args.own.node in
-    let s : List ℕ = c.args.set.now in
-    let all : s ≡ c.into_iter-first-iterator.result = sym (c.into_iter-first-iterator.ensures.into_iter_gives ∙ c.iter-first-items.ensures.members) in
-    let entries = c.requires.can.entries in
-    record {
-      can = tt;
-      ends = tt;
-      split = all;
-      copied = copied_nothing w c.args.rest c.args.out.now (omega (arith, entries));
-      room = can_of w (marks q s 2) _ c.args.rest (length c.args.out.now) (marks-cons q s 1 ∙ ap (flat_map (behind q s 1)) all) c.requires.can;
-    }
+pub rows-near-requires : goal.rows-near-requires
+rows-near-requires c =
+    let w : ℕ = c.args.width in
+    let a : ℕ = c.args.before in
+    let b : ℕ = c.args.behind in
+    let n : ℕ = a + b in
+    let front : List Bool = times a (sides c.saturating_sub.result b 1) in
+    let back : List Bool = times b (sides a (b - 1) 1) in
+    let parts = sides_as a b 1 c.saturating_sub.result (b - 1) n c.saturating_sub.ensures refl (omega arith) in
+    let rest = c.args.rest in
+    let out : List ℕ = c.args.out.now in
+    record { can = can_one w front (replicate n true) back (sides a b 2) parts rest rest rest rest out out out out c.requires.can }
 
-pub pairs_from-now-requires : goal.pairs_from-now-requires
-pairs_from-now-requires g c =
-    let w : ℕ = c.args.own.width in
-    let q : ℕ = c.args.own.node in
-    let s : List ℕ = c.args.set.now in
-    let split : s ≡ c.loop-first.yielded ++ c.in-Some.first ∷ c.next.new.self = c.loop-first.invariant.split ∙ ap (λ xs. c.loop-first.yielded ++ xs) c.in-Some.ensures.steps in
-    (omega arith, (c.requires.capacity, (c.requires.node, (has_split s c.loop-first.yielded c.next.new.self c.in-Some.first split, can_of_piece w (behind q s 1) c.in-Some.first c.loop-first.first-iterator c.next.new.self (marks_behind q s 1 c.in-Some.first) c.loop-first.now (length c.loop-first.out) c.in-Some.ensures.steps (sym (marks_begin q s 1 c.in-Some.first)) c.loop-first.invariant.room))))
+pub skip-far-requires : goal.skip-far-requires
+skip-far-requires c =
+    let w : ℕ = c.args.width in
+    let a : ℕ = c.args.before in
+    let b : ℕ = c.args.behind in
+    let n : ℕ = a + b in
+    let front : List Bool = times a (sides c.saturating_sub.result b 1) in
+    let back : List Bool = times b (sides a (b - 1) 1) in
+    let parts = sides_as a b 1 c.saturating_sub.result (b - 1) n c.saturating_sub.ensures refl (omega arith) in
+    let rest = c.args.rest in
+    let out : List ℕ = c.args.out.now in
+    let near = c.rows-near.result in
+    let new : List ℕ = c.rows-near.new.out in
+    record { can = can_two w front (replicate n true) back (sides a b 2) parts rest near near near out new new new c.requires.can c.rows-near.ensures }
 
-pub loop-first-preserved : goal.loop-first-preserved
-loop-first-preserved g c =
-    let w : ℕ = c.args.own.width in
-    let q : ℕ = c.args.own.node in
-    let s : List ℕ = c.args.set.now in
-    let f : ℕ → List Bool = behind q s 1 in
-    let x : ℕ = c.in-Some.first in
-    let split : s ≡ c.loop-first.yielded ++ x ∷ c.next.new.self = c.loop-first.invariant.split ∙ ap (λ xs. c.loop-first.yielded ++ xs) c.in-Some.ensures.steps in
-    let one : IsCopied w (f x) c.loop-first.now c.pairs_from-now.result c.loop-first.out c.pairs_from-now.new.out =
-    copied_of w (marks_behind q s 1 x) (f x) c.loop-first.now c.pairs_from-now.result c.loop-first.out c.pairs_from-now.new.out (marks_begin q s 1 x) c.pairs_from-now.ensures in
-    record {
-      can = tt;
-      ends = tt;
-      split = split ∙ sym (append_assoc c.loop-first.yielded (x ∷ []) c.next.new.self);
-      copied = copied_next w f c.loop-first.yielded x (f x) c.args.rest c.loop-first.now c.pairs_from-now.result c.args.out.now c.loop-first.out c.pairs_from-now.new.out refl c.loop-first.invariant.copied one;
-      room =
-          can_next w (f x) (flat_map f c.next.new.self) c.loop-first.now c.pairs_from-now.result c.loop-first.out c.pairs_from-now.new.out
-          (can_piece w f x c.loop-first.first-iterator c.next.new.self (f x) c.loop-first.now (length c.loop-first.out) c.in-Some.ensures.steps refl c.loop-first.invariant.room) one;
-    }
+pub rows-requires : goal.rows-requires
+rows-requires c =
+    let w : ℕ = c.args.width in
+    let a : ℕ = c.args.before in
+    let b : ℕ = c.args.behind in
+    let n : ℕ = a + b in
+    let front : List Bool = times a (sides c.saturating_sub.result b 1) in
+    let back : List Bool = times b (sides a c.saturating_sub-2.result 1) in
+    let parts = sides_as a b 1 c.saturating_sub.result c.saturating_sub-2.result n c.saturating_sub.ensures c.saturating_sub-2.ensures (omega arith) in
+    let rest = c.args.rest in
+    let out : List ℕ = c.args.out.now in
+    let far = c.skip-far.result in
+    let new : List ℕ = c.skip-far.new.out in
+    record { can = can_three w front (replicate n true) back (sides a b 2) parts rest c.rows-near.result far far out c.rows-near.new.out new new c.requires.can c.rows-near.ensures c.skip-far.ensures }
 
 pub returns : goal.returns
-returns g c =
-    let w : ℕ = c.args.own.width in
-    let q : ℕ = c.args.own.node in
-    let s : List ℕ = c.args.set.now in
-    let f : ℕ → List Bool = behind q s 1 in
-    let all : c.loop-first.yielded ≡ s = sym (c.loop-first.invariant.split ∙ ap (λ xs. c.loop-first.yielded ++ xs) c.in-None.ensures.steps.0 ∙ append-nil c.loop-first.yielded) in
-    copied_of w (flat_map f c.loop-first.yielded) (marks q s 2) c.args.rest c.loop-first.now c.args.out.now c.loop-first.out (ap (flat_map f) all ∙ sym (marks-cons q s 1)) c.loop-first.invariant.copied
+returns c =
+    let w : ℕ = c.args.width in
+    let a : ℕ = c.args.before in
+    let b : ℕ = c.args.behind in
+    let n : ℕ = a + b in
+    let front : List Bool = times a (sides c.saturating_sub.result b 1) in
+    let back : List Bool = times b (sides a c.saturating_sub-2.result 1) in
+    let parts = sides_as a b 1 c.saturating_sub.result c.saturating_sub-2.result n c.saturating_sub.ensures c.saturating_sub-2.ensures (omega arith) in
+    let rest = c.args.rest in
+    let out : List ℕ = c.args.out.now in
+    all_copied w front (replicate n true) back (sides a b 2) parts rest c.rows-near.result c.skip-far.result c.rows.result out c.rows-near.new.out c.skip-far.new.out c.rows.new.out c.requires.can c.rows-near.ensures c.skip-far.ensures c.rows.ensures

@@ -21,6 +21,23 @@ offset_bounds-statements-i g c =
     let said = c.requires.said.are.many in
     omega (arith, many, said, c.loop-i-test.true)
 
+pub bounds-inputs-i : goal.bounds-inputs-i
+bounds-inputs-i g c =
+    let sc = c.args.self.now.scenario.now in
+    let many = many_nodes sc c.requires.before.room c.args.self.now.number c.args.nodes.now c.requires.before.before in
+    let few = c.requires.calm.scenario.system.config.few_nodes in
+    omega (arith, many, few, c.loop-i-test.true)
+
+pub offset_bounds-inputs-i : goal.offset_bounds-inputs-i
+offset_bounds-inputs-i g c =
+    let sc = c.args.self.now.scenario.now in
+    let many = many_nodes sc c.requires.before.room c.args.self.now.number c.args.nodes.now c.requires.before.before in
+    let few = c.requires.calm.scenario.system.config.few_nodes in
+    elim c.requires.capacity [
+      | inl e ↦ (let low : c.loop-i.i < 8 = omega (arith, e, many, few, c.loop-i-test.true) in omega arith)
+      | inr e ↦ (let low : c.loop-i.i < 16 = omega (arith, e, many, few, c.loop-i-test.true) in omega arith)
+    ]
+
 pub bounds-statements-i : goal.bounds-statements-i
 bounds-statements-i g c =
     let sc = c.args.self.now.scenario.now in
@@ -61,8 +78,11 @@ open_data-requires g c =
                 (
                   record { room = room; low = omega (arith, me, low); before = subst (λ (k : ℕ). IsBefore sc room k p old) (sym me) b },
                   (
-                    fewer_calm sc p c.args.state.now (sc.config.m + 2) 0 (omega arith) c.requires.calm,
-                    (subst (λ (j : ℕ). IsSaid sc p c.args.state.now j x) (sym me) (subst (IsSaid sc p c.args.state.now i) (sym c.index-statements-i.is) said), c.requires.claimed.follows),
+                    c.requires.inputs i _ low ∙ ap (λ (k : ℕ). inputs_of sc k p) (sym me),
+                    (
+                      fewer_calm sc p c.args.state.now (sc.config.m + 2) 0 (omega arith) c.requires.calm,
+                      (subst (λ (j : ℕ). IsSaid sc p c.args.state.now j x) (sym me) (subst (IsSaid sc p c.args.state.now i) (sym c.index-statements-i.is) said), c.requires.claimed.follows),
+                    ),
                   ),
                 ),
               ),

@@ -24,12 +24,15 @@ overflow_add-config g c =
 pub calm_state-requires : goal.calm_state-requires
 calm_state-requires g c = (lit< tt, (elim c.requires.capacity [ inl e ↦ rw e (lit< tt) | inr e ↦ rw e (lit< tt) ], (elim c.requires.capacity [ inl e ↦ rw e (lit< tt) | inr e ↦ rw e (lit< tt) ], (c.requires.capacity, (c.requires.before, (c.requires.alike, c.in-Some.ensures.untouched))))))
 
+pub all_inputs-inputs-requires : goal.all_inputs-inputs-requires
+all_inputs-inputs-requires g c = (lit< tt, (elim c.requires.capacity [ inl e ↦ rw e (lit< tt) | inr e ↦ rw e (lit< tt) ], c.requires.capacity))
+
 pub statements-all-requires : goal.statements-all-requires
 statements-all-requires g c =
     let sc : ScenarioView g.row.N = c.args.self.now.scenario.now in
     let p : ℕ = c.args.self.now.number in
     let calm : IsCalmWith sc p c.in-Some-calm_state.state c.in-Some.untouched = c.in-Some-calm_state.ensures in
-    (lit< tt, (elim c.requires.capacity [ inl e ↦ rw e (lit< tt) | inr e ↦ rw e (lit< tt) ], (elim c.requires.capacity [ inl e ↦ rw e (lit< tt) | inr e ↦ rw e (lit< tt) ], (elim c.requires.capacity [ inl e ↦ rw e (lit< tt) | inr e ↦ rw e (lit< tt) ], (elim c.requires.capacity [ inl e ↦ rw e (lit< tt) | inr e ↦ rw e (lit< tt) ], (c.requires.capacity, (c.requires.before, fewer_calm sc p c.in-Some-calm_state.state c.in-Some.untouched 0 (omega arith) calm)))))))
+    (lit< tt, (elim c.requires.capacity [ inl e ↦ rw e (lit< tt) | inr e ↦ rw e (lit< tt) ], (elim c.requires.capacity [ inl e ↦ rw e (lit< tt) | inr e ↦ rw e (lit< tt) ], (elim c.requires.capacity [ inl e ↦ rw e (lit< tt) | inr e ↦ rw e (lit< tt) ], (elim c.requires.capacity [ inl e ↦ rw e (lit< tt) | inr e ↦ rw e (lit< tt) ], (elim c.requires.capacity [ inl e ↦ rw e (lit< tt) | inr e ↦ rw e (lit< tt) ], (c.requires.capacity, (c.requires.before, (c.all_inputs-inputs.ensures, fewer_calm sc p c.in-Some-calm_state.state c.in-Some.untouched 0 (omega arith) calm)))))))))
 
 pub shared_whole_as_front-statements : goal.shared_whole_as_front-statements
 shared_whole_as_front-statements g c =
@@ -81,4 +84,4 @@ open_data_all-requires g c =
     let is : c.config-config.result.now ≡ sc.config = c.config-config.ensures.config in
     let m : c.config-config.result.now.m ≡ sc.config.m = ap (λ (y : Config g.row.N). y.m) c.config-config.ensures.config in
     let enough : sc.config.m + 2 ≤ c.in-Some.untouched = omega (arith, c.if-untouched-config.false, m) in
-    (lit< tt, (elim c.requires.capacity [ inl e ↦ rw e (lit< tt) | inr e ↦ rw e (lit< tt) ], (elim c.requires.capacity [ inl e ↦ rw e (lit< tt) | inr e ↦ rw e (lit< tt) ], (elim c.requires.capacity [ inl e ↦ rw e (lit< tt) | inr e ↦ rw e (lit< tt) ], (elim c.requires.capacity [ inl e ↦ rw e (lit< tt) | inr e ↦ rw e (lit< tt) ], (c.requires.capacity, (c.requires.before, (fewer_calm sc p c.in-Some-calm_state.state c.in-Some.untouched (sc.config.m + 2) enough calm, (c.statements-all.ensures, subst (λ (y : Config g.row.N). IsClaimed y c.in-Some-calm_state.state (said_by (take (length c.args.nodes.now) c.statements-all.result)) c.of-claimed.result) is c.of-claimed.ensures)))))))))
+    (lit< tt, (elim c.requires.capacity [ inl e ↦ rw e (lit< tt) | inr e ↦ rw e (lit< tt) ], (elim c.requires.capacity [ inl e ↦ rw e (lit< tt) | inr e ↦ rw e (lit< tt) ], (elim c.requires.capacity [ inl e ↦ rw e (lit< tt) | inr e ↦ rw e (lit< tt) ], (elim c.requires.capacity [ inl e ↦ rw e (lit< tt) | inr e ↦ rw e (lit< tt) ], (elim c.requires.capacity [ inl e ↦ rw e (lit< tt) | inr e ↦ rw e (lit< tt) ], (c.requires.capacity, (c.requires.before, (c.all_inputs-inputs.ensures, (fewer_calm sc p c.in-Some-calm_state.state c.in-Some.untouched (sc.config.m + 2) enough calm, (c.statements-all.ensures, subst (λ (y : Config g.row.N). IsClaimed y c.in-Some-calm_state.state (said_by (take (length c.args.nodes.now) c.statements-all.result)) c.of-claimed.result) is c.of-claimed.ensures)))))))))))

@@ -1,4 +1,4 @@
-use Rattle.std.proofs.Common.{◌≡◌, ℕ, ap, ap₂, subst, ◌∙◌, inl, inr, lit<, arith}
+use Rattle.std.proofs.Common.{◌≡◌, ℕ, ap, ap₂, subst, ◌∙◌}
 use Rattle.agreed_state.specs.declared.config.Config.{Config}
 use Rattle.agreed_state.specs.declared.config.Inputs.{Inputs}
 use Rattle.protocol.specs.Configured.{setting_of}
@@ -9,18 +9,12 @@ use Rattle.scenario.specs.Scenario.{inputs_of}
 use Rattle.cluster_step.proofs.Calmed.{statement_said}
 use Rattle.cluster_step.proofs.stepping.Period.statement.Goals as goal
 
-pub inputs-inputs-requires : goal.inputs-inputs-requires
-inputs-inputs-requires g c = (
-  elim c.requires.capacity [ inl e ↦ rw e (lit< tt) | inr e ↦ rw e (lit< tt) ],
-  (let l = c.requires.node.low in omega (arith, c.me.ensures, l), c.args.self.now.in_run),
-)
-
 pub returns : goal.returns
 returns g c =
     let sc = c.args.self.now.scenario.now in
     let v = c.args.node.now in
     let p : ℕ = c.args.self.now.number in
-    let given : c.inputs-inputs.result ≡ inputs_of sc v.phase.me p = c.inputs-inputs.ensures ∙ ap (λ (i : ℕ). inputs_of sc i p) c.me.ensures in
+    let given : c.args.inputs.now ≡ inputs_of sc v.phase.me p = c.requires.inputs in
     let configured : v.config ≡ sc.config = ap (λ (f : Fixed g.row.N). f.config) c.requires.node.before.same in
     record {
       says = statement_said sc p c.args.state.now v c.statement.result c.requires.node c.requires.calm.stays c.requires.calm.scenario

@@ -1,6 +1,8 @@
 use Rattle.std.proofs.Common.{◌≡◌, ◌<◌, ℕ, length, get_or, set, ap, subst, sym, ◌∙◌, inl, inr, lit<, arith}
 use Rattle.std.proofs.lemmas.Bool.{cases_eq}
-use Rattle.std.proofs.lemmas.List.{get_or-set_same, get_or-set_other, length-set, length-replicate}
+use Rattle.std.proofs.lemmas.List.{get_or-set_same, get_or-set_other, length-set, length-replicate, get_or-replicate}
+use Rattle.calm_period.specs.declared.statement.Statement.{Statement}
+use Rattle.scenario.specs.Scenario.{inputs_of}
 use Rattle.cluster_step.specs.Calming.{IsSaid}
 use Rattle.cluster_step.proofs.Listed.{many_nodes}
 use Rattle.cluster_step.proofs.Calmed.{one_there, all_said}
@@ -24,14 +26,29 @@ statement-statements-requires g c =
           elim c.requires.capacity [ inl e ↦ rw e (lit< tt) | inr e ↦ rw e (lit< tt) ],
           (
             elim c.requires.capacity [ inl e ↦ rw e (lit< tt) | inr e ↦ rw e (lit< tt) ],
-            (c.requires.capacity, ((one_there sc c.args.self.now.number c.args.nodes.now c.requires.before 0 c.index-nodes-0.result (omega (arith, some)) c.index-nodes-0.is).1, c.requires.calm)),
+            (
+              c.requires.capacity,
+              (let there = one_there sc c.args.self.now.number c.args.nodes.now c.requires.before 0 c.index-nodes-0.result (omega (arith, some)) c.index-nodes-0.is in
+                  (there.1, (c.requires.inputs 0 _ (omega (arith, some)) ∙ ap (λ (k : ℕ). inputs_of sc k c.args.self.now.number) (sym there.0), c.requires.calm))),
+            ),
           ),
         ),
       ),
     )
 
 pub loop-i-init : goal.loop-i-init
-loop-i-init g c = (length-replicate g.row.N c.statement-statements.result, λ k d low. absurd (omega (arith, low)))
+loop-i-init g c =
+    let sc = c.args.self.now.scenario.now in
+    let some = c.requires.calm.scenario.system.config.some_nodes in
+    let few = c.requires.calm.scenario.system.config.few_nodes in
+    let x : Statement g.row.N = c.statement-statements.result in
+    let me : c.index-nodes-0.result.phase.me ≡ 0 = (one_there sc c.args.self.now.number c.args.nodes.now c.requires.before 0 c.index-nodes-0.result (omega (arith, some)) c.index-nodes-0.is).0 in (
+      length-replicate g.row.N x,
+      λ k d low.
+          let first : k ≡ 0 = omega (arith, low) in
+          subst (IsSaid sc c.args.self.now.number c.args.state.now k) (sym (get_or-replicate g.row.N k x d (omega (arith, low, some, few))))
+          (subst (λ (j : ℕ). IsSaid sc c.args.self.now.number c.args.state.now j x) (me ∙ sym first) c.statement-statements.ensures),
+    )
 
 pub statement-requires : goal.statement-requires
 statement-requires g c =
@@ -44,7 +61,11 @@ statement-requires g c =
           elim c.requires.capacity [ inl e ↦ rw e (lit< tt) | inr e ↦ rw e (lit< tt) ],
           (
             elim c.requires.capacity [ inl e ↦ rw e (lit< tt) | inr e ↦ rw e (lit< tt) ],
-            (c.requires.capacity, ((one_there sc c.args.self.now.number c.args.nodes.now c.requires.before c.loop-i.i c.index-nodes-i.result (omega (arith, many, c.loop-i-test.true)) c.index-nodes-i.is).1, c.requires.calm)),
+            (
+              c.requires.capacity,
+              (let there = one_there sc c.args.self.now.number c.args.nodes.now c.requires.before c.loop-i.i c.index-nodes-i.result (omega (arith, many, c.loop-i-test.true)) c.index-nodes-i.is in
+                  (there.1, (c.requires.inputs c.loop-i.i _ (omega (arith, many, c.loop-i-test.true)) ∙ ap (λ (k : ℕ). inputs_of sc k c.args.self.now.number) (sym there.0), c.requires.calm))),
+            ),
           ),
         ),
       ),
@@ -100,4 +121,21 @@ offset_bounds-statements-i g c =
     elim c.requires.capacity [
       | inl e ↦ rw e (let low : c.loop-i.i < 8 = omega (arith, e, many, few, c.loop-i-test.true) in omega arith)
       | inr e ↦ rw e (let low : c.loop-i.i < 16 = omega (arith, e, many, few, c.loop-i-test.true) in omega arith)
+    ]
+
+pub bounds-inputs-i : goal.bounds-inputs-i
+bounds-inputs-i g c =
+    let sc = c.args.self.now.scenario.now in
+    let many = many_nodes sc c.requires.before.room c.args.self.now.number c.args.nodes.now c.requires.before.before in
+    let few = c.requires.calm.scenario.system.config.few_nodes in
+    omega (arith, many, few, c.loop-i-test.true)
+
+pub offset_bounds-inputs-i : goal.offset_bounds-inputs-i
+offset_bounds-inputs-i g c =
+    let sc = c.args.self.now.scenario.now in
+    let many = many_nodes sc c.requires.before.room c.args.self.now.number c.args.nodes.now c.requires.before.before in
+    let few = c.requires.calm.scenario.system.config.few_nodes in
+    elim c.requires.capacity [
+      | inl e ↦ (let low : c.loop-i.i < 8 = omega (arith, e, many, few, c.loop-i-test.true) in omega arith)
+      | inr e ↦ (let low : c.loop-i.i < 16 = omega (arith, e, many, few, c.loop-i-test.true) in omega arith)
     ]

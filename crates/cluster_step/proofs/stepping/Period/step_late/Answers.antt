@@ -58,14 +58,17 @@ step_slot-requires g c =
         (
           elim c.requires.capacity [ inl e ↦ rw e (lit< tt) | inr e ↦ rw e (lit< tt) ],
           (
-            c.requires.capacity,
+            lit< tt,
             (
-              low,
+              c.requires.capacity,
               (
-                subst (All (IsReady sc.plan)) (sym at) (is.ready t early),
+                low,
                 (
-                  omega (arith, c.loop-slot.auto.nodes, many_open sc room p c.requires.data.state c.args.nodes.now c.requires.data.open_all, shape.nodes),
-                  (all_short sc room c.loop-slot.nodes c.loop-slot.shown wf.system.config c.requires.capacity c.requires.data.greatest shape (subst (All (λ (v : NodeView g.row.N). v.arrived.frame_max ≤ room)) (sym at) (is.roomy t early)), shape),
+                  subst (All (IsReady sc.plan)) (sym at) (is.ready t early),
+                  (
+                    omega (arith, c.loop-slot.auto.nodes, many_open sc room p c.requires.data.state c.args.nodes.now c.requires.data.open_all, shape.nodes),
+                    (omega (arith, c.loop-slot.auto.nodes, many_open sc room p c.requires.data.state c.args.nodes.now c.requires.data.open_all, wf.system.config.few_nodes), (all_short sc room c.loop-slot.nodes c.loop-slot.shown wf.system.config c.requires.capacity c.requires.data.greatest shape (subst (All (λ (v : NodeView g.row.N). v.arrived.frame_max ≤ room)) (sym at) (is.roomy t early)), shape)),
+                  ),
                 ),
               ),
             ),

@@ -16,6 +16,18 @@ pass-requires g c = (
   ),
 )
 
+pub step-requires : goal.step-requires
+step-requires g c = (
+  lit< tt,
+  (
+    elim c.requires.capacity [ inl e ↦ rw e (lit< tt) | inr e ↦ rw e (lit< tt) ],
+    (
+      elim c.requires.capacity [ inl e ↦ rw e (lit< tt) | inr e ↦ rw e (lit< tt) ],
+      (lit< tt, (c.requires.capacity, (c.requires.before, c.requires.shape))),
+    ),
+  ),
+)
+
 pub returns-then-frames-clause-slots : goal.returns-then-frames-clause-slots
 returns-then-frames-clause-slots g c = ap (λ (r : PeriodView). length r.sent) c.step.ensures.shown ∙ many_slots (system_of c.args.self.now.scenario.now) c.args.self.now.number
 
@@ -26,7 +38,7 @@ step-requires-in-Nothing g c = (
     elim c.requires.capacity [ inl e ↦ rw e (lit< tt) | inr e ↦ rw e (lit< tt) ],
     (
       elim c.requires.capacity [ inl e ↦ rw e (lit< tt) | inr e ↦ rw e (lit< tt) ],
-      (c.requires.capacity, (subst (AreNodes c.args.self.now.scenario.now c.args.self.now.number) (sym (c.pass.ensures.nothing c.in-Nothing.is)) c.requires.before, c.requires.shape)),
+      (lit< tt, (c.requires.capacity, (subst (AreNodes c.args.self.now.scenario.now c.args.self.now.number) (sym (c.pass.ensures.nothing c.in-Nothing.is)) c.requires.before, c.requires.shape))),
     ),
   ),
 )
@@ -38,7 +50,7 @@ step_late-requires g c = (
     elim c.requires.capacity [ inl e ↦ rw e (lit< tt) | inr e ↦ rw e (lit< tt) ],
     (
       elim c.requires.capacity [ inl e ↦ rw e (lit< tt) | inr e ↦ rw e (lit< tt) ],
-      (c.requires.capacity, (c.pass.ensures.data c.in-Data.is, c.requires.shape)),
+      (lit< tt, (c.requires.capacity, (c.pass.ensures.data c.in-Data.is, c.requires.shape))),
     ),
   ),
 )

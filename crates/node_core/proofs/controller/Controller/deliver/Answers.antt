@@ -27,7 +27,7 @@ deliver_same-requires g c =
 pub invariant_of-self : goal.invariant_of-self
 invariant_of-self g c =
     let same = ap (λ b. delivered c.self.inside.watch c.args.from c.args.tick b) (sym (c.is_guessed.ensures.same c.if-is_guessed.true)) in
-    frame_given c.self.inside c.deliver_same.new.self c.args.from c.args.tick c.args.sent.now (c.deliver_same.ensures ∙ same) c.self.invariant
+    frame_given c.self.inside c.deliver_same.new.self c.args.from c.args.tick c.args.bytes.now (c.deliver_same.ensures ∙ same) c.self.invariant
 
 pub deliver-requires : goal.deliver-requires
 deliver-requires g c =
@@ -45,17 +45,17 @@ deliver-requires g c =
 
 pub invariant_of-self-else-is_guessed : goal.invariant_of-self-else-is_guessed
 invariant_of-self-else-is_guessed g c =
-    frame_given c.self.inside c.deliver.new.self c.args.from c.args.tick c.args.sent.now (c.deliver.ensures ∙ ap (delivered c.self.inside.watch c.args.from c.args.tick) c.bytes.ensures) c.self.invariant
+    frame_given c.self.inside c.deliver.new.self c.args.from c.args.tick c.args.bytes.now (c.deliver.ensures) c.self.invariant
 
 pub returns-then-is_guessed : goal.returns-then-is_guessed
 returns-then-is_guessed g c =
     let n = c.self.inside in
     let same = ap (λ b. delivered n.watch c.args.from c.args.tick b) (sym (c.is_guessed.ensures.same c.if-is_guessed.true)) in
     ap (λ (w : Watch). record (seen n) { arrived = unguessed w }) (c.deliver_same.ensures ∙ same)
-    ∙ ap (λ (v : NodeView g.row.N). record v { arrived = delivered v.arrived c.args.from c.args.tick c.args.sent.now }) c.self.view_is
+    ∙ ap (λ (v : NodeView g.row.N). record v { arrived = delivered v.arrived c.args.from c.args.tick c.args.bytes.now }) c.self.view_is
 
 pub returns-else-is_guessed : goal.returns-else-is_guessed
 returns-else-is_guessed g c =
     let n = c.self.inside in
-    ap (λ (w : Watch). record (seen n) { arrived = unguessed w }) (c.deliver.ensures ∙ ap (delivered n.watch c.args.from c.args.tick) c.bytes.ensures)
-    ∙ ap (λ (v : NodeView g.row.N). record v { arrived = delivered v.arrived c.args.from c.args.tick c.args.sent.now }) c.self.view_is
+    ap (λ (w : Watch). record (seen n) { arrived = unguessed w }) (c.deliver.ensures)
+    ∙ ap (λ (v : NodeView g.row.N). record v { arrived = delivered v.arrived c.args.from c.args.tick c.args.bytes.now }) c.self.view_is

@@ -1,8 +1,7 @@
-use Rattle.std.proofs.Common.{◌≡◌, ◌-◌, ◌≤◌, ◌+◌, ℕ, List, length, Option, true, inl, inr, lit<, arith, sym, ap, subst, ◌∙◌}
+use Rattle.std.proofs.Common.{◌≡◌, ◌≤◌, ◌+◌, ℕ, List, Option, true, inl, inr, lit<, arith, sym, ap, subst, ◌∙◌}
 use Rattle.std.specs.Prelude.{IfSome}
 use mathlib.Core.List.{not-mem-nil}
 use Rattle.omh.specs.Heard.{Hearing}
-use Rattle.omh_paths.specs.Paths.{path_count}
 use Rattle.error_detect.specs.declared.finding.Finding.{Finding}
 use Rattle.error_detect.specs.Watching.{Watch}
 use Rattle.error_reports.specs.Notes.{Notes, also_noted}

@@ -1,33 +1,14 @@
-use Rattle.std.proofs.Common.{inl, inr, lit<, sym, ap, subst, ◌∙◌}
+use Rattle.std.proofs.Common.{inl, inr, lit<}
 use Rattle.slot_plan.specs.declared.slot.Slot.TheVariants.{Sync, Claims, Data, Rows}
-use Rattle.frames.specs.Content.Content.{State}
-use Rattle.agreed_state.specs.Agreed.{IsAgreed}
-use Rattle.agreed_state.specs.Body.{body}
-use Rattle.node_steps.specs.Parts.{NodeView}
-use Rattle.node_steps.specs.PremiseLaws.{goes_agreed}
 use Rattle.node_core.proofs.Behind.{stands_in, is_slot}
-use Rattle.node_core.proofs.Spelt.{says_state}
 use Rattle.node_core.proofs.controller.Controller.say_own.Goals as goal
 
-pub body-state-requires : goal.body-state-requires
-body-state-requires g c =
-    let inv = c.self.invariant in
-    let v = c.args.self.now in
-    let agreed : IsAgreed g.row.N c.self.inside.config.now c.args.agreed.now = subst (λ (w : NodeView g.row.N). IsAgreed g.row.N w.config c.args.agreed.now) (sym c.self.view_is) (goes_agreed v c.args.agreed.now c.requires.ready.sound.sizes c.requires.own.goes) in
-    (elim inv.place.capacity [ inl e ↦ rw e (lit< tt) | inr e ↦ rw e (lit< tt) ], (elim inv.place.capacity [ inl e ↦ rw e (lit< tt) | inr e ↦ rw e (lit< tt) ], (inv.place.capacity, (inv.place.config_is, agreed))))
-
-pub write-requires : goal.write-requires
-write-requires g c =
+pub say_state-requires : goal.say_state-requires
+say_state-requires g c =
     let inv = c.self.invariant in
     let v = c.args.self.now in
     let at = stands_in c.self.inside v inv c.self.view_is Sync c.in-Sync.is in
-    let state = c.as_slice.ensures.value ∙ c.body-state.ensures.bytes ∙ ap (λ (w : NodeView g.row.N). body w.config c.args.agreed.now) c.self.view_is in (
-      elim inv.place.capacity [ inl e ↦ rw e (lit< tt) | inr e ↦ rw e (lit< tt) ],
-      (
-        elim inv.place.capacity [ inl e ↦ rw e (lit< tt) | inr e ↦ rw e (lit< tt) ],
-        (c.requires.ready, (c.head.ensures, (tt, says_state v c.args.agreed.now c.requires.own at ∙ sym (ap State state)))),
-      ),
-    )
+    (elim inv.place.capacity [ inl e ↦ rw e (lit< tt) | inr e ↦ rw e (lit< tt) ], (elim inv.place.capacity [ inl e ↦ rw e (lit< tt) | inr e ↦ rw e (lit< tt) ], (c.requires.ready, (c.requires.own, at))))
 
 pub say_claims-requires : goal.say_claims-requires
 say_claims-requires g c =

@@ -1,0 +1,19 @@
+use Rattle.std.proofs.Common.{◌≡◌, true, sym, ap, ap₂, subst, ◌∙◌}
+use Rattle.std.specs.Prelude.{IsSome}
+use Rattle.node_grid.specs.NodeSet.{has_id}
+use Rattle.protocol.specs.Run.{members_in}
+use Rattle.node_steps.specs.Parts.{NodeView}
+use Rattle.node_core.proofs.Told.{in_round}
+use Rattle.node_core.proofs.controller.Controller.says_as_guessed.Goals as goal
+
+pub returns-then-round-gt0 : goal.returns-then-round-gt0
+returns-then-round-gt0 g c has =
+    let v = c.args.self.now in
+    let is = c.self.view_is in
+    let on : has_id (members_in v.phase.before) v.phase.me ≡ true =
+    ap₂ has_id (sym c.members.ensures) (ap (λ (w : NodeView g.row.N). w.phase.me) (sym is)) ∙ sym c.has.ensures ∙ has in
+    record {
+      full = ap (λ (w : NodeView g.row.N). w.phase.full) (sym is) ∙ c.if-not-self.false;
+      state = subst (λ (w : NodeView g.row.N). IsSome w.phase.before) is c.if-is_none.ensures;
+      slot = in_round c.self.inside v c.self.invariant is c.in-Claims.round c.if-round-gt0.true c.in-Claims.is on;
+    }
