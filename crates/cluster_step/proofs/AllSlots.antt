@@ -13,7 +13,8 @@ use Rattle.node_steps.specs.Stages.{outcome_of}
 use Rattle.node_steps.specs.Period.{slot_run, IsOver}
 use Rattle.node_steps.specs.Sending.{Fixed, fixed, fixed_of}
 use Rattle.scenario.specs.Scenario.{ScenarioView, system_of}
-use Rattle.cluster_step.specs.Slots.{bytes_at, handed_all, slot_all, arrivals, IsReady}
+use Rattle.relaying.specs.Common.{frame_by}
+use Rattle.cluster_step.specs.Slots.{handed_all, slot_all, arrivals, IsReady}
 use Rattle.cluster_step.specs.Periods.{slots_from, IsAfter, GoesOver}
 use Rattle.cluster_step.proofs.Arriving.{arrivals_alike}
 use Rattle.cluster_step.proofs.Handing.{map_map}
@@ -51,8 +52,8 @@ module _ {N : ℕ} (sc : ScenarioView N) (room p s slots : ℕ) (y : ℕ → ℕ
         map_map (y t) (λ v. after_slot (handed_all sc.plan sc.order sc.config.nodes p (s + t) frames v)) (ids_below sc.config.nodes)
         ∙ map_ids (λ i. after_slot (handed_all sc.plan sc.order sc.config.nodes p (s + t) frames (y t i))) (y (suc t)) sc.config.nodes 0 (λ i l.
         ap (slot_run (y t i))
-        (ap (arrivals sc.plan sc.order sc.config.nodes p (s + t) (bytes_at frames)) (me_there t i (omega arith))
-        ∙ arrivals_alike sc.plan sc.order sc.config.nodes p (s + t) (bytes_at frames) (sent sys p (s + t)) i within (λ j lj.
+        (ap (arrivals sc.plan sc.order sc.config.nodes p (s + t) (frame_by frames)) (me_there t i (omega arith))
+        ∙ arrivals_alike sc.plan sc.order sc.config.nodes p (s + t) (frame_by frames) (sent sys p (s + t)) i within (λ j lj.
         ap (λ (fs : List (List ℕ)). get_or fs j []) (map_map (y t) frame_of (ids_below sc.config.nodes))
         ∙ get_or-map-range_with_len (λ k. frame_of (y t k)) 0 sc.config.nodes j j [] lj (omega arith) ∙ each.frames t j low lj))
         ∙ sym (each.next t i (omega arith)))

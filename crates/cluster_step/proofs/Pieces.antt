@@ -10,10 +10,10 @@ use Rattle.fault_classes.specs.Change.{Change}
 use Rattle.fault_classes.specs.Line.{effect_at}
 use Rattle.fault_classes.specs.Plan.{Plan}
 use Rattle.fault_link.specs.Arrival.{delivered_of}
-use Rattle.relaying.specs.Common.{whole_of, whole_from}
+use Rattle.relaying.specs.Common.{whole_of, whole_from, frame_by}
+use Rattle.relaying.proofs.Wholes.{all_then}
 use Rattle.node_steps.specs.Parts.{NodeView}
-use Rattle.cluster_step.specs.Slots.{arriving, handed, from_node, handed_from, by_senders, bytes_at, handed_all, IsReady}
-use Rattle.cluster_step.proofs.Handing.{all_then}
+use Rattle.cluster_step.specs.Slots.{arriving, handed, from_node, handed_from, by_senders, handed_all, IsReady}
 
 flat_pieces : {X : Type 0} (f : ℕ → List X) (n a k : ℕ) → flat_map f (range_with_len a (n + k)) ≡ flat_map f (range_with_len a n) ++ flat_map f (range_with_len (a + n) k)
 flat_pieces f zero a k = ap₂ (λ (b n : ℕ). flat_map f (range_with_len b n)) (let e : a ≡ a + 0 = omega arith in e) (let e : 0 + k ≡ k = omega arith in e)
@@ -86,12 +86,12 @@ untouched_more plan p t me a b before here = λ j low high ne. elim (cases_eq j 
 ]
 
 -- those from `order` on and then those before it
-pub all_here : {N : ℕ} (plan : Plan) (order nodes p t : ℕ) (frames : List (List ℕ)) (v w u : NodeView N) → w ≡ by_senders plan p t (bytes_at frames) order (nodes - order) v → u ≡ by_senders plan p t (bytes_at frames) 0 order w
+pub all_here : {N : ℕ} (plan : Plan) (order nodes p t : ℕ) (frames : List (List ℕ)) (v w u : NodeView N) → w ≡ by_senders plan p t (frame_by frames) order (nodes - order) v → u ≡ by_senders plan p t (frame_by frames) 0 order w
     → u ≡ handed_all plan order nodes p t frames v
 all_here {N} plan order nodes p t frames v w u first then =
-    then ∙ ap (by_senders plan p t (bytes_at frames) 0 order) first
-    ∙ ap (λ (x : Watch). record v { arrived = x }) (all_then v.arrived (flat_map (from_node plan p t (bytes_at frames) v.phase.me) (range_with_len order (nodes - order))) (flat_map (from_node plan p t (bytes_at frames) v.phase.me) (range_with_len 0 order)))
-    ∙ ap (handed v) (sym (flat_map-append (from_node plan p t (bytes_at frames) v.phase.me) (range_with_len order (nodes - order)) (range_with_len 0 order)))
+    then ∙ ap (by_senders plan p t (frame_by frames) 0 order) first
+    ∙ ap (λ (x : Watch). record v { arrived = x }) (all_then v.arrived (flat_map (from_node plan p t (frame_by frames) v.phase.me) (range_with_len order (nodes - order))) (flat_map (from_node plan p t (frame_by frames) v.phase.me) (range_with_len 0 order)))
+    ∙ ap (handed v) (sym (flat_map-append (from_node plan p t (frame_by frames) v.phase.me) (range_with_len order (nodes - order)) (range_with_len 0 order)))
 
 -- a piece of no frames
 pub no_piece : {N : ℕ} (v : NodeView N) (frame : ℕ → List ℕ) (a n : ℕ) → n ≡ 0 → v ≡ record v { arrived = all_delivered v.arrived (whole_from v.phase.me frame a n) }

@@ -3,6 +3,7 @@ use Rattle.std.proofs.Common.{ℕ, ◌≡◌, List, [], ◌∷◌, refl, ap, sub
 use Rattle.error_detect.specs.Watching.{Watch, delivered}
 use Rattle.error_detect.specs.Multiset.{Arriving, all_delivered}
 use Rattle.relaying.specs.Guessed.{unguessed}
+use Rattle.relaying.proofs.Wholes.{all_kept}
 use Rattle.node_steps.specs.Parts.{NodeView}
 use Rattle.node_steps.specs.Sound.{IsSound}
 use Rattle.node_steps.specs.SoundSteps.{sound_given}
@@ -37,11 +38,6 @@ pub sound_all : {N : ℕ} (ds : List Arriving) (v : NodeView N) → IsSound v �
 sound_all [] v sound = sound
 sound_all (d ∷ ds) v sound = sound_all ds (given_frame v d.from d.tick d.bytes) (sound_given v d.from d.tick d.bytes sound)
 
--- deliveries change nothing of a watch but what arrived
-all_kept : (w : Watch) (ds : List Arriving) → all_delivered w ds ≡ record w { arrived = (all_delivered w ds).arrived }
-all_kept w [] = refl
-all_kept w (d ∷ ds) = all_kept (delivered w d.from d.tick d.bytes) ds
-
--- and nothing of what stays over a period
+-- deliveries change nothing of what stays over a period
 pub frames_fixed : {N : ℕ} (v : NodeView N) (ds : List Arriving) → fixed (record v { arrived = all_delivered v.arrived ds }) ≡ fixed v
 frames_fixed v ds = ap (λ (w : Watch). fixed (record v { arrived = w })) (all_kept v.arrived ds)

@@ -1,4 +1,4 @@
-//! Bodies of relay frames that are runs of equal entries: found once, so that such a body is known
+//! Bodies of relay frames that are runs of equal entries: where one is found to be so, it is known
 //! by the first entry of each run.
 
 ghost use Rattle.std.specs.Prelude.{◌≡◌, ◌*◌, ◌<◌, ◌≤◌, true, length};

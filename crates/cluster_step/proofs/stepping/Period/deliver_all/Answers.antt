@@ -4,7 +4,7 @@ use Rattle.agreed_state.specs.declared.config.Config.{Config}
 use Rattle.relaying.specs.Common.{Common, AreGuessedIn, frame_by}
 use Rattle.node_steps.specs.Parts.{NodeView}
 use Rattle.scenario.specs.Scenario.{ScenarioView}
-use Rattle.cluster_step.specs.Slots.{by_senders, bytes_at, handed_all, IsReady}
+use Rattle.cluster_step.specs.Slots.{by_senders, handed_all, IsReady}
 use Rattle.cluster_step.proofs.Handing.{holds_here, put_over, all_put}
 use Rattle.cluster_step.proofs.Pieces.{all_here, ready_still}
 use Rattle.cluster_step.proofs.stepping.Period.deliver_all.Goals as goal
@@ -94,10 +94,10 @@ loop-node-preserved g c =
     let before : c.order-order.result - 0 ≡ sc.order = omega (arith, c.order-order.ensures.order) in
     put_over (handed_all sc.plan sc.order sc.config.nodes p c.args.slot frames) c.args.nodes.now c.loop-node.nodes c.loop-node.node-index c.node-item.result c.deliver_senders-in-loop-node.new.node c.loop-node-test.true c.loop-node.invariant c.node-item.is
     (all_here sc.plan sc.order sc.config.nodes p c.args.slot frames node c.deliver_senders.new.node c.deliver_senders-in-loop-node.new.node
-    (c.deliver_senders.ensures ∙ ap (λ (fs : List (List ℕ)). by_senders sc.plan p c.args.slot (bytes_at fs) c.order-order.result (c.config.result.now.nodes - c.order-order.result) node) c.frames-frames.ensures.bytes
-    ∙ ap₂ (λ (o n : ℕ). by_senders sc.plan p c.args.slot (bytes_at frames) o (n - o) node) c.order-order.ensures.order nodes)
-    (c.deliver_senders-in-loop-node.ensures ∙ ap (λ (fs : List (List ℕ)). by_senders sc.plan p c.args.slot (bytes_at fs) 0 (c.order-order.result - 0) c.deliver_senders.new.node) c.frames-frames.ensures.bytes
-    ∙ ap (λ (k : ℕ). by_senders sc.plan p c.args.slot (bytes_at frames) 0 k c.deliver_senders.new.node) before))
+    (c.deliver_senders.ensures ∙ ap (λ (fs : List (List ℕ)). by_senders sc.plan p c.args.slot (frame_by fs) c.order-order.result (c.config.result.now.nodes - c.order-order.result) node) c.frames-frames.ensures.bytes
+    ∙ ap₂ (λ (o n : ℕ). by_senders sc.plan p c.args.slot (frame_by frames) o (n - o) node) c.order-order.ensures.order nodes)
+    (c.deliver_senders-in-loop-node.ensures ∙ ap (λ (fs : List (List ℕ)). by_senders sc.plan p c.args.slot (frame_by fs) 0 (c.order-order.result - 0) c.deliver_senders.new.node) c.frames-frames.ensures.bytes
+    ∙ ap (λ (k : ℕ). by_senders sc.plan p c.args.slot (frame_by frames) 0 k c.deliver_senders.new.node) before))
 
 pub returns : goal.returns
 returns g c =

@@ -4,7 +4,8 @@ use Rattle.std.proofs.lemmas.List.Elements.{All-get_or}
 use Rattle.fault_classes.specs.Line.{effect_at}
 use Rattle.fault_classes.specs.Plan.{Plan}
 use Rattle.node_steps.specs.Parts.{NodeView}
-use Rattle.cluster_step.specs.Slots.{handed_from, by_senders, bytes_at, IsReady}
+use Rattle.relaying.specs.Common.{frame_by}
+use Rattle.cluster_step.specs.Slots.{handed_from, by_senders, IsReady}
 use Rattle.cluster_step.proofs.Pieces.{AreUntouched, none_taken_yet, whole_behind, changed_behind, ready_still, untouched_more}
 use Rattle.cluster_step.proofs.stepping.Period.deliver_senders.Goals as goal
 use Rattle.cluster_step.proofs.stepping.Period.deliver_senders.Goals.{then-is_touched, else-is_touched}
@@ -14,7 +15,7 @@ plan-plan-requires g c = elim c.requires.capacity [ inl e ↦ rw e (lit< tt, lit
 
 pub loop-from-init : goal.loop-from-init
 loop-from-init g c = (
-  none_taken_yet c.args.self.now.scenario.now.plan c.args.self.now.number c.args.slot (bytes_at (map (λ (f : Vec ℕ Global). f.items) c.args.frames.now)) c.args.node.now c.args.senders.start (c.args.senders.start - c.args.senders.start) (omega arith),
+  none_taken_yet c.args.self.now.scenario.now.plan c.args.self.now.number c.args.slot (frame_by (map (λ (f : Vec ℕ Global). f.items) c.args.frames.now)) c.args.node.now c.args.senders.start (c.args.senders.start - c.args.senders.start) (omega arith),
   omega arith,
   omega arith,
   λ j low high. absurd (omega (arith, low, high)),
@@ -75,7 +76,7 @@ loop-from-preserved g c =
     let v : NodeView g.row.N = c.args.node.now in
     let a : ℕ = c.args.senders.start in
     let from : ℕ = c.loop-from.from in
-    let frame : ℕ → List ℕ = bytes_at (map (λ (f : Vec ℕ Global). f.items) c.args.frames.now) in
+    let frame : ℕ → List ℕ = frame_by (map (λ (f : Vec ℕ Global). f.items) c.args.frames.now) in
     let so_far = c.loop-from.invariant in
     elim c.if-is_touched.branch [
       | then-is_touched w ↦
@@ -130,6 +131,6 @@ returns g c =
     let so_far = c.loop-from.invariant in
     let ended : c.loop-from.from ≤ c.args.senders.end = c.loop-from.auto.from-end c.requires.ascending in
     let last : c.loop-from.from ≡ c.args.senders.end = omega (arith, ended, c.loop-from-test.false) in
-    whole_behind sc.plan c.args.self.now.number c.args.slot (bytes_at (map (λ (f : Vec ℕ Global). f.items) c.args.frames.now)) c.args.node.now c.loop-from.node c.deliver_piece-2.new.node c.args.senders.start c.loop-from.start c.args.senders.end so_far.1
+    whole_behind sc.plan c.args.self.now.number c.args.slot (frame_by (map (λ (f : Vec ℕ Global). f.items) c.args.frames.now)) c.args.node.now c.loop-from.node c.deliver_piece-2.new.node c.args.senders.start c.loop-from.start c.args.senders.end so_far.1
     (omega (arith, so_far.2, ended)) (subst (λ (i : ℕ). AreUntouched sc.plan c.args.self.now.number c.args.slot i c.loop-from.start c.args.senders.end) c.me-me.ensures (subst (AreUntouched sc.plan c.args.self.now.number c.args.slot c.me-me.result c.loop-from.start) last so_far.3)) so_far.0
     c.deliver_piece-2.ensures
