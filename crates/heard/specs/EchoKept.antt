@@ -12,7 +12,7 @@ pub record AreEchoesKept {V : Type 0} (capacity : ℕ) (p : Parts V) : Type 0 wh
   pub echo : (least : ℕ) (doubted : List ℕ) → 1 < least
       → ((q r : ℕ) → has_id p.members q ≡ true → has_id doubted q ≡ false → least ≤ r → r ≤ p.rounds → (has_id (set_at p.as_expected r) q ≡ false) × (has_id (set_at p.echoes r) q ≡ true))
       → IsEchoBut (kept_ear p) least doubted
-  pub expected : IsStored capacity p → (doubted : List (List ℕ)) → AreHit p doubted → (c : ℕ) (all : List ℕ) → IsAllDoubted capacity p (set_at doubted c) all
+  pub expected : IsStored capacity p → (doubted : List (List ℕ)) → AreHit p doubted → (c : ℕ) (all : List ℕ) → IsAllDoubted capacity p p.rounds (set_at doubted c) all
       → c ≢ p.me → base p c ≡ root p c → IsExpectedBut (kept_ear p) c all
 
 abbrev pub EchoesKeptLaw : Type 0 → Type 0

@@ -13,7 +13,7 @@ ghost use Rattle.omh.specs.Omh.{settled_from};
 ghost use Rattle.equivocation.specs.Conviction.{convicts};
 ghost use Rattle.omh.specs.Heard.{ear_of, heard_in, heard_paths, nothing_heard, with_heard};
 ghost use Rattle.heard.specs.Keep.{IsSmall, wrapped_times, IsSize, AreNodes};
-ghost use Rattle.heard.specs.Passing.{IsAllExpected, IsEchoing};
+ghost use Rattle.heard.specs.Passing.{IsAllExpected, IsEchoing, ArePassingOn};
 ghost use Rattle.heard.specs.Seen.{with_frame, with_written, with_echoes, TakesUp};
 ghost use Rattle.heard.specs.Seen.{SaysExpected, SaysEcho};
 
@@ -368,6 +368,23 @@ impl<V: Value, const N: usize> Heard<V, N> {
         ensures { (q : ℕ) → has_id result q ≡ true → IsEchoing self.now r q }
     {
         self.store.echoing(r)
+    }
+
+    /// Members that are trusted to pass on what was heard of another one, `c`, itself: for each path
+    /// of up to `r` relays through them it was heard as it was, wrapped once by each relay. Not all
+    /// of which this holds are told.
+    pub fn trusted(&self, c: u8, r: u8) -> NodeSet<N>
+        requires round { r ≤ self.now.rounds }
+        ensures { ArePassingOn self.now r c result }
+    {
+        if !self.store.hears_of(c) {
+            return NodeSet::empty();
+        }
+        if !self.store.agrees_on(c) {
+            return NodeSet::empty();
+        }
+        let odd = self.store.all_doubted(&self.doubted[c as usize], r);
+        self.store.members().minus(&odd)
     }
 
     /// What was heard of a node itself, after `r` relays passed it on; the error of all but the

@@ -1,5 +1,6 @@
-use Rattle.std.proofs.Common.{sym, arith}
+use Rattle.std.proofs.Common.{ℕ, sym, ap, subst, arith}
 use Rattle.heard.specs.Keep.{kept_ear}
+use Rattle.heard.specs.Doubts.{IsAllDoubted}
 use Rattle.heard.proofs.Settles.{backed_by}
 use Rattle.heard.proofs.store.Store.is_backed.Goals as goal
 
@@ -8,6 +9,6 @@ returns g c =
     λ t. record {
       same = sym (c.agrees_on.ensures (grind (arith, c.if-not-agrees_on.false)));
       all = c.all_doubted-all.result;
-      doubts = c.all_doubted-all.ensures;
-      enough = backed_by (kept_ear c.args.self.now) c.args.c c.all_doubted-all.result c.trusted.result c.trusted.ensures (c.is_outvoting.ensures t);
+      doubts = subst (λ (n : ℕ). IsAllDoubted g.row.N c.args.self.now n c.args.doubted.now c.all_doubted-all.result) (ap (λ x. x.rounds) c.self.view_is) c.all_doubted-all.ensures;
+      enough = backed_by (kept_ear c.args.self.now) c.args.c c.all_doubted-all.result c.count_undoubted.result c.count_undoubted.ensures (c.is_outvoting.ensures t);
     }

@@ -1,7 +1,7 @@
 use Rattle.std.proofs.Common.{◌∷◌, length, ap, ◌∙◌}
 use Rattle.omh_paths.specs.Paths.{outside}
 use Rattle.heard.proofs.Members.{outside_two}
-use Rattle.heard.proofs.store.Store.trusted.Goals as goal
+use Rattle.heard.proofs.store.Store.count_undoubted.Goals as goal
 
 pub returns : goal.returns
 returns g c =
