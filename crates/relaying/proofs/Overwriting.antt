@@ -29,7 +29,7 @@ has_minus s t q = any-filter_same (λ y. y == q) (λ k. not (has_id t k)) (not (
 pub in_minus : (s t : List ℕ) (q : ℕ) → has_id (minus_of s t) q ≡ true → has_id s q ≡ true
 in_minus s t q on = (and_parts (not (has_id t q)) (has_id s q) (sym (has_minus s t q) ∙ on)).1
 
-not_left : (s t : List ℕ) (q : ℕ) → has_id s q ≡ true → has_id (minus_of s t) q ≡ false → has_id t q ≡ true
+pub not_left : (s t : List ℕ) (q : ℕ) → has_id s q ≡ true → has_id (minus_of s t) q ≡ false → has_id t q ≡ true
 not_left s t q on off = elim (cases_Bool (has_id t q)) [
   | inl y ↦ y
   | inr n ↦ absurd (both_ways _ off (has_minus s t q ∙ and_from _ _ (ap not n) on))
@@ -150,11 +150,11 @@ module _ {V : Type 0} (w : ℕ) (spell : Wrapped V → List ℕ) (f : ℕ → Wr
       ∙ put_pasted w q from (row_piece spell f entry done) (row_piece spell f entry grown) s was (Distinct-ids n s ids) on (piece_wide done) (piece_wide grown) (other_piece done q) (omega (arith, fits, room))
 
   -- of all nodes but those whose entry is the same
-  pub all_over : (same : List ℕ) → ((c : ℕ) → has_id s c ≡ true → has_id same c ≡ true → entry ≡ spell (f c)) → flat_map (row_piece spell f entry (minus_of s same)) s ≡ flat_map spell (map f s)
-  all_over same alike =
-      same_pieces (row_piece spell f entry (minus_of s same)) (λ c. spell (f c)) s (λ c on. elim (cases_Bool (has_id (minus_of s same) c)) [
-        | inl y ↦ cond-true (has_id (minus_of s same) c) (spell (f c)) entry y
-        | inr n ↦ cond-false (has_id (minus_of s same) c) (spell (f c)) entry n ∙ alike c on (not_left s same c on n)
+  pub all_over : (odd : List ℕ) → ((c : ℕ) → has_id s c ≡ true → has_id odd c ≡ false → entry ≡ spell (f c)) → flat_map (row_piece spell f entry odd) s ≡ flat_map spell (map f s)
+  all_over odd alike =
+      same_pieces (row_piece spell f entry odd) (λ c. spell (f c)) s (λ c on. elim (cases_Bool (has_id odd c)) [
+        | inl y ↦ cond-true (has_id odd c) (spell (f c)) entry y
+        | inr n ↦ cond-false (has_id odd c) (spell (f c)) entry n ∙ alike c on n
       ])
       ∙ sym (flat_map-map spell f s)
 

@@ -9,7 +9,7 @@ use Rattle.std.proofs.lemmas.Map.Views.{any-filter_same}
 use Rattle.std.proofs.lemmas.Grind.{flat_map-append}
 use Rattle.std.proofs.Math.Nat.{mul-le-mul_left}
 use Rattle.std.proofs.Math.Seq.{take-add, take-append_seam}
-use Rattle.node_grid.specs.NodeSet.{has_id, with_id}
+use Rattle.node_grid.specs.NodeSet.{has_id, with_id, without_id}
 use Rattle.node_grid.specs.NodeSetLaws.{passes_where}
 use Rattle.node_grid.specs.Count.{Distinct}
 use Rattle.omh_paths.specs.declared.wrapped.Wrapped.{Wrapped}
@@ -17,12 +17,13 @@ use Rattle.omh_paths.specs.declared.wrapped.Wrapped.TheVariants.{Fault}
 use Rattle.omh_paths.specs.Wrapped.{wrapped}
 use Rattle.omh_paths.specs.Paths.{outside, IsListed, paths_of_length, path_at, path_count}
 use Rattle.omh_paths.specs.PathLists.{IsListed-at, has-without, length-outside, length-paths, path_at-push, path_count-last}
-use Rattle.omh_paths.specs.PathLaws.{Distinct-push}
+use Rattle.omh_paths.specs.PathLaws.{Distinct-push, off_longer}
 use Rattle.omh.specs.Heard.{Hearing, heard_in}
-use Rattle.heard.specs.Passing.{IsEchoing}
+use Rattle.heard.specs.Keep.{wrapped_times}
+use Rattle.heard.specs.Passing.{IsEchoing, ArePassingOn}
 use Rattle.frames.specs.Writing.{pasted}
 use Rattle.frames.specs.PieceLaws.{pasted_twice}
-use Rattle.relaying.specs.Table.{own_told, passed, passed_of, passed_after, passed_behind, CanWrite, CanWriteRow, IsRepeating}
+use Rattle.relaying.specs.Table.{own_told, passed, passed_of, passed_after, passed_behind, CanWrite, CanWriteRow, IsRepeating, IsRepeatedBy}
 use Rattle.relaying.proofs.OwnPaths.{on_grown, on_last, within_grown}
 use Rattle.relaying.proofs.Tables.{passed_off, passed_clear, passed_at, length-passed, length_wide}
 
@@ -64,6 +65,29 @@ module _ {V : Type 0} (h : Hearing V) where
         | inl me ↦ absurd (ne (eqb-true q h.me me))
         | inr there ↦ echoes q there
       ])
+
+  -- ---- who is trusted to pass on what was heard of a path's first node
+
+  pub trusted_repeats : (front nodes : List ℕ) (q c n : ℕ) → Distinct front → c ≡ get_or front 0 0 → n ≡ length front → 0 < n → ArePassingOn h n c nodes → ((x : ℕ) → has_id (drop 1 front) x ≡ true → has_id nodes x ≡ true)
+      → has_id nodes q ≡ true → IsListed h.members (length front + 1) (front ++ q ∷ []) → IsRepeatedBy h front q
+  trusted_repeats [] nodes q c n d first long some passes behind on l = absurd (omega (arith, long, some))
+  trusted_repeats (y ∷ back) nodes q c n d first long some passes behind on l = elim (cases_Bool (has_id (y ∷ back ++ q ∷ []) h.me)) [
+    | inl here ↦ repeats_on (length (y ∷ back)) q (y ∷ back) refl here
+    | inr off ↦
+        let path : List ℕ = y ∷ back ++ q ∷ [] in
+        let root : Wrapped V = heard_in h.heard (y ∷ []) in
+        let passing : ArePassingOn h n y nodes = subst (λ (i : ℕ). ArePassingOn h n i nodes) first passes in
+        let up : length (back ++ q ∷ []) ≡ suc (length back) = omega (arith, length_push back q) in
+        let others : (x : ℕ) → has_id path x ≡ true → has_id (without_id h.members h.me) x ≡ true =
+        λ x in-path. has-without h.members h.me x (λ e. both_ways _ off (ap (has_id path) (sym e) ∙ in-path)) (l.within x in-path) in
+        let before : heard_in h.heard (y ∷ back) ≡ wrapped_times (length back) root =
+        passing back (omega (arith, long)) (record { distinct = d; within = λ x there. others x (on_grown (y ∷ back) q x there); long = omega arith }) behind in
+        let after : heard_in h.heard path ≡ wrapped_times (length (back ++ q ∷ [])) root =
+        passing (back ++ q ∷ []) (omega (arith, long, up)) (record { distinct = l.distinct; within = others; long = omega arith }) (within_grown nodes back q behind on) in
+        passed_off (own_told h) h (length (y ∷ back)) path off
+        ∙ ap wrapped (after ∙ ap (λ (k : ℕ). wrapped_times k root) up ∙ ap wrapped (sym before))
+        ∙ ap wrapped (sym (passed_clear (own_told h) h (length (y ∷ back)) (y ∷ back) (omega arith) (off_longer (y ∷ back) q h.me off).0))
+  ]
 
   -- ---- a row among the entries of a round
 
@@ -131,12 +155,24 @@ module _ {V : Type 0} (h : Hearing V) where
         ∙ pasted_twice 0 (width * (i * each)) (flat_map spell (take (i * each) xs)) (flat_map spell (passed_behind h front (outside s front))) was (omega (arith, written)) (omega (arith, new, split, whole, room))
         ∙ ap (λ (t : List ℕ). pasted 0 t was) (sym (ap (flat_map spell) more_rows ∙ flat_map-append spell (take (i * each) xs) (passed_behind h front (outside s front))))
 
+-- the nodes behind a path's first one, by their places
+pub all_behind : (path nodes : List ℕ) → ((j : ℕ) → 0 < j → j < length path → has_id nodes (get_or path j 0) ≡ true) → (q : ℕ) → has_id (drop 1 path) q ≡ true → has_id nodes q ≡ true
+all_behind [] nodes each q on = absurd (cc)
+all_behind (x ∷ path) nodes each q on = all_on path nodes (λ j low. each (suc j) (omega arith) (omega arith)) q on
+  where
+    all_on : (xs nodes : List ℕ) → ((j : ℕ) → j < length xs → has_id nodes (get_or xs j 0) ≡ true) → (q : ℕ) → has_id xs q ≡ true → has_id nodes q ≡ true
+    all_on [] nodes each q on = absurd (cc)
+    all_on (x ∷ xs) nodes each q on = elim (or_cases (x == q) (has_id xs q) on) [
+      | inl e ↦ ap (has_id nodes) (sym (eqb-true x q e)) ∙ each 0 (omega arith)
+      | inr later ↦ all_on xs nodes (λ j low. each (suc j) (omega arith)) q later
+    ]
+
 -- ---- an entry of a row
 
 module _ {V : Type 0} (h : Hearing V) (front : List ℕ) (q : ℕ) (before : Wrapped V) (is : before ≡ passed (own_told h) h (length front) front) where
-  -- of a node that repeats what the node itself passes on
-  pub same_after : IsRepeating h (length front) q → IsListed h.members (length front + 1) (front ++ q ∷ []) → wrapped before ≡ passed_after h front q
-  same_after repeats l = ap wrapped is ∙ sym (repeats front l)
+  -- of a node by which what is passed on of the path before it is repeated
+  pub same_after : IsRepeatedBy h front q → wrapped before ≡ passed_after h front q
+  same_after repeated = ap wrapped is ∙ sym repeated
 
   -- of another one
   pub next_after : (v : Wrapped V) → v ≡ (if has_id (front ++ q ∷ []) h.me then wrapped before else wrapped (heard_in h.heard (front ++ q ∷ []))) → v ≡ passed_after h front q

@@ -33,6 +33,10 @@ passed_behind h front rest = map (passed_after h front) rest
 abbrev pub IsRepeating : {V : Type 0} → Hearing V → ℕ → ℕ → Type 0
 IsRepeating h relays q = (front : List ℕ) → IsListed h.members (relays + 1) (front ++ q ∷ []) → passed (own_told h) h (suc relays) (front ++ q ∷ []) ≡ wrapped (passed (own_told h) h relays front)
 
+-- what is passed on of the path that goes on from this one with node q is what is passed on of this one, wrapped
+abbrev pub IsRepeatedBy : {V : Type 0} → Hearing V → List ℕ → ℕ → Type 0
+IsRepeatedBy h front q = passed_after h front q ≡ wrapped (passed (own_told h) h (length front) front)
+
 -- and of those of all members
 abbrev pub table : {V : Type 0} → Hearing V → ℕ → List (Wrapped V)
 table h r = passed_of h h.members r

@@ -1,11 +1,11 @@
 //! The entries of a relay round: what is passed on of each path of a set of members.
 
-ghost use Rattle.std.specs.Prelude.{◌≡◌, ◌≢◌, ◌+◌, ◌-◌, ◌*◌, ◌<◌, ◌≤◌, ℕ, List, true, length};
-ghost use Rattle.std.specs.Prelude.{if◌then◌else◌, All};
+ghost use Rattle.std.specs.Prelude.{◌≡◌, ◌≢◌, ◌+◌, ◌-◌, ◌*◌, ◌<◌, ◌≤◌, ℕ, List, [], ◌∷◌, ◌++◌};
+ghost use Rattle.std.specs.Prelude.{true, false, length, drop, if◌then◌else◌, All};
 ghost use Rattle.std.specs.List.{flat_map};
 ghost use Rattle.node_grid.specs.Capacity.{IsCapacity};
 ghost use Rattle.node_grid.specs.NodeSet.{has_id, IsIdSet};
-ghost use Rattle.omh_paths.specs.Paths.{paths_of_length, path_count};
+ghost use Rattle.omh_paths.specs.Paths.{paths_of_length, path_count, IsListed};
 ghost use Rattle.omh_paths.specs.Wrapped.{wrapped};
 ghost use Rattle.omh_paths.specs.declared.wrapped.Wrapped.TheVariants.{Fault};
 ghost use Rattle.omh.specs.Heard.{heard_in};
@@ -14,7 +14,7 @@ ghost use Rattle.heard.specs.Passing.{IsAllExpected};
 ghost use Rattle.frames.specs.Filling.{repeated};
 ghost use Rattle.frames.specs.Writing.{pasted};
 ghost use Rattle.relaying.specs.Table.{own_told, passed, passed_of, passed_behind, root_of};
-ghost use Rattle.relaying.specs.Table.{roots_of, CanWrite, CanWriteRow, IsRepeating};
+ghost use Rattle.relaying.specs.Table.{roots_of, CanWrite, CanWriteRow, IsRepeating, IsRepeatedBy};
 
 use crate::item::Item;
 use frames::fill_entries;
@@ -80,6 +80,49 @@ pub(crate) fn paste(out: &mut [u8], at: usize, bytes: &[u8])
     out[at..at + bytes.len()].copy_from_slice(bytes);
 }
 
+/// Whether all nodes of a path behind its first one are among these.
+fn leads_through<const N: usize>(path: &Path, nodes: &NodeSet<N>) -> bool
+    ensures { result ≡ true → (q : ℕ) → has_id (drop 1 path.now) q ≡ true →
+        has_id nodes.now q ≡ true }
+{
+    for k in 1..path.len() {
+        if !nodes.has(path.at(k)) {
+            return false;
+        }
+    }
+    true
+}
+
+/// Those of these nodes of which it isn't known that what is passed on of the path that goes on
+/// from this one with them is what is passed on of this one, wrapped. Of the nodes in `same` it is.
+fn odd_behind<V: Item<N>, const N: usize>(
+    heard: &Heard<V, N>,
+    front: &Path,
+    rest: &NodeSet<N>,
+    same: &NodeSet<N>,
+) -> NodeSet<N>
+    requires round { length front.now ≤ heard.now.rounds }
+    requires paths { (q : ℕ) → has_id rest.now q ≡ true →
+        IsListed heard.now.members (length front.now + 1) (front.now ++ q ∷ []) }
+    requires same { (q : ℕ) → has_id same.now q ≡ true → IsRepeating heard.now (length front.now) q }
+    ensures within { (q : ℕ) → has_id result q ≡ true → has_id rest.now q ≡ true }
+    ensures others { (q : ℕ) → has_id rest.now q ≡ true → has_id result q ≡ false →
+        IsRepeatedBy heard.now front.now q }
+{
+    // its clause bounds the capacity
+    let _nodes = heard.nodes();
+    if front.has(heard.me()) {
+        return NodeSet::empty();
+    }
+    let odd = rest.minus(same);
+    let relays = front.len();
+    let trusted = heard.trusted(front.at(0), relays);
+    if !leads_through(front, &trusted) {
+        return odd;
+    }
+    odd.minus(&trusted)
+}
+
 /// Writes what is passed on of the paths that go on from this one with one of these nodes, as
 /// entries from entry `from` on: one entry for all of them, and over it those of the nodes that may
 /// pass on another.
@@ -93,6 +136,7 @@ fn write_row<V: Item<N>, const N: usize>(
 )
     requires can { CanWriteRow (V.width heard.now.nodes) (V.spelling heard.now.nodes)
         heard.now front.now rest.now from (length out.old) }
+    requires round { length front.now ≤ heard.now.rounds }
     requires same { (q : ℕ) → has_id same.now q ≡ true → IsRepeating heard.now (length front.now) q }
     ensures { out.new ≡ pasted (V.width heard.now.nodes * from)
         (flat_map (V.spelling heard.now.nodes) (passed_behind heard.now front.now rest.now)) out.old }
@@ -103,7 +147,8 @@ fn write_row<V: Item<N>, const N: usize>(
     let mut entry = [0; 33];
     V::put(&mut entry, nodes, 0, &before.wrap());
     fill_entries(out, width * from, &entry[..width], rest.len() as usize);
-    for node in rest.minus(same).iter() {
+    let odd = odd_behind(heard, front, rest, same);
+    for node in odd.iter() {
         let value = passed_next(heard, before, &front.then(node));
         V::put(out, nodes, from + rest.place(node) as usize, &value);
     }

@@ -59,7 +59,7 @@ write_row-requires g c =
     (subst (λ (n : ℕ). CanWrite (g.V.Item.width h.nodes) (g.V.Item.spelling h.nodes) h s c.args.round n) (sym c.loop-i.auto.out) c.requires.can) in
     let row = row_can h (g.V.Item.width h.nodes) (g.V.Item.spelling h.nodes) s r i (length c.loop-i.out) d c.requires.within can (let a = c.requires.relayed in omega arith) few low
     c.unrank-front.result c.outside.result w (i * w) c.unrank-front.ensures.path c.outside.ensures wide refl in
-    (omega arith, (omega arith, (row, same_front h r c.repeating-same.result (length c.unrank-front.result) c.unrank-front.ensures.long c.repeating-same.ensures)))
+    (omega arith, (omega arith, (row, (omega (arith, c.unrank-front.ensures.long, c.requires.round), same_front h r c.repeating-same.result (length c.unrank-front.result) c.unrank-front.ensures.long c.repeating-same.ensures))))
 
 pub loop-i-preserved : goal.loop-i-preserved
 loop-i-preserved g c =
