@@ -1,6 +1,6 @@
 //! What arrived from each sender in a slot.
 
-ghost use Rattle.std.specs.Prelude.{ℕ, ◌≡◌, ◌≢◌, ◌<◌, ◌≤◌, true, false, None, IfOk, IfSome, IfNone, IsSome, option_map, map, replicate};
+ghost use Rattle.std.specs.Prelude.{ℕ, ◌≡◌, ◌≢◌, ◌<◌, ◌≤◌, true, false, None, IfOk, IfSome, IfNone, IsSome, option_map, length, map, replicate, take};
 ghost use Rattle.node_grid.specs.Capacity.{IsCapacity};
 ghost use Rattle.frames.specs.Runs.{expanded, spread};
 ghost use Rattle.frames.specs.Seen.{content, expected, HasWidth};
@@ -179,6 +179,31 @@ impl<const N: usize> SlotWatch<N> {
         ensures no { result ≡ false → self.new ≡ self.old }
     {
         self.guess_spread(form, Some(*runs), firsts)
+    }
+
+    /// Lends the room for what is guessed, made at least `size` bytes long, in exchange for another
+    /// one, and answers whether it did: it does where nothing is guessed and there is so much room.
+    /// [`SlotWatch::guess_in`] takes it back.
+    pub fn lend_room(&mut self, room: &mut Vec<u8>, size: usize) -> bool
+        ensures same { self.new ≡ self.old }
+        ensures long { result ≡ true → size ≤ length room.new.items }
+    {
+        self.guess.lend_room(room, size)
+    }
+
+    /// Guesses what the slot's frames say, before any has come, by the first `size` bytes of a room,
+    /// which it takes in exchange for the one that it has. No byte is copied.
+    pub fn guess_in(&mut self, form: Form, room: &mut Vec<u8>, size: usize)
+        requires before { self.old.arrived ≡ replicate self.old.nodes nothing }
+        requires size { size ≤ length room.old.items }
+        requires guessable { IfSome self.old.expect (λ e.
+            IsGuessable e (said_as N self.old.nodes form (take size room.old.items))) }
+        requires spelt { take size room.old.items
+            ≡ body_spelling self.old.nodes (said_as N self.old.nodes form (take size room.old.items)) }
+        ensures { self.new ≡
+            guessing self.old (said_as N self.old.nodes form (take size room.old.items)) }
+    {
+        self.guess.take_room(form, room, size);
     }
 
     /// What is expected of each sender of the last slot, whatever sender it names; None before the first slot.
