@@ -1,8 +1,8 @@
 -- A table of a round whose entries are changed one by one, and that is guessed then.
-use Rattle.std.proofs.Common.{ℕ, zero, suc, ◌≡◌, ◌<◌, ◌≤◌, ◌+◌, ◌-◌, ◌*◌, ◌^◌, Bool, true, false, List, [], ◌∷◌, ◌++◌, length, map, get_or, set, take, drop, Option, Some, None, refl, sym, ap, ap₂, subst, ◌∙◌, inl, inr, arith, append_assoc, length-append}
+use Rattle.std.proofs.Common.{ℕ, zero, suc, ◌≡◌, ◌<◌, ◌≤◌, ◌+◌, ◌-◌, ◌*◌, ◌^◌, true, false, List, [], ◌∷◌, ◌++◌, length, map, get_or, set, take, drop, Option, Some, None, refl, sym, ap, ap₂, subst, ◌∙◌, inl, inr, arith, append_assoc, length-append}
 use Rattle.std.specs.Prelude.{All}
 use Rattle.std.specs.List.{flat_map}
-use Rattle.std.proofs.lemmas.Bool.{cases_Bool, cases_eq, cases_lt, both_ways}
+use Rattle.std.proofs.lemmas.Bool.{cases_eq, cases_lt, both_ways}
 use Rattle.std.proofs.lemmas.List.{length-set, length-map, get_or-map, get_or-set_other, get_or_default, ext_get_or}
 use Rattle.std.proofs.lemmas.List.Concat.{flat_map-cons}
 use Rattle.std.proofs.lemmas.List.Elements.{All-set, All-head, All-tail}
@@ -199,16 +199,15 @@ module _ {V : Type 0} (capacity kind r : ℕ) (in_range : Expectation → V → 
       passed_on = λ p off long. heard_of p off;
     }
 
--- a watch of which that was guessed, where there was room
-pub put_guess : {V : Type 0} (form : Form V) (e : Expectation) (h : Hearing V) (r : ℕ) (old new : Watch) (said : Content) (b : Bool) → (b ≡ true → new ≡ guessing old said) → (b ≡ false → new ≡ old)
-    → old.expect ≡ Some e → IsEchoOf form r e said h → old.guess ≡ None → IsEchoed form r new h
-put_guess {V} form e h r old new said b put none expected echo before e' c eo go = elim (cases_Bool b) [
-  | inl y ↦
-      let is = put y in
-      let d : ◌≡◌ {A = Option Expectation} (Some e) (Some e') = sym expected ∙ sym (ap (λ (w : Watch). w.expect) is) ∙ eo in
-      let f : ◌≡◌ {A = Option Content} (Some said) (Some c) = sym (ap (λ (w : Watch). w.guess) is) ∙ go in
-      let same : e ≡ e' = cc in
-      let that : said ≡ c = cc in
-      subst (λ (x : Expectation). IsEchoOf form r x c h) same (subst (λ (x : Content). IsEchoOf form r e x h) that echo)
-  | inr n ↦ absurd (let f : ◌≡◌ {A = Option Content} (Some c) None = sym go ∙ ap (λ (w : Watch). w.guess) (none n) ∙ before in cc)
-]
+-- a watch of which that was guessed
+pub put_guess : {V : Type 0} (form : Form V) (e : Expectation) (h : Hearing V) (r : ℕ) (old new : Watch) (said : Content) → new ≡ guessing old said → old.expect ≡ Some e → IsEchoOf form r e said h → IsEchoed form r new h
+put_guess {V} form e h r old new said is expected echo e' c eo go =
+    let d : ◌≡◌ {A = Option Expectation} (Some e) (Some e') = sym expected ∙ sym (ap (λ (w : Watch). w.expect) is) ∙ eo in
+    let f : ◌≡◌ {A = Option Content} (Some said) (Some c) = sym (ap (λ (w : Watch). w.guess) is) ∙ go in
+    let same : e ≡ e' = cc in
+    let that : said ≡ c = cc in
+    subst (λ (x : Expectation). IsEchoOf form r x c h) same (subst (λ (x : Content). IsEchoOf form r e x h) that echo)
+
+-- what isn't there is an echo
+pub none_echoed : {V : Type 0} (form : Form V) (h : Hearing V) (r : ℕ) (w : Watch) → w.guess ≡ None → IsEchoed form r w h
+none_echoed form h r w none e c eo go = absurd (let f : ◌≡◌ {A = Option Content} (Some c) None = sym go ∙ none in cc)

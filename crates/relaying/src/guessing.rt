@@ -203,12 +203,13 @@ fn write_guess<V: Item<N>, const N: usize>(
 
 /// Guesses that each member's frame of the open slot says of a path what the node itself passes on
 /// of it; and where the node is on the path, what the last node of it said, as far as that is
-/// known. `bytes` has room for an entry of each path of the members, and is left with any bytes.
+/// known. It is written into the watch's room for it, for which `spare` stands in meanwhile. Where
+/// that is too small, nothing is guessed.
 pub(crate) fn guess_each<V: Item<N>, const N: usize>(
     watch: &mut SlotWatch<N>,
     heard: &Heard<V, N>,
     round: u8,
-    bytes: &mut [u8],
+    spare: &mut Vec<u8>,
 )
     requires nodes { watch.old.nodes ≡ heard.now.nodes }
     requires before { watch.old.arrived ≡ replicate watch.old.nodes nothing }
@@ -216,14 +217,14 @@ pub(crate) fn guess_each<V: Item<N>, const N: usize>(
     requires round { round ≤ heard.now.rounds }
     requires slot { (e : Expectation) × (watch.old.expect ≡ Some e) ×
         IsRoundOf N V.kind V.in_range round heard.now e }
-    requires room { V.width heard.now.nodes * path_count (length heard.now.members) round ≤
-        length bytes.old }
     ensures kept { unguessed watch.new ≡ unguessed watch.old }
     ensures echoed { watch.old.guess ≡ None → IsEchoed V.form round watch.new heard.now }
-    ensures length { length bytes.new ≡ length bytes.old }
 {
     let members = heard.members();
     let size = V::entry_width(heard.nodes()) * count_paths(members.len(), round);
-    write_guess(watch, heard, round, bytes);
-    let _had_room = watch.guess(V::guess_form(), &bytes[..size]);
+    if !watch.lend_room(spare, size) {
+        return;
+    }
+    write_guess(watch, heard, round, spare.as_mut_slice());
+    watch.guess_in(V::guess_form(), spare, size);
 }

@@ -1,10 +1,9 @@
 //! What a node guesses of the relay frames of a round, and what it says itself.
 
 ghost use Rattle.std.specs.Prelude.{ℕ, ◌≡◌, ◌+◌, ◌*◌, ◌<◌, ◌≤◌, length, replicate, true};
-ghost use Rattle.std.specs.Prelude.{vec_capacity, Some, None};
+ghost use Rattle.std.specs.Prelude.{Some, None};
 ghost use Rattle.node_grid.specs.NodeSet.{has_id, without_id};
 ghost use Rattle.std.specs.List.{flat_map};
-ghost use Rattle.omh_paths.specs.Paths.{path_count};
 ghost use Rattle.heard.specs.Passing.{IsAllExpected};
 ghost use Rattle.frames.specs.Content.{Expectation};
 ghost use Rattle.frames.specs.Seen.{expected};
@@ -56,25 +55,14 @@ fn guess_expected<V: Item<N>, const N: usize>(
     let _had_room = watch.guess_runs(V::guess_form(), &runs, &firsts[..runs.count * runs.width]);
 }
 
-/// Makes a buffer at least so long, where it has room for that.
-fn lengthen(bytes: &mut Vec<u8>, size: usize)
-    requires room { size ≤ vec_capacity bytes.old }
-    ensures long { size ≤ length bytes.new.items }
-    ensures room { vec_capacity bytes.old ≤ vec_capacity bytes.new }
-{
-    if bytes.len() < size {
-        let _within_room = bytes.resize(size, 0).is_ok();
-    }
-}
-
 /// Guesses that each member's frame of the open slot says what the node itself passes on, but for
-/// the paths that the member is on. `table` has room for an entry of each path of the members. It
-/// is written only where not all is as expected.
+/// the paths that the member is on. `spare` is any buffer: where not all is as expected, it stands
+/// in for the watch's room while the guess is written there.
 pub fn guess_round<V: Item<N>, const N: usize>(
     watch: &mut SlotWatch<N>,
     heard: &Heard<V, N>,
     round: u8,
-    table: &mut Vec<u8>,
+    spare: &mut Vec<u8>,
 )
     requires nodes { watch.old.nodes ≡ heard.now.nodes }
     requires before { watch.old.arrived ≡ replicate watch.old.nodes nothing }
@@ -82,20 +70,14 @@ pub fn guess_round<V: Item<N>, const N: usize>(
     requires round { round ≤ heard.now.rounds }
     requires slot { (e : Expectation) × (watch.old.expect ≡ Some e) ×
         IsRoundOf N V.kind V.in_range round heard.now e }
-    requires room { V.width heard.now.nodes * path_count (length heard.now.members) round ≤
-        vec_capacity table.old }
     ensures kept { unguessed watch.new ≡ unguessed watch.old }
     ensures echoed { watch.old.guess ≡ None → IsEchoed V.form round watch.new heard.now }
-    ensures room { vec_capacity table.old ≤ vec_capacity table.new }
 {
     if heard.relays_expected(round) {
         guess_expected(watch, heard, round);
         return;
     }
-    let members = heard.members();
-    let size = V::entry_width(heard.nodes()) * count_paths(members.len(), round);
-    lengthen(table, size);
-    guess_each(watch, heard, round, table.as_mut_slice());
+    guess_each(watch, heard, round, spare);
 }
 
 /// Writes what the node itself passes on in a relay round to the front of `out`, as a member among
