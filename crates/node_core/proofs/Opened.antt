@@ -1,12 +1,7 @@
 -- A controller whose next slot was opened.
-use Rattle.std.proofs.Common.{ℕ, ◌≡◌, ◌<◌, ◌≤◌, ◌+◌, ◌*◌, ap, subst, ◌∙◌, arith}
-use Rattle.std.specs.Prelude.{vec_capacity}
-use Rattle.std.proofs.Math.Nat.{mul_comm}
-use Rattle.std.proofs.lemmas.Nat.{mul-le}
+use Rattle.std.proofs.Common.{ℕ, ◌≡◌, ap, ◌∙◌}
 use Rattle.slot_plan.specs.declared.slot.Slot.{Slot}
 use Rattle.slot_plan.specs.Slots.{slot_number, IsSlot}
-use Rattle.omh_paths.specs.Paths.{path_count}
-use Rattle.omh.specs.FlatLaws.{path_count-mono}
 use Rattle.frames.specs.Content.{Expectation}
 use Rattle.error_detect.specs.Watching.{Watch, opened}
 use Rattle.relaying.specs.Guessed.{unguessed}
@@ -46,20 +41,3 @@ module _ {N : ℕ} (n : Inside N) (x : Slot) (e : Expectation) (w u : Watch) (b 
   opened_seen same =
       ap (λ (a : Watch). record (seen n) { phase = record (seen n).phase { slot = slot_number n.config.now.m x }; arrived = a }) (alike ∙ ap unguessed k)
       ∙ ap (λ (f : Expectation). record (seen n) { phase = record (seen n).phase { slot = slot_number n.config.now.m x }; arrived = opened (unguessed n.watch) f }) same
-
-through : (a b c : ℕ) → a ≤ b → b ≤ c → a ≤ c
-through a b c l m = omega (arith, l, m)
-
--- there is room for the table of a round
-module _ {N : ℕ} (nodes m : ℕ) (b : Buffers N) (rooms : HasRooms nodes m b) (some : 0 < nodes) (members r : ℕ) (few : members ≤ nodes) (low : r ≤ m) where
-  pub rows_table : (1 + 2 * nodes) * path_count members r ≤ vec_capacity b.table
-  rows_table =
-      let w : ℕ = 1 + 2 * nodes in
-      let p = path_count-mono members nodes r few in
-      let q : w * path_count nodes r ≤ vec_capacity b.table = subst (λ (z : ℕ). z ≤ vec_capacity b.table) (mul_comm (path_count nodes r) w) (rooms.table r low) in
-      through (w * path_count members r) (w * path_count nodes r) (vec_capacity b.table) (mul-le w (path_count members r) w (path_count nodes r) (omega arith) p) q
-
-  pub claims_table : 2 * path_count members r ≤ vec_capacity b.table
-  claims_table =
-      let w : ℕ = 1 + 2 * nodes in
-      through (2 * path_count members r) (w * path_count members r) (vec_capacity b.table) (mul-le 2 (path_count members r) w (path_count members r) (omega (arith, some)) (omega arith)) rows_table

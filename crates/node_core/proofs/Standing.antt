@@ -84,24 +84,18 @@ frame_given n u from tick bytes e inv = record {
 
 -- ---- rooms
 
--- the buffer of a frame's entries was written, or that of a table
+-- the buffer of a frame's entries was written, or another one stands in for the room of a guess
 pub claims_room : {N : ℕ} (nodes m : ℕ) (b : Buffers N) (v : Vec (Wrapped ℕ) Global) → vec_capacity b.claims ≤ vec_capacity v → HasRooms nodes m b → HasRooms nodes m (record b { claims = v })
 claims_room nodes m b v e h = record {
   claims = λ r l. (let x = h.claims r l in omega (arith, x, e));
   rows = h.rows;
-  table = h.table;
 }
 
 pub rows_room : {N : ℕ} (nodes m : ℕ) (b : Buffers N) (v : Vec (Wrapped (List ℕ)) Global) → vec_capacity b.rows ≤ vec_capacity v → HasRooms nodes m b → HasRooms nodes m (record b { rows = v })
 rows_room nodes m b v e h = record {
   claims = h.claims;
   rows = λ r l. (let x = h.rows r l in omega (arith, x, e));
-  table = h.table;
 }
 
-pub table_room : {N : ℕ} (nodes m : ℕ) (b : Buffers N) (v : Vec ℕ Global) → vec_capacity b.table ≤ vec_capacity v → HasRooms nodes m b → HasRooms nodes m (record b { table = v })
-table_room nodes m b v e h = record {
-  claims = h.claims;
-  rows = h.rows;
-  table = λ r l. (let x = h.table r l in omega (arith, x, e));
-}
+pub spare_room : {N : ℕ} (nodes m : ℕ) (b : Buffers N) (v : Vec ℕ Global) → HasRooms nodes m b → HasRooms nodes m (record b { spare = v })
+spare_room nodes m b v h = record { claims = h.claims; rows = h.rows }

@@ -68,12 +68,13 @@ pub struct Findings<const N: usize> {
     votes: [Option<i64>; 8],
 }
 
-/// Room for the entries of a relay frame, and for the table of a relay round.
+/// Room for the entries of a relay frame, and a buffer that stands in for the watch's room for a
+/// guess while that is written.
 #[derive(Drop)]
 pub struct Buffers<const N: usize> {
     claims: Vec<Wrapped<u8>>,
     rows: Vec<Wrapped<Row<N>>>,
-    table: Vec<u8>,
+    spare: Vec<u8>,
 }
 
 /// What a node knows.

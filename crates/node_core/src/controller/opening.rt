@@ -48,6 +48,15 @@ fn most_entries(nodes: u8, m: u8) -> usize
     most
 }
 
+/// The most bytes that the table of a relay round has among so many nodes, in `m` rounds.
+fn most_bytes(nodes: u8, m: u8) -> usize
+    requires nodes { nodes ≤ 16 }
+    requires rounds { m ≤ 3 }
+    ensures { (r : ℕ) → r ≤ m → path_count nodes r * (1 + 2 * nodes) ≤ result }
+{
+    most_entries(nodes, m) * (1 + 2 * nodes as usize)
+}
+
 /// So many copies of a value.
 pub(crate) fn filled<T: Copy + Drop>(
     alloc: Global,
@@ -64,7 +73,7 @@ pub(crate) fn filled<T: Copy + Drop>(
 }
 
 impl<const N: usize> Buffers<N> {
-    /// Room for the tables of so many nodes, in `m` rounds.
+    /// Room for the entries of frames of so many nodes, in `m` rounds.
     fn open(alloc: Global, nodes: u8, m: u8) -> Result<Buffers<N>, NoMemory>
         requires nodes { nodes ≤ 16 }
         requires rounds { m ≤ 3 }
@@ -77,13 +86,10 @@ impl<const N: usize> Buffers<N> {
         let Ok(rows) = Vec::with_capacity(alloc, most) else {
             return Err(NoMemory);
         };
-        let Ok(table) = Vec::with_capacity(alloc, most * (1 + 2 * nodes as usize)) else {
-            return Err(NoMemory);
-        };
         Ok(Buffers {
             claims,
             rows,
-            table,
+            spare: Vec::new(alloc),
         })
     }
 }
@@ -128,7 +134,7 @@ impl<'c, const N: usize> Controller<'c, N> {
         let done = Heard::open(alloc, config.nodes, config.m)?;
         let rows = Heard::open(alloc, config.nodes, config.m)?;
         let buffers: Buffers<N> = Buffers::open(alloc, config.nodes, config.m)?;
-        let guess_max = buffers.table.capacity();
+        let guess_max = most_bytes(config.nodes, config.m);
         let watch = SlotWatch::open(alloc, config.nodes, me, frame_max, guess_max)?;
         let notes = RowBuilder::new(config.nodes, me, kind_count(config.version));
         Ok(Controller {

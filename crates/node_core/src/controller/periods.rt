@@ -75,10 +75,10 @@ impl<'c, const N: usize> Controller<'c, N> {
         if round == 0 || self.phase.before.is_none() {
             return;
         }
-        let table = &mut self.buffers.table;
+        let spare = &mut self.buffers.spare;
         match slot {
-            Slot::Claims(_) => guess_round(&mut self.watch, &self.done, round, table),
-            Slot::Rows(_) => guess_round(&mut self.watch, &self.rows, round, table),
+            Slot::Claims(_) => guess_round(&mut self.watch, &self.done, round, spare),
+            Slot::Rows(_) => guess_round(&mut self.watch, &self.rows, round, spare),
             Slot::Sync | Slot::Data => {}
         }
     }

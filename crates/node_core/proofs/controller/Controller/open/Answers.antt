@@ -23,6 +23,12 @@ open-requires-3 g c =
     let cap = few_capacity g.row.N c.requires.capacity in
     (lit< tt, (omega (arith, few, cap), few_rounds g.row.N c.args.config.now c.requires.config))
 
+pub most_bytes-guess_max-requires : goal.most_bytes-guess_max-requires
+most_bytes-guess_max-requires g c =
+    let few = c.requires.config.few_nodes in
+    let cap = few_capacity g.row.N c.requires.capacity in
+    record { nodes = omega (arith, few, cap); rounds = few_rounds g.row.N c.args.config.now c.requires.config }
+
 pub new-notes-requires : goal.new-notes-requires
 new-notes-requires g c = (
   elim c.requires.capacity [ inl e ↦ rw e (lit< tt) | inr e ↦ rw e (lit< tt) ],

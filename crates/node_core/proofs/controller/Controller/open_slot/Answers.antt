@@ -1,7 +1,6 @@
 use mathlib.Core.List.{not-mem-nil}
-use Rattle.std.proofs.Common.{ℕ, ◌≡◌, ◌≤◌, ◌<◌, ◌+◌, List, length, Option, Some, arith, refl, inl, inr, lit<, sym, ap, subst, ◌∙◌}
-use Rattle.std.specs.Prelude.{◌*◌, IfSome, replicate, vec_capacity}
-use Rattle.omh_paths.specs.Paths.{path_count}
+use Rattle.std.proofs.Common.{ℕ, ◌≡◌, ◌≤◌, ◌<◌, ◌+◌, Option, Some, arith, refl, inl, inr, lit<, sym, ap, subst, ◌∙◌}
+use Rattle.std.specs.Prelude.{IfSome, replicate}
 use Rattle.protocol.specs.Arrival.{claim_form, row_form}
 use Rattle.slot_plan.specs.declared.slot.Slot.{Slot}
 use Rattle.slot_plan.specs.declared.slot.Slot.TheVariants.{Claims, Rows}
@@ -12,14 +11,14 @@ use Rattle.error_detect.specs.Watching.{Watch, nothing, HasRoom}
 use Rattle.agreed_state.specs.Agreed.{AgreedView}
 use Rattle.relaying.specs.Guessed.{IsEchoed}
 use Rattle.node_steps.specs.Parts.{NodeView}
-use Rattle.node_steps.specs.PremiseLaws.{few_due, few_members, rows_end}
+use Rattle.node_steps.specs.PremiseLaws.{few_due, rows_end}
 use Rattle.node_steps.specs.Sound.{IsTaken, Hears}
 use Rattle.node_steps.specs.Steps.{expected_in, slot_open}
 use Rattle.node_core.specs.Inside.{seen, IsGuessed}
 use Rattle.node_core.proofs.Behind.{config_ok, some_of}
-use Rattle.node_core.proofs.Opened.{moved, opened_kept, opened_seen, claims_table, rows_table}
+use Rattle.node_core.proofs.Opened.{moved, opened_kept, opened_seen}
 use Rattle.node_core.proofs.Rounds.{expected_fits, claims_round, rows_round}
-use Rattle.node_core.proofs.Standing.{no_guess, table_room}
+use Rattle.node_core.proofs.Standing.{no_guess, spare_room}
 use Rattle.node_core.proofs.controller.Controller.open_slot.Goals as goal
 
 pub expectation-expect-requires : goal.expectation-expect-requires
@@ -88,12 +87,7 @@ guess_round-requires g c =
     let number : slot_number n.config.now.m c.args.slot ≡ 1 + r = ap (slot_number n.config.now.m) c.in-Claims.is ∙ ap (λ (q : ℕ). 1 + q) (sym round) in
     let expects = ap (λ (w : Watch). w.expect) k ∙ ap Some (same ∙ ap (expected_in (seen n)) number) in
     let of = claims_round (seen n) a r taken.sizes some.1 hears later low in
-    let three = inv.place.config_is.some_nodes in
-    let nodes_some : 0 < n.config.now.nodes = omega (arith, three) in
-    let members = ap (λ (xs : List ℕ). length xs) hears.members in
-    let few = few_members (seen n) a taken.sizes some.1 in
-    let table = claims_table n.config.now.nodes n.config.now.m n.buffers inv.rooms nodes_some (length n.done.members) r (omega (arith, members, few)) low in
-    (lit< tt, (lit< tt, (nodes, (first, (later, (omega (arith, low, rounds), ((expected_in (seen n) (1 + r), expects, of), table)))))))
+    (lit< tt, (lit< tt, (nodes, (first, (later, (omega (arith, low, rounds), (expected_in (seen n) (1 + r), expects, of)))))))
 
 pub invariant_of-self-in-Claims : goal.invariant_of-self-in-Claims
 invariant_of-self-in-Claims g c =
@@ -104,8 +98,8 @@ invariant_of-self-in-Claims g c =
     let r : ℕ = c.in-Claims.field-0 in
     let slot : IsSlot n.config.now.m c.args.slot = subst (λ (u : NodeView g.row.N). IsSlot u.config.m c.args.slot) (sym is) c.requires.slot in
     let u = c.guess_round.new.watch in
-    let b = record n.buffers { table = c.guess_round.new.table } in
-    let rooms = table_room n.config.now.nodes n.config.now.m n.buffers c.guess_round.new.table c.guess_round.ensures.room inv.rooms in
+    let b = record n.buffers { spare = c.guess_round.new.spare } in
+    let rooms = spare_room n.config.now.nodes n.config.now.m n.buffers c.guess_round.new.spare inv.rooms in
     let echoed = subst (λ (q : ℕ). IsEchoed claim_form q u n.done) (c.round-round.ensures ∙ ap round_of c.in-Claims.is) (c.guess_round.ensures.echoed (ap (λ (w : Watch). w.guess) k)) in
     opened_kept n c.args.slot (expected c.expectation-expect.result) c.open_slot.new.self u b k c.guess_round.ensures.kept inv slot rooms
     (subst (λ (x : Slot). IsGuessed x (moved n c.args.slot u b)) (sym c.in-Claims.is) (λ some. echoed))
@@ -147,13 +141,7 @@ guess_round-requires-in-Rows g c =
     let same : expected c.expectation-expect.result ≡ expected_in (seen n) (slot_number n.config.now.m c.args.slot) = c.expectation-expect.ensures ∙ ap (λ (u : NodeView g.row.N). expected_in u (slot_number u.config.m c.args.slot)) (sym is) in
     let expects = ap (λ (w : Watch). w.expect) k ∙ ap Some (same ∙ ap (expected_in (seen n)) number) in
     let of = rows_round (seen n) a r taken.sizes some.1 hears later low in
-    let three = inv.place.config_is.some_nodes in
-    let nodes_some : 0 < n.config.now.nodes = omega (arith, three) in
-    let members = ap (λ (xs : List ℕ). length xs) hears.members in
-    let few = few_members (seen n) a taken.sizes some.1 in
-    let table = rows_table n.config.now.nodes n.config.now.m n.buffers inv.rooms nodes_some (length n.rows.members) r (omega (arith, members, few)) low in
-    let fits = subst (λ (q : ℕ). (1 + 2 * q) * path_count (length n.rows.members) r ≤ vec_capacity n.buffers.table) (sym taken.sizes.rows.nodes_are) table in
-    (lit< tt, (elim inv.place.capacity [ inl e ↦ rw e (lit< tt) | inr e ↦ rw e (lit< tt) ], (nodes, (first, (later, (omega (arith, low, rounds), ((expected_in (seen n) (n.config.now.m + 3 + r), expects, of), fits)))))))
+    (lit< tt, (elim inv.place.capacity [ inl e ↦ rw e (lit< tt) | inr e ↦ rw e (lit< tt) ], (nodes, (first, (later, (omega (arith, low, rounds), (expected_in (seen n) (n.config.now.m + 3 + r), expects, of)))))))
 
 pub invariant_of-self-in-Rows : goal.invariant_of-self-in-Rows
 invariant_of-self-in-Rows g c =
@@ -163,8 +151,8 @@ invariant_of-self-in-Rows g c =
     let k = c.open_slot.ensures in
     let slot : IsSlot n.config.now.m c.args.slot = subst (λ (u : NodeView g.row.N). IsSlot u.config.m c.args.slot) (sym is) c.requires.slot in
     let u = c.guess_round-in-Rows.new.watch in
-    let b = record n.buffers { table = c.guess_round-in-Rows.new.table } in
-    let rooms = table_room n.config.now.nodes n.config.now.m n.buffers c.guess_round-in-Rows.new.table c.guess_round-in-Rows.ensures.room inv.rooms in
+    let b = record n.buffers { spare = c.guess_round-in-Rows.new.spare } in
+    let rooms = spare_room n.config.now.nodes n.config.now.m n.buffers c.guess_round-in-Rows.new.spare inv.rooms in
     let echoed = subst (λ (q : ℕ). IsEchoed row_form q u n.rows) (c.round-round.ensures ∙ ap round_of c.in-Rows.is) (c.guess_round-in-Rows.ensures.echoed (ap (λ (w : Watch). w.guess) k)) in
     opened_kept n c.args.slot (expected c.expectation-expect.result) c.open_slot.new.self u b k c.guess_round-in-Rows.ensures.kept inv slot rooms
     (subst (λ (x : Slot). IsGuessed x (moved n c.args.slot u b)) (sym c.in-Rows.is) (λ some. echoed))
