@@ -58,6 +58,41 @@ fn take_frame<V: Item<N>, const N: usize>(
     }
 }
 
+/// How many entries are compared at once when they are read: where they are the same, one is read
+/// for all.
+const PIECE: usize = 32;
+
+/// Copies the entries of a relay frame from one place up to another, where those before them are
+/// copied.
+fn copy_piece<V: Item<N>, const N: usize>(
+    cells: &Cells<'_>,
+    nodes: u8,
+    from: usize,
+    until: usize,
+    entries: &mut [Wrapped<V>],
+)
+    requires capacity { IsCapacity N }
+    requires nodes { nodes ≤ N }
+    requires wide { cells.now.width ≡ V.width nodes }
+    requires some { from < until }
+    requires within { until ≤
+        length (entries_of (V.read nodes) (V.width nodes) cells.now.bytes.now) }
+    requires room { length (entries_of (V.read nodes) (V.width nodes) cells.now.bytes.now) ≤
+        length entries.old }
+    requires before { take from entries.old ≡
+        take from (entries_of (V.read nodes) (V.width nodes) cells.now.bytes.now) }
+    ensures copied { take until entries.new ≡
+        take until (entries_of (V.read nodes) (V.width nodes) cells.now.bytes.now) }
+    ensures length { length entries.new ≡ length entries.old }
+{
+    let first = V::at(cells, nodes, from);
+    let alike = V::are_alike(cells, nodes, from, until);
+    for k in from..until {
+        let value = if alike { first } else { V::at(cells, nodes, k) };
+        set_entry(entries, k, value);
+    }
+}
+
 /// Copies the entries of a relay frame to the front of `entries`, and answers how many they are.
 fn copy_entries<V: Item<N>, const N: usize>(
     cells: &Cells<'_>,
@@ -77,10 +112,24 @@ fn copy_entries<V: Item<N>, const N: usize>(
     ensures length { length entries.new ≡ length entries.old }
 {
     let count = cells.len();
-    for k in 0..count {
-        set_entry(entries, k, V::at(cells, nodes, k));
+    let mut from = 0;
+    while from < count {
+        let until = from + (count - from).min(PIECE);
+        copy_piece(cells, nodes, from, until, entries);
+        from = until;
     }
     count
+}
+
+/// Makes a buffer at least so long, where it has room for that.
+fn fill_room<V: Item<N>, const N: usize>(entries: &mut Vec<Wrapped<V>>, count: usize)
+    requires room { count ≤ vec_capacity entries.old }
+    ensures long { count ≤ length entries.new.items }
+    ensures room { vec_capacity entries.old ≤ vec_capacity entries.new }
+{
+    if entries.len() < count {
+        let _within_room = entries.resize(count, Wrapped::Fault(0)).is_ok();
+    }
 }
 
 /// Reads the entries of a relay frame to the front of `entries`, and answers how many they are, or
@@ -88,17 +137,17 @@ fn copy_entries<V: Item<N>, const N: usize>(
 fn read_entries<V: Item<N>, const N: usize>(
     frame: &Option<Frame<'_, N>>,
     nodes: u8,
-    entries: &mut [Wrapped<V>],
+    entries: &mut Vec<Wrapped<V>>,
 ) -> Option<usize>
     requires capacity { IsCapacity N }
     requires nodes { nodes ≤ N }
     requires widths { IfSome frame.now (λ f. HasWidth nodes f.body) }
-    requires room { FitsIn (length entries.old)
+    requires room { FitsIn (vec_capacity entries.old)
         (arrived V.form.relay_in None (option_map (λ f. content nodes f.body) frame.now)) }
     ensures read { arrived V.form.relay_in None (option_map (λ f. content nodes f.body) frame.now) ≡
-        read_out result entries.new }
-    ensures within { IfSome result (λ count. count ≤ length entries.new) }
-    ensures length { length entries.new ≡ length entries.old }
+        read_out result entries.new.items }
+    ensures within { IfSome result (λ count. count ≤ length entries.new.items) }
+    ensures room { vec_capacity entries.old ≤ vec_capacity entries.new }
 {
     let Some(frame) = frame else {
         return None;
@@ -106,7 +155,8 @@ fn read_entries<V: Item<N>, const N: usize>(
     let Some(cells) = cells::<V, N>(&frame.body, nodes) else {
         return None;
     };
-    Some(copy_entries(&cells, nodes, entries))
+    fill_room(entries, cells.len());
+    Some(copy_entries(&cells, nodes, entries.as_mut_slice()))
 }
 
 /// Whether the entries of a relay frame from one place up to another are what a frame is expected
@@ -227,17 +277,6 @@ fn hear_expected<V: Item<N>, const N: usize>(
     take_expected(table, &cells, round, sender)
 }
 
-/// Makes a buffer as long as there is room for, once a frame has to be read.
-fn fill_room<V: Item<N>, const N: usize>(entries: &mut Vec<Wrapped<V>>)
-    ensures long { vec_capacity entries.old ≤ length entries.new.items }
-    ensures room { vec_capacity entries.old ≤ vec_capacity entries.new }
-{
-    let room = entries.capacity();
-    if entries.len() < room {
-        let _within_room = entries.resize(room, Wrapped::Fault(0)).is_ok();
-    }
-}
-
 /// Takes what the relay frame of another member says of items: None where no frame was told.
 fn hear_told<V: Item<N>, const N: usize>(
     table: &mut Heard<V, N>,
@@ -264,8 +303,7 @@ fn hear_told<V: Item<N>, const N: usize>(
     if hear_expected(table, frame, round, sender) {
         return;
     }
-    fill_room(entries);
-    let read = read_entries(frame, nodes, entries.as_mut_slice());
+    let read = read_entries(frame, nodes, entries);
     take_frame(table, sender, round, entries.as_slice(), read);
 }
 
@@ -326,11 +364,13 @@ fn hear_guessed<V: Item<N>, const N: usize>(
     ensures paths { IsByPath table.old }
     ensures room { vec_capacity entries.old ≤ vec_capacity entries.new }
 {
+    // its clause bounds the capacity
+    let _nodes = table.nodes();
     let others = table.members().without(sender);
     if table.hear_echo(sender, round) {
         return;
     }
-    fill_room(entries);
+    fill_room(entries, count_paths(others.len(), round));
     let count = fill_echo(table, entries.as_mut_slice(), &others, round);
     table.hear_frame(sender, round, &entries.as_slice()[..count]);
 }

@@ -4,7 +4,7 @@ use Rattle.node_grid.specs.NodeSet.{has_id, without_id}
 use Rattle.node_grid.specs.Count.{Distinct}
 use Rattle.omh_paths.specs.Paths.{path_count}
 use Rattle.omh_paths.specs.PathLists.{length-without}
-use Rattle.omh_paths.specs.MemberLaws.{member-lt, Distinct-ids}
+use Rattle.omh_paths.specs.MemberLaws.{few_ids, member-lt, Distinct-ids}
 use Rattle.omh.specs.Heard.{Hearing}
 use Rattle.std.specs.Prelude.{All}
 use Rattle.heard.specs.Keep.{IsSmall}
@@ -26,7 +26,8 @@ fill_echo-count-requires g c =
     let d : Distinct t.members = subst Distinct c.members.ensures.members (Distinct-ids g.row.N c.members.result c.members.ensures.ids) in
     let others : c.without-others.result ≡ without_id t.members c.args.sender = c.without-others.ensures ∙ ap (λ (ms : List ℕ). without_id ms c.args.sender) c.members.ensures.members in
     let long : length c.without-others.result ≡ length t.members - 1 = ap length others ∙ length-without t.members c.args.sender d c.requires.sender in
-    (omega arith, (lit< tt, (c.requires.some_round, (omega (arith, c.requires.round, c.members.ensures.rounds), subst (λ (n : ℕ). path_count n r ≤ length c.as_mut_slice.result.now) (sym long) (omega (arith, c.requires.room, c.fill_room.ensures.long, ap length c.as_mut_slice.ensures.value))))))
+    let due : c.count_paths.result ≡ path_count (length t.members - 1) r = c.count_paths.ensures.product ∙ ap (λ (k : ℕ). path_count k r) (c.len.ensures.count ∙ long) in
+    (omega arith, (lit< tt, (c.requires.some_round, (omega (arith, c.requires.round, c.members.ensures.rounds), subst (λ (n : ℕ). path_count n r ≤ length c.as_mut_slice.result.now) (sym long) (omega (arith, due, c.fill_room.ensures.long, ap length c.as_mut_slice.ensures.value))))))
 
 pub hear_frame-requires : goal.hear_frame-requires
 hear_frame-requires g c =
@@ -42,7 +43,8 @@ hear_frame-requires g c =
     let others : c.without-others.result ≡ without_id t.members q = c.without-others.ensures ∙ ap (λ (ms : List ℕ). without_id ms q) c.members.ensures.members in
     let long : length c.without-others.result ≡ length t.members - 1 = ap length others ∙ length-without t.members q d c.requires.sender in
     let count : n ≡ path_count (length t.members - 1) r = c.fill_echo-count.ensures.count ∙ ap (λ (k : ℕ). path_count k r) long in
-    let room : n ≤ length xs = omega (arith, count, c.fill_echo-count.ensures.length, c.requires.room, c.fill_room.ensures.long, ap length c.as_mut_slice.ensures.value) in (
+    let due : c.count_paths.result ≡ path_count (length t.members - 1) r = c.count_paths.ensures.product ∙ ap (λ (k : ℕ). path_count k r) (c.len.ensures.count ∙ long) in
+    let room : n ≤ length xs = omega (arith, count, due, c.fill_echo-count.ensures.length, c.fill_room.ensures.long, ap length c.as_mut_slice.ensures.value) in (
       omega arith,
       (
         ap (λ ys. length (take n ys)) back ∙ subst (λ (h : Hearing g.row.V.Denot). length (take n xs) ≡ path_count (length h.members - 1) r) (sym same) (length-take-le n xs room ∙ count),
@@ -64,7 +66,8 @@ returns-clause-is g c values count says =
     let others : c.without-others.result ≡ without_id t.members q = c.without-others.ensures ∙ ap (λ (ms : List ℕ). without_id ms q) c.members.ensures.members in
     let fewer : length (without_id t.members q) ≡ length t.members - 1 = length-without t.members q d c.requires.sender in
     let k : n ≡ path_count (length t.members - 1) r = c.fill_echo-count.ensures.count ∙ ap (λ (s : List ℕ). path_count (length s) r) others ∙ ap (λ (j : ℕ). path_count j r) fewer in
-    let room : n ≤ length xs = omega (arith, k, c.fill_echo-count.ensures.length, c.requires.room, c.fill_room.ensures.long, ap length c.as_mut_slice.ensures.value) in
+    let due : c.count_paths.result ≡ path_count (length t.members - 1) r = c.count_paths.ensures.product ∙ ap (λ (k : ℕ). path_count k r) (c.len.ensures.count ∙ ap length others ∙ fewer) in
+    let room : n ≤ length xs = omega (arith, k, due, c.fill_echo-count.ensures.length, c.fill_room.ensures.long, ap length c.as_mut_slice.ensures.value) in
     let lx : length (take n xs) ≡ path_count (length (without_id t.members q)) r = length-take-le n xs room ∙ c.fill_echo-count.ensures.count ∙ ap (λ (s : List ℕ). path_count (length s) r) others in
     let ex : SaysEcho t.me r (without_id t.members q) t.heard (take n xs) (length (take n xs)) =
     subst (λ (h : Hearing g.row.V.Denot). SaysEcho h.me r (without_id t.members q) h.heard (take n xs) (length (take n xs))) same
@@ -84,6 +87,23 @@ slice_bounds-hear_frame-end g c =
     let others : c.without-others.result ≡ without_id t.members q = c.without-others.ensures ∙ ap (λ (ms : List ℕ). without_id ms q) c.members.ensures.members in
     let long : length c.without-others.result ≡ length t.members - 1 = ap length others ∙ length-without t.members q d c.requires.sender in
     let count : n ≡ path_count (length t.members - 1) r = c.fill_echo-count.ensures.count ∙ ap (λ (k : ℕ). path_count k r) long in
-    let room : n ≤ length c.as_slice.result.now = omega (arith, count, c.requires.room, c.fill_room.ensures.long, ap length c.as_mut_slice.ensures.value, c.as_slice.ensures.len, c.as_mut_slice.ensures.len) in
+    let due : c.count_paths.result ≡ path_count (length t.members - 1) r = c.count_paths.ensures.product ∙ ap (λ (k : ℕ). path_count k r) (c.len.ensures.count ∙ long) in
+    let room : n ≤ length c.as_slice.result.now = omega (arith, count, due, c.fill_room.ensures.long, ap length c.as_mut_slice.ensures.value, c.as_slice.ensures.len, c.as_mut_slice.ensures.len) in
     let e = length-take-le n c.as_slice.result.now room in
     omega (arith, e, room)
+
+pub count_paths-requires : goal.count_paths-requires
+count_paths-requires g c = record {
+  nodes = omega (arith, c.len.ensures.count, few_ids g.row.N c.without-others.result c.nodes-nodes.ensures.capacity c.len.ensures.ids);
+  short = omega (arith, c.requires.round, c.members.ensures.rounds);
+}
+
+pub fill_room-requires : goal.fill_room-requires
+fill_room-requires g c =
+    let t = c.args.table.now in
+    let r : ℕ = c.args.round in
+    let d : Distinct t.members = subst Distinct c.members.ensures.members (Distinct-ids g.row.N c.members.result c.members.ensures.ids) in
+    let others : c.without-others.result ≡ without_id t.members c.args.sender = c.without-others.ensures ∙ ap (λ (ms : List ℕ). without_id ms c.args.sender) c.members.ensures.members in
+    let long : length c.without-others.result ≡ length t.members - 1 = ap length others ∙ length-without t.members c.args.sender d c.requires.sender in
+    let due : c.count_paths.result ≡ path_count (length t.members - 1) r = c.count_paths.ensures.product ∙ ap (λ (k : ℕ). path_count k r) (c.len.ensures.count ∙ long) in
+    record { room = omega (arith, due, c.requires.room) }

@@ -1,6 +1,5 @@
 use Rattle.std.proofs.Common.{ℕ, List, ◌≡◌, ◌≤◌, ◌-◌, length, sym, ap, subst, ◌∙◌, None, arith}
-use Rattle.std.proofs.lemmas.List.{take_at}
-use Rattle.std.specs.Prelude.{option_map, IfSome}
+use Rattle.std.specs.Prelude.{option_map, IfSome, vec_capacity}
 use Rattle.omh_paths.specs.declared.wrapped.Wrapped.{Wrapped}
 use Rattle.omh.specs.Heard.{Hearing}
 use Rattle.omh_paths.specs.Paths.{path_count}
@@ -24,7 +23,7 @@ read_entries-read-requires g c =
           c.nodes-nodes.ensures.few,
           (
             subst (λ (n : ℕ). IfSome c.args.frame.now (λ f. HasWidth n f.body)) same c.requires.widths,
-            subst (λ (n : ℕ). FitsIn (length c.as_mut_slice.result.now) (arrived g.V.Item.form.relay_in None (option_map (λ f. content n f.body) c.args.frame.now))) same (brought_fits _ _ _ c.requires.brings (omega (arith, c.requires.room, c.fill_room.ensures.long, ap length c.as_mut_slice.ensures.value))),
+            subst (λ (n : ℕ). FitsIn (vec_capacity c.args.entries.now) (arrived g.V.Item.form.relay_in None (option_map (λ f. content n f.body) c.args.frame.now))) same (brought_fits _ _ _ c.requires.brings c.requires.room),
           ),
         ),
       ),
@@ -35,10 +34,10 @@ take_frame-requires g c =
     let r : ℕ = c.args.round in
     let told = λ (n : ℕ). arrived g.V.Item.form.relay_in None (option_map (λ f. content n f.body) c.args.frame.now) in
     let same : ◌≡◌ {A = Hearing g.row.V.Denot} c.hear_expected.new.table c.args.table.now = c.hear_expected.ensures.left c.if-hear_expected.false in
-    let read : told c.args.table.now.nodes ≡ read_out c.read_entries-read.result c.as_slice.result.now = ap told (sym c.nodes-nodes.ensures.nodes) ∙ c.read_entries-read.ensures.read ∙ ap (read_out c.read_entries-read.result) (sym (c.as_slice.ensures.value ∙ take_at c.read_entries-read.new.entries _ _ (c.read_entries-read.ensures.length ∙ c.as_mut_slice.ensures.len))) in (
+    let read : told c.args.table.now.nodes ≡ read_out c.read_entries-read.result c.as_slice.result.now = ap told (sym c.nodes-nodes.ensures.nodes) ∙ c.read_entries-read.ensures.read ∙ ap (read_out c.read_entries-read.result) (sym c.as_slice.ensures.value) in (
       omega arith,
       (
-        subst (λ ys. IfSome c.read_entries-read.result (λ count. count ≤ length ys)) (sym (c.as_slice.ensures.value ∙ take_at c.read_entries-read.new.entries _ _ (c.read_entries-read.ensures.length ∙ c.as_mut_slice.ensures.len))) c.read_entries-read.ensures.within,
+        subst (λ ys. IfSome c.read_entries-read.result (λ count. count ≤ length ys)) (sym c.as_slice.ensures.value) c.read_entries-read.ensures.within,
         subst (λ (h : Hearing g.row.V.Denot). Brings (path_count (length h.members - 1) r) (read_out c.read_entries-read.result c.as_slice.result.now)) (sym same) (subst (Brings _) read c.requires.brings),
       ),
     )
@@ -47,7 +46,7 @@ pub returns-clause-is : goal.returns-clause-is
 returns-clause-is g c =
     let told = λ (n : ℕ). arrived g.V.Item.form.relay_in None (option_map (λ f. content n f.body) c.args.frame.now) in
     let same : ◌≡◌ {A = Hearing g.row.V.Denot} c.hear_expected.new.table c.args.table.now = c.hear_expected.ensures.left c.if-hear_expected.false in
-    let read : told c.args.table.now.nodes ≡ read_out c.read_entries-read.result c.as_slice.result.now = ap told (sym c.nodes-nodes.ensures.nodes) ∙ c.read_entries-read.ensures.read ∙ ap (read_out c.read_entries-read.result) (sym (c.as_slice.ensures.value ∙ take_at c.read_entries-read.new.entries _ _ (c.read_entries-read.ensures.length ∙ c.as_mut_slice.ensures.len))) in
+    let read : told c.args.table.now.nodes ≡ read_out c.read_entries-read.result c.as_slice.result.now = ap told (sym c.nodes-nodes.ensures.nodes) ∙ c.read_entries-read.ensures.read ∙ ap (read_out c.read_entries-read.result) (sym c.as_slice.ensures.value) in
     c.take_frame.ensures.is
     ∙ ap (λ (a : Arrival (List (Wrapped g.row.V.Denot))). with_told c.args.round c.args.sender a c.hear_expected.new.table) (sym read)
     ∙ ap (λ (h : Hearing g.row.V.Denot). with_told c.args.round c.args.sender (told c.args.table.now.nodes) h) same
