@@ -1,4 +1,39 @@
-use crate::{Failed, ReadError, StdSink, StdSource, read_all, write_all};
+use crate::{
+    Failed, MemSink, MemSource, ReadError, Sink, Source, StdSink, StdSource, read_all, write_all,
+};
+use std::alloc::{AllocError, Global};
+
+fn bytes(alloc: Global, text: &[u8]) -> Result<Vec<u8>, AllocError> {
+    let mut bytes = Vec::new(alloc);
+    bytes.extend_from_slice(text)?;
+    Ok(bytes)
+}
+
+fn numbers(alloc: Global, list: &[u64]) -> Result<Vec<u64>, AllocError> {
+    let mut numbers = Vec::new(alloc);
+    numbers.extend_from_slice(list)?;
+    Ok(numbers)
+}
+
+#[test]
+fn a_failing_read_ends_the_input(rt: HostRuntime) {
+    let text = bytes(rt.alloc(), b"maft\n").expect(&rt, "memory");
+    let fails = numbers(rt.alloc(), &[2]).expect(&rt, "memory");
+    let mut source = MemSource::new(text, 2, fails);
+    let read = read_all(rt.alloc(), &mut source, 100);
+    assert!(rt; matches!(read, Err(ReadError::Failed)));
+}
+
+#[test]
+fn a_sink_takes_pieces_up_to_its_room(rt: HostRuntime) {
+    let fails = numbers(rt.alloc(), &[3]).expect(&rt, "memory");
+    let mut sink = MemSink::new(rt.alloc(), 8, 3, fails).expect(&rt, "memory");
+    assert!(rt; write_all(&mut sink, b"end ").is_ok());
+    assert!(rt; write_all(&mut sink, b"1024").is_err());
+    assert!(rt; sink.written() == b"end 102".as_slice());
+    assert!(rt; write_all(&mut sink, b"4\n") == Err(Failed));
+    assert!(rt; sink.written() == b"end 1024".as_slice());
+}
 
 #[test]
 fn readers_and_writers_are_sources_and_sinks(rt: HostRuntime) {
