@@ -5,7 +5,7 @@ use Rattle.node_steps.specs.Parts.{NodeView}
 use Rattle.node_steps.specs.Steps.{frame_of}
 use Rattle.cluster_step.proofs.Shared.{one_known, told_here}
 use Rattle.cluster_step.proofs.delivering.find_common.Goals as goal
-use Rattle.cluster_step.proofs.delivering.find_common.Goals.{then-me-i+then-tells, else-me-i, else-me-i-via-then-me-i+else-tells, else-me-i-via-else-me-i}
+use Rattle.cluster_step.proofs.delivering.find_common.Goals.{then-me-i+then-has+then-tells, else-me-i, else-me-i-via-then-me-i+then-has+else-tells, else-me-i-via-then-me-i+else-has, else-me-i-via-else-me-i}
 
 pub tells-requires : goal.tells-requires
 tells-requires g c = (
@@ -20,7 +20,7 @@ pub loop-i-preserved : goal.loop-i-preserved
 loop-i-preserved g c =
     let frame : ℕ → List ℕ = frame_by (map frame_of c.args.nodes.now) in
     elim c.if-me-i.branch [
-      | then-me-i+then-tells w ↦
+      | then-me-i+then-has+then-tells w ↦
           subst (λ (x : Common). AreGuessedIn x frame) (sym w.common-is)
           (one_known g.row.N c.loop-i.common w.mark.new.self frame c.loop-i.i w.mark.ensures
           (told_here c.args.nodes.now c.loop-i.common c.loop-i.i c.me.result c.index-nodes-i.result c.loop-i-test.true c.index-nodes-i.is c.me.ensures w.if-me-i.true (w.tells.ensures w.if-tells.true)) c.loop-i.invariant)
