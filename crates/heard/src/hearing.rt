@@ -176,9 +176,10 @@ impl<V: Value, const N: usize> Heard<V, N> {
             self.put_root(q, value_at(values, 0));
             return;
         }
+        let own = self.told();
         self.store.lay_later(r, self.doubted.as_mut_slice());
         let frame = self.store.frame(q, r, values);
-        let deviates = self.store.doubt(&frame, self.doubted.as_mut_slice());
+        let deviates = self.store.doubt(&frame, own, self.doubted.as_mut_slice());
         self.any_frame = true;
         if !deviates {
             self.store.take_expected(q, r);
@@ -187,15 +188,23 @@ impl<V: Value, const N: usize> Heard<V, N> {
         self.store.take_cells(&frame);
     }
 
+    /// Whether a value is what the node told of itself. Where it told nothing, any is.
+    fn is_told(&self, value: Wrapped<V>) -> bool {
+        match self.told() {
+            Wrapped::Plain(item) => value == Wrapped::Plain(item),
+            Wrapped::Fault(_) => true,
+        }
+    }
+
     /// Whether a value is what a frame of relay round `r` is expected to say of member `c`: what
-    /// was heard of it itself, wrapped by each relay. Of the node itself all is, and nothing of a
-    /// node that is no member, nor of a round that there isn't.
+    /// was heard of it itself, wrapped by each relay; of the node itself what it told, if anything.
+    /// Nothing is of a node that is no member, nor of a round that there isn't.
     pub fn expects(&self, c: u8, r: u8, value: Wrapped<V>) -> bool
         ensures { result ≡ true → c ≢ self.now.me →
             value ≡ wrapped_times r (heard_in self.now.heard (c ∷ [])) }
     {
         if c == self.store.me() {
-            return true;
+            return self.is_told(value);
         }
         if !self.store.hears(c, r) {
             return false;

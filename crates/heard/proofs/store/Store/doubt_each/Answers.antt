@@ -8,8 +8,8 @@ use Rattle.heard.specs.Places.{small_more}
 use Rattle.heard.proofs.Readings.{base_is_small}
 use Rattle.heard.proofs.Members.{more_more, more_none}
 use Rattle.heard.proofs.FrameBlocks.{block_in, commander_member, commander_block, said_and_it, hit_or_doubted, hit_or_said}
-use Rattle.heard.proofs.store.Store.doubt.Goals.{then-deviates, else-deviates}
-use Rattle.heard.proofs.store.Store.doubt.Goals as goal
+use Rattle.heard.proofs.store.Store.doubt_each.Goals.{then-deviates, else-deviates}
+use Rattle.heard.proofs.store.Store.doubt_each.Goals as goal
 
 pub overflow_mul-from : goal.overflow_mul-from
 overflow_mul-from g c =

@@ -1,6 +1,6 @@
 use Rattle.std.proofs.Common.{ℕ, ◌≡◌, ◌<◌, ◌*◌, [], false}
 use Rattle.heard.specs.Doubts.{IsHitAt, AreSaidUpTo, DoubtsMore}
-use Rattle.heard.proofs.store.Store.doubt.Given as goal
+use Rattle.heard.proofs.store.Store.doubt_each.Given as goal
 
 abbrev pub invariant-loop-i : goal.invariant-loop-i
 invariant-loop-i g l = record {
