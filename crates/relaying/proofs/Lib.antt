@@ -14,7 +14,9 @@ pub mod Filling
 pub mod Together
 pub mod Echoes
 pub mod Ranges
+pub mod Standing
 pub mod Blocks
+pub mod BlockRows
 pub mod Convicting
 pub mod Bodies
 pub mod Framing

@@ -1,5 +1,5 @@
 -- A row of entries that is written as one entry for all nodes, and over it for some of them their own.
-use Rattle.std.proofs.Common.{ℕ, suc, ◌≡◌, ◌≢◌, ◌<◌, ◌≤◌, ◌+◌, ◌*◌, ◌==◌, ◌&&◌, ◌||◌, not, Bool, true, false, if◌then◌else◌, List, [], ◌∷◌, ◌++◌, length, map, take, drop, replicate, refl, sym, ap, ap₂, ◌∙◌, inl, inr, arith, append_assoc, length-append, eqb-true, eq-eqb}
+use Rattle.std.proofs.Common.{ℕ, suc, ◌≡◌, ◌≢◌, ◌<◌, ◌≤◌, ◌+◌, ◌*◌, ◌==◌, ◌&&◌, ◌||◌, not, Bool, true, false, if◌then◌else◌, List, [], ◌∷◌, ◌++◌, length, map, take, drop, refl, sym, ap, ap₂, ◌∙◌, inl, inr, arith, append_assoc, length-append, eqb-true, eq-eqb}
 use Rattle.std.specs.Prelude.{All}
 use Rattle.std.specs.List.{flat_map}
 use Rattle.std.proofs.lemmas.Bool.{cases_Bool, cond-true, cond-false, both_ways, or_left, or_right, and_parts, and_from}
@@ -8,7 +8,7 @@ use Rattle.std.proofs.lemmas.List.Concat.{flat_map-cons}
 use Rattle.std.proofs.lemmas.List.Elements.{All-head, All-tail}
 use Rattle.std.proofs.lemmas.List.Folds.{flat_map-map}
 use Rattle.std.proofs.lemmas.Map.Views.{any-filter_same}
-use Rattle.std.proofs.Math.Nat.{mul-le-mul_left, mul-le-mul_right}
+use Rattle.std.proofs.Math.Nat.{mul-le-mul_left}
 use Rattle.std.proofs.Math.Seq.{drop-append_seam}
 use Rattle.node_grid.specs.NodeSet.{has_id, minus_of, place_of, IsIdSet}
 use Rattle.node_grid.specs.Count.{Distinct}
@@ -157,28 +157,3 @@ module _ {V : Type 0} (w : ℕ) (spell : Wrapped V → List ℕ) (f : ℕ → Wr
         | inr n ↦ cond-false (has_id odd c) (spell (f c)) entry n ∙ alike c on n
       ])
       ∙ sym (flat_map-map spell f s)
-
--- ---- the entry of all nodes that pass on the same
-
-abbrev pub same_entry : {V : Type 0} → ℕ → (Wrapped V → List ℕ) → Wrapped V → List ℕ
-same_entry w spell v = take w (pasted (w * 0) (spell v) (replicate 33 0))
-
--- as it was written to a buffer of its own
-pub entry_written : {V : Type 0} (width : ℕ → ℕ) (spell : ℕ → Wrapped V → List ℕ) (w m n : ℕ) (v u : Wrapped V) (bytes : List ℕ) → m ≡ n → w ≡ width m → v ≡ u → bytes ≡ pasted (width m * 0) (spell m v) (replicate 33 0) → length bytes ≡ 33 → width m ≤ 33
-    → (take w bytes ≡ same_entry (width n) (spell n) u) × (length (take w bytes) ≡ width n)
-entry_written width spell w m n v u bytes nodes wide is written long narrow = (
-  ap₂ (λ (k : ℕ) (t : List ℕ). take k t) wide written ∙ ap₂ (λ (k : ℕ) x. same_entry (width k) (spell k) x) nodes is,
-  length-take-le w bytes (omega (arith, wide, long, narrow)) ∙ wide ∙ ap width nodes,
-)
-
--- so many of them have room
-pub entries_fit : (w from count : ℕ) (entry : List ℕ) (size : ℕ) → length entry ≡ w → w * (from + count) ≤ size → w * from + count * length entry ≤ size
-entries_fit w from count entry size long fits =
-    let e : count * length entry ≡ count * w = ap (λ (n : ℕ). count * n) long in
-    let g : w * (from + count) ≡ w * from + count * w = grind arith in
-    omega (arith, e, g, fits)
-
-pub place_few : (w from count : ℕ) → w ≤ 33 → from + count ≤ 65536 → w * from ≤ 33 * 65536
-place_few w from count narrow few =
-    let a : w * from ≤ 33 * from = mul-le-mul_right from narrow in
-    omega (arith, a, few)

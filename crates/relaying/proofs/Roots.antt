@@ -21,7 +21,7 @@ use Rattle.heard.specs.Places.{row_le}
 use Rattle.heard.specs.Passing.{IsAllExpected}
 use Rattle.relaying.specs.Table.{passed_of, root_of, roots_of}
 use Rattle.relaying.proofs.Tables.{length-passed, length_wide}
-use Rattle.relaying.proofs.Blocks.{block_entry, block_more}
+use Rattle.relaying.proofs.Blocks.{block_entry, block_more, same_expected}
 
 -- one run more at the end
 pub expanded_more : (w t i : ℕ) (entries x : List ℕ) → length entries ≡ w * i → length x ≡ w → expanded w t (suc i) (entries ++ x) ≡ expanded w t i entries ++ repeated t x
@@ -48,7 +48,7 @@ module _ {V : Type 0} (h : Hearing V) (r t width : ℕ) (s : List ℕ) (spell : 
   value i = wrapped_times r (root_of h (get_or s i 0))
 
   entry : (i k : ℕ) → i < length s → i * t ≤ k → k < i * t + t → get_or (passed_of h s r) k (Fault 0) ≡ value i
-  entry i k low above below = block_entry h r k i t s (get_or s i 0) (value i) d within some expected times whole low refl refl above below
+  entry i k low above below = block_entry h r k i t s (get_or s i 0) (value i) d some (same_expected h s (get_or s i 0) r [] within expected some) times whole low refl refl above below
 
   inside : (i : ℕ) → i < length s → i * t + t ≤ length (passed_of h s r)
   inside i low = omega (arith, row_le i (length s) t low, whole, length-passed h s r d)

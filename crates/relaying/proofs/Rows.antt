@@ -1,31 +1,25 @@
 -- What is passed on of the paths that go on from a path with one more node.
-use Rattle.std.proofs.Common.{ℕ, suc, ◌≡◌, ◌≢◌, ◌<◌, ◌≤◌, ◌+◌, ◌-◌, ◌*◌, ◌==◌, ◌||◌, ◌&&◌, ◌⊎◌, not, if◌then◌else◌, Bool, true, false, List, [], ◌∷◌, ◌++◌, length, take, drop, get_or, refl, sym, ap, ap₂, subst, ◌∙◌, inl, inr, arith, eqb-true, eq-eqb}
+use Rattle.std.proofs.Common.{ℕ, suc, ◌≡◌, ◌≢◌, ◌<◌, ◌≤◌, ◌+◌, ◌-◌, ◌*◌, ◌==◌, ◌||◌, ◌&&◌, ◌⊎◌, not, Bool, true, false, List, [], ◌∷◌, ◌++◌, length, take, drop, get_or, refl, sym, ap, ap₂, subst, ◌∙◌, inl, inr, arith, eqb-true, eq-eqb}
 use Rattle.std.specs.Prelude.{All}
-use Rattle.std.specs.List.{flat_map}
-use Rattle.std.proofs.lemmas.Bool.{cases_Bool, cond-true, both_ways, or_cases, or_left, or_right, and_parts, not-true}
+use Rattle.std.proofs.lemmas.Bool.{cases_Bool, cond-true, both_ways, or_cases, or_left, or_right, and_parts, and_from, not-true}
 use Rattle.std.proofs.lemmas.List.{length_push, take-append-le, take_all, ext_get_or, get_or-map, get_or_default, length-map, get_or-drop, get_or-take, length-take-le, length-drop}
-use Rattle.std.proofs.lemmas.List.Elements.{All-take}
 use Rattle.std.proofs.lemmas.Map.Views.{any-filter_same}
-use Rattle.std.proofs.lemmas.Grind.{flat_map-append}
 use Rattle.std.proofs.Math.Nat.{mul-le-mul_left}
-use Rattle.std.proofs.Math.Seq.{take-add, take-append_seam}
-use Rattle.node_grid.specs.NodeSet.{has_id, with_id, without_id}
-use Rattle.node_grid.specs.NodeSetLaws.{passes_where}
+use Rattle.node_grid.specs.NodeSet.{has_id}
 use Rattle.node_grid.specs.Count.{Distinct}
+use Rattle.node_grid.specs.ListLaws.{has_push}
 use Rattle.omh_paths.specs.declared.wrapped.Wrapped.{Wrapped}
 use Rattle.omh_paths.specs.declared.wrapped.Wrapped.TheVariants.{Fault}
 use Rattle.omh_paths.specs.Wrapped.{wrapped}
 use Rattle.omh_paths.specs.Paths.{outside, IsListed, paths_of_length, path_at, path_count}
 use Rattle.omh_paths.specs.PathLists.{IsListed-at, has-without, length-outside, length-paths, path_at-push, path_count-last}
-use Rattle.omh_paths.specs.PathLaws.{Distinct-push, off_longer}
+use Rattle.omh_paths.specs.PathLaws.{Distinct-push}
 use Rattle.omh.specs.Heard.{Hearing, heard_in}
-use Rattle.heard.specs.Keep.{wrapped_times}
-use Rattle.heard.specs.Passing.{IsEchoing, ArePassingOn}
-use Rattle.frames.specs.Writing.{pasted}
-use Rattle.frames.specs.PieceLaws.{pasted_twice}
-use Rattle.relaying.specs.Table.{own_told, passed, passed_of, passed_after, passed_behind, CanWrite, CanWriteRow, IsRepeating, IsRepeatedBy}
+use Rattle.heard.specs.Keep.{first_node, wrapped_times}
+use Rattle.heard.specs.Passing.{IsEchoing}
+use Rattle.relaying.specs.Table.{own_told, passed, passed_of, passed_after, passed_behind, root_of, CanWrite, CanWriteRow, IsRepeatedBy, IsSameBut}
 use Rattle.relaying.proofs.OwnPaths.{on_grown, on_last, within_grown}
-use Rattle.relaying.proofs.Tables.{passed_off, passed_clear, passed_at, length-passed, length_wide}
+use Rattle.relaying.proofs.Tables.{passed_off, passed_clear, passed_at, length-passed}
 
 module _ {V : Type 0} (h : Hearing V) where
   -- ---- who repeats what the node itself passes on
@@ -38,8 +32,10 @@ module _ {V : Type 0} (h : Hearing V) where
       cond-true (has_id path h.me) (wrapped (passed (own_told h) h r (take r path))) (wrapped (heard_in h.heard path)) on
       ∙ ap (λ (p : List ℕ). wrapped (passed (own_told h) h r p)) (take-append-le r front (q ∷ []) (omega (arith, long)) ∙ take_all r front (omega (arith, long)))
 
-  pub repeats : (r q : ℕ) → 0 < r → (q ≢ h.me → IsEchoing h r q) → IsRepeating h r q
-  repeats r q some echoes front l = elim (cases_Bool (has_id (front ++ q ∷ []) h.me)) [
+  -- of a node that says what the node itself passes on
+  pub repeats : (r q : ℕ) (front : List ℕ) → 0 < r → (q ≢ h.me → IsEchoing h r q) → IsListed h.members (r + 1) (front ++ q ∷ [])
+      → passed (own_told h) h (suc r) (front ++ q ∷ []) ≡ wrapped (passed (own_told h) h r front)
+  repeats r q front some echoes l = elim (cases_Bool (has_id (front ++ q ∷ []) h.me)) [
     | inl on ↦ repeats_on r q front long on
     | inr off ↦
         let ne : q ≢ h.me = λ e. both_ways _ off (ap (has_id (front ++ q ∷ [])) (sym e) ∙ on_last front q) in
@@ -58,36 +54,6 @@ module _ {V : Type 0} (h : Hearing V) where
       front_off : (has_id front h.me ≡ true) ⊎ (has_id front h.me ≡ false) → has_id (front ++ q ∷ []) h.me ≡ false → has_id front h.me ≡ false
       front_off (inl on) off = absurd (both_ways _ off (on_grown front q h.me on))
       front_off (inr o) off = o
-
-  pub repeating_all : (N r : ℕ) (echoing same : List ℕ) → 0 < r → same ≡ with_id N echoing h.me → ((q : ℕ) → has_id echoing q ≡ true → IsEchoing h r q) → (q : ℕ) → has_id same q ≡ true → IsRepeating h r q
-  repeating_all N r echoing same some is echoes q on =
-      repeats r q some (λ ne. elim (or_cases (q == h.me) (has_id echoing q) (passes_where (λ k. (k == h.me) || has_id echoing k) N q (ap (λ (s : List ℕ). has_id s q) (sym is) ∙ on))) [
-        | inl me ↦ absurd (ne (eqb-true q h.me me))
-        | inr there ↦ echoes q there
-      ])
-
-  -- ---- who is trusted to pass on what was heard of a path's first node
-
-  pub trusted_repeats : (front nodes : List ℕ) (q c n : ℕ) → Distinct front → c ≡ get_or front 0 0 → n ≡ length front → 0 < n → ArePassingOn h n c nodes → ((x : ℕ) → has_id (drop 1 front) x ≡ true → has_id nodes x ≡ true)
-      → has_id nodes q ≡ true → IsListed h.members (length front + 1) (front ++ q ∷ []) → IsRepeatedBy h front q
-  trusted_repeats [] nodes q c n d first long some passes behind on l = absurd (omega (arith, long, some))
-  trusted_repeats (y ∷ back) nodes q c n d first long some passes behind on l = elim (cases_Bool (has_id (y ∷ back ++ q ∷ []) h.me)) [
-    | inl here ↦ repeats_on (length (y ∷ back)) q (y ∷ back) refl here
-    | inr off ↦
-        let path : List ℕ = y ∷ back ++ q ∷ [] in
-        let root : Wrapped V = heard_in h.heard (y ∷ []) in
-        let passing : ArePassingOn h n y nodes = subst (λ (i : ℕ). ArePassingOn h n i nodes) first passes in
-        let up : length (back ++ q ∷ []) ≡ suc (length back) = omega (arith, length_push back q) in
-        let others : (x : ℕ) → has_id path x ≡ true → has_id (without_id h.members h.me) x ≡ true =
-        λ x in-path. has-without h.members h.me x (λ e. both_ways _ off (ap (has_id path) (sym e) ∙ in-path)) (l.within x in-path) in
-        let before : heard_in h.heard (y ∷ back) ≡ wrapped_times (length back) root =
-        passing back (omega (arith, long)) (record { distinct = d; within = λ x there. others x (on_grown (y ∷ back) q x there); long = omega arith }) behind in
-        let after : heard_in h.heard path ≡ wrapped_times (length (back ++ q ∷ [])) root =
-        passing (back ++ q ∷ []) (omega (arith, long, up)) (record { distinct = l.distinct; within = others; long = omega arith }) (within_grown nodes back q behind on) in
-        passed_off (own_told h) h (length (y ∷ back)) path off
-        ∙ ap wrapped (after ∙ ap (λ (k : ℕ). wrapped_times k root) up ∙ ap wrapped (sym before))
-        ∙ ap wrapped (sym (passed_clear (own_told h) h (length (y ∷ back)) (y ∷ back) (omega arith) (off_longer (y ∷ back) q h.me off).0))
-  ]
 
   -- ---- a row among the entries of a round
 
@@ -127,65 +93,36 @@ module _ {V : Type 0} (h : Hearing V) where
         let here : j < each = omega (arith, below, behind_long) in
         subst P (row_entry j here ∙ get_or_default (passed_behind h front (outside s front)) j (Fault 0) e below) (all (i * each + j) (Fault 0) (omega (arith, here, row_fits, length-passed h s (suc r) d)))
 
-    -- a row more
-    pub more_rows : take (i * each + each) (passed_of h s (suc r)) ≡ take (i * each) (passed_of h s (suc r)) ++ passed_behind h front (outside s front)
-    more_rows =
+    -- these are the entries from its place on
+    pub row_until : take (i * each + each - i * each) (drop (i * each) (passed_of h s (suc r))) ≡ passed_behind h front (outside s front)
+    row_until =
         let xs : List (Wrapped V) = passed_of h s (suc r) in
+        let n : i * each + each - i * each ≡ each = omega arith in
         let left : length (drop (i * each) xs) ≡ length xs - i * each = length-drop (i * each) xs in
         let enough : each ≤ length (drop (i * each) xs) = omega (arith, left, row_fits, length-passed h s (suc r) d) in
         let long : length (take each (drop (i * each) xs)) ≡ each = length-take-le each (drop (i * each) xs) enough in
-        take-add (i * each) each xs
-        ∙ ap (λ (t : List (Wrapped V)). take (i * each) xs ++ t)
-        (ext_get_or (Fault 0) (take each (drop (i * each) xs)) (passed_behind h front (outside s front)) (long ∙ sym behind_long)
-        (λ j below. get_or-take each (drop (i * each) xs) j (Fault 0) (omega (arith, below, long)) ∙ get_or-drop (i * each) xs j (Fault 0) ∙ row_entry j (omega (arith, below, long))))
+        ap (λ (k : ℕ). take k (drop (i * each) xs)) n
+        ∙ ext_get_or (Fault 0) (take each (drop (i * each) xs)) (passed_behind h front (outside s front)) (long ∙ sym behind_long)
+        (λ j below. get_or-take each (drop (i * each) xs) j (Fault 0) (omega (arith, below, long)) ∙ get_or-drop (i * each) xs j (Fault 0) ∙ row_entry j (omega (arith, below, long)))
 
-    -- and it is written
-    pub row_written : (width : ℕ) (spell : Wrapped V → List ℕ) (was now after : List ℕ) → All (λ w. length (spell w) ≡ width) (passed_of h s (suc r)) → width * path_count (length s) (suc r) ≤ length was
-        → now ≡ pasted 0 (flat_map spell (take (i * each) (passed_of h s (suc r)))) was → after ≡ pasted (width * (i * each)) (flat_map spell (passed_behind h front (outside s front))) now
-        → after ≡ pasted 0 (flat_map spell (take (i * each + each) (passed_of h s (suc r)))) was
-    row_written width spell was now after wide room before then' =
-        let xs : List (Wrapped V) = passed_of h s (suc r) in
-        let fits : i * each ≤ length xs = omega (arith, row_fits, length-passed h s (suc r) d) in
-        let written : length (flat_map spell (take (i * each) xs)) ≡ width * (i * each) =
-        length_wide width spell (take (i * each) xs) (All-take (λ w. length (spell w) ≡ width) (i * each) xs wide) ∙ ap (λ (n : ℕ). width * n) (length-take-le (i * each) xs fits) in
-        let new : length (flat_map spell (passed_behind h front (outside s front))) ≡ width * each = length_wide width spell (passed_behind h front (outside s front)) (row_wide (λ w. length (spell w) ≡ width) wide) ∙ ap (λ (n : ℕ). width * n) behind_long in
-        let split : width * (i * each) + width * each ≡ width * (i * each + each) = grind arith in
-        let whole : width * (i * each + each) ≤ width * path_count (length s) (suc r) = mul-le-mul_left width row_fits in
-        then' ∙ ap (pasted (width * (i * each)) (flat_map spell (passed_behind h front (outside s front)))) before
-        ∙ pasted_twice 0 (width * (i * each)) (flat_map spell (take (i * each) xs)) (flat_map spell (passed_behind h front (outside s front))) was (omega (arith, written)) (omega (arith, new, split, whole, room))
-        ∙ ap (λ (t : List ℕ). pasted 0 t was) (sym (ap (flat_map spell) more_rows ∙ flat_map-append spell (take (i * each) xs) (passed_behind h front (outside s front))))
-
--- the nodes behind a path's first one, by their places
-pub all_behind : (path nodes : List ℕ) → ((j : ℕ) → 0 < j → j < length path → has_id nodes (get_or path j 0) ≡ true) → (q : ℕ) → has_id (drop 1 path) q ≡ true → has_id nodes q ≡ true
-all_behind [] nodes each q on = absurd (cc)
-all_behind (x ∷ path) nodes each q on = all_on path nodes (λ j low. each (suc j) (omega arith) (omega arith)) q on
-  where
-    all_on : (xs nodes : List ℕ) → ((j : ℕ) → j < length xs → has_id nodes (get_or xs j 0) ≡ true) → (q : ℕ) → has_id xs q ≡ true → has_id nodes q ≡ true
-    all_on [] nodes each q on = absurd (cc)
-    all_on (x ∷ xs) nodes each q on = elim (or_cases (x == q) (has_id xs q) on) [
-      | inl e ↦ ap (has_id nodes) (sym (eqb-true x q e)) ∙ each 0 (omega arith)
-      | inr later ↦ all_on xs nodes (λ j low. each (suc j) (omega arith)) q later
-    ]
+-- none of a path's nodes is in a set, by their places
+pub all_off : (path nodes : List ℕ) → ((j : ℕ) → j < length path → has_id nodes (get_or path j 0) ≡ false) → (q : ℕ) → has_id path q ≡ true → has_id nodes q ≡ false
+all_off [] nodes each q on = absurd (cc)
+all_off (x ∷ path) nodes each q on = elim (or_cases (x == q) (has_id path q) on) [
+  | inl e ↦ ap (has_id nodes) (sym (eqb-true x q e)) ∙ each 0 (omega arith)
+  | inr later ↦ all_off path nodes (λ j low. each (suc j) (omega arith)) q later
+]
 
 -- ---- an entry of a row
 
-module _ {V : Type 0} (h : Hearing V) (front : List ℕ) (q : ℕ) (before : Wrapped V) (is : before ≡ passed (own_told h) h (length front) front) where
-  -- of a node by which what is passed on of the path before it is repeated
-  pub same_after : IsRepeatedBy h front q → wrapped before ≡ passed_after h front q
-  same_after repeated = ap wrapped is ∙ sym repeated
+-- of a node by which what is passed on of the path before it is repeated
+pub same_after : {V : Type 0} (h : Hearing V) (path : List ℕ) (q : ℕ) (before : Wrapped V) → before ≡ passed (own_told h) h (length path) path → IsRepeatedBy h path q → wrapped before ≡ passed_after h path q
+same_after h path q before is repeated = ap wrapped is ∙ sym repeated
 
-  -- of another one
-  pub next_after : (v : Wrapped V) → v ≡ (if has_id (front ++ q ∷ []) h.me then wrapped before else wrapped (heard_in h.heard (front ++ q ∷ []))) → v ≡ passed_after h front q
-  next_after v e =
-      let path : List ℕ = front ++ q ∷ [] in
-      e ∙ ap (λ (x : Wrapped V). if has_id path h.me then wrapped x else wrapped (heard_in h.heard path))
-      (is ∙ ap (passed (own_told h) h (length front)) (sym (take-append-le (length front) front (q ∷ []) (omega arith) ∙ take_all (length front) front (omega arith))))
-
--- bytes that were pasted to the front of others
-pub front_pasted : (w : ℕ) (bytes old : List ℕ) → length bytes ≡ w → take w (pasted (w * 0) bytes old) ≡ bytes
-front_pasted w bytes old long =
-    let none : w * 0 ≡ 0 = omega arith in
-    ap (λ (n : ℕ). take w (pasted n bytes old)) none ∙ ap (λ (n : ℕ). take n (bytes ++ drop (0 + length bytes) old)) (sym long) ∙ take-append_seam bytes (drop (0 + length bytes) old)
+-- of another one, where the node itself isn't on the path
+pub next_after : {V : Type 0} (h : Hearing V) (path : List ℕ) (q : ℕ) (next : List ℕ) (v : Wrapped V) → next ≡ path ++ q ∷ [] → has_id (path ++ q ∷ []) h.me ≡ false → v ≡ wrapped (heard_in h.heard next) → v ≡ passed_after h path q
+next_after h path q next v is off e =
+    e ∙ ap (λ (p : List ℕ). wrapped (heard_in h.heard p)) is ∙ sym (passed_off (own_told h) h (length path) (path ++ q ∷ []) off)
 
 pub apart : (xs : List ℕ) (q : ℕ) → Distinct (xs ++ q ∷ []) → has_id xs q ≡ false
 apart [] q d = refl
@@ -200,22 +137,57 @@ has_next (x ∷ done) q rest = or_right (x == q) (has_id (done ++ q ∷ rest) q)
 
 -- ---- a row of a round
 
-pub same_front : {V : Type 0} (h : Hearing V) (r : ℕ) (same : List ℕ) (n : ℕ) → n ≡ r → ((q : ℕ) → has_id same q ≡ true → IsRepeating h r q) → (q : ℕ) → has_id same q ≡ true → IsRepeating h n q
-same_front h r same n e repeats q on = subst (λ (k : ℕ). IsRepeating h k q) (sym e) (repeats q on)
+has_outside : (s f : List ℕ) (q : ℕ) → has_id (outside s f) q ≡ (not (has_id f q) && has_id s q)
+has_outside s f q = any-filter_same (λ y. y == q) (λ k. not (has_id f k)) (not (has_id f q)) (λ k e. ap (λ (j : ℕ). not (has_id f j)) (eqb-true k q e)) s
+
+pub in_outside : (s f : List ℕ) (q : ℕ) → has_id s q ≡ true → has_id f q ≡ false → has_id (outside s f) q ≡ true
+in_outside s f q on off = has_outside s f q ∙ and_from _ _ (ap not off) on
+
+-- a path that goes on with one more of the members
+pub grown_listed : (s f : List ℕ) (r : ℕ) → IsListed s r f → (q : ℕ) → has_id (outside s f) q ≡ true → IsListed s (length f + 1) (f ++ q ∷ [])
+grown_listed s f r l q on =
+    let parts = and_parts (not (has_id f q)) (has_id s q) (sym (has_outside s f q) ∙ on) in
+    record {
+      distinct = Distinct-push f q l.distinct (not-true (has_id f q) parts.0);
+      within = within_grown s f q l.within parts.1;
+      long = length_push f q;
+    }
+
+-- ---- a row where what a node told is passed on as it was, but by the odd nodes
+
+first_grown : (path : List ℕ) (q : ℕ) → 0 < length path → first_node (path ++ q ∷ []) ≡ first_node path
+first_grown [] q some = absurd (omega (arith, some))
+first_grown (x ∷ path) q some = refl
+
+module _ {V : Type 0} (h : Hearing V) (s path odd : List ℕ) (same : IsSameBut h s (first_node path) (length path + 1) odd) (l : IsListed s (length path) path) (some : 0 < length path) (apart : (q : ℕ) → has_id path q ≡ true → has_id odd q ≡ false) where
+  abbrev value : Wrapped V
+  value = wrapped_times (length path + 1) (root_of h (first_node path))
+
+  one_more : suc (length path) ≡ length path + 1
+  one_more = omega arith
+
+  -- of a node that isn't odd
+  pub plain_after : (q : ℕ) → has_id (outside s path) q ≡ true → has_id odd q ≡ false → passed_after h path q ≡ value
+  plain_after q on off =
+      let grown : List ℕ = path ++ q ∷ [] in
+      let long : length grown ≡ length path + 1 = length_push path q in
+      ap (λ (n : ℕ). passed (own_told h) h n grown) (one_more ∙ sym long)
+      ∙ same grown (omega (arith, long)) (omega (arith, long)) (subst (λ (n : ℕ). IsListed s n grown) (sym long) (grown_listed s path (length path) l q on)) (first_grown path q some)
+      (λ x here. elim (or_cases (has_id path x) (q == x) (sym (has_push path q x) ∙ here)) [
+        | inl old ↦ apart x old
+        | inr new ↦ ap (has_id odd) (sym (eqb-true q x new)) ∙ off
+      ])
+      ∙ ap (λ (n : ℕ). wrapped_times n (root_of h (first_node path))) long
+
+  -- and of one that repeats what is passed on of the path before it
+  pub repeated_after : (q : ℕ) → IsRepeatedBy h path q → passed_after h path q ≡ value
+  repeated_after q repeated =
+      repeated ∙ ap wrapped (same path some (omega arith) l refl apart) ∙ ap (λ (n : ℕ). wrapped_times n (root_of h (first_node path))) one_more
 
 module _ {V : Type 0} (h : Hearing V) (width : ℕ) (spell : Wrapped V → List ℕ) (s : List ℕ) (r i : ℕ) (size : ℕ) (d : Distinct s) (within : (q : ℕ) → has_id s q ≡ true → has_id h.members q ≡ true)
     (can : CanWrite width spell h s (suc r) size) (some : 0 < r) (few : path_count (length s) (suc r) ≤ 65536) (low : i < path_count (length s) r) where
   row_listed : (f : List ℕ) → IsListed s r f → (q : ℕ) → has_id (outside s f) q ≡ true → IsListed h.members (length f + 1) (f ++ q ∷ [])
-  row_listed f l q on =
-      let parts = and_parts (not (has_id f q)) (has_id s q) (sym (has_outside s f q) ∙ on) in
-      record {
-        distinct = Distinct-push f q l.distinct (not-true (has_id f q) parts.0);
-        within = λ x here. within x (within_grown s f q l.within parts.1 x here);
-        long = length_push f q;
-      }
-    where
-      has_outside : (s f : List ℕ) (q : ℕ) → has_id (outside s f) q ≡ (not (has_id f q) && has_id s q)
-      has_outside s f q = any-filter_same (λ y. y == q) (λ k. not (has_id f k)) (not (has_id f q)) (λ k e. ap (λ (j : ℕ). not (has_id f j)) (eqb-true k q e)) s
+  row_listed f l q on = let g = grown_listed s f r l q on in record { distinct = g.distinct; within = λ x here. within x (g.within x here); long = g.long }
 
   -- there is room for it
   pub row_can : (f rest : List ℕ) (w from : ℕ) → f ≡ front h s r i d low → rest ≡ outside s f → w ≡ each h s r i d low → from ≡ i * w → CanWriteRow width spell h f rest from size

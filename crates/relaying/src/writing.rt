@@ -1,20 +1,20 @@
 //! The entries of a relay round: what is passed on of each path of a set of members.
 
 ghost use Rattle.std.specs.Prelude.{◌≡◌, ◌≢◌, ◌+◌, ◌-◌, ◌*◌, ◌<◌, ◌≤◌, ℕ, List, [], ◌∷◌, ◌++◌};
-ghost use Rattle.std.specs.Prelude.{true, false, length, drop, if◌then◌else◌, All};
+ghost use Rattle.std.specs.Prelude.{true, false, length, slice_index_or, if◌then◌else◌, All};
 ghost use Rattle.std.specs.List.{flat_map};
 ghost use Rattle.node_grid.specs.Capacity.{IsCapacity};
 ghost use Rattle.node_grid.specs.NodeSet.{has_id, IsIdSet};
-ghost use Rattle.omh_paths.specs.Paths.{paths_of_length, path_count, IsListed};
+ghost use Rattle.omh_paths.specs.Paths.{path_count, outside, IsListed};
 ghost use Rattle.omh_paths.specs.Wrapped.{wrapped};
 ghost use Rattle.omh_paths.specs.declared.wrapped.Wrapped.TheVariants.{Fault};
 ghost use Rattle.omh.specs.Heard.{heard_in};
-ghost use Rattle.heard.specs.Keep.{IsSmall, wrapped_times};
-ghost use Rattle.heard.specs.Passing.{IsAllExpected};
-ghost use Rattle.frames.specs.Filling.{repeated};
+ghost use Rattle.heard.specs.Keep.{IsSmall, first_node, wrapped_times};
+ghost use Rattle.heard.specs.Passing.{IsAllExpected, IsEchoing};
 ghost use Rattle.frames.specs.Writing.{pasted};
 ghost use Rattle.relaying.specs.Table.{own_told, passed, passed_of, passed_behind, root_of};
-ghost use Rattle.relaying.specs.Table.{roots_of, CanWrite, CanWriteRow, IsRepeating, IsRepeatedBy};
+ghost use Rattle.relaying.specs.Table.{roots_of, paths_each, passed_from, CanWrite, CanWriteRow};
+ghost use Rattle.relaying.specs.Table.{IsRepeatedBy, IsSameBut, IsFilledWith, Stands, StandsBut};
 
 use crate::item::Item;
 use frames::fill_entries;
@@ -61,17 +61,6 @@ fn passed_on<V: Item<N>, const N: usize>(heard: &Heard<V, N>, path: &Path) -> Wr
     value
 }
 
-/// The nodes of which it is known that they pass on, after so many relays, what the node itself
-/// passes on: itself, and those whose frames say so.
-fn repeating<V: Item<N>, const N: usize>(heard: &Heard<V, N>, relays: u8) -> NodeSet<N>
-    requires round { (0 < relays) × (relays ≤ heard.now.rounds) }
-    ensures { (q : ℕ) → has_id result q ≡ true → IsRepeating heard.now relays q }
-{
-    let mut nodes = heard.echoing(relays);
-    nodes.put(heard.me());
-    nodes
-}
-
 /// Writes bytes from a place on.
 pub(crate) fn paste(out: &mut [u8], at: usize, bytes: &[u8])
     requires { at + length bytes.now ≤ length out.old }
@@ -80,13 +69,12 @@ pub(crate) fn paste(out: &mut [u8], at: usize, bytes: &[u8])
     out[at..at + bytes.len()].copy_from_slice(bytes);
 }
 
-/// Whether all nodes of a path behind its first one are among these.
-fn leads_through<const N: usize>(path: &Path, nodes: &NodeSet<N>) -> bool
-    ensures { result ≡ true → (q : ℕ) → has_id (drop 1 path.now) q ≡ true →
-        has_id nodes.now q ≡ true }
+/// Whether none of these nodes is on a path.
+fn avoids<const N: usize>(path: &Path, nodes: &NodeSet<N>) -> bool
+    ensures { result ≡ true → (q : ℕ) → has_id path.now q ≡ true → has_id nodes.now q ≡ false }
 {
-    for k in 1..path.len() {
-        if !nodes.has(path.at(k)) {
+    for k in 0..path.len() {
+        if nodes.has(path.at(k)) {
             return false;
         }
     }
@@ -94,33 +82,77 @@ fn leads_through<const N: usize>(path: &Path, nodes: &NodeSet<N>) -> bool
 }
 
 /// Those of these nodes of which it isn't known that what is passed on of the path that goes on
-/// from this one with them is what is passed on of this one, wrapped. Of the nodes in `same` it is.
+/// from this one with them is what is passed on of this one, wrapped. It is known where the node
+/// itself is on the path, and of the `echoing` nodes.
 fn odd_behind<V: Item<N>, const N: usize>(
     heard: &Heard<V, N>,
     front: &Path,
     rest: &NodeSet<N>,
-    same: &NodeSet<N>,
+    echoing: &NodeSet<N>,
 ) -> NodeSet<N>
-    requires round { length front.now ≤ heard.now.rounds }
+    requires some { 0 < length front.now }
     requires paths { (q : ℕ) → has_id rest.now q ≡ true →
         IsListed heard.now.members (length front.now + 1) (front.now ++ q ∷ []) }
-    requires same { (q : ℕ) → has_id same.now q ≡ true → IsRepeating heard.now (length front.now) q }
+    requires echoing { (q : ℕ) → has_id echoing.now q ≡ true →
+        IsEchoing heard.now (length front.now) q }
     ensures within { (q : ℕ) → has_id result q ≡ true → has_id rest.now q ≡ true }
+    ensures off { (q : ℕ) → has_id result q ≡ true →
+        has_id (front.now ++ q ∷ []) heard.now.me ≡ false }
     ensures others { (q : ℕ) → has_id rest.now q ≡ true → has_id result q ≡ false →
         IsRepeatedBy heard.now front.now q }
 {
     // its clause bounds the capacity
     let _nodes = heard.nodes();
-    if front.has(heard.me()) {
+    let me = heard.me();
+    if front.has(me) {
         return NodeSet::empty();
     }
-    let odd = rest.minus(same);
-    let relays = front.len();
-    let trusted = heard.trusted(front.at(0), relays);
-    if !leads_through(front, &trusted) {
-        return odd;
+    rest.minus(echoing).without(me)
+}
+
+/// Writes an item as so many entries from entry `from` on.
+fn put_same<V: Item<N>, const N: usize>(
+    out: &mut [u8],
+    nodes: u8,
+    from: usize,
+    count: usize,
+    value: &Wrapped<V>,
+)
+    requires capacity { IsCapacity N }
+    requires some { value.now ≢ Fault 0 }
+    requires nodes { nodes ≤ N }
+    requires small { from ≤ 65536 }
+    requires room { V.width nodes * (from + count) ≤ length out.old }
+    ensures { IsFilledWith (V.width nodes) (V.spelling nodes value.now) from count out.old out.new }
+{
+    let width = V::entry_width(nodes);
+    let mut entry = [0; 33];
+    V::put(&mut entry, nodes, 0, value);
+    fill_entries(out, width * from, &entry[..width], count);
+}
+
+/// Writes what is passed on of the paths that go on from this one with one of the `odd` nodes over
+/// the entries of a row, which stand from entry `from` on: one for each node of `rest`.
+fn write_odd<V: Item<N>, const N: usize>(
+    heard: &Heard<V, N>,
+    front: &Path,
+    rest: &NodeSet<N>,
+    odd: &NodeSet<N>,
+    from: usize,
+    out: &mut [u8],
+)
+    requires can { CanWriteRow (V.width heard.now.nodes) (V.spelling heard.now.nodes)
+        heard.now front.now rest.now from (length out.old) }
+    requires stands { StandsBut (V.width heard.now.nodes) (V.spelling heard.now.nodes)
+        heard.now front.now rest.now odd.now from out.old }
+    ensures { out.new ≡ pasted (V.width heard.now.nodes * from)
+        (flat_map (V.spelling heard.now.nodes) (passed_behind heard.now front.now rest.now)) out.old }
+{
+    let nodes = heard.nodes();
+    for node in odd.iter() {
+        let value = heard.relay(&front.then(node));
+        V::put(out, nodes, from + rest.place(node) as usize, &value);
     }
-    odd.minus(&trusted)
 }
 
 /// Writes what is passed on of the paths that go on from this one with one of these nodes, as
@@ -130,52 +162,55 @@ fn write_row<V: Item<N>, const N: usize>(
     heard: &Heard<V, N>,
     front: &Path,
     rest: &NodeSet<N>,
-    same: &NodeSet<N>,
+    echoing: &NodeSet<N>,
     from: usize,
     out: &mut [u8],
 )
     requires can { CanWriteRow (V.width heard.now.nodes) (V.spelling heard.now.nodes)
         heard.now front.now rest.now from (length out.old) }
-    requires round { length front.now ≤ heard.now.rounds }
-    requires same { (q : ℕ) → has_id same.now q ≡ true → IsRepeating heard.now (length front.now) q }
+    requires echoing { (q : ℕ) → has_id echoing.now q ≡ true →
+        IsEchoing heard.now (length front.now) q }
     ensures { out.new ≡ pasted (V.width heard.now.nodes * from)
         (flat_map (V.spelling heard.now.nodes) (passed_behind heard.now front.now rest.now)) out.old }
 {
-    let nodes = heard.nodes();
-    let width = V::entry_width(nodes);
-    let before = passed_on(heard, front);
-    let mut entry = [0; 33];
-    V::put(&mut entry, nodes, 0, &before.wrap());
-    fill_entries(out, width * from, &entry[..width], rest.len() as usize);
-    let odd = odd_behind(heard, front, rest, same);
-    for node in odd.iter() {
-        let value = passed_next(heard, before, &front.then(node));
-        V::put(out, nodes, from + rest.place(node) as usize, &value);
-    }
+    let value = passed_on(heard, front).wrap();
+    put_same(out, heard.nodes(), from, rest.len() as usize, &value);
+    let odd = odd_behind(heard, front, rest, echoing);
+    write_odd(heard, front, rest, &odd, from, out);
 }
 
-/// Writes what is passed on of the paths of `round` of these members, path by path.
-fn write_each<V: Item<N>, const N: usize>(
+/// Writes what is passed on of the paths that go on from this one with one more of these nodes over
+/// the entries that stand from entry `from` on: those of the paths that avoid the `odd` nodes.
+fn write_over<V: Item<N>, const N: usize>(
     heard: &Heard<V, N>,
     set: &NodeSet<N>,
-    round: u8,
+    front: &Path,
+    echoing: &NodeSet<N>,
+    odd: &NodeSet<N>,
+    from: usize,
     out: &mut [u8],
 )
-    requires within { (q : ℕ) → has_id set.now q ≡ true → has_id heard.now.members q ≡ true }
-    requires round { round ≤ heard.now.rounds }
-    requires relayed { 1 < round }
-    requires can { CanWrite (V.width heard.now.nodes) (V.spelling heard.now.nodes)
-        heard.now set.now round (length out.old) }
-    ensures { out.new ≡ pasted 0
-        (flat_map (V.spelling heard.now.nodes) (passed_of heard.now set.now round)) out.old }
+    requires front { IsListed set.now (length front.now) front.now }
+    requires ids { IsIdSet N set.now }
+    requires odd { (q : ℕ) → has_id odd.now q ≡ true → has_id set.now q ≡ true }
+    requires same { IsSameBut heard.now set.now (first_node front.now) (length front.now + 1) odd.now }
+    requires echoing { (q : ℕ) → has_id echoing.now q ≡ true →
+        IsEchoing heard.now (length front.now) q }
+    requires can { CanWriteRow (V.width heard.now.nodes) (V.spelling heard.now.nodes)
+        heard.now front.now (outside set.now front.now) from (length out.old) }
+    requires stands { Stands (V.width heard.now.nodes) (V.spelling heard.now.nodes
+        (wrapped_times (length front.now + 1) (root_of heard.now (first_node front.now))))
+        from (length (outside set.now front.now)) out.old }
+    ensures { out.new ≡ pasted (V.width heard.now.nodes * from)
+        (flat_map (V.spelling heard.now.nodes)
+        (passed_behind heard.now front.now (outside set.now front.now))) out.old }
 {
-    // its clause bounds the capacity
-    let _nodes = heard.nodes();
-    let same = repeating(heard, round - 1);
-    let each = (set.len() + 1).saturating_sub(round) as usize;
-    for i in 0..count_paths(set.len(), round - 1) {
-        let front = unrank(set, round - 1, i);
-        write_row(heard, &front, &outside(set, &front), &same, i * each, out);
+    let rest = outside(set, front);
+    if avoids(front, odd) {
+        let odd = odd_behind(heard, front, odd, echoing);
+        write_odd(heard, front, &rest, &odd, from, out);
+    } else {
+        write_row(heard, front, &rest, echoing, from, out);
     }
 }
 
@@ -193,29 +228,6 @@ fn root_passed<V: Item<N>, const N: usize>(heard: &Heard<V, N>, c: u8, round: u8
         Wrapped::Plain(item) => Wrapped::Plain(item),
         Wrapped::Fault(wraps) => Wrapped::Fault(wraps + round),
     }
-}
-
-/// Writes an item as so many entries from entry `from` on.
-fn put_same<V: Item<N>, const N: usize>(
-    out: &mut [u8],
-    nodes: u8,
-    from: usize,
-    count: usize,
-    value: &Wrapped<V>,
-)
-    requires capacity { IsCapacity N }
-    requires some { value.now ≢ Fault 0 }
-    requires nodes { nodes ≤ N }
-    requires wide { length (V.spelling nodes value.now) ≡ V.width nodes }
-    requires small { from ≤ 65536 }
-    requires room { V.width nodes * from + V.width nodes * count ≤ length out.old }
-    ensures { out.new ≡ pasted (V.width nodes * from)
-        (repeated count (V.spelling nodes value.now)) out.old }
-{
-    let width = V::entry_width(nodes);
-    let mut entry = [0; 33];
-    V::put(&mut entry, nodes, 0, value);
-    fill_entries(out, width * from, &entry[..width], count);
 }
 
 /// Writes what is passed on of each member's item after so many relays to the front of `out`, where
@@ -256,6 +268,123 @@ pub(crate) fn paths_of_each<const N: usize>(set: &NodeSet<N>, round: u8) -> usiz
     count_paths(set.len().saturating_sub(1), round - 1)
 }
 
+/// The nodes of a set through which what node `c` told of itself may have come changed, in the relays
+/// of the rounds up to this one.
+fn changing<V: Item<N>, const N: usize>(
+    heard: &Heard<V, N>,
+    set: &NodeSet<N>,
+    c: u8,
+    round: u8,
+) -> NodeSet<N>
+    requires low { c < N }
+    requires within { (q : ℕ) → has_id set.now q ≡ true → has_id heard.now.members q ≡ true }
+    requires round { round ≤ heard.now.rounds }
+    ensures same { IsSameBut heard.now set.now c round result }
+    ensures within { (q : ℕ) → has_id result q ≡ true → has_id set.now q ≡ true }
+{
+    // its clause bounds the capacity
+    let _nodes = heard.nodes();
+    let me = heard.me();
+    if c == me {
+        return NodeSet::empty();
+    }
+    let trusted = heard.trusted(c, round.saturating_sub(1));
+    set.minus(&trusted).without(c).without(me)
+}
+
+/// Writes what is passed on of the paths of `round` of these members that begin with the one at
+/// place `i`, row by row, over the entries that stand there: those of the paths that avoid the `odd`
+/// nodes.
+fn write_rows<V: Item<N>, const N: usize>(
+    heard: &Heard<V, N>,
+    set: &NodeSet<N>,
+    round: u8,
+    i: u8,
+    echoing: &NodeSet<N>,
+    odd: &NodeSet<N>,
+    out: &mut [u8],
+)
+    requires member { i < length set.now }
+    requires within { (q : ℕ) → has_id set.now q ≡ true → has_id heard.now.members q ≡ true }
+    requires odd { (q : ℕ) → has_id odd.now q ≡ true → has_id set.now q ≡ true }
+    requires same { IsSameBut heard.now set.now (slice_index_or set.now i 0) round odd.now }
+    requires echoing { (q : ℕ) → has_id echoing.now q ≡ true → IsEchoing heard.now (round - 1) q }
+    requires relayed { 1 < round }
+    requires can { CanWrite (V.width heard.now.nodes) (V.spelling heard.now.nodes)
+        heard.now set.now round (length out.old) }
+    requires stands { Stands (V.width heard.now.nodes) (V.spelling heard.now.nodes
+        (wrapped_times round (root_of heard.now (slice_index_or set.now i 0))))
+        (i * paths_each set.now round) (paths_each set.now round) out.old }
+    ensures { out.new ≡ pasted (V.width heard.now.nodes * (i * paths_each set.now round))
+        (flat_map (V.spelling heard.now.nodes) (passed_from heard.now set.now round i)) out.old }
+{
+    // its clause bounds the capacity
+    let _nodes = heard.nodes();
+    let each = (set.len() + 1).saturating_sub(round) as usize;
+    let rows = paths_of_each(set, round - 1);
+    let first = i as usize * rows;
+    for j in 0..rows {
+        let at = first + j;
+        let front = unrank(set, round - 1, at);
+        write_over(heard, set, &front, echoing, odd, at * each, out);
+    }
+}
+
+/// Writes what is passed on of the paths of `round` of these members that begin with the one at
+/// place `i`, behind the entries of those before it: one entry for all of them, and over it those
+/// of the paths that the `odd` nodes are on.
+fn write_block<V: Item<N>, const N: usize>(
+    heard: &Heard<V, N>,
+    set: &NodeSet<N>,
+    round: u8,
+    i: u8,
+    echoing: &NodeSet<N>,
+    odd: &NodeSet<N>,
+    out: &mut [u8],
+)
+    requires member { i < length set.now }
+    requires within { (q : ℕ) → has_id set.now q ≡ true → has_id heard.now.members q ≡ true }
+    requires odd { (q : ℕ) → has_id odd.now q ≡ true → has_id set.now q ≡ true }
+    requires same { IsSameBut heard.now set.now (slice_index_or set.now i 0) round odd.now }
+    requires echoing { (q : ℕ) → has_id echoing.now q ≡ true → IsEchoing heard.now (round - 1) q }
+    requires relayed { odd.now ≢ [] → 1 < round }
+    requires round { round ≤ heard.now.rounds }
+    requires can { CanWrite (V.width heard.now.nodes) (V.spelling heard.now.nodes)
+        heard.now set.now round (length out.old) }
+    ensures { out.new ≡ pasted (V.width heard.now.nodes * (i * paths_each set.now round))
+        (flat_map (V.spelling heard.now.nodes) (passed_from heard.now set.now round i)) out.old }
+{
+    let nodes = heard.nodes();
+    let width = paths_of_each(set, round);
+    let value = root_passed(heard, set.at(i), round);
+    put_same(out, nodes, i as usize * width, width, &value);
+    if !odd.is_empty() {
+        write_rows(heard, set, round, i, echoing, odd, out);
+    }
+}
+
+/// Writes what is passed on of the paths of `round` of these members, commander by commander.
+fn write_each<V: Item<N>, const N: usize>(
+    heard: &Heard<V, N>,
+    set: &NodeSet<N>,
+    round: u8,
+    out: &mut [u8],
+)
+    requires within { (q : ℕ) → has_id set.now q ≡ true → has_id heard.now.members q ≡ true }
+    requires round { round ≤ heard.now.rounds }
+    requires relayed { 1 < round }
+    requires can { CanWrite (V.width heard.now.nodes) (V.spelling heard.now.nodes)
+        heard.now set.now round (length out.old) }
+    ensures { out.new ≡ pasted 0
+        (flat_map (V.spelling heard.now.nodes) (passed_of heard.now set.now round)) out.old }
+{
+    let echoing = heard.echoing(round - 1);
+    for i in 0..set.len() {
+        let odd = changing(heard, set, set.at(i), round);
+        write_block(heard, set, round, i, &echoing, &odd, out);
+    }
+}
+
 /// Writes what is passed on of the paths of `round` of these members where all of it is as
 /// expected, commander by commander.
 fn write_expected<V: Item<N>, const N: usize>(
@@ -272,14 +401,11 @@ fn write_expected<V: Item<N>, const N: usize>(
     ensures { out.new ≡ pasted 0
         (flat_map (V.spelling heard.now.nodes) (passed_of heard.now set.now round)) out.old }
 {
-    let nodes = heard.nodes();
-    let width = paths_of_each(set, round);
-    if width == 0 {
-        return;
-    }
+    // its clause bounds the capacity
+    let _nodes = heard.nodes();
+    let none = NodeSet::empty();
     for i in 0..set.len() {
-        let value = root_passed(heard, set.at(i), round);
-        put_same(out, nodes, i as usize * width, width, &value);
+        write_block(heard, set, round, i, &none, &none, out);
     }
 }
 

@@ -1,0 +1,116 @@
+use Rattle.std.proofs.Common.{ℕ, List, [], ◌≡◌, ◌≢◌, ◌≤◌, ◌+◌, ◌*◌, length, get_or, sym, ap, subst, ◌∙◌, arith}
+use Rattle.omh_paths.specs.MemberLaws.{Distinct-ids}
+use Rattle.heard.specs.Keep.{wrapped_times}
+use Rattle.heard.specs.Places.{row_le}
+use Rattle.relaying.specs.Table.{root_of, paths_each, CanWrite, IsFilledWith, IsSameBut}
+use Rattle.relaying.proofs.Blocks.{block_room, block_plain, block_over, times_some}
+use Rattle.relaying.proofs.Standing.{stands_filled}
+use Rattle.relaying.proofs.writing.write_block.Goals as goal
+
+pub overflow_mul-i : goal.overflow_mul-i
+overflow_mul-i g c =
+    let e = c.paths_of_each-width.ensures in
+    let a = row_le c.args.i (length c.args.set.now) c.paths_of_each-width.result c.requires.member in
+    omega (arith, a, e.whole, e.small)
+
+pub put_same-requires-clause-some : goal.put_same-requires-clause-some
+put_same-requires-clause-some g c = times_some c.args.round (root_of c.args.heard.now c.at.result) c.root_passed-value.result c.requires.can.some_round c.root_passed-value.ensures
+
+pub put_same-requires-clause-small : goal.put_same-requires-clause-small
+put_same-requires-clause-small g c =
+    let e = c.paths_of_each-width.ensures in
+    let a = row_le c.args.i (length c.args.set.now) c.paths_of_each-width.result c.requires.member in
+    omega (arith, a, e.whole, e.small)
+
+pub put_same-requires-clause-room : goal.put_same-requires-clause-room
+put_same-requires-clause-room g c =
+    let h = c.args.heard.now in
+    let s : List ℕ = c.args.set.now in
+    let w : ℕ = g.V.Item.width h.nodes in
+    let i : ℕ = c.args.i in
+    let size : ℕ = length c.args.out.now in
+    let d = Distinct-ids g.row.N s c.paths_of_each-width.ensures.ids in
+    let room = block_room h w (g.V.Item.spelling h.nodes) s c.args.round size d c.requires.can i c.requires.member in
+    subst (λ (n : ℕ). g.V.Item.width n * (i * c.paths_of_each-width.result + c.paths_of_each-width.result) ≤ size) (sym c.nodes-nodes.ensures.nodes)
+    (subst (λ (k : ℕ). w * (i * k + k) ≤ size) (sym c.paths_of_each-width.ensures.width) room)
+
+pub write_rows-requires : goal.write_rows-requires
+write_rows-requires g c =
+    let h = c.args.heard.now in
+    let s : List ℕ = c.args.set.now in
+    let r : ℕ = c.args.round in
+    let w : ℕ = g.V.Item.width h.nodes in
+    let spell = g.V.Item.spelling h.nodes in
+    let i : ℕ = c.args.i in
+    let was : List ℕ = c.args.out.now in
+    let mid : List ℕ = c.put_same.new.out in
+    let k : ℕ = c.paths_of_each-width.result in
+    let v = c.root_passed-value.result in
+    let d = Distinct-ids g.row.N s c.paths_of_each-width.ensures.ids in
+    let nodes = subst (λ (n : ℕ). IsFilledWith (g.V.Item.width n) (g.V.Item.spelling n v) (i * k) k was mid) c.nodes-nodes.ensures.nodes c.put_same.ensures in
+    let each = subst (λ (n : ℕ). IsFilledWith w (spell v) (i * n) n was mid) c.paths_of_each-width.ensures.width nodes in
+    let filled = subst (λ x. IsFilledWith w (spell x) (i * paths_each s r) (paths_each s r) was mid) (c.root_passed-value.ensures ∙ ap (λ (x : ℕ). wrapped_times r (root_of h x)) c.at.ensures) each in
+    let room = block_room h w spell s r (length was) d c.requires.can i c.requires.member in
+    let stands = stands_filled w (spell (wrapped_times r (root_of h (get_or s i 0)))) (i * paths_each s r) (paths_each s r) was mid filled room in
+    let some : c.args.odd.now ≢ [] = λ e. absurd (let t = sym c.if-not-is_empty.true ∙ c.is_empty.ensures.1 e in cc) in (
+      omega arith,
+      (
+        omega arith,
+        (
+          c.requires.member,
+          (
+            c.requires.within,
+            (
+              c.requires.odd,
+              (
+                c.requires.same,
+                (
+                  c.requires.echoing,
+                  (
+                    c.requires.relayed some,
+                    (subst (CanWrite w spell h s r) (sym c.put_same.auto.out) c.requires.can, stands),
+                  ),
+                ),
+              ),
+            ),
+          ),
+        ),
+      ),
+    )
+
+pub returns-then-not-is_empty : goal.returns-then-not-is_empty
+returns-then-not-is_empty g c =
+    let h = c.args.heard.now in
+    let s : List ℕ = c.args.set.now in
+    let r : ℕ = c.args.round in
+    let w : ℕ = g.V.Item.width h.nodes in
+    let spell = g.V.Item.spelling h.nodes in
+    let i : ℕ = c.args.i in
+    let was : List ℕ = c.args.out.now in
+    let mid : List ℕ = c.put_same.new.out in
+    let k : ℕ = c.paths_of_each-width.result in
+    let v = c.root_passed-value.result in
+    let d = Distinct-ids g.row.N s c.paths_of_each-width.ensures.ids in
+    let nodes = subst (λ (n : ℕ). IsFilledWith (g.V.Item.width n) (g.V.Item.spelling n v) (i * k) k was mid) c.nodes-nodes.ensures.nodes c.put_same.ensures in
+    let filled = subst (λ (n : ℕ). IsFilledWith w (spell v) (i * n) n was mid) c.paths_of_each-width.ensures.width nodes in
+    let room = block_room h w spell s r (length was) d c.requires.can i c.requires.member in
+    block_over h w spell s r (length was) d c.requires.can i (spell v) was mid c.write_rows.new.out c.requires.member room filled c.write_rows.ensures
+
+pub returns-else-not-is_empty : goal.returns-else-not-is_empty
+returns-else-not-is_empty g c =
+    let h = c.args.heard.now in
+    let s : List ℕ = c.args.set.now in
+    let r : ℕ = c.args.round in
+    let w : ℕ = g.V.Item.width h.nodes in
+    let spell = g.V.Item.spelling h.nodes in
+    let i : ℕ = c.args.i in
+    let was : List ℕ = c.args.out.now in
+    let mid : List ℕ = c.put_same.new.out in
+    let k : ℕ = c.paths_of_each-width.result in
+    let v = c.root_passed-value.result in
+    let d = Distinct-ids g.row.N s c.paths_of_each-width.ensures.ids in
+    let nodes = subst (λ (n : ℕ). IsFilledWith (g.V.Item.width n) (g.V.Item.spelling n v) (i * k) k was mid) c.nodes-nodes.ensures.nodes c.put_same.ensures in
+    let each = subst (λ (n : ℕ). IsFilledWith w (spell v) (i * n) n was mid) c.paths_of_each-width.ensures.width nodes in
+    let filled = subst (λ x. IsFilledWith w (spell x) (i * paths_each s r) (paths_each s r) was mid) (c.root_passed-value.ensures ∙ ap (λ (x : ℕ). wrapped_times r (root_of h x)) c.at.ensures) each in
+    let none : c.args.odd.now ≡ [] = c.is_empty.ensures.0 c.if-not-is_empty.false in
+    block_plain h w spell s r (length was) d c.requires.can i was mid c.requires.member (subst (IsSameBut h s (get_or s i 0) r) none c.requires.same) filled
