@@ -1,9 +1,9 @@
 -- The frame of what the node itself passes on.
-use Rattle.std.proofs.Common.{ℕ, zero, suc, ◌≡◌, ◌<◌, ◌+◌, ◌*◌, true, false, List, [], ◌∷◌, ◌++◌, length, map, drop, not, refl, sym, ap, ap₂, subst, ◌∙◌, inl, inr, arith, append_assoc}
+use Rattle.std.proofs.Common.{ℕ, zero, suc, ◌≡◌, ◌<◌, ◌+◌, ◌*◌, true, false, List, [], ◌∷◌, ◌++◌, length, map, not, refl, sym, ap, ap₂, subst, ◌∙◌, inl, inr, arith}
 use Rattle.std.specs.Prelude.{filter}
 use Rattle.std.specs.List.{flat_map}
 use Rattle.std.proofs.lemmas.Bool.{cases_Bool, cond-true, cond-false}
-use Rattle.std.proofs.lemmas.List.{drop-drop, length-append}
+use Rattle.std.proofs.lemmas.List.{append-nil, drop_all}
 use Rattle.node_grid.specs.NodeSet.{has_id, without_id, IsIdSet}
 use Rattle.node_grid.specs.Count.{Distinct}
 use Rattle.omh_paths.specs.declared.wrapped.Wrapped.{Wrapped}
@@ -51,18 +51,17 @@ own_entries {V} h (suc r) some on =
 pub no_entries : {V : Type 0} (h : Hearing V) (r : ℕ) → has_id h.members h.me ≡ false → relays h r ≡ []
 no_entries {V} h r off = ap (map (λ p. wrapped (heard_in h.heard p))) (cond-false (has_id h.members h.me) (paths_avoiding h.members (h.me ∷ []) r) [] off)
 
+-- a write over the whole of a buffer
+pub pasted_whole : (bytes old : List ℕ) → length old ≡ length bytes → pasted 0 bytes old ≡ bytes
+pasted_whole bytes old long = ap (λ (xs : List ℕ). bytes ++ xs) (drop_all (0 + length bytes) old (omega (arith, long))) ∙ append-nil bytes
+
 -- a header and a body that was written behind it are the frame
-pub frame_written : (nodes k size : ℕ) (head : Head) (c : Content) (body old front back : List ℕ) → body_spelling nodes c ≡ body → kind c ≡ k → size ≡ length body
-    → front ≡ header_spelling head k size → back ≡ pasted 0 body (drop 14 old) → front ++ back ≡ pasted 0 (spelling nodes head c) old
-frame_written nodes k size head c body old front back said kinded long is behind =
-    let s : List ℕ = spelling nodes head c in
-    let whole : s ≡ front ++ body =
-    ap₂ (λ n (xs : List ℕ). header_spelling head n (length xs) ++ xs) kinded said ∙ ap (λ (n : ℕ). header_spelling head k n ++ body) (sym long) ∙ ap (λ (xs : List ℕ). xs ++ body) (sym is) in
-    let count : length s ≡ 14 + length body = ap length whole ∙ length-append front body ∙ ap (λ (xs : List ℕ). length xs + length body) is in
-    let there : back ≡ body ++ drop (length body) (drop 14 old) = behind ∙ ap (λ (n : ℕ). body ++ drop n (drop 14 old)) (let z : 0 + length body ≡ length body = omega arith in z) in
-    ap (λ (xs : List ℕ). front ++ xs) (there ∙ ap (λ (xs : List ℕ). body ++ xs) (drop-drop (length body) 14 old ∙ ap (λ (n : ℕ). drop n old) (sym count)))
-    ∙ sym (append_assoc front body (drop (length s) old)) ∙ ap (λ (xs : List ℕ). xs ++ drop (length s) old) (sym whole)
-    ∙ ap (λ (n : ℕ). s ++ drop n old) (let z : length s ≡ 0 + length s = omega arith in z)
+pub frame_written : (nodes k size : ℕ) (head : Head) (c : Content) (body old front back : List ℕ) → body_spelling nodes c ≡ body → kind c ≡ k → size ≡ length body → length old ≡ size
+    → front ≡ header_spelling head k size → back ≡ pasted 0 body old → front ++ back ≡ spelling nodes head c
+frame_written nodes k size head c body old front back said kinded long room is behind =
+    ap₂ (λ (xs ys : List ℕ). xs ++ ys) is (behind ∙ pasted_whole body old (room ∙ long))
+    ∙ ap (λ (n : ℕ). header_spelling head k n ++ body) long
+    ∙ sym (ap₂ (λ n (xs : List ℕ). header_spelling head n (length xs) ++ xs) kinded said)
 
 -- the others, and what is passed on of their paths
 pub record IsOwnPart {V : Type 0} (width : ℕ) (spell : Wrapped V → List ℕ) (h : Hearing V) (r : ℕ) (s : List ℕ) : Type 0 where

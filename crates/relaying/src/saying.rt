@@ -1,6 +1,6 @@
 //! What a node guesses of the relay frames of a round, and what it says itself.
 
-ghost use Rattle.std.specs.Prelude.{ℕ, ◌≡◌, ◌+◌, ◌*◌, ◌<◌, ◌≤◌, length, replicate, true};
+ghost use Rattle.std.specs.Prelude.{ℕ, ◌≡◌, ◌+◌, ◌*◌, ◌<◌, ◌≤◌, length, replicate, true, vec_capacity};
 ghost use Rattle.std.specs.Prelude.{Some, None};
 ghost use Rattle.node_grid.specs.NodeSet.{has_id, without_id};
 ghost use Rattle.std.specs.List.{flat_map};
@@ -110,24 +110,11 @@ fn write_entries<V: Item<N>, const N: usize>(
     write_passed(heard, others, round, out);
 }
 
-/// Writes what the node itself passes on in a relay round to the front of `out`, and answers how
-/// many bytes that is: nothing where it is no member.
-fn write_own<V: Item<N>, const N: usize>(
-    watch: &SlotWatch<N>,
-    heard: &Heard<V, N>,
-    round: u8,
-    out: &mut [u8],
-) -> usize
-    requires nodes { watch.now.nodes ≡ heard.now.nodes }
+/// How many bytes the node itself passes on in a relay round: none where it is no member.
+fn own_size<V: Item<N>, const N: usize>(heard: &Heard<V, N>, round: u8) -> usize
     requires some_round { 0 < round }
     requires round { round ≤ heard.now.rounds }
-    requires slot { (e : Expectation) × (watch.now.expect ≡ Some e) ×
-        IsRoundOf N V.kind V.in_range round heard.now e }
-    requires echoed { IsEchoed V.form round watch.now heard.now }
-    requires room { length (flat_map (V.spelling heard.now.nodes) (relays heard.now round)) ≤
-        length out.old }
-    ensures written { out.new ≡ pasted 0
-        (flat_map (V.spelling heard.now.nodes) (relays heard.now round)) out.old }
+    requires slot { (e : Expectation) × IsRoundOf N V.kind V.in_range round heard.now e }
     ensures size { result ≡ length
         (flat_map (V.spelling heard.now.nodes) (relays heard.now round)) }
     ensures few { result ≤ 33 * 65536 }
@@ -137,20 +124,47 @@ fn write_own<V: Item<N>, const N: usize>(
     if !members.has(me) {
         return 0;
     }
-    let others = members.without(me);
-    write_entries(watch, heard, &others, round, out);
-    V::entry_width(heard.nodes()) * count_paths(others.len(), round)
+    let others = members.without(me).len();
+    V::entry_width(heard.nodes()) * count_paths(others, round)
 }
 
-/// Writes the node's own frame of the relay round to the front of `out`, and answers its length: of
-/// each path of the others what it heard for it, wrapped. `watch` is as [`guess_round`] left it.
+/// Writes what the node itself passes on in a relay round to the front of `out`: nothing where it is
+/// no member.
+fn write_own<V: Item<N>, const N: usize>(
+    watch: &SlotWatch<N>,
+    heard: &Heard<V, N>,
+    round: u8,
+    out: &mut [u8],
+)
+    requires nodes { watch.now.nodes ≡ heard.now.nodes }
+    requires some_round { 0 < round }
+    requires round { round ≤ heard.now.rounds }
+    requires slot { (e : Expectation) × (watch.now.expect ≡ Some e) ×
+        IsRoundOf N V.kind V.in_range round heard.now e }
+    requires echoed { IsEchoed V.form round watch.now heard.now }
+    requires room { length (flat_map (V.spelling heard.now.nodes) (relays heard.now round)) ≤
+        length out.old }
+    ensures { out.new ≡ pasted 0
+        (flat_map (V.spelling heard.now.nodes) (relays heard.now round)) out.old }
+{
+    let members = heard.members();
+    let me = heard.me();
+    if !members.has(me) {
+        return;
+    }
+    let others = members.without(me);
+    write_entries(watch, heard, &others, round, out);
+}
+
+/// Writes the node's own frame of the relay round into `out`, which has room for it: of each path of
+/// the others what it heard for it, wrapped. `watch` is as [`guess_round`] left it.
 pub fn say_round<V: Item<N>, const N: usize>(
     watch: &SlotWatch<N>,
     heard: &Heard<V, N>,
     expect: &Expect<N>,
     round: u8,
-    out: &mut [u8],
-) -> usize
+    out: &mut Vec<u8>,
+)
     requires some_round { 0 < round }
     requires round { round ≤ heard.now.rounds }
     requires nodes { watch.now.nodes ≡ heard.now.nodes }
@@ -158,14 +172,14 @@ pub fn say_round<V: Item<N>, const N: usize>(
     requires slot { IsRoundOf N V.kind V.in_range round heard.now (expected expect.now) }
     requires echoed { IsEchoed V.form round watch.now heard.now }
     requires room { length (spelling heard.now.nodes (head_of (expected expect.now))
-        (V.form.relay (relays heard.now round))) ≤ length out.old }
-    ensures written { out.new ≡ pasted 0 (spelling heard.now.nodes (head_of (expected expect.now))
-        (V.form.relay (relays heard.now round))) out.old }
-    ensures length { result ≡ length (spelling heard.now.nodes (head_of (expected expect.now))
-        (V.form.relay (relays heard.now round))) }
+        (V.form.relay (relays heard.now round))) ≤ vec_capacity out.old }
+    ensures written { out.new.items ≡ spelling heard.now.nodes (head_of (expected expect.now))
+        (V.form.relay (relays heard.now round)) }
+    ensures room { vec_capacity out.old ≤ vec_capacity out.new }
 {
-    let (front, body) = out.split_at_mut(HEADER);
-    let size = write_own(watch, heard, round, body);
+    let size = own_size(heard, round);
+    let _within_room = out.resize(HEADER + size, 0).is_ok();
+    let (front, body) = out.as_mut_slice().split_at_mut(HEADER);
     front.copy_from_slice(&header(expect.head(), V::relay_kind(), size as u32));
-    HEADER + size
+    write_own(watch, heard, round, body);
 }

@@ -1,8 +1,11 @@
-use Rattle.std.proofs.Common.{ℕ, List, ap, ap₂, ◌∙◌}
+use Rattle.std.proofs.Common.{ℕ, ◌≡◌, ◌≤◌, ◌+◌, ◌++◌, List, length, ap, ap₂, ◌∙◌, arith}
+use Rattle.std.specs.Prelude.{is_ok, vec_capacity}
+use Rattle.std.specs.Vec.{vec_len}
 use Rattle.std.specs.List.{flat_map}
+use Rattle.std.proofs.lemmas.Bool.{cond-true}
+use Rattle.std.proofs.lemmas.List.{length-append, with_items_is}
 use Rattle.frames.specs.Seen.{expected}
 use Rattle.frames.specs.Spelling.{header_spelling, head_of}
-use Rattle.frames.specs.Writing.{pasted}
 use Rattle.relaying.specs.Relaying.{relays}
 use Rattle.relaying.proofs.Framing.{frame_written}
 use Rattle.relaying.proofs.saying.say_round.Goals as goal
@@ -12,8 +15,15 @@ returns-clause-written g c =
     let h = c.args.heard.now in
     let rel = relays h c.args.round in
     let body : List ℕ = flat_map (g.V.Item.spelling h.nodes) rel in
-    let size : ℕ = c.write_own-size.result in
-    frame_written h.nodes g.V.Item.kind size (head_of (expected c.args.expect.now)) (g.V.Item.form.relay rel) body c.args.out.now c.copy_from_slice.new.self c.write_own-size.new.out
-    (g.met.V.Item.body h.nodes rel) (g.met.V.Item.kinded rel) c.write_own-size.ensures.size
+    let size : ℕ = c.own_size-size.result in
+    let front : List ℕ = c.copy_from_slice.new.self in
+    let back : List ℕ = c.write_own.new.out in
+    let fits : 14 + size ≤ vec_capacity c.args.out.now = omega (arith, c.requires.room, ap length (g.met.V.Item.body h.nodes rel), c.own_size-size.ensures.size) in
+    let made : vec_len c.resize.new.self ≡ 14 + size = c.resize.ensures.len ∙ cond-true (is_ok c.resize.result) (14 + size) (vec_len c.args.out.now) (c.resize.ensures.succeeds fits) in
+    let room : length c.split_at_mut-front.result.1.now ≡ size = omega (arith, c.split_at_mut-front.ensures.back_len, c.as_mut_slice.ensures.len, made) in
+    let long : length (front ++ back) ≡ vec_len c.resize.new.self = omega (arith, length-append front back, c.copy_from_slice.auto.self, c.write_own.auto.out, c.split_at_mut-front.ensures.front_len, c.split_at_mut-front.ensures.back_len, c.as_mut_slice.ensures.len, made) in
+    with_items_is c.resize.new.self (front ++ back) long
+    ∙ frame_written h.nodes g.V.Item.kind size (head_of (expected c.args.expect.now)) (g.V.Item.form.relay rel) body c.split_at_mut-front.result.1.now front back
+    (g.met.V.Item.body h.nodes rel) (g.met.V.Item.kinded rel) c.own_size-size.ensures.size room
     (c.copy_from_slice.ensures.after ∙ c.header.ensures ∙ ap₂ (λ hd (k : ℕ). header_spelling hd k size) c.head.ensures c.relay_kind.ensures)
-    (c.write_own-size.ensures.written ∙ ap (pasted 0 body) c.split_at_mut-front.ensures.back)
+    c.write_own.ensures
