@@ -31,7 +31,6 @@ use Rattle.calm_period.specs.declared.statement.Statement.{Statement}
 use Rattle.calm_period.specs.Made.{FollowsFrom}
 use Rattle.node_steps.specs.HeardInRange.{nothing_ranged}
 use Rattle.node_steps.specs.Parts.{NodeView, Found}
-use Rattle.node_steps.specs.Sending.{fixed}
 use Rattle.node_steps.specs.Sound.{IsSound}
 use Rattle.node_steps.specs.Stages.{by_verdict}
 use Rattle.node_steps.specs.Steps.{started}
@@ -39,7 +38,6 @@ use Rattle.node_core.specs.declared.controller.Findings.{Findings}
 use Rattle.node_core.specs.declared.controller.Controller.TheInside.{Inside}
 use Rattle.node_core.specs.Inside.{seen, found_of, AreItsNotes, IsController}
 use Rattle.node_core.specs.Passing.{IsStatement, claims_taken}
-use Rattle.node_core.proofs.Buffers.{GoesOn}
 use Rattle.node_core.proofs.KnownClaims.{held}
 use Rattle.node_core.proofs.NotedRows.{noted_by}
 use Rattle.node_core.proofs.Standing.{watch_open}
@@ -169,12 +167,3 @@ module _ {N : ℕ} (n : Inside N) (period : ℕ) (inputs : Inputs) (a : AgreedVi
         found = x;
         arrived = w;
       }
-
--- so it goes on
-pub takes : {N : ℕ} (v w : NodeView N) (period : ℕ) (inputs : Inputs) (a : AgreedView) (claimed : Claimed N) → IsConfig N v.config → All IsValue inputs.reading → IsAgreed N v.config a → FollowsFrom v.config a claimed → IsSound v
-    → w ≡ claims_taken v period inputs a claimed → GoesOn v w
-takes {N} v w period inputs a claimed config readings agreed follows sound e = record {
-  same = ap (λ (u : NodeView N). fixed u) e;
-  sound = sound_taken v w period inputs a claimed e config readings agreed follows sound;
-  is_open = ap (λ (u : NodeView N). u.phase.is_open) e;
-}

@@ -1,4 +1,4 @@
-//! A node's controller: what the node knows, without the frame that lies ready.
+//! A node's controller: what the node knows.
 
 ghost use Rattle.std.specs.Prelude.{◌≡◌, ◌≢◌, ◌<◌, ◌≤◌, ◌-◌, [], true, All, map, length};
 ghost use Rattle.node_grid.specs.Capacity.{IsCapacity};
@@ -28,7 +28,6 @@ use error_reports::RowBuilder;
 use heard::Heard;
 use node_grid::{NodeSet, Row};
 use omh_paths::Wrapped;
-pub(crate) use opening::filled;
 use relaying::{CommonGuess, deliver_whole, is_guessed};
 use slot_plan::Slot;
 use std::marker::Model;

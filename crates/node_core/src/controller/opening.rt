@@ -1,6 +1,6 @@
 //! A node before its first period.
 
-ghost use Rattle.std.specs.Prelude.{◌≡◌, ℕ, ◌*◌, ◌+◌, ◌<◌, ◌≤◌, length, replicate, IfOk, None};
+ghost use Rattle.std.specs.Prelude.{◌≡◌, ℕ, ◌*◌, ◌+◌, ◌<◌, ◌≤◌, IfOk, None};
 ghost use Rattle.node_grid.specs.Capacity.{IsCapacity};
 ghost use Rattle.node_grid.specs.Version.{kind_count};
 ghost use Rattle.omh_paths.specs.declared.wrapped.Wrapped.TheVariants.{Fault};
@@ -21,7 +21,7 @@ use heard::Heard;
 use node_grid::{NoMemory, NodeSet};
 use omh_paths::{Wrapped, count_paths};
 use slot_plan::Slot;
-use std::alloc::{AllocError, Global};
+use std::alloc::Global;
 
 /// How many kinds of error a row of this version has room for.
 fn kind_count(version: u8) -> u8
@@ -55,21 +55,6 @@ fn most_bytes(nodes: u8, m: u8) -> usize
     ensures { (r : ℕ) → r ≤ m → path_count nodes r * (1 + 2 * nodes) ≤ result }
 {
     most_entries(nodes, m) * (1 + 2 * nodes as usize)
-}
-
-/// So many copies of a value.
-pub(crate) fn filled<T: Copy + Drop>(
-    alloc: Global,
-    len: usize,
-    value: T,
-) -> Result<Vec<T>, AllocError>
-    ensures { IfOk result (λ v. v.items ≡ replicate len value) }
-{
-    let mut values = Vec::with_capacity(alloc, len)?;
-    for _ in 0..len {
-        values.push(value)?;
-    }
-    Ok(values)
 }
 
 impl<const N: usize> Buffers<N> {

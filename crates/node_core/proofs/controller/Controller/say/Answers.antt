@@ -1,4 +1,4 @@
-use Rattle.std.proofs.Common.{◌≡◌, inl, inr, lit<, sym, ap, ◌∙◌}
+use Rattle.std.proofs.Common.{◌≡◌, refl, inl, inr, lit<, sym, ap, ◌∙◌}
 use Rattle.frames.specs.Content.Content.{Cold}
 use Rattle.node_steps.specs.Parts.{NodeView}
 use Rattle.node_steps.specs.Ready.{IsFullWith}
@@ -28,6 +28,6 @@ write-requires g c =
       elim inv.place.capacity [ inl e ↦ rw e (lit< tt) | inr e ↦ rw e (lit< tt) ],
       (
         elim inv.place.capacity [ inl e ↦ rw e (lit< tt) | inr e ↦ rw e (lit< tt) ],
-        (c.requires.ready, (c.head.ensures, (tt, cold))),
+        (c.requires.ready, (c.head.ensures, (tt, (cold, refl)))),
       ),
     )

@@ -1,6 +1,6 @@
-use Rattle.std.proofs.Common.{◌≡◌, ◌<◌, ◌≤◌, ◌+◌, ℕ, List, length, arith, inl, inr, lit<, sym, ap, subst, ◌∙◌}
+use Rattle.std.proofs.Common.{◌≡◌, ◌<◌, ◌≤◌, ◌+◌, ℕ, List, length, arith, inl, inr, lit<, refl, sym, ap, subst, ◌∙◌}
+use Rattle.std.specs.Prelude.{vec_capacity}
 use Rattle.frames.specs.Content.Content.{Done0}
-use Rattle.frames.specs.Writing.{pasted}
 use Rattle.protocol.specs.View.{own_claim}
 use Rattle.node_steps.specs.Parts.{NodeView}
 use Rattle.node_steps.specs.PremiseLaws.{few_due}
@@ -24,7 +24,7 @@ write-requires g c =
       elim c.self.invariant.place.capacity [ inl e ↦ rw e (lit< tt) | inr e ↦ rw e (lit< tt) ],
       (
         elim c.self.invariant.place.capacity [ inl e ↦ rw e (lit< tt) | inr e ↦ rw e (lit< tt) ],
-        (c.requires.ready, (c.head.ensures, (tt, says_claim v c.args.agreed.now c.requires.own at ∙ sym (ap Done0 claim)))),
+        (c.requires.ready, (c.head.ensures, (tt, (says_claim v c.args.agreed.now c.requires.own at ∙ sym (ap Done0 claim), refl)))),
       ),
     )
 
@@ -42,23 +42,16 @@ say_round-requires g c =
     let rounds : n.done.rounds ≡ v.config.m = ap (λ (w : NodeView g.row.N). w.done.rounds) is ∙ s.sizes.done.rounds_are in
     let asked = claims_asked_now n v is c.args.agreed.now c.requires.own s.sizes (s.in_slot c.requires.ready.is_open) _ c.args.round some low c.requires.slot c.expectation-expect.ensures in
     let frame = claims_frame n v is c.args.agreed.now c.requires.own s.sizes (s.in_slot c.requires.ready.is_open) _ c.args.round some low c.requires.slot c.expectation-expect.ensures in
-    let room = inside_fits n v (length c.args.out.now) c.self.invariant is c.requires.ready in
+    let room = inside_fits n v (vec_capacity c.args.out.now) c.self.invariant is c.requires.ready in
     let here = s.in_slot c.requires.ready.is_open in
     let nodes = claims_nodes n c.self.invariant v is here c.requires.ready.is_open s.sizes in
     let expects = expects_now n c.self.invariant v is here c.requires.ready.is_open _ (1 + c.args.round) c.requires.slot c.expectation-expect.ensures in
     let echoed = claims_echoed_now n c.self.invariant v is here c.requires.ready.is_open c.args.round some low c.requires.slot in
-    (lit< tt, (lit< tt, (lit< tt, (some, (omega (arith, low, rounds), (nodes, (expects, (asked, (echoed, subst (λ (bytes : List ℕ). length bytes ≤ length c.args.out.now) (sym frame) room)))))))))
+    (lit< tt, (lit< tt, (lit< tt, (some, (omega (arith, low, rounds), (nodes, (expects, (asked, (echoed, subst (λ (bytes : List ℕ). length bytes ≤ vec_capacity c.args.out.now) (sym frame) room)))))))))
 
 pub returns-clause-written : goal.returns-clause-written
 returns-clause-written g c =
     let s = c.requires.ready.sound in
     let some : 0 < c.args.round = (let z = c.if-round-eq0.false in omega (arith, z)) in
-    c.say_round.ensures.written ∙ ap (λ (bytes : List ℕ). pasted 0 bytes c.args.out.now)
-    (claims_frame c.self.inside c.args.self.now c.self.view_is c.args.agreed.now c.requires.own s.sizes (s.in_slot c.requires.ready.is_open) _ c.args.round some c.requires.round c.requires.slot c.expectation-expect.ensures)
-
-pub returns-clause-length : goal.returns-clause-length
-returns-clause-length g c =
-    let s = c.requires.ready.sound in
-    let some : 0 < c.args.round = (let z = c.if-round-eq0.false in omega (arith, z)) in
-    c.say_round.ensures.length ∙ ap (λ (bytes : List ℕ). length bytes)
-    (claims_frame c.self.inside c.args.self.now c.self.view_is c.args.agreed.now c.requires.own s.sizes (s.in_slot c.requires.ready.is_open) _ c.args.round some c.requires.round c.requires.slot c.expectation-expect.ensures)
+    c.say_round.ensures.written
+    ∙ claims_frame c.self.inside c.args.self.now c.self.view_is c.args.agreed.now c.requires.own s.sizes (s.in_slot c.requires.ready.is_open) _ c.args.round some c.requires.round c.requires.slot c.expectation-expect.ensures

@@ -1,6 +1,8 @@
-use Rattle.std.proofs.Common.{◌≡◌, ◌<◌, ◌≤◌, ◌+◌, ℕ, List, length, arith, inl, inr, lit<, sym, ap, subst, ◌∙◌}
+use Rattle.std.proofs.Common.{◌≡◌, ◌<◌, ◌≤◌, ◌+◌, ◌*◌, ℕ, List, length, arith, inl, inr, lit<, sym, ap, subst, ◌∙◌}
+use Rattle.std.specs.Prelude.{vec_capacity}
 use Rattle.frames.specs.Content.Content.{Report0}
-use Rattle.frames.specs.Writing.{pasted}
+use Rattle.frames.specs.EntryLaws.{row_long}
+use Rattle.frames.specs.Spelling.{row_spelling}
 use Rattle.node_steps.specs.Parts.{NodeView}
 use Rattle.node_steps.specs.PremiseLaws.{few_due}
 use Rattle.node_core.proofs.Behind.{config_ok}
@@ -16,11 +18,12 @@ pub write-requires : goal.write-requires
 write-requires g c =
     let v = c.args.self.now in
     let at : v.phase.slot ≡ v.config.m + 3 = (let s = c.requires.slot in let z = c.if-round-eq0.true in omega (arith, s, z)) in
-    let row = c.row.ensures ∙ ap (λ (w : NodeView g.row.N). w.found.notes) c.self.view_is in (
+    let row = c.row.ensures ∙ ap (λ (w : NodeView g.row.N). w.found.notes) c.self.view_is in
+    let size = ap (λ (w : NodeView g.row.N). 2 * w.config.nodes) c.self.view_is ∙ sym (ap (λ (masks : List ℕ). length (row_spelling v.config.nodes masks)) row ∙ row_long v.config.version g.row.N v.config.nodes v.found.notes c.requires.ready.sound.sizes.found.notes) in (
       elim c.self.invariant.place.capacity [ inl e ↦ rw e (lit< tt) | inr e ↦ rw e (lit< tt) ],
       (
         elim c.self.invariant.place.capacity [ inl e ↦ rw e (lit< tt) | inr e ↦ rw e (lit< tt) ],
-        (c.requires.ready, (c.head.ensures, (tt, says_row v c.args.agreed.now c.requires.own at ∙ sym (ap Report0 row)))),
+        (c.requires.ready, (c.head.ensures, (tt, (says_row v c.args.agreed.now c.requires.own at ∙ sym (ap Report0 row), size)))),
       ),
     )
 
@@ -50,23 +53,16 @@ say_round-requires g c =
     let rounds : n.rows.rounds ≡ v.config.m = ap (λ (w : NodeView g.row.N). w.rows.rounds) is ∙ s.sizes.rows.rounds_are in
     let asked = rows_asked_now n v is c.args.agreed.now c.requires.own s.sizes (s.in_slot c.requires.ready.is_open) _ c.args.round some low c.requires.slot c.expectation-expect.ensures in
     let frame = rows_frame n v is c.args.agreed.now c.requires.own s.sizes (s.in_slot c.requires.ready.is_open) _ c.args.round some c.requires.slot c.expectation-expect.ensures in
-    let room = inside_fits n v (length c.args.out.now) c.self.invariant is c.requires.ready in
+    let room = inside_fits n v (vec_capacity c.args.out.now) c.self.invariant is c.requires.ready in
     let here = s.in_slot c.requires.ready.is_open in
     let nodes = rows_nodes n c.self.invariant v is here c.requires.ready.is_open s.sizes in
     let expects = expects_now n c.self.invariant v is here c.requires.ready.is_open _ (v.config.m + 3 + c.args.round) c.requires.slot c.expectation-expect.ensures in
     let echoed = rows_echoed_now n c.self.invariant v is here c.requires.ready.is_open c.args.round some c.requires.slot in
-    (lit< tt, (elim c.self.invariant.place.capacity [ inl e ↦ rw e (lit< tt) | inr e ↦ rw e (lit< tt) ], (lit< tt, (some, (omega (arith, low, rounds), (nodes, (expects, (asked, (echoed, subst (λ (bytes : List ℕ). length bytes ≤ length c.args.out.now) (sym frame) room)))))))))
+    (lit< tt, (elim c.self.invariant.place.capacity [ inl e ↦ rw e (lit< tt) | inr e ↦ rw e (lit< tt) ], (lit< tt, (some, (omega (arith, low, rounds), (nodes, (expects, (asked, (echoed, subst (λ (bytes : List ℕ). length bytes ≤ vec_capacity c.args.out.now) (sym frame) room)))))))))
 
 pub returns-clause-written : goal.returns-clause-written
 returns-clause-written g c =
     let s = c.requires.ready.sound in
     let some : 0 < c.args.round = (let z = c.if-round-eq0.false in omega (arith, z)) in
-    c.say_round.ensures.written ∙ ap (λ (bytes : List ℕ). pasted 0 bytes c.args.out.now)
-    (rows_frame c.self.inside c.args.self.now c.self.view_is c.args.agreed.now c.requires.own s.sizes (s.in_slot c.requires.ready.is_open) _ c.args.round some c.requires.slot c.expectation-expect.ensures)
-
-pub returns-clause-length : goal.returns-clause-length
-returns-clause-length g c =
-    let s = c.requires.ready.sound in
-    let some : 0 < c.args.round = (let z = c.if-round-eq0.false in omega (arith, z)) in
-    c.say_round.ensures.length ∙ ap (λ (bytes : List ℕ). length bytes)
-    (rows_frame c.self.inside c.args.self.now c.self.view_is c.args.agreed.now c.requires.own s.sizes (s.in_slot c.requires.ready.is_open) _ c.args.round some c.requires.slot c.expectation-expect.ensures)
+    c.say_round.ensures.written
+    ∙ rows_frame c.self.inside c.args.self.now c.self.view_is c.args.agreed.now c.requires.own s.sizes (s.in_slot c.requires.ready.is_open) _ c.args.round some c.requires.slot c.expectation-expect.ensures

@@ -1,4 +1,4 @@
-use Rattle.std.proofs.Common.{inl, inr, lit<, sym, ap, subst, ◌∙◌}
+use Rattle.std.proofs.Common.{inl, inr, lit<, refl, sym, ap, subst, ◌∙◌}
 use Rattle.frames.specs.Content.Content.{State}
 use Rattle.agreed_state.specs.Agreed.{IsAgreed}
 use Rattle.agreed_state.specs.Body.{body}
@@ -18,10 +18,10 @@ pub write-requires : goal.write-requires
 write-requires g c =
     let inv = c.self.invariant in
     let v = c.args.self.now in
-    let state = c.as_slice.ensures.value ∙ c.body-state.ensures.bytes ∙ ap (λ (w : NodeView g.row.N). body w.config c.args.agreed.now) c.self.view_is in (
+    let state = c.as_slice-bytes.ensures.value ∙ c.body-state.ensures.bytes ∙ ap (λ (w : NodeView g.row.N). body w.config c.args.agreed.now) c.self.view_is in (
       elim inv.place.capacity [ inl e ↦ rw e (lit< tt) | inr e ↦ rw e (lit< tt) ],
       (
         elim inv.place.capacity [ inl e ↦ rw e (lit< tt) | inr e ↦ rw e (lit< tt) ],
-        (c.requires.ready, (c.head.ensures, (tt, says_state v c.args.agreed.now c.requires.own c.requires.slot ∙ sym (ap State state)))),
+        (c.requires.ready, (c.head.ensures, (tt, (says_state v c.args.agreed.now c.requires.own c.requires.slot ∙ sym (ap State state), refl)))),
       ),
     )

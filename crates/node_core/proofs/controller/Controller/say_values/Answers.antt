@@ -1,15 +1,17 @@
-use Rattle.std.proofs.Common.{◌≡◌, ◌≤◌, ◌*◌, ◌%◌, ℕ, List, length, map, take, arith, inl, inr, lit<, sym, ap, subst, ◌∙◌}
+use Rattle.std.proofs.Common.{◌≡◌, ◌≤◌, ◌*◌, ◌%◌, ℕ, List, ℤ, length, map, take, arith, inl, inr, lit<, sym, ap, subst, ◌∙◌}
 use Rattle.std.proofs.Math.Nat.{mul-mod_right}
+use Rattle.std.specs.List.{flat_map}
 use Rattle.std.proofs.lemmas.List.{length-take-le}
 use Rattle.node_grid.specs.NodeSet.{IsIdSet}
 use Rattle.node_grid.specs.NodeSetLaws.{All-ids, length-ids}
 use Rattle.frames.specs.Content.{IsValue}
 use Rattle.frames.specs.Content.Content.{Data}
 use Rattle.frames.specs.Reading.{values_in}
+use Rattle.frames.specs.Spelling.{value_spelling}
 use Rattle.protocol.specs.View.{own_in}
 use Rattle.node_steps.specs.Parts.{NodeView}
 use Rattle.node_core.proofs.Behind.{config_ok}
-use Rattle.node_core.proofs.Spelt.{says_values, values_kept}
+use Rattle.node_core.proofs.Spelt.{says_values, values_kept, values_long}
 use Rattle.node_core.proofs.controller.Controller.say_values.Goals as goal
 
 pub put_values-requires-clause-low : goal.put_values-requires-clause-low
@@ -59,6 +61,6 @@ write-requires g c =
       elim inv.place.capacity [ inl e ↦ rw e (lit< tt) | inr e ↦ rw e (lit< tt) ],
       (
         elim inv.place.capacity [ inl e ↦ rw e (lit< tt) | inr e ↦ rw e (lit< tt) ],
-        (c.requires.ready, (c.head.ensures, (tt, says))),
+        (c.requires.ready, (c.head.ensures, (tt, (says, sym (ap (λ (xs : List ℤ). length (flat_map value_spelling xs)) said ∙ values_long n.found.own due fit))))),
       ),
     )

@@ -3,7 +3,7 @@ use Rattle.agreed_state.specs.Agreed.{IsAgreed}
 use Rattle.node_steps.specs.Parts.{NodeView}
 use Rattle.node_steps.specs.Sending.{fixed}
 use Rattle.node_core.specs.Passing.{outcome_of}
-use Rattle.node_core.proofs.Buffers.{greatest_stays, config_stays}
+use Rattle.node_core.proofs.Staying.{node_stays}
 use Rattle.node_core.proofs.PassedOn.{passed_sound}
 use Rattle.node_core.proofs.node.Node.pass.Goals as goal
 
@@ -18,19 +18,10 @@ invariant_of-self g c =
     let k = c.pass.ensures in
     let inv = c.self.invariant in
     let is = c.self.view_is in
-    let n = c.self.inside.controller in
-    let stays = ap (λ (v : NodeView g.row.N). fixed v) k in
-    let shut' : n.phase.is_open ≡ false = ap (λ (v : NodeView g.row.N). v.phase.is_open) is ∙ c.requires.closed in
-    record {
-      capacity = inv.capacity;
-      within = inv.within;
-      greatest = greatest_stays n c.pass.new.self stays inv.greatest;
-      room = inv.room ∙ sym (ap (λ (v : NodeView g.row.N). v.arrived.frame_max) k);
-      config = config_stays n c.pass.new.self stays inv.config;
-      sound = passed_sound n c.pass.new.self c.args.period c.args.calm.now c.args.own.now k inv.config shut'
-          (subst (λ (v : NodeView g.row.N). IsAgreed g.row.N v.config c.args.calm.now.after) (sym is) c.requires.agreed) inv.sound;
-      framed = λ h. absurd (let x = sym shut' ∙ sym (ap (λ (v : NodeView g.row.N). v.phase.is_open) k) ∙ h in cc);
-    }
+    let v : NodeView g.row.N = c.self.inside.controller in
+    let shut' : v.phase.is_open ≡ false = ap (λ (w : NodeView g.row.N). w.phase.is_open) is ∙ c.requires.closed in
+    node_stays v c.pass.new.self (ap (λ (w : NodeView g.row.N). fixed w) k)
+    (passed_sound v c.pass.new.self c.args.period c.args.calm.now c.args.own.now k inv.config shut' (subst (λ (w : NodeView g.row.N). IsAgreed g.row.N w.config c.args.calm.now.after) (sym is) c.requires.agreed) inv.sound) inv
 
 pub returns-clause-outcome : goal.returns-clause-outcome
 returns-clause-outcome g c = ap (λ (v : NodeView g.row.N). v.outcome) c.pass.ensures ∙ ap (λ (v : NodeView g.row.N). outcome_of v c.args.calm.now) c.self.view_is
