@@ -11,8 +11,8 @@ use Rattle.cluster_step.specs.Shown.{shown}
 use Rattle.cluster_step.proofs.Taking.{Slot, bytes_of, refilled, slot_refilled}
 use Rattle.cluster_step.proofs.record.PeriodRecord.take_frames.Goals as goal
 
-pub copy_frames-requires : goal.copy_frames-requires
-copy_frames-requires g c =
+pub say_all-requires : goal.say_all-requires
+say_all-requires g c =
     let nodes : c.self.inside.nodes ≡ c.args.self.now.nodes = ap (λ (v : PeriodView). v.nodes) c.self.view_is in
     let m : c.self.inside.m ≡ c.args.self.now.m = ap (λ (v : PeriodView). v.m) c.self.view_is in
     let low : c.args.slot < length c.self.inside.sent.items = omega (arith, c.self.invariant.slots, ap slot_count m, c.requires.slot) in
@@ -37,13 +37,13 @@ invariant_of-self g c =
     let low : c.args.slot < length c.self.inside.sent.items = omega (arith, c.self.invariant.slots, ap slot_count m, c.requires.slot) in
     let old : Slot = c.index_mut.result.now in
     let was : IsSlot c.self.inside.room c.self.inside.nodes old = subst (IsSlot c.self.inside.room c.self.inside.nodes) (sym c.index_mut.ensures.value) (All-get_or (IsSlot c.self.inside.room c.self.inside.nodes) c.self.inside.sent.items c.args.slot c.index_mut.result.now low c.self.invariant.frames) in
-    let long : length c.copy_frames.new.frames ≡ length old.items = c.copy_frames.auto.frames ∙ ap length c.as_mut_slice.ensures.value in
+    let long : length c.say_all.new.frames ≡ length old.items = c.say_all.auto.frames ∙ ap length c.as_mut_slice.ensures.value in
     record {
       capacity = c.self.invariant.capacity;
       records = c.self.invariant.records;
       slots = length-set _ _ _ ∙ c.self.invariant.slots;
-      frames = All-set (IsSlot c.self.inside.room c.self.inside.nodes) c.self.inside.sent.items c.args.slot (with_items old c.copy_frames.new.frames)
-          (slot_refilled c.self.inside.room c.self.inside.nodes old c.copy_frames.new.frames long was c.copy_frames.ensures.buffers) c.self.invariant.frames;
+      frames = All-set (IsSlot c.self.inside.room c.self.inside.nodes) c.self.inside.sent.items c.args.slot (with_items old c.say_all.new.frames)
+          (slot_refilled c.self.inside.room c.self.inside.nodes old c.say_all.new.frames long was c.say_all.ensures.buffers) c.self.invariant.frames;
       room = c.self.invariant.room;
       short = c.self.invariant.short;
     }
@@ -51,8 +51,8 @@ invariant_of-self g c =
 pub returns : goal.returns
 returns g c =
     let old : Slot = c.index_mut.result.now in
-    let long : length c.copy_frames.new.frames ≡ length old.items = c.copy_frames.auto.frames ∙ ap length c.as_mut_slice.ensures.value in
-    let made : slot_bytes (with_items old c.copy_frames.new.frames) ≡ map frame_of c.args.nodes.now = ap (map bytes_of) (refilled old c.copy_frames.new.frames long) ∙ c.copy_frames.ensures.bytes in
+    let long : length c.say_all.new.frames ≡ length old.items = c.say_all.auto.frames ∙ ap length c.as_mut_slice.ensures.value in
+    let made : slot_bytes (with_items old c.say_all.new.frames) ≡ map frame_of c.args.nodes.now = ap (map bytes_of) (refilled old c.say_all.new.frames long) ∙ c.say_all.ensures.bytes in
     let seen : PeriodView → PeriodView = λ v. record v { sent = set v.sent c.args.slot (map frame_of c.args.nodes.now) } in
     let with : List (List (List ℕ)) → PeriodView = λ xs. record (shown c.self.inside) { sent = xs } in
-    ap with (map-set slot_bytes c.self.inside.sent.items c.args.slot (with_items old c.copy_frames.new.frames) ∙ ap (set (map slot_bytes c.self.inside.sent.items) c.args.slot) made) ∙ ap seen c.self.view_is
+    ap with (map-set slot_bytes c.self.inside.sent.items c.args.slot (with_items old c.say_all.new.frames) ∙ ap (set (map slot_bytes c.self.inside.sent.items) c.args.slot) made) ∙ ap seen c.self.view_is

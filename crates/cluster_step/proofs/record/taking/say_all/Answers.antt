@@ -5,29 +5,26 @@ use Rattle.node_steps.specs.Parts.{NodeView}
 use Rattle.node_steps.specs.Steps.{frame_of}
 use Rattle.cluster_step.specs.Buffers.{IsBuffer}
 use Rattle.cluster_step.proofs.Taking.{bytes_of, at_node, fits, buffer_refilled, more_taken, all_taken}
-use Rattle.cluster_step.proofs.record.taking.copy_frames.Goals as goal
+use Rattle.cluster_step.proofs.record.taking.say_all.Goals as goal
 
-pub copy_frame-requires : goal.copy_frame-requires
-copy_frame-requires g c =
+pub say-requires : goal.say-requires
+say-requires g c =
     let h : IsBuffer c.args.room (get_or c.loop-i.frames c.loop-i.i c.index-frames-i.result) = All-get_or (IsBuffer c.args.room) c.loop-i.frames c.loop-i.i c.index-frames-i.result
     (omega (arith, c.loop-i-test.true, c.loop-i.auto.frames, c.requires.each)) c.loop-i.invariant.1 in
     let s = fits c.args.nodes.now c.loop-i.i c.args.room c.index-nodes-i.result c.index-nodes-i.result.arrived.frame_max c.loop-i-test.true c.index-nodes-i.is (omega arith) c.requires.short in (
       elim c.requires.capacity [ inl e ↦ rw e (lit< tt) | inr e ↦ rw e (lit< tt) ],
-      (
-        c.requires.capacity,
-        (ap (λ (v : NodeView g.row.N). v.phase.is_open) c.index-nodes-i.is ∙ c.requires.open c.loop-i.i c.index-nodes-i.result c.loop-i-test.true, omega (arith, h.roomy, s)),
-      ),
+      (ap (λ (v : NodeView g.row.N). v.phase.is_open) c.index-nodes-i.is ∙ c.requires.open c.loop-i.i c.index-nodes-i.result c.loop-i-test.true, omega (arith, h.roomy, s)),
     )
 
 pub loop-i-preserved : goal.loop-i-preserved
 loop-i-preserved g c =
     let there : c.loop-i.i < length c.loop-i.frames = omega (arith, c.loop-i-test.true, c.loop-i.auto.frames, c.requires.each) in
-    let s = fits c.args.nodes.now c.loop-i.i c.args.room c.index-nodes-i.result (length c.copy_frame.new.kept.items) c.loop-i-test.true c.index-nodes-i.is c.copy_frame.ensures.short c.requires.short in (
-      more_taken c.loop-i.frames c.loop-i.i c.copy_frame.new.kept (map frame_of c.args.nodes.now) there
-          (at_node c.args.nodes.now c.loop-i.i c.index-nodes-i.result c.copy_frame.new.kept.items c.loop-i-test.true c.index-nodes-i.is c.copy_frame.ensures.bytes) c.loop-i.invariant.0,
-      All-set (IsBuffer c.args.room) c.loop-i.frames c.loop-i.i c.copy_frame.new.kept
-          (buffer_refilled c.args.room (get_or c.loop-i.frames c.loop-i.i c.index-frames-i.result) c.copy_frame.new.kept c.copy_frame.new.kept.items (All-get_or (IsBuffer c.args.room) c.loop-i.frames c.loop-i.i c.index-frames-i.result there c.loop-i.invariant.1)
-          c.copy_frame.ensures.room refl s) c.loop-i.invariant.1,
+    let s = fits c.args.nodes.now c.loop-i.i c.args.room c.index-nodes-i.result (length c.say.new.out.items) c.loop-i-test.true c.index-nodes-i.is c.say.ensures.short c.requires.short in (
+      more_taken c.loop-i.frames c.loop-i.i c.say.new.out (map frame_of c.args.nodes.now) there
+          (at_node c.args.nodes.now c.loop-i.i c.index-nodes-i.result c.say.new.out.items c.loop-i-test.true c.index-nodes-i.is c.say.ensures.bytes) c.loop-i.invariant.0,
+      All-set (IsBuffer c.args.room) c.loop-i.frames c.loop-i.i c.say.new.out
+          (buffer_refilled c.args.room (get_or c.loop-i.frames c.loop-i.i c.index-frames-i.result) c.say.new.out c.say.new.out.items (All-get_or (IsBuffer c.args.room) c.loop-i.frames c.loop-i.i c.index-frames-i.result there c.loop-i.invariant.1)
+          c.say.ensures.room refl s) c.loop-i.invariant.1,
     )
 
 pub returns-clause-bytes : goal.returns-clause-bytes
