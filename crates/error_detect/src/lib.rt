@@ -11,15 +11,17 @@ mod arrival;
 mod finding;
 mod guess;
 pub mod laws;
+mod rooms;
 mod watch;
 
 pub use finding::Finding;
 pub use guess::{Form, GuessedBytes};
+pub use rooms::Rooms;
 pub use watch::SlotWatch;
 
 #[cfg(test)]
 mod tests {
-    use super::{Finding, SlotWatch};
+    use super::{Finding, Rooms, SlotWatch};
     use frames::{Body, Expect, frame_bound};
     use node_grid::NodeSet;
     use std::test::Fail;
@@ -79,8 +81,10 @@ mod tests {
             (&[(15, &[7; 65])], Finding::Malformed),
             (&[(21, &[7; 65])], Finding::Timing),
         ];
+        let mut rooms = Rooms::open(rt.alloc(), 4, frame_bound(4, 0, 18, 0))?;
         for (deliveries, finding) in &rows {
             let mut watch = SlotWatch::open(rt.alloc(), 4, 0, frame_bound(4, 0, 18, 0), 0)?;
+            watch.swap_rooms(&mut rooms);
             let (seen, said) = found(&mut watch, deliveries);
             assert!(rt; seen == *finding);
             assert!(rt; said == (seen == Finding::Good));

@@ -14,6 +14,7 @@ ghost use Rattle.error_detect.specs.Inside.{said_as, guessed_bytes};
 use crate::arrival::Inbox;
 use crate::finding::Finding;
 use crate::guess::{Form, Guess, GuessedBytes};
+use crate::rooms::Rooms;
 use frames::{Expect, Frame, Runs};
 use node_grid::{NoMemory, NodeSet};
 use std::alloc::{AllocError, Global};
@@ -123,6 +124,24 @@ impl<const N: usize> SlotWatch<N> {
     {
         self.expect = Some(*expect);
         self.is_open = true;
+        self.guess.forget();
+        forget_all(self.inboxes.as_mut_slice());
+    }
+
+    /// Exchanges the room that it has for the bytes of each sender with that of these, where it holds
+    /// no bytes of the sender and the other is as large. Called again once none are held, it gives back what it took.
+    pub fn swap_rooms(&mut self, rooms: &mut Rooms)
+        ensures { self.new ≡ self.old }
+    {
+        rooms.swap(self.inboxes.as_mut_slice());
+    }
+
+    /// Forgets all that it saw: it stands as when it was opened.
+    pub fn forget(&mut self)
+        ensures { self.new ≡ fresh self.old.nodes self.old.me self.old.frame_max }
+    {
+        self.expect = None;
+        self.is_open = false;
         self.guess.forget();
         forget_all(self.inboxes.as_mut_slice());
     }
