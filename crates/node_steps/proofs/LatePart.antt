@@ -19,7 +19,7 @@ use Rattle.protocol.specs.ViewLaws.{goes_through as view_through}
 use Rattle.protocol.specs.Configured.{setting_of}
 use Rattle.protocol.specs.Saying.{says}
 use Rattle.node_steps.specs.Parts.{Phase, Found, NodeView}
-use Rattle.node_steps.specs.Steps.{next_open, slot_taken, shut, taken, after_data, after_report, finished, own_in_slot, said_by, frame_of}
+use Rattle.node_steps.specs.Steps.{next_open, slot_taken, shut, taken, after_data, after_report, finished, period_over, own_in_slot, said_by, frame_of}
 use Rattle.node_steps.specs.Stages.{due_of, done_table, claims_of, found_data, in_data}
 use Rattle.node_steps.specs.Period.{slot_run, expect_at, goes, IsWatch, Stands, IsOver}
 use Rattle.node_steps.specs.Sending.{Fixed, IsServed}
@@ -58,13 +58,9 @@ module _ {N : ℕ} (d : Hearing ℕ) where
   slot_made : (v : NodeView N) → v.config.m + 2 ≤ v.phase.slot → slot_taken (shut (with_it v)) ≡ with_it (slot_taken (shut v))
   slot_made v late = else_made with_it (v.phase.slot == 0) _ _ _ _ (ne_eqb v.phase.slot 0 (λ z. absurd (omega arith))) (taken_made (shut v) v.phase.before late)
 
-  -- with no slot open
-  abbrev ended_so : NodeView N → NodeView N
-  ended_so v = record v { phase = record v.phase { is_open = false } }
-
   next_made : (v : NodeView N) → next_open (with_it v) ≡ with_it (next_open v)
   next_made v = if_made with_it (v.phase.slot == 2 * v.config.m + 3) _ _ _ _ (last v.phase.before) refl where
-    last : (o : Option AgreedView) → ended_so (finished (with_it v) o) ≡ with_it (ended_so (finished v o))
+    last : (o : Option AgreedView) → period_over (finished (with_it v) o) ≡ with_it (period_over (finished v o))
     last None = refl
     last (Some a) = refl
 

@@ -13,7 +13,7 @@ use Rattle.omh_paths.specs.MemberLaws.{Distinct-ids}
 use Rattle.omh.specs.Heard.{Hearing, Entry, nothing_heard}
 use Rattle.omh.specs.HeardLaws.{entries_alike}
 use Rattle.error_detect.specs.Finding.{kind_of}
-use Rattle.error_detect.specs.Watching.{Watch, closed, opened, told_at, finding_at}
+use Rattle.error_detect.specs.Watching.{Watch, fresh, closed, opened, told_at, finding_at}
 use Rattle.error_reports.specs.Charge.{accuses}
 use Rattle.agreed_state.specs.declared.config.Config.{Config}
 use Rattle.agreed_state.specs.declared.config.Inputs.{Inputs}
@@ -346,11 +346,11 @@ module _ {N : ℕ} (config : Config N) (i p : ℕ) (g : Inputs) (k : Kept) (x : 
       }
 
   pub step_end : (w : Watch) (o : Outcome) → next_open (report_taken config.m w o)
-      ≡ over (config.m + 3 + config.m) (done_table config i p g k x a (suc config.m)) (row_table config i p g k x a (suc config.m)) (found_report config i p g k x a (suc config.m)) (closed w) (through s i p g k x full a)
+      ≡ over (config.m + 3 + config.m) (done_table config i p g k x a (suc config.m)) (row_table config i p g k x a (suc config.m)) (found_report config i p g k x a (suc config.m)) (fresh w.nodes w.me w.frame_max) (through s i p g k x full a)
   unfolding through
   step_end w o =
       cond-true (config.m + 3 + config.m == 2 * config.m + 3) _ _ (eq-eqb (config.m + 3 + config.m) (2 * config.m + 3) (omega arith))
-      ∙ ap₂ (by_rows (config.m + 3 + config.m) (closed w)) rows_are carried_is
+      ∙ ap₂ (by_rows (config.m + 3 + config.m) (fresh w.nodes w.me w.frame_max)) rows_are carried_is
 
   -- ---- the sync slot
 

@@ -24,7 +24,7 @@ use Rattle.protocol.specs.Arrival.{Arrival, state_in, claim_form, row_form, is_b
 use Rattle.protocol.specs.View.{adopted_by, bodies_for, deviates, empty_row, channel_room}
 use Rattle.node_steps.specs.Parts.{Found, NodeView}
 use Rattle.protocol.specs.Configured.{setting_of}
-use Rattle.node_steps.specs.Steps.{expected_in, with_notes, shut, synced, with_sync, after_sync, taken, slot_taken, after_done, after_data, after_report, heard_done, claims_known, finished, next_open, after_slot, begun, restarted, given_frame}
+use Rattle.node_steps.specs.Steps.{expected_in, with_notes, shut, synced, with_sync, after_sync, taken, slot_taken, after_done, after_data, after_report, heard_done, claims_known, finished, period_over, next_open, after_slot, begun, restarted, given_frame}
 use Rattle.data_slot.specs.Values.{only_values}
 use Rattle.noting.specs.Findings.{has_of}
 use Rattle.relaying.specs.Ranged.{IsRanged}
@@ -218,7 +218,7 @@ slot_is_taken {N} v small ok h open' = elim (cases_eq v.phase.slot 0) [
     state true = h.sizes.kept.state
     state false = adopted_agreed v.config v.phase.me (has_of state_in (shut v).arrived) small ok
 
-end_sound : {N : ℕ} (w : NodeView N) (o : Option AgreedView) → IsConfig N w.config → HasSizes w → w.phase.before ≡ o → IsSound (let u = finished w o in record u { phase = record u.phase { is_open = false } })
+end_sound : {N : ℕ} (w : NodeView N) (o : Option AgreedView) → IsConfig N w.config → HasSizes w → w.phase.before ≡ o → IsSound (period_over (finished w o))
 end_sound w None ok h goes = record {
   sizes = record { kept = record { state = tt; carried = empty_is_row (setting_of w.config) ok.few_nodes }; before = h.before; done = h.done; rows = h.rows; found = h.found; readings = h.readings };
   in_slot = λ e. absurd (cc);

@@ -8,7 +8,7 @@ use Rattle.omh.specs.Heard.{Hearing, ear_of, nothing_heard}
 use Rattle.frames.specs.Content.{Content, Expectation}
 use Rattle.frames.specs.Content.Content.{State as StateFrame, Done0, DoneRelay, Data, Report0, ReportRelay, Cold as ColdFrame}
 use Rattle.frames.specs.Spelling.{spelling}
-use Rattle.error_detect.specs.Watching.{opened, closed, delivered}
+use Rattle.error_detect.specs.Watching.{fresh, opened, closed, delivered}
 use Rattle.list_scheduler.specs.Schedule.{verdict}
 use Rattle.error_reports.specs.Charge.{accuses}
 use Rattle.agreed_state.specs.declared.config.Inputs.{Inputs}
@@ -152,10 +152,14 @@ finished v (Some a) = ended v a
 abbrev pub slot_open : {N : ℕ} → NodeView N → ℕ → NodeView N
 slot_open v slot = record v { phase = record v.phase { slot = slot }; arrived = opened v.arrived (expected_in v slot) }
 
+-- the period is over: no slot is open, and nothing is left of what arrived
+abbrev pub period_over : {N : ℕ} → NodeView N → NodeView N
+period_over v = record v { phase = record v.phase { is_open = false }; arrived = fresh v.arrived.nodes v.arrived.me v.arrived.frame_max }
+
 -- the next slot is open, or none where that was the last
 abbrev pub next_open : {N : ℕ} → NodeView N → NodeView N
 next_open v =
-    if v.phase.slot == 2 * v.config.m + 3 then (let w = finished v v.phase.before in record w { phase = record w.phase { is_open = false } })
+    if v.phase.slot == 2 * v.config.m + 3 then period_over (finished v v.phase.before)
     else record v { phase = record v.phase { slot = v.phase.slot + 1 }; arrived = opened v.arrived (expected_in v (v.phase.slot + 1)) }
 
 abbrev pub after_slot : {N : ℕ} → NodeView N → NodeView N

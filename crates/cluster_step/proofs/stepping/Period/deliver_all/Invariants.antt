@@ -1,9 +1,0 @@
-use Rattle.std.proofs.Common.{◌≡◌, ◌++◌, [], take, drop, map}
-use Rattle.std.specs.Prelude.{slice_index_or}
-use Rattle.cluster_step.specs.Slots.{handed_all}
-use Rattle.cluster_step.proofs.stepping.Period.deliver_all.Given as goal
-
-abbrev pub invariant-loop-node : goal.invariant-loop-node
-invariant-loop-node g l =
-    let sc = l.self.scenario.now in
-    l.nodes ≡ map (handed_all sc.plan sc.order sc.config.nodes l.self.number l.slot (slice_index_or l.shown.sent l.slot [])) (take l.node-index l.initial.nodes) ++ drop l.node-index l.initial.nodes
