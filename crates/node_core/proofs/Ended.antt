@@ -8,6 +8,7 @@ use Rattle.slot_plan.specs.declared.slot.Slot.{Slot}
 use Rattle.slot_plan.specs.declared.slot.Slot.TheVariants.{Sync, Claims, Data, Rows}
 use Rattle.slot_plan.specs.Slots.{slot_number}
 use Rattle.omh.specs.Heard.{Hearing, ear_of}
+use Rattle.error_detect.specs.Watching.{Watch, fresh}
 use Rattle.error_reports.specs.Notes.{Notes, of_each, also_carried}
 use Rattle.agreed_state.specs.Agreed.{AgreedView, agreed_after}
 use Rattle.protocol.specs.Arrival.{row_form}
@@ -21,7 +22,7 @@ use Rattle.node_steps.specs.Outcome.{Outcome}
 use Rattle.node_steps.specs.Parts.{NodeView}
 use Rattle.node_steps.specs.PremiseLaws.{rows_end}
 use Rattle.node_steps.specs.Sound.{Hears, IsTaken}
-use Rattle.node_steps.specs.Steps.{noting, by_conviction, ended}
+use Rattle.node_steps.specs.Steps.{noting, by_conviction, ended, period_over}
 use Rattle.node_core.specs.declared.controller.Keeping.{Keeping}
 use Rattle.node_core.specs.declared.controller.Controller.TheInside.{Inside}
 use Rattle.node_core.specs.Inside.{seen, IsGuessed, IsController}
@@ -48,17 +49,24 @@ recorded n o inv = record {
   guessed = λ p h. recorded_guess n.phase.slot n o (inv.guessed p h);
 }
 
--- the period is over
-pub is_over : {N : ℕ} (n : Inside N) → IsController n → IsController (record n { phase = record n.phase { is_open = false } })
-is_over n inv = record {
-  place = inv.place;
-  slot = inv.slot;
-  watch = inv.watch;
-  kept_notes = inv.kept_notes;
-  notes = inv.notes;
-  rooms = inv.rooms;
-  guessed = λ o h. absurd (cc);
-}
+-- the period is over, and the watch stands as when it was opened
+module _ {N : ℕ} (n : Inside N) (w : Watch) (forgotten : w ≡ fresh n.watch.nodes n.watch.me n.watch.frame_max) where
+  abbrev without : Watch → Inside N
+  without x = record n { phase = record n.phase { is_open = false }; watch = x }
+
+  pub is_over : IsController n → IsController (without w)
+  is_over inv = subst (λ (x : Watch). IsController (without x)) (sym forgotten) (record {
+    place = inv.place;
+    slot = inv.slot;
+    watch = record { nodes = inv.watch.nodes; me_is = inv.watch.me_is; greatest = inv.watch.greatest; expects = λ o. absurd (cc) };
+    kept_notes = inv.kept_notes;
+    notes = inv.notes;
+    rooms = inv.rooms;
+    guessed = λ o h. absurd (cc);
+  })
+
+  pub over_is : seen (without w) ≡ period_over (seen n)
+  over_is = ap (λ (x : Watch). seen (without x)) forgotten
 
 -- ---- by whether there is a state
 

@@ -23,7 +23,7 @@ mod sync;
 use crate::outcome::NodeRecord;
 use agreed_state::{Agreed, Config, Inputs};
 use arrayvec::ArrayVec;
-use error_detect::SlotWatch;
+use error_detect::{Rooms, SlotWatch};
 use error_reports::RowBuilder;
 use heard::Heard;
 use node_grid::{NodeSet, Row};
@@ -124,6 +124,13 @@ impl<'c, const N: usize> Controller<'c, N> {
         ensures { result ≡ self.now.outcome }
     {
         self.outcome.copied()
+    }
+
+    /// Exchanges the room for frames that arrive with these.
+    pub fn swap_rooms(&mut self, rooms: &mut Rooms)
+        ensures { self.new ≡ self.old }
+    {
+        self.watch.swap_rooms(rooms);
     }
 
     /// A frame arrives in the open slot. Of one that is as guessed nothing but its tick is kept.

@@ -5,7 +5,7 @@ ghost use Rattle.node_grid.specs.Capacity.{IsCapacity};
 ghost use Rattle.protocol.specs.View.Mode.{Full as ViewFull, Joining as ViewJoining};
 ghost use Rattle.node_core.specs.Modes.{mode_of};
 ghost use Rattle.node_steps.specs.Sound.{IsTaken};
-ghost use Rattle.node_steps.specs.Steps.{ended, ended_cold, finished};
+ghost use Rattle.node_steps.specs.Steps.{ended, ended_cold, finished, period_over};
 
 use super::{Controller, Keeping};
 use crate::outcome::{Mode, NodeRecord, copied};
@@ -20,19 +20,19 @@ fn mode_through(full: bool) -> Mode
 }
 
 impl<'c, const N: usize> Controller<'c, N> {
-    /// Ends the period.
+    /// Ends the period, and forgets what arrived in its last slot.
     pub(super) fn end_period(&mut self)
         requires capacity { IsCapacity N }
         requires taken { IsTaken self.old }
         requires last { self.old.phase.slot ≡ 2 * self.old.config.m + 3 }
-        ensures { self.new ≡ (let w = finished self.old self.old.phase.before in
-            record w { phase = record w.phase { is_open = false } }) }
+        ensures { self.new ≡ period_over (finished self.old self.old.phase.before) }
     {
         if self.phase.before.is_some() {
             self.end_with_state();
         } else {
             self.end_cold();
         }
+        self.watch.forget();
         self.phase.is_open = false;
     }
 

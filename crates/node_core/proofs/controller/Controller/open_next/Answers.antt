@@ -4,7 +4,7 @@ use Rattle.std.proofs.lemmas.Bool.{cond-true, cond-false}
 use Rattle.slot_plan.specs.declared.slot.Slot.{Slot}
 use Rattle.slot_plan.specs.Slots.{slot_number, slot_count, IsSlot}
 use Rattle.node_steps.specs.Parts.{NodeView}
-use Rattle.node_steps.specs.Steps.{finished, slot_open}
+use Rattle.node_steps.specs.Steps.{finished, period_over, slot_open}
 use Rattle.node_core.proofs.Places.{later_slots}
 use Rattle.node_core.proofs.controller.Controller.open_next.Goals as goal
 
@@ -59,7 +59,7 @@ returns-in-Some g c =
     let next : slot_number v.config.m c.in-Some.slot ≡ v.phase.slot + 1 = ap (λ (k : ℕ). slot_number k c.in-Some.slot) (sym m) ∙ found.1 ∙ ap (λ (k : ℕ). k + 1) stands in
     let other : v.phase.slot ≢ 2 * v.config.m + 3 = λ e. later_slots v.config.m c.in-Some.slot (subst (λ (k : ℕ). IsSlot k c.in-Some.slot) m found.0) (next ∙ ap (λ (k : ℕ). k + 1) e) in
     c.open_slot.ensures ∙ ap (slot_open v) next
-    ∙ sym (cond-false (v.phase.slot == 2 * v.config.m + 3) (record (finished v v.phase.before) { phase = record (finished v v.phase.before).phase { is_open = false } }) (slot_open v (v.phase.slot + 1)) (ne_eqb v.phase.slot (2 * v.config.m + 3) other))
+    ∙ sym (cond-false (v.phase.slot == 2 * v.config.m + 3) (period_over (finished v v.phase.before)) (slot_open v (v.phase.slot + 1)) (ne_eqb v.phase.slot (2 * v.config.m + 3) other))
 
 pub returns-in-None : goal.returns-in-None
 returns-in-None g c =
@@ -72,4 +72,4 @@ returns-in-None g c =
     let stands : c.number-number.result ≡ v.phase.slot = c.number-number.ensures.number ∙ ap (λ (u : NodeView g.row.N). u.phase.slot) is in
     let last : v.phase.slot ≡ 2 * v.config.m + 3 = omega (arith, past, within, stands, m) in
     c.end_period.ensures
-    ∙ sym (cond-true (v.phase.slot == 2 * v.config.m + 3) (record (finished v v.phase.before) { phase = record (finished v v.phase.before).phase { is_open = false } }) (slot_open v (v.phase.slot + 1)) (eq-eqb v.phase.slot (2 * v.config.m + 3) last))
+    ∙ sym (cond-true (v.phase.slot == 2 * v.config.m + 3) (period_over (finished v v.phase.before)) (slot_open v (v.phase.slot + 1)) (eq-eqb v.phase.slot (2 * v.config.m + 3) last))
