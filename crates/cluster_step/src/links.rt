@@ -6,6 +6,7 @@ ghost use Rattle.slot_plan.specs.Slots.{slot_count};
 ghost use Rattle.fault_classes.specs.Line.{effect_at};
 ghost use Rattle.cluster_step.specs.Slots.{arriving, handed, handed_from, IsReady, Takes};
 
+use error_detect::Rooms;
 use fault_classes::FaultPlan;
 use fault_link::{Delivered, deliveries};
 use node_core::Node;
@@ -16,12 +17,14 @@ use std::marker::Model;
 /// The length of the longest frame that there is: of 16 nodes, with three relay rounds.
 pub const LONGEST_FRAME: usize = 90_104;
 
-/// Room for a frame of which a fault line sets bytes. It is filled once it is needed.
+/// Room that all nodes share, since they are stepped one after the other: for a frame of which a fault line sets bytes,
+/// filled once it is needed, and for the frames that arrive at a node in a slot.
 ///
-/// Contracts see the bytes in it, and promise nothing of them.
+/// Contracts see the bytes of the changed frame, and promise nothing of them.
 #[derive(Drop)]
 pub(crate) struct Scratch {
     bytes: Vec<u8>,
+    pub(crate) rooms: Rooms,
 }
 
 impl Model for Scratch {
@@ -35,16 +38,17 @@ impl Model for Scratch {
 }
 
 impl Scratch {
-    /// Takes room for the longest frame.
+    /// Takes room for the longest frame, and for one of each of so many nodes.
     ///
     /// # Errors
     ///
     /// `NoMemory` where there is none.
-    pub(crate) fn open(alloc: Global) -> Result<Scratch, NoMemory> {
+    pub(crate) fn open(alloc: Global, nodes: u8) -> Result<Scratch, NoMemory> {
         let Ok(bytes) = Vec::with_capacity(alloc, LONGEST_FRAME) else {
             return Err(NoMemory);
         };
-        Ok(Scratch { bytes })
+        let rooms = Rooms::open(alloc, nodes, LONGEST_FRAME)?;
+        Ok(Scratch { bytes, rooms })
     }
 
     /// Makes it at least as long as a frame.

@@ -3,7 +3,7 @@ use Rattle.std.specs.Prelude.{All, slice_index_or}
 use Rattle.slot_plan.specs.Slots.{slot_count}
 use Rattle.relaying.specs.Common.{Common, AreGuessedIn, frame_by}
 use Rattle.node_steps.specs.Steps.{frame_of}
-use Rattle.cluster_step.proofs.Slotting.{slot_done, open_still, open_all, shape_kept, taken_frames}
+use Rattle.cluster_step.proofs.Slotting.{slot_done, open_all, shape_kept, taken_frames}
 use Rattle.cluster_step.proofs.stepping.Period.step_slot.Goals as goal
 
 pub take_frames-requires : goal.take_frames-requires
@@ -37,8 +37,8 @@ find_commons-requires g c = (
   ),
 )
 
-pub deliver_all-requires : goal.deliver_all-requires
-deliver_all-requires g c =
+pub step_each-requires : goal.step_each-requires
+step_each-requires g c =
     let taken = taken_frames c.args.slot c.args.shown.now c.take_frames.new.self (map frame_of c.args.nodes.now) (let many = c.requires.shape.slots in omega (arith, c.requires.slot, many)) c.take_frames.ensures in (
       lit< tt,
       (
@@ -62,18 +62,8 @@ deliver_all-requires g c =
       ),
     )
 
-pub end_all-requires : goal.end_all-requires
-end_all-requires g c =
-    let sc = c.args.self.now.scenario.now in (
-      elim c.requires.capacity [ inl e ↦ rw e (lit< tt) | inr e ↦ rw e (lit< tt) ],
-      (
-        c.requires.capacity,
-        open_still sc.plan sc.order sc.config.nodes c.args.self.now.number c.args.slot (slice_index_or c.take_frames.new.self.sent c.args.slot []) c.args.nodes.now c.deliver_all.new.nodes c.deliver_all.ensures c.requires.ready,
-      ),
-    )
-
 pub returns-clause-nodes : goal.returns-clause-nodes
 returns-clause-nodes g c =
     let sc = c.args.self.now.scenario.now in
-    slot_done sc.plan sc.order sc.config.nodes c.args.self.now.number c.args.slot c.args.nodes.now c.deliver_all.new.nodes c.end_all.new.nodes (slice_index_or c.take_frames.new.self.sent c.args.slot [])
-    (taken_frames c.args.slot c.args.shown.now c.take_frames.new.self (map frame_of c.args.nodes.now) (let many = c.requires.shape.slots in omega (arith, c.requires.slot, many)) c.take_frames.ensures) c.deliver_all.ensures c.end_all.ensures
+    slot_done sc.plan sc.order sc.config.nodes c.args.self.now.number c.args.slot c.args.nodes.now c.step_each.new.nodes (slice_index_or c.take_frames.new.self.sent c.args.slot [])
+    (taken_frames c.args.slot c.args.shown.now c.take_frames.new.self (map frame_of c.args.nodes.now) (let many = c.requires.shape.slots in omega (arith, c.requires.slot, many)) c.take_frames.ensures) c.step_each.ensures

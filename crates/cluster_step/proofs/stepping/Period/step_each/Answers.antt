@@ -1,0 +1,49 @@
+use Rattle.std.proofs.Common.{ℕ, List, [], get_or, inl, inr, lit<, ap, subst, sym, ◌∙◌, arith}
+use Rattle.std.specs.Prelude.{All, slice_index_or}
+use Rattle.relaying.specs.Common.{Common, AreGuessedIn, frame_by}
+use Rattle.node_steps.specs.Parts.{NodeView}
+use Rattle.scenario.specs.Scenario.{ScenarioView}
+use Rattle.cluster_step.specs.Slots.{through_slot, IsReady}
+use Rattle.cluster_step.proofs.Handing.{holds_here, put_over, all_put}
+use Rattle.cluster_step.proofs.stepping.Period.step_each.Goals as goal
+
+pub step_node-requires : goal.step_node-requires
+step_node-requires g c =
+    let sc : ScenarioView g.row.N = c.args.self.now.scenario.now in
+    let frames : List (List ℕ) = slice_index_or c.args.shown.now.sent c.args.slot [] in
+    let node : NodeView g.row.N = get_or c.loop-node.nodes c.loop-node.node-index c.node-item.result in
+    let ready : IsReady sc.plan node = subst (IsReady sc.plan) c.node-item.is (holds_here (IsReady sc.plan) (through_slot sc.plan sc.order sc.config.nodes c.args.self.now.number c.args.slot frames) c.args.nodes.now c.loop-node.nodes c.loop-node.node-index c.node-item.result c.loop-node-test.true c.loop-node.invariant c.node-item.is c.requires.ready) in (
+      lit< tt,
+      (
+        lit< tt,
+        (
+          elim c.requires.capacity [ inl e ↦ rw e (lit< tt) | inr e ↦ rw e (lit< tt) ],
+          (
+            c.requires.capacity,
+            (
+              ready,
+              (
+                c.requires.slot,
+                (
+                  c.frames-frames.ensures.each ∙ c.requires.shape.nodes,
+                  (c.frames-frames.ensures.short, subst (λ (fs : List (List ℕ)). All (λ (x : Common). AreGuessedIn x (frame_by fs)) c.args.commons.now) (sym c.frames-frames.ensures.bytes) c.requires.known),
+                ),
+              ),
+            ),
+          ),
+        ),
+      ),
+    )
+
+pub loop-node-preserved : goal.loop-node-preserved
+loop-node-preserved g c =
+    let sc : ScenarioView g.row.N = c.args.self.now.scenario.now in
+    let frames : List (List ℕ) = slice_index_or c.args.shown.now.sent c.args.slot [] in
+    let node : NodeView g.row.N = get_or c.loop-node.nodes c.loop-node.node-index c.node-item.result in
+    put_over (through_slot sc.plan sc.order sc.config.nodes c.args.self.now.number c.args.slot frames) c.args.nodes.now c.loop-node.nodes c.loop-node.node-index c.node-item.result c.step_node.new.node c.loop-node-test.true c.loop-node.invariant c.node-item.is
+    (c.step_node.ensures ∙ ap (λ (fs : List (List ℕ)). through_slot sc.plan sc.order sc.config.nodes c.args.self.now.number c.args.slot fs node) c.frames-frames.ensures.bytes)
+
+pub returns : goal.returns
+returns g c =
+    let sc : ScenarioView g.row.N = c.args.self.now.scenario.now in
+    all_put (through_slot sc.plan sc.order sc.config.nodes c.args.self.now.number c.args.slot (slice_index_or c.args.shown.now.sent c.args.slot [])) c.args.nodes.now c.loop-node.nodes c.loop-node.node-index (omega (arith, c.loop-node-test.false)) c.loop-node.invariant

@@ -1,0 +1,47 @@
+use Rattle.std.proofs.Common.{map, inl, inr, lit<, ap, subst, sym, ◌∙◌}
+use Rattle.node_steps.specs.Parts.{NodeView}
+use Rattle.node_steps.specs.Steps.{after_slot}
+use Rattle.scenario.specs.Scenario.{ScenarioView}
+use Rattle.cluster_step.specs.Slots.{handed_all, IsReady}
+use Rattle.cluster_step.proofs.Pieces.{ready_still}
+use Rattle.cluster_step.proofs.stepping.Period.step_node.Goals as goal
+
+pub swap_rooms-requires : goal.swap_rooms-requires
+swap_rooms-requires g c = elim c.requires.capacity [ inl e ↦ rw e (lit< tt) | inr e ↦ rw e (lit< tt) ]
+
+pub deliver_all-requires : goal.deliver_all-requires
+deliver_all-requires g c =
+    let sc : ScenarioView g.row.N = c.args.self.now.scenario.now in (
+      lit< tt,
+      (
+        lit< tt,
+        (
+          elim c.requires.capacity [ inl e ↦ rw e (lit< tt) | inr e ↦ rw e (lit< tt) ],
+          (
+            c.requires.capacity,
+            (
+              subst (IsReady sc.plan) (sym c.swap_rooms.ensures) c.requires.ready,
+              (c.requires.slot, (c.requires.each, (c.requires.short, c.requires.known))),
+            ),
+          ),
+        ),
+      ),
+    )
+
+pub slot_end-requires : goal.slot_end-requires
+slot_end-requires g c =
+    let sc : ScenarioView g.row.N = c.args.self.now.scenario.now in
+    let ready : IsReady sc.plan c.swap_rooms.new.self = subst (IsReady sc.plan) (sym c.swap_rooms.ensures) c.requires.ready in (
+      elim c.requires.capacity [ inl e ↦ rw e (lit< tt) | inr e ↦ rw e (lit< tt) ],
+      (ready_still sc.plan c.swap_rooms.new.self c.deliver_all.new.node _ c.deliver_all.ensures ready).is_open,
+    )
+
+pub swap_rooms-requires-2 : goal.swap_rooms-requires-2
+swap_rooms-requires-2 g c = elim c.requires.capacity [ inl e ↦ rw e (lit< tt) | inr e ↦ rw e (lit< tt) ]
+
+pub returns : goal.returns
+returns g c =
+    let sc : ScenarioView g.row.N = c.args.self.now.scenario.now in
+    c.swap_rooms-2.ensures ∙ c.slot_end.ensures
+    ∙ ap (λ (v : NodeView g.row.N). after_slot v)
+    (c.deliver_all.ensures ∙ ap (handed_all sc.plan sc.order sc.config.nodes c.args.self.now.number c.args.slot (map (λ f. f.items) c.args.frames.now)) c.swap_rooms.ensures)
