@@ -17,6 +17,9 @@ use std::marker::Model;
 /// The length of the longest frame that there is: of 16 nodes, with three relay rounds.
 pub const LONGEST_FRAME: usize = 90_104;
 
+/// Frames of so many nodes are short: each node keeps room of its own for them, which costs less than to exchange it.
+const FEW_NODES: u8 = 8;
+
 /// Room that all nodes share, since they are stepped one after the other: for a frame of which a fault line sets bytes,
 /// filled once it is needed, and for the frames that arrive at a node in a slot.
 ///
@@ -38,7 +41,7 @@ impl Model for Scratch {
 }
 
 impl Scratch {
-    /// Takes room for the longest frame, and for one of each of so many nodes.
+    /// Takes room for the longest frame, and for one of each of so many nodes, where these are more than a few.
     ///
     /// # Errors
     ///
@@ -47,7 +50,8 @@ impl Scratch {
         let Ok(bytes) = Vec::with_capacity(alloc, LONGEST_FRAME) else {
             return Err(NoMemory);
         };
-        let rooms = Rooms::open(alloc, nodes, LONGEST_FRAME)?;
+        let shared = if nodes > FEW_NODES { nodes } else { 0 };
+        let rooms = Rooms::open(alloc, shared, LONGEST_FRAME)?;
         Ok(Scratch { bytes, rooms })
     }
 
