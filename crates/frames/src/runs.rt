@@ -32,7 +32,7 @@ fn is_run(run: &[u8], width: usize) -> bool
     same_bytes(front, back)
 }
 
-/// Whether a body is `count` runs, each of one entry `times` times. Whoever holds the bytes finds it once, and a receiver
+/// Whether a body is `count` runs, each of one entry `times` times. A receiver that guesses runs finds it of a body, and
 /// then compares the first entry of each run alone.
 pub fn are_runs(body: &[u8], width: usize, times: usize, count: usize) -> bool
     requires some { 0 < times }
