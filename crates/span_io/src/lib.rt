@@ -64,6 +64,3 @@ pub trait Sink {
         ensures bytes { WriteAppends (written self.old) (written self.new) result bytes.now }
         ensures cause { HasCause (faults self.old) (faults self.new) result };
 }
-
-#[cfg(test)]
-mod tests;

@@ -1,4 +1,4 @@
-use crate::{
+use span_io::{
     Failed, MemSink, MemSource, ReadError, Sink, Source, StdSink, StdSource, read_all, write_all,
 };
 use std::alloc::{AllocError, Global};

@@ -1,0 +1,10 @@
+mod convictions;
+mod counts;
+mod graphs;
+mod members;
+mod paths;
+mod reports;
+mod sets;
+mod streams;
+mod votes;
+mod watches;
