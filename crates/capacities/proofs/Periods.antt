@@ -21,7 +21,7 @@ use Rattle.protocol.specs.Clocks.{correction_at, offsets}
 use Rattle.protocol.specs.Safe.{reference, members_from, members_at}
 use Rattle.node_steps.specs.Outcome.{Outcome}
 use Rattle.node_steps.specs.Stages.{outcome_of}
-use Rattle.cluster_step.specs.Record.{ClockShown, PeriodView, holds, budget_in, within_in, claimed_before, class_shown, clock_in, period_record}
+use Rattle.cluster_periods.specs.Record.{ClockShown, PeriodView, holds, budget_in, within_in, claimed_before, class_shown, clock_in, period_record}
 use Rattle.two_capacities.specs.Wider.{wide, wide_rows, wide_config, wide_agreed, wide_claims, wide_view, system_over, longer, wide_clock}
 use Rattle.two_capacities.proofs.Lists.{map_twice, tab_padded}
 use Rattle.two_capacities.proofs.Runs.{members_wide, believed_wide, begun_wide, sent_wide}

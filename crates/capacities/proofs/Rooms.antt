@@ -11,8 +11,8 @@ use Rattle.scenario.specs.Numbers.{natural}
 use Rattle.scenario.specs.Given.{config_of, plan_in, scenario_of}
 use Rattle.scenario.specs.Scenario.{ScenarioView, inputs_of, system_of}
 use Rattle.scenario.specs.Rules.{refusal}
-use Rattle.cluster_step.specs.Record.{PeriodView, period_record}
-use Rattle.run_print.specs.PeriodText.{end_text}
+use Rattle.cluster_periods.specs.Record.{PeriodView, period_record}
+use Rattle.run_text.specs.PeriodText.{end_text}
 use Rattle.two_capacities.specs.Wider.{wide_config, system_over}
 use Rattle.capacities.specs.Texts.{Shows, replayed, traced, checked, text_of, HaveSameTexts}
 use Rattle.capacities.specs.Laws.{MoreRoomLaw, LessRoomLaw}

@@ -15,12 +15,12 @@ use Rattle.list_scheduler.specs.Copies.{CopyTable}
 use Rattle.fault_classes.specs.Plan.{Plan}
 use Rattle.agreed_state.specs.Agreed.{AgreedView}
 use Rattle.node_steps.specs.Outcome.{Outcome}
-use Rattle.cluster_step.specs.Record.{ClockShown, PeriodView}
-use Rattle.run_print.specs.Text.{joined, numbers_text, set_text, class_text, claim_text, row_text, done_item, rows_item, mode_text, run_text, runs_text, votes_text}
-use Rattle.run_print.specs.NodeText.{left_text, state_text, settled_text, beliefs_text, node_text}
-use Rattle.run_print.specs.PeriodText.{head_text, recorded_text, nodes_text}
-use Rattle.run_print.specs.ClockText.{sound_numbers, range_of, spread_text, signed_text, clock_text}
-use Rattle.run_print.specs.TraceText.{frames_text, period_text}
+use Rattle.cluster_periods.specs.Record.{ClockShown, PeriodView}
+use Rattle.run_text.specs.Text.{joined, numbers_text, set_text, class_text, claim_text, row_text, done_item, rows_item, mode_text, run_text, runs_text, votes_text}
+use Rattle.run_text.specs.NodeText.{left_text, state_text, settled_text, beliefs_text, node_text}
+use Rattle.run_text.specs.PeriodText.{head_text, recorded_text, nodes_text}
+use Rattle.run_text.specs.ClockText.{sound_numbers, range_of, spread_text, signed_text, clock_text}
+use Rattle.run_text.specs.TraceText.{frames_text, period_text}
 use Rattle.two_capacities.specs.Wider.{wide, wide_copies, wide_rows, wide_agreed, wide_claims, longer}
 use Rattle.two_capacities.proofs.Lists.{get_padded, take_wide}
 use Rattle.two_capacities.proofs.Copies.{copies_wide, works_same}

@@ -3,4 +3,4 @@ pub mod Laws
 pub use Rattle.scenario.specs.Rules
 pub use Rattle.scenario.specs.Scenario
 pub use Rattle.scenario.specs.Verdict
-pub use Rattle.cluster_step.specs.Record
+pub use Rattle.cluster_periods.specs.Record

@@ -4,9 +4,9 @@ use Rattle.std.specs.List.{flat_map}
 use Rattle.node_grid.specs.NodeSet.{ids_below}
 use Rattle.fault_classes.specs.Plan.{Plan}
 use Rattle.scenario.specs.Scenario.{ScenarioView, system_of}
-use Rattle.cluster_step.specs.Record.{PeriodView, period_record}
-use Rattle.run_print.specs.PeriodText.{head_text, end_text}
-use Rattle.run_print.specs.TraceText.{period_text}
+use Rattle.cluster_periods.specs.Record.{PeriodView, period_record}
+use Rattle.run_text.specs.PeriodText.{head_text, end_text}
+use Rattle.run_text.specs.TraceText.{period_text}
 
 -- what is shown of a period, by the fault plan
 abbrev pub Shows : Type 0

@@ -27,9 +27,9 @@ use Rattle.node_steps.specs.Sending.{Fixed, fixed}
 use Rattle.node_core.specs.Passing.{kept_of, outcome_of}
 use Rattle.scenario.specs.Scenario.{ScenarioView, inputs_of, system_of, IsScenario}
 use Rattle.cluster_step.specs.Calming.{IsUntouched, IsCalmWith, IsOneOf, IsSaid, AreSaid, AreAlike, AreSettledAlike}
-use Rattle.cluster_step.specs.Late.{StepsByRows}
-use Rattle.cluster_step.specs.Periods.{IsAfter, IsBefore, AreBefore, AreNodes}
-use Rattle.cluster_step.proofs.Nodes.{valid_begins}
+use Rattle.cluster_periods.specs.Late.{StepsByRows}
+use Rattle.cluster_periods.specs.Periods.{IsAfter, IsBefore, AreBefore, AreNodes}
+use Rattle.cluster_periods.proofs.Nodes.{valid_begins}
 
 -- all nodes keep the state that the first and the others keep
 pub all_keep : {N : ℕ} (vs rest : List (NodeView N)) (v : NodeView N) (a : AgreedView) → vs ≡ v ∷ rest → v.kept.state ≡ Some a

@@ -20,10 +20,10 @@ use Rattle.safety.specs.ClockLaws.{OffsetLaw}
 use Rattle.node_steps.specs.Outcome.{Outcome}
 use Rattle.node_steps.specs.Stages.{outcome_of}
 use Rattle.scenario.specs.Scenario.{ScenarioView, system_of, IsScenario}
-use Rattle.cluster_step.specs.Record.{ClockShown, by_node, offsets_in, clock_in}
+use Rattle.cluster_periods.specs.Record.{ClockShown, by_node, offsets_in, clock_in}
 use Rattle.cluster_step.specs.Clocking.{IsOffset, AreSteady, start_of, read_by, corrects_by, correction_by, AreOthers, moved, offsets_kept, offsets_before}
-use Rattle.cluster_step.specs.RecordLaws.{recorded}
-use Rattle.cluster_step.proofs.AllSlots.{map_ids, all_ids}
+use Rattle.cluster_periods.specs.RecordLaws.{recorded}
+use Rattle.cluster_periods.proofs.AllSlots.{map_ids, all_ids}
 
 -- ---- whose frames were good, as nodes recorded it
 

@@ -36,8 +36,8 @@ use Rattle.node_steps.specs.Late.{IsAtData}
 use Rattle.node_core.specs.Passing.{IsStatement, claims_taken}
 use Rattle.scenario.specs.Scenario.{ScenarioView, inputs_of, system_of}
 use Rattle.cluster_step.specs.Calming.{IsCalmWith, IsOneOf, IsSaid, AreSaid}
-use Rattle.cluster_step.specs.Late.{IsDataOpen, AreDataOpen, StepsByRows}
-use Rattle.cluster_step.specs.Periods.{IsBefore}
+use Rattle.cluster_periods.specs.Late.{IsDataOpen, AreDataOpen, StepsByRows}
+use Rattle.cluster_periods.specs.Periods.{IsBefore}
 use Rattle.cluster_step.proofs.Calmed.{goes_with_kept}
 
 -- five of seven parts fail

@@ -13,7 +13,7 @@ use Rattle.fault_link.specs.Arrival.{delivered_of}
 use Rattle.relaying.specs.Common.{whole_of, whole_from, frame_by}
 use Rattle.relaying.proofs.Wholes.{all_then}
 use Rattle.node_steps.specs.Parts.{NodeView}
-use Rattle.cluster_step.specs.Slots.{arriving, handed, from_node, handed_from, by_senders, handed_all, IsReady}
+use Rattle.cluster_periods.specs.Slots.{arriving, handed, from_node, handed_from, by_senders, handed_all, IsReady}
 
 flat_pieces : {X : Type 0} (f : ℕ → List X) (n a k : ℕ) → flat_map f (range_with_len a (n + k)) ≡ flat_map f (range_with_len a n) ++ flat_map f (range_with_len (a + n) k)
 flat_pieces f zero a k = ap₂ (λ (b n : ℕ). flat_map f (range_with_len b n)) (let e : a ≡ a + 0 = omega arith in e) (let e : 0 + k ≡ k = omega arith in e)

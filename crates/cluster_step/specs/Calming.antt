@@ -9,7 +9,7 @@ use Rattle.calm_period.specs.Made.{said_of, said_by, AreNotesOf, AreStatements}
 use Rattle.calm_law.specs.Law.{IsCalmTo, said_in}
 use Rattle.node_steps.specs.Parts.{NodeView}
 use Rattle.scenario.specs.Scenario.{ScenarioView, inputs_of, system_of, IsScenario}
-use Rattle.cluster_step.specs.Periods.{IsBefore}
+use Rattle.cluster_periods.specs.Periods.{IsBefore}
 
 -- no line touches a frame of the first so many slots, and no node restarts
 pub record IsUntouched (plan : Plan) (p slots : ℕ) : Type 0 where

@@ -6,7 +6,7 @@ use Rattle.clock_skew.specs.Clock.{ClockView, IsClock, number_at, drift_at, IsUp
 use Rattle.protocol.specs.Clocks.{reading_at, corrects}
 use Rattle.node_steps.specs.Outcome.{Outcome}
 use Rattle.scenario.specs.Scenario.{ScenarioView, system_of}
-use Rattle.cluster_step.specs.Record.{ClockShown, offsets_in}
+use Rattle.cluster_periods.specs.Record.{ClockShown, offsets_in}
 
 -- an offset with which no sum of a period wraps
 abbrev pub IsOffset : ℤ → Type 0

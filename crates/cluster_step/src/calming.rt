@@ -11,8 +11,8 @@ ghost use Rattle.calm_period.specs.Made.{said_by, FollowsFrom, IsClaimed, IsMade
 ghost use Rattle.node_core.specs.Passing.{claims_taken};
 ghost use Rattle.scenario.specs.Scenario.{inputs_of};
 ghost use Rattle.cluster_step.specs.Calming.{IsUntouched, IsCalmWith, IsOneOf, AreInputs, IsSaid, AreSaid, AreAlike};
-ghost use Rattle.cluster_step.specs.Late.{AreAtData};
-ghost use Rattle.cluster_step.specs.Periods.{AreNodes};
+ghost use Rattle.cluster_periods.specs.Late.{AreAtData};
+ghost use Rattle.cluster_periods.specs.Periods.{AreNodes};
 
 use crate::stepping::Period;
 use agreed_state::{Agreed, Inputs};

@@ -8,7 +8,7 @@ ghost use Rattle.protocol.specs.Cluster.{view};
 ghost use Rattle.protocol.specs.Run.{run as run_of};
 ghost use Rattle.node_steps.specs.Stages.{outcome_of};
 ghost use Rattle.scenario.specs.Scenario.{system_of};
-ghost use Rattle.cluster_step.specs.Record.{clock_in};
+ghost use Rattle.cluster_periods.specs.Record.{clock_in};
 ghost use Rattle.cluster_step.specs.Shown.{clock_shown};
 ghost use Rattle.cluster_step.specs.Clocking.{AreSteady, AreOthers, start_of, read_by, correction_by, moved, offsets_kept, offsets_before};
 

@@ -4,7 +4,7 @@ ghost use Rattle.std.specs.Prelude.{◌≡◌, ◌≢◌, ◌<◌, ◌≤◌, tr
 ghost use Rattle.node_grid.specs.Capacity.{IsCapacity};
 ghost use Rattle.slot_plan.specs.Slots.{slot_count};
 ghost use Rattle.fault_classes.specs.Line.{effect_at};
-ghost use Rattle.cluster_step.specs.Slots.{arriving, handed, handed_from, IsReady, Takes};
+ghost use Rattle.cluster_periods.specs.Slots.{arriving, handed, handed_from, IsReady, Takes};
 
 use error_detect::Rooms;
 use fault_classes::FaultPlan;

@@ -9,10 +9,10 @@ use Rattle.protocol.specs.Run.{run}
 use Rattle.node_steps.specs.Outcome.{Outcome}
 use Rattle.node_steps.specs.Stages.{outcome_of}
 use Rattle.scenario.specs.Scenario.{system_of}
-use Rattle.cluster_step.specs.Record.{PeriodView}
-use Rattle.cluster_step.specs.RecordLaws.{recorded}
-use Rattle.run_print.specs.Text.{class_text}
-use Rattle.run_print.specs.PeriodText.{recorded_text, alone_text, end_text}
+use Rattle.cluster_periods.specs.Record.{PeriodView}
+use Rattle.cluster_periods.specs.RecordLaws.{recorded}
+use Rattle.run_text.specs.Text.{class_text}
+use Rattle.run_text.specs.PeriodText.{recorded_text, alone_text, end_text}
 use Rattle.node_alone.specs.Log.{RecordView}
 use Rattle.node_alone.specs.View.{view_alone}
 use Rattle.maft.specs.Alone.{log_printed}

@@ -2,11 +2,11 @@
 use Rattle.std.proofs.Common.{◌≡◌, ℕ, Bool, refl, ap, subst, ◌∙◌, Result, Ok, Err}
 use Rattle.fault_classes.specs.Plan.{Plan}
 use Rattle.scenario.specs.Scenario.{ScenarioView, system_of}
-use Rattle.cluster_step.specs.Record.{PeriodView, Shows, period_record}
+use Rattle.cluster_periods.specs.Record.{PeriodView, Shows, period_record}
 use Rattle.agreed_state.specs.declared.config.Config.{Config}
 use Rattle.node_steps.specs.Outcome.{Outcome}
 use Rattle.node_steps.specs.Stages.{outcome_of}
-use Rattle.run_print.specs.PeriodText.{alone_text}
+use Rattle.run_text.specs.PeriodText.{alone_text}
 use Rattle.node_alone.specs.Log.{RecordView}
 use Rattle.node_alone.specs.Stepping.{AloneView}
 use Rattle.node_alone.specs.View.{view_alone}

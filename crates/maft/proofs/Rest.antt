@@ -1,7 +1,7 @@
 -- The text of a run that is still to come: what is printed of the periods from one on, and the end.
 use Rattle.std.proofs.Common.{◌≡◌, ℕ, suc, ◌+◌, ◌-◌, ◌<◌, List, [], ◌∷◌, ◌++◌, arith, refl, ap₂, append_assoc}
 use Rattle.std.specs.List.{flat_map, range_with_len}
-use Rattle.run_print.specs.PeriodText.{end_text}
+use Rattle.run_text.specs.PeriodText.{end_text}
 
 -- of so many periods, those from i on, and the end
 unfoldable pub rest_text : (ℕ → List ℕ) → ℕ → ℕ → List ℕ

@@ -5,7 +5,7 @@ use Rattle.std.specs.Io.KnownBytes.{Appends, Keeps}
 use Rattle.node_grid.specs.NodeSet.{ids_below}
 use Rattle.span_io.specs.Causes.{Rose, AppendsPrefix}
 use Rattle.node_steps.specs.Stages.{outcome_of}
-use Rattle.run_print.specs.PeriodText.{end_text, alone_text}
+use Rattle.run_text.specs.PeriodText.{end_text, alone_text}
 use Rattle.node_alone.specs.Log.{RecordView}
 use Rattle.node_alone.specs.View.{view_alone}
 use Rattle.maft.specs.declared.replay.ReplayError.{ReplayError}

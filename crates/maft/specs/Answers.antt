@@ -6,12 +6,12 @@ use Rattle.serde_json.specs.Data.{Data}
 use Rattle.scenario.specs.Reading.{Reads}
 use Rattle.scenario.specs.Scenario.{ScenarioView}
 use Rattle.scenario.specs.Verdict.{IsAcceptedValue, value_refusal}
-use Rattle.run_print.specs.PeriodText.{refused_text}
+use Rattle.run_text.specs.PeriodText.{refused_text}
 use Rattle.node_alone.specs.Log.{RecordView}
 use Rattle.node_alone.specs.Rules.{IsAcceptedRecord, record_refusal}
 use Rattle.storm.specs.Laws.{Weathers, storm_system}
 use Rattle.storm_sum.specs.Laws.{storm_summary, IsStormSummary}
-use Rattle.run_print.specs.StormText.{storm_text}
+use Rattle.run_text.specs.StormText.{storm_text}
 use Rattle.maft.specs.declared.form.Reading.{Reading}
 use Rattle.maft.specs.declared.form.Reading.TheVariants.{Scenario, Log}
 use Rattle.maft.specs.declared.form.Command.{Command}

@@ -7,10 +7,10 @@ use Rattle.node_grid.specs.declared.class.Class.TheVariants.{N}
 use Rattle.node_steps.specs.Outcome.{Outcome}
 use Rattle.scenario.specs.Scenario.{ScenarioView, IsScenario, system_of}
 use Rattle.scenario.specs.Verdict.{IsAcceptedValue}
-use Rattle.cluster_step.specs.Record.{PeriodView, period_record}
-use Rattle.run_print.specs.Text.{class_text}
-use Rattle.run_print.specs.NodeText.{node_text}
-use Rattle.run_print.specs.PeriodText.{nodes_text, end_text}
+use Rattle.cluster_periods.specs.Record.{PeriodView, period_record}
+use Rattle.run_text.specs.Text.{class_text}
+use Rattle.run_text.specs.NodeText.{node_text}
+use Rattle.run_text.specs.PeriodText.{nodes_text, end_text}
 use Rattle.node_alone.specs.Log.{RecordView}
 use Rattle.node_alone.specs.Laws.{IsOfRun}
 use Rattle.maft.specs.declared.form.Form.{Form}

@@ -8,10 +8,10 @@ use Rattle.fault_classes.specs.Plan.{Plan}
 use Rattle.protocol.specs.Run.{run, classes}
 use Rattle.protocol.specs.Safe.{Claim}
 use Rattle.scenario.specs.Scenario.{ScenarioView, system_of}
-use Rattle.cluster_step.specs.Record.{PeriodView, period_record}
-use Rattle.cluster_step.specs.Laws.{Promises}
-use Rattle.run_print.specs.PeriodText.{head_text, end_text}
-use Rattle.run_print.specs.TraceText.{period_text}
+use Rattle.cluster_periods.specs.Record.{PeriodView, period_record}
+use Rattle.cluster_periods.specs.Laws.{Promises}
+use Rattle.run_text.specs.PeriodText.{head_text, end_text}
+use Rattle.run_text.specs.TraceText.{period_text}
 use Rattle.maft.specs.declared.form.Form.{Form}
 use Rattle.maft.specs.declared.form.Form.TheVariants.{Replay, Trace, Check}
 use Rattle.maft.specs.declared.replay.ReplayError.{ReplayError}

@@ -2,7 +2,7 @@
 ghost use Rattle.maft.specs.Laws.{SafeRunLaw, OrderLaw, OneTextLaw, FewNodesLaw, AloneTextLaw};
 
 use capacities::laws as rooms;
-use cluster_step::laws;
+use cluster_periods::laws;
 use scenario_capacities::laws::stays_accepted;
 
 /// Each claimed period of an accepted scenario keeps what is promised of it, and its line says `claim yes` exactly where

@@ -7,7 +7,7 @@ ghost use Rattle.serde_json.specs.Data.{Data};
 ghost use Rattle.serde_json.specs.View.{view};
 ghost use Rattle.scenario.specs.Scenario.{ScenarioView};
 ghost use Rattle.scenario.specs.Verdict.{IsAcceptedValue};
-ghost use Rattle.run_print.specs.PeriodText.{refused_text};
+ghost use Rattle.run_text.specs.PeriodText.{refused_text};
 ghost use Rattle.maft.specs.declared.form.Reading.{Reading as SpecReading};
 ghost use Rattle.maft.specs.declared.form.Reading.TheVariants.{Scenario as SpecScenario, Log as SpecLog};
 ghost use Rattle.maft.specs.declared.form.Command.{Command as SpecCommand};

@@ -5,7 +5,7 @@ use Rattle.std.proofs.lemmas.Grind.{flat_map-append}
 use Rattle.std.proofs.KnownBytes.{Appends-nil}
 use Rattle.run_print.specs.Printing.{Gathers, Printed, PrintedIf, Prints, Finishes, WritesText}
 use Rattle.run_print.specs.declared.printer.Printer.{Printer}
-use Rattle.run_print.specs.Text.{joined, separator_at}
+use Rattle.run_text.specs.Text.{joined, separator_at}
 
 pub joined-push : (separator : List ℕ) (xs : List (List ℕ)) (x : List ℕ) → joined separator (xs ++ x ∷ []) ≡ joined separator xs ++ (separator_at separator (length xs) ++ x)
 joined-push separator [] x = append-nil x

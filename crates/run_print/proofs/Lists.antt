@@ -10,14 +10,14 @@ use Rattle.std.proofs.lemmas.Grind.{flat_map-append, replicate_next}
 use Rattle.std.proofs.lemmas.List.FromFn.{map-range_with_len_more, length-map-range_with_len}
 use Rattle.hex.specs.Hex.{encode_with, encode_lower, lower_digits}
 use Rattle.node_grid.specs.NodeSet.{ids_below}
-use Rattle.run_print.specs.Text.{joined, separator_at, vote_item, votes_text}
+use Rattle.run_text.specs.Text.{joined, separator_at, vote_item, votes_text}
 use Rattle.slot_plan.specs.Ticks.{on_time}
 use Rattle.fault_classes.specs.Change.{Change}
 use Rattle.fault_classes.specs.Line.{effect_at}
 use Rattle.fault_classes.specs.Plan.{Plan}
 use Rattle.fault_link.specs.Arrival.{delivered_of}
-use Rattle.cluster_step.specs.Record.{PeriodView, frame_at}
-use Rattle.run_print.specs.TraceText.{bytes_text, start_text, frame_text, link_text}
+use Rattle.cluster_periods.specs.Record.{PeriodView, frame_at}
+use Rattle.run_text.specs.TraceText.{bytes_text, start_text, frame_text, link_text}
 use Rattle.run_print.proofs.Joining.{joined-push}
 
 range_next : (a n k : ℕ) → a + n ≡ k → range_with_len a (n + 1) ≡ range_with_len a n ++ k ∷ []

@@ -6,7 +6,7 @@ use Rattle.std.specs.List.{fold}
 use Rattle.node_grid.specs.declared.class.Class.{Class}
 use Rattle.node_grid.specs.declared.class.Class.TheVariants.{N}
 use Rattle.node_grid.specs.Class.{is_sound}
-use Rattle.run_print.specs.ClockText.{sound_numbers, range_of, widened}
+use Rattle.run_text.specs.ClockText.{sound_numbers, range_of, widened}
 
 fold_push : (f : ℤ → ℤ → ℤ) (a : ℤ) (xs : List ℤ) (x : ℤ) → fold f a (xs ++ x ∷ []) ≡ f (fold f a xs) x
 fold_push f a [] x = refl

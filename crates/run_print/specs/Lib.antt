@@ -1,14 +1,8 @@
 pub mod Printing
-pub mod Text
-pub mod NodeText
-pub mod PeriodText
-pub mod ClockText
-pub mod TraceText
-pub mod StormText
 pub use Rattle.span_io.specs.Causes
 pub use Rattle.fault_classes.specs.Line
 pub use Rattle.fault_classes.specs.Plan
 pub use Rattle.fault_link.specs.Arrival
 pub use Rattle.agreed_state.specs.Agreed
 pub use Rattle.node_steps.specs.Outcome
-pub use Rattle.cluster_step.specs.Record
+pub use Rattle.cluster_periods.specs.Record

@@ -2,7 +2,7 @@
 ghost use Rattle.std.specs.Prelude.{◌≡◌, ◌≤◌, None, length, take};
 ghost use Rattle.run_print.specs.Printing.{Prints};
 ghost use Rattle.node_grid.specs.Class.{is_sound};
-ghost use Rattle.run_print.specs.ClockText.{sound_numbers, range_of, widened, spread_text, clock_line, clock_text};
+ghost use Rattle.run_text.specs.ClockText.{sound_numbers, range_of, widened, spread_text, clock_line, clock_text};
 
 use crate::printer::Printer;
 use cluster_step::PeriodRecord;

@@ -2,9 +2,9 @@
 ghost use Rattle.std.specs.Prelude.{◌≡◌, ◌≤◌, codes};
 ghost use Rattle.node_grid.specs.Capacity.{IsCapacity};
 ghost use Rattle.run_print.specs.Printing.{Prints, WritesText};
-ghost use Rattle.run_print.specs.Text.{mode_text};
-ghost use Rattle.run_print.specs.NodeText.{left_text, state_text, settled_text, node_text};
-ghost use Rattle.run_print.specs.PeriodText.{alone_text};
+ghost use Rattle.run_text.specs.Text.{mode_text};
+ghost use Rattle.run_text.specs.NodeText.{left_text, state_text, settled_text, node_text};
+ghost use Rattle.run_text.specs.PeriodText.{alone_text};
 
 use crate::WriteFault;
 use crate::printer::{Printer, SMALL};

@@ -2,9 +2,9 @@
 ghost use Rattle.std.specs.Prelude.{◌≡◌, ◌≤◌, ◌<◌, true, false, slice_get};
 ghost use Rattle.node_grid.specs.Capacity.{IsCapacity};
 ghost use Rattle.run_print.specs.Printing.{Prints, WritesText};
-ghost use Rattle.run_print.specs.Text.{class_text};
-ghost use Rattle.run_print.specs.TraceText.{IsPlanOf, period_text};
-ghost use Rattle.run_print.specs.PeriodText.{budget_text, head_text, recorded_text, nodes_text, end_text, refused_text};
+ghost use Rattle.run_text.specs.Text.{class_text};
+ghost use Rattle.run_text.specs.TraceText.{IsPlanOf, period_text};
+ghost use Rattle.run_text.specs.PeriodText.{budget_text, head_text, recorded_text, nodes_text, end_text, refused_text};
 
 use crate::WriteFault;
 use crate::printer::{LARGE, Printer, SMALL};

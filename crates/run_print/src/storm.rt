@@ -1,7 +1,7 @@
 //! The printed summary of a storm.
 ghost use Rattle.std.specs.Prelude.{◌≡◌, ◌≤◌};
 ghost use Rattle.run_print.specs.Printing.{Prints, WritesText};
-ghost use Rattle.run_print.specs.StormText.{sums_text, outcome_text, storm_text};
+ghost use Rattle.run_text.specs.StormText.{sums_text, outcome_text, storm_text};
 
 use crate::WriteFault;
 use crate::printer::{Printer, SMALL};
@@ -36,7 +36,7 @@ pub struct StormSum<const N: usize> {
 }
 
 impl<const N: usize> Model for StormSum<N> {
-    ghost use Rattle.run_print.specs.StormText.{StormView};
+    ghost use Rattle.run_text.specs.StormText.{StormView};
 
     ghost Value = { StormView };
 

@@ -5,8 +5,8 @@ ghost use Rattle.omh_paths.specs.declared.wrapped.Wrapped.TheVariants.{Fault};
 ghost use Rattle.list_scheduler.specs.Copies.{works};
 ghost use Rattle.node_core.specs.Modes.{mode_of};
 ghost use Rattle.run_print.specs.Printing.{Prints};
-ghost use Rattle.run_print.specs.ClockText.{signed_text};
-ghost use Rattle.run_print.specs.Text.{joined, numbers_text, set_text, separator_at, yes_no, mode_text, run_text, runs_text, vote_text, vote_item, votes_text, claim_text, row_text, done_item, rows_item};
+ghost use Rattle.run_text.specs.ClockText.{signed_text};
+ghost use Rattle.run_text.specs.Text.{joined, numbers_text, set_text, separator_at, yes_no, mode_text, run_text, runs_text, vote_text, vote_item, votes_text, claim_text, row_text, done_item, rows_item};
 
 use crate::printer::Printer;
 use list_scheduler::Copies;

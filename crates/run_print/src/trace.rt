@@ -7,9 +7,9 @@ ghost use Rattle.slot_plan.specs.Slots.{slot_count};
 ghost use Rattle.slot_plan.specs.Ticks.{on_time};
 ghost use Rattle.fault_classes.specs.Line.{effect_at};
 ghost use Rattle.fault_link.specs.Arrival.{delivered_of};
-ghost use Rattle.cluster_step.specs.Record.{frame_at};
+ghost use Rattle.cluster_periods.specs.Record.{frame_at};
 ghost use Rattle.run_print.specs.Printing.{Prints};
-ghost use Rattle.run_print.specs.TraceText.{IsPlanOf, bytes_text, start_text, arrival_text, frame_text, link_text, sender_text, slot_text, frames_text};
+ghost use Rattle.run_text.specs.TraceText.{IsPlanOf, bytes_text, start_text, arrival_text, frame_text, link_text, sender_text, slot_text, frames_text};
 
 use crate::printer::Printer;
 use arrayvec::ArrayVec;

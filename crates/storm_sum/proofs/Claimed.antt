@@ -9,7 +9,7 @@ use Rattle.protocol.specs.Cluster.{view}
 use Rattle.protocol.specs.Run.{System, members_in, run}
 use Rattle.node_steps.specs.Outcome.{Outcome}
 use Rattle.node_steps.specs.Stages.{outcome_of}
-use Rattle.cluster_step.specs.Laws.{ClaimLaw}
+use Rattle.cluster_periods.specs.Laws.{ClaimLaw}
 use Rattle.storm.specs.Laws.{storm_system, Weathers, StormLaw}
 use Rattle.storm_sum.specs.Summary.{how_many, agreed_by, counts_in, claim_at, state_at}
 use Rattle.storm_sum.specs.Laws.{SummaryLaw}

@@ -5,9 +5,9 @@ use Rattle.node_grid.specs.ListLaws.{bit_le}
 use Rattle.clock_skew.specs.Clock.{ClockView}
 use Rattle.protocol.specs.Run.{System, members_in}
 use Rattle.scenario.specs.Scenario.{ScenarioView, system_of}
-use Rattle.run_print.specs.StormText.{StormView}
-use Rattle.cluster_step.specs.Record.{PeriodView, without_frames, Shows, period_record}
-use Rattle.cluster_step.specs.RecordLaws.{shows_rest}
+use Rattle.run_text.specs.StormText.{StormView}
+use Rattle.cluster_periods.specs.Record.{PeriodView, without_frames, Shows, period_record}
+use Rattle.cluster_periods.specs.RecordLaws.{shows_rest}
 use Rattle.cluster_step.proofs.Members.{reference_low}
 use Rattle.storm_sum.specs.declared.sums.Sums.{Sums}
 use Rattle.storm_sum.specs.Summary.{how_many, total, state_after, excluded, readmitted, counts_in, claim_at, excluded_at, readmitted_at, state_at, summary_of}

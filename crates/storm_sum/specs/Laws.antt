@@ -2,7 +2,7 @@
 use Rattle.std.specs.Prelude.{ℕ, ◌≡◌, ◌<◌, ◌≤◌, true, slice_index}
 use Rattle.node_grid.specs.NodeSet.{has_id}
 use Rattle.scenario.specs.Given.{scenario_of}
-use Rattle.run_print.specs.StormText.{StormView}
+use Rattle.run_text.specs.StormText.{StormView}
 use Rattle.storm.specs.Parts.{storm_parts}
 use Rattle.storm_sum.specs.Summary.{summary_of}
 

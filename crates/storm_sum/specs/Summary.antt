@@ -7,8 +7,8 @@ use Rattle.agreed_state.specs.Agreed.{AgreedView}
 use Rattle.protocol.specs.Run.{System, members_in}
 use Rattle.node_steps.specs.Outcome.{Outcome}
 use Rattle.scenario.specs.Scenario.{ScenarioView, system_of}
-use Rattle.cluster_step.specs.Record.{PeriodView, period_record}
-use Rattle.run_print.specs.StormText.{StormView}
+use Rattle.cluster_periods.specs.Record.{PeriodView, period_record}
+use Rattle.run_text.specs.StormText.{StormView}
 
 -- ---- sums
 

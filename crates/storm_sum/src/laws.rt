@@ -7,5 +7,5 @@ pub fn claimed()
     ensures { SummaryLaw }
 {
     storm::laws::weathered();
-    cluster_step::laws::claims();
+    cluster_periods::laws::claims();
 }

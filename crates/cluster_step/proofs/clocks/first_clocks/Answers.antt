@@ -6,7 +6,7 @@ use Rattle.agreed_state.specs.declared.config.Config.{Config}
 use Rattle.protocol.specs.Run.{run, classes}
 use Rattle.protocol.specs.Clocks.{AreClocks}
 use Rattle.scenario.specs.Scenario.{ScenarioView, system_of}
-use Rattle.cluster_step.specs.Record.{offsets_in}
+use Rattle.cluster_periods.specs.Record.{offsets_in}
 use Rattle.cluster_step.specs.Clocking.{start_of}
 use Rattle.cluster_step.proofs.Clocking.{starts_are}
 use Rattle.cluster_step.proofs.clocks.first_clocks.Goals as goal

@@ -10,7 +10,7 @@ use Rattle.protocol.specs.Clocks.{correction_at, offsets}
 use Rattle.node_steps.specs.Outcome.{Outcome}
 use Rattle.node_steps.specs.Stages.{outcome_of}
 use Rattle.scenario.specs.Scenario.{ScenarioView, system_of}
-use Rattle.cluster_step.specs.Record.{ClockShown, by_node, offsets_in, clock_in}
+use Rattle.cluster_periods.specs.Record.{ClockShown, by_node, offsets_in, clock_in}
 use Rattle.cluster_step.specs.Shown.{clock_shown}
 use Rattle.cluster_step.specs.Clocking.{AreOthers, correction_by, moved}
 use Rattle.cluster_step.proofs.Clocking.{AreAtHand, at_hand, others, corrections_are, moved_are}

@@ -1,6 +1,6 @@
 use Rattle.std.proofs.Common.{ℕ, ◌<◌, inl, inr, lit<, ap, sym, subst, ◌∙◌}
 use Rattle.node_steps.specs.Parts.{NodeView}
-use Rattle.cluster_step.proofs.Handing.{handed_more}
+use Rattle.cluster_periods.proofs.Handing.{handed_more}
 use Rattle.cluster_step.proofs.links.hand.Goals as goal
 
 pub deliver-requires : goal.deliver-requires

@@ -1,5 +1,5 @@
 use Rattle.std.proofs.Common.{◌≡◌, map, replicate}
-use Rattle.cluster_step.specs.Slots.{arriving, handed}
+use Rattle.cluster_periods.specs.Slots.{arriving, handed}
 use Rattle.cluster_step.proofs.links.hand.Given as goal
 
 abbrev pub invariant-loop : goal.invariant-loop

@@ -1,6 +1,6 @@
 use Rattle.std.proofs.Common.{ℕ, List, ◌++◌, ap}
 use Rattle.node_grid.specs.NodeSet.{ids_below}
-use Rattle.run_print.specs.PeriodText.{end_text}
+use Rattle.run_text.specs.PeriodText.{end_text}
 use Rattle.maft.specs.Run.{printed, shown_text}
 use Rattle.maft.proofs.Rest.{same_texts}
 use Rattle.maft.proofs.laws.order_is_free.Goals as goal

@@ -1,7 +1,7 @@
 use Rattle.std.proofs.Common.{rules, ◌<◌, ℕ, pos, length, get_or, sym, ap, ap₂, ◌∙◌, arith, Some, w64}
 use mir.Val.{SFits}
 use Rattle.std.proofs.lemmas.Int.{to_z-of_z}
-use Rattle.run_print.specs.ClockText.{widened}
+use Rattle.run_text.specs.ClockText.{widened}
 use Rattle.run_print.proofs.Ranges.{counted, passed}
 use Rattle.run_print.proofs.clock.sound_range.Goals as goal
 use Rattle.run_print.proofs.clock.sound_range.Goals.{then-is_sound, else-is_sound}

@@ -1,5 +1,5 @@
 use Rattle.std.proofs.Common.{ℕ, ◌≤◌, ◌<◌, length}
-use Rattle.cluster_step.specs.Record.{frame_at}
+use Rattle.cluster_periods.specs.Record.{frame_at}
 use Rattle.run_print.proofs.trace.longest.Given as goal
 
 abbrev pub invariant-loop-from : goal.invariant-loop-from

@@ -3,8 +3,8 @@ use Rattle.std.proofs.lemmas.Bool.{cond-false}
 use Rattle.error_detect.specs.Finding.{Delivery}
 use Rattle.fault_classes.specs.Line.{effect_at}
 use Rattle.fault_link.specs.Arrival.{delivered_of}
-use Rattle.cluster_step.specs.Slots.{arriving, handed}
-use Rattle.cluster_step.proofs.Handing.{ready_takes}
+use Rattle.cluster_periods.specs.Slots.{arriving, handed}
+use Rattle.cluster_periods.proofs.Handing.{ready_takes}
 use Rattle.cluster_step.proofs.links.Link.deliver_changed.Goals as goal
 
 pub hand-requires : goal.hand-requires

@@ -5,7 +5,7 @@ use Rattle.std.proofs.lemmas.List.{map-set}
 use Rattle.std.proofs.lemmas.List.Elements.{All-get_or, All-set}
 use Rattle.slot_plan.specs.Slots.{slot_count}
 use Rattle.node_steps.specs.Steps.{frame_of}
-use Rattle.cluster_step.specs.Record.{PeriodView}
+use Rattle.cluster_periods.specs.Record.{PeriodView}
 use Rattle.cluster_step.specs.Buffers.{IsBuffer, IsSlot, IsRoom, slot_bytes}
 use Rattle.cluster_step.specs.Shown.{shown}
 use Rattle.cluster_step.proofs.Taking.{Slot, bytes_of, refilled, slot_refilled}

@@ -1,6 +1,6 @@
 use Rattle.std.proofs.Common.{inl, inr, lit<, subst, arith}
-use Rattle.cluster_step.specs.Periods.{begun_by, IsResting}
-use Rattle.cluster_step.proofs.Handing.{holds_here, put_over, all_put}
+use Rattle.cluster_periods.specs.Periods.{begun_by, IsResting}
+use Rattle.cluster_periods.proofs.Handing.{holds_here, put_over, all_put}
 use Rattle.cluster_step.proofs.stepping.Period.begin_all.Goals as goal
 
 pub begin_node-requires : goal.begin_node-requires

@@ -1,5 +1,5 @@
 use Rattle.std.proofs.Common.{◌≡◌, ◌++◌, take, drop, map}
-use Rattle.cluster_step.specs.Periods.{begun_by}
+use Rattle.cluster_periods.specs.Periods.{begun_by}
 use Rattle.cluster_step.proofs.stepping.Period.begin_all.Given as goal
 
 abbrev pub invariant-loop-node : goal.invariant-loop-node

@@ -1,6 +1,6 @@
 use Rattle.std.proofs.Common.{◌≡◌, ◌<◌, inl, inr, lit<, sym, ap, subst, ◌∙◌, arith}
 use Rattle.fault_classes.specs.Plan.{Plan, restarts_at}
-use Rattle.cluster_step.specs.Periods.{IsResting}
+use Rattle.cluster_periods.specs.Periods.{IsResting}
 use Rattle.cluster_step.proofs.Waking.{woken_shut, begun_is}
 use Rattle.cluster_step.proofs.stepping.Period.begin_node.Goals as goal
 

@@ -1,7 +1,7 @@
 use Rattle.std.proofs.Common.{◌≡◌, ◌∷◌, length, Some, sym, ap, ◌∙◌, inl, inr, lit<, arith}
 use Rattle.agreed_state.specs.declared.config.Config.{Config}
 use Rattle.agreed_state.specs.Agreed.{AgreedView}
-use Rattle.cluster_step.proofs.Listed.{many_nodes}
+use Rattle.cluster_periods.proofs.Listed.{many_nodes}
 use Rattle.cluster_step.proofs.Calmed.{calm_with, all_keep, others_keep}
 use Rattle.cluster_step.proofs.stepping.Period.calm_state.Goals as goal
 

@@ -5,7 +5,7 @@ use Rattle.fault_classes.specs.Line.{effect_at}
 use Rattle.fault_classes.specs.Plan.{Plan}
 use Rattle.node_steps.specs.Parts.{NodeView}
 use Rattle.relaying.specs.Common.{frame_by}
-use Rattle.cluster_step.specs.Slots.{handed_from, by_senders, IsReady}
+use Rattle.cluster_periods.specs.Slots.{handed_from, by_senders, IsReady}
 use Rattle.cluster_step.proofs.Pieces.{AreUntouched, none_taken_yet, whole_behind, changed_behind, ready_still, untouched_more}
 use Rattle.cluster_step.proofs.stepping.Period.deliver_senders.Goals as goal
 use Rattle.cluster_step.proofs.stepping.Period.deliver_senders.Goals.{then-is_touched, else-is_touched}

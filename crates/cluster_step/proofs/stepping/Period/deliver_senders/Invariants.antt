@@ -1,6 +1,6 @@
 use Rattle.std.proofs.Common.{◌≡◌, ◌≤◌, ◌-◌, map}
 use Rattle.relaying.specs.Common.{frame_by}
-use Rattle.cluster_step.specs.Slots.{by_senders}
+use Rattle.cluster_periods.specs.Slots.{by_senders}
 use Rattle.cluster_step.proofs.Pieces.{AreUntouched}
 use Rattle.cluster_step.proofs.stepping.Period.deliver_senders.Given as goal
 

@@ -8,8 +8,8 @@ use Rattle.node_steps.specs.Parts.{NodeView}
 use Rattle.node_steps.specs.Sending.{Fixed}
 use Rattle.scenario.specs.Scenario.{inputs_of}
 use Rattle.cluster_step.specs.Calming.{IsSaid}
-use Rattle.cluster_step.specs.Periods.{IsBefore}
-use Rattle.cluster_step.proofs.Listed.{many_nodes}
+use Rattle.cluster_periods.specs.Periods.{IsBefore}
+use Rattle.cluster_periods.proofs.Listed.{many_nodes}
 use Rattle.cluster_step.proofs.Calmed.{node_there, fewer_calm}
 use Rattle.cluster_step.proofs.DataOpened.{opened_well, all_opened, steps_by_rows}
 use Rattle.cluster_step.proofs.stepping.Period.open_data_all.Goals as goal

@@ -8,7 +8,7 @@ use Rattle.calm_period.specs.Made.{said_by, AreStatements, IsClaimed, IsMade}
 use Rattle.scenario.specs.Scenario.{ScenarioView}
 use Rattle.cluster_step.specs.Calming.{IsCalmWith}
 use Rattle.cluster_step.proofs.Calmed.{fewer_calm}
-use Rattle.cluster_step.proofs.Listed.{many_nodes}
+use Rattle.cluster_periods.proofs.Listed.{many_nodes}
 use Rattle.cluster_step.proofs.stepping.Period.pass.Goals as goal
 
 pub config-config-requires : goal.config-config-requires

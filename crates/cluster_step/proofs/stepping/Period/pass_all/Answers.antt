@@ -8,8 +8,8 @@ use Rattle.calm_period.specs.Calm.{Said}
 use Rattle.calm_period.specs.Made.{said_of, said_by}
 use Rattle.node_steps.specs.Parts.{NodeView}
 use Rattle.node_steps.specs.Sending.{Fixed}
-use Rattle.cluster_step.specs.Periods.{IsBefore}
-use Rattle.cluster_step.proofs.Listed.{many_nodes}
+use Rattle.cluster_periods.specs.Periods.{IsBefore}
+use Rattle.cluster_periods.proofs.Listed.{many_nodes}
 use Rattle.cluster_step.proofs.Calmed.{node_there, IsPassed, passed_well, all_passed, alike_after}
 use Rattle.cluster_step.proofs.stepping.Period.pass_all.Goals as goal
 

@@ -4,7 +4,7 @@ use Rattle.std.proofs.lemmas.List.{get_or-set_same, get_or-set_other, length-set
 use Rattle.calm_period.specs.declared.statement.Statement.{Statement}
 use Rattle.scenario.specs.Scenario.{inputs_of}
 use Rattle.cluster_step.specs.Calming.{IsSaid}
-use Rattle.cluster_step.proofs.Listed.{many_nodes}
+use Rattle.cluster_periods.proofs.Listed.{many_nodes}
 use Rattle.cluster_step.proofs.Calmed.{one_there, all_said}
 use Rattle.cluster_step.proofs.stepping.Period.statements.Goals as goal
 

@@ -8,9 +8,9 @@ use Rattle.node_steps.specs.Steps.{frame_of}
 use Rattle.node_grid.specs.NodeSet.{ids_below}
 use Rattle.protocol.specs.Run.{sent}
 use Rattle.scenario.specs.Scenario.{ScenarioView, system_of, IsScenario}
-use Rattle.cluster_step.specs.Slots.{IsReady}
-use Rattle.cluster_step.specs.Periods.{slots_from, begun_all, AreBefore, IsPeriod}
-use Rattle.cluster_step.proofs.Listed.{all_resting, many_nodes}
+use Rattle.cluster_periods.specs.Slots.{IsReady}
+use Rattle.cluster_periods.specs.Periods.{slots_from, begun_all, AreBefore, IsPeriod}
+use Rattle.cluster_periods.proofs.Listed.{all_resting, many_nodes}
 use Rattle.cluster_step.proofs.Slotting.{slots_none, slots_more, all_short, none_taken, more_taken, shape_taken, all_taken}
 use Rattle.cluster_step.proofs.stepping.Period.step.Goals as goal
 

@@ -1,5 +1,5 @@
 use Rattle.std.proofs.Common.{◌≡◌}
-use Rattle.cluster_step.specs.Periods.{slots_from}
+use Rattle.cluster_periods.specs.Periods.{slots_from}
 use Rattle.cluster_step.proofs.Slotting.{HasTaken}
 use Rattle.cluster_step.proofs.stepping.Period.step.Given as goal
 

@@ -3,8 +3,8 @@ use Rattle.std.specs.Prelude.{All, slice_index_or}
 use Rattle.relaying.specs.Common.{Common, AreGuessedIn, frame_by}
 use Rattle.node_steps.specs.Parts.{NodeView}
 use Rattle.scenario.specs.Scenario.{ScenarioView}
-use Rattle.cluster_step.specs.Slots.{through_slot, IsReady}
-use Rattle.cluster_step.proofs.Handing.{holds_here, put_over, all_put}
+use Rattle.cluster_periods.specs.Slots.{through_slot, IsReady}
+use Rattle.cluster_periods.proofs.Handing.{holds_here, put_over, all_put}
 use Rattle.cluster_step.proofs.stepping.Period.step_each.Goals as goal
 
 pub step_node-requires : goal.step_node-requires

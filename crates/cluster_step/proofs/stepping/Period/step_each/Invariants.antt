@@ -1,6 +1,6 @@
 use Rattle.std.proofs.Common.{◌≡◌, ◌++◌, [], take, drop, map}
 use Rattle.std.specs.Prelude.{slice_index_or}
-use Rattle.cluster_step.specs.Slots.{through_slot}
+use Rattle.cluster_periods.specs.Slots.{through_slot}
 use Rattle.cluster_step.proofs.stepping.Period.step_each.Given as goal
 
 abbrev pub invariant-loop-node : goal.invariant-loop-node

@@ -6,9 +6,9 @@ use Rattle.agreed_state.specs.ConfigLaws.{few_rounds}
 use Rattle.node_steps.specs.Parts.{NodeView}
 use Rattle.node_steps.specs.Steps.{frame_of}
 use Rattle.scenario.specs.Scenario.{ScenarioView, IsScenario}
-use Rattle.cluster_step.specs.Slots.{IsReady}
-use Rattle.cluster_step.specs.Periods.{slots_from, AreBefore, GoesOver}
-use Rattle.cluster_step.proofs.Listed.{many_open}
+use Rattle.cluster_periods.specs.Slots.{IsReady}
+use Rattle.cluster_periods.specs.Periods.{slots_from, AreBefore, GoesOver}
+use Rattle.cluster_periods.proofs.Listed.{many_open}
 use Rattle.cluster_step.proofs.Slotting.{slots_none, slots_more, all_short, shape_kept, sent_alone, late_slots, late_within, ended_at}
 use Rattle.cluster_step.proofs.stepping.Period.step_late.Goals as goal
 

@@ -2,7 +2,7 @@ use Rattle.std.proofs.Common.{map, inl, inr, lit<, ap, subst, sym, ◌∙◌}
 use Rattle.node_steps.specs.Parts.{NodeView}
 use Rattle.node_steps.specs.Steps.{after_slot}
 use Rattle.scenario.specs.Scenario.{ScenarioView}
-use Rattle.cluster_step.specs.Slots.{handed_all, IsReady}
+use Rattle.cluster_periods.specs.Slots.{handed_all, IsReady}
 use Rattle.cluster_step.proofs.Pieces.{ready_still}
 use Rattle.cluster_step.proofs.stepping.Period.step_node.Goals as goal
 

@@ -1,10 +1,10 @@
 use Rattle.std.proofs.Common.{ℕ, ◌+◌, length, ap, subst, sym, ◌∙◌, inl, inr, lit<}
 use Rattle.scenario.specs.Scenario.{system_of}
-use Rattle.cluster_step.specs.Record.{PeriodView}
-use Rattle.cluster_step.specs.Periods.{AreNodes}
+use Rattle.cluster_periods.specs.Record.{PeriodView}
+use Rattle.cluster_periods.specs.Periods.{AreNodes}
 use Rattle.cluster_step.proofs.Showing.{many_slots}
 use Rattle.cluster_step.proofs.Calmed.{alike_by_rows}
-use Rattle.cluster_step.proofs.Listed.{many_nodes}
+use Rattle.cluster_periods.proofs.Listed.{many_nodes}
 use Rattle.cluster_step.proofs.stepping.Period.take.Goals as goal
 
 pub pass-requires : goal.pass-requires

@@ -1,6 +1,6 @@
 use Rattle.run_print.proofs.Joining.{then}
 use Rattle.run_print.proofs.Lists.{copy_next}
-use Rattle.run_print.specs.TraceText.{frame_text}
+use Rattle.run_text.specs.TraceText.{frame_text}
 use Rattle.run_print.proofs.printer.Printer.copies.Goals as goal
 
 pub loop-copy-preserved : goal.loop-copy-preserved

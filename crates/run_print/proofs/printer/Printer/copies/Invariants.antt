@@ -1,6 +1,6 @@
 use Rattle.std.proofs.Common.{replicate}
 use Rattle.std.specs.List.{flat_map}
-use Rattle.run_print.specs.TraceText.{frame_text}
+use Rattle.run_text.specs.TraceText.{frame_text}
 use Rattle.run_print.specs.Printing.{Prints}
 use Rattle.run_print.proofs.printer.Printer.copies.Given as goal
 

@@ -1,7 +1,7 @@
 use Rattle.std.proofs.Common.{◌≡◌, ◌++◌, ◌≤◌, length, map}
 use Rattle.std.specs.Prelude.{codes}
 use Rattle.run_print.specs.Printing.{Prints}
-use Rattle.run_print.specs.Text.{joined, done_item}
+use Rattle.run_text.specs.Text.{joined, done_item}
 use Rattle.run_print.proofs.printer.Printer.done.Given as goal
 
 abbrev pub invariant-loop-member : goal.invariant-loop-member

@@ -1,6 +1,6 @@
 use Rattle.run_print.proofs.Joining.{then}
 use Rattle.run_print.proofs.Lists.{flat_next}
-use Rattle.run_print.specs.TraceText.{slot_text}
+use Rattle.run_text.specs.TraceText.{slot_text}
 use Rattle.run_print.proofs.printer.Printer.frames.Goals as goal
 
 pub loop-slot-preserved : goal.loop-slot-preserved

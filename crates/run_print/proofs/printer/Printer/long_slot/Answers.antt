@@ -1,6 +1,6 @@
 use Rattle.std.proofs.Common.{ℕ, ◌≡◌, ◌≤◌, ◌+◌, ◌*◌, rules, length, replicate, arith}
 use Rattle.std.proofs.lemmas.List.{length-replicate}
-use Rattle.cluster_step.specs.Record.{frame_at}
+use Rattle.cluster_periods.specs.Record.{frame_at}
 use Rattle.run_print.proofs.printer.Printer.long_slot.Goals as goal
 
 long_room : (n : ℕ) → n ≤ 90104 → 3 * n + 5 ≤ length {A = ℕ} (replicate 270317 0)

@@ -1,7 +1,7 @@
 use Rattle.run_print.proofs.Joining.{then}
 use Rattle.run_print.proofs.Lists.{flat_next}
 use Rattle.std.specs.Prelude.{slice_get}
-use Rattle.run_print.specs.PeriodText.{recorded_text}
+use Rattle.run_text.specs.PeriodText.{recorded_text}
 use Rattle.run_print.proofs.printer.Printer.nodes.Goals as goal
 
 pub loop-i-preserved : goal.loop-i-preserved

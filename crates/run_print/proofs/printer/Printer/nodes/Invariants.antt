@@ -1,7 +1,7 @@
 use Rattle.std.specs.Prelude.{slice_get}
 use Rattle.std.specs.List.{flat_map}
 use Rattle.node_grid.specs.NodeSet.{ids_below}
-use Rattle.run_print.specs.PeriodText.{recorded_text}
+use Rattle.run_text.specs.PeriodText.{recorded_text}
 use Rattle.run_print.specs.Printing.{Prints}
 use Rattle.run_print.proofs.printer.Printer.nodes.Given as goal
 

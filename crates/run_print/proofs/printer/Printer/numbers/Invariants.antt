@@ -1,7 +1,7 @@
 use Rattle.std.proofs.Common.{take, map}
 use Rattle.std.specs.Prelude.{codes, decimal}
 use Rattle.run_print.specs.Printing.{Prints}
-use Rattle.run_print.specs.Text.{joined}
+use Rattle.run_text.specs.Text.{joined}
 use Rattle.run_print.proofs.printer.Printer.numbers.Given as goal
 
 abbrev pub invariant-loop-k : goal.invariant-loop-k

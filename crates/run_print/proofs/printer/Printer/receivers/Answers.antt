@@ -3,7 +3,7 @@ use Rattle.std.specs.List.{flat_map}
 use Rattle.node_grid.specs.NodeSet.{ids_below}
 use Rattle.fault_classes.specs.Change.{change_of}
 use Rattle.fault_classes.specs.Line.{effect_at}
-use Rattle.run_print.specs.TraceText.{link_text}
+use Rattle.run_text.specs.TraceText.{link_text}
 use Rattle.run_print.proofs.Joining.{then}
 use Rattle.run_print.proofs.Lists.{flat_next, link_some, link_none, link_untouched, no_effect}
 use Rattle.run_print.proofs.printer.Printer.receivers.Goals as goal

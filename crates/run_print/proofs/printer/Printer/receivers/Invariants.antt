@@ -1,6 +1,6 @@
 use Rattle.std.specs.List.{flat_map}
 use Rattle.node_grid.specs.NodeSet.{ids_below}
-use Rattle.run_print.specs.TraceText.{link_text}
+use Rattle.run_text.specs.TraceText.{link_text}
 use Rattle.run_print.specs.Printing.{Prints}
 use Rattle.run_print.proofs.printer.Printer.receivers.Given as goal
 

@@ -1,7 +1,7 @@
 use Rattle.std.proofs.Common.{◌≡◌, ◌∷◌, [], ◌++◌, List, ℕ, length, map, arith, ap, sym, ◌∙◌, append_assoc, length-append}
 use Rattle.std.specs.Prelude.{codes}
 use Rattle.std.proofs.lemmas.List.{map-append, length-map}
-use Rattle.run_print.specs.Text.{rows_item}
+use Rattle.run_text.specs.Text.{rows_item}
 use Rattle.run_print.proofs.Joining.{further}
 use Rattle.run_print.proofs.printer.Printer.rows.Goals as goal
 

@@ -3,7 +3,7 @@ use Rattle.run_print.proofs.Joining.{then}
 use Rattle.run_print.proofs.Lists.{joined_next}
 use Rattle.std.specs.Prelude.{codes}
 use Rattle.list_scheduler.specs.Copies.{works}
-use Rattle.run_print.specs.Text.{run_text}
+use Rattle.run_text.specs.Text.{run_text}
 use Rattle.run_print.proofs.printer.Printer.runs.Goals as goal
 
 pub loop-node-preserved : goal.loop-node-preserved

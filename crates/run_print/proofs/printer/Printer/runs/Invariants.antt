@@ -2,7 +2,7 @@ use Rattle.std.proofs.Common.{map}
 use Rattle.std.specs.Prelude.{codes}
 use Rattle.node_grid.specs.NodeSet.{ids_below}
 use Rattle.list_scheduler.specs.Copies.{works}
-use Rattle.run_print.specs.Text.{joined, run_text}
+use Rattle.run_text.specs.Text.{joined, run_text}
 use Rattle.run_print.specs.Printing.{Prints}
 use Rattle.run_print.proofs.printer.Printer.runs.Given as goal
 

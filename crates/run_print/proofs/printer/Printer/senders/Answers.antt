@@ -1,7 +1,7 @@
 use Rattle.std.proofs.Common.{arith}
 use Rattle.run_print.proofs.Joining.{then}
 use Rattle.run_print.proofs.Lists.{flat_next}
-use Rattle.run_print.specs.TraceText.{sender_text}
+use Rattle.run_text.specs.TraceText.{sender_text}
 use Rattle.run_print.proofs.printer.Printer.senders.Goals as goal
 
 pub loop-from-preserved : goal.loop-from-preserved

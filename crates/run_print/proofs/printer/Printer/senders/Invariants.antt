@@ -1,7 +1,7 @@
 use Rattle.std.proofs.Common.{◌≡◌, length}
 use Rattle.std.specs.List.{flat_map}
 use Rattle.node_grid.specs.NodeSet.{ids_below}
-use Rattle.run_print.specs.TraceText.{sender_text}
+use Rattle.run_text.specs.TraceText.{sender_text}
 use Rattle.run_print.specs.Printing.{Prints}
 use Rattle.run_print.proofs.printer.Printer.senders.Given as goal
 

@@ -1,6 +1,6 @@
 use Rattle.std.proofs.Common.{subst}
 use Rattle.run_print.specs.Printing.{Prints}
-use Rattle.run_print.specs.NodeText.{settled_text}
+use Rattle.run_text.specs.NodeText.{settled_text}
 use Rattle.run_print.proofs.Joining.{then}
 use Rattle.run_print.proofs.printer.Printer.settled.Goals as goal
 

@@ -2,7 +2,7 @@ use Rattle.std.specs.Fmt.{signed_decimal}
 use Rattle.std.proofs.Common.{take, map}
 use Rattle.std.specs.Prelude.{codes}
 use Rattle.run_print.specs.Printing.{Prints}
-use Rattle.run_print.specs.Text.{joined}
+use Rattle.run_text.specs.Text.{joined}
 use Rattle.run_print.proofs.printer.Printer.signed_numbers.Given as goal
 
 abbrev pub invariant-loop-k : goal.invariant-loop-k

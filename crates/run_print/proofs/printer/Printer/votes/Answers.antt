@@ -1,7 +1,7 @@
 use Rattle.std.proofs.Common.{◌≡◌, ◌<◌, ◌∷◌, [], ℕ, List, length, map, take, get_or, arith}
 use Rattle.std.specs.Prelude.{codes}
 use Rattle.std.proofs.lemmas.List.{take_more, map-append, length-map, length-take-le}
-use Rattle.run_print.specs.Text.{vote_item}
+use Rattle.run_text.specs.Text.{vote_item}
 use Rattle.run_print.proofs.Joining.{further}
 use Rattle.run_print.proofs.printer.Printer.votes.Goals as goal
 

@@ -1,6 +1,6 @@
 use Rattle.std.proofs.Common.{map, take}
 use Rattle.std.specs.Prelude.{codes}
-use Rattle.run_print.specs.Text.{joined, vote_item}
+use Rattle.run_text.specs.Text.{joined, vote_item}
 use Rattle.run_print.specs.Printing.{Prints}
 use Rattle.run_print.proofs.printer.Printer.votes.Given as goal
 
