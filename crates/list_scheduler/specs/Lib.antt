@@ -4,3 +4,4 @@ pub mod OneNode
 pub use Rattle.task_graph.specs.Graph
 pub mod CopyLaws
 pub mod ScheduleLaws
+pub mod ByTask

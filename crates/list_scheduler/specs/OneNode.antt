@@ -1,20 +1,16 @@
--- One node's part of completion and of the pick, and the verdicts as a list.
-use Rattle.std.specs.Prelude.{ℕ, ◌==◌, List, Option, None, map, is_none, if◌then◌else◌}
+-- One node's part of completion, and the verdicts as a list.
+use Rattle.std.specs.Prelude.{ℕ, ◌==◌, List, map, if◌then◌else◌}
 use Rattle.node_grid.specs.NodeSet.{ids_below}
 use Rattle.omh_paths.specs.declared.wrapped.Wrapped.{Wrapped}
 use Rattle.task_graph.specs.Graph.{GraphView}
 use Rattle.list_scheduler.specs.declared.copies.CopyState.{CopyState}
 use Rattle.list_scheduler.specs.declared.schedule.Verdict.{Verdict}
 use Rattle.list_scheduler.specs.Copies.{CopyTable, copy_at, works}
-use Rattle.list_scheduler.specs.Schedule.{completed_at, verdict, pick_of}
+use Rattle.list_scheduler.specs.Schedule.{completed_at, verdict}
 
 -- where one member's claim completes its copy
 abbrev pub completed_by : GraphView → ℕ → CopyTable → Wrapped ℕ → ℕ → ℕ → CopyState
 completed_by graph node copies claim t q = if q == node then completed_at graph t (copy_at copies t q) (works copies q) claim else copy_at copies t q
-
--- what a member starts: nothing where it works
-abbrev pub starts : GraphView → CopyTable → ℕ → Option ℕ
-starts graph copies q = if is_none (works copies q) then pick_of graph copies q else None
 
 -- the verdict on each node, node 0 first
 abbrev pub verdicts : ℕ → GraphView → List ℕ → CopyTable → List (Wrapped ℕ) → List Verdict

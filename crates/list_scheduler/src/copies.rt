@@ -1,6 +1,6 @@
-ghost use Rattle.std.specs.Prelude.{◌≡◌, ℕ, ◌<◌};
+ghost use Rattle.std.specs.Prelude.{◌≡◌, ℕ, ◌<◌, is_some};
 ghost use Rattle.node_grid.specs.Capacity.{IsCapacity};
-ghost use Rattle.list_scheduler.specs.Copies.{copy_at, table, IsTable, with_copy, works, is_idle, is_passed};
+ghost use Rattle.list_scheduler.specs.Copies.{copy_at, table, IsTable, with_copy, works, running, is_idle, is_passed};
 ghost use Rattle.list_scheduler.specs.Schedule.{left_by, all_idle};
 
 use std::marker::Model;
@@ -23,6 +23,12 @@ impl CopyState {
         ensures { result ≡ is_idle self }
     {
         matches!(self, CopyState::Idle)
+    }
+
+    pub(crate) fn is_running(self) -> bool
+        ensures { result ≡ is_some (running self) }
+    {
+        matches!(self, CopyState::Running(_))
     }
 
     pub(crate) fn is_passed(self) -> bool

@@ -4,6 +4,7 @@
 #![tactic(auto)]
 
 mod copies;
+mod period;
 mod schedule;
 
 pub use copies::{Copies, CopyState};

@@ -1,9 +1,10 @@
-ghost use Rattle.std.specs.Prelude.{◌≡◌, ℕ, ◌<◌, length, IfSome};
+ghost use Rattle.std.specs.Prelude.{◌≡◌, ℕ, ◌<◌, ◌&&◌, length, is_none};
+ghost use Rattle.node_grid.specs.NodeSet.{has_id, ids_where};
 ghost use Rattle.node_grid.specs.Capacity.{IsCapacity};
 ghost use Rattle.task_graph.specs.Graph.{GraphView};
 ghost use Rattle.list_scheduler.specs.Copies.{copy_at, table, works, IsCopies};
-ghost use Rattle.list_scheduler.specs.Schedule.{no_verdict, claims_task, claims, verdict_at, worked_on, completed, finished, is_eligible, picked};
-ghost use Rattle.list_scheduler.specs.OneNode.{completed_by, starts, verdicts};
+ghost use Rattle.list_scheduler.specs.Schedule.{no_verdict, claims_task, claims, verdict_at, worked_on, completed, finished, picked};
+ghost use Rattle.list_scheduler.specs.OneNode.{completed_by, verdicts};
 
 use crate::{Copies, CopyState};
 use node_grid::{NO_CLAIM, NodeSet};
@@ -52,7 +53,7 @@ fn claims_this(claim: Wrapped<u8>, t: u8) -> bool
 }
 
 // The copy of task `t` after this claim of a node that ran it for so many periods.
-fn next_state<const N: usize>(
+pub(crate) fn next_state<const N: usize>(
     graph: &TaskGraph<N>,
     t: u8,
     periods: u16,
@@ -185,51 +186,24 @@ impl<const N: usize> Copies<N> {
         ensures copies { self.new ≡ table N (picked graph.now members.now self.old) }
         ensures kept { IsCopies graph.now self.new }
     {
-        // Proofs need here that the copies are a table, and that the graph is one.
-        let _ = &self.rows;
+        // Proofs need here that the graph is one.
         let _ = graph.len();
-        for node in members.iter() {
-            if let Some(t) = self.next_task(graph, node) {
-                self.set(t, node, CopyState::Running(1));
-            }
-        }
+        let free = self.resting(graph, members);
+        self.start_on(graph, &free);
     }
 
-    // The task that a member starts, if it starts one.
-    fn next_task(&self, graph: &TaskGraph<N>, node: u8) -> Option<u8>
+    // The members without a running copy.
+    fn resting(&self, graph: &TaskGraph<N>, members: &NodeSet<N>) -> NodeSet<N>
         requires capacity { IsCapacity N }
-        requires node { node < N }
         requires copies { IsCopies graph.now self.now }
-        ensures task { result ≡ starts graph.now self.now node }
-        ensures within { IfSome result (λ t. t < length graph.now.tasks) }
+        ensures { result ≡ ids_where (λ q. has_id members.now q && is_none (works self.now q)) N }
     {
-        if self.works(graph, node).is_some() {
-            return None;
-        }
-        for t in 0..graph.len() {
-            if self.is_eligible(graph, node, t) {
-                return Some(t);
+        let mut resting = NodeSet::empty();
+        for node in members.iter() {
+            if self.works(graph, node).is_none() {
+                resting.put(node);
             }
         }
-        None
-    }
-
-    // Whether a node may start task `t`.
-    fn is_eligible(&self, graph: &TaskGraph<N>, node: u8, t: u8) -> bool
-        requires capacity { IsCapacity N }
-        requires node { node < N }
-        requires task { t < length graph.now.tasks }
-        ensures { result ≡ is_eligible graph.now self.now node t }
-    {
-        let task = graph.task(t);
-        if !task.nodes.has(node) || !self.at(t, node).is_idle() {
-            return false;
-        }
-        for before in task.after.iter() {
-            if !self.finished(graph, *before) {
-                return false;
-            }
-        }
-        true
+        resting
     }
 }

@@ -1,0 +1,29 @@
+use Rattle.std.proofs.Common.{◌<◌, length, subst, arith}
+use Rattle.list_scheduler.specs.Copies.{IsTable}
+use Rattle.list_scheduler.proofs.Picking.{picked_below-none, picked_below-more, picked_below-all, free-none, free-more}
+use Rattle.list_scheduler.proofs.copies.Copies.start_on.Goals as goal
+
+pub loop-t-init : goal.loop-t-init
+loop-t-init g c = record {
+  copies = picked_below-none g.row.N c.args.graph.now c.args.nodes.now c.args.self.now (subst (IsTable g.row.N) c.self.view_is c.self.invariant);
+  free = free-none g.row.N c.args.graph.now c.args.nodes.now c.args.self.now c.len.ensures.ids;
+}
+
+pub loop-t-preserved : goal.loop-t-preserved
+loop-t-preserved g c =
+    let graph = c.args.graph.now in
+    let count = c.len-t-end.ensures.count in
+    let test = c.loop-t-test.true in
+    let hi : c.loop-t.t < length graph.tasks = omega arith in
+    record {
+      copies = picked_below-more g.row.N c.loop-t.t graph c.args.nodes.now c.loop-t.free c.starters-starters.result c.args.self.now c.loop-t.self c.start.new.self c.len-t-end.ensures.graph c.requires.free
+          c.loop-t.invariant.copies hi c.loop-t.invariant.free c.starters-starters.ensures c.start.ensures;
+      free = free-more g.row.N c.loop-t.t graph c.args.nodes.now c.loop-t.free c.starters-starters.result c.minus-free.result c.args.self.now c.loop-t.self c.len-t-end.ensures.graph
+          c.loop-t.invariant.copies hi c.loop-t.invariant.free c.starters-starters.ensures c.minus-free.ensures;
+    }
+
+pub returns : goal.returns
+returns g c =
+    let count = c.len-t-end.ensures.count in
+    let test = c.loop-t-test.false in
+    picked_below-all g.row.N c.loop-t.t c.args.graph.now c.args.nodes.now c.args.self.now c.loop-t.self (omega arith) c.loop-t.invariant.copies
