@@ -1,8 +1,9 @@
 -- Texts that are printed one after the other.
-use Rattle.std.proofs.Common.{◌≡◌, ℕ, List, [], ◌∷◌, ◌++◌, length, refl, sym, ap, subst, ◌∙◌, append_assoc, append-nil, Option, Result, false}
+use Rattle.std.proofs.Common.{◌≡◌, ℕ, List, [], ◌∷◌, ◌++◌, length, refl, sym, ap, subst, ◌∙◌, append_assoc, append-nil, Option, Some, Result, false}
 use Rattle.std.specs.List.{flat_map}
 use Rattle.std.proofs.lemmas.Grind.{flat_map-append}
 use Rattle.std.proofs.KnownBytes.{Appends-nil}
+use Rattle.std.specs.Io.KnownBytes.{Appends}
 use Rattle.run_print.specs.Printing.{Gathers, Printed, PrintedIf, Prints, Finishes, WritesText}
 use Rattle.run_print.specs.declared.printer.Printer.{Printer}
 use Rattle.run_text.specs.Text.{joined, separator_at}
@@ -13,6 +14,11 @@ joined-push separator (y ∷ ys) x =
     let f : List ℕ → List ℕ = λ z. separator ++ z in
     ap (λ z. y ++ z) (flat_map-append f ys (x ∷ []) ∙ ap (λ z. flat_map f ys ++ z) (append-nil (separator ++ x)))
     ∙ sym (append_assoc y (flat_map f ys) (separator ++ x))
+
+appends_none : (old now : Option (List ℕ)) (front : List ℕ) → old ≡ Some [] → now ≡ Some [] → Appends old now front → front ≡ []
+appends_none old now front e f h =
+    let same : [] ≡ front = subst (λ o. Appends (Some []) o front) f (subst (λ o. Appends o now front) e h) in
+    sym same
 
 module _ {S : Type 0} {room : ℕ} {written : S → Option (List ℕ)} {faults : S → ℕ} where
   -- one text after the other
@@ -37,6 +43,18 @@ module _ {S : Type 0} {room : ℕ} {written : S → Option (List ℕ)} {faults :
       let k : ℕ = faults r in
       let gathers : Gathers v v k k a.gathered [] = record { front = []; splits = empty; written = Appends-nil v; same = refl } in
       finishes v k text (prints.goes_on v k [] (subst (λ b. PrintedIf b v v k k a.gathered []) (sym going) gathers))
+
+-- where nothing can be written, the text is gathered
+pub all_gathered : {S : Type 0} {room : ℕ} (written : S → Option (List ℕ)) (faults : S → ℕ) (a b : Printer room) (r t : S) (text : List ℕ)
+    → written r ≡ Some [] → written t ≡ Some [] → a.gathered ≡ [] → a.failed ≡ false → b.failed ≡ false → Prints written faults a r b t text → b.gathered ≡ text
+all_gathered written faults a b r t text first last empty going still prints =
+    let k : ℕ = faults r in
+    let v : Option (List ℕ) = written r in
+    let gathers : Gathers v v k k a.gathered [] = record { front = []; splits = empty; written = Appends-nil v; same = refl } in
+    let printed : PrintedIf b.failed v (written t) k (faults t) b.gathered text = prints.goes_on v k [] (subst (λ b. PrintedIf b v v k k a.gathered []) (sym going) gathers) in
+    let all : Gathers v (written t) k (faults t) b.gathered text = subst (λ c. PrintedIf c v (written t) k (faults t) b.gathered text) still printed in
+    let none : all.front ≡ [] = appends_none v (written t) all.front first last all.written in
+    subst (λ front. front ++ b.gathered ≡ text) none all.splits
 
 -- nothing is printed where nothing happens
 pub nothing : {S : Type 0} {room : ℕ} (written : S → Option (List ℕ)) (faults : S → ℕ) (p : Printer room) (s : S) → Prints written faults p s p s []

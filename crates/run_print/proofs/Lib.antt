@@ -2,3 +2,4 @@ pub mod Joining
 pub mod Lists
 pub mod Sending
 pub mod Ranges
+pub mod Alike

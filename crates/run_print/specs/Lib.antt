@@ -1,4 +1,5 @@
 pub mod Printing
+pub mod Common
 pub use Rattle.span_io.specs.Causes
 pub use Rattle.fault_classes.specs.Line
 pub use Rattle.fault_classes.specs.Plan

@@ -2,6 +2,7 @@
 #![tactic(auto)]
 
 mod clock;
+mod common;
 mod gathered;
 mod node;
 mod period;

@@ -1,12 +1,14 @@
 //! The printed lines of one node in a period.
-ghost use Rattle.std.specs.Prelude.{◌≡◌, ◌≤◌, codes};
+ghost use Rattle.std.specs.Prelude.{◌≡◌, ◌≤◌, ◌++◌, false, codes, decimal};
 ghost use Rattle.node_grid.specs.Capacity.{IsCapacity};
 ghost use Rattle.run_print.specs.Printing.{Prints, WritesText};
 ghost use Rattle.run_text.specs.Text.{mode_text};
-ghost use Rattle.run_text.specs.NodeText.{left_text, state_text, settled_text, node_text};
+ghost use Rattle.run_text.specs.NodeText.{left_text, standing_text, state_text, settled_text, beliefs_text};
+ghost use Rattle.run_print.specs.Common.{IsCommon};
 ghost use Rattle.run_text.specs.PeriodText.{alone_text};
 
 use crate::WriteFault;
+use crate::common::Common;
 use crate::printer::{Printer, SMALL};
 use agreed_state::Agreed;
 use membership::Left;
@@ -31,17 +33,15 @@ impl<const ROOM: usize> Printer<ROOM> {
         }
     }
 
-    /// Prints an agreed state.
-    fn state<K: Sink, const N: usize>(
+    /// Prints the members, penalty counts and streaks of an agreed state.
+    pub(crate) fn standing<K: Sink, const N: usize>(
         &mut self,
         sink: &mut K,
         nodes: u8,
-        retire: u16,
         agreed: &Agreed<N>,
     )
-        requires capacity { IsCapacity N }
-        requires nodes { nodes ≤ N }
-        ensures { Prints K.written K.faults self.old sink.old self.new sink.new (state_text nodes retire agreed.now) }
+        requires { nodes ≤ N }
+        ensures { Prints K.written K.faults self.old sink.old self.new sink.new (standing_text nodes agreed.now) }
     {
         let counts = &agreed.counts;
         self.text(sink, b" members ");
@@ -50,13 +50,54 @@ impl<const ROOM: usize> Printer<ROOM> {
         self.numbers(sink, &counts.counts[..nodes as usize]);
         self.text(sink, b" streaks ");
         self.numbers(sink, &counts.streaks[..nodes as usize]);
+    }
+
+    /// Prints them, which may be those of the node with the common lines.
+    fn standing_so<K: Sink, const N: usize>(
+        &mut self,
+        sink: &mut K,
+        nodes: u8,
+        agreed: &Agreed<N>,
+        common: &Common<'_, N>,
+    )
+        requires nodes { nodes ≤ N }
+        requires common { IsCommon nodes common.now.shown.now common.now.standing common.now.settled }
+        ensures { Prints K.written K.faults self.old sink.old self.new sink.new (standing_text nodes agreed.now) }
+    {
+        if common.stands(nodes, agreed) {
+            self.text(sink, common.standing.gathered.as_slice());
+        } else {
+            self.standing(sink, nodes, agreed);
+        }
+    }
+
+    /// Prints an agreed state.
+    fn state<K: Sink, const N: usize>(
+        &mut self,
+        sink: &mut K,
+        nodes: u8,
+        retire: u16,
+        agreed: &Agreed<N>,
+        common: &Common<'_, N>,
+    )
+        requires capacity { IsCapacity N }
+        requires nodes { nodes ≤ N }
+        requires common { IsCommon nodes common.now.shown.now common.now.standing common.now.settled }
+        ensures { Prints K.written K.faults self.old sink.old self.new sink.new (state_text nodes retire agreed.now) }
+    {
+        self.standing_so(sink, nodes, agreed, common);
         self.text(sink, b" run ");
         self.runs(sink, nodes, &agreed.copies);
         self.left(sink, nodes, retire, &agreed.left);
     }
 
     /// Prints what a node settled and voted.
-    fn settled<K: Sink, const N: usize>(&mut self, sink: &mut K, nodes: u8, shown: &NodeRecord<N>)
+    pub(crate) fn settled<K: Sink, const N: usize>(
+        &mut self,
+        sink: &mut K,
+        nodes: u8,
+        shown: &NodeRecord<N>,
+    )
         requires capacity { IsCapacity N }
         requires nodes { nodes ≤ N }
         ensures { Prints K.written K.faults self.old sink.old self.new sink.new (settled_text nodes shown.now) }
@@ -70,31 +111,57 @@ impl<const ROOM: usize> Printer<ROOM> {
         self.byte(sink, b'\n');
     }
 
-    /// Prints all lines of node `i`, whose class is told by a letter.
-    pub(crate) fn node<K: Sink, const N: usize>(
+    /// Prints it, which may be what the node with the common lines settled and voted.
+    fn settled_so<K: Sink, const N: usize>(
         &mut self,
         sink: &mut K,
         nodes: u8,
-        retire: u16,
-        i: u8,
-        letter: &[u8],
         shown: &NodeRecord<N>,
+        common: &Common<'_, N>,
     )
         requires capacity { IsCapacity N }
         requires nodes { nodes ≤ N }
-        ensures { Prints K.written K.faults self.old sink.old self.new sink.new (node_text nodes retire i letter.now shown.now) }
+        requires common { IsCommon nodes common.now.shown.now common.now.standing common.now.settled }
+        ensures { Prints K.written K.faults self.old sink.old self.new sink.new (settled_text nodes shown.now) }
+    {
+        if common.settles(nodes, shown) {
+            self.text(sink, common.settled.gathered.as_slice());
+        } else {
+            self.settled(sink, nodes, shown);
+        }
+    }
+
+    /// Prints the number of node `i`, whose class is told by a letter.
+    pub(crate) fn named<K: Sink>(&mut self, sink: &mut K, i: u8, letter: &[u8])
+        ensures { Prints K.written K.faults self.old sink.old self.new sink.new (codes "node " ++ decimal i ++ codes " " ++ letter.now ++ codes " ") }
     {
         self.text(sink, b"node ");
         self.number(sink, i as u64);
         self.byte(sink, b' ');
         self.text(sink, letter);
         self.byte(sink, b' ');
+    }
+
+    /// Prints what a node believes.
+    pub(crate) fn beliefs<K: Sink, const N: usize>(
+        &mut self,
+        sink: &mut K,
+        nodes: u8,
+        retire: u16,
+        shown: &NodeRecord<N>,
+        common: &Common<'_, N>,
+    )
+        requires capacity { IsCapacity N }
+        requires nodes { nodes ≤ N }
+        requires common { IsCommon nodes common.now.shown.now common.now.standing common.now.settled }
+        ensures { Prints K.written K.faults self.old sink.old self.new sink.new (beliefs_text nodes retire shown.now shown.now.agreed) }
+    {
         match &shown.agreed {
             None => self.text(sink, b"cold\n"),
             Some(agreed) => {
                 self.mode(sink, shown.mode);
-                self.state(sink, nodes, retire, agreed);
-                self.settled(sink, nodes, shown);
+                self.state(sink, nodes, retire, agreed, common);
+                self.settled_so(sink, nodes, shown, common);
             }
         }
     }
@@ -122,6 +189,7 @@ pub fn write_alone<const N: usize, K: Sink>(
     printer.text(sink, b"period ");
     printer.number(sink, period as u64);
     printer.byte(sink, b'\n');
-    printer.node(sink, nodes, retire, id, b"-", shown);
+    printer.named(sink, id, b"-");
+    printer.beliefs(sink, nodes, retire, shown, &Common::of(nodes, shown));
     printer.finish(sink)
 }

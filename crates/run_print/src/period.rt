@@ -2,11 +2,13 @@
 ghost use Rattle.std.specs.Prelude.{◌≡◌, ◌≤◌, ◌<◌, true, false, slice_get};
 ghost use Rattle.node_grid.specs.Capacity.{IsCapacity};
 ghost use Rattle.run_print.specs.Printing.{Prints, WritesText};
+ghost use Rattle.run_print.specs.Common.{IsCommon};
 ghost use Rattle.run_text.specs.Text.{class_text};
 ghost use Rattle.run_text.specs.TraceText.{IsPlanOf, period_text};
 ghost use Rattle.run_text.specs.PeriodText.{budget_text, head_text, recorded_text, nodes_text, end_text, refused_text};
 
 use crate::WriteFault;
+use crate::common::Common;
 use crate::printer::{LARGE, Printer, SMALL};
 use cluster_step::PeriodRecord;
 use fault_classes::{Budget, FaultPlan};
@@ -45,14 +47,21 @@ impl<const ROOM: usize> Printer<ROOM> {
     }
 
     /// Prints the lines of node `i`.
-    fn recorded<K: Sink, const N: usize>(&mut self, sink: &mut K, shown: &PeriodRecord<N>, i: u8)
+    fn recorded<K: Sink, const N: usize>(
+        &mut self,
+        sink: &mut K,
+        shown: &PeriodRecord<N>,
+        i: u8,
+        common: &Common<'_, N>,
+    )
         requires capacity { IsCapacity N }
         requires nodes { shown.now.nodes ≤ N }
         requires node { i < shown.now.nodes }
+        requires common { IsCommon shown.now.nodes common.now.shown.now common.now.standing common.now.settled }
         ensures { Prints K.written K.faults self.old sink.old self.new sink.new (recorded_text shown.now i (slice_get shown.now.records i)) }
     {
-        let letter = letter(shown.classes[i as usize]);
-        self.node(sink, shown.nodes, shown.retire, i, letter, shown.node(i));
+        self.named(sink, i, letter(shown.classes[i as usize]));
+        self.beliefs(sink, shown.nodes, shown.retire, shown.node(i), common);
     }
 
     /// Prints the lines of all nodes.
@@ -63,8 +72,12 @@ impl<const ROOM: usize> Printer<ROOM> {
     {
         // naming a field tells the checker the types of all of them
         let _ = &shown.classes;
+        if shown.nodes == 0 {
+            return;
+        }
+        let common = Common::of(shown.nodes, shown.node(example(shown)));
         for i in 0..shown.nodes {
-            self.recorded(sink, shown, i);
+            self.recorded(sink, shown, i, &common);
         }
     }
 
@@ -98,6 +111,19 @@ fn letter(class: Class) -> &'static [u8]
         Class::B => b"B",
         Class::S => b"S",
         Class::A => b"A",
+    }
+}
+
+/// A node whose lines others may have too: the reference node, or else the least node.
+fn example<const N: usize>(shown: &PeriodRecord<N>) -> u8
+    requires { 0 < shown.now.nodes }
+    ensures { result < shown.now.nodes }
+{
+    // naming a field tells the checker the types of all of them
+    let _ = &shown.classes;
+    match shown.reference {
+        Some(node) if node < shown.nodes => node,
+        _ => 0,
     }
 }
 

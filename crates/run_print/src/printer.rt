@@ -41,8 +41,7 @@ impl<const ROOM: usize> Printer<ROOM> {
         ensures { Prints K.written K.faults self.old sink.old self.new sink.new bytes.now }
     {
         if !self.gathered.extend(bytes) {
-            self.flush(sink);
-            self.text_first(sink, bytes);
+            self.text_behind(sink, bytes);
         }
     }
 
@@ -51,7 +50,7 @@ impl<const ROOM: usize> Printer<ROOM> {
         ensures { Prints K.written K.faults self.old sink.old self.new sink.new (byte ∷ []) }
     {
         if !self.gathered.push(byte) {
-            self.text(sink, &[byte]);
+            self.text_behind(sink, &[byte]);
         }
     }
 
@@ -60,7 +59,7 @@ impl<const ROOM: usize> Printer<ROOM> {
         ensures { Prints K.written K.faults self.old sink.old self.new sink.new pair }
     {
         if !self.gathered.extend(&pair) {
-            self.text(sink, &pair);
+            self.text_behind(sink, &pair);
         }
     }
 
@@ -101,6 +100,16 @@ impl<const ROOM: usize> Printer<ROOM> {
             self.failed = write_all(sink, self.gathered.as_slice()).is_err();
         }
         self.gathered.clear();
+    }
+
+    /// Prints a piece for which there is no room. It stays a function of its own, so that the short way of most pieces is
+    /// written out where they are printed.
+    #[inline(never)]
+    fn text_behind<K: Sink>(&mut self, sink: &mut K, bytes: &[u8])
+        ensures { Prints K.written K.faults self.old sink.old self.new sink.new bytes.now }
+    {
+        self.flush(sink);
+        self.text_first(sink, bytes);
     }
 
     /// Prints a piece where nothing is gathered.

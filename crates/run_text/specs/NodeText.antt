@@ -8,6 +8,12 @@ use Rattle.run_text.specs.Text.{joined, numbers_text, set_text, mode_text, runs_
 abbrev pub left_text : ℕ → ℕ → List ℕ → List ℕ
 left_text nodes retire left = if retire == 0 then [] else codes " left " ++ numbers_text (take nodes left)
 
+-- the members, penalty counts and streaks of an agreed state
+abbrev pub standing_text : ℕ → AgreedView → List ℕ
+standing_text nodes a =
+    codes " members " ++ set_text a.standing.members ++ codes " counts " ++ numbers_text (take nodes a.standing.counts)
+    ++ codes " streaks " ++ numbers_text (take nodes a.standing.streaks)
+
 -- an agreed state: members, penalty counts, streaks, running tasks
 abbrev pub state_text : ℕ → ℕ → AgreedView → List ℕ
 state_text nodes retire a =

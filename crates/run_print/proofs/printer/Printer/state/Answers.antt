@@ -1,8 +1,12 @@
-use Rattle.std.proofs.Common.{sym}
+use Rattle.std.proofs.Common.{sym, subst}
+use Rattle.run_text.specs.NodeText.{standing_text}
+use Rattle.run_print.specs.Printing.{Prints}
 use Rattle.run_print.proofs.Joining.{then}
 use Rattle.run_print.proofs.printer.Printer.state.Goals as goal
 
 pub returns : goal.returns
 returns g c =
     rw (sym c.agreed.view_is)
-    (then (then (then (then (then (then (then (then c.text.ensures c.set.ensures) c.text-2.ensures) c.numbers.ensures) c.text-3.ensures) c.numbers-2.ensures) c.text-4.ensures) c.runs.ensures) c.left.ensures)
+    (then (then (then
+    (subst (λ a. Prints g.K.Sink.written g.K.Sink.faults c.args.self.now c.args.sink.now c.standing_so.new.self c.standing_so.new.sink (standing_text c.args.nodes a)) (sym c.agreed.view_is) c.standing_so.ensures)
+    c.text.ensures) c.runs.ensures) c.left.ensures)

@@ -1,0 +1,64 @@
+-- What tests tell of lists that are equal.
+use Rattle.std.proofs.Common.{rules, ◌≡◌, ℕ, Bool, true, false, not, ◌&&◌, List, [], ◌∷◌, Option, None, Some, ℤ, refl, sym, ap, ap₂, ◌∙◌, true≢false}
+use Rattle.std.specs.Prelude.{nat_eq}
+use Rattle.std.specs.Option.{option_eq}
+use Rattle.std.specs.Ordering.{int_eq}
+use Rattle.std.specs.Cmp.Lexicographic.{pointwise, same_text}
+use Rattle.std.proofs.lemmas.Bool.{eqb-true}
+use Rattle.std.proofs.lemmas.Bool.Decides.{Decides-int_eq, when_true}
+use Rattle.omh_paths.specs.declared.wrapped.Wrapped.{Wrapped}
+use Rattle.omh_paths.specs.declared.wrapped.Wrapped.TheVariants.{Plain, Fault}
+
+found : {X : Type 0} → X → Option X → X
+found x None = x
+found x (Some y) = y
+
+pub some_same : {X : Type 0} (x y : X) → Some x ≡ Some y → x ≡ y
+unfolding found
+some_same x y e = ap (found x) e
+
+-- a test for what differs that failed
+pub told : (r b : Bool) → r ≡ not b → r ≡ false → b ≡ true
+told r true h e = refl
+told r false h e = sym e ∙ h
+
+first : (s t : Bool) → (s && t) ≡ true → s ≡ true
+first true t h = refl
+first false t h = h
+
+second : (s t : Bool) → (s && t) ≡ true → t ≡ true
+second true t h = h
+second false t h = absurd (true≢false (sym h))
+
+module _ {X : Type 0} (E : X → X → Bool) (exact : (x y : X) → E x y ≡ true → x ≡ y) where
+  options_same : (x y : Option X) → option_eq E x y ≡ true → x ≡ y
+  options_same None None h = refl
+  options_same None (Some y) h = absurd (true≢false (sym h))
+  options_same (Some x) None h = absurd (true≢false (sym h))
+  options_same (Some x) (Some y) h = ap Some (exact x y h)
+
+  lists_same : (xs ys : List X) → pointwise E xs ys ≡ true → xs ≡ ys
+  lists_same [] [] h = refl
+  lists_same [] (y ∷ ys) h = absurd (true≢false (sym h))
+  lists_same (x ∷ xs) [] h = absurd (true≢false (sym h))
+  lists_same (x ∷ xs) (y ∷ ys) h =
+      ap₂ (λ (z : X) (zs : List X). z ∷ zs) (exact x y (first (E x y) (pointwise E xs ys) h)) (lists_same xs ys (second (E x y) (pointwise E xs ys) h))
+
+int_exact : (x y : ℤ) → int_eq x y ≡ true → x ≡ y
+int_exact x y h = search (rules, Decides-int_eq x y, h)
+
+pub votes_same : (xs ys : List (Option ℤ)) → pointwise (option_eq int_eq) xs ys ≡ true → xs ≡ ys
+votes_same = lists_same (option_eq int_eq) (options_same int_eq int_exact)
+
+pub rows_same : (E : List ℕ → List ℕ → Bool) → ((x y : List ℕ) → E x y ≡ pointwise nat_eq x y) → (xs ys : List (Option (List ℕ))) → pointwise (option_eq E) xs ys ≡ true → xs ≡ ys
+rows_same E is = lists_same (option_eq E) (options_same E (λ x y h. same_text x y (sym h ∙ is x y)))
+
+-- a test of claims that tells plain ones from errors, and compares what they carry
+pub claims_same : (E : Wrapped ℕ → Wrapped ℕ → Bool) → ((a b : ℕ) → E (Plain a) (Plain b) ≡ nat_eq a b) → ((a b : ℕ) → E (Fault a) (Fault b) ≡ nat_eq a b)
+    → ((a b : ℕ) → E (Plain a) (Fault b) ≡ false) → ((a b : ℕ) → E (Fault a) (Plain b) ≡ false) → (xs ys : List (Wrapped ℕ)) → pointwise E xs ys ≡ true → xs ≡ ys
+claims_same E plain fault other another = lists_same E exact where
+  exact : (x y : Wrapped ℕ) → E x y ≡ true → x ≡ y
+  exact (Plain a) (Plain b) h = ap Plain (eqb-true a b (sym (plain a b) ∙ h))
+  exact (Plain a) (Fault b) h = absurd (true≢false (sym h ∙ other a b))
+  exact (Fault a) (Plain b) h = absurd (true≢false (sym h ∙ another a b))
+  exact (Fault a) (Fault b) h = ap Fault (eqb-true a b (sym (fault a b) ∙ h))

@@ -1,0 +1,10 @@
+use Rattle.std.proofs.Common.{subst, sym}
+use Rattle.run_print.specs.Printing.{Prints}
+use Rattle.run_text.specs.NodeText.{beliefs_text, settled_text}
+use Rattle.run_print.proofs.Joining.{then}
+use Rattle.run_print.proofs.printer.Printer.beliefs.Goals as goal
+
+pub returns-in-Some : goal.returns-in-Some
+returns-in-Some g c =
+    subst (λ r. Prints g.K.Sink.written g.K.Sink.faults c.args.self.now c.args.sink.now c.settled_so.new.self c.settled_so.new.sink (beliefs_text c.args.nodes c.args.retire r r.agreed)) c.shown.view_is
+    (rw c.in-Some.is (then (then c.mode.ensures c.state.ensures) (subst (λ r. Prints g.K.Sink.written g.K.Sink.faults c.state.new.self c.state.new.sink c.settled_so.new.self c.settled_so.new.sink (settled_text c.args.nodes r)) (sym c.shown.view_is) c.settled_so.ensures)))
