@@ -6,6 +6,6 @@ use Rattle.run_text.specs.NodeText.{standing_text, settled_text}
 use Rattle.run_print.specs.declared.printer.Printer.{Printer}
 
 -- printers that gathered parts of a node's lines, unless they failed
-pub record IsCommon {room : ℕ} (nodes : ℕ) (r : Outcome) (standing settled : Printer room) : Type 0 where
+pub record IsCommon {room more : ℕ} (nodes : ℕ) (r : Outcome) (standing : Printer room) (settled : Printer more) : Type 0 where
   pub stands : standing.failed ≡ false → (a : AgreedView) → r.agreed ≡ Some a → standing.gathered ≡ standing_text nodes a
   pub settles : settled.failed ≡ false → settled.gathered ≡ settled_text nodes r

@@ -10,8 +10,11 @@ use agreed_state::Agreed;
 use node_core::NodeRecord;
 use span_io::{Failed, Sink};
 
-/// Room for such a part, as it mostly is.
-const LINES: usize = 1024;
+/// Room for the members, penalty counts and streaks, as they mostly are.
+const STANDING: usize = 512;
+
+/// Room for what was settled and voted, as it mostly is.
+const SETTLED: usize = 1024;
 
 /// A sink that takes nothing.
 #[derive(Drop)]
@@ -38,13 +41,13 @@ pub(crate) struct Common<'a, const N: usize> {
     /// What the node recorded.
     pub shown: &'a NodeRecord<N>,
     /// The members, penalty counts and streaks, unless there was no room for them.
-    pub standing: Printer<LINES>,
+    pub standing: Printer<STANDING>,
     /// What was settled and voted, unless there was no room for it.
-    pub settled: Printer<LINES>,
+    pub settled: Printer<SETTLED>,
 }
 
 /// Gathers the members, penalty counts and streaks of a node; where there are none, or no room for them, the printer fails.
-fn standing_of<const N: usize>(nodes: u8, shown: &NodeRecord<N>) -> Printer<LINES>
+fn standing_of<const N: usize>(nodes: u8, shown: &NodeRecord<N>) -> Printer<STANDING>
     requires capacity { IsCapacity N }
     requires nodes { nodes ≤ N }
     ensures { result.failed ≡ false → (a : AgreedView) → shown.now.agreed ≡ Some a → result.gathered ≡ standing_text nodes a }
@@ -59,7 +62,7 @@ fn standing_of<const N: usize>(nodes: u8, shown: &NodeRecord<N>) -> Printer<LINE
 }
 
 /// Gathers what a node settled and voted; where there is no room for it, the printer fails.
-fn settled_of<const N: usize>(nodes: u8, shown: &NodeRecord<N>) -> Printer<LINES>
+fn settled_of<const N: usize>(nodes: u8, shown: &NodeRecord<N>) -> Printer<SETTLED>
     requires capacity { IsCapacity N }
     requires nodes { nodes ≤ N }
     ensures { result.failed ≡ false → result.gathered ≡ settled_text nodes shown.now }

@@ -1,4 +1,4 @@
-use Rattle.std.proofs.Common.{◌≡◌, refl, sym, ap, subst, ◌∙◌, Some}
+use Rattle.std.proofs.Common.{◌≡◌, refl, sym, ap, subst, ◌∙◌}
 use Rattle.node_steps.specs.Outcome.{Outcome}
 use Rattle.run_text.specs.NodeText.{standing_text}
 use Rattle.run_print.proofs.Joining.{all_gathered}
