@@ -17,6 +17,8 @@ mod Laying
 mod LayingOut
 mod LaidOut
 mod Methods
+mod SetsTaken
+mod EchoesRead
 mod Settles
 mod Together
 mod EchoesKept

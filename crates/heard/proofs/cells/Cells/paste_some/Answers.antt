@@ -1,13 +1,17 @@
-use Rattle.std.proofs.Common.{ℕ, ◌≡◌, ◌+◌, ◌%◌, ◌/◌, ◌≤◌, List, length, take, ap, ap₂, ◌∙◌, arith}
+use Rattle.std.proofs.Common.{ℕ, ◌-◌, ◌≡◌, ◌+◌, ◌%◌, ◌/◌, ◌≤◌, List, length, take, ap, ap₂, ◌∙◌, arith, sym, subst, drop, length-drop}
 use Rattle.std.specs.Prelude.{vec_capacity}
 use Rattle.std.proofs.lemmas.List.{length-take-le}
 use Rattle.omh_paths.specs.declared.wrapped.Wrapped.{Wrapped}
-use Rattle.heard.specs.Chunks.{all_values}
+use Rattle.heard.specs.Chunks.{all_values, AreChunks}
 use Rattle.heard.specs.Keep.{pasted}
 use Rattle.heard.proofs.ChunksKept.{length-all, all_alike, paste_all, still_kept}
 use Rattle.heard.proofs.Methods.{written}
 use Rattle.heard.proofs.Pasting.{length-pasted, pasted_there}
 use Rattle.heard.proofs.cells.Cells.paste_some.Goals as goal
+
+part_long : {X : Type 0} (at len : ℕ) (there values : List X) → at + len ≤ length there → len ≤ length values → length (take ((at + len) - at) (drop at there)) ≡ length (take len values)
+part_long at len there values fits few =
+    length-take-le ((at + len) - at) (drop at there) (omega (arith, length-drop at there)) ∙ (omega arith) ∙ sym (length-take-le len values few)
 
 pub keep-requires-clause-there : goal.keep-requires-clause-there
 keep-requires-clause-there g c =
@@ -51,3 +55,28 @@ returns-clause-is g c =
     ap₂ (λ (cs : List ℕ) (xs : List (Wrapped _)). all_values s.count cs xs) chunks (kept ∙ is ∙ ap (λ (xs : List (Wrapped _)). pasted at values xs) c.deref_mut-2.ensures.value)
     ∙ paste_all c.keep.new.chunks now.items (vec_capacity now) c.keep.ensures.chunks c.args.at c.keep.result values c.keep.ensures.begins short s.count within
     ∙ ap (λ (xs : List (Wrapped _)). pasted c.args.at values xs) (all_alike s.count s.chunks.items c.deref_mut.result.now c.keep.new.chunks s.kept.items now.items c.deref_mut.ensures.value c.keep.ensures.values ∙ c.self.view_is)
+
+pub keep-requires-clause-chunks : goal.keep-requires-clause-chunks
+keep-requires-clause-chunks g c =
+    let kept = c.self.inside.kept in
+    subst (λ (cs : List ℕ). AreChunks cs (length kept.items) (vec_capacity kept)) (sym c.deref_mut.ensures.value) c.self.invariant.chunks_ok
+
+pub overflow_sub-at : goal.overflow_sub-at
+overflow_sub-at g c = omega arith
+
+pub returns-clause-few : goal.returns-clause-few
+returns-clause-few g c = omega (arith, c.min-len.ensures)
+
+pub returns-clause-more : goal.returns-clause-more
+returns-clause-more g c = omega (arith, c.min-len.ensures, c.requires.some)
+
+pub slice_bounds-copy_from_slice-count : goal.slice_bounds-copy_from_slice-count
+slice_bounds-copy_from_slice-count g c = omega arith
+
+pub slice_bounds-copy_from_slice-end-2 : goal.slice_bounds-copy_from_slice-end-2
+slice_bounds-copy_from_slice-end-2 g c = sym (length-take-le c.min-len.result c.args.values.now (omega (arith, c.min-len.ensures)))
+
+pub copy_from_slice-requires : goal.copy_from_slice-requires
+copy_from_slice-requires g c =
+    let begins : ℕ = c.keep.result + c.args.at % 64 in
+    part_long begins c.min-len.result c.deref_mut-2.result.now c.args.values.now (omega (arith, c.min-len.ensures, c.keep.ensures.begins, c.keep.ensures.chunks.fits (c.args.at / 64), ap length c.deref_mut-2.ensures.value)) (omega (arith, c.min-len.ensures))

@@ -8,17 +8,17 @@ use Rattle.heard.proofs.hearing.Heard.convicts.Goals as goal
 
 pub convicts-requires : goal.convicts-requires
 convicts-requires g c =
-    let yes : c.hears_of.result ≡ true = grind (arith, c.if-not-hears_of.false) in
+    let yes : c.hears_of.result ≡ true = c.if-not-hears_of.false in
     (omega arith, record { other = sym c.hears_of.ensures ∙ yes; room = omega (arith, room c.self.invariant c.self.view_is c.as_mut_slice.result.now c.as_mut_slice.ensures.value) })
 
 pub returns-then-not-hears_of-clause-convicted : goal.returns-then-not-hears_of-clause-convicted
 returns-then-not-hears_of-clause-convicted g c =
-    let none : c.hears_of.result ≡ false = grind (arith, c.if-not-hears_of.true) in
+    let none : c.hears_of.result ≡ false = c.if-not-hears_of.true in
     sym (ap (λ b. b && convicts g.V.PartialEq.eq (ear_of c.args.self.now) c.args.commander) (other_seen c.self.invariant c.self.view_is c.args.commander false (sym c.hears_of.ensures ∙ none)))
 
 pub returns-clause-convicted : goal.returns-clause-convicted
 returns-clause-convicted g c =
-    let yes : c.hears_of.result ≡ true = grind (arith, c.if-not-hears_of.false) in
+    let yes : c.hears_of.result ≡ true = c.if-not-hears_of.false in
     let on = sym c.hears_of.ensures ∙ yes in
     let x = c.self.inside.store in
     let other = other_member g.row.N x c.self.invariant.stored c.args.commander on in

@@ -10,13 +10,13 @@ returns-then-c-me g c =
 
 pub wrapped_by-requires : goal.wrapped_by-requires
 wrapped_by-requires g c =
-    let yes : c.hears.result ≡ true = grind (arith, c.if-not-hears.false) in
+    let yes : c.hears.result ≡ true = c.if-not-hears.false in
     let come = heard_frame c.self.invariant c.self.view_is c.args.c c.args.r (sym c.hears.ensures ∙ yes) in
     small_more 3 (255 - c.args.r) c.heard_of.result (omega (arith, few_rounds c.self.invariant c.self.view_is c.args.r come.1, rounds_few c.self.invariant c.self.view_is)) c.heard_of.ensures.small
 
 pub returns : goal.returns
 returns g c =
-    let yes : c.hears.result ≡ true = grind (arith, c.if-not-hears.false) in
+    let yes : c.hears.result ≡ true = c.if-not-hears.false in
     let come = heard_frame c.self.invariant c.self.view_is c.args.c c.args.r (sym c.hears.ensures ∙ yes) in
     let x = c.self.inside.store in
     λ e ne. root_expected c.self.invariant c.self.view_is c.args.c c.args.r c.heard_of.result c.wrapped_by.result c.args.value come.0 ne (c.heard_of.ensures.heard (has-without x.members x.me c.args.c (λ e. ne (e ∙ ap (λ j. j.me) c.self.view_is)) (is_member c.self.invariant c.self.view_is c.args.c come.0))) c.wrapped_by.ensures (c.are_one.ensures e)

@@ -1,4 +1,5 @@
-use Rattle.std.proofs.Common.{◌≡◌, true, arith}
+use Rattle.std.proofs.Common.{◌≡◌, true, refl}
+use Rattle.std.proofs.lemmas.Bool.{false≢true, true≢false}
 use Rattle.heard.proofs.Together.{all_expected_seen, all_expected_kept}
 use Rattle.heard.proofs.hearing.Heard.hear_all_expected.Goals as goal
 
@@ -8,6 +9,21 @@ invariant_of-self g c =
 
 pub returns-clause-is : goal.returns-clause-is
 returns-clause-is g c e =
-    let agree : c.agrees.result ≡ true = grind (arith, c.if-not-agrees.false) in
-    let fresh : c.is_newest.result ≡ true = grind (arith, c.if-not-is_newest.false) in
+    let agree : c.agrees.result ≡ true = c.if-not-agrees.false in
+    let fresh : c.is_newest.result ≡ true = c.if-not-is_newest.false in
     all_expected_seen c.self.invariant c.self.view_is c.args.senders.now c.args.r c.requires.round.0 c.requires.round.1 (c.is_newest.ensures fresh) (c.agrees.ensures agree) c.requires.expected c.take_all_expected.new.self c.take_all_expected.ensures
+
+pub returns-then-not-agrees-clause-is : goal.returns-then-not-agrees-clause-is
+returns-then-not-agrees-clause-is g c e = absurd (false≢true e)
+
+pub returns-then-not-is_newest-clause-is : goal.returns-then-not-is_newest-clause-is
+returns-then-not-is_newest-clause-is g c e = absurd (false≢true e)
+
+pub returns-then-not-agrees-clause-left : goal.returns-then-not-agrees-clause-left
+returns-then-not-agrees-clause-left g c e = refl
+
+pub returns-then-not-is_newest-clause-left : goal.returns-then-not-is_newest-clause-left
+returns-then-not-is_newest-clause-left g c e = refl
+
+pub returns-clause-left : goal.returns-clause-left
+returns-clause-left g c e = absurd (true≢false e)

@@ -15,7 +15,7 @@ lay_later-requires g c =
 pub frame-frame-requires : goal.frame-frame-requires
 frame-frame-requires g c =
     let some : 0 < c.args.r = omega (arith, c.if-r-eq0.false) in
-    let yes : c.hears.result ≡ true = grind (arith, c.if-not-hears.false) in
+    let yes : c.hears.result ≡ true = c.if-not-hears.false in
     let come = heard_frame c.self.invariant c.self.view_is c.args.q c.args.r (sym c.hears.ensures ∙ yes) in
     let laid = later c.self.invariant c.self.view_is c.lay_later.ensures.laid c.lay_later.ensures.stored c.lay_later.ensures.newest c.lay_later.ensures.hit (c.lay_later.auto.doubted ∙ ap length c.as_mut_slice.ensures.value) in (
       omega arith,
@@ -43,7 +43,7 @@ doubt-deviates-requires g c =
 pub invariant_of-self : goal.invariant_of-self
 invariant_of-self g c =
     let some : 0 < c.args.r = omega (arith, c.if-r-eq0.false) in
-    let yes : c.hears.result ≡ true = grind (arith, c.if-not-hears.false) in
+    let yes : c.hears.result ≡ true = c.if-not-hears.false in
     let come = heard_frame c.self.invariant c.self.view_is c.args.q c.args.r (sym c.hears.ensures ∙ yes) in
     let laid = later c.self.invariant c.self.view_is c.lay_later.ensures.laid c.lay_later.ensures.stored c.lay_later.ensures.newest c.lay_later.ensures.hit (c.lay_later.auto.doubted ∙ ap length c.as_mut_slice.ensures.value) in
     let s = c.self.inside in
@@ -55,13 +55,13 @@ invariant_of-self g c =
 pub returns-then-not-deviates-clause-is : goal.returns-then-not-deviates-clause-is
 returns-then-not-deviates-clause-is g c =
     let some : 0 < c.args.r = omega (arith, c.if-r-eq0.false) in
-    let yes : c.hears.result ≡ true = grind (arith, c.if-not-hears.false) in
+    let yes : c.hears.result ≡ true = c.if-not-hears.false in
     let come = heard_frame c.self.invariant c.self.view_is c.args.q c.args.r (sym c.hears.ensures ∙ yes) in
     let laid = later c.self.invariant c.self.view_is c.lay_later.ensures.laid c.lay_later.ensures.stored c.lay_later.ensures.newest c.lay_later.ensures.hit (c.lay_later.auto.doubted ∙ ap length c.as_mut_slice.ensures.value) in
     let s = c.self.inside in
     let first = written s.doubted.items c.as_mut_slice.result.now c.lay_later.new.doubted s.doubted.len s.doubted.ok.0 c.as_mut_slice.ensures.value c.lay_later.auto.doubted in
     let seen = c.as_mut_slice-2.ensures.value ∙ first in
-    let none : c.doubt-deviates.result ≡ false = grind (arith, c.if-not-deviates.true) in
+    let none : c.doubt-deviates.result ≡ false = c.if-not-deviates.true in
     clean_seen laid.inv laid.view c.args.q c.args.r come.0 some come.1 laid.newest c.take_expected.new.self c.args.values.now c.requires.count (same_said c.lay_later.new.self.me c.lay_later.new.self.expected c.frame-frame.ensures.relays c.frame-frame.ensures.is.others_are c.frame-frame.ensures.values (c.doubt-deviates.ensures.said none)) c.take_expected.ensures
 
 pub returns-then-not-deviates-clause-paths : goal.returns-then-not-deviates-clause-paths
@@ -79,7 +79,7 @@ take_cells-requires g c =
 pub invariant_of-self-2 : goal.invariant_of-self-2
 invariant_of-self-2 g c =
     let some : 0 < c.args.r = omega (arith, c.if-r-eq0.false) in
-    let yes : c.hears.result ≡ true = grind (arith, c.if-not-hears.false) in
+    let yes : c.hears.result ≡ true = c.if-not-hears.false in
     let come = heard_frame c.self.invariant c.self.view_is c.args.q c.args.r (sym c.hears.ensures ∙ yes) in
     let laid = later c.self.invariant c.self.view_is c.lay_later.ensures.laid c.lay_later.ensures.stored c.lay_later.ensures.newest c.lay_later.ensures.hit (c.lay_later.auto.doubted ∙ ap length c.as_mut_slice.ensures.value) in
     let s = c.self.inside in
@@ -92,7 +92,7 @@ invariant_of-self-2 g c =
 pub returns-clause-is : goal.returns-clause-is
 returns-clause-is g c =
     let some : 0 < c.args.r = omega (arith, c.if-r-eq0.false) in
-    let yes : c.hears.result ≡ true = grind (arith, c.if-not-hears.false) in
+    let yes : c.hears.result ≡ true = c.if-not-hears.false in
     let come = heard_frame c.self.invariant c.self.view_is c.args.q c.args.r (sym c.hears.ensures ∙ yes) in
     let laid = later c.self.invariant c.self.view_is c.lay_later.ensures.laid c.lay_later.ensures.stored c.lay_later.ensures.newest c.lay_later.ensures.hit (c.lay_later.auto.doubted ∙ ap length c.as_mut_slice.ensures.value) in
     let s = c.self.inside in
@@ -114,7 +114,7 @@ returns-then-not-hears-clause-paths g c =
 
 pub returns-then-not-hears-clause-is : goal.returns-then-not-hears-clause-is
 returns-then-not-hears-clause-is g c =
-    let none : c.hears.result ≡ false = grind (arith, c.if-not-hears.true) in
+    let none : c.hears.result ≡ false = c.if-not-hears.true in
     unheard_frame c.self.invariant c.self.view_is c.args.q c.args.r (as_written c.args.self.now.members c.args.q c.args.r c.args.values.now) (sym c.hears.ensures ∙ none)
 
 pub returns-then-r-eq0-clause-is : goal.returns-then-r-eq0-clause-is

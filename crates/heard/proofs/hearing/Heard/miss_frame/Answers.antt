@@ -11,7 +11,7 @@ lay_later-requires g c =
 pub invariant_of-self : goal.invariant_of-self
 invariant_of-self g c =
     let some : 0 < c.args.r = omega (arith, c.if-r-eq0.false) in
-    let yes : c.hears.result ≡ true = grind (arith, c.if-not-hears.false) in
+    let yes : c.hears.result ≡ true = c.if-not-hears.false in
     let come = heard_frame c.self.invariant c.self.view_is c.args.q c.args.r (sym c.hears.ensures ∙ yes) in
     let laid = later c.self.invariant c.self.view_is c.lay_later.ensures.laid c.lay_later.ensures.stored c.lay_later.ensures.newest c.lay_later.ensures.hit (c.lay_later.auto.doubted ∙ ap length c.as_mut_slice.ensures.value) in
     let inv = laid.inv in
@@ -28,7 +28,7 @@ invariant_of-self g c =
 pub returns-clause-is : goal.returns-clause-is
 returns-clause-is g c =
     let some : 0 < c.args.r = omega (arith, c.if-r-eq0.false) in
-    let yes : c.hears.result ≡ true = grind (arith, c.if-not-hears.false) in
+    let yes : c.hears.result ≡ true = c.if-not-hears.false in
     let come = heard_frame c.self.invariant c.self.view_is c.args.q c.args.r (sym c.hears.ensures ∙ yes) in
     let laid = later c.self.invariant c.self.view_is c.lay_later.ensures.laid c.lay_later.ensures.stored c.lay_later.ensures.newest c.lay_later.ensures.hit (c.lay_later.auto.doubted ∙ ap length c.as_mut_slice.ensures.value) in
     let inv = laid.inv in
@@ -45,7 +45,7 @@ returns-then-not-hears-clause-paths g c =
 
 pub returns-then-not-hears-clause-is : goal.returns-then-not-hears-clause-is
 returns-then-not-hears-clause-is g c =
-    let none : c.hears.result ≡ false = grind (arith, c.if-not-hears.true) in
+    let none : c.hears.result ≡ false = c.if-not-hears.true in
     unheard_frame c.self.invariant c.self.view_is c.args.q c.args.r (λ path. Fault 0) (sym c.hears.ensures ∙ none)
 
 pub returns-then-r-eq0-clause-is : goal.returns-then-r-eq0-clause-is

@@ -5,7 +5,7 @@ use Rattle.heard.proofs.hearing.Heard.put_root.Goals as goal
 
 pub returns-then-not-has : goal.returns-then-not-has
 returns-then-not-has g c =
-    let none : c.has.result ≡ false = grind (arith, c.if-not-has.true) in
+    let none : c.has.result ≡ false = c.if-not-has.true in
     unheard_root c.self.invariant c.self.view_is c.args.c c.args.value (sym c.has.ensures ∙ none)
 
 pub put_root-requires : goal.put_root-requires
@@ -13,7 +13,7 @@ put_root-requires g c = (omega arith, c.requires.small)
 
 pub invariant_of-self : goal.invariant_of-self
 invariant_of-self g c =
-    let yes : c.has.result ≡ true = grind (arith, c.if-not-has.false) in
+    let yes : c.has.result ≡ true = c.if-not-has.false in
     let on = member_seen c.self.invariant c.self.view_is c.args.c (sym c.has.ensures ∙ yes) in
     let s = c.self.inside in
     let now = set s.store.expected c.args.c c.args.value in
@@ -23,7 +23,7 @@ invariant_of-self g c =
 
 pub returns : goal.returns
 returns g c =
-    let yes : c.has.result ≡ true = grind (arith, c.if-not-has.false) in
+    let yes : c.has.result ≡ true = c.if-not-has.false in
     let on = member_seen c.self.invariant c.self.view_is c.args.c (sym c.has.ensures ∙ yes) in
     let s = c.self.inside in
     let now = set s.store.expected c.args.c c.args.value in

@@ -6,12 +6,12 @@ use Rattle.heard.proofs.hearing.Heard.relay.Goals as goal
 
 pub returns-then-not-hears_for : goal.returns-then-not-hears_for
 returns-then-not-hears_for g c =
-    let none : c.hears_for.result ≡ false = grind (arith, c.if-not-hears_for.true) in
+    let none : c.hears_for.result ≡ false = c.if-not-hears_for.true in
     sym (ap wrapped (unheard_path c.self.invariant c.self.view_is c.args.path.now (c.hears_for.ensures.none none)))
 
 pub at-requires : goal.at-requires
 at-requires g c =
-    let yes : c.hears_for.result ≡ true = grind (arith, c.if-not-hears_for.false) in
+    let yes : c.hears_for.result ≡ true = c.if-not-hears_for.false in
     (omega arith, c.hears_for.ensures.yes yes)
 
 pub wrap-requires : goal.wrap-requires
@@ -20,5 +20,5 @@ wrap-requires g c =
 
 pub returns : goal.returns
 returns g c =
-    let yes : c.hears_for.result ≡ true = grind (arith, c.if-not-hears_for.false) in
+    let yes : c.hears_for.result ≡ true = c.if-not-hears_for.false in
     heard_seen c.self.invariant c.self.view_is c.args.path.now c.at.result c.wrap.result c.len-len.ensures.distinct (omega (arith, c.len-len.ensures.count, c.len-len.ensures.some)) (c.hears_for.ensures.yes yes) c.at.ensures.kept c.wrap.ensures

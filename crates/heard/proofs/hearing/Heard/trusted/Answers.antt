@@ -17,7 +17,7 @@ pub index-requires : goal.index-requires
 index-requires g c =
     let x = c.self.inside.store in
     let s = c.self.invariant.stored in
-    let yes : c.hears_of.result ≡ true = grind (arith, c.if-not-hears_of.false) in
+    let yes : c.hears_of.result ≡ true = c.if-not-hears_of.false in
     omega (arith, s.low c.args.c (has-of-without x.members x.me c.args.c (sym c.hears_of.ensures ∙ yes)), c.self.invariant.doubted_ok, c.self.inside.doubted.ok.0)
 
 pub returns : goal.returns
@@ -25,8 +25,8 @@ returns g c =
     let x = c.self.inside.store in
     let s = c.self.invariant.stored in
     let sets : List (List ℕ) = c.self.inside.doubted.items in
-    let yes : c.hears_of.result ≡ true = grind (arith, c.if-not-hears_of.false) in
-    let agree : c.agrees_on.result ≡ true = grind (arith, c.if-not-agrees_on.false) in
+    let yes : c.hears_of.result ≡ true = c.if-not-hears_of.false in
+    let agree : c.agrees_on.result ≡ true = c.if-not-agrees_on.false in
     let low : c.args.c < length sets = omega (arith, s.low c.args.c (has-of-without x.members x.me c.args.c (sym c.hears_of.ensures ∙ yes)), c.self.invariant.doubted_ok) in
     let doubted : c.index.result.now ≡ set_at sets c.args.c = set_read sets c.args.c c.index.result.now low c.index.ensures in
     let all : IsAllDoubted g.row.N x c.args.r (set_at sets c.args.c) c.all_doubted-odd.result =

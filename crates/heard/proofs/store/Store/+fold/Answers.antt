@@ -1,5 +1,5 @@
 use Rattle.std.proofs.Common.{◌≡◌, ◌<◌, ◌≤◌, ◌+◌, ◌-◌, length, map, take, refl, sym, ap, subst, ◌∙◌, arith, rules}
-use Rattle.std.proofs.lemmas.List.{take_all, length_push}
+use Rattle.std.proofs.lemmas.List.{take_all, length_push, length-take-le}
 use Rattle.node_grid.specs.NodeSet.{has_id}
 use Rattle.omh_paths.specs.Paths.{outside}
 use Rattle.omh_paths.specs.PathLists.{has-at}
@@ -138,3 +138,36 @@ returns g t c =
     take_all c.loop-k.k c.outside-others.result (omega (arith, c.loop-k-test.false, c.len-count.ensures.count)) ∙ c.outside-others.ensures ∙ ap (λ y. outside y.members path) v in
     fold_later g.V.PartialEq.eq x path (take c.len-count.result c.loop-k.terms) c.majority.result c.unwrap.result deep
     (sym n ∙ c.loop-k.invariant ∙ ap (map (term_in g.V.PartialEq.eq x (k.rounds - length path) path)) all) c.majority.ensures c.unwrap.ensures
+
+pub at-heard-requires : goal.at-heard-requires
+at-heard-requires g t c = (omega arith, c.requires.path)
+
+pub at-q-requires : goal.at-q-requires
+at-q-requires g t c = (omega arith, omega (arith, c.loop-k-test.true, c.len-count.ensures.count))
+
+pub is_echoed-requires : goal.is_echoed-requires
+is_echoed-requires g t c = (omega arith, (omega arith, (omega (arith, c.len-2.ensures.some), omega (arith, c.if-len-self.false, c.len.ensures.count, c.len-2.ensures.count, ap (λ x. x.rounds) c.self.view_is))))
+
+pub majority-requires : goal.majority-requires
+majority-requires g t c = g.met.V.Value.exact
+
+pub own_term-term-requires : goal.own_term-term-requires
+own_term-term-requires g t c = c.at-heard.ensures.small
+
+pub slice_bounds-majority-end : goal.slice_bounds-majority-end
+slice_bounds-majority-end g t c =
+    omega (arith, few_ids g.row.N c.outside-others.result c.self.invariant.capacity_ok c.len-count.ensures.ids, c.len-count.ensures.count, c.loop-k.auto.terms, c.split_at_mut-terms.ensures.front_len)
+
+pub slice_bounds-majority-end-2 : goal.slice_bounds-majority-end-2
+slice_bounds-majority-end-2 g t c = sym (length-take-le c.len-count.result c.loop-k.terms (slice_bounds-majority-end g t c))
+
+pub split_at_mut-terms-requires : goal.split_at_mut-terms-requires
+split_at_mut-terms-requires g t c =
+    let deep : length c.args.path.now ≤ c.args.self.now.rounds = omega (arith, c.if-len-self.false, c.len.ensures.count, ap (λ x. x.rounds) c.self.view_is) in
+    omega (arith, deep, c.requires.room)
+
+pub then-requires-clause-room : goal.then-requires-clause-room
+then-requires-clause-room g t c =
+    let h : IsStored g.row.N c.args.self.now = subst (IsStored g.row.N) c.self.view_is c.self.invariant in
+    let deep : length c.args.path.now ≤ c.args.self.now.rounds = omega (arith, c.if-len-self.false, c.len.ensures.count, ap (λ x. x.rounds) c.self.view_is) in
+    omega (arith, deep, h.rounds_ok)

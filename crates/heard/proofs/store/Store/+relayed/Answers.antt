@@ -1,3 +1,4 @@
+use Rattle.heard.proofs.EchoesRead.{read_echo, low_fault}
 use Rattle.std.proofs.Common.{ℕ, ◌≡◌, ◌+◌, ◌-◌, length, get_or, take, refl, sym, ap, ap₂, subst, ◌∙◌, arith, rules}
 use Rattle.std.proofs.lemmas.List.{length-take-le}
 use Rattle.omh_paths.specs.declared.wrapped.Wrapped.TheVariants.{Fault}
@@ -5,7 +6,7 @@ use Rattle.omh_paths.specs.PathLists.{has-of-without}
 use Rattle.node_grid.specs.NodeSet.{has_id, without_id}
 use Rattle.heard.specs.Keep.{IsStored, IsSmall, relayed, first_node, frame_at}
 use Rattle.heard.specs.Places.{small_more, frames_before-few, front-listed}
-use Rattle.heard.proofs.Readings.{node_low, nodes_few, read_clean, read_none, cell_low, read_odd, front_others, relayed_small, said_small, first_low}
+use Rattle.heard.proofs.Readings.{node_low, nodes_few, read_clean, read_none, cell_low, read_odd, front_others, relayed_small, said_small, first_low, small_wrapped}
 use Rattle.heard.proofs.store.Store.+relayed.Goals as goal
 
 pub frame_at-requires : goal.frame_at-requires
@@ -163,3 +164,50 @@ returns-clause-small g t c =
     subst (IsSmall (2 + length c.args.path.now)) (sym (returns-clause-is g t c))
     (small_more (3 + s) (2 + length c.args.path.now) _ (omega (arith, c.len-r.ensures.count, c.len-r.ensures.some))
     (relayed_small g.row.N k h s c.args.path.now (omega (arith, c.len-r.ensures.count, c.len-r.ensures.some)) (omega (arith, c.requires.short)) c.len-r.ensures.distinct c.requires.within))
+
+pub at-c-requires : goal.at-c-requires
+at-c-requires g t c = omega (arith, c.len-r.ensures.count, c.len-r.ensures.some)
+
+pub at-q-requires : goal.at-q-requires
+at-q-requires g t c = omega (arith, c.len-r.ensures.count, c.len-r.ensures.some)
+
+pub overflow_sub-r : goal.overflow_sub-r
+overflow_sub-r g t c = omega (arith, c.len-r.ensures.count, c.len-r.ensures.some)
+
+pub index-requires : goal.index-requires
+index-requires g t c = omega (arith, c.len-r.ensures.few, c.self.invariant.as_expected_ok, c.self.inside.as_expected.ok.0)
+
+pub index-requires-2 : goal.index-requires-2
+index-requires-2 g t c = omega (arith, c.len-r.ensures.few, c.self.invariant.echoes_ok, c.self.inside.echoes.ok.0)
+
+pub index-requires-3 : goal.index-requires-3
+index-requires-3 g t c = omega (arith, c.len-r.ensures.few, c.self.invariant.in_cells_ok, c.self.inside.in_cells.ok.0)
+
+pub returns-then-not-has-clause-small : goal.returns-then-not-has-clause-small
+returns-then-not-has-clause-small g t c = omega arith
+
+pub wrap-requires : goal.wrap-requires
+wrap-requires g t c =
+    let front = c.front_of.ensures (omega (arith, c.len-r.ensures.count, c.len-r.ensures.some, c.if-r-eq0.false)) in
+    let size : length c.front_of.result ≡ length c.args.path.now - 1 = ap length front ∙ length-take-le (length c.args.path.now - 1) c.args.path.now (omega arith) in
+    low_fault (2 + length c.front_of.result) c.relayed.result (omega (arith, size, c.len-r.ensures.count, c.len-r.ensures.few)) c.relayed.ensures.small
+
+pub returns-then-has-2-clause-small : goal.returns-then-has-2-clause-small
+returns-then-has-2-clause-small g t c =
+    let front = c.front_of.ensures (omega (arith, c.len-r.ensures.count, c.len-r.ensures.some, c.if-r-eq0.false)) in
+    let size : length c.front_of.result ≡ length c.args.path.now - 1 = ap length front ∙ length-take-le (length c.args.path.now - 1) c.args.path.now (omega arith) in
+    subst (IsSmall (2 + length c.args.path.now)) (sym c.wrap.ensures)
+    (small_wrapped (2 + length c.front_of.result) (2 + length c.args.path.now) c.relayed.result (omega (arith, size, c.len-r.ensures.count, c.len-r.ensures.some)) c.relayed.ensures.small)
+
+pub returns-then-has-2-clause-is : goal.returns-then-has-2-clause-is
+returns-then-has-2-clause-is g t c =
+    let k = c.args.self.now in
+    let v = c.self.view_is in
+    let h : IsStored g.row.N k = subst (IsStored g.row.N) v c.self.invariant in
+    let back : c.len-r.result - 1 ≡ length c.args.path.now - 1 = omega (arith, c.len-r.ensures.count) in
+    let front = c.front_of.ensures (omega (arith, c.len-r.ensures.count, c.len-r.ensures.some, c.if-r-eq0.false)) in
+    read_echo g.row.N k h c.args.path.now (c.len-r.result - 1) c.at-q.result c.index.result.now c.index-2.result.now c.front_of.result c.relayed.result c.wrap.result
+    (omega (arith, c.len-r.ensures.count, c.len-r.ensures.some)) (omega (arith, c.if-r-eq0.false)) (omega (arith, c.len-r.ensures.few)) c.at-q.ensures
+    (c.index.ensures ∙ ap (λ x. get_or x.as_expected (c.len-r.result - 1) c.index.result.now) v) (sym c.has.ensures ∙ c.if-has.false)
+    (c.index-2.ensures ∙ ap (λ x. get_or x.echoes (c.len-r.result - 1) c.index-2.result.now) v) (sym c.has-2.ensures ∙ c.if-has-2.true)
+    (front ∙ ap (λ (n : ℕ). take n c.args.path.now) (sym back)) c.relayed.ensures.is c.wrap.ensures ∙ ap (λ (n : ℕ). relayed k n (get_or c.args.path.now n 0) c.args.path.now) back

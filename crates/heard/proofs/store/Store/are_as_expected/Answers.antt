@@ -26,7 +26,7 @@ loop-before-preserved g c =
     let low : b + 1 < length s.as_expected.items = omega (arith, c.loop-before-test.true, c.if-r-self.false, h.rounds_ok, h.as_expected_ok) in
     let is : c.index.result.now ≡ set_at k.as_expected (b + 1) = set_read s.as_expected.items (b + 1) c.index.result.now low c.index.ensures ∙ ap (λ x. set_at x.as_expected (b + 1)) v in
     let all = none_left (without_id k.members k.me) (set_at k.as_expected (b + 1)) c.minus-late.result
-    (c.minus-late.ensures ∙ ap₂ (λ xs ys. minus_of xs ys) (c.without-others.ensures ∙ ap (λ x. without_id x.members x.me) v) is) (c.is_empty.ensures.0 (grind (arith, c.if-not-is_empty.false))) in
+    (c.minus-late.ensures ∙ ap₂ (λ xs ys. minus_of xs ys) (c.without-others.ensures ∙ ap (λ x. without_id x.members x.me) v) is) (c.is_empty.ensures.0 c.if-not-is_empty.false) in
     λ n q some few on. elim (cases_eq n (b + 1)) [
       | inl e ↦ ap (λ i. has_id (set_at k.as_expected i) q) e ∙ all q on
       | inr ne ↦ c.loop-before.invariant n q some (omega (arith, few, ne)) on

@@ -1,3 +1,4 @@
+use Rattle.equivocation.specs.ConvictionLaws.{unrelayed}
 use Rattle.std.proofs.Common.{ℕ, ◌≡◌, ◌<◌, ◌+◌, ◌-◌, ◌&&◌, ◌∷◌, [], length, map, take, refl, sym, ap, ap₂, subst, ◌∙◌, arith, ne_eqb}
 use Rattle.std.specs.Prelude.{if◌then◌else◌}
 use Rattle.std.proofs.lemmas.List.{take_all, length-take-le}
@@ -132,3 +133,22 @@ overflow_add-agreeing g c =
     let h : IsStored g.row.N k = subst (IsStored g.row.N) v c.self.invariant in
     let t = reads g.row.N k h a.c c.requires.other c.without.result c.without-others.result c.index.result.now c.to_read-read.result c.agrees_on.result (c.without.ensures ∙ ap (λ x. without_id x.members x.me) v) c.without-others.ensures c.to_read-read.ensures in
     omega (arith, t.few, c.len.ensures.count, bit_le c.if-self.counted)
+
+pub at-q-requires : goal.at-q-requires
+at-q-requires g c = (omega arith, omega (arith, c.loop-k-test.true, c.len-count.ensures.count))
+
+pub convict_beside-requires-clause-exact : goal.convict_beside-requires-clause-exact
+convict_beside-requires-clause-exact g c = g.met.V.Value.exact
+
+pub index-requires : goal.index-requires
+index-requires g c = omega (arith, c.self.invariant.as_expected_ok, c.self.inside.as_expected.ok.0)
+
+pub then-requires-clause-room : goal.then-requires-clause-room
+then-requires-clause-room g c = omega (arith, ap length c.root.ensures)
+
+pub without-requires : goal.without-requires
+without-requires g c = (omega arith, c.self.invariant.me_ok)
+
+pub returns-then-self-eq0 : goal.returns-then-self-eq0
+returns-then-self-eq0 g c =
+    sym (unrelayed g.V.PartialEq.eq _ _ _ c.args.self.now.rounds (sym (ap (λ x. x.rounds) c.self.view_is) ∙ c.if-self-eq0.true))

@@ -1,4 +1,4 @@
-use Rattle.std.proofs.Common.{◌≡◌, length, ap, subst, ◌∙◌, arith}
+use Rattle.std.proofs.Common.{◌≡◌, length, ap, subst, ◌∙◌, arith, refl}
 use Rattle.node_grid.specs.NodeSet.{without_id}
 use Rattle.omh_paths.specs.MemberLaws.{few_ids}
 use Rattle.heard.specs.Keep.{IsStored}
@@ -37,3 +37,17 @@ returns-clause-is g c =
       count_ok = c.requires.count_ok;
       small = c.requires.small;
     }
+
+pub returns-clause-relays : goal.returns-clause-relays
+returns-clause-relays g c = refl
+
+pub returns-clause-sender : goal.returns-clause-sender
+returns-clause-sender g c = refl
+
+pub returns-clause-values : goal.returns-clause-values
+returns-clause-values g c = refl
+
+pub without-others-requires : goal.without-others-requires
+without-others-requires g c =
+    let h : IsStored g.row.N c.args.self.now = subst (IsStored g.row.N) c.self.view_is c.self.invariant in
+    (omega arith, omega (arith, h.low c.args.q c.requires.sender, h.nodes_ok))

@@ -11,7 +11,7 @@ returns-then-not-has-clause-none g c =
     let path = c.args.path.now in
     let here : c.loop-k.k < length path = omega (arith, c.loop-k-test.true, c.len-k-end.ensures.count) in
     let on : has_id path c.at.result ≡ true = ap (has_id path) c.at.ensures ∙ has-at path c.loop-k.k 0 here in
-    let none : c.has.result ≡ false = grind (arith, c.if-not-has.true) in
+    let none : c.has.result ≡ false = c.if-not-has.true in
     λ t own. both_ways _ (sym c.has.ensures ∙ none) (ap (λ x. has_id x.members c.at.result) c.self.view_is ∙ own.within c.at.result on)
 
 pub loop-k-preserved : goal.loop-k-preserved
@@ -20,7 +20,7 @@ loop-k-preserved g c =
     let members = c.args.self.now.members in
     let here : c.loop-k.k < length path = omega (arith, c.loop-k-test.true, c.len-k-end.ensures.count) in
     let at : c.at.result ≡ get_or path c.loop-k.k 0 = c.at.ensures in
-    let yes : c.has.result ≡ true = grind (arith, c.if-not-has.false) in
+    let yes : c.has.result ≡ true = c.if-not-has.false in
     hit_next (λ j. has_id members (get_or path j 0) ≡ true) c.loop-k.k c.loop-k.invariant
     (ap (has_id members) (sym at) ∙ sym (ap (λ x. has_id x.members c.at.result) c.self.view_is) ∙ sym c.has.ensures ∙ yes)
 

@@ -1,4 +1,4 @@
-use Rattle.std.proofs.Common.{◌≡◌, ◌&&◌, true, false, set, refl, sym, ap, ◌∙◌, arith}
+use Rattle.std.proofs.Common.{◌≡◌, ◌&&◌, true, false, set, refl, sym, ap, ◌∙◌}
 use Rattle.std.proofs.lemmas.Bool.{cond-true, cond-false}
 use Rattle.heard.proofs.Methods.{root_stored, root_written, said_still, still_alike}
 use Rattle.heard.proofs.store.Store.put_root.Goals as goal
@@ -14,7 +14,7 @@ returns-then-not-is_expected g c =
     let s = c.self.inside in
     let v = c.self.view_is in
     let k = c.args.self.now in
-    let none : c.args.is_expected ≡ false = grind (arith, c.if-not-is_expected.true) in
+    let none : c.args.is_expected ≡ false = c.if-not-is_expected.true in
     root_written _ _ v c.args.c c.args.value _ _ false c.set.ensures (ap (λ x. x.expected) v ∙ sym (cond-false c.args.is_expected (set k.expected c.args.c c.args.value) k.expected none)) (sym (ap (λ b. b && k.alike) none))
 
 pub invariant_of-self-2 : goal.invariant_of-self-2
@@ -30,7 +30,7 @@ returns g c =
     let s = c.self.inside in
     let v = c.self.view_is in
     let k = c.args.self.now in
-    let yes : c.args.is_expected ≡ true = grind (arith, c.if-not-is_expected.false) in
+    let yes : c.args.is_expected ≡ true = c.if-not-is_expected.false in
     root_written _ _ v c.args.c c.args.value _ _ s.alike c.set.ensures
     (c.set-2.ensures ∙ ap (λ x. set x.expected c.args.c c.args.value) v ∙ sym (cond-true c.args.is_expected (set k.expected c.args.c c.args.value) k.expected yes))
     (ap (λ x. x.alike) v ∙ sym (ap (λ b. b && k.alike) yes))
