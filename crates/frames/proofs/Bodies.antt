@@ -1,21 +1,23 @@
 -- What the tests on bodies say of them, and how a frame is made of its header and its body.
-use Rattle.std.proofs.Common.{◌≡◌, ℕ, ◌+◌, ◌*◌, ◌/◌, ◌%◌, ◌^◌, ◌<◌, ◌≤◌, Bool, true, false, ◌&&◌, List, ◌++◌, length, take, drop, map, sym, refl, ap, ◌∙◌, arith, subst, get_or, lit<, lit≤, eq-eqb, inl}
-use Rattle.std.proofs.lemmas.Bool.{and_parts, and_from}
+use Rattle.std.proofs.Common.{◌≡◌, ℕ, ◌+◌, ◌*◌, ◌/◌, ◌%◌, ◌^◌, ◌<◌, ◌≤◌, Bool, true, false, ◌&&◌, List, ◌∷◌, ◌++◌, length, take, drop, map, sym, refl, ap, ◌∙◌, arith, subst, get_or, lit<, [], lit≤, eq-eqb, inl, inr}
+use Rattle.std.proofs.lemmas.Bool.{and_parts, and_from, eqb-true}
 use Rattle.std.specs.Prelude.{◌==◌, Option, Some, None, IsSome, IfSome, IfNone, option_map}
 use Rattle.std.specs.Bool.{Decides}
 use Rattle.std.proofs.Math.Nat.{add-mul-div_left, div-eq_of_lt, mul-mod_right}
 use Rattle.std.specs.List.{list_all, All, flat_map}
-use Rattle.std.proofs.lemmas.List.{length-map, take-append-drop, length-drop, length-take}
+use Rattle.std.proofs.lemmas.List.{length-map, take-append-drop, length-drop, length-take, nil_from_length}
 use Rattle.std.proofs.lemmas.Bool.Decides.{Decides-eqb, not_from_Decides}
 use Rattle.frames.specs.declared.kind.Kind.{Kind}
+use Rattle.frames.specs.declared.kind.Kind.TheVariants as kinds
 use Rattle.frames.specs.Seen.{number_of}
+use Rattle.frames.specs.FrameKinds.{cold_kind}
 use Rattle.frames.specs.Content.{Expectation, Content, State, Done0, DoneRelay, Data, Report0, ReportRelay, Cold, kind, kind_in, round_in, entries_due, IsClaim, IsRow, IsValue, IsEntry}
 use Rattle.frames.specs.Spelling.{claim_spelling, relayed_row_spelling, value_spelling, body_spelling, header_spelling, spelling, head_of, IsFrame}
-use Rattle.frames.specs.Reading.{cut, claim_in, claims_in, row_in, relayed_row_in, rows_in, value_in, values_in, said_in, reading}
-use Rattle.frames.specs.Checks.{are_written, is_claim_entry, is_row_entry, is_value, are_masks, has_claims, has_values, has_row, has_rows, IsSaid, IsBody}
+use Rattle.frames.specs.Reading.{cut, claim_in, claims_in, fits_claim, row_in, relayed_row_in, rows_in, value_in, values_in, said_in, reading}
+use Rattle.frames.specs.Checks.{are_written, is_claim_entry, is_row_entry, is_value, are_masks, has_state, has_claim, has_claims, has_values, has_row, has_rows, IsSaid, IsBody}
 use Rattle.frames.specs.PieceLaws.{AreBytes, length-cut, length_spelt, test_spelt, restored, IsFormat, IsTest}
-use Rattle.frames.specs.EntryLaws.{claim_format, claim_test, value_format, value_test, row_valid, row_restored, row_long, row_passes, relayed_row_format, relayed_row_test, claims_written, rows_written}
-use Rattle.frames.specs.ReadingLaws.{said_spelt, spelt_once, header_told, reads_exactly, none_if}
+use Rattle.frames.specs.EntryLaws.{claim_fits, claim_valid, claim_format, claim_test, value_format, value_test, row_valid, row_restored, row_long, row_passes, relayed_row_format, relayed_row_test, claims_written, rows_written}
+use Rattle.frames.specs.ReadingLaws.{said_spelt, spelt_once, header_told, reads_exactly, none_if, round_within}
 
 times_over : (width n : ℕ) → 0 < width → (width * n) / width ≡ n
 times_over width n h =
@@ -72,6 +74,30 @@ row_decided e bytes few b = (
       (ap (are_masks e.version) h.spelt ∙ row_passes e.version e.capacity e.nodes (row_in e.capacity e.nodes bytes) h.sized),
 )
 
+pub state_decided : (e : Expectation) (bytes : List ℕ) → Decides (has_state e bytes) (IsSaid e (State bytes) bytes)
+state_decided e bytes = (
+  λ h. record { sized = eqb-true (length bytes) e.state_len h; spelt = refl },
+  λ (h : IsSaid e (State bytes) bytes). eq-eqb (length bytes) e.state_len h.sized,
+)
+
+one_byte : (bytes : List ℕ) → length bytes ≡ 1 → bytes ≡ get_or bytes 0 0 ∷ []
+one_byte [] l = absurd (omega arith)
+one_byte (b ∷ bs) l = ap (λ xs. b ∷ xs) (nil_from_length bs (omega arith))
+
+pub claim_decided : (e : Expectation) (bytes : List ℕ) → Decides (has_claim e bytes) (IsSaid e (Done0 (get_or bytes 0 0)) bytes)
+claim_decided e bytes = (
+  λ h. record { sized = claim_valid e.tasks (get_or bytes 0 0) (and_parts _ _ h).1; spelt = one_byte bytes (eqb-true (length bytes) 1 (and_parts _ _ h).0) },
+  λ (h : IsSaid e (Done0 (get_or bytes 0 0)) bytes).
+      and_from (length bytes == 1) (fits_claim e.tasks (get_or bytes 0 0)) (eq-eqb (length bytes) 1 (ap length h.spelt))
+      (claim_fits e.tasks (get_or bytes 0 0) h.sized),
+)
+
+cold_decided : (e : Expectation) (bytes : List ℕ) → Decides (length bytes == 0) (IsSaid e Cold bytes)
+cold_decided e bytes = (
+  λ h. record { sized = tt; spelt = nil_from_length bytes (eqb-true (length bytes) 0 h) },
+  λ (h : IsSaid e Cold bytes). eq-eqb (length bytes) 0 (ap length h.spelt),
+)
+
 -- where the candidate of a kind isn't what a body says, nothing is
 pub nothing_said : (e : Expectation) (k : ℕ) (bytes : List ℕ) → (IsSaid e (said_in e k bytes) bytes → ⊥) → (c : Content) → IsBody e k c bytes → ⊥
 nothing_said e k bytes h c b =
@@ -95,6 +121,31 @@ pub body_told : (e : Expectation) (k num : ℕ) (p q : Kind) (c : Content) (byte
     → IsSaid e c bytes → IsBody e k c bytes
 body_told e k num p q c bytes a b placed is same said = record { is = same ∙ sym (kind_told k num p q a b is); placed = inl (same ∙ sym (ap number_of is) ∙ placed); said = said }
 
+-- nothing but no byte is Cold
+pub cold_told : (e : Expectation) (k num : ℕ) (bytes : List ℕ) → k ≡ num → num ≡ cold_kind → (length bytes == 0) ≡ true → IsBody e k Cold bytes
+cold_told e k num bytes a b h = record { is = sym (a ∙ b); placed = inr refl; said = (cold_decided e bytes).0 h }
+
+pub nothing_cold : (e : Expectation) (k num : ℕ) (bytes : List ℕ) → k ≡ num → num ≡ cold_kind → (length bytes == 0) ≡ false → (c : Content) → IsBody e k c bytes → ⊥
+nothing_cold e k num bytes a b h = nothing_told e k num kinds.Cold kinds.Cold bytes Cold (length bytes == 0) a b refl refl (cold_decided e bytes) h
+
+-- a body is of the kind that has its place, or Cold
+pub none_placed : (e : Expectation) (k n num : ℕ) (p : Kind) (bytes : List ℕ) → (k ≡ n → ⊥) → n ≡ cold_kind
+    → (k ≡ num → ⊥) → num ≡ number_of p → number_of p ≡ kind_in e.m e.slot → (c : Content) → IsBody e k c bytes → ⊥
+none_placed e k n num p bytes a b d f placed c body = elim body.placed [ inl h ↦ d (sym body.is ∙ h ∙ sym placed ∙ sym f) | inr h ↦ a (sym body.is ∙ h ∙ sym b) ]
+
+-- a slot of a relay frame has a round
+pub placed_round : (e : Expectation) (p q : Kind) → number_of p ≡ kind_in e.m e.slot → p ≡ q → number_of q < 7 → e.m ≤ 3 → round_in e.m e.slot ≤ 3
+placed_round e p q placed is l m = let r = round_within e.m e.slot (number_of q) (sym (ap number_of is) ∙ placed) l in omega (arith, r, m)
+
+pub whole_claims : (e : Expectation) (bytes : List ℕ) → has_claims e bytes ≡ true → length bytes % 2 ≡ 0
+whole_claims e bytes h = ap (λ x. x % 2) ((Decides-eqb (length bytes) (2 * entries_due e)).0 (and_parts _ _ h).0) ∙ mul-mod_right 2 (entries_due e)
+
+pub whole_values : (e : Expectation) (bytes : List ℕ) → has_values e bytes ≡ true → length bytes % 8 ≡ 0
+whole_values e bytes h = ap (λ x. x % 8) ((Decides-eqb (length bytes) (8 * e.due)).0 (and_parts _ _ h).0) ∙ mul-mod_right 8 e.due
+
+pub whole_row : (e : Expectation) (bytes : List ℕ) → has_row e bytes ≡ true → length bytes ≡ 2 * e.nodes
+whole_row e bytes h = (Decides-eqb (length bytes) (2 * e.nodes)).0 (and_parts _ _ h).0
+
 pub whole_rows : (e : Expectation) (bytes : List ℕ) (width : ℕ) → width ≡ 1 + 2 * e.nodes → has_rows e bytes ≡ true → length bytes % width ≡ 0
 whole_rows e bytes width w h =
     let l : length bytes ≡ (1 + 2 * e.nodes) * entries_due e = (Decides-eqb (length bytes) ((1 + 2 * e.nodes) * entries_due e)).0 (and_parts _ _ h).0 in
@@ -108,17 +159,13 @@ said_as e k n bytes is said = subst (λ i. IsSaid e (said_in e i bytes) bytes) i
 pub claims_known : (e : Expectation) (bytes : List ℕ) → AreBytes bytes → IsSaid e (DoneRelay (claims_in bytes)) bytes → (length bytes % 2 ≡ 0) × (are_written 2 bytes ≡ true)
 claims_known e bytes b said =
     let h : has_claims e bytes ≡ true = (claims_decided e bytes b).1 said in
-    let l : length bytes ≡ 2 * entries_due e = (Decides-eqb (length bytes) (2 * entries_due e)).0 (and_parts _ _ h).0 in
-    (ap (λ x. x % 2) l ∙ mul-mod_right 2 (entries_due e), claims_written e.tasks (round_in e.m e.slot) bytes (and_parts _ _ h).1)
+    (whole_claims e bytes h, claims_written e.tasks (round_in e.m e.slot) bytes (and_parts _ _ h).1)
 
 pub values_known : (e : Expectation) (bytes : List ℕ) → AreBytes bytes → IsSaid e (Data (values_in bytes)) bytes → length bytes % 8 ≡ 0
-values_known e bytes b said =
-    let h : has_values e bytes ≡ true = (values_decided e bytes b).1 said in
-    let l : length bytes ≡ 8 * e.due = (Decides-eqb (length bytes) (8 * e.due)).0 (and_parts _ _ h).0 in
-    ap (λ x. x % 8) l ∙ mul-mod_right 8 e.due
+values_known e bytes b said = whole_values e bytes ((values_decided e bytes b).1 said)
 
 pub row_known : (e : Expectation) (bytes : List ℕ) → e.nodes ≤ e.capacity → AreBytes bytes → IsSaid e (Report0 (row_in e.capacity e.nodes bytes)) bytes → length bytes ≡ 2 * e.nodes
-row_known e bytes few b said = (Decides-eqb (length bytes) (2 * e.nodes)).0 (and_parts _ _ ((row_decided e bytes few b).1 said)).0
+row_known e bytes few b said = whole_row e bytes ((row_decided e bytes few b).1 said)
 
 pub rows_known : (e : Expectation) (bytes : List ℕ) (width : ℕ) → width ≡ 1 + 2 * e.nodes → e.nodes ≤ e.capacity → AreBytes bytes → IsSaid e (ReportRelay (rows_in e.capacity e.nodes bytes)) bytes
     → (length bytes % width ≡ 0) × (are_written width bytes ≡ true)
@@ -151,6 +198,9 @@ pub frame_size : (e : Expectation) (c : Content) (bytes : List ℕ) → IsFrame 
 frame_size e c bytes h =
     let l = ap length (frame_header e c bytes h) in
     (omega (arith, length-take 14 bytes), omega (arith, ap length h.body, h.in_range.short))
+
+pub too_short : (e : Expectation) (c : Content) (bytes : List ℕ) → length bytes < 14 → IsFrame e c bytes → ⊥
+too_short e c bytes l h = let n = (frame_size e c bytes h).0 in omega (arith, n, l)
 
 -- what the relation says of an answer is what reading says
 pub exactly : {F : Type 0} (view : F → Content) (e : Expectation) (bytes : List ℕ) (o : Option F) → IfSome o (λ f. IsFrame e (view f) bytes) → IfNone o ((c : Content) → IsFrame e c bytes → ⊥) → option_map view o ≡ reading e bytes

@@ -1,6 +1,7 @@
 -- Runs of equal entries, one after another.
 use Rattle.std.proofs.Common.{ℕ, zero, suc, ◌≡◌, ◌≤◌, ◌<◌, ◌+◌, ◌-◌, ◌*◌, List, [], ◌++◌, length, take, drop, refl, sym, ap, ap₂, ◌∙◌, arith}
 use Rattle.std.proofs.lemmas.List.{take-append-drop, take_at, drop_at, length-take-le, drop-take, take-take, nil_from_length}
+use Rattle.std.proofs.lemmas.Nat.{mul-le}
 use Rattle.frames.specs.Filling.{repeated}
 use Rattle.frames.specs.Runs.{firsts, expanded}
 
@@ -31,6 +32,10 @@ run_of_all width (suc n) xs long again =
 pub width_within : (w t : ℕ) → 0 < t → w ≤ t * w
 width_within w zero h = absurd (omega arith)
 width_within w (suc t) h = omega arith
+
+-- what is left has room for one more
+pub room_left : (counter count run n : ℕ) → counter < count → counter * run + n ≡ count * run → run ≤ n
+room_left counter count run n h e = let m : (counter + 1) * run ≤ count * run = mul-le (counter + 1) run count run (omega arith) (omega arith) in omega (arith, m, e)
 
 -- one run more in front
 pub runs_more : (width times n : ℕ) (rest first others : List ℕ) → 0 < times → times * width ≤ length rest → first ≡ take (times * width) rest → others ≡ drop (times * width) rest

@@ -7,7 +7,7 @@ use Rattle.std.specs.List.{list_all}
 use Rattle.std.proofs.lemmas.Bool.{cases_lt, cases_Bool, and_parts, eqb-true, eq-eqb}
 use Rattle.std.proofs.lemmas.Nat.{and_block, and_mask, le-div}
 use Rattle.std.proofs.Math.Nat.{mul-add, mul-one}
-use Rattle.std.proofs.lemmas.List.{drop-drop, drop-take, take-take}
+use Rattle.std.proofs.lemmas.List.{drop-drop, drop-take, take-take, drop_more}
 use Rattle.frames.specs.Checks.{are_masks, are_zero}
 use Rattle.frames.specs.Reading.{piece, cut}
 use Rattle.frames.specs.PieceLaws.{AreBytes, AreBytes-take, AreBytes-drop, get_or-piece, piece_within, each_passes, one_fails}
@@ -45,6 +45,23 @@ AreBytes-piece bytes k b = AreBytes-take 8 (drop (8 * k) bytes) (AreBytes-drop (
 
 byte_at : (bytes : List ℕ) (k i n : ℕ) → i < 8 → 8 * k + i ≡ n → get_or (piece 8 bytes k) i 0 ≡ get_or bytes n 0
 byte_at bytes k i n l e = get_or-piece 8 bytes k i l ∙ ap (λ x. get_or bytes x 0) e
+
+-- ---- the bytes of a piece
+
+taken : (m n next : ℕ) (bytes : List ℕ) → n < length bytes → n + 1 ≡ next → take (suc m) (drop n bytes) ≡ get_or bytes n 0 ∷ take m (drop next bytes)
+taken m n next bytes l e = ap (take (suc m)) (drop_more bytes n 0 l) ∙ ap (λ i. get_or bytes n 0 ∷ take m (drop i bytes)) e
+
+-- the eight bytes from a place on, one by one
+pub eight_bytes : (n : ℕ) (bytes : List ℕ) → n + 8 ≤ length bytes
+    → take 8 (drop n bytes) ≡ get_or bytes n 0 ∷ get_or bytes (n + 1) 0 ∷ get_or bytes (n + 2) 0 ∷ get_or bytes (n + 3) 0
+    ∷ get_or bytes (n + 4) 0 ∷ get_or bytes (n + 5) 0 ∷ get_or bytes (n + 6) 0 ∷ get_or bytes (n + 7) 0 ∷ []
+eight_bytes n bytes h =
+    let b : ℕ → List ℕ → List ℕ = λ i xs. get_or bytes i 0 ∷ xs in
+    let one : (m i : ℕ) → i < 8 → take (suc m) (drop (n + i) bytes) ≡ b (n + i) (take m (drop (n + (i + 1)) bytes)) =
+    λ m i l. taken m (n + i) (n + (i + 1)) bytes (omega arith) (omega arith) in
+    taken 7 n (n + 1) bytes (omega arith) refl
+    ∙ ap (b n) (one 6 1 (lit< tt) ∙ ap (b (n + 1)) (one 5 2 (lit< tt) ∙ ap (b (n + 2)) (one 4 3 (lit< tt) ∙ ap (b (n + 3)) (one 3 4 (lit< tt)
+    ∙ ap (b (n + 4)) (one 2 5 (lit< tt) ∙ ap (b (n + 5)) (one 1 6 (lit< tt) ∙ ap (b (n + 6)) (one 0 7 (lit< tt))))))))
 
 -- ---- bytes that are 0
 

@@ -1,5 +1,5 @@
 -- What holds of a controller is kept where little of it changes.
-use Rattle.std.proofs.Common.{ℕ, ◌≡◌, ◌≤◌, true, false, List, Option, None, Some, Vec, Global, refl, sym, ap, subst, ◌∙◌, arith}
+use Rattle.std.proofs.Common.{ℕ, ◌≡◌, ◌≤◌, Bool, true, false, List, Option, None, Some, Vec, Global, refl, sym, ap, subst, ◌∙◌, arith}
 use Rattle.std.specs.Prelude.{IsSome, IfSome, vec_capacity}
 use Rattle.omh_paths.specs.declared.wrapped.Wrapped.{Wrapped}
 use Rattle.slot_plan.specs.declared.slot.Slot.{Slot}
@@ -36,6 +36,9 @@ module _ {N : ℕ} (config : Config N) (me : ℕ) (w : Watch) (i : IsItsWatch co
     greatest = subst (λ (k : ℕ). IsGreatest config.nodes config.m (state_len config) 8 k) (sym (ap (λ (x : Watch). x.frame_max) e)) i.greatest;
     expects = λ h. subst IsSome (sym (ap (λ (x : Watch). x.expect) e)) (i.expects (sym (ap (λ (x : Watch). x.is_open) e) ∙ h));
   }
+
+pub shut_open : {b : Bool} → b ≡ false → b ≡ true → ⊥
+shut_open p q = let x = sym p ∙ q in cc
 
 -- no slot is open where the watch was closed
 pub not_open : (w u : Watch) → u ≡ closed w → u.is_open ≡ true → ⊥

@@ -1,7 +1,7 @@
-use Rattle.std.proofs.Common.{ℕ, suc, ◌≡◌, ◌+◌, ◌-◌, ◌*◌, List, take, refl, ap, subst, sym, ◌∙◌, arith}
-use Rattle.std.proofs.lemmas.List.{take-take}
+use Rattle.std.proofs.Common.{ℕ, suc, true, false, length, ◌≡◌, ◌+◌, ◌-◌, ◌*◌, List, take, refl, ap, subst, sym, ◌∙◌, arith}
+use Rattle.std.proofs.lemmas.List.{take-take, nil_from_length}
 use Rattle.frames.specs.Runs.{firsts}
-use Rattle.frames.proofs.Repeats.{firsts_more, width_within}
+use Rattle.frames.proofs.Repeats.{firsts_more, width_within, room_left}
 use Rattle.frames.proofs.runs.has_firsts.Goals as goal
 
 pub loop-preserved : goal.loop-preserved
@@ -26,3 +26,33 @@ loop-preserved c =
           c.loop.invariant.tail (subst (λ k. firsts w t k rest ≡ c.loop.left.now) more
           (firsts_more w t n rest others c.loop.left.now entry c.split_at-in-loop.result.1.now c.split_at.ensures.back c.split_at-in-loop.ensures.front c.split_at-in-loop.ensures.back front h));
     }
+
+pub overflow_mul-run : goal.overflow_mul-run
+overflow_mul-run c = omega (arith, c.requires.small)
+
+pub loop-init : goal.loop-init
+loop-init c =
+    let all : c.args.count - 0 ≡ c.args.count = omega arith in
+    record {
+      rest_len = omega (arith, c.requires.whole);
+      left_len = omega (arith, c.requires.each);
+      run = refl;
+      tail = λ h. subst (λ k. firsts c.args.width c.args.times k c.args.body.now ≡ c.args.entries.now) all h;
+    }
+
+pub split_at-requires : goal.split_at-requires
+split_at-requires c = room_left c.loop.counter c.args.count (c.args.times * c.args.width) (length c.loop.rest.now) c.loop-test.true c.loop.invariant.rest_len
+
+pub split_at-requires-in-loop : goal.split_at-requires-in-loop
+split_at-requires-in-loop c = room_left c.loop.counter c.args.count c.args.width (length c.loop.left.now) c.loop-test.true c.loop.invariant.left_len
+
+pub returns-then-not-same_bytes : goal.returns-then-not-same_bytes
+returns-then-not-same_bytes c = λ h. absurd (let no : false ≡ true = h in cc)
+
+pub returns : goal.returns
+returns c =
+    let w : ℕ = c.args.width in
+    let last : c.loop.counter ≡ c.args.count = (let t = c.loop-test.false in omega arith) in
+    let none : c.args.count - c.loop.counter ≡ 0 = omega (arith, last) in
+    let empty : length c.loop.left.now ≡ 0 = omega (arith, ap (λ k. k * w) last, c.loop.invariant.left_len) in
+    λ h. c.loop.invariant.tail (ap (λ k. firsts w c.args.times k c.loop.rest.now) none ∙ sym (nil_from_length c.loop.left.now empty))

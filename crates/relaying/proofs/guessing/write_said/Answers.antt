@@ -1,5 +1,6 @@
-use Rattle.std.proofs.Common.{ℕ, List, ◌≡◌, ◌<◌, ◌≤◌, ◌+◌, ◌*◌, true, length, sym, ap, subst, ◌∙◌, arith}
+use Rattle.std.proofs.Common.{ℕ, List, lit<, refl, ◌≡◌, ◌<◌, ◌≤◌, ◌+◌, ◌*◌, true, length, sym, ap, subst, ◌∙◌, arith}
 use Rattle.omh_paths.specs.Paths.{paths_of_length, path_count, place_in}
+use Rattle.node_grid.specs.NodeSet.{has_id}
 use Rattle.node_grid.specs.Count.{Distinct}
 use Rattle.omh_paths.specs.Wrapped.{wrapped}
 use Rattle.omh_paths.specs.MemberLaws.{Distinct-ids}
@@ -36,3 +37,33 @@ returns-clause-table g c =
     (c.rank-place.ensures.place ∙ ap (λ (ms : List ℕ). place_in (paths_of_length ms r) c.args.path.now) c.members.ensures.members) low
     (subst Distinct c.members.ensures.members (Distinct-ids g.row.N c.members.result c.members.ensures.ids)) c.requires.on range
     (c.put.ensures ∙ ap (λ (n : ℕ). pasted (g.V.Item.width n * c.rank-place.result) (g.V.Item.spelling n c.wrap.result) c.args.out.now) c.nodes-nodes.ensures.nodes)
+
+pub returns-in_default-clause-table : goal.returns-in_default-clause-table
+returns-in_default-clause-table g c = c.requires.table
+
+pub returns-in_default-clause-length : goal.returns-in_default-clause-length
+returns-in_default-clause-length g c = refl
+
+pub nodes-nodes-requires : goal.nodes-nodes-requires
+nodes-nodes-requires g c = assumption
+
+pub returns-then-not-can_pass-clause-table : goal.returns-then-not-can_pass-clause-table
+returns-then-not-can_pass-clause-table g c = c.requires.table
+
+pub returns-then-not-can_pass-clause-length : goal.returns-then-not-can_pass-clause-length
+returns-then-not-can_pass-clause-length g c = refl
+
+pub members-requires : goal.members-requires
+members-requires g c = (assumption, lit< tt)
+
+pub put-requires-clause-capacity : goal.put-requires-clause-capacity
+put-requires-clause-capacity g c = c.nodes-nodes.ensures.capacity
+
+pub put-requires-clause-nodes : goal.put-requires-clause-nodes
+put-requires-clause-nodes g c = c.nodes-nodes.ensures.few
+
+pub returns-clause-length : goal.returns-clause-length
+returns-clause-length g c = c.put.auto.out
+
+pub rank-place-requires : goal.rank-place-requires
+rank-place-requires g c = (lit< tt, (c.nodes-nodes.ensures.capacity, λ q on. ap (λ (s : List ℕ). has_id s q) c.members.ensures.members ∙ c.requires.within q on))

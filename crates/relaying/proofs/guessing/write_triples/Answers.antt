@@ -1,9 +1,27 @@
-use Rattle.std.proofs.Common.{arith}
+use Rattle.std.proofs.Common.{ℕ, ◌<◌, lit<, subst}
 use Rattle.relaying.proofs.OwnPaths.{other_at}
 use Rattle.relaying.proofs.guessing.write_triples.Goals as goal
 
 pub write_triples_of-requires : goal.write_triples_of-requires
 write_triples_of-requires g c =
     let h = c.args.heard.now in
-    let other = other_at h.members c.members.result c.without-others.result h.me c.me.result c.loop-i.i c.at.result c.members.ensures.members c.me.ensures.me c.without-others.ensures (omega (arith, c.loop-i-test.true, c.len-i-end.ensures.count)) c.at.ensures in
-    (omega arith, (omega arith, (c.requires.slot, (c.requires.member, (other, c.loop-i.invariant)))))
+    let other = other_at h.members c.members.result c.without-others.result h.me c.me.result c.loop-i.i c.at.result c.members.ensures.members c.me.ensures.me c.without-others.ensures (subst (λ (n : ℕ). c.loop-i.i < n) c.len-i-end.ensures.count c.loop-i-test.true) c.at.ensures in
+    (assumption, (assumption, (c.requires.slot, (c.requires.member, (other, c.loop-i.invariant)))))
+
+pub me-requires : goal.me-requires
+me-requires g c = assumption
+
+pub members-requires : goal.members-requires
+members-requires g c = (assumption, lit< tt)
+
+pub without-others-requires : goal.without-others-requires
+without-others-requires g c = (lit< tt, c.me.ensures.low)
+
+pub loop-i-init : goal.loop-i-init
+loop-i-init g c = c.requires.table
+
+pub returns-clause-table : goal.returns-clause-table
+returns-clause-table g c = c.loop-i.invariant
+
+pub returns-clause-length : goal.returns-clause-length
+returns-clause-length g c = c.loop-i.auto.out

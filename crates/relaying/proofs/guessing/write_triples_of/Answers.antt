@@ -1,4 +1,4 @@
-use Rattle.std.proofs.Common.{ℕ, List, [], ◌∷◌, ◌++◌, ◌≡◌, ◌≢◌, length, refl, sym, ap, ap₂, subst, ◌∙◌, arith}
+use Rattle.std.proofs.Common.{ℕ, List, [], lit<, ◌<◌, ◌∷◌, ◌++◌, ◌≡◌, ◌≢◌, length, refl, sym, ap, ap₂, subst, ◌∙◌}
 use Rattle.node_grid.specs.NodeSet.{has_id, without_id}
 use Rattle.omh_paths.specs.MemberLaws.{member-lt}
 use Rattle.omh_paths.specs.PathLists.{has-of-without, has-without-left}
@@ -16,12 +16,12 @@ then-front-requires-clause-off g c =
 pub without-others-requires : goal.without-others-requires
 without-others-requires g c =
     let h = c.args.heard.now in
-    (omega arith, member-lt g.row.N c.members.result c.args.x c.members.ensures.ids (ap (λ (s : List ℕ). has_id s c.args.x) c.members.ensures.members ∙ has-of-without h.members h.me c.args.x c.requires.other))
+    (lit< tt, member-lt g.row.N c.members.result c.args.x c.members.ensures.ids (ap (λ (s : List ℕ). has_id s c.args.x) c.members.ensures.members ∙ has-of-without h.members h.me c.args.x c.requires.other))
 
 pub then-near-requires-clause-off : goal.then-near-requires-clause-off
 then-near-requires-clause-off g c =
     let h = c.args.heard.now in
-    let other = other_at (without_id h.members h.me) c.without.result c.without-others.result c.args.x c.args.x c.loop-i.i c.at-y.result (c.without.ensures ∙ ap₂ without_id c.members.ensures.members c.me-me.ensures.me) refl c.without-others.ensures (omega (arith, c.loop-i-test.true, c.len-i-end.ensures.count)) c.at-y.ensures in
+    let other = other_at (without_id h.members h.me) c.without.result c.without-others.result c.args.x c.args.x c.loop-i.i c.at-y.result (c.without.ensures ∙ ap₂ without_id c.members.ensures.members c.me-me.ensures.me) refl c.without-others.ensures (subst (λ (n : ℕ). c.loop-i.i < n) c.len-i-end.ensures.count c.loop-i-test.true) c.at-y.ensures in
     let y = has-without-left (without_id h.members h.me) c.args.x c.at-y.result other in
     ap (λ (p : List ℕ). has_id p c.at-y.result) c.then-front.ensures
     ∙ off_grown c.root.result c.args.x c.at-y.result (off_own h.members h.me c.at-y.result c.root.result (c.root.ensures ∙ ap (λ (n : ℕ). n ∷ []) c.me-me.ensures.me) y.1) (λ e. y.0 (sym e))
@@ -30,13 +30,13 @@ pub write_said-requires : goal.write_said-requires
 write_said-requires g c =
     let h = c.args.heard.now in
     let e = expected c.args.expect.now in
-    let other = other_at (without_id h.members h.me) c.without.result c.without-others.result c.args.x c.args.x c.loop-i.i c.at-y.result (c.without.ensures ∙ ap₂ without_id c.members.ensures.members c.me-me.ensures.me) refl c.without-others.ensures (omega (arith, c.loop-i-test.true, c.len-i-end.ensures.count)) c.at-y.ensures in
+    let other = other_at (without_id h.members h.me) c.without.result c.without-others.result c.args.x c.args.x c.loop-i.i c.at-y.result (c.without.ensures ∙ ap₂ without_id c.members.ensures.members c.me-me.ensures.me) refl c.without-others.ensures (subst (λ (n : ℕ). c.loop-i.i < n) c.len-i-end.ensures.count c.loop-i-test.true) c.at-y.ensures in
     let y = has-without-left (without_id h.members h.me) c.args.x c.at-y.result other in
     let own : IsOwn h.members h.me 3 c.then-near.result = near_own h.members h.me c.requires.member c.args.x c.at-y.result c.then-near.result (has-of-without h.members h.me c.args.x c.requires.other) (has-of-without h.members h.me c.at-y.result y.1)
     (c.then-near.ensures ∙ ap (λ (p : List ℕ). p ++ c.at-y.result ∷ []) (c.then-front.ensures ∙ ap (λ (p : List ℕ). p ++ c.args.x ∷ []) (c.root.ensures ∙ ap (λ (n : ℕ). n ∷ []) c.me-me.ensures.me))) in (
-      omega arith,
+      assumption,
       (
-        omega arith,
+        assumption,
         (
           subst (λ (n : ℕ). IsRoundOf g.row.N g.V.Item.kind g.V.Item.in_range n h e) (sym own.long) c.requires.slot,
           (own.on, (own.within, (c.said_of.ensures.small, subst (λ (n : ℕ). HasGuess (g.V.Item.in_range e) (g.V.Item.spelling h.nodes) n h c.loop-i.out) (sym own.long) c.loop-i.invariant))),
@@ -47,7 +47,7 @@ write_said-requires g c =
 pub then-far-requires-clause-off : goal.then-far-requires-clause-off
 then-far-requires-clause-off g c =
     let h = c.args.heard.now in
-    let other = other_at (without_id h.members h.me) c.without.result c.without-others.result c.args.x c.args.x c.loop-i.i c.at-y.result (c.without.ensures ∙ ap₂ without_id c.members.ensures.members c.me-me.ensures.me) refl c.without-others.ensures (omega (arith, c.loop-i-test.true, c.len-i-end.ensures.count)) c.at-y.ensures in
+    let other = other_at (without_id h.members h.me) c.without.result c.without-others.result c.args.x c.args.x c.loop-i.i c.at-y.result (c.without.ensures ∙ ap₂ without_id c.members.ensures.members c.me-me.ensures.me) refl c.without-others.ensures (subst (λ (n : ℕ). c.loop-i.i < n) c.len-i-end.ensures.count c.loop-i-test.true) c.at-y.ensures in
     let y = has-without-left (without_id h.members h.me) c.args.x c.at-y.result other in
     let not_me : c.at-y.result ≢ h.me = (has-without-left h.members h.me c.at-y.result y.1).0 in
     ap (λ (p : List ℕ). has_id p c.at-y.result) c.then-back.ensures
@@ -57,14 +57,14 @@ pub write_said-requires-in-loop-i : goal.write_said-requires-in-loop-i
 write_said-requires-in-loop-i g c =
     let h = c.args.heard.now in
     let e = expected c.args.expect.now in
-    let other = other_at (without_id h.members h.me) c.without.result c.without-others.result c.args.x c.args.x c.loop-i.i c.at-y.result (c.without.ensures ∙ ap₂ without_id c.members.ensures.members c.me-me.ensures.me) refl c.without-others.ensures (omega (arith, c.loop-i-test.true, c.len-i-end.ensures.count)) c.at-y.ensures in
+    let other = other_at (without_id h.members h.me) c.without.result c.without-others.result c.args.x c.args.x c.loop-i.i c.at-y.result (c.without.ensures ∙ ap₂ without_id c.members.ensures.members c.me-me.ensures.me) refl c.without-others.ensures (subst (λ (n : ℕ). c.loop-i.i < n) c.len-i-end.ensures.count c.loop-i-test.true) c.at-y.ensures in
     let y = has-without-left (without_id h.members h.me) c.args.x c.at-y.result other in
     let near : length c.then-near.result ≡ 3 = ap length (c.then-near.ensures ∙ ap (λ (p : List ℕ). p ++ c.at-y.result ∷ []) (c.then-front.ensures ∙ ap (λ (p : List ℕ). p ++ c.args.x ∷ []) c.root.ensures)) in
     let own : IsOwn h.members h.me 3 c.then-far.result = far_own h.members h.me c.requires.member c.args.x c.at-y.result c.then-far.result (has-of-without h.members h.me c.args.x c.requires.other) (has-of-without h.members h.me c.at-y.result y.1)
     (c.then-far.ensures ∙ ap (λ (p : List ℕ). p ++ c.at-y.result ∷ []) (c.then-back.ensures ∙ ap₂ (λ (p : List ℕ) (n : ℕ). p ++ n ∷ []) c.root-2.ensures c.me-me.ensures.me)) in (
-      omega arith,
+      assumption,
       (
-        omega arith,
+        assumption,
         (
           subst (λ (n : ℕ). IsRoundOf g.row.N g.V.Item.kind g.V.Item.in_range n h e) (sym own.long) c.requires.slot,
           (own.on, (own.within, (c.said_of-in-loop-i.ensures.small, subst (λ (n : ℕ). HasGuess (g.V.Item.in_range e) (g.V.Item.spelling h.nodes) n h c.write_said.new.out) (near ∙ sym own.long) c.write_said.ensures.table))),
@@ -78,3 +78,47 @@ loop-i-preserved g c =
     let e = expected c.args.expect.now in
     let far : length c.then-far.result ≡ 3 = ap length (c.then-far.ensures ∙ ap (λ (p : List ℕ). p ++ c.at-y.result ∷ []) (c.then-back.ensures ∙ ap (λ (p : List ℕ). p ++ c.me-me.result ∷ []) c.root-2.ensures)) in
     subst (λ (n : ℕ). HasGuess (g.V.Item.in_range e) (g.V.Item.spelling h.nodes) n h c.write_said-in-loop-i.new.out) far c.write_said-in-loop-i.ensures.table
+
+pub me-me-requires : goal.me-me-requires
+me-me-requires g c = assumption
+
+pub members-requires : goal.members-requires
+members-requires g c = (assumption, lit< tt)
+
+pub passed_by-before-requires : goal.passed_by-before-requires
+passed_by-before-requires g c = assumption
+
+pub said_of-requires : goal.said_of-requires
+said_of-requires g c = (assumption, c.passed_by-before.ensures.small)
+
+pub said_of-requires-in-loop-i : goal.said_of-requires-in-loop-i
+said_of-requires-in-loop-i g c = (assumption, tt)
+
+pub without-requires : goal.without-requires
+without-requires g c = (lit< tt, c.me-me.ensures.low)
+
+pub then-front-requires-clause-room : goal.then-front-requires-clause-room
+then-front-requires-clause-room g c = subst (λ (p : List ℕ). length p < 4) (sym c.root.ensures) (lit< tt)
+
+pub then-back-requires-clause-room : goal.then-back-requires-clause-room
+then-back-requires-clause-room g c = subst (λ (p : List ℕ). length p < 4) (sym c.root-2.ensures) (lit< tt)
+
+pub then-near-requires-clause-room : goal.then-near-requires-clause-room
+then-near-requires-clause-room g c = subst (λ (p : List ℕ). length p < 4) (sym (c.then-front.ensures ∙ ap (λ (p : List ℕ). p ++ c.args.x ∷ []) c.root.ensures)) (lit< tt)
+
+pub then-far-requires-clause-room : goal.then-far-requires-clause-room
+then-far-requires-clause-room g c = subst (λ (p : List ℕ). length p < 4) (sym (c.then-back.ensures ∙ ap (λ (p : List ℕ). p ++ c.me-me.result ∷ []) c.root-2.ensures)) (lit< tt)
+
+pub then-back-requires-clause-off : goal.then-back-requires-clause-off
+then-back-requires-clause-off g c =
+    let h = c.args.heard.now in
+    ap (λ (p : List ℕ). has_id p c.me-me.result) c.root-2.ensures ∙ off_root c.args.x c.me-me.result (λ e. (has-without-left h.members h.me c.args.x c.requires.other).0 (e ∙ c.me-me.ensures.me))
+
+pub loop-i-init : goal.loop-i-init
+loop-i-init g c = c.requires.table
+
+pub returns-clause-table : goal.returns-clause-table
+returns-clause-table g c = c.loop-i.invariant
+
+pub returns-clause-length : goal.returns-clause-length
+returns-clause-length g c = c.loop-i.auto.out

@@ -1,4 +1,4 @@
-use Rattle.std.proofs.Common.{◌≡◌, ◌≤◌, take, length}
+use Rattle.std.proofs.Common.{◌≡◌, take, length}
 use Rattle.relaying.specs.Items.{entries_in as entries_of}
 use Rattle.relaying.proofs.hearing.copy_piece.Given as goal
 

@@ -30,3 +30,9 @@ returns-clause-count g c = c.count_paths-count.ensures.product ∙ ap (λ (n : �
 
 pub returns-clause-filled : goal.returns-clause-filled
 returns-clause-filled g c j low = c.loop-k.invariant.0 j (let t = c.loop-k-test.false in let u = c.loop-k.auto.k-end in omega arith)
+
+pub nodes-capacity-requires : goal.nodes-capacity-requires
+nodes-capacity-requires g c = assumption
+
+pub passed_on-requires : goal.passed_on-requires
+passed_on-requires g c = assumption

@@ -1,4 +1,4 @@
-use Rattle.std.proofs.Common.{ℕ, ◌≡◌, ◌≤◌, ◌+◌, ◌++◌, List, length, ap, ap₂, ◌∙◌, arith}
+use Rattle.std.proofs.Common.{ℕ, ◌≡◌, ◌≤◌, ◌+◌, ◌++◌, ◌*◌, lit<, List, length, ap, ap₂, ◌∙◌, arith}
 use Rattle.std.specs.Prelude.{is_ok, vec_capacity}
 use Rattle.std.specs.Vec.{vec_len}
 use Rattle.std.specs.List.{flat_map}
@@ -27,3 +27,40 @@ returns-clause-written g c =
     (g.met.V.Item.body h.nodes rel) (g.met.V.Item.kinded rel) c.own_size-size.ensures.size room
     (c.copy_from_slice.ensures.after ∙ c.header.ensures ∙ ap₂ (λ hd (k : ℕ). header_spelling hd k size) c.head.ensures c.relay_kind.ensures)
     c.write_own.ensures
+
+pub own_size-size-requires : goal.own_size-size-requires
+own_size-size-requires g c = (assumption, (c.requires.some_round, (c.requires.round, (expected c.args.expect.now, c.requires.slot))))
+
+pub overflow_add-size : goal.overflow_add-size
+overflow_add-size g c = let few : c.own_size-size.result ≤ 33 * 65536 = c.own_size-size.ensures.few in omega arith
+
+pub overflow_cast-size : goal.overflow_cast-size
+overflow_cast-size g c = let few : c.own_size-size.result ≤ 33 * 65536 = c.own_size-size.ensures.few in omega arith
+
+pub split_at_mut-front-requires : goal.split_at_mut-front-requires
+split_at_mut-front-requires g c =
+    let h = c.args.heard.now in
+    let rel = relays h c.args.round in
+    let size : ℕ = c.own_size-size.result in
+    let fits : 14 + size ≤ vec_capacity c.args.out.now = omega (arith, c.requires.room, ap length (g.met.V.Item.body h.nodes rel), c.own_size-size.ensures.size) in
+    let made : vec_len c.resize.new.self ≡ 14 + size = c.resize.ensures.len ∙ cond-true (is_ok c.resize.result) (14 + size) (vec_len c.args.out.now) (c.resize.ensures.succeeds fits) in
+    omega (arith, c.as_mut_slice.ensures.len, made)
+
+pub head-requires : goal.head-requires
+head-requires g c = lit< tt
+
+pub header-requires : goal.header-requires
+header-requires g c = tt
+
+pub write_own-requires : goal.write_own-requires
+write_own-requires g c =
+    let h = c.args.heard.now in
+    let rel = relays h c.args.round in
+    let size : ℕ = c.own_size-size.result in
+    let fits : 14 + size ≤ vec_capacity c.args.out.now = omega (arith, c.requires.room, ap length (g.met.V.Item.body h.nodes rel), c.own_size-size.ensures.size) in
+    let made : vec_len c.resize.new.self ≡ 14 + size = c.resize.ensures.len ∙ cond-true (is_ok c.resize.result) (14 + size) (vec_len c.args.out.now) (c.resize.ensures.succeeds fits) in
+    let room : length c.split_at_mut-front.result.1.now ≡ size = omega (arith, c.split_at_mut-front.ensures.back_len, c.as_mut_slice.ensures.len, made) in
+    (lit< tt, (assumption, (c.requires.nodes, (c.requires.some_round, (c.requires.round, ((expected c.args.expect.now, c.requires.expects, c.requires.slot), (c.requires.echoed, omega (arith, room, c.own_size-size.ensures.size))))))))
+
+pub returns-clause-room : goal.returns-clause-room
+returns-clause-room g c = c.resize.ensures.capacity

@@ -94,3 +94,9 @@ returns g c =
     ] in
     c.loop-node.invariant.written e c.requires.stands.long c.requires.stands.stands
     ∙ ap (λ (t : List ℕ). pasted (w * c.args.from) t c.args.out.now) (all_over w spell f e s c.requires.can.wide c.requires.stands.long done alike)
+
+pub nodes-nodes-requires : goal.nodes-nodes-requires
+nodes-nodes-requires g c = assumption
+
+pub relay-value-requires : goal.relay-value-requires
+relay-value-requires g c = assumption

@@ -1,10 +1,10 @@
-use Rattle.std.proofs.Common.{◌≡◌, ◌/◌, ◌<◌, ◌*◌, ◌+◌, ◌-◌, ℕ, List, length, subst, sym, ap, ◌∙◌, false, arith, get_or, take, drop}
+use Rattle.std.proofs.Common.{◌≡◌, ◌/◌, ◌<◌, ◌≤◌, ◌*◌, ◌+◌, ◌-◌, ℕ, List, length, subst, sym, ap, ◌∙◌, false, arith, get_or, take, drop}
 use Rattle.std.specs.Prelude.{◌==◌, if◌then◌else◌}
 use Rattle.std.proofs.Math.Nat.{mul_comm}
 use Rattle.omh_paths.specs.declared.wrapped.Wrapped.{Wrapped}
 use Rattle.omh_paths.specs.declared.wrapped.Wrapped.TheVariants.{Plain, Fault}
 use Rattle.frames.specs.Reading.{row_in, relayed_row_in, rows_in}
-use Rattle.frames.specs.PieceLaws.{read_at}
+use Rattle.frames.specs.PieceLaws.{read_at, piece_within}
 use Rattle.frames.specs.EntryLaws.{relayed_row_at}
 use Rattle.frames.proofs.cells.Cells.row_at.Goals as goal
 
@@ -15,6 +15,34 @@ entry capacity nodes width k bytes d e h =
     let P : ℕ → Type 0 = λ w. k < length bytes / w in
     let at : (1 + 2 * nodes) * k ≡ k * width = mul_comm (1 + 2 * nodes) k ∙ ap (λ w. k * w) (sym e) in
     read_at (1 + 2 * nodes) (relayed_row_in capacity nodes) bytes k d (subst P e h) ∙ relayed_row_at capacity nodes bytes k (k * width) at
+
+-- an entry lies within the bytes
+inside : (nodes width k n : ℕ) → width ≡ 1 + 2 * nodes → k < n / width → k * width + width ≤ n
+inside nodes width k n e h = let p = piece_within width k n (omega arith) h in omega (arith, p)
+
+pub overflow_mul-at : goal.overflow_mul-at
+overflow_mul-at g c =
+    let i = inside c.args.nodes c.args.self.now.width c.args.k (length c.args.self.now.bytes.now) c.requires.wide c.requires.within in
+    let w = c.requires.wide in
+    omega arith
+
+pub bounds-self-at : goal.bounds-self-at
+bounds-self-at g c = let i = inside c.args.nodes c.args.self.now.width c.args.k (length c.args.self.now.bytes.now) c.requires.wide c.requires.within in let w = c.requires.wide in omega arith
+
+pub overflow_add-at : goal.overflow_add-at
+overflow_add-at g c =
+    let i = inside c.args.nodes c.args.self.now.width c.args.k (length c.args.self.now.bytes.now) c.requires.wide c.requires.within in
+    let w = c.requires.wide in
+    omega arith
+
+pub overflow_add-at-in-0 : goal.overflow_add-at-in-0
+overflow_add-at-in-0 g c =
+    let i = inside c.args.nodes c.args.self.now.width c.args.k (length c.args.self.now.bytes.now) c.requires.wide c.requires.within in
+    let w = c.requires.wide in
+    omega arith
+
+pub slice_bounds-read_row-count : goal.slice_bounds-read_row-count
+slice_bounds-read_row-count g c = let w = c.requires.wide in omega arith
 
 pub returns-in-0 : goal.returns-in-0
 returns-in-0 g c =

@@ -79,3 +79,18 @@ returns g c =
     (c.copied.ensures ∙ c.as_slice.ensures.value)
     c.row.ensures
     ∙ ap (λ (v : NodeView g.row.N). ended v a) is)
+
+pub as_slice-requires : goal.as_slice-requires
+as_slice-requires g c = lit< tt
+
+pub carry_all-requires : goal.carry_all-requires
+carry_all-requires g c = (elim c.self.invariant.place.capacity [ inl e ↦ rw e (lit< tt) | inr e ↦ rw e (lit< tt) ], lit< tt)
+
+pub copied-requires : goal.copied-requires
+copied-requires g c = c.as_slice.ensures.fits
+
+pub mode_through-requires : goal.mode_through-requires
+mode_through-requires g c = tt
+
+pub row-requires : goal.row-requires
+row-requires g c = (elim c.self.invariant.place.capacity [ inl e ↦ rw e (lit< tt) | inr e ↦ rw e (lit< tt) ], elim c.self.invariant.place.capacity [ inl e ↦ rw e (lit< tt) | inr e ↦ rw e (lit< tt) ])

@@ -170,3 +170,12 @@ returns g c =
     values_seen n inv sound open' at u c.close-found.ensures.closed a c.in-Some.is votes c.vote-voted.result.off c.note_values.new.notes c.if-not-self.notes c.start.new.self voted offs noted (told_is g c) heard
     ∙ sym (values_taken (seen n) a number) ∙ ap (λ (o : Option AgreedView). taken (shut (seen n)) o) (sym c.in-Some.is)
     ∙ ap (λ (v : NodeView g.row.N). taken (shut v) v.phase.before) is
+
+pub accuse_nobody-requires : goal.accuse_nobody-requires
+accuse_nobody-requires g c = elim c.self.invariant.place.capacity [ inl e ↦ rw e (lit< tt) | inr e ↦ rw e (lit< tt) ]
+
+pub as_slice-requires : goal.as_slice-requires
+as_slice-requires g c = lit< tt
+
+pub row-requires : goal.row-requires
+row-requires g c = (elim c.self.invariant.place.capacity [ inl e ↦ rw e (lit< tt) | inr e ↦ rw e (lit< tt) ], elim c.self.invariant.place.capacity [ inl e ↦ rw e (lit< tt) | inr e ↦ rw e (lit< tt) ])

@@ -1,6 +1,7 @@
-use Rattle.std.proofs.Common.{ap, sym, refl, ◌∙◌, Some}
+use Rattle.std.proofs.Common.{ap, sym, refl, ◌∙◌, Some, inl, inr, lit<}
 use Rattle.node_steps.specs.Parts.{NodeView}
 use Rattle.node_core.proofs.SameStates.{same_states}
+use Rattle.node_core.proofs.Standing.{shut_open}
 use Rattle.node_core.proofs.controller.Controller.keeps.Goals as goal
 
 pub returns-in-Some : goal.returns-in-Some
@@ -21,3 +22,9 @@ returns-in-Some g c = λ yes'.
       failed_running = λ k. refl;
       failed_passed = refl;
     }))
+
+pub returns-in-None : goal.returns-in-None
+returns-in-None g c = λ yes'. absurd (shut_open refl yes')
+
+pub eq-requires : goal.eq-requires
+eq-requires g c = elim c.self.invariant.place.capacity [ inl e ↦ rw e (lit< tt) | inr e ↦ rw e (lit< tt) ]

@@ -1,4 +1,4 @@
-use Rattle.std.proofs.Common.{ℕ, ◌≡◌, ◌≤◌, ◌==◌, ◌&&◌, not, Option, inl, inr, lit<, sym, ap, subst, ◌∙◌}
+use Rattle.std.proofs.Common.{ℕ, ◌≡◌, ◌≤◌, ◌==◌, ◌&&◌, not, Option, inl, inr, lit<, sym, ap, subst, ◌∙◌, arith}
 use Rattle.std.specs.Prelude.{nat_eq, IfSome}
 use Rattle.node_grid.specs.NodeSet.{ids_where}
 use Rattle.omh.specs.Heard.{Hearing, ear_of}
@@ -76,3 +76,15 @@ returns g c =
     (c.convicted-guilty.ensures.kept ∙ c.settle_claims-claims.ensures.kept) in
     subst (λ (v : NodeView g.row.N). IfSome v.phase.before (λ b. new ≡ claims_known v b)) is
     (subst (λ (o : Option AgreedView). IfSome o (λ b. new ≡ claims_known (seen n) b)) (sym c.in-Some.is) known)
+
+pub convicted-guilty-requires : goal.convicted-guilty-requires
+convicted-guilty-requires g c = (lit< tt, (lit< tt, c.self.invariant.place.capacity))
+
+pub due_channels-self-inside-requires : goal.due_channels-self-inside-requires
+due_channels-self-inside-requires g c = (elim c.self.invariant.place.capacity [ inl e ↦ rw e (lit< tt) | inr e ↦ rw e (lit< tt) ], c.self.invariant.place.config_is)
+
+pub note_all-requires : goal.note_all-requires
+note_all-requires g c = (elim c.self.invariant.place.capacity [ inl e ↦ rw e (lit< tt) | inr e ↦ rw e (lit< tt) ], lit< tt)
+
+pub own_values-self-inside-requires : goal.own_values-self-inside-requires
+own_values-self-inside-requires g c = (elim c.self.invariant.place.capacity [ inl e ↦ rw e (lit< tt) | inr e ↦ rw e (lit< tt) ], (c.self.invariant.place.config_is, (let low = c.self.invariant.place.me_low in let few = c.self.invariant.place.few in omega (arith, low, few))))

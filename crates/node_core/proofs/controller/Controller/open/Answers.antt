@@ -1,11 +1,21 @@
-use Rattle.std.proofs.Common.{sym, ap, subst, ◌∙◌, arith, inl, inr, lit<}
+use Rattle.std.proofs.Common.{ap₂, sym, ap, subst, ◌∙◌, arith, inl, inr, lit<, ℕ, ◌≡◌, List, Some, replicate}
 use Rattle.frames.specs.Bound.{IsGreatest}
-use Rattle.error_detect.specs.Watching.{Watch}
+use Rattle.error_detect.specs.Watching.{Watch, fresh}
 use Rattle.error_reports.specs.Notes.{Notes}
 use Rattle.agreed_state.specs.Body.{state_len}
 use Rattle.agreed_state.specs.ConfigLaws.{few_rounds}
 use Rattle.node_steps.specs.PremiseLaws.{few_capacity}
-use Rattle.node_core.specs.Inside.{AreItsNotes}
+use Rattle.node_core.specs.Inside.{AreItsNotes, none_found}
+use Rattle.omh.specs.Heard.{Hearing}
+use Rattle.agreed_state.specs.Agreed.{AgreedView, first_agreed}
+use Rattle.agreed_state.specs.declared.config.Config.{Config}
+use Rattle.relaying.specs.Guessed.{unguessed}
+use Rattle.protocol.specs.Configured.{setting_of}
+use Rattle.protocol.specs.View.{first_kept}
+use Rattle.node_steps.specs.Fresh.{newly_open, unused}
+use Rattle.node_steps.specs.Outcome.{Outcome, cold_outcome}
+use Rattle.node_steps.specs.Parts.{NodeView, Found}
+use Rattle.node_core.proofs.Standing.{shut_open}
 use Rattle.node_core.proofs.controller.Controller.open.Goals as goal
 
 pub open-requires : goal.open-requires
@@ -60,10 +70,51 @@ invariant_of-result g c =
         nodes = ap (λ (x : Watch). x.nodes) w;
         me_is = ap (λ (x : Watch). x.me) w;
         greatest = subst (IsGreatest c.args.config.now.nodes c.args.config.now.m (state_len c.args.config.now) 8) (sym (ap (λ (x : Watch). x.frame_max) w)) c.requires.greatest;
-        expects = λ h. absurd (let e = sym (ap (λ (x : Watch). x.is_open) w) ∙ h in cc);
+        expects = λ h. absurd (shut_open (ap (λ (x : Watch). x.is_open) w) h);
       };
       kept_notes = its;
       notes = subst (AreItsNotes c.args.config.now c.args.me) (sym c.none.ensures.notes) its;
       rooms = c.in_ok-buffers.ensures;
-      guessed = λ o h. absurd (let e = sym (ap (λ (x : Watch). x.is_open) w) ∙ h in cc);
+      guessed = λ o h. absurd (shut_open (ap (λ (x : Watch). x.is_open) w) h);
     }
+
+pub kind_count-requires : goal.kind_count-requires
+kind_count-requires g c = tt
+
+pub none-requires : goal.none-requires
+none-requires g c = (elim c.requires.capacity [ inl e ↦ rw e (lit< tt) | inr e ↦ rw e (lit< tt) ], (elim c.requires.capacity [ inl e ↦ rw e (lit< tt) | inr e ↦ rw e (lit< tt) ], c.requires.capacity))
+
+pub open-requires-4 : goal.open-requires-4
+open-requires-4 g c = (lit< tt, (c.requires.capacity, c.requires.config.few_nodes))
+
+pub open-requires-2-room-V-Value : goal.open-requires-2-room-V-Value
+open-requires-2-room-V-Value g c = λ κs. elim c.requires.capacity [ inl e ↦ rw e (lit< tt) | inr e ↦ rw e (lit< tt) ]
+
+pub open-requires-2-room-V-Eq : goal.open-requires-2-room-V-Eq
+open-requires-2-room-V-Eq g c = λ κs. elim c.requires.capacity [ inl e ↦ rw e (lit< tt) | inr e ↦ rw e (lit< tt) ]
+
+pub open-requires-2-room-V-PartialEq : goal.open-requires-2-room-V-PartialEq
+open-requires-2-room-V-PartialEq g c = λ κs. elim c.requires.capacity [ inl e ↦ rw e (lit< tt) | inr e ↦ rw e (lit< tt) ]
+
+-- what is opened is seen as a node before its first period
+abbrev made : {N : ℕ} → Config N → ℕ → ℕ → AgreedView → List ℕ → Hearing ℕ → Hearing (List ℕ) → Found → Watch → Outcome → NodeView N
+made config me frame_max a carried done rows found w o = record (newly_open config me frame_max) {
+  kept = record (first_kept (setting_of config)) { state = Some a; carried = carried };
+  done = done;
+  rows = rows;
+  found = found;
+  arrived = unguessed w;
+  outcome = o;
+}
+
+module _ {N : ℕ} (config : Config N) (me frame_max : ℕ) (a : AgreedView) (x : Notes) (done : Hearing ℕ) (rows : Hearing (List ℕ)) (f : Found) (w : Watch) (o : Outcome) where
+  fresh_seen : {kinds : ℕ} → a ≡ first_agreed N config → x ≡ record { nodes = config.nodes; me = me; kinds = kinds; row = replicate N 0; carried = replicate N 0 } → done ≡ unused config.nodes config.m → rows ≡ unused config.nodes config.m → f ≡ none_found N x → w ≡ fresh config.nodes me frame_max → o ≡ cold_outcome N
+      → made config me frame_max a x.carried done rows f w o ≡ newly_open config me frame_max
+  fresh_seen first notes heard told none watch cold =
+      ap₂ (λ (d : Hearing ℕ) (r : Hearing (List ℕ)). made config me frame_max a x.carried d r f w o) heard told
+      ∙ ap₂ (λ (b : AgreedView) (y : List ℕ). made config me frame_max b y (unused config.nodes config.m) (unused config.nodes config.m) f w o) first (ap (λ (y : Notes). y.carried) notes)
+      ∙ ap₂ (λ (g : Found) (v : Watch). made config me frame_max (first_agreed N config) (replicate N 0) (unused config.nodes config.m) (unused config.nodes config.m) g v o) (none ∙ ap (λ (y : Notes). none_found N y) notes) watch
+      ∙ ap (λ (p : Outcome). made config me frame_max (first_agreed N config) (replicate N 0) (unused config.nodes config.m) (unused config.nodes config.m) (none_found N (record { nodes = config.nodes; me = me; kinds = 0; row = replicate N 0; carried = replicate N 0 })) (fresh config.nodes me frame_max) p) cold
+
+pub returns : goal.returns
+returns g c = fresh_seen c.args.config.now c.args.me c.args.frame_max _ _ _ _ _ _ _ c.first.ensures.first c.new-notes.ensures c.in_ok-done.ensures c.in_ok-rows.ensures c.none.ensures.found c.in_ok-watch.ensures c.cold.ensures

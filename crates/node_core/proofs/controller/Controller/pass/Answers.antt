@@ -1,4 +1,4 @@
-use Rattle.std.proofs.Common.{ℕ, ◌≡◌, false, List, Some, ap, ap₂, sym, ◌∙◌, inl, inr, lit<, arith}
+use Rattle.std.proofs.Common.{ℕ, ◌≡◌, false, List, Some, ap, ap₂, ◌∙◌, inl, inr, lit<, arith}
 use Rattle.std.specs.Prelude.{replicate}
 use Rattle.node_grid.specs.NodeSet.{without_id}
 use Rattle.protocol.specs.View.Mode.{Full}
@@ -7,6 +7,7 @@ use Rattle.node_core.specs.Inside.{seen}
 use Rattle.node_core.specs.Passing.{passed}
 use Rattle.error_reports.specs.Notes.{Notes}
 use Rattle.node_steps.specs.Parts.{NodeView}
+use Rattle.node_core.proofs.Standing.{shut_open}
 use Rattle.node_core.proofs.controller.Controller.pass.Goals as goal
 
 pub invariant_of-self : goal.invariant_of-self
@@ -26,7 +27,7 @@ invariant_of-self g c =
       };
       notes = inv.notes;
       rooms = inv.rooms;
-      guessed = λ o h. absurd (let x = sym shut' ∙ o in cc);
+      guessed = λ o h. absurd (shut_open shut' o);
     }
 
 pub row_of-requires : goal.row_of-requires
@@ -54,3 +55,15 @@ returns g c =
     ap₂ (λ (a b : List ℕ). mk a b c.row_of.result c.without.result) carried due
     ∙ ap₂ (λ (a b : List ℕ). mk (replicate g.row.N 0) calm.due.items a b) c.row_of.ensures sync
     ∙ ap (λ (v : NodeView g.row.N). passed v c.args.period calm c.args.own.now) c.self.view_is
+
+pub as_slice-requires : goal.as_slice-requires
+as_slice-requires g c = lit< tt
+
+pub copied-requires : goal.copied-requires
+copied-requires g c = c.as_slice.ensures.fits
+
+pub forget-requires : goal.forget-requires
+forget-requires g c = elim c.self.invariant.place.capacity [ inl e ↦ rw e (lit< tt) | inr e ↦ rw e (lit< tt) ]
+
+pub without-requires : goal.without-requires
+without-requires g c = (lit< tt, (let low = c.self.invariant.place.me_low in let few = c.self.invariant.place.few in omega (arith, low, few)))

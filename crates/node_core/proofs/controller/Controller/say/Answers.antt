@@ -31,3 +31,18 @@ write-requires g c =
         (c.requires.ready, (c.head.ensures, (tt, (cold, refl)))),
       ),
     )
+
+pub returns-then-self-clause-room : goal.returns-then-self-clause-room
+returns-then-self-clause-room g c = c.say_own.ensures.room
+
+pub returns-then-self-clause-written : goal.returns-then-self-clause-written
+returns-then-self-clause-written g c = c.say_own.ensures.written
+
+pub returns-clause-room : goal.returns-clause-room
+returns-clause-room g c = c.write.ensures.room
+
+pub returns-clause-written : goal.returns-clause-written
+returns-clause-written g c = c.write.ensures.written
+
+pub head-requires : goal.head-requires
+head-requires g c = elim c.self.invariant.place.capacity [ inl e ↦ rw e (lit< tt) | inr e ↦ rw e (lit< tt) ]

@@ -55,3 +55,15 @@ returns-clause-written g c =
     let some : 0 < c.args.round = (let z = c.if-round-eq0.false in omega (arith, z)) in
     c.say_round.ensures.written
     ∙ claims_frame c.self.inside c.args.self.now c.self.view_is c.args.agreed.now c.requires.own s.sizes (s.in_slot c.requires.ready.is_open) _ c.args.round some c.requires.round c.requires.slot c.expectation-expect.ensures
+
+pub returns-then-round-eq0-clause-room : goal.returns-then-round-eq0-clause-room
+returns-then-round-eq0-clause-room g c = c.write.ensures.room
+
+pub returns-then-round-eq0-clause-written : goal.returns-then-round-eq0-clause-written
+returns-then-round-eq0-clause-written g c = c.write.ensures.written
+
+pub returns-clause-room : goal.returns-clause-room
+returns-clause-room g c = c.say_round.ensures.room
+
+pub head-requires : goal.head-requires
+head-requires g c = elim c.self.invariant.place.capacity [ inl e ↦ rw e (lit< tt) | inr e ↦ rw e (lit< tt) ]

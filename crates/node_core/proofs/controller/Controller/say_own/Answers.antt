@@ -32,3 +32,27 @@ say_rows-requires g c =
     let at = stands_in c.self.inside v inv c.self.view_is (Rows c.in-Rows.round) c.in-Rows.is in
     let low = is_slot c.self.inside v inv c.self.view_is (Rows c.in-Rows.round) c.in-Rows.is in
     (elim inv.place.capacity [ inl e ↦ rw e (lit< tt) | inr e ↦ rw e (lit< tt) ], (elim inv.place.capacity [ inl e ↦ rw e (lit< tt) | inr e ↦ rw e (lit< tt) ], (c.requires.ready, (c.requires.own, (low, at)))))
+
+pub returns-in-Claims-clause-room : goal.returns-in-Claims-clause-room
+returns-in-Claims-clause-room g c = c.say_claims.ensures.room
+
+pub returns-in-Claims-clause-written : goal.returns-in-Claims-clause-written
+returns-in-Claims-clause-written g c = c.say_claims.ensures.written
+
+pub returns-in-Data-clause-room : goal.returns-in-Data-clause-room
+returns-in-Data-clause-room g c = c.say_values.ensures.room
+
+pub returns-in-Data-clause-written : goal.returns-in-Data-clause-written
+returns-in-Data-clause-written g c = c.say_values.ensures.written
+
+pub returns-in-Rows-clause-room : goal.returns-in-Rows-clause-room
+returns-in-Rows-clause-room g c = c.say_rows.ensures.room
+
+pub returns-in-Rows-clause-written : goal.returns-in-Rows-clause-written
+returns-in-Rows-clause-written g c = c.say_rows.ensures.written
+
+pub returns-in-Sync-clause-room : goal.returns-in-Sync-clause-room
+returns-in-Sync-clause-room g c = c.say_state.ensures.room
+
+pub returns-in-Sync-clause-written : goal.returns-in-Sync-clause-written
+returns-in-Sync-clause-written g c = c.say_state.ensures.written

@@ -4,7 +4,7 @@ use Rattle.frames.specs.Content.Content.{Report0}
 use Rattle.frames.specs.EntryLaws.{row_long}
 use Rattle.frames.specs.Spelling.{row_spelling}
 use Rattle.node_steps.specs.Parts.{NodeView}
-use Rattle.node_steps.specs.PremiseLaws.{few_due}
+use Rattle.node_steps.specs.PremiseLaws.{few_due, few_capacity}
 use Rattle.node_core.proofs.Behind.{config_ok}
 use Rattle.node_core.proofs.RelaySaid.{rows_asked_now, rows_frame}
 use Rattle.node_core.proofs.WatchSaid.{rows_nodes, expects_now, rows_echoed_now}
@@ -66,3 +66,21 @@ returns-clause-written g c =
     let some : 0 < c.args.round = (let z = c.if-round-eq0.false in omega (arith, z)) in
     c.say_round.ensures.written
     ∙ rows_frame c.self.inside c.args.self.now c.self.view_is c.args.agreed.now c.requires.own s.sizes (s.in_slot c.requires.ready.is_open) _ c.args.round some c.requires.slot c.expectation-expect.ensures
+
+pub returns-then-round-eq0-clause-room : goal.returns-then-round-eq0-clause-room
+returns-then-round-eq0-clause-room g c = c.write.ensures.room
+
+pub returns-then-round-eq0-clause-written : goal.returns-then-round-eq0-clause-written
+returns-then-round-eq0-clause-written g c = c.write.ensures.written
+
+pub returns-clause-room : goal.returns-clause-room
+returns-clause-room g c = c.say_round.ensures.room
+
+pub head-requires : goal.head-requires
+head-requires g c = elim c.self.invariant.place.capacity [ inl e ↦ rw e (lit< tt) | inr e ↦ rw e (lit< tt) ]
+
+pub overflow_mul-self-inside : goal.overflow_mul-self-inside
+overflow_mul-self-inside g c =
+    let few = c.self.invariant.place.few in
+    let cap = few_capacity g.row.N c.self.invariant.place.capacity in
+    omega (arith, few, cap)

@@ -25,3 +25,15 @@ write-requires g c =
         (c.requires.ready, (c.head.ensures, (tt, (says_state v c.args.agreed.now c.requires.own c.requires.slot ∙ sym (ap State state), refl)))),
       ),
     )
+
+pub returns-clause-room : goal.returns-clause-room
+returns-clause-room g c = c.write.ensures.room
+
+pub returns-clause-written : goal.returns-clause-written
+returns-clause-written g c = c.write.ensures.written
+
+pub head-requires : goal.head-requires
+head-requires g c = elim c.self.invariant.place.capacity [ inl e ↦ rw e (lit< tt) | inr e ↦ rw e (lit< tt) ]
+
+pub as_slice-bytes-requires : goal.as_slice-bytes-requires
+as_slice-bytes-requires g c = lit< tt

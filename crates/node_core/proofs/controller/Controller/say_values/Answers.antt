@@ -1,4 +1,4 @@
-use Rattle.std.proofs.Common.{◌≡◌, ◌≤◌, ◌*◌, ◌%◌, ℕ, List, ℤ, length, map, take, arith, inl, inr, lit<, sym, ap, subst, ◌∙◌}
+use Rattle.std.proofs.Common.{◌≡◌, ◌≤◌, ◌*◌, ◌%◌, ℕ, List, ℤ, length, map, take, arith, inl, inr, lit<, sym, ap, subst, ◌∙◌, refl}
 use Rattle.std.proofs.Math.Nat.{mul-mod_right}
 use Rattle.std.specs.List.{flat_map}
 use Rattle.std.proofs.lemmas.List.{length-take-le}
@@ -64,3 +64,36 @@ write-requires g c =
         (c.requires.ready, (c.head.ensures, (tt, (says, sym (ap (λ (xs : List ℤ). length (flat_map value_spelling xs)) said ∙ values_long n.found.own due fit))))),
       ),
     )
+
+pub returns-clause-room : goal.returns-clause-room
+returns-clause-room g c = c.write.ensures.room
+
+pub returns-clause-written : goal.returns-clause-written
+returns-clause-written g c = c.write.ensures.written
+
+pub as_slice-due-requires : goal.as_slice-due-requires
+as_slice-due-requires g c = lit< tt
+
+pub head-requires : goal.head-requires
+head-requires g c = elim c.self.invariant.place.capacity [ inl e ↦ rw e (lit< tt) | inr e ↦ rw e (lit< tt) ]
+
+pub overflow_mul-size : goal.overflow_mul-size
+overflow_mul-size g c = let few = c.as_slice-due.ensures.fits in omega (arith, few)
+
+pub put_values-requires-clause-few : goal.put_values-requires-clause-few
+put_values-requires-clause-few g c = c.as_slice-due.ensures.fits
+
+pub put_values-requires-clause-room : goal.put_values-requires-clause-room
+put_values-requires-clause-room g c = let few = c.as_slice-due.ensures.fits in omega (arith, few)
+
+pub slice_bounds-bytes-end : goal.slice_bounds-bytes-end
+slice_bounds-bytes-end g c = let few = c.as_slice-due.ensures.fits in let out = c.put_values.auto.out in omega (arith, few, out)
+
+pub slice_bounds-over-end : goal.slice_bounds-over-end
+slice_bounds-over-end g c =
+    let few = c.as_slice-due.ensures.fits in
+    let out = c.put_values.auto.out in
+    sym (length-take-le (8 * length c.as_slice-due.result.now) c.put_values.new.out (omega (arith, few, out)))
+
+pub slice_bounds-put_values-end : goal.slice_bounds-put_values-end
+slice_bounds-put_values-end g c = refl

@@ -1,7 +1,7 @@
 use Rattle.std.proofs.Common.{ap, subst, ◌∙◌, inl, inr, lit<, arith}
 use Rattle.error_reports.specs.Notes.{Notes}
 use Rattle.protocol.specs.Configured.{setting_of}
-use Rattle.protocol.specs.View.{own_values}
+use Rattle.protocol.specs.View.{own_values, own_claim}
 use Rattle.calm_period.specs.Made.{AreNotesOf}
 use Rattle.node_steps.specs.Parts.{NodeView}
 use Rattle.node_core.proofs.controller.Controller.statement.Goals as goal
@@ -27,3 +27,15 @@ returns-clause-notes g c =
       kinds = ap (λ (x : Notes). x.kinds) k ∙ its.kinds;
       late = ap (λ (x : Notes). x.carried) k;
     })
+
+pub returns-clause-claim : goal.returns-clause-claim
+returns-clause-claim g c = c.own_claim.ensures ∙ ap (λ (v : NodeView g.row.N). own_claim v.phase.me c.args.inputs.now c.args.agreed.now) c.self.view_is
+
+pub returns-clause-carried : goal.returns-clause-carried
+returns-clause-carried g c = ap (λ (x : Notes). x.row) c.next_period.ensures ∙ ap (λ (v : NodeView g.row.N). v.kept.carried) c.self.view_is
+
+pub next_period-requires : goal.next_period-requires
+next_period-requires g c = elim c.requires.capacity [ inl e ↦ rw e (lit< tt) | inr e ↦ rw e (lit< tt) ]
+
+pub own_values-requires : goal.own_values-requires
+own_values-requires g c = (elim c.requires.capacity [ inl e ↦ rw e (lit< tt) | inr e ↦ rw e (lit< tt) ], (c.self.invariant.place.config_is, (let low = c.self.invariant.place.me_low in let few = c.self.invariant.place.few in omega (arith, low, few))))

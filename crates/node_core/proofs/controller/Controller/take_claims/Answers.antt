@@ -100,3 +100,24 @@ returns g c =
     let same = expects n c.args.period c.args.inputs.now a c.args.claimed.now follows c.args.statement.now says c.number-number.result c.len-due.result (expected c.expect-expect.result) c.expect-expect.ensures c.number-number.ensures.number c.len-due.ensures.value in
     taken_seen n c.args.period c.args.inputs.now a c.args.claimed.now follows c.args.statement.now says f c.start.new.self c.open_slot.new.self (expected c.expect-expect.result) found done c.open_slot.ensures same
     ∙ ap (λ (v : NodeView g.row.N). claims_taken v c.args.period c.args.inputs.now a c.args.claimed.now) is
+
+pub number-number-requires-clause-rounds : goal.number-number-requires-clause-rounds
+number-number-requires-clause-rounds g c = c.self.invariant.place.few_rounds
+
+pub number-number-requires-clause-slot : goal.number-number-requires-clause-slot
+number-number-requires-clause-slot g c = tt
+
+pub as_slice-requires : goal.as_slice-requires
+as_slice-requires g c = lit< tt
+
+pub copied-requires : goal.copied-requires
+copied-requires g c = c.as_slice.ensures.fits
+
+pub len-due-requires : goal.len-due-requires
+len-due-requires g c = lit< tt
+
+pub overflow_cast-due : goal.overflow_cast-due
+overflow_cast-due g c = let few = c.len-due.ensures.fits in omega (arith, few)
+
+pub without-requires : goal.without-requires
+without-requires g c = (lit< tt, (let low = c.self.invariant.place.me_low in let few = c.self.invariant.place.few in omega (arith, low, few)))

@@ -52,3 +52,6 @@ returns-clause-written g c =
     let bytes : List ℕ = spelling n.config.now.nodes c.args.frame.now.head body in
     with_items_is c.resize.new.self c.encode.new.out (c.encode.auto.out ∙ c.as_mut_slice.ensures.len)
     ∙ c.encode.ensures.written ∙ pasted_whole bytes c.as_mut_slice.result.now (omega (arith, size, made, c.as_mut_slice.ensures.len)) ∙ sent.frame
+
+pub returns-clause-room : goal.returns-clause-room
+returns-clause-room g c = c.resize.ensures.capacity

@@ -2,7 +2,7 @@ use Rattle.std.proofs.Common.{◌≡◌, false, inl, inr, sym, ap, subst, ◌∙
 use Rattle.agreed_state.specs.Agreed.{IsAgreed}
 use Rattle.node_steps.specs.Parts.{NodeView}
 use Rattle.node_steps.specs.Sending.{fixed}
-use Rattle.node_core.specs.Passing.{outcome_of}
+use Rattle.node_core.specs.Passing.{outcome_of, kept_of}
 use Rattle.node_core.proofs.Staying.{node_stays}
 use Rattle.node_core.proofs.PassedOn.{passed_sound}
 use Rattle.node_core.proofs.node.Node.pass.Goals as goal
@@ -25,3 +25,15 @@ invariant_of-self g c =
 
 pub returns-clause-outcome : goal.returns-clause-outcome
 returns-clause-outcome g c = ap (λ (v : NodeView g.row.N). v.outcome) c.pass.ensures ∙ ap (λ (v : NodeView g.row.N). outcome_of v c.args.calm.now) c.self.view_is
+
+pub returns-clause-period : goal.returns-clause-period
+returns-clause-period g c = ap (λ (v : NodeView g.row.N). v.phase.period) c.pass.ensures
+
+pub returns-clause-shut : goal.returns-clause-shut
+returns-clause-shut g c = ap (λ (v : NodeView g.row.N). v.phase.is_open) (c.pass.ensures) ∙ ap (λ (v : NodeView g.row.N). v.phase.is_open) c.self.view_is ∙ c.requires.closed
+
+pub returns-clause-stays : goal.returns-clause-stays
+returns-clause-stays g c = ap (λ (v : NodeView g.row.N). fixed v) c.pass.ensures ∙ ap (λ (v : NodeView g.row.N). fixed v) c.self.view_is
+
+pub returns-clause-kept : goal.returns-clause-kept
+returns-clause-kept g c = ap (λ (v : NodeView g.row.N). v.kept) c.pass.ensures ∙ ap (λ (v : NodeView g.row.N). kept_of v c.args.calm.now c.args.own.now) c.self.view_is

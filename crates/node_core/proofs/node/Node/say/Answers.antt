@@ -27,3 +27,6 @@ returns-clause-short g c =
     let open' : c.self.inside.controller.phase.is_open ≡ true = ap (λ (v : NodeView g.row.N). v.phase.is_open) is ∙ c.requires.open in
     let short = frame_short c.self.inside.controller inv.capacity inv.config inv.greatest inv.sound open' in
     subst (λ (bytes : List ℕ). length bytes ≤ c.args.self.now.arrived.frame_max) (sym c.say.ensures.written) (subst (λ (v : NodeView g.row.N). length (frame_of c.self.inside.controller) ≤ v.arrived.frame_max) is short)
+
+pub returns-clause-room : goal.returns-clause-room
+returns-clause-room g c = c.say.ensures.room
