@@ -1,6 +1,6 @@
 -- What it says of a line that it is in range, and where the cells of its frames lie.
 use Rattle.node_grid.specs.ListLaws.{all_at}
-use Rattle.std.proofs.Common.{◌≡◌, ℕ, ◌+◌, ◌*◌, ◌^◌, ◌<◌, ◌≤◌, true, false, List, length, arith, ltb-true, leb-true}
+use Rattle.std.proofs.Common.{◌≡◌, ℕ, ◌+◌, ◌-◌, ◌*◌, ◌^◌, ◌<◌, ◌≤◌, true, false, List, length, min, Fits, w16, w32, w64, subst, sym, arith, ltb-true, leb-true}
 use Rattle.std.specs.Prelude.{nat_lt}
 use Rattle.std.proofs.lemmas.Bool.{and_parts, not-true}
 use Rattle.std.proofs.lemmas.Nat.{mul-add-lt}
@@ -70,3 +70,35 @@ whole_small nodes slots periods a b d =
 
 pub few_nodes : (n nodes slots periods : ℕ) → IsShape n nodes slots periods → nodes ≤ 16
 few_nodes n nodes slots periods h = omega (arith, capacity-le n h.capacity, h.few_nodes)
+
+-- the sizes in the code
+pub counts_fit : (n nodes slots periods : ℕ) → IsShape n nodes slots periods → Fits w64 (periods * nodes) × Fits w64 (periods * nodes * slots) × Fits w64 (periods * nodes * slots * nodes)
+counts_fit n nodes slots periods h =
+    let few : nodes ≤ 16 = few_nodes n nodes slots periods h in
+    let x : periods * nodes ≤ 1024 * 16 = mul-le-mul h.few_periods few in
+    let y : periods * nodes * slots ≤ 1024 * 16 * 10 = mul-le-mul x h.few_slots in
+    let z : periods * nodes * slots * nodes ≤ 1024 * 16 * 10 * 16 = mul-le-mul y few in
+    (omega (arith, x), omega (arith, y), omega (arith, z))
+
+pub row_fits : (block slots slot : ℕ) → block < 2 ^ 20 → slots ≤ 10 → slot < slots → Fits w64 (block * slots) × Fits w64 (block * slots + slot)
+row_fits block slots slot small few low =
+    let x : block * slots ≤ 1048576 * 10 = mul-le-mul {n₁ = block} {m₁ = slots} {n₂ = 1048576} {m₂ = 10} (omega arith) few in
+    (omega (arith, x), omega (arith, x))
+
+pub row_within : (block slots slot nodes n : ℕ) → slot < slots → (block * slots + slots) * nodes ≤ n → (block * slots + slot) * nodes + nodes ≤ n
+row_within block slots slot nodes n low all =
+    let x : (block * slots + slot + 1) * nodes ≤ (block * slots + slots) * nodes =
+    mul-le-mul {n₁ = block * slots + slot + 1} {m₁ = nodes} {n₂ = block * slots + slots} {m₂ = nodes} (omega arith) (omega arith) in
+    omega (arith, x, all)
+
+pub place_fits : (k n : ℕ) → k < n → n < 2 ^ 32 → Fits w32 k
+place_fits k n low few = omega arith
+
+pub mark_fits : (k m : ℕ) → m ≡ min k 4096 → Fits w16 m × Fits w16 (m + 1)
+mark_fits k m e = (omega arith, omega arith)
+
+pub falls : (n k : ℕ) → k < n → n - (k + 1) < n - k
+falls n k h = omega arith
+
+pub few_items : {X : Type 0} (xs ys : List X) (n : ℕ) → xs ≡ ys → length ys < n → length xs < n
+few_items xs ys n e h = subst (λ zs. length zs < n) (sym e) h

@@ -1,5 +1,5 @@
 -- The sections of a flat list of all paths, and the places in them.
-use Rattle.std.proofs.Common.{ℕ, map, zero, suc, ◌≡◌, ◌≢◌, ◌<◌, ◌≤◌, ◌+◌, ◌-◌, ◌==◌, ◌||◌, ◌&&◌, Bool, true, false, not, List, [], ◌∷◌, ◌++◌, length, get_or, set, take, drop, replicate, refl, sym, ap, ap₂, subst, ◌∙◌, inl, inr, arith, eq-eqb, append-nil}
+use Rattle.std.proofs.Common.{ℕ, map, zero, suc, ◌≡◌, ◌≢◌, ◌<◌, ◌≤◌, ◌+◌, ◌-◌, ◌==◌, ◌||◌, ◌&&◌, Bool, true, false, not, List, [], ◌∷◌, ◌++◌, length, get_or, set, take, drop, replicate, refl, sym, ap, ap₂, subst, ◌∙◌, inl, inr, arith, eq-eqb, eqb-true, append-nil}
 use Rattle.std.specs.Prelude.{filter, if◌then◌else◌}
 use Rattle.std.proofs.lemmas.Bool.{cases_Bool, cases_lt, cond-true, cond-false, both_ways, or_left}
 use Rattle.std.proofs.lemmas.List.{get_or-set_same, get_or-set_other, take_more, get_or-replicate, get_or_past, length-replicate, take_all, drop_all}
@@ -152,6 +152,19 @@ pub laid_at : {V : Type 0} (others seen : List ℕ) (me from rank : ℕ) (root :
     → rank ≡ place_in (paths_of_length seen (length root)) root → set work (from + rank) own ≡ laid_own others me from own work
 laid_at others seen me from rank root own work d on is at place =
     ap (λ (k : ℕ). set work (from + k) own) (place_of_me others seen me rank root d on is at place) ∙ sym (cond-true (has_id others me) (set work (from + index_in others me) own) work on)
+
+pub unlaid : {V : Type 0} (others seen : List ℕ) (me from : ℕ) (own : Wrapped V) (work : List (Wrapped V)) → seen ≡ others → has_id seen me ≡ false → work ≡ laid_own others me from own work
+unlaid others seen me from own work is off = sym (cond-false (has_id others me) (set work (from + index_in others me) own) work (ap (λ (s : List ℕ). has_id s me) (sym is) ∙ off))
+
+pub laid_low : (others seen : List ℕ) (me from rank n : ℕ) (root : List ℕ) → Distinct others → has_id others me ≡ true → seen ≡ others → root ≡ me ∷ []
+    → rank ≡ place_in (paths_of_length seen (length root)) root → from + length others ≤ n → from + rank < n
+laid_low others seen me from rank n root d on is at place room = omega (arith, place_of_me others seen me rank root d on is at place, index_in-lt others me on)
+
+pub only_me : (others root : List ℕ) (me q : ℕ) → root ≡ me ∷ [] → has_id others me ≡ true → has_id root q ≡ true → has_id others q ≡ true
+only_me others root me q at on here = elim (cases_Bool (me == q)) [
+  | inl e ↦ ap (has_id others) (sym (eqb-true me q e)) ∙ on
+  | inr ne ↦ let there : has_id (me ∷ []) q ≡ true = ap (λ (s : List ℕ). has_id s q) (sym at) ∙ here in let no_way : false ≡ true = rw ne at there in cc
+]
 
 -- ---- forgetting
 

@@ -1,10 +1,11 @@
 -- What a table is seen as, after each of its calls.
-use Rattle.std.proofs.Common.{ℕ, ◌≡◌, ◌≢◌, ◌<◌, ◌≤◌, ◌+◌, ◌==◌, Bool, true, false, List, [], ◌∷◌, length, map, get_or, set, sym, ap, subst, ◌∙◌, inl, inr, arith, eq-eqb, ne_eqb, append-nil, take, drop, ◌++◌}
-use Rattle.std.specs.Prelude.{if◌then◌else◌}
+use Rattle.std.proofs.Common.{ℕ, zero, suc, ◌≡◌, ◌≢◌, ◌<◌, ◌≤◌, ◌+◌, ◌-◌, ◌==◌, Bool, true, false, List, [], ◌∷◌, length, map, get_or, set, refl, sym, ap, ap₂, subst, ◌∙◌, inl, inr, arith, eq-eqb, ne_eqb, append-nil, take, drop, ◌++◌, replicate}
+use Rattle.std.specs.Prelude.{All, filter, if◌then◌else◌}
 use Rattle.std.proofs.lemmas.Bool.{cases_eq, cond-true, cond-false}
-use Rattle.std.proofs.lemmas.List.{get_or_default, length-set, get_or-set_same, get_or-set_other, take_all, drop_all}
-use Rattle.std.proofs.lemmas.List.Elements.{All-get_or, All-from_get_or}
-use Rattle.node_grid.specs.NodeSet.{has_id, IsIdSet}
+use Rattle.std.proofs.lemmas.List.{get_or_default, length-set, get_or-set_same, get_or-set_other, take_all, drop_all, take-append-le, length-replicate}
+use Rattle.std.proofs.lemmas.List.Elements.{All-get_or, All-from_get_or, All-replicate}
+use Rattle.node_grid.specs.Capacity.{IsCapacity}
+use Rattle.node_grid.specs.NodeSet.{has_id, IsIdSet, ids_below}
 use Rattle.node_grid.specs.Count.{Distinct}
 use Rattle.omh_paths.specs.declared.wrapped.Wrapped.{Wrapped}
 use Rattle.omh_paths.specs.declared.wrapped.Wrapped.TheVariants.{Fault}
@@ -28,6 +29,32 @@ module _ {V : Type 0} (capacity nodes rounds : ℕ) (members : List ℕ) (count 
     other = ap (λ (k : Hearing V). has_id path k.me) view ∙ off;
     some = some;
     short = omega (arith, ap (λ (k : Hearing V). k.rounds) view);
+  }
+
+  pub members_seen : (path : List ℕ) → ((q : ℕ) → has_id path q ≡ true → has_id h.members q ≡ true) → (q : ℕ) → has_id path q ≡ true → has_id members q ≡ true
+  members_seen path within q on = ap (λ (k : Hearing V). has_id k.members q) view ∙ within q on
+
+  pub member_seen : (q : ℕ) → has_id h.members q ≡ true → has_id members q ≡ true
+  member_seen q on = ap (λ (k : Hearing V). has_id k.members q) view ∙ on
+
+  pub short_seen : (n : ℕ) → n ≤ h.rounds + 1 → n ≤ rounds + 1
+  short_seen n short = omega (arith, ap (λ (k : Hearing V). k.rounds) view)
+
+  pub place_low : (place len : ℕ) → place < section_at nodes (rounds + 1) → len ≡ length flat → place < len
+  place_low place len low e = omega (arith, room.flat_ok)
+
+  pub room_seen : (seen used : List (Wrapped V)) → seen ≡ flat → used ≡ work → IsRoom nodes rounds seen used
+  room_seen seen used a b = record {
+    flat_ok = ap length a ∙ room.flat_ok;
+    work_ok = ap length b ∙ room.work_ok;
+    known = subst (λ (ts : List (Wrapped V)). All (λ x. x ≢ Fault 255) ts) (sym a) room.known;
+  }
+
+  pub room_after : (used new : List (Wrapped V)) (n : ℕ) → n ≡ length work → used ≡ work → length new ≡ length used → IsRoom nodes rounds flat (take n (new ++ drop (length new) work))
+  room_after used new n len e same = record {
+    flat_ok = room.flat_ok;
+    work_ok = ap length (take-append-le n new (drop (length new) work) (omega (arith, ap length e)) ∙ take_all n new (omega (arith, ap length e))) ∙ same ∙ ap length e ∙ room.work_ok;
+    known = room.known;
   }
 
   distinct_members : Distinct members
@@ -113,3 +140,36 @@ written_back {V} was seen new n len s e =
     let f : new ≡ forgotten was = e ∙ ap forgotten s in
     let long : length new ≡ length was = ap length f ∙ length-forgotten was in
     ap (λ (ts : List (Wrapped V)). take n (new ++ ts)) (drop_all (length new) was (omega arith)) ∙ ap (take n) (append-nil new) ∙ take_all n new (omega arith) ∙ f
+
+-- a table as it is opened
+none_kept : (xs : List ℕ) → [] ≡ filter (λ k. has_id [] k) xs
+none_kept [] = refl
+none_kept (x ∷ xs) = none_kept xs
+
+blank : {V : Type 0} (n : ℕ) → replicate {A = Wrapped V} n (Fault 0) ≡ forgotten (replicate n (Fault 0))
+blank zero = refl
+blank (suc n) = ap (λ ts. Fault 0 ∷ ts) (blank n)
+
+pub opened_station : (capacity nodes rounds : ℕ) (members : List ℕ) → IsCapacity capacity → nodes ≤ capacity → rounds ≤ 3 → members ≡ [] → IsStation capacity nodes rounds members 0
+opened_station capacity nodes rounds members fits low few e = record {
+  capacity_ok = fits;
+  nodes_ok = low;
+  rounds_ok = few;
+  members_ok = subst (λ (s : List ℕ). IsIdSet capacity s) (sym e) (none_kept (ids_below capacity));
+  count_ok = sym (ap length e);
+  few_ok = omega arith;
+}
+
+pub opened_room : {V : Type 0} (nodes rounds a b : ℕ) (flat work : List (Wrapped V)) → flat ≡ replicate a (Fault 0) → work ≡ replicate (1 + b) (Fault 0) → a ≡ section_at nodes (rounds + 1) → b ≡ section_at (nodes - 1) rounds
+    → IsRoom nodes rounds flat work
+opened_room {V} nodes rounds a b flat work f w at after = record {
+  flat_ok = ap length f ∙ length-replicate a (Fault 0) ∙ at;
+  work_ok = ap length w ∙ length-replicate (1 + b) (Fault 0) ∙ ap (λ (k : ℕ). 1 + k) after;
+  known = subst (λ (ts : List (Wrapped V)). All (λ x. x ≢ Fault 255) ts) (sym f) (All-replicate (λ (x : Wrapped V). x ≢ Fault 255) a (Fault 0) (λ k. cc));
+}
+
+pub opened_seen : {V : Type 0} (nodes rounds a : ℕ) (members : List ℕ) (flat : List (Wrapped V)) → members ≡ [] → flat ≡ replicate a (Fault 0)
+    → hearing nodes rounds members 0 false (Fault 0) flat ≡ record { nodes = nodes; rounds = rounds; members = []; me = 0; full = false; own = Fault 0; heard = nothing_heard [] 0 rounds }
+opened_seen {V} nodes rounds a members flat e f =
+    ap₂ (λ (s : List ℕ) (ts : List (Wrapped V)). hearing nodes rounds s 0 false (Fault 0) ts) e (f ∙ blank a)
+    ∙ ap (λ (es : List (Entry V)). record { nodes = nodes; rounds = rounds; members = []; me = 0; full = false; own = Fault 0; heard = es }) (flat_forgotten nodes rounds [] 0 (replicate a (Fault 0)))

@@ -1,12 +1,30 @@
-use Rattle.std.proofs.Common.{◌≡◌, ℕ, ◌+◌, ◌<◌, [], ◌∷◌, ◌++◌, true, false, List, inr, map, length, take, drop, get_or, sym, ap, ◌∙◌, refl, arith, lit<, subst}
+use Rattle.std.proofs.Common.{◌≡◌, ℕ, zero, suc, ◌+◌, ◌*◌, ◌<◌, ◌≤◌, None, replicate, [], ◌∷◌, ◌++◌, true, false, List, inr, map, length, take, drop, get_or, sym, ap, ◌∙◌, refl, arith, lit<, subst}
+use Rattle.std.specs.Prelude.{slice_index}
 use Rattle.std.specs.List.{list_any}
-use Rattle.std.proofs.lemmas.List.{length-map, length-take-le, take-append-le, take_all}
+use Rattle.std.proofs.lemmas.List.{length-map, length-take-le, length-replicate, take-append-le, take_all, drop_all}
 use Rattle.fault_classes.specs.Line.{Line, line_of, shares}
 use Rattle.fault_classes.specs.Rules.{is_line, first_overlap}
 use Rattle.fault_classes.specs.Cells.{IsTable, touches_cell, mark_of, IsMarked}
-use Rattle.fault_classes.proofs.Entries.{table_push, apart_if_marked, overlaps_if_taken, all_taken, all_here}
+use Rattle.fault_classes.proofs.Entries.{entry_none, table_push, apart_if_marked, overlaps_if_taken, all_taken, all_here}
 use Rattle.fault_classes.proofs.Places.{line_at, rest_at, front_at}
+use Rattle.fault_classes.proofs.Ranges.{counts_fit, place_fits, mark_fits, falls}
 use Rattle.fault_classes.proofs.cells.cells_of.Goals as goal
+
+none_put : (nodes slots periods : ℕ) (cells : List ℕ) → cells ≡ replicate (periods * nodes * slots * nodes) 0 → IsTable nodes slots periods [] cells
+none_put nodes slots periods cells e = record {
+  whole = ap length e ∙ length-replicate (periods * nodes * slots * nodes) 0;
+  entries = λ c. ap (λ xs. slice_index xs c) e ∙ zeros (periods * nodes * slots * nodes) c ∙ sym (entry_none (touches_cell nodes slots c) [] refl);
+}
+  where
+    zeros : (n c : ℕ) → slice_index (replicate n 0) c ≡ 0
+    zeros zero c = refl
+    zeros (suc n) zero = refl
+    zeros (suc n) (suc c) = zeros n c
+
+all_put : (nodes slots periods : ℕ) (lines : List Line) (k : ℕ) (cells : List ℕ) → length lines ≤ k → IsTable nodes slots periods (take k lines) cells → first_overlap [] lines ≡ first_overlap (take k lines) (drop k lines)
+    → IsTable nodes slots periods lines cells × (first_overlap [] lines ≡ None)
+all_put nodes slots periods lines k cells past table apart =
+    (subst (λ xs. IsTable nodes slots periods xs cells) (take_all k lines past) table, apart ∙ ap (first_overlap (take k lines)) (drop_all k lines past))
 
 written : (new old : List ℕ) (n : ℕ) → length new ≡ length old → length old ≡ n → take n (new ++ drop (length new) old) ≡ new
 written new old n a b = take-append-le n new (drop (length new) old) (omega arith) ∙ take_all n new (omega arith)
@@ -72,3 +90,35 @@ loop-place-preserved g c =
       table = rw (items, front) next;
       apart = c.loop-place.invariant.apart ∙ ap (first_overlap (take k all)) rest ∙ rw (none, front) refl;
     }
+
+pub overflow_mul-count : goal.overflow_mul-count
+overflow_mul-count g c = (counts_fit g.row.N c.args.shape.now.nodes c.args.shape.now.slots c.args.shape.now.periods c.requires.shape).0
+
+pub overflow_mul-count-2 : goal.overflow_mul-count-2
+overflow_mul-count-2 g c = (counts_fit g.row.N c.args.shape.now.nodes c.args.shape.now.slots c.args.shape.now.periods c.requires.shape).1
+
+pub overflow_mul-count-3 : goal.overflow_mul-count-3
+overflow_mul-count-3 g c = (counts_fit g.row.N c.args.shape.now.nodes c.args.shape.now.slots c.args.shape.now.periods c.requires.shape).2
+
+pub loop-place-init : goal.loop-place-init
+loop-place-init g c = record {
+  table = none_put c.args.shape.now.nodes c.args.shape.now.slots c.args.shape.now.periods c.in-Ok.cells.items (c.in-Ok.ensures.items_if_clones_equal (λ y e. e));
+  apart = refl;
+}
+
+pub overflow_cast-mark : goal.overflow_cast-mark
+overflow_cast-mark g c = (mark_fits c.loop-place.place c.min.result c.min.ensures).0
+
+pub overflow_add-mark : goal.overflow_add-mark
+overflow_add-mark g c = (mark_fits c.loop-place.place c.min.result c.min.ensures).1
+
+pub overflow_cast-result : goal.overflow_cast-result
+overflow_cast-result g c = place_fits c.loop-place.place (length c.args.lines.now) c.loop-place-test.true c.requires.few
+
+pub loop-place-smaller : goal.loop-place-smaller
+loop-place-smaller g c = falls (length c.args.lines.now) c.loop-place.place c.loop-place-test.true
+
+pub returns : goal.returns
+returns g c =
+    all_put c.args.shape.now.nodes c.args.shape.now.slots c.args.shape.now.periods (map line_of c.args.lines.now) c.loop-place.place c.loop-place.cells.items
+    (omega (arith, length-map c.args.lines.now (line_of {n = g.row.N}), c.loop-place-test.false)) c.loop-place.invariant.table c.loop-place.invariant.apart

@@ -1,11 +1,15 @@
-use Rattle.std.proofs.Common.{◌≡◌, ◌+◌, ◌*◌, ◌<◌, ◌^◌, true, false, arith}
+use Rattle.std.proofs.Common.{◌≡◌, ℕ, ◌+◌, ◌*◌, ◌<◌, ◌≤◌, ◌^◌, true, false, length, sym, subst, arith, lit<}
 use Rattle.node_grid.specs.NodeSet.{has_id}
 use Rattle.fault_classes.specs.Line.{slots_in}
 use Rattle.fault_classes.specs.Cells.{in_row, in_block}
 use Rattle.fault_classes.proofs.Marking.{marked_more, marked_same, taken_later}
 use Rattle.fault_classes.proofs.Touching.{slot_on, slot_off, block_below, block_yes, block_no, block_here}
+use Rattle.fault_classes.proofs.Ranges.{row_fits, row_within, falls}
 use Rattle.fault_classes.proofs.cells.mark_block.Goals as goal
 use Rattle.fault_classes.proofs.cells.mark_block.Goals.{then-slots-slot-eq1+else-not-mark_row, else-slots-slot-eq1}
+
+some_below : (n : ℕ) → 3 ≤ n → 0 < n
+some_below n h = omega arith
 
 pub returns-then-not-mark_row : goal.returns-then-not-mark_row
 returns-then-not-mark_row g c =
@@ -40,3 +44,26 @@ loop-slot-preserved g c =
           rw w.cells-is (marked_same (block_below n s b to (slots_in mask) k) (block_below n s b to (slots_in mask) (k + 1)) c.args.mark c.args.cells.now c.loop-slot.cells
           c.loop-slot.invariant (λ x. block_no n s b to (slots_in mask) k x off))
     ]
+
+pub overflow_mul-row : goal.overflow_mul-row
+overflow_mul-row g c = (row_fits c.args.block c.args.shape.now.slots c.loop-slot.slot c.requires.small c.requires.shape.few_slots c.loop-slot-test.true).0
+
+pub overflow_add-row : goal.overflow_add-row
+overflow_add-row g c = (row_fits c.args.block c.args.shape.now.slots c.loop-slot.slot c.requires.small c.requires.shape.few_slots c.loop-slot-test.true).1
+
+pub mark_row-requires : goal.mark_row-requires
+mark_row-requires g c =
+    let s = c.args.shape.now in (
+      lit< tt,
+      (
+        subst (λ n. n < 2 ^ 32) (sym c.loop-slot.auto.cells) c.requires.few,
+        (
+          subst (λ n. (c.args.block * s.slots + c.loop-slot.slot) * s.nodes + s.nodes ≤ n) (sym c.loop-slot.auto.cells)
+              (row_within c.args.block s.slots c.loop-slot.slot s.nodes (length c.args.cells.now) c.loop-slot-test.true c.requires.within),
+          some_below s.nodes c.requires.shape.some_nodes,
+        ),
+      ),
+    )
+
+pub loop-slot-smaller : goal.loop-slot-smaller
+loop-slot-smaller g c = falls c.args.shape.now.slots c.loop-slot.slot c.loop-slot-test.true

@@ -1,11 +1,26 @@
-use Rattle.std.proofs.Common.{slice_get, sym, ap, ◌∙◌, arith}
-use Rattle.std.proofs.lemmas.List.{get_or_default}
+use Rattle.std.proofs.Common.{◌≡◌, ℕ, ◌+◌, ◌<◌, ◌≤◌, List, length, replicate, get_or, set, slice_get, slice_index_or, sym, ap, ◌∙◌, inl, inr, arith, lit<, length-set, get_or-set_same, get_or-set_other}
+use Rattle.std.proofs.lemmas.List.{get_or_default, length-replicate}
+use Rattle.node_grid.specs.declared.class.Class.{Class}
 use Rattle.node_grid.specs.declared.class.Class.TheVariants.{A}
 use Rattle.node_grid.specs.Class.{is_nonfaulty}
 use Rattle.fault_classes.specs.Plan.{sound_before, steady, class_of}
 use Rattle.fault_classes.specs.ClassLaws.{nonfaulty_is}
 use Rattle.fault_classes.proofs.Sets.{first_where}
+use Rattle.std.proofs.lemmas.Bool.{cases_eq}
+use Rattle.fault_classes.proofs.Ranges.{falls}
 use Rattle.fault_classes.proofs.standing.standing_in.Goals as goal
+
+one_more : (f : ℕ → Class) (xs : List Class) (k : ℕ) (x : Class) → k < length xs → x ≡ f k → ((j : ℕ) → j < k → slice_index_or xs j A ≡ f j) → (j : ℕ) → j < k + 1 → slice_index_or (set xs k x) j A ≡ f j
+one_more f xs k x within e before j low = elim (cases_eq j k) [
+  | inl same ↦ ap (λ i. get_or (set xs k x) i A) same ∙ get_or-set_same xs k x A within ∙ e ∙ ap f (sym same)
+  | inr ne ↦ get_or-set_other xs k j x A ne ∙ before j (omega arith)
+]
+
+none_yet : (f : ℕ → Class) (xs : List Class) (j : ℕ) → j < 0 → slice_index_or xs j A ≡ f j
+none_yet f xs j h = absurd (omega arith)
+
+has_room : (k end nodes cap len : ℕ) → k < end → end ≡ nodes → nodes ≤ cap → len ≡ cap → (k < nodes) × (k < cap) × (k < len)
+has_room k end nodes cap len a b c d = (omega arith, omega arith, omega arith)
 
 pub returns : goal.returns
 returns g c =
@@ -17,3 +32,35 @@ returns g c =
       least = c.least.ensures.first ∙ ap (λ s. slice_get s 0) c.steady_nodes-good.ensures
           ∙ first_where (steady plan p (sound_before plan p)) (λ j. is_nonfaulty (class_of plan p j)) plan.nodes (λ k h. sym (nonfaulty_is plan p k h));
     }
+
+pub clean_nodes-clean-requires : goal.clean_nodes-clean-requires
+clean_nodes-clean-requires g c = (lit< tt, (lit< tt, (c.requires.capacity, (c.requires.nodes, c.requires.period))))
+
+pub steady_nodes-good-requires : goal.steady_nodes-good-requires
+steady_nodes-good-requires g c = (lit< tt, (lit< tt, (c.requires.capacity, (c.requires.nodes, (c.requires.period, (c.clean_nodes-clean.ensures, c.requires.before))))))
+
+pub loop-node-init : goal.loop-node-init
+loop-node-init g c = record { long = length-replicate g.row.N A; classed = none_yet (class_of c.args.index.now c.args.period) (replicate g.row.N A) }
+
+pub class_in-requires : goal.class_in-requires
+class_in-requires g c =
+    let low = has_room c.loop-node.node c.nodes-node-end.result c.args.index.now.nodes g.row.N (length c.loop-node.classes) c.loop-node-test.true c.nodes-node-end.ensures c.requires.nodes c.loop-node.invariant.long in
+    (lit< tt, (lit< tt, (c.requires.capacity, (c.requires.nodes, (c.requires.some, (c.requires.period, (low.0, (c.clean_nodes-clean.ensures, c.steady_nodes-good.ensures))))))))
+
+pub bounds-classes-node : goal.bounds-classes-node
+bounds-classes-node g c =
+    (has_room c.loop-node.node c.nodes-node-end.result c.args.index.now.nodes g.row.N (length c.loop-node.classes) c.loop-node-test.true c.nodes-node-end.ensures c.requires.nodes c.loop-node.invariant.long).1
+
+pub loop-node-preserved : goal.loop-node-preserved
+loop-node-preserved g c =
+    let low = has_room c.loop-node.node c.nodes-node-end.result c.args.index.now.nodes g.row.N (length c.loop-node.classes) c.loop-node-test.true c.nodes-node-end.ensures c.requires.nodes c.loop-node.invariant.long in
+    record {
+      long = length-set c.loop-node.classes c.loop-node.node c.class_in.result ∙ c.loop-node.invariant.long;
+      classed = one_more (class_of c.args.index.now c.args.period) c.loop-node.classes c.loop-node.node c.class_in.result low.2 c.class_in.ensures c.loop-node.invariant.classed;
+    }
+
+pub loop-node-smaller : goal.loop-node-smaller
+loop-node-smaller g c = falls c.nodes-node-end.result c.loop-node.node c.loop-node-test.true
+
+pub least-requires : goal.least-requires
+least-requires g c = lit< tt

@@ -1,10 +1,12 @@
-use Rattle.std.proofs.Common.{◌≡◌, suc, ◌+◌, ◌++◌, ◌∷◌, [], length, get_or, refl, sym, ap, ◌∙◌, arith, inl, inr, subst}
+use Rattle.std.proofs.Common.{◌≡◌, suc, ◌+◌, ◌++◌, ◌∷◌, [], length, get_or, refl, sym, ap, ◌∙◌, arith, inl, inr, subst, ◌≤◌, lit<}
 use Rattle.std.proofs.lemmas.Bool.{cases_lt}
 use Rattle.std.proofs.lemmas.List.{get_or_append_left, get_or_push, length_push}
 use Rattle.node_grid.specs.NodeSet.{ids_where, ids_below}
 use Rattle.fault_classes.specs.Plan.{sound_before}
 use Rattle.fault_classes.specs.Standing.{IsStanding}
 use Rattle.fault_classes.proofs.Sets.{every_where}
+use Rattle.node_grid.specs.CapacityLaws.{capacity-le}
+use Rattle.fault_classes.proofs.Ranges.{falls}
 use Rattle.fault_classes.proofs.standing.standings_of.Goals as goal
 
 pub loop-period-init : goal.loop-period-init
@@ -36,3 +38,9 @@ loop-period-preserved g c =
             subst (IsStanding plan p) (sym same) (subst (λ q. IsStanding plan q x) here c.standing_in-standing.ensures)
       ];
     }
+
+pub full-before-requires : goal.full-before-requires
+full-before-requires g c = (lit< tt, (capacity-le g.row.N c.requires.capacity, subst (λ n. n ≤ g.row.N) (sym c.nodes.ensures) c.requires.nodes))
+
+pub loop-period-smaller : goal.loop-period-smaller
+loop-period-smaller g c = falls c.periods-period-end.result c.loop-period.period c.loop-period-test.true

@@ -1,9 +1,35 @@
-use Rattle.std.proofs.Common.{◌≡◌, ℕ, ◌^◌, ◌<◌, length, map, None, sym, ap, ◌∙◌, arith, lit<, subst}
+use Rattle.std.proofs.Common.{◌≡◌, ℕ, ◌+◌, ◌*◌, ◌^◌, ◌<◌, ◌≤◌, List, [], length, map, None, refl, sym, ap, ap₂, ◌∙◌, arith, lit<, subst}
+use Rattle.std.proofs.lemmas.List.{length-map}
+use Rattle.slot_plan.specs.Slots.{slot_count}
+use Rattle.fault_classes.specs.declared.line.FaultLine.{FaultLine}
+use Rattle.fault_classes.specs.declared.line.Restart.{Restart}
 use Rattle.fault_classes.specs.Line.{line_of}
-use Rattle.fault_classes.specs.Cells.{IsShape}
+use Rattle.fault_classes.specs.Cells.{IsShape, IsTable}
 use Rattle.fault_classes.specs.Rules.{first_bad_line}
-use Rattle.fault_classes.proofs.Refusals.{all_good}
+use Rattle.fault_classes.proofs.Refusals.{all_good, by_none}
+use Rattle.fault_classes.specs.Rules.{first_overlap, first_bad_restart, refusal_of}
+use Rattle.fault_classes.specs.Plan.{plan_of}
+use Rattle.fault_classes.specs.Index.{IsRestarting, IsTouched}
+use Rattle.fault_classes.proofs.Ranges.{few_items}
+use Rattle.fault_classes.proofs.index.PlanIndex.new.Given as given
 use Rattle.fault_classes.proofs.index.PlanIndex.new.Goals as goal
+
+rounds_few : (m : ℕ) → 2 * m + 4 ≤ 10 → m ≤ 3
+rounds_few m h = omega arith
+
+lines_few : (g : given.Over) (c : goal.In-Ok-touched_sets g) → length (map (line_of {n = g.row.N}) c.args.lines.items) ≤ 4096
+lines_few g c = omega (arith, c.if-len-gt-MOST_LINES.false, c.len.ensures, c.args.lines.ok, length-map c.args.lines.items (line_of {n = g.row.N}))
+
+accepted : (g : given.Over) (c : goal.In-Ok-touched_sets g) → refusal_of (plan_of c.args.nodes c.args.m c.args.periods (map (line_of {n = g.row.N}) c.args.lines.items) c.args.restarts.items) ≡ None
+accepted g c =
+    let a = c.args in
+    let lines : List (FaultLine g.row.N) = a.lines.items in
+    let in_range : first_bad_line a.nodes (slot_count a.m) a.periods 0 (map line_of lines) ≡ None =
+    ap₂ (λ s (xs : List (FaultLine g.row.N)). first_bad_line a.nodes s a.periods 0 (map line_of xs)) (sym c.slot_count.ensures) (sym c.as_slice.ensures.value) ∙ sym c.first_bad_line.ensures ∙ c.in_default.is in
+    let apart : first_overlap [] (map line_of lines) ≡ None = ap (λ (xs : List (FaultLine g.row.N)). first_overlap [] (map line_of xs)) (sym c.as_slice-2.ensures.value) ∙ c.in_ok-cells.ensures.1 in
+    let in_order : first_bad_restart a.nodes a.periods None 0 a.restarts.items ≡ None =
+    ap (first_bad_restart a.nodes a.periods None 0) (sym c.as_slice-3.ensures.value) ∙ sym c.first_bad_restart.ensures ∙ c.in_default-first_bad_restart.is in
+    by_none (plan_of a.nodes a.m a.periods (map line_of lines) a.restarts.items) in_range apart in_order (lines_few g c)
 
 pub cells_of-requires : goal.cells_of-requires
 cells_of-requires g c =
@@ -25,3 +51,45 @@ touched_sets-requires g c =
     let good : first_bad_line n s t 0 (map (line_of {n = g.row.N}) c.as_slice-5.result.now) ≡ None = ap (first_bad_line n s t 0) (sym same) ∙ sym c.first_bad_line.ensures ∙ c.in_default.is in
     let P : ℕ → Type 0 = λ k. IsShape g.row.N n k t in
     (lit< tt, (lit< tt, (subst P (sym c.slot_count.ensures) c.requires.shape, all_good n s t 0 (map line_of c.as_slice-5.result.now) good)))
+
+pub slot_count-requires : goal.slot_count-requires
+slot_count-requires g c = rounds_few c.args.m c.requires.shape.few_slots
+
+pub first_bad_line-requires : goal.first_bad_line-requires
+first_bad_line-requires g c = (lit< tt, few_items c.as_slice.result.now c.args.lines.items (2 ^ 32) c.as_slice.ensures.value c.requires.few_lines)
+
+pub first_bad_restart-requires : goal.first_bad_restart-requires
+first_bad_restart-requires g c = record {
+  periods = c.requires.shape.some_periods;
+  few = few_items c.as_slice-3.result.now c.args.restarts.items (2 ^ 32) c.as_slice-3.ensures.value c.requires.few_restarts;
+}
+
+pub restarting_sets-requires : goal.restarting_sets-requires
+restarting_sets-requires g c = (
+  lit< tt,
+  (
+    c.requires.shape.capacity,
+    (
+      c.requires.shape.few_nodes,
+      ap (first_bad_restart c.args.nodes c.args.periods None 0) (c.as_slice-4.ensures.value ∙ sym c.as_slice-3.ensures.value) ∙ sym c.first_bad_restart.ensures ∙ c.in_default-first_bad_restart.is,
+    ),
+  ),
+)
+
+pub invariant_of-result : goal.invariant_of-result
+invariant_of-result g c =
+    let a = c.args in
+    let P : ℕ → Type 0 = λ k. IsShape g.row.N a.nodes k a.periods in
+    record {
+      shape = subst P (sym c.slot_count.ensures) c.requires.shape;
+      all_slots = c.slot_count.ensures;
+      accepted = accepted g c;
+      few = lines_few g c;
+      few_restarts = c.requires.few_restarts;
+      table = subst (λ (xs : List (FaultLine g.row.N)). IsTable a.nodes c.slot_count.result a.periods (map line_of xs) c.in_ok-cells.cells.items) c.as_slice-2.ensures.value c.in_ok-cells.ensures.0;
+      restarting = subst (λ (xs : List Restart). IsRestarting g.row.N a.periods xs c.in-Ok.restarting.items) c.as_slice-4.ensures.value c.in-Ok.ensures;
+      touched = subst (λ (xs : List (FaultLine g.row.N)). IsTouched g.row.N a.periods (map line_of xs) c.in-Ok-touched_sets.touched.items) c.as_slice-5.ensures.value c.in-Ok-touched_sets.ensures;
+    }
+
+pub returns : goal.returns
+returns g c = (refl, accepted g c)

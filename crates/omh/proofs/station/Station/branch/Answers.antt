@@ -1,5 +1,4 @@
-use Rattle.std.proofs.Common.{◌+◌, ◌*◌, refl, sym, ◌∙◌, arith, ap}
-use Rattle.omh.specs.Flat.{section_at}
+use Rattle.std.proofs.Common.{◌+◌, ◌*◌, refl, arith}
 use Rattle.omh.proofs.Folding.{first_few, branch_is}
 use Rattle.omh.proofs.station.Station.branch.Goals as goal
 

@@ -1,4 +1,4 @@
-use Rattle.std.proofs.Common.{◌≡◌, ◌≢◌, ◌<◌, ◌+◌, ◌-◌, ◌*◌, ℕ, length, sym, ap, ◌∙◌, arith}
+use Rattle.std.proofs.Common.{◌≡◌, ◌≢◌, ◌<◌, ◌+◌, ◌-◌, ◌*◌, ℕ, length, sym, ◌∙◌, arith}
 use Rattle.std.proofs.lemmas.List.Elements.{All-get_or}
 use Rattle.node_grid.specs.Count.{Distinct}
 use Rattle.omh_paths.specs.declared.wrapped.Wrapped.{Wrapped}
@@ -6,7 +6,7 @@ use Rattle.omh_paths.specs.declared.wrapped.Wrapped.TheVariants.{Fault}
 use Rattle.omh_paths.specs.Paths.{path_count}
 use Rattle.omh_paths.specs.MemberLaws.{Distinct-ids}
 use Rattle.omh.specs.Flat.{flat_ear, section_at}
-use Rattle.omh.proofs.Folding.{IsStep, step_of, halfway_start, halfway_end, heard_is, loop_more, room_more}
+use Rattle.omh.proofs.Folding.{step_of, halfway_start, halfway_end, heard_is, loop_more, room_more}
 use Rattle.omh.proofs.station.Station.settle_shorter.Goals as goal
 
 pub loop-k-init : goal.loop-k-init

@@ -1,0 +1,12 @@
+use Rattle.std.proofs.Common.{length, refl}
+use Rattle.fault_classes.proofs.Ranges.{falls, place_fits}
+use Rattle.fault_classes.proofs.rules.first_bad_restart.Goals as goal
+
+pub loop-place-init : goal.loop-place-init
+loop-place-init c = refl
+
+pub overflow_cast-result : goal.overflow_cast-result
+overflow_cast-result c = place_fits c.loop-place.place (length c.args.restarts.now) c.loop-place-test.true c.requires.few
+
+pub loop-place-smaller : goal.loop-place-smaller
+loop-place-smaller c = falls (length c.args.restarts.now) c.loop-place.place c.loop-place-test.true
