@@ -1,4 +1,6 @@
-use Rattle.std.proofs.Common.{rules, ◌≢◌, length-set, get_or-set_other, get_or-set_same, below_more, ◌≡◌, ◌<◌, ◌≤◌, ℕ, List, [], length, get_or, arith, sym, ap, subst, ◌∙◌}
+use Rattle.std.proofs.Common.{◌≢◌, length-set, get_or-set_other, get_or-set_same, below_more, ◌≡◌, ◌<◌, ◌≤◌, ℕ, List, [], length, get_or, arith, sym, ap, subst, ◌∙◌, lit<, inl, inr}
+use Rattle.std.proofs.lemmas.List.{length-replicate}
+use Rattle.node_grid.specs.Capacity.{IsCapacity}
 use Rattle.protocol.specs.Configured.{setting_of}
 use Rattle.protocol.specs.RowLaws.{kinds-few}
 use Rattle.calm_period.specs.declared.statement.Statement.{Statement}
@@ -11,8 +13,20 @@ use Rattle.calm_period.proofs.rows.rows_found.Goals as goal
 
 pub row_of-requires : goal.row_of-requires
 row_of-requires g c =
-    let own = c.requires.statements.notes c.loop-node.node c.index-statements-node.result c.loop-node-test.true in
-    (search rules, (search rules, (search rules, (search rules, (c.requires.capacity, subst (λ (k : ℕ). k ≤ 16) (sym own.kinds) (kinds-few c.args.config.now.version))))))
+    let cap : IsCapacity g.row.N = c.requires.capacity in
+    let own = c.requires.statements.notes c.loop-node.node c.index-statements-node.result c.loop-node-test.true in (
+      elim cap [ inl e ↦ rw e (lit< tt) | inr e ↦ rw e (lit< tt) ],
+      (
+        elim cap [ inl e ↦ rw e (lit< tt) | inr e ↦ rw e (lit< tt) ],
+        (
+          lit< tt,
+          (
+            elim cap [ inl e ↦ rw e (lit< tt) | inr e ↦ rw e (lit< tt) ],
+            (c.requires.capacity, subst (λ (k : ℕ). k ≤ 16) (sym own.kinds) (kinds-few c.args.config.now.version)),
+          ),
+        ),
+      ),
+    )
 
 pub loop-node-preserved : goal.loop-node-preserved
 loop-node-preserved g c =
@@ -30,3 +44,42 @@ loop-node-preserved g c =
           (λ k l. let ne : k ≢ i = omega arith in get_or-set_other c.loop-node.found i k c.row_of.result [] ne ∙ c.loop-node.invariant.so_far k l)
           (get_or-set_same c.loop-node.found i c.row_of.result [] room ∙ row);
     }
+
+pub zero-found-requires : goal.zero-found-requires
+zero-found-requires g c =
+    let cap : IsCapacity g.row.N = c.requires.capacity in (
+      elim cap [ inl e ↦ rw e (lit< tt) | inr e ↦ rw e (lit< tt) ],
+      cap,
+    )
+
+pub loop-node-init : goal.loop-node-init
+loop-node-init g c = record { wide = length-replicate g.row.N c.zero-found.result; so_far = λ k low. absurd (omega arith) }
+
+pub overflow_cast-node : goal.overflow_cast-node
+overflow_cast-node g c = let t = c.loop-node-test.true in let f = c.requires.config.few_nodes in let n = g.N.fits in omega arith
+
+pub offset_bounds-statements-node : goal.offset_bounds-statements-node
+offset_bounds-statements-node g c = let t = c.loop-node-test.true in let m = c.requires.statements.many in omega arith
+
+pub bounds-statements-node : goal.bounds-statements-node
+bounds-statements-node g c = let t = c.loop-node-test.true in let m = c.requires.statements.many in omega arith
+
+pub overflow_cast-node-in-loop-node : goal.overflow_cast-node-in-loop-node
+overflow_cast-node-in-loop-node g c = let t = c.loop-node-test.true in let f = c.requires.config.few_nodes in let n = g.N.fits in omega arith
+
+pub offset_bounds-found-node : goal.offset_bounds-found-node
+offset_bounds-found-node g c =
+    let low : c.loop-node.node < g.row.N = (let t = c.loop-node-test.true in let f = c.requires.config.few_nodes in omega arith) in
+    elim c.requires.capacity [ inl e ↦ rw e (omega arith) | inr e ↦ rw e (omega arith) ]
+
+pub listed : goal.listed
+listed g c = let t = c.loop-node-test.true in let f = c.requires.config.few_nodes in let w = c.loop-node.invariant.wide in omega arith
+
+pub bounds-found-node : goal.bounds-found-node
+bounds-found-node g c = let t = c.loop-node-test.true in let f = c.requires.config.few_nodes in omega arith
+
+pub loop-node-smaller : goal.loop-node-smaller
+loop-node-smaller g c = let t = c.loop-node-test.true in omega arith
+
+pub returns : goal.returns
+returns g c k low = let t = c.loop-node-test.false in c.loop-node.invariant.so_far k (omega arith)

@@ -1,4 +1,5 @@
-use Rattle.std.proofs.Common.{rules, ℕ, ℤ, List, Option, arith, ap₂, ◌∙◌}
+use Rattle.std.proofs.Common.{lit<, ℕ, ℤ, List, Option, arith, ap₂, ◌∙◌, inl, inr}
+use Rattle.node_grid.specs.Capacity.{IsCapacity}
 use Rattle.node_grid.specs.NodeSet.{ids_where}
 use Rattle.omh_paths.specs.declared.wrapped.Wrapped.{Wrapped}
 use Rattle.protocol.specs.Configured.{setting_of}
@@ -12,13 +13,25 @@ use Rattle.calm_period.proofs.values.vote.Goals as goal
 
 pub vote_due-by_channel-requires : goal.vote_due-by_channel-requires
 vote_due-by_channel-requires g c =
-    let said : ℕ → Said = said_by c.args.statements.now in
-    (search rules, (search rules, (search rules, (search rules, (c.requires.capacity, (c.requires.config, (c.requires.agreed, due_low c.args.config.now c.args.before.now said c.args.due.now c.requires.due)))))))
+    let cap : IsCapacity g.row.N = c.requires.capacity in
+    let said : ℕ → Said = said_by c.args.statements.now in (
+      elim cap [ inl e ↦ rw e (lit< tt) | inr e ↦ rw e (lit< tt) ],
+      (
+        elim cap [ inl e ↦ rw e (lit< tt) | inr e ↦ rw e (lit< tt) ],
+        (
+          elim cap [ inl e ↦ rw e (lit< tt) | inr e ↦ rw e (lit< tt) ],
+          (elim cap [ inl e ↦ rw e (lit< tt) | inr e ↦ rw e (lit< tt) ], (c.requires.capacity, (c.requires.config, (c.requires.agreed, due_low c.args.config.now c.args.before.now said c.args.due.now c.requires.due)))),
+        ),
+      ),
+    )
 
 pub nodes_off-off-requires : goal.nodes_off-off-requires
 nodes_off-off-requires g c =
-    let said : ℕ → Said = said_by c.args.statements.now in
-    (search rules, (search rules, (search rules, (c.requires.capacity, (c.requires.config, due_low c.args.config.now c.args.before.now said c.args.due.now c.requires.due)))))
+    let cap : IsCapacity g.row.N = c.requires.capacity in
+    let said : ℕ → Said = said_by c.args.statements.now in (
+      elim cap [ inl e ↦ rw e (lit< tt) | inr e ↦ rw e (lit< tt) ],
+      (elim cap [ inl e ↦ rw e (lit< tt) | inr e ↦ rw e (lit< tt) ], (lit< tt, (c.requires.capacity, (c.requires.config, due_low c.args.config.now c.args.before.now said c.args.due.now c.requires.due)))),
+    )
 
 pub returns-clause-votes : goal.returns-clause-votes
 returns-clause-votes g c =

@@ -1,4 +1,4 @@
-use Rattle.std.proofs.Common.{rules, arith, ◌≡◌, ◌<◌, ◌∷◌, [], ◌++◌, ℕ, List, Bool, length, get_or, sym, ap, ◌∙◌, append-nil}
+use Rattle.std.proofs.Common.{arith, ◌≡◌, ◌<◌, ◌∷◌, [], ◌++◌, ℕ, List, Bool, length, get_or, sym, ap, ◌∙◌, append-nil, lit<}
 use Rattle.std.specs.Prelude.{slice_index_or}
 use Rattle.std.proofs.lemmas.Bool.{cond-true, cond-false}
 use Rattle.node_grid.specs.NodeSet.{ids_where}
@@ -20,7 +20,7 @@ push-requires g c =
     let n = c.len-c-end.ensures.value in
     let f = c.requires.config.few_channels in
     let r : length c.loop-c.due.items < 8 = omega arith in
-    (search rules, r)
+    (lit< tt, r)
 
 pub loop-c-preserved : goal.loop-c-preserved
 loop-c-preserved g c =
@@ -38,3 +38,21 @@ loop-c-preserved g c =
           ap (λ (d : ArrayVec ℕ). d.items) w.due-is ∙ c.loop-c.invariant
           ∙ sym (ids_where-more p i ∙ ap (λ (zs : List ℕ). ids_where p i ++ zs) (cond-false (p i) (i ∷ []) [] (sym test ∙ w.if-is_due.false)) ∙ append-nil (ids_where p i))
     ]
+
+pub new-due-requires : goal.new-due-requires
+new-due-requires g c = lit< tt
+
+pub offset_bounds-deref-c : goal.offset_bounds-deref-c
+offset_bounds-deref-c g c = let t = c.loop-c-test.true in let n = c.len-c-end.ensures.value in let e : length c.deref.result.now ≡ length c.args.config.now.channels.items = ap length c.deref.ensures.0 in omega arith
+
+pub bounds-deref-c : goal.bounds-deref-c
+bounds-deref-c g c = let t = c.loop-c-test.true in let n = c.len-c-end.ensures.value in let e : length c.deref.result.now ≡ length c.args.config.now.channels.items = ap length c.deref.ensures.0 in omega arith
+
+pub loop-c-smaller : goal.loop-c-smaller
+loop-c-smaller g c = let t = c.loop-c-test.true in omega arith
+
+pub returns : goal.returns
+returns g c =
+    let p : ℕ → Bool = λ c'. due_by (slice_index_or c.args.config.now.channels.items c' no_channel) c.args.finished in
+    let all : c.loop-c.c ≡ length c.args.config.now.channels.items = (let t = c.loop-c-test.false in let n = c.len-c-end.ensures.value in let e = c.loop-c.auto.c-end in omega arith) in
+    c.loop-c.invariant ∙ ap (λ (n : ℕ). ids_where p n) all

@@ -46,3 +46,30 @@ returns g c state carried =
           c.loop-c.invariant.rest k high ∙ sym (cond-false (nat_lt k (length items)) _ None (le-ltb _ _ past))
     ])
     ∙ owns_are c.args.config.now c.args.me c.args.period c.args.inputs.now (record { state = state; carried = carried; votes = c.args.votes.now; owns = c.args.owns.now })
+
+pub offset_bounds-deref-c : goal.offset_bounds-deref-c
+offset_bounds-deref-c g c = let t = c.loop-c-test.true in let n = c.len-c-end.ensures.value in let e : length c.deref.result.now ≡ length c.args.config.now.channels.items = ap length c.deref.ensures.0 in omega arith
+
+pub bounds-deref-c : goal.bounds-deref-c
+bounds-deref-c g c = let t = c.loop-c-test.true in let n = c.len-c-end.ensures.value in let e : length c.deref.result.now ≡ length c.args.config.now.channels.items = ap length c.deref.ensures.0 in omega arith
+
+pub offset_bounds-votes-c : goal.offset_bounds-votes-c
+offset_bounds-votes-c g c = let t = c.loop-c-test.true in let n = c.len-c-end.ensures.value in let f = c.requires.config.few_channels in omega arith
+
+pub bounds-votes-c : goal.bounds-votes-c
+bounds-votes-c g c = let t = c.loop-c-test.true in let n = c.len-c-end.ensures.value in let f = c.requires.config.few_channels in omega arith
+
+pub bounds-owns-c : goal.bounds-owns-c
+bounds-owns-c g c = let t = c.loop-c-test.true in let n = c.len-c-end.ensures.value in let f = c.requires.config.few_channels in omega arith
+
+pub offset_bounds-owns-c : goal.offset_bounds-owns-c
+offset_bounds-owns-c g c = let t = c.loop-c-test.true in let n = c.len-c-end.ensures.value in let f = c.requires.config.few_channels in omega arith
+
+pub offset_bounds-values-c : goal.offset_bounds-values-c
+offset_bounds-values-c g c = let t = c.loop-c-test.true in let n = c.len-c-end.ensures.value in let f = c.requires.config.few_channels in omega arith
+
+pub bounds-values-c : goal.bounds-values-c
+bounds-values-c g c = let t = c.loop-c-test.true in let n = c.len-c-end.ensures.value in let f = c.requires.config.few_channels in omega arith
+
+pub loop-c-smaller : goal.loop-c-smaller
+loop-c-smaller g c = let t = c.loop-c-test.true in omega arith

@@ -1,4 +1,6 @@
-use Rattle.std.proofs.Common.{ℕ, List, get_or, ap, ◌≡◌, ◌∙◌, arith, ◌<◌, length}
+use Rattle.std.proofs.Common.{ℕ, List, get_or, ap, ◌≡◌, ◌∙◌, arith, ◌<◌, length, lit<, inl, inr, subst, sym, ◌≤◌}
+use Rattle.agreed_state.specs.Config.{IsChannel}
+use Rattle.node_grid.specs.Capacity.{IsCapacity}
 use Rattle.std.proofs.lemmas.List.{get_or_default, take_all}
 use Rattle.mme_vote.specs.declared.channel.Channel.{Channel}
 use Rattle.protocol.specs.View.{no_channel}
@@ -25,3 +27,55 @@ loop-k-preserved g c =
 
 pub returns : goal.returns
 returns g c = c.loop-k.invariant ∙ ap (λ (ds : List ℕ). by_channel ds (vote_due c.args.config.now c.args.agreed.now c.args.claims.now c.args.told.now)) (take_all c.loop-k.k c.args.due.now c.loop-k-test.false)
+
+pub deref-requires : goal.deref-requires
+deref-requires g c = elim c.requires.capacity [ inl e ↦ rw e (lit< tt) | inr e ↦ rw e (lit< tt) ]
+
+pub bounds-due-k : goal.bounds-due-k
+bounds-due-k g c = c.loop-k-test.true
+
+pub overflow_cast-channel : goal.overflow_cast-channel
+overflow_cast-channel g c = let low = c.requires.channels c.loop-k.k 0 c.loop-k-test.true in let few = c.requires.config.few_channels in omega arith
+
+pub vote_over-requires : goal.vote_over-requires
+vote_over-requires g c =
+    let number : ℕ = get_or c.args.due.now c.loop-k.k 0 in
+    let d = c.index-deref-c.result in
+    let low : number < length c.args.config.now.channels.items = c.requires.channels c.loop-k.k 0 c.loop-k-test.true in
+    let few : length c.args.config.now.channels.items ≤ 8 = c.requires.config.few_channels in
+    let channel = subst (λ (ch : Channel g.row.N). IsChannel c.args.config.now.nodes (length c.args.config.now.graph.tasks) ch)
+    (sym (c.index-deref-c.is ∙ ap (λ (xs : List (Channel g.row.N)). get_or xs number d) c.deref.ensures.0)) (c.requires.config.channels number d low) in
+    let cap : IsCapacity g.row.N = c.requires.capacity in (
+      elim cap [ inl e ↦ rw e (lit< tt) | inr e ↦ rw e (lit< tt) ],
+      (
+        elim cap [ inl e ↦ rw e (lit< tt) | inr e ↦ rw e (lit< tt) ],
+        (
+          elim cap [ inl e ↦ rw e (lit< tt) | inr e ↦ rw e (lit< tt) ],
+          (
+            elim cap [ inl e ↦ rw e (lit< tt) | inr e ↦ rw e (lit< tt) ],
+            (
+              elim cap [ inl e ↦ rw e (lit< tt) | inr e ↦ rw e (lit< tt) ],
+              (c.requires.capacity, (c.requires.config, (c.requires.agreed, (channel, omega arith)))),
+            ),
+          ),
+        ),
+      ),
+    )
+
+pub overflow_cast-votes : goal.overflow_cast-votes
+overflow_cast-votes g c = let low = c.requires.channels c.loop-k.k 0 c.loop-k-test.true in let few = c.requires.config.few_channels in omega arith
+
+pub offset_bounds-votes-c : goal.offset_bounds-votes-c
+offset_bounds-votes-c g c = let low = c.requires.channels c.loop-k.k 0 c.loop-k-test.true in let few = c.requires.config.few_channels in omega arith
+
+pub bounds-votes-c : goal.bounds-votes-c
+bounds-votes-c g c = let low = c.requires.channels c.loop-k.k 0 c.loop-k-test.true in let few = c.requires.config.few_channels in omega arith
+
+pub loop-k-smaller : goal.loop-k-smaller
+loop-k-smaller g c = let t = c.loop-k-test.true in omega arith
+
+pub bounds-deref-c : goal.bounds-deref-c
+bounds-deref-c g c = subst (λ (xs : List (Channel g.row.N)). get_or c.args.due.now c.loop-k.k 0 < length xs) (sym c.deref.ensures.0) (c.requires.channels c.loop-k.k 0 c.loop-k-test.true)
+
+pub offset_bounds-deref-c : goal.offset_bounds-deref-c
+offset_bounds-deref-c g c = let low : get_or c.args.due.now c.loop-k.k 0 < length c.deref.result.now = bounds-deref-c g c in omega arith

@@ -1,10 +1,21 @@
-use Rattle.std.proofs.Common.{◌≡◌, ◌+◌, ◌≤◌, None, Some, sym, ap, ◌∙◌, arith, inl, inr, length, length-append, [], ◌∷◌, get_or, set, lit<}
+use Rattle.std.proofs.Common.{◌≡◌, ◌+◌, ◌≤◌, None, Some, sym, ap, ◌∙◌, arith, inl, inr, length, length-append, [], ◌∷◌, get_or, set, lit<, ℕ, List, ◌<◌, ◌++◌, append-nil, suc, subst}
+use Rattle.error_reports.specs.Charge.{is_sender, is_accuser}
+use Rattle.node_grid.specs.Count.{count}
+use Rattle.std.specs.Prelude.{All}
+use Rattle.node_grid.specs.Capacity.{IsCapacity}
 use Rattle.std.specs.Int.{bit_at}
 use Rattle.node_grid.specs.Planes.{count_at}
 use Rattle.node_grid.specs.Matrix.{row_at}
 use Rattle.error_reports.proofs.Voting.{split_more}
 use Rattle.error_reports.proofs.Voters.{accusers_more, accusers_same, senders_more, senders_same, accusers_few}
 use Rattle.error_reports.proofs.charge_all.tally.Goals as goal
+
+front : (n : ℕ) (ys rest : List ℕ) (x : ℕ) → All (λ k. k < n) (ys ++ x ∷ rest) → x < n
+front n [] rest x all = all 0 0 (omega arith)
+front n (y ∷ ys) rest x all = front n ys rest x (λ k d l. all (suc k) d (omega arith))
+
+member_in : (n : ℕ) (xs ys rest : List ℕ) (x : ℕ) → All (λ k. k < n) xs → xs ≡ ys ++ x ∷ rest → x < n
+member_in n xs ys rest x all e = front n ys rest x (subst (λ zs. All (λ k. k < n) zs) e all)
 
 pub add-requires : goal.add-requires
 add-requires g c =
@@ -53,3 +64,88 @@ loop-member-preserved g c =
       senders = senders_same rows seen q _ none was.senders;
       few = omega (arith, length-append seen (q ∷ []), was.few);
     }
+
+pub zero-accusers-requires : goal.zero-accusers-requires
+zero-accusers-requires g c =
+    let cap : IsCapacity g.row.N = c.requires in (
+      elim cap [ inl e ↦ rw e (lit< tt) | inr e ↦ rw e (lit< tt) ],
+      cap,
+    )
+
+pub iter-member-items-requires : goal.iter-member-items-requires
+iter-member-items-requires g c = (lit< tt, lit< tt)
+
+pub next-requires : goal.next-requires
+next-requires g c = (lit< tt, tt)
+
+pub get-requires : goal.get-requires
+get-requires g c =
+    let cap : IsCapacity g.row.N = c.requires in (
+      elim cap [ inl e ↦ rw e (lit< tt) | inr e ↦ rw e (lit< tt) ],
+      (
+        elim cap [ inl e ↦ rw e (lit< tt) | inr e ↦ rw e (lit< tt) ],
+        cap,
+      ),
+    )
+
+pub overflow_cast-others : goal.overflow_cast-others
+overflow_cast-others g c =
+    let seen : List ℕ = c.loop-member.yielded in
+    let low : c.in-Some.member < g.row.N =
+    member_in g.row.N c.args.members.now seen c.next.new.self c.in-Some.member c.iter-member-items.ensures.within (c.loop-member.invariant.split ∙ ap (λ (zs : List ℕ). seen ++ zs) c.in-Some.ensures.steps) in
+    let fits = g.N.fits in
+    omega arith
+
+pub overflow_add-senders : goal.overflow_add-senders
+overflow_add-senders g c =
+    let seen : List ℕ = c.loop-member.yielded in
+    let part : length c.args.members.now ≡ length seen + length c.loop-member.member-iterator = ap length c.loop-member.invariant.split ∙ length-append seen c.loop-member.member-iterator in
+    let few = c.iter-member-items.ensures.few in
+    let cap : IsCapacity g.row.N = c.requires in
+    let s = c.loop-member.invariant.few in
+    omega arith
+
+pub loop-member-smaller-in-Some-get : goal.loop-member-smaller-in-Some-get
+loop-member-smaller-in-Some-get g c = let e : length c.loop-member.member-iterator ≡ length (c.in-Some.member ∷ c.next.new.self) = ap length c.in-Some.ensures.steps in omega arith
+
+pub loop-member-smaller : goal.loop-member-smaller
+loop-member-smaller g c = let e : length c.loop-member.member-iterator ≡ length (c.in-Some.member ∷ c.next.new.self) = ap length c.in-Some.ensures.steps in omega arith
+
+pub returns-clause-accusers : goal.returns-clause-accusers
+returns-clause-accusers g c =
+    let seen : List ℕ = c.loop-member.yielded in
+    let all : seen ≡ c.args.members.now = sym (c.loop-member.invariant.split ∙ ap (λ (xs : List ℕ). seen ++ xs) c.in-None.ensures.steps.0 ∙ append-nil seen) in
+    λ j k in_use few. c.loop-member.invariant.accusers j k in_use few ∙ ap (count (is_accuser c.args.rows.now j k)) all
+
+pub returns-clause-senders : goal.returns-clause-senders
+returns-clause-senders g c =
+    let seen : List ℕ = c.loop-member.yielded in
+    let all : seen ≡ c.args.members.now = sym (c.loop-member.invariant.split ∙ ap (λ (xs : List ℕ). seen ++ xs) c.in-None.ensures.steps.0 ∙ append-nil seen) in
+    c.loop-member.invariant.senders ∙ ap (count (is_sender c.args.rows.now)) all
+
+pub returns-clause-few : goal.returns-clause-few
+returns-clause-few g c =
+    let seen : List ℕ = c.loop-member.yielded in
+    let part : length c.args.members.now ≡ length seen + length c.loop-member.member-iterator = ap length c.loop-member.invariant.split ∙ length-append seen c.loop-member.member-iterator in
+    let few = c.iter-member-items.ensures.few in
+    let cap : IsCapacity g.row.N = c.requires in
+    let s = c.loop-member.invariant.few in
+    omega arith
+
+pub returns-clause-members : goal.returns-clause-members
+returns-clause-members g c = c.iter-member-items.ensures.ids
+
+pub bounds-others-inside-member : goal.bounds-others-inside-member
+bounds-others-inside-member g c =
+    let seen : List ℕ = c.loop-member.yielded in
+    let low : c.in-Some.member < g.row.N =
+    member_in g.row.N c.args.members.now seen c.next.new.self c.in-Some.member c.iter-member-items.ensures.within (c.loop-member.invariant.split ∙ ap (λ (zs : List ℕ). seen ++ zs) c.in-Some.ensures.steps) in
+    low
+
+pub offset_bounds-others-inside-member : goal.offset_bounds-others-inside-member
+offset_bounds-others-inside-member g c =
+    let seen : List ℕ = c.loop-member.yielded in
+    let low : c.in-Some.member < g.row.N =
+    member_in g.row.N c.args.members.now seen c.next.new.self c.in-Some.member c.iter-member-items.ensures.within (c.loop-member.invariant.split ∙ ap (λ (zs : List ℕ). seen ++ zs) c.in-Some.ensures.steps) in
+    let cap : IsCapacity g.row.N = c.requires in
+    omega arith

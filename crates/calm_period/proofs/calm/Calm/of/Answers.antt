@@ -1,4 +1,5 @@
-use Rattle.std.proofs.Common.{rules, ◌<◌, [], get_or, ℕ, List, sym, ap, ◌∙◌}
+use Rattle.std.proofs.Common.{lit<, ◌<◌, [], get_or, ℕ, List, sym, ap, ◌∙◌, inl, inr}
+use Rattle.node_grid.specs.Capacity.{IsCapacity}
 use Rattle.omh_paths.specs.MemberLaws.{member-lt}
 use Rattle.omh_paths.specs.declared.wrapped.Wrapped.{Wrapped}
 use Rattle.list_scheduler.specs.Copies.{CopyTable}
@@ -15,21 +16,66 @@ use Rattle.calm_period.proofs.calm.Calm.of.Goals as goal
 
 pub vote-votes-requires : goal.vote-votes-requires
 vote-votes-requires g c =
+    let cap : IsCapacity g.row.N = c.requires.capacity in
     let claimed = c.of-claimed.ensures in
-    let due = c.deref.ensures.0 ∙ claimed.follows.due ∙ ap (due_channels (setting_of c.args.config.now) c.args.before.now) claimed.claims in
-    (search rules, (search rules, (search rules, (search rules, (search rules, (c.requires.capacity, (c.requires.config, (c.requires.agreed, (c.requires.statements, (claimed.claims, due))))))))))
+    let due = c.deref.ensures.0 ∙ claimed.follows.due ∙ ap (due_channels (setting_of c.args.config.now) c.args.before.now) claimed.claims in (
+      elim cap [ inl e ↦ rw e (lit< tt) | inr e ↦ rw e (lit< tt) ],
+      (
+        elim cap [ inl e ↦ rw e (lit< tt) | inr e ↦ rw e (lit< tt) ],
+        (
+          elim cap [ inl e ↦ rw e (lit< tt) | inr e ↦ rw e (lit< tt) ],
+          (elim cap [ inl e ↦ rw e (lit< tt) | inr e ↦ rw e (lit< tt) ], (lit< tt, (c.requires.capacity, (c.requires.config, (c.requires.agreed, (c.requires.statements, (claimed.claims, due))))))),
+        ),
+      ),
+    )
 
 pub rows_found-found-requires : goal.rows_found-found-requires
 rows_found-found-requires g c =
-    (search rules, (search rules, (search rules, (search rules, (search rules, (search rules, (c.requires.capacity, (c.requires.config, c.requires.statements))))))))
+    let cap : IsCapacity g.row.N = c.requires.capacity in (
+      elim cap [ inl e ↦ rw e (lit< tt) | inr e ↦ rw e (lit< tt) ],
+      (
+        elim cap [ inl e ↦ rw e (lit< tt) | inr e ↦ rw e (lit< tt) ],
+        (
+          elim cap [ inl e ↦ rw e (lit< tt) | inr e ↦ rw e (lit< tt) ],
+          (
+            lit< tt,
+            (
+              elim cap [ inl e ↦ rw e (lit< tt) | inr e ↦ rw e (lit< tt) ],
+              (elim cap [ inl e ↦ rw e (lit< tt) | inr e ↦ rw e (lit< tt) ], (c.requires.capacity, (c.requires.config, c.requires.statements))),
+            ),
+          ),
+        ),
+      ),
+    )
 
 pub rows_settled-rows-requires : goal.rows_settled-rows-requires
 rows_settled-rows-requires g c =
-    (search rules, (search rules, (search rules, (search rules, (search rules, (c.requires.capacity, (c.requires.config, c.requires.agreed)))))))
+    let cap : IsCapacity g.row.N = c.requires.capacity in (
+      elim cap [ inl e ↦ rw e (lit< tt) | inr e ↦ rw e (lit< tt) ],
+      (
+        elim cap [ inl e ↦ rw e (lit< tt) | inr e ↦ rw e (lit< tt) ],
+        (
+          elim cap [ inl e ↦ rw e (lit< tt) | inr e ↦ rw e (lit< tt) ],
+          (
+            elim cap [ inl e ↦ rw e (lit< tt) | inr e ↦ rw e (lit< tt) ],
+            (elim cap [ inl e ↦ rw e (lit< tt) | inr e ↦ rw e (lit< tt) ], (c.requires.capacity, (c.requires.config, c.requires.agreed))),
+          ),
+        ),
+      ),
+    )
 
 pub step_from-requires : goal.step_from-requires
 step_from-requires g c =
-    (search rules, (search rules, (search rules, (search rules, (c.requires.capacity, (c.requires.config, (c.requires.agreed, c.of-claimed.ensures.follows.shape)))))))
+    let cap : IsCapacity g.row.N = c.requires.capacity in (
+      elim cap [ inl e ↦ rw e (lit< tt) | inr e ↦ rw e (lit< tt) ],
+      (
+        elim cap [ inl e ↦ rw e (lit< tt) | inr e ↦ rw e (lit< tt) ],
+        (
+          elim cap [ inl e ↦ rw e (lit< tt) | inr e ↦ rw e (lit< tt) ],
+          (elim cap [ inl e ↦ rw e (lit< tt) | inr e ↦ rw e (lit< tt) ], (c.requires.capacity, (c.requires.config, (c.requires.agreed, c.of-claimed.ensures.follows.shape)))),
+        ),
+      ),
+    )
 
 pub returns : goal.returns
 returns g c =

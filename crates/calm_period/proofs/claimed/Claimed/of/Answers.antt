@@ -1,4 +1,5 @@
-use Rattle.std.proofs.Common.{ap, ◌∙◌}
+use Rattle.std.proofs.Common.{ap, ◌∙◌, lit<, inl, inr}
+use Rattle.node_grid.specs.Capacity.{IsCapacity}
 use Rattle.agreed_state.specs.Agreed.{AgreedView}
 use Rattle.data_slot.specs.DueLaws.{dues_are}
 use Rattle.calm_period.proofs.claimed.Claimed.of.Goals as goal
@@ -16,3 +17,42 @@ returns g c =
         shape = preview.shape;
       };
     }
+
+pub claims_of-claims-requires : goal.claims_of-claims-requires
+claims_of-claims-requires g c =
+    let cap : IsCapacity g.row.N = c.requires.capacity in (
+      elim cap [ inl e ↦ rw e (lit< tt) | inr e ↦ rw e (lit< tt) ],
+      (
+        elim cap [ inl e ↦ rw e (lit< tt) | inr e ↦ rw e (lit< tt) ],
+        (
+          elim cap [ inl e ↦ rw e (lit< tt) | inr e ↦ rw e (lit< tt) ],
+          (
+            elim cap [ inl e ↦ rw e (lit< tt) | inr e ↦ rw e (lit< tt) ],
+            (c.requires.capacity, (c.requires.config, (c.requires.agreed, c.requires.statements))),
+          ),
+        ),
+      ),
+    )
+
+pub preview-preview-requires : goal.preview-preview-requires
+preview-preview-requires g c =
+    let cap : IsCapacity g.row.N = c.requires.capacity in (
+      elim cap [ inl e ↦ rw e (lit< tt) | inr e ↦ rw e (lit< tt) ],
+      (
+        elim cap [ inl e ↦ rw e (lit< tt) | inr e ↦ rw e (lit< tt) ],
+        (
+          elim cap [ inl e ↦ rw e (lit< tt) | inr e ↦ rw e (lit< tt) ],
+          (
+            elim cap [ inl e ↦ rw e (lit< tt) | inr e ↦ rw e (lit< tt) ],
+            (c.requires.capacity, (c.requires.config, c.requires.agreed)),
+          ),
+        ),
+      ),
+    )
+
+pub due_channels-due-requires : goal.due_channels-due-requires
+due_channels-due-requires g c =
+    let cap : IsCapacity g.row.N = c.requires.capacity in (
+      elim cap [ inl e ↦ rw e (lit< tt) | inr e ↦ rw e (lit< tt) ],
+      c.requires.config,
+    )

@@ -1,4 +1,6 @@
-use Rattle.std.proofs.Common.{◌<◌, ℕ, ℤ, List, Option, None, length, length-set, get_or-set_other, get_or-set_same, set, sym, ap, ◌∙◌, inl, inr, arith}
+use Rattle.std.proofs.Common.{◌<◌, ℕ, ℤ, List, Option, None, length, length-set, get_or-set_other, get_or-set_same, set, sym, ap, ◌∙◌, inl, inr, arith, lit<}
+use Rattle.std.proofs.lemmas.List.{length-replicate}
+use Rattle.node_grid.specs.Capacity.{IsCapacity}
 use Rattle.std.proofs.lemmas.Bool.{cases_eq}
 use Rattle.protocol.specs.View.{value_from}
 use Rattle.data_slot.specs.Told.{at_channel, value_told}
@@ -21,3 +23,32 @@ loop-from-preserved g c =
         | inr ne ↦ ap (λ o. at_channel o x) (get_or-set_other told from q values None ne) ∙ c.loop-from.invariant.so_far q x (omega arith) on
       ];
     }
+
+pub loop-from-init : goal.loop-from-init
+loop-from-init g c = record { wide = length-replicate {A = Option (List ℤ)} g.row.N None; so_far = λ q x low on. absurd (omega arith) }
+
+pub values_from-requires : goal.values_from-requires
+values_from-requires g c =
+    let r = c.requires in
+    let cap : IsCapacity g.row.N = r.capacity in (
+      lit< tt,
+      (
+        elim cap [ inl e ↦ rw e (lit< tt) | inr e ↦ rw e (lit< tt) ],
+        (cap, (r.config, (r.due, (r.closed, (r.some_slot, (r.unguessed, (r.nodes, (r.me, c.loop-from-test.true)))))))),
+      ),
+    )
+
+pub overflow_cast-from : goal.overflow_cast-from
+overflow_cast-from g c = let t = c.loop-from-test.true in let f = c.requires.config.few_nodes in let n = g.N.fits in omega arith
+
+pub offset_bounds-told-from : goal.offset_bounds-told-from
+offset_bounds-told-from g c = let t = c.loop-from-test.true in let f = c.requires.config.few_nodes in let cap : IsCapacity g.row.N = c.requires.capacity in omega arith
+
+pub bounds-told-from : goal.bounds-told-from
+bounds-told-from g c = let t = c.loop-from-test.true in let f = c.requires.config.few_nodes in omega arith
+
+pub loop-from-smaller : goal.loop-from-smaller
+loop-from-smaller g c = let t = c.loop-from-test.true in omega arith
+
+pub returns : goal.returns
+returns g c q x low on = let t = c.loop-from-test.false in c.loop-from.invariant.so_far q x (omega arith) on

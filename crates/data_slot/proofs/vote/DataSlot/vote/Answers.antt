@@ -1,13 +1,34 @@
-use Rattle.std.proofs.Common.{rules, length, ◌∙◌}
+use Rattle.std.proofs.Common.{length, ◌∙◌, lit<, inl, inr}
+use Rattle.node_grid.specs.Capacity.{IsCapacity}
 use Rattle.node_grid.specs.NodeSetLaws.{All-ids}
 use Rattle.data_slot.proofs.Voting.{TellsValues, votes_are, offs_are}
 use Rattle.data_slot.proofs.vote.DataSlot.vote.Goals as goal
 
 pub vote_due-votes-requires : goal.vote_due-votes-requires
-vote_due-votes-requires g c = (search rules, (search rules, (search rules, (search rules, (c.requires.capacity, (c.requires.config, (c.requires.agreed, All-ids (length c.args.config.now.channels.items) c.args.self.now.due.now c.requires.due)))))))
+vote_due-votes-requires g c =
+    let cap : IsCapacity g.row.N = c.requires.capacity in (
+      elim cap [ inl e ↦ rw e (lit< tt) | inr e ↦ rw e (lit< tt) ],
+      (
+        elim cap [ inl e ↦ rw e (lit< tt) | inr e ↦ rw e (lit< tt) ],
+        (
+          elim cap [ inl e ↦ rw e (lit< tt) | inr e ↦ rw e (lit< tt) ],
+          (
+            elim cap [ inl e ↦ rw e (lit< tt) | inr e ↦ rw e (lit< tt) ],
+            (c.requires.capacity, (c.requires.config, (c.requires.agreed, All-ids (length c.args.config.now.channels.items) c.args.self.now.due.now c.requires.due))),
+          ),
+        ),
+      ),
+    )
 
 pub deviating-off-requires : goal.deviating-off-requires
-deviating-off-requires g c = (search rules, (search rules, (search rules, (c.requires.capacity, (c.requires.config, All-ids (length c.args.config.now.channels.items) c.args.self.now.due.now c.requires.due)))))
+deviating-off-requires g c =
+    let cap : IsCapacity g.row.N = c.requires.capacity in (
+      elim cap [ inl e ↦ rw e (lit< tt) | inr e ↦ rw e (lit< tt) ],
+      (
+        elim cap [ inl e ↦ rw e (lit< tt) | inr e ↦ rw e (lit< tt) ],
+        (lit< tt, (c.requires.capacity, (c.requires.config, All-ids (length c.args.config.now.channels.items) c.args.self.now.due.now c.requires.due))),
+      ),
+    )
 
 pub returns-clause-votes : goal.returns-clause-votes
 returns-clause-votes g c =

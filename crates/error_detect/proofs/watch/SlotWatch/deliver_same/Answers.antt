@@ -1,12 +1,12 @@
 use Rattle.std.proofs.Common.{ℕ, ◌≡◌, ◌≤◌, sym, subst, List, ap, ◌∙◌, arith, ◌<◌, length, refl}
-use Rattle.std.specs.Prelude.{Option, option_map, true, false}
+use Rattle.std.specs.Prelude.{Option, option_map, true}
 use Rattle.std.proofs.lemmas.List.{length-set}
 use Rattle.std.proofs.lemmas.List.Elements.{All-get_or}
 use Rattle.frames.specs.Content.{Expectation, Content}
 use Rattle.frames.specs.Seen.{expected}
 use Rattle.error_detect.specs.Inside.{meaning}
 use Rattle.error_detect.specs.Watching.{Arrival, Box, Watch, delivered, frame_at, frame_in, guesses, guesses_at}
-use Rattle.error_detect.proofs.Boxes.{delivered_same, rooms_set, still_same}
+use Rattle.error_detect.proofs.Boxes.{delivered_same, rooms_set, still_same, never}
 use Rattle.error_detect.proofs.Guesses.{fits_guess}
 use Rattle.error_detect.proofs.watch.SlotWatch.deliver_same.Goals as goal
 
@@ -41,7 +41,7 @@ invariant_of-self g c =
         rooms = rooms_set c.self.inside.frame_max from boxes now (ap (λ (x : Box). x.room) c.take_same.ensures ∙ was) c.self.invariant.inboxes.rooms;
         readable = c.self.invariant.inboxes.readable;
       };
-      marked = λ shut. absurd (let no : true ≡ false = sym c.requires.open ∙ ap (λ (w : Watch). w.is_open) (sym c.self.view_is) ∙ shut in cc);
+      marked = λ shut. never (sym c.requires.open ∙ ap (λ (w : Watch). w.is_open) (sym c.self.view_is) ∙ shut);
       room = c.self.invariant.room;
       meant = c.self.invariant.meant;
       spelt = c.self.invariant.spelt;

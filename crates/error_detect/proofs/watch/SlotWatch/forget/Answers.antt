@@ -1,11 +1,11 @@
 use Rattle.std.proofs.Common.{◌≡◌, ℕ, List, length, replicate, map, get_or, sym, ap, ◌∙◌, subst}
-use Rattle.std.specs.Prelude.{Option, None, true, false}
+use Rattle.std.specs.Prelude.{Option, None, false}
 use Rattle.std.specs.Vec.{with_items}
 use Rattle.std.proofs.lemmas.List.{with_items_is, length-map}
 use Rattle.frames.specs.Content.{Content}
 use Rattle.error_detect.specs.Inside.{meaning, IsSpelt}
 use Rattle.error_detect.specs.Watching.{Arrival, nothing, Box, Watch, arrivals, frame_in, emptied, fresh, AreInboxes, is_same, no_box}
-use Rattle.error_detect.proofs.Boxes.{arrivals_emptied, rooms_emptied, none_same}
+use Rattle.error_detect.proofs.Boxes.{arrivals_emptied, rooms_emptied, none_same, never, no_some}
 use Rattle.error_detect.proofs.watch.SlotWatch.forget.Goals as goal
 
 pub invariant_of-self : goal.invariant_of-self
@@ -24,11 +24,11 @@ invariant_of-self g c =
     } in
     record {
       inboxes = subst P (sym whole) is;
-      marked = λ shut some. absurd (let no : false ≡ true = some in cc);
-      room = λ x some. absurd (cc);
-      meant = λ x y some there. absurd (cc);
+      marked = λ shut some. never (sym some);
+      room = λ x some. no_some x some;
+      meant = λ x y some there. no_some x some;
       spelt = subst (IsSpelt g.row.N c.self.inside.nodes) (sym c.forget.ensures) tt;
-      same = λ j held. absurd (let no : true ≡ false = sym held ∙ ap (λ (ys : List Box). is_same (get_or ys j no_box).held) whole ∙ none_same j items in cc);
+      same = λ j held. never (sym held ∙ ap (λ (ys : List Box). is_same (get_or ys j no_box).held) whole ∙ none_same j items);
     }
 
 pub returns : goal.returns

@@ -1,12 +1,12 @@
 use Rattle.std.proofs.Common.{◌≡◌, ℕ, List, length, replicate, map, get_or, sym, ap, ◌∙◌, subst}
-use Rattle.std.specs.Prelude.{Option, Some, None, true, false}
+use Rattle.std.specs.Prelude.{Option, Some, None, true}
 use Rattle.std.specs.Vec.{with_items}
 use Rattle.std.proofs.lemmas.List.{with_items_is, length-map}
 use Rattle.frames.specs.Content.{Expectation, Content}
 use Rattle.frames.specs.Seen.{expected}
 use Rattle.error_detect.specs.Inside.{meaning, IsSpelt}
 use Rattle.error_detect.specs.Watching.{Arrival, nothing, Box, Watch, arrivals, frame_in, emptied, opened, AreInboxes, HasRoom, is_same, no_box}
-use Rattle.error_detect.proofs.Boxes.{arrivals_emptied, rooms_emptied, none_same}
+use Rattle.error_detect.proofs.Boxes.{arrivals_emptied, rooms_emptied, none_same, never, no_some, some_same}
 use Rattle.error_detect.proofs.watch.SlotWatch.open_slot.Goals as goal
 
 pub invariant_of-self : goal.invariant_of-self
@@ -28,11 +28,11 @@ invariant_of-self g c =
     let fits : HasRoom c.self.inside.frame_max e = subst (λ n. HasRoom n e) (ap (λ (w : Watch). w.frame_max) (sym c.self.view_is)) c.requires.room in
     record {
       inboxes = subst P (sym whole) is;
-      marked = λ shut. absurd (let no : true ≡ false = shut in cc);
-      room = λ x some. (let is : e ≡ x = cc in subst (HasRoom c.self.inside.frame_max) is fits);
-      meant = λ x y some there. absurd (let no : Some y ≡ None = sym there ∙ gone in cc);
+      marked = λ shut. never shut;
+      room = λ x some. subst (HasRoom c.self.inside.frame_max) (some_same e x some) fits;
+      meant = λ x y some there. no_some y (sym gone ∙ there);
       spelt = subst (IsSpelt g.row.N c.self.inside.nodes) (sym c.forget.ensures) tt;
-      same = λ j held. absurd (let no : true ≡ false = sym held ∙ ap (λ (ys : List Box). is_same (get_or ys j no_box).held) whole ∙ none_same j items in cc);
+      same = λ j held. never (sym held ∙ ap (λ (ys : List Box). is_same (get_or ys j no_box).held) whole ∙ none_same j items);
     }
 
 pub returns : goal.returns
