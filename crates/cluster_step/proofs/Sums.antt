@@ -22,6 +22,12 @@ small_fits z h = let h0 = h.0 in let h1 = h.1 in fits_signed_from_abs w64 z (ome
 pub small_kept : (z : ℤ) → IsSmall z → stored z ≡ z
 small_kept z h = to_z-of_z w64 z (small_fits z h)
 
+pub reading_fits : (z : ℤ) → IsReading z → FitsSigned w64 z
+reading_fits z h = let h0 = h.0 in let h1 = h.1 in small_fits z (omega (arith, ints), omega (arith, ints))
+
+pub reading_kept : (z : ℤ) → IsReading z → to_z w64 (of_z w64 z) ≡ z
+reading_kept z h = to_z-of_z w64 z (reading_fits z h)
+
 -- what holds of 0 and of each number of a list holds of the number at any place
 pub number_is : (P : ℤ → Type 0) → P (pos 0) → (xs : List ℤ) (k : ℕ) → All P xs → P (slice_index_or xs k (pos 0))
 number_is P zero xs k all = elim (cases_lt k (length xs)) [
@@ -38,6 +44,9 @@ zero_reading = (omega (arith, ints), omega (arith, ints))
 pub zero_lie : IsUpTo (pos (2 ^ 40)) (pos 0)
 zero_lie = (omega (arith, ints), omega (arith, ints))
 
+pub zero_error : IsUpTo (pos (2 ^ 20)) (pos 0)
+zero_error = (omega (arith, ints), omega (arith, ints))
+
 pub error_small : (bound e : ℤ) → IsBound bound → IsUpTo bound e → IsUpTo (pos (2 ^ 20)) e
 error_small bound e b h = let b1 = b.1 in let h0 = h.0 in let h1 = h.1 in (omega (arith, ints), omega (arith, ints))
 
@@ -50,6 +59,9 @@ module _ (x a e l : ℤ) (hx : IsOffset x) (ha : IsOffset a) (he : IsUpTo (pos (
 
   ahead_is : stored (stored x -ℤ stored a) ≡ x -ℤ a
   ahead_is = ap₂ (λ (u v : ℤ). stored (u -ℤ v)) (small_kept x (offset_small x hx)) (small_kept a (offset_small a ha)) ∙ small_kept (x -ℤ a) ahead_small
+
+  pub ahead_fits : FitsSigned w64 (stored x -ℤ stored a)
+  ahead_fits = subst (λ (z : ℤ). FitsSigned w64 z) (sym (ap₂ ◌-ℤ◌ (small_kept x (offset_small x hx)) (small_kept a (offset_small a ha)))) (small_fits (x -ℤ a) ahead_small)
 
   error_is : stored e ≡ e
   error_is = let h0 = he.0 in let h1 = he.1 in small_kept e (omega (arith, ints), omega (arith, ints))
@@ -88,10 +100,14 @@ module _ (x y d : ℤ) (hx : IsOffset x) (hy : IsReading y) (hd : IsUpTo (pos (2
   drifted_small : IsSmall ((x +ℤ y) +ℤ d)
   drifted_small = let x0 = hx.0 in let x1 = hx.1 in let y0 = hy.0 in let y1 = hy.1 in let d0 = hd.0 in let d1 = hd.1 in (omega (arith, ints), omega (arith, ints))
 
+  kept_x : stored x ≡ x
+  kept_x = let x0 = hx.0 in let x1 = hx.1 in small_kept x (omega (arith, ints), omega (arith, ints))
+
   corrected_is : stored (stored x +ℤ stored y) ≡ x +ℤ y
-  corrected_is =
-      let x0 = hx.0 in let x1 = hx.1 in let y0 = hy.0 in let y1 = hy.1 in
-      ap₂ (λ (u v : ℤ). stored (u +ℤ v)) (small_kept x (omega (arith, ints), omega (arith, ints))) (small_kept y (omega (arith, ints), omega (arith, ints))) ∙ small_kept (x +ℤ y) corrected_small
+  corrected_is = ap₂ (λ (u v : ℤ). stored (u +ℤ v)) kept_x (reading_kept y hy) ∙ small_kept (x +ℤ y) corrected_small
+
+  pub corrected_fits : FitsSigned w64 (stored x +ℤ stored y)
+  corrected_fits = subst (λ (z : ℤ). FitsSigned w64 z) (sym (ap₂ ◌+ℤ◌ kept_x (reading_kept y hy))) (small_fits (x +ℤ y) corrected_small)
 
   drift_is : stored d ≡ d
   drift_is = let d0 = hd.0 in let d1 = hd.1 in small_kept d (omega (arith, ints), omega (arith, ints))

@@ -7,6 +7,15 @@ use Rattle.cluster_step.proofs.calming.all_keep.Goals as goal
 pub keeps-requires : goal.keeps-requires
 keeps-requires g c = (elim c.requires.capacity [ inl e ↦ rw e (lit< tt) | inr e ↦ rw e (lit< tt) ], elim c.requires.capacity [ inl e ↦ rw e (lit< tt) | inr e ↦ rw e (lit< tt) ])
 
+pub returns-then-known : goal.returns-then-known
+returns-then-known g c = λ x. c.requires.known c.if-known.true
+
+pub loop-node-init : goal.loop-node-init
+loop-node-init g c = λ k d low. absurd (omega (arith, low))
+
+pub returns-then-not-keeps : goal.returns-then-not-keeps
+returns-then-not-keeps g c = λ no. cc
+
 pub loop-node-preserved : goal.loop-node-preserved
 loop-node-preserved g c = λ k d low. elim (cases_eq k c.loop-node.node-index) [
   | inl e ↦

@@ -11,6 +11,12 @@ use Rattle.cluster_step.specs.Clocking.{start_of}
 use Rattle.cluster_step.proofs.Clocking.{starts_are}
 use Rattle.cluster_step.proofs.clocks.first_clocks.Goals as goal
 
+pub clock-requires : goal.clock-requires
+clock-requires g c = elim c.requires [ inl e ↦ rw e (lit< tt, lit< tt) | inr e ↦ rw e (lit< tt, lit< tt) ]
+
+pub config-requires : goal.config-requires
+config-requires g c = elim c.requires [ inl e ↦ rw e (lit< tt, lit< tt) | inr e ↦ rw e (lit< tt, lit< tt) ]
+
 pub starts-requires : goal.starts-requires
 starts-requires g c =
     let sc : ScenarioView g.row.N = c.args.scenario.now in

@@ -7,6 +7,9 @@ use Rattle.cluster_step.proofs.Shared.{one_known, told_here}
 use Rattle.cluster_step.proofs.delivering.find_common.Goals as goal
 use Rattle.cluster_step.proofs.delivering.find_common.Goals.{then-me-i+then-has+then-tells, else-me-i, else-me-i-via-then-me-i+then-has+else-tells, else-me-i-via-then-me-i+else-has, else-me-i-via-else-me-i}
 
+pub me-requires : goal.me-requires
+me-requires g c = elim c.requires.capacity [ inl e ↦ rw e (lit< tt) | inr e ↦ rw e (lit< tt) ]
+
 pub tells-requires : goal.tells-requires
 tells-requires g c = (
   elim c.requires.capacity [ inl e ↦ rw e (lit< tt) | inr e ↦ rw e (lit< tt) ],

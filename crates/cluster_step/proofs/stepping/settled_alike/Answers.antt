@@ -5,6 +5,12 @@ use Rattle.node_steps.specs.Parts.{NodeView}
 use Rattle.cluster_step.proofs.Calmed.{all_settled}
 use Rattle.cluster_step.proofs.stepping.settled_alike.Goals as goal
 
+pub loop-node-init : goal.loop-node-init
+loop-node-init g c = λ k d low. absurd (omega (arith, low))
+
+pub returns-then-not-settles_as : goal.returns-then-not-settles_as
+returns-then-not-settles_as g c = λ no. cc
+
 pub loop-node-preserved : goal.loop-node-preserved
 loop-node-preserved g c = λ k d low. elim (cases_eq k c.loop-node.node-index) [
   | inl e ↦

@@ -1,14 +1,16 @@
-use Rattle.std.proofs.Common.{rules, w64}
-use mir.Val.{SFits}
+use Rattle.std.proofs.Common.{inl, inr, lit<}
 use Rattle.clock_skew.specs.Correction.{IsReading}
 use Rattle.cluster_step.specs.Clocking.{correction_by}
+use Rattle.cluster_step.proofs.Sums.{reading_fits}
 use Rattle.cluster_step.proofs.Written.{more_written, all_written, all_hold}
 use Rattle.cluster_step.proofs.clocks.Clocks.corrections.Goals as goal
 
+pub correction_of-requires : goal.correction_of-requires
+correction_of-requires g c = (lit< tt, (elim c.requires.steady.capacity [ inl e ↦ rw e (lit< tt) | inr e ↦ rw e (lit< tt) ], (c.requires.steady, (c.requires.each, c.requires.others))))
+
 pub loop-i-preserved : goal.loop-i-preserved
 loop-i-preserved g c =
-    let fits : SFits w64 c.correction_of.result = search rules in
-    more_written IsReading (correction_by g.row.N c.args.self.now.plan.now c.args.m c.args.self.now.offset.now c.args.self.now.period c.args.records.now) g.row.N c.loop-i.i c.loop-i.corrections c.correction_of.result c.loop-i-test.true fits c.correction_of.ensures.correction c.correction_of.ensures.range c.loop-i.invariant
+    more_written IsReading (correction_by g.row.N c.args.self.now.plan.now c.args.m c.args.self.now.offset.now c.args.self.now.period c.args.records.now) g.row.N c.loop-i.i c.loop-i.corrections c.correction_of.result c.loop-i-test.true (reading_fits c.correction_of.result c.correction_of.ensures.range) c.correction_of.ensures.correction c.correction_of.ensures.range c.loop-i.invariant
 
 pub returns-clause-corrections : goal.returns-clause-corrections
 returns-clause-corrections g c = all_written IsReading (correction_by g.row.N c.args.self.now.plan.now c.args.m c.args.self.now.offset.now c.args.self.now.period c.args.records.now) g.row.N c.loop-i.i c.loop-i.corrections c.loop-i-test.false c.loop-i.invariant

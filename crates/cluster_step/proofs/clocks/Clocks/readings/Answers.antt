@@ -1,14 +1,12 @@
-use Rattle.std.proofs.Common.{rules, w64}
-use mir.Val.{SFits}
 use Rattle.clock_skew.specs.Correction.{IsReading}
 use Rattle.cluster_step.specs.Clocking.{read_by}
+use Rattle.cluster_step.proofs.Sums.{reading_fits}
 use Rattle.cluster_step.proofs.Written.{more_written, all_written, all_hold}
 use Rattle.cluster_step.proofs.clocks.Clocks.readings.Goals as goal
 
 pub loop-j-preserved : goal.loop-j-preserved
 loop-j-preserved g c =
-    let fits : SFits w64 c.reading.result = search rules in
-    more_written IsReading (read_by c.args.self.now.plan.now c.args.self.now.nodes c.args.self.now.offset.now c.args.self.now.period c.args.i) g.row.N c.loop-j.j c.loop-j.readings c.reading.result c.loop-j-test.true fits c.reading.ensures.reading c.reading.ensures.range c.loop-j.invariant
+    more_written IsReading (read_by c.args.self.now.plan.now c.args.self.now.nodes c.args.self.now.offset.now c.args.self.now.period c.args.i) g.row.N c.loop-j.j c.loop-j.readings c.reading.result c.loop-j-test.true (reading_fits c.reading.result c.reading.ensures.range) c.reading.ensures.reading c.reading.ensures.range c.loop-j.invariant
 
 pub returns-clause-readings : goal.returns-clause-readings
 returns-clause-readings g c = all_written IsReading (read_by c.args.self.now.plan.now c.args.self.now.nodes c.args.self.now.offset.now c.args.self.now.period c.args.i) g.row.N c.loop-j.j c.loop-j.readings c.loop-j-test.false c.loop-j.invariant

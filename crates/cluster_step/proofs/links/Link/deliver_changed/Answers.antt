@@ -7,6 +7,9 @@ use Rattle.cluster_periods.specs.Slots.{arriving, handed}
 use Rattle.cluster_periods.proofs.Handing.{ready_takes}
 use Rattle.cluster_step.proofs.links.Link.deliver_changed.Goals as goal
 
+pub me-requires : goal.me-requires
+me-requires g c = elim c.requires.capacity [ inl e ↦ rw e (lit< tt) | inr e ↦ rw e (lit< tt) ]
+
 pub hand-requires : goal.hand-requires
 hand-requires g c = (
   elim c.requires.capacity [ inl e ↦ rw e (lit< tt) | inr e ↦ rw e (lit< tt) ],

@@ -4,6 +4,9 @@ use Rattle.cluster_periods.specs.Periods.{IsResting}
 use Rattle.cluster_step.proofs.Waking.{woken_shut, begun_is}
 use Rattle.cluster_step.proofs.stepping.Period.begin_node.Goals as goal
 
+pub me-me-requires : goal.me-me-requires
+me-me-requires g c = elim c.requires.capacity [ inl e ↦ rw e (lit< tt) | inr e ↦ rw e (lit< tt) ]
+
 pub wake-requires : goal.wake-requires
 wake-requires g c = (
   elim c.requires.capacity [ inl e ↦ rw e (lit< tt) | inr e ↦ rw e (lit< tt) ],

@@ -1,6 +1,7 @@
 use Rattle.std.proofs.Common.{ℕ, ◌≡◌, ◌≢◌, ◌<◌, ◌≤◌, ◌+◌, ◌-◌, Vec, Global, List, [], map, length, None, inl, inr, lit<, ap, sym, subst, ◌∙◌, arith}
 use Rattle.std.proofs.lemmas.List.{get_or-map}
 use Rattle.std.proofs.lemmas.List.Elements.{All-get_or}
+use Rattle.slot_plan.specs.Slots.{slot_count}
 use Rattle.fault_classes.specs.Line.{effect_at}
 use Rattle.fault_classes.specs.Plan.{Plan}
 use Rattle.node_steps.specs.Parts.{NodeView}
@@ -12,6 +13,25 @@ use Rattle.cluster_step.proofs.stepping.Period.deliver_senders.Goals.{then-is_to
 
 pub plan-plan-requires : goal.plan-plan-requires
 plan-plan-requires g c = elim c.requires.capacity [ inl e ↦ rw e (lit< tt, lit< tt) | inr e ↦ rw e (lit< tt, lit< tt) ]
+
+pub me-me-requires : goal.me-me-requires
+me-me-requires g c = elim c.requires.capacity [ inl e ↦ rw e (lit< tt) | inr e ↦ rw e (lit< tt) ]
+
+pub invariant_of-link : goal.invariant_of-link
+invariant_of-link g c =
+    let plan = c.plan-plan.ensures.plan in
+    let wf = c.plan-plan.ensures.scenario in
+    let periods : c.plan-plan.result.now.periods ≡ c.args.self.now.scenario.now.periods = ap (λ (q : Plan). q.periods) plan ∙ wf.plan_periods in
+    let rounds : c.plan-plan.result.now.rounds ≡ c.args.self.now.scenario.now.config.m = ap (λ (q : Plan). q.rounds) plan ∙ wf.system.plan_rounds in
+    let nodes : c.plan-plan.result.now.nodes ≡ c.args.self.now.scenario.now.config.nodes = ap (λ (q : Plan). q.nodes) plan ∙ wf.system.plan_nodes in
+    record {
+      in_plan = subst (λ (k : ℕ). c.args.self.now.number < k) (sym periods) c.args.self.now.in_run;
+      in_period = subst (λ (m : ℕ). c.args.slot < slot_count m) (sym rounds) c.requires.slot;
+      in_use = omega (arith, nodes, c.loop-from-test.true, c.requires.senders);
+    }
+
+pub bounds-frames-from : goal.bounds-frames-from
+bounds-frames-from g c = omega (arith, c.loop-from-test.true, c.requires.senders, c.requires.each)
 
 pub loop-from-init : goal.loop-from-init
 loop-from-init g c = (

@@ -45,6 +45,9 @@ pass-requires g c =
       ),
     )
 
+pub bounds-nodes-i : goal.bounds-nodes-i
+bounds-nodes-i g c = let n = c.loop-i.auto.nodes in omega (arith, n, c.loop-i-test.true)
+
 pub loop-i-preserved : goal.loop-i-preserved
 loop-i-preserved g c =
     let sc = c.args.self.now.scenario.now in

@@ -50,6 +50,9 @@ loop-i-init g c =
           (subst (λ (j : ℕ). IsSaid sc c.args.self.now.number c.args.state.now j x) (me ∙ sym first) c.statement-statements.ensures),
     )
 
+pub bounds-nodes-i : goal.bounds-nodes-i
+bounds-nodes-i g c = c.loop-i-test.true
+
 pub statement-requires : goal.statement-requires
 statement-requires g c =
     let sc = c.args.self.now.scenario.now in

@@ -1,11 +1,18 @@
-use Rattle.std.proofs.Common.{ℕ, List, [], get_or, inl, inr, lit<, ap, subst, sym, ◌∙◌, arith}
+use Rattle.std.proofs.Common.{ℕ, List, [], get_or, inl, inr, lit<, ap, subst, sym, ◌∙◌, arith, ◌<◌, refl}
 use Rattle.std.specs.Prelude.{All, slice_index_or}
+use Rattle.slot_plan.specs.Slots.{slot_count}
 use Rattle.relaying.specs.Common.{Common, AreGuessedIn, frame_by}
 use Rattle.node_steps.specs.Parts.{NodeView}
 use Rattle.scenario.specs.Scenario.{ScenarioView}
 use Rattle.cluster_periods.specs.Slots.{through_slot, IsReady}
 use Rattle.cluster_periods.proofs.Handing.{holds_here, put_over, all_put}
 use Rattle.cluster_step.proofs.stepping.Period.step_each.Goals as goal
+
+pub frames-frames-requires : goal.frames-frames-requires
+frames-frames-requires g c = (elim c.requires.capacity [ inl e ↦ rw e (lit< tt) | inr e ↦ rw e (lit< tt) ], subst (λ (m : ℕ). c.args.slot < slot_count m) (sym c.requires.shape.m) c.requires.slot)
+
+pub loop-node-init : goal.loop-node-init
+loop-node-init g c = refl
 
 pub step_node-requires : goal.step_node-requires
 step_node-requires g c =

@@ -58,6 +58,9 @@ step_late-requires g c = (
 pub returns-in-Nothing-clause-slots : goal.returns-in-Nothing-clause-slots
 returns-in-Nothing-clause-slots g c = ap (λ (r : PeriodView). length r.sent) c.step-in-Nothing.ensures.shown ∙ many_slots (system_of c.args.self.now.scenario.now) c.args.self.now.number
 
+pub settled_alike-requires : goal.settled_alike-requires
+settled_alike-requires g c = (elim c.requires.capacity [ inl e ↦ rw e (lit< tt) | inr e ↦ rw e (lit< tt) ], c.requires.capacity)
+
 pub returns-in-Data-clause-alike : goal.returns-in-Data-clause-alike
 returns-in-Data-clause-alike g c = λ told.
     let sc = c.args.self.now.scenario.now in
