@@ -2,7 +2,7 @@ use Rattle.std.proofs.Common.{ℕ, List, Bool, true, ◌≡◌, ◌+◌, ◌-◌
 use Rattle.omh_paths.specs.Paths.{path_count}
 use Rattle.relaying.specs.Comparing.{times, sides, IsOver, HasEntries}
 use Rattle.relaying.proofs.Marks.{over_more, odd_more}
-use Rattle.relaying.proofs.Steps.{room_first, room_next, room_of, over_of, odd_of}
+use Rattle.relaying.proofs.Steps.{room_first, room_next, room_of, over_of, odd_of, odd_first}
 use Rattle.relaying.proofs.Sides.{sides_as, some_map, counted_of}
 use Rattle.relaying.proofs.comparing.triples.Goals as goal
 
@@ -61,3 +61,44 @@ returns-clause-over c =
     (over_more w front (replicate n true ++ back) c.args.left c.in-Some.near l c.in-Some.ensures.over
     (over_more w (replicate n true) back c.in-Some.near c.in-Some-skip.far l c.in-Some-skip.ensures.over over)))
     c.pair_tables-2.ensures.over
+
+pub overflow_add-others : goal.overflow_add-others
+overflow_add-others c = omega (arith, c.requires.few)
+
+pub pair_tables-requires-clause-few : goal.pair_tables-requires-clause-few
+pair_tables-requires-clause-few c = omega (arith, c.requires.few, c.saturating_sub.ensures)
+
+pub pair_tables-requires-clause-room : goal.pair_tables-requires-clause-room
+pair_tables-requires-clause-room c =
+    let w : ℕ = c.args.width in
+    let a : ℕ = c.args.before in
+    let b : ℕ = c.args.behind in
+    let front : List Bool = times a (sides c.saturating_sub.result b 2) in
+    let back : List Bool = replicate (path_count (a + b) 2) true ++ times b (sides a (b - 1) 2) in
+    room_first w front back c.args.left
+    (room_of w (sides a b 3) (front ++ back) c.args.left (sym (sides_as a b 2 c.saturating_sub.result (b - 1) (path_count (a + b) 2) c.saturating_sub.ensures refl refl)) c.requires.room)
+
+pub returns-in_default-clause-odd : goal.returns-in_default-clause-odd
+returns-in_default-clause-odd c =
+    let w : ℕ = c.args.width in
+    let a : ℕ = c.args.before in
+    let b : ℕ = c.args.behind in
+    let front : List Bool = times a (sides c.saturating_sub.result b 2) in
+    let back : List Bool = replicate (path_count (a + b) 2) true ++ times b (sides a (b - 1) 2) in
+    odd_of w (front ++ back) (sides a b 3) c.args.left (sides_as a b 2 c.saturating_sub.result (b - 1) (path_count (a + b) 2) c.saturating_sub.ensures refl refl)
+    (odd_first w front back c.args.left c.in_default.ensures.odd)
+
+pub returns-in_default-clause-over : goal.returns-in_default-clause-over
+returns-in_default-clause-over c = tt
+
+pub returns-in_default-skip-clause-over : goal.returns-in_default-skip-clause-over
+returns-in_default-skip-clause-over c = tt
+
+pub saturating_sub-requires : goal.saturating_sub-requires
+saturating_sub-requires c = tt
+
+pub saturating_sub-requires-2 : goal.saturating_sub-requires-2
+saturating_sub-requires-2 c = tt
+
+pub saturating_sub-requires-3 : goal.saturating_sub-requires-3
+saturating_sub-requires-3 c = tt
