@@ -1,10 +1,11 @@
-use Rattle.std.proofs.Common.{ℕ, ◌<◌, ◌++◌, ◌∷◌, [], List, length, ap, subst, sym, ◌∙◌}
+use Rattle.std.proofs.Common.{ℕ, ◌<◌, ◌++◌, ◌∷◌, [], List, length, ap, subst, sym, ◌∙◌, inl, inr, lit<, arith}
 use Rattle.std.proofs.lemmas.List.{get_or_default}
 use Rattle.omh_paths.specs.declared.wrapped.Wrapped.TheVariants.{Fault}
 use Rattle.list_scheduler.specs.Copies.{IsTable, IsCopies}
 use Rattle.list_scheduler.specs.ScheduleLaws.{graph_ordered, completed_kept}
-use Rattle.list_scheduler.proofs.Members.{next_member, one_more}
 use Rattle.list_scheduler.proofs.Completing.{completed_more, verdicts_more, verdicts_none}
+use Rattle.node_grid.specs.CapacityLaws.{capacity-le}
+use Rattle.list_scheduler.proofs.Members.{next_member, one_more, next_within, one_less}
 use Rattle.list_scheduler.proofs.copies.Copies.complete.Goals as goal
 
 pub loop-node-init : goal.loop-node-init
@@ -34,3 +35,54 @@ loop-node-preserved g c =
       verdicts = verdicts_more g.row.N c.args.graph.now c.loop-node.yielded c.args.self.now c.loop-node.self c.args.claims.now c.in-Some.node _ c.loop-node.verdicts c.complete_one.result
           c.loop-node.invariant.copies next says c.complete_one.ensures.verdict c.loop-node.invariant.verdicts;
     }
+
+pub bounds-claims-node : goal.bounds-claims-node
+bounds-claims-node g c = next_within g.row.N c.args.members.now c.loop-node.yielded c.iter-node-items.ensures.ids c.loop-node.invariant.split c.in-Some.ensures.steps
+
+pub bounds-verdicts-node : goal.bounds-verdicts-node
+bounds-verdicts-node g c = next_within g.row.N c.args.members.now c.loop-node.yielded c.iter-node-items.ensures.ids c.loop-node.invariant.split c.in-Some.ensures.steps
+
+pub complete_one-requires : goal.complete_one-requires
+complete_one-requires g c = (
+  elim c.requires.capacity [ inl e ↦ rw e (lit< tt) | inr e ↦ rw e (lit< tt) ],
+  (lit< tt, (c.requires.capacity, (next_within g.row.N c.args.members.now c.loop-node.yielded c.iter-node-items.ensures.ids c.loop-node.invariant.split c.in-Some.ensures.steps, c.loop-node.invariant.kept))),
+)
+
+pub iter-node-items-requires : goal.iter-node-items-requires
+iter-node-items-requires g c = (lit< tt, lit< tt)
+
+pub len-requires : goal.len-requires
+len-requires g c = lit< tt
+
+pub loop-node-smaller : goal.loop-node-smaller
+loop-node-smaller g c = one_less c.in-Some.ensures.steps
+
+pub next-requires : goal.next-requires
+next-requires g c = (lit< tt, tt)
+
+pub none-verdicts-requires : goal.none-verdicts-requires
+none-verdicts-requires g c = tt
+
+pub offset_bounds-claims-node : goal.offset_bounds-claims-node
+offset_bounds-claims-node g c =
+    let low : c.in-Some.node < g.row.N =
+    next_within g.row.N c.args.members.now c.loop-node.yielded c.iter-node-items.ensures.ids c.loop-node.invariant.split c.in-Some.ensures.steps in
+    omega (arith, low, capacity-le g.row.N c.requires.capacity)
+
+pub offset_bounds-verdicts-node : goal.offset_bounds-verdicts-node
+offset_bounds-verdicts-node g c =
+    let low : c.in-Some.node < g.row.N =
+    next_within g.row.N c.args.members.now c.loop-node.yielded c.iter-node-items.ensures.ids c.loop-node.invariant.split c.in-Some.ensures.steps in
+    omega (arith, low, capacity-le g.row.N c.requires.capacity)
+
+pub overflow_cast-node : goal.overflow_cast-node
+overflow_cast-node g c =
+    let low : c.in-Some.node < g.row.N =
+    next_within g.row.N c.args.members.now c.loop-node.yielded c.iter-node-items.ensures.ids c.loop-node.invariant.split c.in-Some.ensures.steps in
+    omega (arith, low, capacity-le g.row.N c.requires.capacity)
+
+pub overflow_cast-node-in-loop-node : goal.overflow_cast-node-in-loop-node
+overflow_cast-node-in-loop-node g c =
+    let low : c.in-Some.node < g.row.N =
+    next_within g.row.N c.args.members.now c.loop-node.yielded c.iter-node-items.ensures.ids c.loop-node.invariant.split c.in-Some.ensures.steps in
+    omega (arith, low, capacity-le g.row.N c.requires.capacity)

@@ -1,4 +1,4 @@
-use Rattle.std.proofs.Common.{append-nil, ◌≡◌, ℕ, ◌<◌, ◌++◌, length, List, Bool, ap, subst, sym, ◌∙◌, arith}
+use Rattle.std.proofs.Common.{append-nil, ◌≡◌, ℕ, ◌<◌, ◌++◌, length, List, Bool, ap, subst, sym, ◌∙◌, arith, inl, inr, lit<}
 use Rattle.std.specs.Prelude.{is_some}
 use Rattle.std.proofs.lemmas.List.{get_or_default}
 use Rattle.node_grid.specs.NodeSet.{with_id, IsIdSet}
@@ -8,10 +8,14 @@ use Rattle.task_graph.specs.GraphLaws.{few_tasks}
 use Rattle.list_scheduler.specs.declared.copies.CopyState.{CopyState}
 use Rattle.list_scheduler.specs.Copies.{IsTable, running, table}
 use Rattle.list_scheduler.specs.ByTask.{moved}
-use Rattle.list_scheduler.proofs.Members.{next_member, one_more}
 use Rattle.list_scheduler.proofs.Found.{found, found_none, found_more, found_less, found_all}
 use Rattle.list_scheduler.proofs.Moving.{among, among_none, among_fresh, among_more, among_all, moved_told, runs_only}
+use Rattle.node_grid.specs.CapacityLaws.{capacity-le}
+use Rattle.list_scheduler.proofs.Members.{next_member, one_more, next_within, one_less}
 use Rattle.list_scheduler.proofs.copies.Copies.move_task.Goals as goal
+
+set_of : (n : ℕ) {x y : TaskView} → IsIdSet n x.nodes → x ≡ y → IsIdSet n y.nodes
+set_of n ids e = subst (λ (z : TaskView). IsIdSet n z.nodes) e ids
 
 pub loop-node-init : goal.loop-node-init
 loop-node-init g c = record {
@@ -90,3 +94,63 @@ returns-clause-busy g c =
     let all : (task_at c.args.graph.now.tasks c.args.t).nodes ≡ c.loop-node.yielded = c.loop-node.invariant.split ∙ ap (λ (xs : List ℕ). c.loop-node.yielded ++ xs) c.in-None.ensures.steps.0 ∙ append-nil c.loop-node.yielded in
     c.loop-node.invariant.busy ∙ ap (found n test) (sym all)
     ∙ found_all n test test (task_at c.args.graph.now.tasks c.args.t).nodes (λ q hq. runs_only c.args.t q c.args.graph.now c.args.before.now c.args.after.now c.args.self.now c.args.claims.now c.requires.idle)
+
+pub bounds-claims-node : goal.bounds-claims-node
+bounds-claims-node g c = next_within g.row.N (task_at c.args.graph.now.tasks c.args.t).nodes c.loop-node.yielded (set_of g.row.N c.iter-node-items.ensures.ids (c.behind-graph.view_is ∙ c.task.ensures.task)) c.loop-node.invariant.split c.in-Some.ensures.steps
+
+pub empty-busy-requires : goal.empty-busy-requires
+empty-busy-requires g c = (lit< tt, capacity-le g.row.N c.requires.capacity)
+
+pub has-requires : goal.has-requires
+has-requires g c = lit< tt
+
+pub has-requires-in-loop-node : goal.has-requires-in-loop-node
+has-requires-in-loop-node g c = lit< tt
+
+pub iter-node-items-requires : goal.iter-node-items-requires
+iter-node-items-requires g c = (lit< tt, lit< tt)
+
+pub loop-node-smaller : goal.loop-node-smaller
+loop-node-smaller g c = one_less c.in-Some.ensures.steps
+
+pub loop-node-smaller-then-move_copy : goal.loop-node-smaller-then-move_copy
+loop-node-smaller-then-move_copy g c = one_less c.in-Some.ensures.steps
+
+pub move_copy-requires : goal.move_copy-requires
+move_copy-requires g c = (
+  elim c.requires.capacity [ inl e ↦ rw e (lit< tt) | inr e ↦ rw e (lit< tt) ],
+  (
+    lit< tt,
+    (
+      c.requires.capacity,
+      (
+        c.requires.task,
+        next_within g.row.N (task_at c.args.graph.now.tasks c.args.t).nodes c.loop-node.yielded (set_of g.row.N c.iter-node-items.ensures.ids (c.behind-graph.view_is ∙ c.task.ensures.task)) c.loop-node.invariant.split c.in-Some.ensures.steps,
+      ),
+    ),
+  ),
+)
+
+pub next-requires : goal.next-requires
+next-requires g c = (lit< tt, tt)
+
+pub offset_bounds-claims-node : goal.offset_bounds-claims-node
+offset_bounds-claims-node g c =
+    let low : c.in-Some.node < g.row.N =
+    next_within g.row.N (task_at c.args.graph.now.tasks c.args.t).nodes c.loop-node.yielded (set_of g.row.N c.iter-node-items.ensures.ids (c.behind-graph.view_is ∙ c.task.ensures.task)) c.loop-node.invariant.split c.in-Some.ensures.steps in
+    omega (arith, low, capacity-le g.row.N c.requires.capacity)
+
+pub overflow_cast-claim : goal.overflow_cast-claim
+overflow_cast-claim g c =
+    let low : c.in-Some.node < g.row.N =
+    next_within g.row.N (task_at c.args.graph.now.tasks c.args.t).nodes c.loop-node.yielded (set_of g.row.N c.iter-node-items.ensures.ids (c.behind-graph.view_is ∙ c.task.ensures.task)) c.loop-node.invariant.split c.in-Some.ensures.steps in
+    omega (arith, low, capacity-le g.row.N c.requires.capacity)
+
+pub put-requires : goal.put-requires
+put-requires g c = (
+  lit< tt,
+  next_within g.row.N (task_at c.args.graph.now.tasks c.args.t).nodes c.loop-node.yielded (set_of g.row.N c.iter-node-items.ensures.ids (c.behind-graph.view_is ∙ c.task.ensures.task)) c.loop-node.invariant.split c.in-Some.ensures.steps,
+)
+
+pub task-requires : goal.task-requires
+task-requires g c = (lit< tt, (lit< tt, c.requires.task))

@@ -1,12 +1,17 @@
-use Rattle.std.proofs.Common.{append-nil, ◌≡◌, ℕ, ◌++◌, ◌&&◌, List, Bool, true, false, ap, ap₂, sym, ◌∙◌}
-use Rattle.node_grid.specs.NodeSet.{has_id, with_id}
+use Rattle.std.proofs.Common.{append-nil, ◌≡◌, ℕ, ◌++◌, ◌&&◌, List, Bool, true, false, ap, ap₂, sym, ◌∙◌, inl, inr, lit<, subst, arith}
+use Rattle.node_grid.specs.NodeSet.{has_id, with_id, IsIdSet}
 use Rattle.task_graph.specs.Graph.{TaskView, task_at}
 use Rattle.list_scheduler.specs.Copies.{copy_at, is_idle}
-use Rattle.list_scheduler.proofs.Members.{one_more}
 use Rattle.list_scheduler.proofs.Found.{found, found_none, found_more, found_less}
 use Rattle.list_scheduler.proofs.Picking.{open_found}
+use Rattle.node_grid.specs.CapacityLaws.{capacity-le}
+use Rattle.list_scheduler.proofs.Members.{one_more, next_within, one_less}
+use Rattle.task_graph.specs.GraphLaws.{few_tasks}
 use Rattle.list_scheduler.proofs.copies.Copies.open_nodes.Goals as goal
 use Rattle.list_scheduler.proofs.copies.Copies.open_nodes.Goals.{else-has-via-then-has+else-is_idle, else-has-via-else-has}
+
+set_of : (n : ℕ) {x y : TaskView} → IsIdSet n x.nodes → x ≡ y → IsIdSet n y.nodes
+set_of n ids e = subst (λ (z : TaskView). IsIdSet n z.nodes) e ids
 
 pub loop-node-init : goal.loop-node-init
 loop-node-init g c = record {
@@ -53,3 +58,45 @@ returns g c =
     let test : ℕ → Bool = λ q. has_id c.args.free.now q && is_idle (copy_at c.args.self.now c.args.t q) in
     let all : (task_at c.args.graph.now.tasks c.args.t).nodes ≡ c.loop-node.yielded = c.loop-node.invariant.split ∙ ap (λ (xs : List ℕ). c.loop-node.yielded ++ xs) c.in-None.ensures.steps.0 ∙ append-nil c.loop-node.yielded in
     c.loop-node.invariant.open_so_far ∙ ap (found n test) (sym all) ∙ open_found n c.args.t c.args.graph.now c.args.free.now c.args.self.now
+
+pub at-requires : goal.at-requires
+at-requires g c = (
+  elim c.requires.capacity [ inl e ↦ rw e (lit< tt) | inr e ↦ rw e (lit< tt) ],
+  (
+    c.requires.capacity,
+    (
+      let few = few_tasks c.args.graph.now.nodes c.args.graph.now.tasks c.task.ensures.graph.tasks.in_range in let task = c.requires.task in omega (arith, few, task),
+      next_within g.row.N (task_at c.args.graph.now.tasks c.args.t).nodes c.loop-node.yielded (set_of g.row.N c.iter-node-items.ensures.ids (c.behind-graph.view_is ∙ c.task.ensures.task)) c.loop-node.invariant.split c.in-Some.ensures.steps,
+    ),
+  ),
+)
+
+pub empty-open-requires : goal.empty-open-requires
+empty-open-requires g c = (lit< tt, capacity-le g.row.N c.requires.capacity)
+
+pub has-requires : goal.has-requires
+has-requires g c = lit< tt
+
+pub is_idle-requires : goal.is_idle-requires
+is_idle-requires g c = tt
+
+pub iter-node-items-requires : goal.iter-node-items-requires
+iter-node-items-requires g c = (lit< tt, lit< tt)
+
+pub loop-node-smaller : goal.loop-node-smaller
+loop-node-smaller g c = one_less c.in-Some.ensures.steps
+
+pub loop-node-smaller-then-is_idle : goal.loop-node-smaller-then-is_idle
+loop-node-smaller-then-is_idle g c = one_less c.in-Some.ensures.steps
+
+pub next-requires : goal.next-requires
+next-requires g c = (lit< tt, tt)
+
+pub put-requires : goal.put-requires
+put-requires g c = (
+  lit< tt,
+  next_within g.row.N (task_at c.args.graph.now.tasks c.args.t).nodes c.loop-node.yielded (set_of g.row.N c.iter-node-items.ensures.ids (c.behind-graph.view_is ∙ c.task.ensures.task)) c.loop-node.invariant.split c.in-Some.ensures.steps,
+)
+
+pub task-requires : goal.task-requires
+task-requires g c = (lit< tt, (lit< tt, c.requires.task))

@@ -1,9 +1,10 @@
-use Rattle.std.proofs.Common.{append-nil, true, false, not, Option, None, Some, ◌≡◌, ℕ, ◌++◌, List, Bool, refl, ap, sym, ◌∙◌}
+use Rattle.std.proofs.Common.{append-nil, true, false, not, Option, None, Some, ◌≡◌, ℕ, ◌++◌, List, Bool, refl, ap, sym, ◌∙◌, inl, inr, lit<}
 use Rattle.std.specs.Prelude.{is_none, is_some}
 use Rattle.node_grid.specs.NodeSet.{with_id}
 use Rattle.list_scheduler.specs.Copies.{works}
-use Rattle.list_scheduler.proofs.Members.{one_more}
 use Rattle.list_scheduler.proofs.Found.{found, found_none, found_more, found_less}
+use Rattle.node_grid.specs.CapacityLaws.{capacity-le}
+use Rattle.list_scheduler.proofs.Members.{one_more, next_within, one_less}
 use Rattle.list_scheduler.proofs.copies.Copies.resting.Goals as goal
 
 told : (o : Option (ℕ × ℕ)) (r : Bool) → is_some o ≡ not r → is_none o ≡ r
@@ -50,3 +51,27 @@ pub returns : goal.returns
 returns g c =
     let all : c.args.members.now ≡ c.loop-node.yielded = c.loop-node.invariant.split ∙ ap (λ (xs : List ℕ). c.loop-node.yielded ++ xs) c.in-None.ensures.steps.0 ∙ append-nil c.loop-node.yielded in
     c.loop-node.invariant.resting ∙ ap (found g.row.N (λ q. is_none (works c.args.self.now q))) (sym all)
+
+pub empty-resting-requires : goal.empty-resting-requires
+empty-resting-requires g c = (lit< tt, capacity-le g.row.N c.requires.capacity)
+
+pub iter-node-items-requires : goal.iter-node-items-requires
+iter-node-items-requires g c = (lit< tt, lit< tt)
+
+pub loop-node-smaller : goal.loop-node-smaller
+loop-node-smaller g c = one_less c.in-Some.ensures.steps
+
+pub loop-node-smaller-then-is_none : goal.loop-node-smaller-then-is_none
+loop-node-smaller-then-is_none g c = one_less c.in-Some.ensures.steps
+
+pub next-requires : goal.next-requires
+next-requires g c = (lit< tt, tt)
+
+pub put-requires : goal.put-requires
+put-requires g c = (lit< tt, next_within g.row.N c.args.members.now c.loop-node.yielded c.iter-node-items.ensures.ids c.loop-node.invariant.split c.in-Some.ensures.steps)
+
+pub works-requires : goal.works-requires
+works-requires g c = (
+  elim c.requires.capacity [ inl e ↦ rw e (lit< tt) | inr e ↦ rw e (lit< tt) ],
+  (lit< tt, (c.requires.capacity, (next_within g.row.N c.args.members.now c.loop-node.yielded c.iter-node-items.ensures.ids c.loop-node.invariant.split c.in-Some.ensures.steps, c.requires.copies))),
+)

@@ -1,8 +1,8 @@
-use Rattle.std.proofs.Common.{ℕ, ◌++◌, List, refl, ap, subst, sym, ◌∙◌}
+use Rattle.std.proofs.Common.{ℕ, ◌++◌, List, refl, ap, subst, sym, ◌∙◌, inl, inr, lit<}
 use Rattle.list_scheduler.specs.Copies.{IsTable}
 use Rattle.list_scheduler.specs.declared.copies.CopyState.TheVariants.{Running}
-use Rattle.list_scheduler.proofs.Members.{one_more}
 use Rattle.list_scheduler.proofs.Moving.{among_none, among_more}
+use Rattle.list_scheduler.proofs.Members.{one_more, next_within, one_less}
 use Rattle.list_scheduler.proofs.copies.Copies.start.Goals as goal
 
 pub loop-node-init : goal.loop-node-init
@@ -20,3 +20,24 @@ loop-node-preserved g c = record {
   split = one_more c.args.nodes.now c.loop-node.yielded c.in-Some.node c.next.new.self (c.loop-node.invariant.split ∙ ap (λ (xs : List ℕ). c.loop-node.yielded ++ xs) c.in-Some.ensures.steps);
   copies = among_more g.row.N c.args.t c.in-Some.node c.loop-node.yielded (λ t q. Running 1) c.args.self.now c.loop-node.self c.set.new.self (Running 1) c.loop-node.invariant.copies refl c.set.ensures;
 }
+
+pub iter-node-items-requires : goal.iter-node-items-requires
+iter-node-items-requires g c = (lit< tt, lit< tt)
+
+pub loop-node-smaller : goal.loop-node-smaller
+loop-node-smaller g c = one_less c.in-Some.ensures.steps
+
+pub next-requires : goal.next-requires
+next-requires g c = (lit< tt, tt)
+
+pub set-requires : goal.set-requires
+set-requires g c = (
+  elim c.requires.capacity [ inl e ↦ rw e (lit< tt) | inr e ↦ rw e (lit< tt) ],
+  (
+    c.requires.capacity,
+    (
+      c.requires.task,
+      next_within g.row.N c.args.nodes.now c.loop-node.yielded c.iter-node-items.ensures.ids c.loop-node.invariant.split c.in-Some.ensures.steps,
+    ),
+  ),
+)

@@ -1,6 +1,7 @@
-use Rattle.std.proofs.Common.{◌<◌, length, subst, arith}
+use Rattle.std.proofs.Common.{◌<◌, length, subst, arith, inl, inr, lit<}
 use Rattle.list_scheduler.specs.Copies.{IsTable}
 use Rattle.list_scheduler.proofs.Picking.{picked_below-none, picked_below-more, picked_below-all, free-none, free-more}
+use Rattle.task_graph.specs.GraphLaws.{few_tasks}
 use Rattle.list_scheduler.proofs.copies.Copies.start_on.Goals as goal
 
 pub loop-t-init : goal.loop-t-init
@@ -27,3 +28,26 @@ returns g c =
     let count = c.len-t-end.ensures.count in
     let test = c.loop-t-test.false in
     picked_below-all g.row.N c.loop-t.t c.args.graph.now c.args.nodes.now c.args.self.now c.loop-t.self (omega arith) c.loop-t.invariant.copies
+
+pub len-requires : goal.len-requires
+len-requires g c = lit< tt
+
+pub len-t-end-requires : goal.len-t-end-requires
+len-t-end-requires g c = lit< tt
+
+pub minus-free-requires : goal.minus-free-requires
+minus-free-requires g c = lit< tt
+
+pub starters-starters-requires : goal.starters-starters-requires
+starters-starters-requires g c =
+    let count = c.len-t-end.ensures.count in
+    let test = c.loop-t-test.true in
+    (elim c.requires.capacity [ inl e ↦ rw e (lit< tt) | inr e ↦ rw e (lit< tt) ], (lit< tt, (lit< tt, (c.requires.capacity, omega (arith, count, test)))))
+
+pub start-requires : goal.start-requires
+start-requires g c =
+    let graph = c.args.graph.now in
+    let few = few_tasks graph.nodes graph.tasks c.len-t-end.ensures.graph.tasks.in_range in
+    let count = c.len-t-end.ensures.count in
+    let test = c.loop-t-test.true in
+    (elim c.requires.capacity [ inl e ↦ rw e (lit< tt) | inr e ↦ rw e (lit< tt) ], (lit< tt, (c.requires.capacity, omega (arith, few, count, test))))
