@@ -1,6 +1,7 @@
 -- Parts of lines that are drawn one after another.
-use Rattle.std.proofs.Common.{◌≡◌, ◌≢◌, ℕ, suc, ◌+◌, ◌-◌, ◌<◌, not, ◌==◌, List, [], ◌∷◌, ◌++◌, map, filter, refl, sym, ap, ap₂, subst, ◌∙◌, append_assoc, arith, eq-eqb}
+use Rattle.std.proofs.Common.{◌≡◌, ◌≢◌, ℕ, suc, ◌+◌, ◌-◌, ◌<◌, not, ◌==◌, List, [], ◌∷◌, ◌++◌, map, filter, refl, sym, ap, ap₂, subst, ◌∙◌, append_assoc, append-nil, arith, eq-eqb, true≢false, ℤ, pos, Result, Ok, Err, OnOk}
 use Rattle.std.specs.List.{range_with_len}
+use Rattle.std.specs.Result.{IsErr}
 use Rattle.std.proofs.lemmas.Bool.{ne_eqb}
 use Rattle.std.proofs.lemmas.List.{map-append}
 use Rattle.rand_pcg.specs.Lcg.{Lcg}
@@ -115,6 +116,20 @@ goes_at before now at g h x to node i e f o = record {
   rest = ap (λ (y : Lcg). (each to (left node i) y).1) f ∙ o.rest;
 }
 
+-- past the last receiver
+pub goes_all : (before now : List FaultPart) (g h : Lcg) (to : ℕ → Drawing (List Line)) (node i : ℕ) → i ≡ 8 → GoesOn before now g h to node i → Adds before now g h (each to (left node 0))
+goes_all before now g h to node i e o =
+    let last : GoesOn before now g h to node 8 = subst (λ (n : ℕ). GoesOn before now g h to node n) e o in
+    record { faults = sym (append-nil (map fault_view now)) ∙ last.faults; rest = last.rest }
+
+pub all_left : (xs : List ℤ) (node i : ℕ) → i ≡ 8 → xs ++ map pos (left node i) ≡ map pos (left node 0) → xs ≡ map pos (left node 0)
+all_left xs node i e h = sym (append-nil xs) ∙ ap (λ (n : ℕ). xs ++ map pos (left node n)) (sym e) ∙ h
+
+-- where a call failed, nothing is told
+pub failed : {T E : Type 0} (r : Result T E) (P : Type 0) → IsErr r → OnOk r P
+failed (Ok x) P e = absurd (true≢false (sym e))
+failed (Err y) P e = tt
+
 -- ---- a loop over the blocks
 
 -- the lines and restarts so far and those to come are all of them
@@ -142,3 +157,9 @@ storms_more faults after restarts restarts_after g h seed k low s a = record {
       ∙ append_assoc (map restart_view restarts) (restart_parts (restart_of (block k g).0) ∷ []) (map restart_parts (restarts_of (blocks (64 - (k + 1)) (k + 1) (block k g).1).0))
       ∙ ap (λ (n : ℕ). map restart_view restarts ++ map restart_parts (restarts_of (blocks n k g).0)) (sym (more_blocks k low)) ∙ s.all_restarts;
 }
+
+pub storms_done : (faults : List FaultPart) (restarts : List RestartPart) (g : Lcg) (seed k : ℕ) → k ≡ 64 → Storms faults restarts g seed k
+    → (map fault_view faults ≡ map fault_of (lines_of (storm seed))) × (map restart_view restarts ≡ map restart_parts (restarts_of (storm seed)))
+storms_done faults restarts g seed k e s =
+    let last : Storms faults restarts g seed 64 = subst (λ (n : ℕ). Storms faults restarts g seed n) e s in
+    (sym (append-nil (map fault_view faults)) ∙ last.all_faults, sym (append-nil (map restart_view restarts)) ∙ last.all_restarts)
