@@ -1,3 +1,4 @@
 pub mod Bounding
+pub mod Fitting
 pub mod Places
 pub mod Skewing

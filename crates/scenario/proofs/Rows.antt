@@ -1,14 +1,15 @@
 -- Rows of numbers: what stands behind their numbers, and how close these are.
-use Rattle.std.proofs.Common.{◌≡◌, ℕ, zero, suc, ◌-◌, ◌<◌, ◌≤◌, ◌%◌, ◌≤ℤ◌, ℤ, pos, true, List, [], ◌∷◌, ◌++◌, map, length, replicate, refl, sym, ap, ◌∙◌, arith, inl, inr}
+use Rattle.std.proofs.Common.{◌≡◌, ℕ, zero, suc, ◌-◌, ◌<◌, ◌≤◌, ◌%◌, ◌≤ℤ◌, ℤ, pos, true, false, ◌==◌, List, [], ◌∷◌, ◌++◌, map, length, replicate, refl, sym, ap, ◌∙◌, arith, inl, inr}
 use Rattle.std.specs.Prelude.{slice_index_or}
 use Rattle.std.specs.List.{list_all}
-use Rattle.std.proofs.lemmas.Bool.{cases_lt, not-true}
+use Rattle.std.proofs.lemmas.Bool.{cases_lt, not-true, eqb-true}
 use Rattle.std.proofs.lemmas.List.{length-map, get_or_append_left, get_or_past}
 use Rattle.std.proofs.lemmas.List as list
 use Rattle.std.proofs.lemmas.Nat.{mod_below}
 use Rattle.mme_vote.specs.Vote.{distance}
 use Rattle.clock_skew.specs.Clock.{number_at, row_at}
 use Rattle.scenario.specs.Given.{padded}
+use Rattle.scenario.specs.Scenario.{reading_at}
 use Rattle.scenario.specs.Rules.{is_near, are_close}
 use Rattle.scenario.proofs.Ranges.{not_less, passes}
 
@@ -38,3 +39,13 @@ pub padded_row : (capacity : ℕ) (rows : List (List ℤ)) (k : ℕ) → 1 ≤ l
 padded_row capacity rows k some =
     let long = length-map rows (padded capacity) in
     ap (λ n. slice_index_or (map (padded capacity) rows) (k % n) []) long ∙ list.get_or-map (padded capacity) rows (k % length rows) [] [] (mod_below k (length rows) (omega arith))
+
+-- rows, where there are some, and none
+
+pub some_of : (n : ℕ) → (n == 0) ≡ false → 0 < n
+some_of zero h = let none : true ≡ false = h in cc
+some_of (suc n) h = omega arith
+
+pub no_reading : {X : Type 0} (v : X → List ℤ) (i p : ℕ) (rows : List X) → (length rows == 0) ≡ true → pos 0 ≡ reading_at i p (map v rows)
+no_reading v i p [] h = refl
+no_reading v i p (row ∷ rows) h = let none : length (row ∷ rows) ≡ 0 = eqb-true (length (row ∷ rows)) 0 h in absurd (omega arith)

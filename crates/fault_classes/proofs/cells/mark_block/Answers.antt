@@ -67,3 +67,12 @@ mark_row-requires g c =
 
 pub loop-slot-smaller : goal.loop-slot-smaller
 loop-slot-smaller g c = falls c.args.shape.now.slots c.loop-slot.slot c.loop-slot-test.true
+
+pub overflow_shr-slots : goal.overflow_shr-slots
+overflow_shr-slots g c = let t = c.loop-slot-test.true in let f = c.requires.shape.few_slots in omega arith
+
+pub overflow_cast-slot : goal.overflow_cast-slot
+overflow_cast-slot g c = let t = c.loop-slot-test.true in let f = c.requires.shape.few_slots in omega arith
+
+pub overflow_cast-row-then-slots-slot-eq1 : goal.overflow_cast-row-then-slots-slot-eq1
+overflow_cast-row-then-slots-slot-eq1 g c = let t = c.loop-slot-test.true in let f = c.requires.shape.few_slots in omega arith

@@ -49,3 +49,29 @@ loop-period-preserved g c =
     let f = line_facts n s c.args.shape.now.periods l c.requires.line in
     marked_more (touched_before n s q l) (in_block n s (q * n + l.from) l.to l.slots) (touched_before n s (q + 1) l) c.args.mark c.args.cells.now c.loop-period.cells c.mark_block.new.cells
     c.loop-period.invariant c.if-not-mark_block.ensures (λ x. line_step n s l q x f.from (omega (arith, f.ordered)))
+
+pub overflow_mul-block : goal.overflow_mul-block
+overflow_mul-block g c =
+    let n = c.args.shape.now.nodes in
+    let t = c.args.shape.now.periods in
+    let h = c.requires.shape in
+    let f = line_facts n c.args.shape.now.slots t (line_of c.args.line.now) c.requires.line in
+    let run : c.loop-period.period < t = omega (arith, f.last) in
+    omega (arith, block_small c.loop-period.period n c.args.line.now.from t run f.from (few_nodes g.row.N n c.args.shape.now.slots t h) h.few_periods)
+
+pub overflow_add-block : goal.overflow_add-block
+overflow_add-block g c =
+    let n = c.args.shape.now.nodes in
+    let t = c.args.shape.now.periods in
+    let h = c.requires.shape in
+    let f = line_facts n c.args.shape.now.slots t (line_of c.args.line.now) c.requires.line in
+    let run : c.loop-period.period < t = omega (arith, f.last) in
+    omega (arith, block_small c.loop-period.period n c.args.line.now.from t run f.from (few_nodes g.row.N n c.args.shape.now.slots t h) h.few_periods)
+
+pub overflow_add-period-end : goal.overflow_add-period-end
+overflow_add-period-end g c =
+    let f = line_facts c.args.shape.now.nodes c.args.shape.now.slots c.args.shape.now.periods (line_of c.args.line.now) c.requires.line in
+    omega (arith, f.last, c.requires.shape.few_periods)
+
+pub loop-period-smaller : goal.loop-period-smaller
+loop-period-smaller g c = let t = c.loop-period-test.true in omega arith

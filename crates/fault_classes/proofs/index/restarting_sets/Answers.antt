@@ -1,4 +1,5 @@
 use Rattle.std.proofs.Common.{◌≡◌, ◌<◌, [], length, get_or, take, true, None, ap, ◌∙◌, arith, lit<}
+use Rattle.std.proofs.lemmas.Result.{IfOk-from_err}
 use Rattle.std.proofs.lemmas.List.{take_more, get_or_read}
 use Rattle.node_grid.specs.NodeSet.{with_id}
 use Rattle.fault_classes.specs.declared.line.Restart.{Restart}
@@ -36,3 +37,12 @@ loop-restart-preserved g c =
     let old : c.index_mut-set.result.now ≡ get_or sets r.period [] = get_or_read sets r.period c.index_mut-set.result.now within c.index_mut-set.ensures.value [] in
     let new : c.put.new.self ≡ with_id g.row.N (get_or sets r.period []) r.node = c.put.ensures ∙ ap (λ s. with_id g.row.N s r.node) old in
     rw (take_more xs k d c.loop-restart-test.true) (restarting_push g.row.N c.args.periods (take k xs) r sets c.put.new.self c.loop-restart.invariant p.1 new)
+
+pub bounds-restarts-restart-index : goal.bounds-restarts-restart-index
+bounds-restarts-restart-index g c = c.loop-restart-test.true
+
+pub loop-restart-smaller : goal.loop-restart-smaller
+loop-restart-smaller g c = let t = c.loop-restart-test.true in omega arith
+
+pub returns-in_err-sets : goal.returns-in_err-sets
+returns-in_err-sets g c = IfOk-from_err c.from_residual.result _ c.from_residual.ensures.0

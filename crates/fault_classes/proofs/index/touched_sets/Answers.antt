@@ -1,4 +1,5 @@
 use Rattle.std.proofs.Common.{◌≡◌, ℕ, ◌^◌, ◌<◌, ◌+◌, ◌++◌, ◌∷◌, [], true, List, map, length, take, drop, get_or, sym, ap, ◌∙◌, arith, lit<, subst}
+use Rattle.std.proofs.lemmas.Result.{IfOk-from_err}
 use Rattle.std.proofs.lemmas.List.{length-map, take-append-le, take_all}
 use Rattle.fault_classes.specs.Line.{Line, line_of}
 use Rattle.fault_classes.specs.Rules.{is_line}
@@ -42,3 +43,12 @@ loop-line-preserved g c =
     written new c.loop-line.sets.items c.loop-line.sets.len (omega (arith, c.put_sender.ensures.long, ap length c.as_mut_slice.ensures.value)) (omega (arith, c.as_mut_slice.ensures.len, ap length c.as_mut_slice.ensures.value))
     in
     rw (items, front) (touched_push g.row.N t (take k all) (line_of x) old new before c.put_sender.ensures)
+
+pub bounds-lines-line-index : goal.bounds-lines-line-index
+bounds-lines-line-index g c = c.loop-line-test.true
+
+pub loop-line-smaller : goal.loop-line-smaller
+loop-line-smaller g c = let t = c.loop-line-test.true in omega arith
+
+pub returns-in_err-sets : goal.returns-in_err-sets
+returns-in_err-sets g c = IfOk-from_err c.from_residual.result _ c.from_residual.ensures.0

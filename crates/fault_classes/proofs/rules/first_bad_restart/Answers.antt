@@ -10,3 +10,9 @@ overflow_cast-result c = place_fits c.loop-place.place (length c.args.restarts.n
 
 pub loop-place-smaller : goal.loop-place-smaller
 loop-place-smaller c = falls (length c.args.restarts.now) c.loop-place.place c.loop-place-test.true
+
+pub bounds-restarts-place : goal.bounds-restarts-place
+bounds-restarts-place c = c.loop-place-test.true
+
+pub overflow_sub-in_range : goal.overflow_sub-in_range
+overflow_sub-in_range c = c.requires.periods

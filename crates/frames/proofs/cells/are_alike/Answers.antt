@@ -1,10 +1,14 @@
-use Rattle.std.proofs.Common.{◌≡◌, ◌*◌, ◌+◌, ◌-◌, ◌≤◌, ℕ, List, take, drop, ap, sym, ◌∙◌, arith}
+use Rattle.std.proofs.Common.{◌≡◌, ◌*◌, ◌+◌, ◌-◌, ◌<◌, ◌≤◌, ℕ, List, take, drop, ap, sym, ◌∙◌, arith}
 use Rattle.std.proofs.lemmas.Bool.Decides.{Decides-eqb}
 use Rattle.std.proofs.lemmas.Slice.Eq.{slice_eq-Decides}
 use Rattle.std.proofs.lemmas.Nat.{mul-le}
 use Rattle.frames.specs.Reading.{piece}
 use Rattle.frames.specs.PieceLaws.{pieces_alike}
 use Rattle.frames.proofs.cells.are_alike.Goals as goal
+
+-- the bytes of a piece end no later than those of all pieces before a later place
+before : (w from until : ℕ) → from < until → from * w + w ≤ until * w
+before w from until h = let m : (from + 1) * w ≤ until * w = mul-le (from + 1) w until w (omega arith) (omega arith) in omega (arith, m)
 
 pub returns : goal.returns
 returns c e k above below =
@@ -25,3 +29,24 @@ returns c e k above below =
     let swap : w * s ≡ s * w = omega arith in
     let back : k ≡ f + (k - f) = omega arith in
     ap (piece w bytes) back ∙ pieces_alike w n f (k - f) bytes (omega arith) here
+
+pub overflow_mul-first : goal.overflow_mul-first
+overflow_mul-first c = let b = before c.args.width c.args.from c.args.until c.requires.some in omega arith
+
+pub overflow_sub-last : goal.overflow_sub-last
+overflow_sub-last c = let b = before c.args.width c.args.from c.args.until c.requires.some in omega arith
+
+pub overflow_add-first : goal.overflow_add-first
+overflow_add-first c = let b = before c.args.width c.args.from c.args.until c.requires.some in omega arith
+
+pub overflow_add-last : goal.overflow_add-last
+overflow_add-last c = let b = before c.args.width c.args.from c.args.until c.requires.some in omega arith
+
+pub slice_bounds-eq-count : goal.slice_bounds-eq-count
+slice_bounds-eq-count c = let b = before c.args.width c.args.from c.args.until c.requires.some in omega arith
+
+pub slice_bounds-eq-count-2 : goal.slice_bounds-eq-count-2
+slice_bounds-eq-count-2 c = let b = before c.args.width c.args.from c.args.until c.requires.some in omega arith
+
+pub overflow_mul-last : goal.overflow_mul-last
+overflow_mul-last c = omega (arith, c.requires.within)

@@ -1,5 +1,5 @@
-use Rattle.std.proofs.Common.{ℕ, suc, true, false, length, ◌≡◌, ◌+◌, ◌-◌, ◌*◌, List, take, refl, ap, subst, sym, ◌∙◌, arith}
-use Rattle.std.proofs.lemmas.List.{take-take, nil_from_length}
+use Rattle.std.proofs.Common.{ℕ, suc, true, false, length, ◌≡◌, ◌≤◌, ◌+◌, ◌-◌, ◌*◌, List, take, refl, ap, subst, sym, ◌∙◌, arith}
+use Rattle.std.proofs.lemmas.List.{length-take-le, take-take, nil_from_length}
 use Rattle.frames.specs.Runs.{firsts}
 use Rattle.frames.proofs.Repeats.{firsts_more, width_within, room_left}
 use Rattle.frames.proofs.runs.has_firsts.Goals as goal
@@ -56,3 +56,14 @@ returns c =
     let none : c.args.count - c.loop.counter ≡ 0 = omega (arith, last) in
     let empty : length c.loop.left.now ≡ 0 = omega (arith, ap (λ k. k * w) last, c.loop.invariant.left_len) in
     λ h. c.loop.invariant.tail (ap (λ k. firsts w c.args.times k c.loop.rest.now) none ∙ sym (nil_from_length c.loop.left.now empty))
+
+pub loop-smaller : goal.loop-smaller
+loop-smaller c = let t = c.loop-test.true in omega arith
+
+pub same_bytes-requires : goal.same_bytes-requires
+same_bytes-requires c = tt
+
+pub slice_bounds-same_bytes-end : goal.slice_bounds-same_bytes-end
+slice_bounds-same_bytes-end c =
+    let low = width_within c.args.width c.args.times c.requires.some in
+    sym (length-take-le c.args.width c.split_at.result.0.now (subst (λ n. c.args.width ≤ n) (sym c.split_at.ensures.front_len) low))

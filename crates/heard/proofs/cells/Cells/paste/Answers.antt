@@ -49,3 +49,6 @@ paste_some-done-requires-clause-fits g c =
 pub returns : goal.returns
 returns g c =
     c.loop-done.invariant.is ∙ ap (λ (vs : List (Wrapped _)). pasted c.args.at vs c.args.self.now) (take_all c.loop-done.done c.args.values.now (omega (arith, c.loop-done-test.false)))
+
+pub loop-done-smaller : goal.loop-done-smaller
+loop-done-smaller g c = omega (arith, c.loop-done-test.true, c.paste_some-done.ensures.more)

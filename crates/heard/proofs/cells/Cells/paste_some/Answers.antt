@@ -80,3 +80,10 @@ pub copy_from_slice-requires : goal.copy_from_slice-requires
 copy_from_slice-requires g c =
     let begins : ℕ = c.keep.result + c.args.at % 64 in
     part_long begins c.min-len.result c.deref_mut-2.result.now c.args.values.now (omega (arith, c.min-len.ensures, c.keep.ensures.begins, c.keep.ensures.chunks.fits (c.args.at / 64), ap length c.deref_mut-2.ensures.value)) (omega (arith, c.min-len.ensures))
+
+pub slice_bounds-copy_from_slice-end : goal.slice_bounds-copy_from_slice-end
+slice_bounds-copy_from_slice-end g c = omega (arith, c.min-len.ensures, c.keep.ensures.begins, c.keep.ensures.chunks.fits (c.args.at / 64), ap length c.deref_mut-2.ensures.value)
+
+pub overflow_add-begins-2 : goal.overflow_add-begins-2
+overflow_add-begins-2 g c =
+    omega (arith, c.min-len.ensures, c.keep.ensures.begins, c.keep.ensures.chunks.fits (c.args.at / 64), ap length c.deref_mut-2.ensures.value, c.deref_mut-2.type_inv.0)

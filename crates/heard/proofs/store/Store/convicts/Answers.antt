@@ -1,5 +1,5 @@
 use Rattle.equivocation.specs.ConvictionLaws.{unrelayed}
-use Rattle.std.proofs.Common.{ℕ, ◌≡◌, ◌<◌, ◌+◌, ◌-◌, ◌&&◌, ◌∷◌, [], length, map, take, refl, sym, ap, ap₂, subst, ◌∙◌, arith, ne_eqb}
+use Rattle.std.proofs.Common.{ℕ, ◌≡◌, ◌<◌, ◌+◌, ◌-◌, ◌&&◌, ◌∷◌, [], length, map, take, refl, sym, ap, ap₂, subst, ◌∙◌, arith, ne_eqb, lit<}
 use Rattle.std.specs.Prelude.{if◌then◌else◌}
 use Rattle.std.proofs.lemmas.List.{take_all, length-take-le}
 use Rattle.std.proofs.lemmas.Bool.{or_from}
@@ -152,3 +152,42 @@ without-requires g c = (omega arith, c.self.invariant.me_ok)
 pub returns-then-self-eq0 : goal.returns-then-self-eq0
 returns-then-self-eq0 g c =
     sym (unrelayed g.V.PartialEq.eq _ _ _ c.args.self.now.rounds (sym (ap (λ x. x.rounds) c.self.view_is) ∙ c.if-self-eq0.true))
+
+pub slice_bounds-convict_beside-end : goal.slice_bounds-convict_beside-end
+slice_bounds-convict_beside-end g c =
+    let a = c.args in
+    let k = a.self.now in
+    let v = c.self.view_is in
+    let h : IsStored g.row.N k = subst (IsStored g.row.N) v c.self.invariant in
+    let t = reads g.row.N k h a.c c.requires.other c.without.result c.without-others.result c.index.result.now c.to_read-read.result c.agrees_on.result (c.without.ensures ∙ ap (λ x. without_id x.members x.me) v) c.without-others.ensures c.to_read-read.ensures in
+    omega (arith, c.len-count.ensures.count, t.few, t.fewer, c.loop-k.auto.scratch, c.requires.room)
+
+pub slice_bounds-convict_beside-end-2 : goal.slice_bounds-convict_beside-end-2
+slice_bounds-convict_beside-end-2 g c =
+    let a = c.args in
+    let k = a.self.now in
+    let v = c.self.view_is in
+    let h : IsStored g.row.N k = subst (IsStored g.row.N) v c.self.invariant in
+    let t = reads g.row.N k h a.c c.requires.other c.without.result c.without-others.result c.index.result.now c.to_read-read.result c.agrees_on.result (c.without.ensures ∙ ap (λ x. without_id x.members x.me) v) c.without-others.ensures c.to_read-read.ensures in
+    sym (length-take-le c.len-count.result c.loop-k.scratch (omega (arith, c.len-count.ensures.count, t.few, t.fewer, c.loop-k.auto.scratch, c.requires.room)))
+
+pub overflow_cast-k : goal.overflow_cast-k
+overflow_cast-k g c =
+    let a = c.args in
+    let k = a.self.now in
+    let v = c.self.view_is in
+    let h : IsStored g.row.N k = subst (IsStored g.row.N) v c.self.invariant in
+    let t = reads g.row.N k h a.c c.requires.other c.without.result c.without-others.result c.index.result.now c.to_read-read.result c.agrees_on.result (c.without.ensures ∙ ap (λ x. without_id x.members x.me) v) c.without-others.ensures c.to_read-read.ensures in
+    omega (arith, c.loop-k-test.true, c.len-count.ensures.count, t.few, t.fewer)
+
+pub loop-k-init : goal.loop-k-init
+loop-k-init g c = refl
+
+pub loop-k-smaller : goal.loop-k-smaller
+loop-k-smaller g c = omega (arith, c.loop-k-test.true)
+
+pub heard_of-requires : goal.heard_of-requires
+heard_of-requires g c = lit< tt
+
+pub agrees_on-requires : goal.agrees_on-requires
+agrees_on-requires g c = lit< tt

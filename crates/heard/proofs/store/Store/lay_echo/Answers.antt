@@ -1,4 +1,4 @@
-use Rattle.std.proofs.Common.{ℕ, List, ◌≡◌, ◌<◌, ◌+◌, ◌-◌, length, get_or, set, refl, sym, ap, subst, ◌∙◌, arith}
+use Rattle.std.proofs.Common.{ℕ, List, ◌≡◌, ◌<◌, ◌+◌, ◌-◌, length, get_or, set, refl, sym, ap, subst, ◌∙◌, arith, lit<}
 use Rattle.node_grid.specs.NodeSet.{has_id, with_id, without_id}
 use Rattle.omh_paths.specs.Paths.{paths_of_length, path_at, path_count, IsListed}
 use Rattle.omh_paths.specs.PathLists.{has-of-without}
@@ -116,3 +116,14 @@ returns-clause-laid g c =
     let all : c.loop-k.k ≡ path_count (length (without_id k.members c.args.q)) c.args.r = omega (arith, c.loop-k-test.false, c.loop-k.auto.k-end) in
     subst (λ n. IsLaidUpTo k c.args.r c.args.q n (without_id k.members c.args.q) c.self-2.inside.cells) all
     (subst (IsLaidUpTo k c.args.r c.args.q c.loop-k.k (without_id k.members c.args.q)) (sym (ap (λ x. x.cells) w)) inv.laid)
+
+pub count_paths-k-end-requires-clause-short : goal.count_paths-k-end-requires-clause-short
+count_paths-k-end-requires-clause-short g c =
+    let h : IsStored g.row.N c.args.self.now = subst (IsStored g.row.N) c.self.view_is c.self.invariant in
+    omega (arith, c.requires.round.1, h.rounds_ok)
+
+pub unrank-requires : goal.unrank-requires
+unrank-requires g c =
+    let h : IsStored g.row.N c.args.self.now = subst (IsStored g.row.N) c.self.view_is c.self.invariant in
+    let total : c.count_paths-k-end.result ≡ path_count (length c.without-others.result) c.args.r = c.count_paths-k-end.ensures.product ∙ ap (λ (n : ℕ). path_count n c.args.r) c.len.ensures.count in
+    (lit< tt, (h.capacity_ok, (c.requires.round.0, (omega (arith, c.requires.round.1, h.rounds_ok), omega (arith, c.loop-k-test.true, total)))))

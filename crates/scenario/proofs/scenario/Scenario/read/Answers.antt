@@ -1,10 +1,11 @@
-use Rattle.std.proofs.lemmas.Result.{IfOk-weaker, IfOk-from_err}
+use Rattle.std.proofs.lemmas.Result.{IfOk-weaker, IfOk-from_err, IfErr-at_err}
 use Rattle.serde_json.specs.Data.{Data}
 use Rattle.serde_json.specs.View.{view}
 use Rattle.json_parts.specs.Reading.{Reads}
 use Rattle.scenario.specs.Scenario.{IsScenario}
-use Rattle.scenario.specs.Verdict.{IsAcceptedValue}
+use Rattle.scenario.specs.Verdict.{IsAcceptedValue, Tells, value_refusal}
 use Rattle.scenario.specs.declared.scenario.Scenario.{Scenario}
+use Rattle.scenario.proofs.Passed.{passed_error}
 use Rattle.scenario.proofs.scenario.Scenario.read.Goals as goal
 
 pub returns-in_err-value-clause-accepted : goal.returns-in_err-value-clause-accepted
@@ -22,3 +23,17 @@ returns-clause-accepted g c =
 
 pub returns-clause-system : goal.returns-clause-system
 returns-clause-system g c = c.from_value.ensures.system
+
+pub returns-clause-unreadable : goal.returns-clause-unreadable
+returns-clause-unreadable g c = λ is d reads. IfErr-at_err (Tells (value_refusal g.row.N (view c.in_ok-value.value))) is c.from_value.ensures.refused
+
+pub returns-clause-refused : goal.returns-clause-refused
+returns-clause-refused g c = λ rule place is.
+    (view c.in_ok-value.value, c.in_ok-value.ensures.value, IfErr-at_err (Tells (value_refusal g.row.N (view c.in_ok-value.value))) is c.from_value.ensures.refused)
+
+pub returns-in_err-value-clause-unreadable : goal.returns-in_err-value-clause-unreadable
+returns-in_err-value-clause-unreadable g c = λ is. c.value_of.ensures.unreadable (passed_error c.value_of.result c.from_residual.result _ _ c.in_err-value.was c.from_residual.ensures.1 is)
+
+pub returns-in_err-value-clause-refused : goal.returns-in_err-value-clause-refused
+returns-in_err-value-clause-refused g c = λ rule place is.
+    absurd (c.value_of.ensures.unrefused rule place (passed_error c.value_of.result c.from_residual.result _ _ c.in_err-value.was c.from_residual.ensures.1 is))

@@ -1,0 +1,21 @@
+use Rattle.serde_json.specs.View.{view}
+use Rattle.scenario.specs.Keys.{sensor_names, sensor_fields}
+use Rattle.scenario.specs.Seen.{channel_view}
+use Rattle.scenario.proofs.Unread.{then_by, none_by, keyed, unread}
+use Rattle.scenario.proofs.reading.sensor.Goals as goal
+
+pub returns-in_err-required : goal.returns-in_err-required
+returns-in_err-required c =
+    unread channel_view _ _ c.from_residual.result _ c.from_residual.ensures.1 c.in_err-required.ensures
+    (λ n. keyed sensor_names sensor_fields (view c.args.value.now) c.has_keys.ensures c.if-not-has_keys.false (none_by _ n))
+
+pub returns-in_err-optional : goal.returns-in_err-optional
+returns-in_err-optional c =
+    unread channel_view _ _ c.from_residual-in_err-optional.result _ c.from_residual-in_err-optional.ensures.1 c.in_err-optional.ensures
+    (λ n. keyed sensor_names sensor_fields (view c.args.value.now) c.has_keys.ensures c.if-not-has_keys.false (then_by _ c.in_ok-required.ensures (none_by _ n)))
+
+pub returns-in_err-required_list : goal.returns-in_err-required_list
+returns-in_err-required_list c =
+    unread channel_view _ _ c.from_residual-in_err-required_list.result _ c.from_residual-in_err-required_list.ensures.1 c.in_err-required_list.ensures
+    (λ n. keyed sensor_names sensor_fields (view c.args.value.now) c.has_keys.ensures c.if-not-has_keys.false
+    (then_by _ c.in_ok-required.ensures (then_by _ c.in_ok-optional.ensures (none_by _ n))))
