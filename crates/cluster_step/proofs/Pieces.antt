@@ -10,8 +10,8 @@ use Rattle.fault_classes.specs.Change.{Change}
 use Rattle.fault_classes.specs.Line.{effect_at}
 use Rattle.fault_classes.specs.Plan.{Plan}
 use Rattle.fault_link.specs.Arrival.{delivered_of}
-use Rattle.relaying.specs.Common.{whole_of, whole_from, frame_by}
-use Rattle.relaying.proofs.Wholes.{all_then}
+use Rattle.guessed_frames.specs.Common.{whole_of, whole_from, frame_by}
+use Rattle.guessed_frames.proofs.Wholes.{all_then}
 use Rattle.node_steps.specs.Parts.{NodeView}
 use Rattle.cluster_periods.specs.Slots.{arriving, handed, from_node, handed_from, by_senders, handed_all, IsReady}
 

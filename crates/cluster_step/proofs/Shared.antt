@@ -4,7 +4,7 @@ use Rattle.std.proofs.lemmas.Bool.{cases_eq, cases_lt}
 use Rattle.std.proofs.lemmas.List.{get_or-map, get_or-set_same, get_or-set_other}
 use Rattle.node_grid.specs.NodeSet.{has_id, with_id}
 use Rattle.node_grid.specs.NodeSetLaws.{has-with_id, hasnt-above, IsIdSet-filter}
-use Rattle.relaying.specs.Common.{Common, IsGuessedIn, AreGuessedIn, frame_by}
+use Rattle.guessed_frames.specs.Common.{Common, IsGuessedIn, AreGuessedIn, frame_by}
 use Rattle.node_steps.specs.Parts.{NodeView}
 use Rattle.node_steps.specs.Steps.{frame_of}
 use Rattle.cluster_step.proofs.Cleaning.{other}

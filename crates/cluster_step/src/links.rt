@@ -6,6 +6,7 @@ ghost use Rattle.slot_plan.specs.Slots.{slot_count};
 ghost use Rattle.fault_classes.specs.Line.{effect_at};
 ghost use Rattle.cluster_periods.specs.Slots.{arriving, handed, handed_from, IsReady, Takes};
 
+use cluster_record::LONGEST_FRAME;
 use error_detect::Rooms;
 use fault_classes::FaultPlan;
 use fault_link::{Delivered, deliveries};
@@ -13,9 +14,6 @@ use node_core::Node;
 use node_grid::NoMemory;
 use std::alloc::Global;
 use std::marker::Model;
-
-/// The length of the longest frame that there is: of 16 nodes, with three relay rounds.
-pub const LONGEST_FRAME: usize = 90_104;
 
 /// Frames of so many nodes are short: each node keeps room of its own for them, which costs less than to exchange it.
 const FEW_NODES: u8 = 8;

@@ -15,7 +15,7 @@
 //! |---|---|
 //! | the words are `replay`, `replay trace` or `check`, and the answer is Done | `Calls` in specs/Words |
 //! | the bytes are all bytes of the source, where it tells them | `IsRead` and `IsWhole` in specs/Answers |
-//! | the text that was written is that of a scenario, whose claimed periods keep what is promised | `HasText` in specs/Answers, `IsSafeRun` in specs/Run, `Promises` in cluster_step/specs/Laws |
+//! | the text that was written is that of a scenario, whose claimed periods keep what is promised | `HasText` in specs/Answers, `IsSafeRun` in specs/Run, `Promises` in cluster_periods/specs/Laws |
 //! | accepted scenario: the bytes are JSON text of parts that no rule refuses | `IsAccepted` in specs/Answers; in scenario/specs `Reads` of Reading, `parts_of` of Keys, `refusal` of Rules |
 //! | what the scenario says | `scenario_of` in scenario/specs/Given, `system_of` in scenario/specs/Scenario |
 //! | its run: what all nodes send, hear, settle and keep | `run` in protocol/specs/Run, `view` in protocol/specs/Cluster and View |
@@ -27,7 +27,7 @@
 //! | votes; votes of copies, their group | `VotesClose`, `CopiesClose`, `group_at` there |
 //! | convicts; enough nonfaulty members | `convicts` in equivocation/specs/Conviction; `ConvictsWell` in safety/specs/Convictions |
 //! | clocks; half as far apart | `offsets`, `ClocksNear` in protocol/specs/Clocks |
-//! | the text of the run | `run_text` in specs/Run; `period_record` in cluster_step/specs/Record; run_print/specs PeriodText, NodeText, TraceText |
+//! | the text of the run | `run_text` in specs/Run; `period_record` in cluster_periods/specs/Record; run_text/specs PeriodText, NodeText, TraceText |
 //! | a period's line says `claim yes` exactly where the period is claimed | `told` of `IsSafeRun` in specs/Run |
 //!
 //! For `storm SEED` nothing is read, and all periods of that storm are claimed and safe (`Weathers` in storm/specs/Laws). For

@@ -22,7 +22,7 @@ use Rattle.agreed_state.specs.Body.{body}
 use Rattle.protocol.specs.Arrival.{Form, claim_form, row_form, claims_in, rows_in}
 use Rattle.protocol.specs.Heard.{paths_of}
 use Rattle.protocol.specs.Run.{members_in}
-use Rattle.relaying.specs.Common.{Common, IsGuessedIn, IsSharedBy}
+use Rattle.guessed_frames.specs.Common.{Common, IsGuessedIn, IsSharedBy}
 use Rattle.relaying.specs.Guessed.{IsEchoOf}
 use Rattle.relaying.specs.HearingLaws.{all_at}
 use Rattle.relaying.specs.Relaying.{relays}

@@ -3,7 +3,7 @@ use Rattle.std.proofs.Common.{ℕ, ◌≡◌, List, [], ◌∷◌, refl, ap, sub
 use Rattle.error_detect.specs.Watching.{Watch, delivered}
 use Rattle.error_detect.specs.Multiset.{Arriving, all_delivered}
 use Rattle.relaying.specs.Guessed.{unguessed}
-use Rattle.relaying.proofs.Wholes.{all_kept}
+use Rattle.guessed_frames.proofs.Wholes.{all_kept}
 use Rattle.node_steps.specs.Parts.{NodeView}
 use Rattle.node_steps.specs.Sound.{IsSound}
 use Rattle.node_steps.specs.SoundSteps.{sound_given}

@@ -5,10 +5,6 @@ pub mod Expected
 pub mod Tables
 pub mod Rows
 pub mod Overwriting
-pub mod Marks
-pub mod Steps
-pub mod Copied
-pub mod Sides
 pub mod Guesses
 pub mod Filling
 pub mod Together
@@ -18,12 +14,8 @@ pub mod Standing
 pub mod Blocks
 pub mod BlockRows
 pub mod Convicting
-pub mod Bodies
 pub mod Framing
-pub mod RunParts
-pub mod OwnRuns
 pub mod Roots
 pub mod Tabling
 pub mod OwnPaths
 pub mod CutOut
-pub mod Wholes

@@ -1,8 +1,8 @@
 -- What is passed on where all is as expected: of each member's item runs of one entry.
-use Rattle.std.proofs.Common.{ℕ, zero, suc, ◌≡◌, ◌<◌, ◌≤◌, ◌+◌, ◌-◌, ◌*◌, true, List, [], ◌∷◌, ◌++◌, length, take, drop, get_or, refl, sym, ap, ap₂, ◌∙◌, arith, append_assoc, append-nil}
+use Rattle.std.proofs.Common.{ℕ, zero, suc, ◌≡◌, ◌<◌, ◌≤◌, ◌+◌, ◌-◌, ◌*◌, true, List, [], ◌∷◌, ◌++◌, length, take, get_or, refl, sym, ap, ap₂, ◌∙◌, arith, append-nil}
 use Rattle.std.specs.Prelude.{All}
 use Rattle.std.specs.List.{flat_map}
-use Rattle.std.proofs.lemmas.List.{take_more, take_all, take_at, drop_at, take-append-drop, length-take-le, length-drop, length-map, get_or-map}
+use Rattle.std.proofs.lemmas.List.{take_more, take_all, length-take-le, length-map, get_or-map}
 use Rattle.std.proofs.Math.Nat.{mul_comm}
 use Rattle.std.proofs.lemmas.List.Elements.{All-take}
 use Rattle.std.proofs.lemmas.Grind.{flat_map-append}
@@ -21,27 +21,8 @@ use Rattle.heard.specs.Places.{row_le}
 use Rattle.heard.specs.Passing.{IsAllExpected}
 use Rattle.relaying.specs.Table.{passed_of, root_of, roots_of}
 use Rattle.relaying.proofs.Tables.{length-passed, length_wide}
+use Rattle.guessed_frames.proofs.Expanded.{expanded_more}
 use Rattle.relaying.proofs.Blocks.{block_entry, block_more, same_expected}
-
--- one run more at the end
-pub expanded_more : (w t i : ℕ) (entries x : List ℕ) → length entries ≡ w * i → length x ≡ w → expanded w t (suc i) (entries ++ x) ≡ expanded w t i entries ++ repeated t x
-expanded_more w t zero entries x long wide =
-    let none : entries ≡ [] = nil entries (let z : w * 0 ≡ 0 = omega arith in long ∙ z) in
-    ap (λ (es : List ℕ). expanded w t 1 (es ++ x)) none ∙ append-nil (repeated t (take w x)) ∙ ap (repeated t) (take_all w x (omega (arith, wide)))
-  where
-    nil : (xs : List ℕ) → length xs ≡ 0 → xs ≡ []
-    nil [] e = refl
-    nil (y ∷ ys) e = absurd (omega (arith, e))
-expanded_more w t (suc i) entries x long wide =
-    let e : w * suc i ≡ w + w * i = omega arith in
-    let first : List ℕ = take w entries in
-    let rest : List ℕ = drop w entries in
-    let lf : length first ≡ w = length-take-le w entries (omega (arith, long, e)) in
-    let lr : length rest ≡ w * i = length-drop w entries ∙ (omega (arith, long, e)) in
-    let split : entries ++ x ≡ first ++ (rest ++ x) = ap (λ (es : List ℕ). es ++ x) (sym (take-append-drop w entries)) ∙ append_assoc first rest x in
-    ap₂ (λ (a b : List ℕ). repeated t a ++ expanded w t (suc i) b) (ap (take w) split ∙ take_at first (rest ++ x) w lf) (ap (drop w) split ∙ drop_at first (rest ++ x) w lf)
-    ∙ ap (λ (y : List ℕ). repeated t first ++ y) (expanded_more w t i rest x lr wide)
-    ∙ sym (append_assoc (repeated t first) (expanded w t i rest) (repeated t x))
 
 module _ {V : Type 0} (h : Hearing V) (r t width : ℕ) (s : List ℕ) (spell : Wrapped V → List ℕ) (d : Distinct s) (within : (q : ℕ) → has_id s q ≡ true → has_id h.members q ≡ true) (some : 0 < r) (expected : (n : ℕ) → 0 < n → n ≤ r → IsAllExpected h n) (times : t ≡ path_count (length s - 1) (r - 1)) (whole : length s * t ≡ path_count (length s) r) (paths : 0 < t) (wide : All (λ w. length (spell w) ≡ width) (passed_of h s r)) where
   abbrev value : ℕ → Wrapped V

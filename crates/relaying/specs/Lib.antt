@@ -7,9 +7,5 @@ pub mod Settling
 pub mod Ranged
 pub mod Table
 pub mod Round
-pub mod Comparing
-pub mod Copying
 pub mod Guessed
-pub mod Runs
-pub mod Common
 pub mod Tabled

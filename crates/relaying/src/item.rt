@@ -39,6 +39,7 @@ ghost use Rattle.relaying.specs.Guessed.{PassesOn, CutsOut};
 
 use error_detect::Form;
 use frames::{Body, Cells, Expect, Frame, put_done, put_row};
+use guessed_frames::{CLAIM_RELAY, ROW_RELAY, claim_width, row_width};
 use heard::Value;
 use node_grid::{NO_CLAIM, Row};
 use omh_paths::Wrapped;
@@ -217,12 +218,12 @@ impl<const N: usize> Item<N> for u8 {
     ghost format = { λ e r. claim_format e.tasks r };
 
     fn relay_kind() -> u8 {
-        3
+        CLAIM_RELAY
     }
 
     fn entry_width(nodes: u8) -> usize {
         let _ = nodes;
-        2
+        claim_width()
     }
 
     fn at(cells: &Cells<'_>, nodes: u8, k: usize) -> Wrapped<u8> {
@@ -327,11 +328,11 @@ impl<const N: usize> Item<N> for Row<N> {
     ghost format = { λ e r. relayed_row_format e.version N e.nodes r };
 
     fn relay_kind() -> u8 {
-        6
+        ROW_RELAY
     }
 
     fn entry_width(nodes: u8) -> usize {
-        1 + 2 * nodes as usize
+        row_width(nodes)
     }
 
     fn at(cells: &Cells<'_>, nodes: u8, k: usize) -> Wrapped<Row<N>> {

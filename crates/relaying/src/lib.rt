@@ -2,19 +2,14 @@
 //! settles: once for claims and rows.
 #![tactic(auto)]
 
-mod common;
-mod comparing;
 mod copying;
 mod guessing;
 mod hearing;
 mod item;
-mod runs;
 mod saying;
 mod settling;
 mod writing;
 
-pub use common::{CommonGuess, deliver_whole};
-pub use comparing::is_guessed;
 pub use hearing::hear_round;
 pub use item::Item;
 pub use saying::{guess_round, say_round};

@@ -18,10 +18,11 @@ ghost use Rattle.relaying.specs.Table.{IsRepeatedBy, IsSameBut, IsFilledWith, St
 
 use crate::item::Item;
 use frames::fill_entries;
+use guessed_frames::paths_of_each;
 use heard::Heard;
 use node_grid::NodeSet;
 use omh::outside;
-use omh_paths::{Path, Wrapped, count_paths, unrank};
+use omh_paths::{Path, Wrapped, unrank};
 
 /// What is passed on of a path, where `before` is what is passed on of the path without its last
 /// node.
@@ -59,14 +60,6 @@ fn passed_on<V: Item<N>, const N: usize>(heard: &Heard<V, N>, path: &Path) -> Wr
         value = passed_next(heard, value, &front);
     }
     value
-}
-
-/// Writes bytes from a place on.
-pub(crate) fn paste(out: &mut [u8], at: usize, bytes: &[u8])
-    requires { at + length bytes.now ≤ length out.old }
-    ensures { out.new ≡ pasted at bytes.now out.old }
-{
-    out[at..at + bytes.len()].copy_from_slice(bytes);
 }
 
 /// Whether none of these nodes is on a path.
@@ -253,19 +246,6 @@ pub(crate) fn write_roots<V: Item<N>, const N: usize>(
         let value = root_passed(heard, set.at(i), round);
         V::put(out, nodes, i as usize, &value);
     }
-}
-
-/// How many paths of `round` of a set begin with each of its nodes.
-pub(crate) fn paths_of_each<const N: usize>(set: &NodeSet<N>, round: u8) -> usize
-    requires capacity { IsCapacity N }
-    requires some { 0 < round }
-    requires few { round ≤ 3 }
-    ensures width { result ≡ path_count (length set.now - 1) (round - 1) }
-    ensures whole { length set.now * result ≡ path_count (length set.now) round }
-    ensures small { path_count (length set.now) round ≤ 65536 }
-    ensures ids { IsIdSet N set.now }
-{
-    count_paths(set.len().saturating_sub(1), round - 1)
 }
 
 /// The nodes of a set through which what node `c` told of itself may have come changed, in the relays

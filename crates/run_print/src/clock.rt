@@ -5,7 +5,7 @@ ghost use Rattle.node_grid.specs.Class.{is_sound};
 ghost use Rattle.run_text.specs.ClockText.{sound_numbers, range_of, widened, spread_text, clock_line, clock_text};
 
 use crate::printer::Printer;
-use cluster_step::PeriodRecord;
+use cluster_record::PeriodRecord;
 use node_grid::Class;
 use span_io::Sink;
 

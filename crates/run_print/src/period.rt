@@ -10,7 +10,7 @@ ghost use Rattle.run_text.specs.PeriodText.{budget_text, head_text, recorded_tex
 use crate::WriteFault;
 use crate::common::Common;
 use crate::printer::{LARGE, Printer, SMALL};
-use cluster_step::PeriodRecord;
+use cluster_record::PeriodRecord;
 use fault_classes::{Budget, FaultPlan};
 use node_grid::Class;
 use span_io::Sink;

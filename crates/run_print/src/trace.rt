@@ -13,7 +13,7 @@ ghost use Rattle.run_text.specs.TraceText.{IsPlanOf, bytes_text, start_text, arr
 
 use crate::printer::Printer;
 use arrayvec::ArrayVec;
-use cluster_step::{LONGEST_FRAME, PeriodRecord};
+use cluster_record::{LONGEST_FRAME, PeriodRecord};
 use fault_classes::FaultPlan;
 use fault_link::{Delivered, deliveries};
 use itoa::{Buffer, Integer};

@@ -8,7 +8,7 @@ use Rattle.scenario.specs.Scenario.{ScenarioView, system_of}
 use Rattle.run_text.specs.StormText.{StormView}
 use Rattle.cluster_periods.specs.Record.{PeriodView, without_frames, Shows, period_record}
 use Rattle.cluster_periods.specs.RecordLaws.{shows_rest}
-use Rattle.cluster_step.proofs.Members.{reference_low}
+use Rattle.cluster_record.proofs.Members.{reference_low}
 use Rattle.storm_sum.specs.declared.sums.Sums.{Sums}
 use Rattle.storm_sum.specs.Summary.{how_many, total, state_after, excluded, readmitted, counts_in, claim_at, excluded_at, readmitted_at, state_at, summary_of}
 use Rattle.storm_sum.specs.Summing.{AreSums}

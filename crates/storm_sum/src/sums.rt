@@ -7,7 +7,8 @@ ghost use Rattle.scenario.specs.Scenario.{system_of};
 ghost use Rattle.storm_sum.specs.Summary.{lost, state_after, excluded, readmitted, counts_in};
 ghost use Rattle.storm_sum.specs.Summing.{AreSums};
 
-use cluster_step::{Cluster, PeriodRecord};
+use cluster_record::PeriodRecord;
+use cluster_step::Cluster;
 use node_grid::NodeSet;
 use penalty::Counts;
 

@@ -1,5 +1,5 @@
 use Rattle.std.proofs.Common.{ℕ, ◌-◌, Vec, Global, map, inl, inr, lit<, arith}
-use Rattle.relaying.specs.Common.{frame_by}
+use Rattle.guessed_frames.specs.Common.{frame_by}
 use Rattle.cluster_step.proofs.Pieces.{no_piece}
 use Rattle.cluster_step.proofs.delivering.deliver_piece.Goals as goal
 

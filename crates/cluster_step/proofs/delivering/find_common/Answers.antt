@@ -1,6 +1,6 @@
 use Rattle.std.proofs.Common.{ℕ, ◌≡◌, true, List, map, inl, inr, lit<, sym, subst}
 use Rattle.std.proofs.lemmas.List.Elements.{All-get_or}
-use Rattle.relaying.specs.Common.{Common, AreGuessedIn, frame_by}
+use Rattle.guessed_frames.specs.Common.{Common, AreGuessedIn, frame_by}
 use Rattle.node_steps.specs.Parts.{NodeView}
 use Rattle.node_steps.specs.Steps.{frame_of}
 use Rattle.cluster_step.proofs.Shared.{one_known, told_here}

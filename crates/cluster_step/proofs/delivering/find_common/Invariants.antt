@@ -1,5 +1,5 @@
 use Rattle.std.proofs.Common.{map}
-use Rattle.relaying.specs.Common.{AreGuessedIn, frame_by}
+use Rattle.guessed_frames.specs.Common.{AreGuessedIn, frame_by}
 use Rattle.node_steps.specs.Steps.{frame_of}
 use Rattle.cluster_step.proofs.delivering.find_common.Given as goal
 

@@ -1,5 +1,5 @@
 use Rattle.std.proofs.Common.{ℕ, ◌<◌, List, map, length, sym, subst, arith}
-use Rattle.relaying.specs.Common.{frame_by}
+use Rattle.guessed_frames.specs.Common.{frame_by}
 use Rattle.node_steps.specs.Steps.{frame_of}
 use Rattle.cluster_step.proofs.Shared.{none_known, one_found, all_found}
 use Rattle.cluster_step.proofs.delivering.find_commons.Goals as goal

@@ -1,5 +1,5 @@
 use Rattle.std.proofs.Common.{ℕ, ◌<◌, map, get_or}
-use Rattle.relaying.specs.Common.{Common, AreGuessedIn, frame_by}
+use Rattle.guessed_frames.specs.Common.{Common, AreGuessedIn, frame_by}
 use Rattle.node_steps.specs.Steps.{frame_of}
 use Rattle.cluster_step.proofs.delivering.find_commons.Given as goal
 

@@ -1,6 +1,7 @@
-use Rattle.std.proofs.Common.{◌≡◌, ◌<◌, inl, inr, lit<, sym, ap, subst, ◌∙◌, arith}
+use Rattle.std.proofs.Common.{◌<◌, inl, inr, lit<, sym, subst, ◌∙◌, arith}
 use Rattle.fault_classes.specs.Plan.{Plan, restarts_at}
 use Rattle.cluster_periods.specs.Periods.{IsResting}
+use Rattle.cluster_record.proofs.Planned.{planned_periods}
 use Rattle.cluster_step.proofs.Waking.{woken_shut, begun_is}
 use Rattle.cluster_step.proofs.stepping.Period.begin_node.Goals as goal
 
@@ -16,7 +17,7 @@ wake-requires g c = (
       c.requires.capacity,
       (
         subst (λ (p : Plan). IsResting p c.args.node.now) (sym c.plan.ensures.plan) c.requires.resting,
-        let e : c.plan.result.now.periods ≡ c.args.self.now.scenario.now.periods = ap (λ (p : Plan). p.periods) c.plan.ensures.plan ∙ c.plan.ensures.scenario.plan_periods in omega (arith, e, c.args.self.now.in_run),
+        omega (arith, planned_periods c.plan.ensures.plan c.plan.ensures.scenario, c.args.self.now.in_run),
       ),
     ),
   ),

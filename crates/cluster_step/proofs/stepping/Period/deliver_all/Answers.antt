@@ -1,6 +1,6 @@
 use Rattle.std.proofs.Common.{ℕ, ◌≡◌, ◌-◌, List, map, inl, inr, lit<, ap, ap₂, ◌∙◌, arith}
 use Rattle.agreed_state.specs.declared.config.Config.{Config}
-use Rattle.relaying.specs.Common.{frame_by}
+use Rattle.guessed_frames.specs.Common.{frame_by}
 use Rattle.scenario.specs.Scenario.{ScenarioView}
 use Rattle.cluster_periods.specs.Slots.{by_senders}
 use Rattle.cluster_step.proofs.Pieces.{all_here, ready_still}

@@ -5,8 +5,9 @@ use Rattle.slot_plan.specs.Slots.{slot_count}
 use Rattle.fault_classes.specs.Line.{effect_at}
 use Rattle.fault_classes.specs.Plan.{Plan}
 use Rattle.node_steps.specs.Parts.{NodeView}
-use Rattle.relaying.specs.Common.{frame_by}
+use Rattle.guessed_frames.specs.Common.{frame_by}
 use Rattle.cluster_periods.specs.Slots.{handed_from, by_senders, IsReady}
+use Rattle.cluster_record.proofs.Planned.{planned_periods, planned_rounds, planned_nodes}
 use Rattle.cluster_step.proofs.Pieces.{AreUntouched, none_taken_yet, whole_behind, changed_behind, ready_still, untouched_more}
 use Rattle.cluster_step.proofs.stepping.Period.deliver_senders.Goals as goal
 use Rattle.cluster_step.proofs.stepping.Period.deliver_senders.Goals.{then-is_touched, else-is_touched}
@@ -19,11 +20,10 @@ me-me-requires g c = elim c.requires.capacity [ inl e ↦ rw e (lit< tt) | inr e
 
 pub invariant_of-link : goal.invariant_of-link
 invariant_of-link g c =
-    let plan = c.plan-plan.ensures.plan in
-    let wf = c.plan-plan.ensures.scenario in
-    let periods : c.plan-plan.result.now.periods ≡ c.args.self.now.scenario.now.periods = ap (λ (q : Plan). q.periods) plan ∙ wf.plan_periods in
-    let rounds : c.plan-plan.result.now.rounds ≡ c.args.self.now.scenario.now.config.m = ap (λ (q : Plan). q.rounds) plan ∙ wf.system.plan_rounds in
-    let nodes : c.plan-plan.result.now.nodes ≡ c.args.self.now.scenario.now.config.nodes = ap (λ (q : Plan). q.nodes) plan ∙ wf.system.plan_nodes in
+    let plan = c.plan-plan.ensures in
+    let periods = planned_periods plan.plan plan.scenario in
+    let rounds = planned_rounds plan.plan plan.scenario in
+    let nodes = planned_nodes plan.plan plan.scenario in
     record {
       in_plan = subst (λ (k : ℕ). c.args.self.now.number < k) (sym periods) c.args.self.now.in_run;
       in_period = subst (λ (m : ℕ). c.args.slot < slot_count m) (sym rounds) c.requires.slot;

@@ -1,5 +1,5 @@
 use Rattle.std.proofs.Common.{◌≡◌, ◌≤◌, ◌-◌, map}
-use Rattle.relaying.specs.Common.{frame_by}
+use Rattle.guessed_frames.specs.Common.{frame_by}
 use Rattle.cluster_periods.specs.Slots.{by_senders}
 use Rattle.cluster_step.proofs.Pieces.{AreUntouched}
 use Rattle.cluster_step.proofs.stepping.Period.deliver_senders.Given as goal

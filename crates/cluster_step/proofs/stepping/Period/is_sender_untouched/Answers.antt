@@ -3,6 +3,7 @@ use Rattle.slot_plan.specs.Slots.{slot_count}
 use Rattle.agreed_state.specs.declared.config.Config.{Config}
 use Rattle.fault_classes.specs.Line.{effect_at}
 use Rattle.fault_classes.specs.Plan.{Plan, is_clean}
+use Rattle.cluster_record.proofs.Planned.{planned_periods, planned_rounds, planned_nodes}
 use Rattle.cluster_step.proofs.Cleaning.{clean_at}
 use Rattle.cluster_step.proofs.stepping.Period.is_sender_untouched.Goals as goal
 
@@ -11,9 +12,9 @@ plan-plan-requires g c = elim c.requires.capacity [ inl e ↦ rw e (lit< tt, lit
 
 pub clean-requires : goal.clean-requires
 clean-requires g c =
-    let plan = c.plan-plan.ensures.plan in
-    let periods : c.plan-plan.result.now.periods ≡ c.args.self.now.scenario.now.periods = ap (λ (q : Plan). q.periods) plan ∙ c.plan-plan.ensures.scenario.plan_periods in
-    let nodes : c.plan-plan.result.now.nodes ≡ c.args.self.now.scenario.now.config.nodes = ap (λ (q : Plan). q.nodes) plan ∙ c.plan-plan.ensures.scenario.system.plan_nodes in
+    let plan = c.plan-plan.ensures in
+    let periods = planned_periods plan.plan plan.scenario in
+    let nodes = planned_nodes plan.plan plan.scenario in
     (lit< tt, (subst (λ (k : ℕ). c.args.from < k) (sym nodes) c.requires.from, subst (λ (k : ℕ). c.args.self.now.number < k) (sym periods) c.args.self.now.in_run))
 
 pub config-requires : goal.config-requires
@@ -24,11 +25,10 @@ loop-to-init g c = λ i low ne. absurd (omega (arith, low))
 
 pub effect-requires : goal.effect-requires
 effect-requires g c =
-    let plan = c.plan-plan.ensures.plan in
-    let wf = c.plan-plan.ensures.scenario in
-    let periods : c.plan-plan.result.now.periods ≡ c.args.self.now.scenario.now.periods = ap (λ (q : Plan). q.periods) plan ∙ wf.plan_periods in
-    let rounds : c.plan-plan.result.now.rounds ≡ c.args.self.now.scenario.now.config.m = ap (λ (q : Plan). q.rounds) plan ∙ wf.system.plan_rounds in
-    let nodes : c.plan-plan.result.now.nodes ≡ c.args.self.now.scenario.now.config.nodes = ap (λ (q : Plan). q.nodes) plan ∙ wf.system.plan_nodes in
+    let plan = c.plan-plan.ensures in
+    let periods = planned_periods plan.plan plan.scenario in
+    let rounds = planned_rounds plan.plan plan.scenario in
+    let nodes = planned_nodes plan.plan plan.scenario in
     let low : c.loop-to.to < c.args.self.now.scenario.now.config.nodes = subst (λ (y : Config g.row.N). c.loop-to.to < y.nodes) c.config.ensures.config c.loop-to-test.true in (
       lit< tt,
       (

@@ -1,7 +1,7 @@
 use Rattle.std.proofs.Common.{ℕ, List, [], get_or, inl, inr, lit<, ap, subst, sym, ◌∙◌, arith, ◌<◌, refl}
 use Rattle.std.specs.Prelude.{All, slice_index_or}
 use Rattle.slot_plan.specs.Slots.{slot_count}
-use Rattle.relaying.specs.Common.{Common, AreGuessedIn, frame_by}
+use Rattle.guessed_frames.specs.Common.{Common, AreGuessedIn, frame_by}
 use Rattle.node_steps.specs.Parts.{NodeView}
 use Rattle.scenario.specs.Scenario.{ScenarioView}
 use Rattle.cluster_periods.specs.Slots.{through_slot, IsReady}

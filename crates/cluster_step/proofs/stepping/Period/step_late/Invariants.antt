@@ -1,7 +1,7 @@
 use Rattle.std.proofs.Common.{◌≡◌, ◌≤◌, ◌+◌, ◌-◌}
 use Rattle.cluster_periods.specs.Periods.{slots_from}
 use Rattle.cluster_periods.specs.Record.{PeriodView}
-use Rattle.cluster_step.specs.Filling.{HasShape}
+use Rattle.cluster_record.specs.Filling.{HasShape}
 use Rattle.cluster_step.proofs.stepping.Period.step_late.Given as goal
 
 abbrev pub invariant-loop-slot : goal.invariant-loop-slot

@@ -1,7 +1,7 @@
 use Rattle.std.proofs.Common.{ℕ, List, [], map, inl, inr, lit<, ap, subst, sym, arith}
 use Rattle.std.specs.Prelude.{All, slice_index_or}
 use Rattle.slot_plan.specs.Slots.{slot_count}
-use Rattle.relaying.specs.Common.{Common, AreGuessedIn, frame_by}
+use Rattle.guessed_frames.specs.Common.{Common, AreGuessedIn, frame_by}
 use Rattle.node_steps.specs.Steps.{frame_of}
 use Rattle.cluster_step.proofs.Slotting.{slot_done, open_all, shape_kept, taken_frames}
 use Rattle.cluster_step.proofs.stepping.Period.step_slot.Goals as goal

@@ -2,7 +2,7 @@ use Rattle.std.proofs.Common.{ℕ, ◌+◌, length, ap, subst, sym, ◌∙◌, i
 use Rattle.scenario.specs.Scenario.{system_of}
 use Rattle.cluster_periods.specs.Record.{PeriodView}
 use Rattle.cluster_periods.specs.Periods.{AreNodes}
-use Rattle.cluster_step.proofs.Showing.{many_slots}
+use Rattle.cluster_record.proofs.Showing.{many_slots}
 use Rattle.cluster_step.proofs.Calmed.{alike_by_rows}
 use Rattle.cluster_periods.proofs.Listed.{many_nodes}
 use Rattle.cluster_step.proofs.stepping.Period.take.Goals as goal

@@ -1,6 +1,6 @@
 use Rattle.std.proofs.Common.{ℕ, ◌≤◌, ◌-◌, Vec, Global, List, map, lit<, sym, ap, subst, ◌∙◌}
 use Rattle.error_detect.specs.Multiset.{Arriving, all_delivered}
-use Rattle.relaying.specs.Common.{frame_by, whole_from}
+use Rattle.guessed_frames.specs.Common.{frame_by, whole_from}
 use Rattle.node_steps.specs.Parts.{NodeView}
 use Rattle.node_core.proofs.Wholes.{frames_given, frames_seen}
 use Rattle.node_core.proofs.controller.Controller.deliver_whole.Goals as goal

@@ -1,6 +1,6 @@
 use Rattle.std.proofs.Common.{ℕ, ◌≤◌, ◌-◌, Vec, Global, List, map, inl, inr, sym, ap, subst, ◌∙◌, lit<}
 use Rattle.error_detect.specs.Multiset.{Arriving}
-use Rattle.relaying.specs.Common.{frame_by, whole_from}
+use Rattle.guessed_frames.specs.Common.{frame_by, whole_from}
 use Rattle.node_steps.specs.Parts.{NodeView}
 use Rattle.node_steps.specs.Sound.{IsSound}
 use Rattle.node_steps.specs.Sending.{fixed}

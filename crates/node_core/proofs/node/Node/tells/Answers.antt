@@ -1,5 +1,5 @@
 use Rattle.std.proofs.Common.{◌≡◌, true, inl, inr, lit<, ap, subst, ◌∙◌}
-use Rattle.relaying.specs.Common.{IsGuessedIn}
+use Rattle.guessed_frames.specs.Common.{IsGuessedIn}
 use Rattle.node_steps.specs.Parts.{NodeView}
 use Rattle.node_steps.specs.Steps.{frame_of}
 use Rattle.node_core.proofs.node.Node.tells.Goals as goal

@@ -1,0 +1,33 @@
+use Rattle.std.proofs.Common.{◌≤◌, refl, ◌∙◌, arith, inl, inr, lit<}
+use Rattle.std.proofs.lemmas.List.{length-map}
+use Rattle.agreed_state.specs.ConfigLaws.{few_rounds}
+use Rattle.cluster_record.specs.Buffers.{slot_bytes}
+use Rattle.cluster_record.proofs.record.PeriodRecord.open.Goals as goal
+
+pub longest_frame-room-requires : goal.longest_frame-room-requires
+longest_frame-room-requires g c =
+    let wide : g.row.N ≤ 16 = elim c.requires.capacity [ inl e ↦ omega arith | inr e ↦ omega arith ] in
+    record { nodes = omega (arith, c.requires.config.few_nodes, wide); rounds = few_rounds g.row.N c.args.config.now c.requires.config; fewer = c.requires.config.rounds }
+
+pub no_records-requires : goal.no_records-requires
+no_records-requires g c = (elim c.requires.capacity [ inl e ↦ rw e (lit< tt) | inr e ↦ rw e (lit< tt) ], c.requires.capacity)
+
+pub slot_count-requires : goal.slot_count-requires
+slot_count-requires g c = few_rounds g.row.N c.args.config.now c.requires.config
+
+pub invariant_of-result : goal.invariant_of-result
+invariant_of-result g c = record {
+  capacity = c.requires.capacity;
+  records = c.in-Ok.ensures;
+  slots = c.in-Ok-all_buffers.ensures.0 ∙ c.slot_count.ensures;
+  frames = c.in-Ok-all_buffers.ensures.1;
+  room = c.longest_frame-room.ensures.greatest;
+  short = c.longest_frame-room.ensures.short;
+}
+
+pub returns : goal.returns
+returns g c = record {
+  shape = record { nodes = refl; m = refl; retire = refl; slots = length-map c.in-Ok-all_buffers.sent.items slot_bytes ∙ c.in-Ok-all_buffers.ensures.0 ∙ c.slot_count.ensures };
+  claimed = refl;
+  clocks = refl;
+}

@@ -1,0 +1,26 @@
+use Rattle.std.proofs.Common.{inl, inr, lit<, ap, ◌∙◌, arith}
+use Rattle.node_steps.specs.Parts.{NodeView}
+use Rattle.cluster_record.proofs.Taking.{more_records, all_records}
+use Rattle.cluster_record.proofs.record.filling.take_records.Goals as goal
+
+pub loop-i-init : goal.loop-i-init
+loop-i-init g c = λ k d low. absurd (omega (arith, low))
+
+pub bounds-records-i : goal.bounds-records-i
+bounds-records-i g c = omega (arith, c.loop-i-test.true, c.loop-i.auto.records, c.requires.each)
+
+pub record-requires : goal.record-requires
+record-requires g c = (
+  elim c.requires.capacity [ inl e ↦ rw e (lit< tt) | inr e ↦ rw e (lit< tt) ],
+  (
+    elim c.requires.capacity [ inl e ↦ rw e (lit< tt) | inr e ↦ rw e (lit< tt) ],
+    ap (λ (v : NodeView g.row.N). v.phase.is_open) c.index-nodes-i.is ∙ c.requires.closed c.loop-i.i c.index-nodes-i.result c.loop-i-test.true,
+  ),
+)
+
+pub loop-i-preserved : goal.loop-i-preserved
+loop-i-preserved g c =
+    more_records c.args.nodes.now c.loop-i.records c.loop-i.i c.index-nodes-i.result c.record.result (omega (arith, c.loop-i-test.true, c.loop-i.auto.records, c.requires.each)) c.loop-i-test.true c.index-nodes-i.is c.record.ensures c.loop-i.invariant
+
+pub returns : goal.returns
+returns g c = all_records c.args.nodes.now c.loop-i.records c.loop-i.i (omega (arith, c.loop-i.auto.records, c.requires.each)) (omega (arith, c.loop-i-test.false)) c.loop-i.invariant

@@ -1,0 +1,35 @@
+use Rattle.std.proofs.Common.{◌≡◌, ◌<◌, map, length, get_or, inl, inr, lit<, refl, ap, ◌∙◌, arith}
+use Rattle.std.proofs.lemmas.List.{length-map}
+use Rattle.std.proofs.lemmas.List.Elements.{All-get_or, All-set}
+use Rattle.node_steps.specs.Parts.{NodeView}
+use Rattle.node_steps.specs.Steps.{frame_of}
+use Rattle.cluster_record.specs.Buffers.{IsBuffer}
+use Rattle.cluster_record.proofs.Taking.{bytes_of, at_node, fits, buffer_refilled, more_taken, all_taken}
+use Rattle.cluster_record.proofs.record.taking.say_all.Goals as goal
+
+pub say-requires : goal.say-requires
+say-requires g c =
+    let h : IsBuffer c.args.room (get_or c.loop-i.frames c.loop-i.i c.index-frames-i.result) = All-get_or (IsBuffer c.args.room) c.loop-i.frames c.loop-i.i c.index-frames-i.result
+    (omega (arith, c.loop-i-test.true, c.loop-i.auto.frames, c.requires.each)) c.loop-i.invariant.1 in
+    let s = fits c.args.nodes.now c.loop-i.i c.args.room c.index-nodes-i.result c.index-nodes-i.result.arrived.frame_max c.loop-i-test.true c.index-nodes-i.is (omega arith) c.requires.short in (
+      elim c.requires.capacity [ inl e ↦ rw e (lit< tt) | inr e ↦ rw e (lit< tt) ],
+      (ap (λ (v : NodeView g.row.N). v.phase.is_open) c.index-nodes-i.is ∙ c.requires.open c.loop-i.i c.index-nodes-i.result c.loop-i-test.true, omega (arith, h.roomy, s)),
+    )
+
+pub loop-i-preserved : goal.loop-i-preserved
+loop-i-preserved g c =
+    let there : c.loop-i.i < length c.loop-i.frames = omega (arith, c.loop-i-test.true, c.loop-i.auto.frames, c.requires.each) in
+    let s = fits c.args.nodes.now c.loop-i.i c.args.room c.index-nodes-i.result (length c.say.new.out.items) c.loop-i-test.true c.index-nodes-i.is c.say.ensures.short c.requires.short in (
+      more_taken c.loop-i.frames c.loop-i.i c.say.new.out (map frame_of c.args.nodes.now) there
+          (at_node c.args.nodes.now c.loop-i.i c.index-nodes-i.result c.say.new.out.items c.loop-i-test.true c.index-nodes-i.is c.say.ensures.bytes) c.loop-i.invariant.0,
+      All-set (IsBuffer c.args.room) c.loop-i.frames c.loop-i.i c.say.new.out
+          (buffer_refilled c.args.room (get_or c.loop-i.frames c.loop-i.i c.index-frames-i.result) c.say.new.out c.say.new.out.items (All-get_or (IsBuffer c.args.room) c.loop-i.frames c.loop-i.i c.index-frames-i.result there c.loop-i.invariant.1)
+          c.say.ensures.room refl s) c.loop-i.invariant.1,
+    )
+
+pub returns-clause-bytes : goal.returns-clause-bytes
+returns-clause-bytes g c =
+    let long : length c.loop-i.frames ≡ length c.args.nodes.now = omega (arith, c.loop-i.auto.frames, c.requires.each) in
+    let a : length (map bytes_of c.loop-i.frames) ≡ length c.loop-i.frames = length-map c.loop-i.frames bytes_of in
+    let b : length (map frame_of c.args.nodes.now) ≡ length c.args.nodes.now = length-map c.args.nodes.now frame_of in
+    all_taken (map bytes_of c.loop-i.frames) (map frame_of c.args.nodes.now) c.loop-i.i (omega (arith, a, b, long)) (omega (arith, a, long, c.loop-i-test.false)) c.loop-i.invariant.0

@@ -1,0 +1,4 @@
+pub mod Buffers
+pub mod Shown
+pub mod Clocking
+pub mod Filling

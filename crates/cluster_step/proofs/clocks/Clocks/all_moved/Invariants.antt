@@ -1,6 +1,0 @@
-use Rattle.cluster_step.specs.Clocking.{moved}
-use Rattle.cluster_step.proofs.Written.{AreWritten}
-use Rattle.cluster_step.proofs.clocks.Clocks.all_moved.Given as goal
-
-abbrev pub invariant-loop-i : goal.invariant-loop-i
-invariant-loop-i g l = AreWritten (λ z. Unit {0}) (moved l.self.plan.now l.self.nodes l.self.offset.now l.correction l.self.period) g.row.N l.i l.after

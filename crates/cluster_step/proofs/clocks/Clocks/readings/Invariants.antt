@@ -1,7 +1,0 @@
-use Rattle.clock_skew.specs.Correction.{IsReading}
-use Rattle.cluster_step.specs.Clocking.{read_by}
-use Rattle.cluster_step.proofs.Written.{AreWritten}
-use Rattle.cluster_step.proofs.clocks.Clocks.readings.Given as goal
-
-abbrev pub invariant-loop-j : goal.invariant-loop-j
-invariant-loop-j g l = AreWritten IsReading (read_by l.self.plan.now l.self.nodes l.self.offset.now l.self.period l.i) g.row.N l.j l.readings

@@ -1,0 +1,4 @@
+pub mod Comparing
+pub mod Runs
+pub mod Copying
+pub mod Common
