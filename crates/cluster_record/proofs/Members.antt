@@ -1,6 +1,6 @@
 -- The members that a node's record shows of the start of its period, and how many they can be.
 use Rattle.std.proofs.Common.{ℕ, zero, suc, ◌≡◌, ◌<◌, ◌+◌, Bool, true, false, if◌then◌else◌, List, [], map, refl, ap, ap₂, ◌∙◌, arith, Option, None, Some, sym, subst}
-use Rattle.std.specs.Prelude.{All}
+use Rattle.std.specs.Prelude.{All, slice_get}
 use Rattle.std.specs.List.{range_with_len, find}
 use Rattle.std.proofs.lemmas.Option.{same_Some}
 use Rattle.std.proofs.lemmas.List.Elements.{All-nil}
@@ -14,6 +14,11 @@ use Rattle.protocol.specs.View.{Setting, Kept, Received, adopted_by, through, jo
 use Rattle.protocol.specs.Cluster.{Cluster, begins, view}
 use Rattle.protocol.specs.Run.{System, members_in, run, classes}
 use Rattle.protocol.specs.Safe.{reference, members_from, members_at}
+use denote.Enum.Bare.{sameb}
+use Rattle.node_core.specs.contracts.outcome.Mode.{the_type}
+use Rattle.node_core.specs.declared.outcome.Mode.{Mode}
+use Rattle.node_core.specs.declared.outcome.Mode.TheVariants.{Full, Joining, Cold}
+use Rattle.node_core.specs.Modes.{mode_of}
 use Rattle.node_steps.specs.Outcome.{Outcome}
 use Rattle.node_steps.specs.Stages.{outcome_of}
 use Rattle.scenario.specs.Scenario.{ScenarioView, system_of, IsScenario}
@@ -94,3 +99,21 @@ members_found {N} sc is plan p records o members planned recorded found shown =
       are = are;
       low = subst (λ (n : ℕ). All (λ q. q < n) members) many (subst (All (λ q. q < sc.config.nodes)) (sym are) (members_low sc is p));
     }
+
+-- where there is no record of the reference node, and where there is
+pub shown_without : (records : List Outcome) (reference : Option ℕ) (r : ℕ) → reference ≡ Some r → slice_get records r ≡ None → members_shown records reference ≡ []
+shown_without records reference r e past = ap (members_shown records) e ∙ ap began_with past
+
+pub shown_with : (records : List Outcome) (reference : Option ℕ) (r : ℕ) (o : Outcome) → reference ≡ Some r → slice_get records r ≡ Some o → members_shown records reference ≡ members_by o.mode o.members
+shown_with records reference r o e at = ap (members_shown records) e ∙ ap began_with at
+
+-- a node that is Full had members, and another one none
+pub of_full : (mode : Mode) (members : List ℕ) → sameb the_type mode Full ≡ true → members ≡ members_by (mode_of mode) members
+of_full Full members e = refl
+of_full Joining members e = cc
+of_full Cold members e = cc
+
+pub of_another : (mode : Mode) (members : List ℕ) → sameb the_type mode Full ≡ false → members_by (mode_of mode) members ≡ []
+of_another Full members e = cc
+of_another Joining members e = refl
+of_another Cold members e = refl

@@ -6,6 +6,15 @@ use Rattle.cluster_record.proofs.record.filling.take_records.Goals as goal
 pub loop-i-init : goal.loop-i-init
 loop-i-init g c = λ k d low. absurd (omega (arith, low))
 
+pub offset_bounds-nodes-i : goal.offset_bounds-nodes-i
+offset_bounds-nodes-i g c = omega (arith, c.loop-i-test.true)
+
+pub bounds-nodes-i : goal.bounds-nodes-i
+bounds-nodes-i g c = c.loop-i-test.true
+
+pub loop-i-smaller : goal.loop-i-smaller
+loop-i-smaller g c = omega (arith, c.loop-i-test.true)
+
 pub bounds-records-i : goal.bounds-records-i
 bounds-records-i g c = omega (arith, c.loop-i-test.true, c.loop-i.auto.records, c.requires.each)
 

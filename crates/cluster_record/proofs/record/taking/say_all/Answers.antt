@@ -7,6 +7,24 @@ use Rattle.cluster_record.specs.Buffers.{IsBuffer}
 use Rattle.cluster_record.proofs.Taking.{bytes_of, at_node, fits, buffer_refilled, more_taken, all_taken}
 use Rattle.cluster_record.proofs.record.taking.say_all.Goals as goal
 
+pub offset_bounds-nodes-i : goal.offset_bounds-nodes-i
+offset_bounds-nodes-i g c = omega (arith, c.loop-i-test.true)
+
+pub bounds-nodes-i : goal.bounds-nodes-i
+bounds-nodes-i g c = c.loop-i-test.true
+
+pub bounds-frames-i : goal.bounds-frames-i
+bounds-frames-i g c = omega (arith, c.loop-i-test.true, c.loop-i.auto.frames, c.requires.each)
+
+pub loop-i-init : goal.loop-i-init
+loop-i-init g c = (λ k low. absurd (omega (arith, low)), c.requires.buffers)
+
+pub loop-i-smaller : goal.loop-i-smaller
+loop-i-smaller g c = omega (arith, c.loop-i-test.true)
+
+pub returns-clause-buffers : goal.returns-clause-buffers
+returns-clause-buffers g c = c.loop-i.invariant.1
+
 pub say-requires : goal.say-requires
 say-requires g c =
     let h : IsBuffer c.args.room (get_or c.loop-i.frames c.loop-i.i c.index-frames-i.result) = All-get_or (IsBuffer c.args.room) c.loop-i.frames c.loop-i.i c.index-frames-i.result
