@@ -4,7 +4,7 @@ use Rattle.omh_paths.specs.declared.wrapped.Wrapped.{Wrapped}
 use Rattle.omh_paths.specs.declared.wrapped.Wrapped.TheVariants.{Fault}
 use Rattle.heard.specs.Keep.{pasted}
 use Rattle.heard.proofs.ChunksKept.{length-all}
-use Rattle.heard.proofs.Pasting.{pasted_more, length-pasted}
+use Rattle.heard.proofs.Pasting.{pasted_more, pasted_none, length-pasted}
 use Rattle.heard.proofs.cells.Cells.paste.Goals as goal
 
 pub overflow_add-at : goal.overflow_add-at
@@ -52,3 +52,6 @@ returns g c =
 
 pub loop-done-smaller : goal.loop-done-smaller
 loop-done-smaller g c = omega (arith, c.loop-done-test.true, c.paste_some-done.ensures.more)
+
+pub loop-done-init : goal.loop-done-init
+loop-done-init g c = record { within = omega arith; is = pasted_none c.args.at c.args.self.now }

@@ -1,6 +1,6 @@
 use borrow.Author.Rules.{scaled_fits≤}
 use mathlib.Core.List.{not-mem-nil}
-use Rattle.std.proofs.Common.{ℕ, ◌-◌, ◌*◌, ◌<◌, ◌≡◌, ◌+◌, ◌%◌, ◌/◌, ◌≤◌, ◌++◌, List, length, take, get_or, ap, ap₂, ◌∙◌, arith, sym, subst, drop, length-drop}
+use Rattle.std.proofs.Common.{ℕ, ◌-◌, ◌*◌, ◌≡◌, ◌+◌, ◌%◌, ◌/◌, ◌≤◌, ◌++◌, List, length, take, get_or, ap, ap₂, ◌∙◌, arith, sym, subst, drop, length-drop}
 use Rattle.std.specs.Prelude.{vec_capacity}
 use Rattle.std.proofs.lemmas.List.{length-take-le}
 use Rattle.omh_paths.specs.declared.wrapped.Wrapped.{Wrapped}
