@@ -59,6 +59,14 @@ module _ {V : Type 0} {s k : Parts V} (n : ℕ) (v : s ≡ k) (inv : IsStored n 
   front_is : (front : List ℕ) → (1 < length path → front ≡ take (length path - 1) path) → (len - 1 ≡ 0 → ⊥) → front ≡ take (len - 1) path
   front_is front is more = is (two_of len path count some more) ∙ ap (λ (m : ℕ). take m path) (sym (back_of len path count))
 
+  front_size : (front : List ℕ) → (1 < length path → front ≡ take (length path - 1) path) → (len - 1 ≡ 0 → ⊥) → length front ≡ length path - 1
+  front_size front is more = ap length (is (two_of len path count some more)) ∙ length-take-le (length path - 1) path (omega arith)
+
+  passed_on : (front : List ℕ) → (1 < length path → front ≡ take (length path - 1) path) → (len - 1 ≡ 0 → ⊥) → (q : ℕ) → has_id front q ≡ true → has_id k.members q ≡ true
+  passed_on front is more q on =
+      has-of-without k.members (get_or path (len - 1) 0) q
+      ((front-listed k.members path (len - 1) (omega (arith, long)) distinct within).within q (ap (λ (xs : List ℕ). has_id xs q) (sym (front_is front is more)) ∙ on))
+
   seat : len ≤ 4 → (q : ℕ) → q ≡ get_or path (len - 1) 0 → IsSeat s.nodes (len - 1) q
   seat few q at = record {
     nodes = omega (arith, nodes_few n k h, ap (λ (p : Parts V). p.nodes) v);
@@ -160,16 +168,8 @@ returns-then-has-clause-is g t c =
 
 pub relayed-requires : goal.relayed-requires
 relayed-requires g t c κs within =
-    let s = c.self.inside in
-    let k = c.args.self.now in
-    let v = c.self.view_is in
-    let h : IsStored g.row.N k = subst (IsStored g.row.N) v c.self.invariant in
-    let long : length c.args.path.now ≡ c.len-r.result - 1 + 1 = long_of c.len-r.result c.args.path.now c.len-r.ensures.count c.len-r.ensures.some in
-    let fl : length c.args.path.now - 1 ≡ c.len-r.result - 1 = sym (back_of c.len-r.result c.args.path.now c.len-r.ensures.count) in
-    let front = (c.front_of.ensures (two_of c.len-r.result c.args.path.now c.len-r.ensures.count c.len-r.ensures.some c.if-r-eq0.false)) in
-    let listed = front-listed k.members c.args.path.now (c.len-r.result - 1) (omega arith) c.len-r.ensures.distinct c.requires.within in
-    let size : length c.front_of.result ≡ length c.args.path.now - 1 = ap length front ∙ length-take-le (length c.args.path.now - 1) c.args.path.now (omega arith) in (
-      omega (arith, size),
+    let size = front_size g.row.N c.self.view_is c.self.invariant c.args.path.now c.len-r.result c.len-r.ensures.count c.len-r.ensures.some c.len-r.ensures.distinct c.requires.within c.requires.short c.front_of.result c.front_of.ensures c.if-r-eq0.false in (
+      omega (arith, size, c.len-r.ensures.count, c.len-r.ensures.some),
       (
         search rules,
         (
@@ -177,7 +177,8 @@ relayed-requires g t c κs within =
           (
             omega arith,
             record {
-              within = λ q on. has-of-without k.members (get_or c.args.path.now (c.len-r.result - 1) 0) q (listed.within q (ap (λ xs. has_id xs q) (sym (front ∙ ap (λ (n : ℕ). take n c.args.path.now) fl)) ∙ on));
+              within = passed_on g.row.N c.self.view_is c.self.invariant c.args.path.now c.len-r.result c.len-r.ensures.count c.len-r.ensures.some c.len-r.ensures.distinct c.requires.within c.requires.short
+                  c.front_of.result c.front_of.ensures c.if-r-eq0.false;
               short = omega (arith, size, c.requires.short);
             },
           ),
@@ -246,14 +247,12 @@ returns-then-not-has-clause-small g t c = none_small (2 + length c.args.path.now
 
 pub wrap-requires : goal.wrap-requires
 wrap-requires g t c =
-    let front = c.front_of.ensures (two_of c.len-r.result c.args.path.now c.len-r.ensures.count c.len-r.ensures.some c.if-r-eq0.false) in
-    let size : length c.front_of.result ≡ length c.args.path.now - 1 = ap length front ∙ length-take-le (length c.args.path.now - 1) c.args.path.now (omega arith) in
+    let size = front_size g.row.N c.self.view_is c.self.invariant c.args.path.now c.len-r.result c.len-r.ensures.count c.len-r.ensures.some c.len-r.ensures.distinct c.requires.within c.requires.short c.front_of.result c.front_of.ensures c.if-r-eq0.false in
     low_fault (2 + length c.front_of.result) c.relayed.result (omega (arith, size, c.len-r.ensures.count, c.len-r.ensures.few)) c.relayed.ensures.small
 
 pub returns-then-has-2-clause-small : goal.returns-then-has-2-clause-small
 returns-then-has-2-clause-small g t c =
-    let front = c.front_of.ensures (two_of c.len-r.result c.args.path.now c.len-r.ensures.count c.len-r.ensures.some c.if-r-eq0.false) in
-    let size : length c.front_of.result ≡ length c.args.path.now - 1 = ap length front ∙ length-take-le (length c.args.path.now - 1) c.args.path.now (omega arith) in
+    let size = front_size g.row.N c.self.view_is c.self.invariant c.args.path.now c.len-r.result c.len-r.ensures.count c.len-r.ensures.some c.len-r.ensures.distinct c.requires.within c.requires.short c.front_of.result c.front_of.ensures c.if-r-eq0.false in
     subst (IsSmall (2 + length c.args.path.now)) (sym c.wrap.ensures)
     (small_wrapped (2 + length c.front_of.result) (2 + length c.args.path.now) c.relayed.result (omega (arith, size, c.len-r.ensures.count, c.len-r.ensures.some)) c.relayed.ensures.small)
 
