@@ -1,5 +1,5 @@
 use Rattle.equivocation.specs.ConvictionLaws.{unrelayed}
-use Rattle.std.proofs.Common.{ℕ, ◌≡◌, ◌<◌, ◌+◌, ◌-◌, ◌&&◌, ◌∷◌, [], length, map, take, refl, sym, ap, ap₂, subst, ◌∙◌, arith, ne_eqb, lit<}
+use Rattle.std.proofs.Common.{ℕ, Bool, true, List, ◌≡◌, ◌<◌, ◌+◌, ◌-◌, ◌&&◌, ◌∷◌, [], length, map, take, refl, sym, ap, ap₂, subst, ◌∙◌, arith, ne_eqb, lit<}
 use Rattle.std.specs.Prelude.{if◌then◌else◌}
 use Rattle.std.proofs.lemmas.List.{take_all, length-take-le}
 use Rattle.std.proofs.lemmas.Bool.{or_from}
@@ -7,12 +7,17 @@ use Rattle.node_grid.specs.NodeSet.{has_id, without_id, minus_of}
 use Rattle.node_grid.specs.Count.{bit}
 use Rattle.node_grid.specs.ListLaws.{bit_le}
 use Rattle.equivocation.specs.Conviction.{is_convicted, is_convicted_beside}
-use Rattle.heard.specs.Keep.{IsStored, kept, set_at}
+use Rattle.heard.specs.Keep.{Parts, IsStored, kept, set_at}
 use Rattle.heard.proofs.Readings.{other_member, member_in, set_read, kept_root}
 use Rattle.heard.proofs.Folds.{terms_more}
-use Rattle.heard.proofs.Convictions.{IsFewer, reads, read_fewer, convicts_fewer, read_at, off_root, path_is, two_within, not_wrapped_out}
+use Rattle.heard.proofs.Convictions.{IsFewer, IsReadOf, reads, read_fewer, convicts_fewer, read_at, off_root, path_is, two_within, not_wrapped_out}
 use Rattle.heard.proofs.store.Store.convicts.Goals.{then-self, else-self}
 use Rattle.heard.proofs.store.Store.convicts.Goals as goal
+
+reads_of : {V : Type 0} {s k : Parts V} (n : ℕ) → s ≡ k → IsStored n s → (c : ℕ) → has_id (without_id k.members k.me) c ≡ true → (without others clean read : List ℕ) (b : Bool) → without ≡ without_id s.members s.me
+    → others ≡ without_id without c → read ≡ (if b then minus_of others clean else others) → IsReadOf k c others read
+reads_of {V} {s} {k} n v inv c on without others clean read b w o r =
+    reads n k (subst (IsStored n) v inv) c on without others clean read b (w ∙ ap (λ (p : Parts V). without_id p.members p.me) v) o r
 
 pub without-others-requires : goal.without-others-requires
 without-others-requires g c =
@@ -24,12 +29,9 @@ pub then-requires-clause-off : goal.then-requires-clause-off
 then-requires-clause-off g c =
     let a = c.args in
     let k = a.self.now in
-    let v = c.self.view_is in
-    let h : IsStored g.row.N k = subst (IsStored g.row.N) v c.self.invariant in
-    let t = reads g.row.N k h a.c c.requires.other c.without.result c.without-others.result c.index.result.now c.to_read-read.result c.agrees_on.result (c.without.ensures ∙ ap (λ x. without_id x.members x.me) v) c.without-others.ensures c.to_read-read.ensures in
+    let t = reads_of g.row.N c.self.view_is c.self.invariant a.c c.requires.other c.without.result c.without-others.result c.index.result.now c.to_read-read.result c.agrees_on.result c.without.ensures c.without-others.ensures c.to_read-read.ensures in
     let here : c.loop-k.k < length c.to_read-read.result = omega (arith, c.loop-k-test.true, c.len-count.ensures.count) in
     let out = read_at k.members c.without-others.result c.index.result.now c.to_read-read.result c.agrees_on.result a.c k.me c.loop-k.k c.at-q.result t.others_are c.to_read-read.ensures here c.at-q.ensures in
-    let room : c.loop-k.k < length c.loop-k.scratch = omega (arith, c.len-count.ensures.count, t.few, t.fewer, c.loop-k-test.true, c.loop-k.auto.scratch, c.requires.room) in
     off_root a.c c.at-q.result c.root.result c.root.ensures out.1.0
 
 pub at-relay-requires : goal.at-relay-requires
@@ -37,11 +39,9 @@ at-relay-requires g c =
     let a = c.args in
     let k = a.self.now in
     let v = c.self.view_is in
-    let h : IsStored g.row.N k = subst (IsStored g.row.N) v c.self.invariant in
-    let t = reads g.row.N k h a.c c.requires.other c.without.result c.without-others.result c.index.result.now c.to_read-read.result c.agrees_on.result (c.without.ensures ∙ ap (λ x. without_id x.members x.me) v) c.without-others.ensures c.to_read-read.ensures in
+    let t = reads_of g.row.N c.self.view_is c.self.invariant a.c c.requires.other c.without.result c.without-others.result c.index.result.now c.to_read-read.result c.agrees_on.result c.without.ensures c.without-others.ensures c.to_read-read.ensures in
     let here : c.loop-k.k < length c.to_read-read.result = omega (arith, c.loop-k-test.true, c.len-count.ensures.count) in
     let out = read_at k.members c.without-others.result c.index.result.now c.to_read-read.result c.agrees_on.result a.c k.me c.loop-k.k c.at-q.result t.others_are c.to_read-read.ensures here c.at-q.ensures in
-    let room : c.loop-k.k < length c.loop-k.scratch = omega (arith, c.len-count.ensures.count, t.few, t.fewer, c.loop-k-test.true, c.loop-k.auto.scratch, c.requires.room) in
     let path = path_is a.c c.at-q.result c.root.result c.then.result c.root.ensures c.then.ensures in (
       omega arith,
       record {
@@ -55,9 +55,7 @@ pub loop-k-preserved : goal.loop-k-preserved
 loop-k-preserved g c =
     let a = c.args in
     let k = a.self.now in
-    let v = c.self.view_is in
-    let h : IsStored g.row.N k = subst (IsStored g.row.N) v c.self.invariant in
-    let t = reads g.row.N k h a.c c.requires.other c.without.result c.without-others.result c.index.result.now c.to_read-read.result c.agrees_on.result (c.without.ensures ∙ ap (λ x. without_id x.members x.me) v) c.without-others.ensures c.to_read-read.ensures in
+    let t = reads_of g.row.N c.self.view_is c.self.invariant a.c c.requires.other c.without.result c.without-others.result c.index.result.now c.to_read-read.result c.agrees_on.result c.without.ensures c.without-others.ensures c.to_read-read.ensures in
     let here : c.loop-k.k < length c.to_read-read.result = omega (arith, c.loop-k-test.true, c.len-count.ensures.count) in
     let room : c.loop-k.k < length c.loop-k.scratch = omega (arith, c.len-count.ensures.count, t.few, t.fewer, c.loop-k-test.true, c.loop-k.auto.scratch, c.requires.room) in
     let path = path_is a.c c.at-q.result c.root.result c.then.result c.root.ensures c.then.ensures in
@@ -72,19 +70,13 @@ convict_beside-requires-clause-own g c =
 pub convict_beside-requires-clause-few : goal.convict_beside-requires-clause-few
 convict_beside-requires-clause-few g c =
     let a = c.args in
-    let k = a.self.now in
-    let v = c.self.view_is in
-    let h : IsStored g.row.N k = subst (IsStored g.row.N) v c.self.invariant in
-    let t = reads g.row.N k h a.c c.requires.other c.without.result c.without-others.result c.index.result.now c.to_read-read.result c.agrees_on.result (c.without.ensures ∙ ap (λ x. without_id x.members x.me) v) c.without-others.ensures c.to_read-read.ensures in
+    let t = reads_of g.row.N c.self.view_is c.self.invariant a.c c.requires.other c.without.result c.without-others.result c.index.result.now c.to_read-read.result c.agrees_on.result c.without.ensures c.without-others.ensures c.to_read-read.ensures in
     omega (arith, length-take-le c.len-count.result c.loop-k.scratch (omega (arith, c.len-count.ensures.count, t.few, t.fewer, c.loop-k.auto.scratch, c.requires.room)), c.len-count.ensures.count, t.few, t.fewer)
 
 pub convict_beside-requires-clause-besides : goal.convict_beside-requires-clause-besides
 convict_beside-requires-clause-besides g c =
     let a = c.args in
-    let k = a.self.now in
-    let v = c.self.view_is in
-    let h : IsStored g.row.N k = subst (IsStored g.row.N) v c.self.invariant in
-    let t = reads g.row.N k h a.c c.requires.other c.without.result c.without-others.result c.index.result.now c.to_read-read.result c.agrees_on.result (c.without.ensures ∙ ap (λ x. without_id x.members x.me) v) c.without-others.ensures c.to_read-read.ensures in
+    let t = reads_of g.row.N c.self.view_is c.self.invariant a.c c.requires.other c.without.result c.without-others.result c.index.result.now c.to_read-read.result c.agrees_on.result c.without.ensures c.without-others.ensures c.to_read-read.ensures in
     omega (arith, t.few, c.len.ensures.count, bit_le c.if-self.counted)
 
 pub returns : goal.returns
@@ -94,7 +86,7 @@ returns g c =
     let k = a.self.now in
     let v = c.self.view_is in
     let h : IsStored g.row.N k = subst (IsStored g.row.N) v c.self.invariant in
-    let t = reads g.row.N k h a.c c.requires.other c.without.result c.without-others.result c.index.result.now c.to_read-read.result c.agrees_on.result (c.without.ensures ∙ ap (λ x. without_id x.members x.me) v) c.without-others.ensures c.to_read-read.ensures in
+    let t = reads_of g.row.N c.self.view_is c.self.invariant a.c c.requires.other c.without.result c.without-others.result c.index.result.now c.to_read-read.result c.agrees_on.result c.without.ensures c.without-others.ensures c.to_read-read.ensures in
     let f = λ (q : ℕ). kept k (a.c ∷ q ∷ []) in
     let as_expected_is : c.index.result.now ≡ set_at k.as_expected 1 = set_read s.as_expected.items 1 c.index.result.now (omega (arith, h.as_expected_ok, ap (λ x. length x.as_expected) v)) c.index.ensures ∙ ap (λ x. set_at x.as_expected 1) v in
     let own_is : c.heard_of.result ≡ kept k (a.c ∷ []) = c.heard_of.ensures.heard c.requires.other ∙ sym (kept_root k (a.c ∷ []) (omega arith)) in
@@ -119,19 +111,13 @@ returns g c =
 pub overflow_sub-agreeing : goal.overflow_sub-agreeing
 overflow_sub-agreeing g c =
     let a = c.args in
-    let k = a.self.now in
-    let v = c.self.view_is in
-    let h : IsStored g.row.N k = subst (IsStored g.row.N) v c.self.invariant in
-    let t = reads g.row.N k h a.c c.requires.other c.without.result c.without-others.result c.index.result.now c.to_read-read.result c.agrees_on.result (c.without.ensures ∙ ap (λ x. without_id x.members x.me) v) c.without-others.ensures c.to_read-read.ensures in
+    let t = reads_of g.row.N c.self.view_is c.self.invariant a.c c.requires.other c.without.result c.without-others.result c.index.result.now c.to_read-read.result c.agrees_on.result c.without.ensures c.without-others.ensures c.to_read-read.ensures in
     omega (arith, c.len-count.ensures.count, c.len.ensures.count, t.fewer)
 
 pub overflow_add-agreeing : goal.overflow_add-agreeing
 overflow_add-agreeing g c =
     let a = c.args in
-    let k = a.self.now in
-    let v = c.self.view_is in
-    let h : IsStored g.row.N k = subst (IsStored g.row.N) v c.self.invariant in
-    let t = reads g.row.N k h a.c c.requires.other c.without.result c.without-others.result c.index.result.now c.to_read-read.result c.agrees_on.result (c.without.ensures ∙ ap (λ x. without_id x.members x.me) v) c.without-others.ensures c.to_read-read.ensures in
+    let t = reads_of g.row.N c.self.view_is c.self.invariant a.c c.requires.other c.without.result c.without-others.result c.index.result.now c.to_read-read.result c.agrees_on.result c.without.ensures c.without-others.ensures c.to_read-read.ensures in
     omega (arith, t.few, c.len.ensures.count, bit_le c.if-self.counted)
 
 pub at-q-requires : goal.at-q-requires
@@ -156,28 +142,19 @@ returns-then-self-eq0 g c =
 pub slice_bounds-convict_beside-end : goal.slice_bounds-convict_beside-end
 slice_bounds-convict_beside-end g c =
     let a = c.args in
-    let k = a.self.now in
-    let v = c.self.view_is in
-    let h : IsStored g.row.N k = subst (IsStored g.row.N) v c.self.invariant in
-    let t = reads g.row.N k h a.c c.requires.other c.without.result c.without-others.result c.index.result.now c.to_read-read.result c.agrees_on.result (c.without.ensures ∙ ap (λ x. without_id x.members x.me) v) c.without-others.ensures c.to_read-read.ensures in
+    let t = reads_of g.row.N c.self.view_is c.self.invariant a.c c.requires.other c.without.result c.without-others.result c.index.result.now c.to_read-read.result c.agrees_on.result c.without.ensures c.without-others.ensures c.to_read-read.ensures in
     omega (arith, c.len-count.ensures.count, t.few, t.fewer, c.loop-k.auto.scratch, c.requires.room)
 
 pub slice_bounds-convict_beside-end-2 : goal.slice_bounds-convict_beside-end-2
 slice_bounds-convict_beside-end-2 g c =
     let a = c.args in
-    let k = a.self.now in
-    let v = c.self.view_is in
-    let h : IsStored g.row.N k = subst (IsStored g.row.N) v c.self.invariant in
-    let t = reads g.row.N k h a.c c.requires.other c.without.result c.without-others.result c.index.result.now c.to_read-read.result c.agrees_on.result (c.without.ensures ∙ ap (λ x. without_id x.members x.me) v) c.without-others.ensures c.to_read-read.ensures in
+    let t = reads_of g.row.N c.self.view_is c.self.invariant a.c c.requires.other c.without.result c.without-others.result c.index.result.now c.to_read-read.result c.agrees_on.result c.without.ensures c.without-others.ensures c.to_read-read.ensures in
     sym (length-take-le c.len-count.result c.loop-k.scratch (omega (arith, c.len-count.ensures.count, t.few, t.fewer, c.loop-k.auto.scratch, c.requires.room)))
 
 pub overflow_cast-k : goal.overflow_cast-k
 overflow_cast-k g c =
     let a = c.args in
-    let k = a.self.now in
-    let v = c.self.view_is in
-    let h : IsStored g.row.N k = subst (IsStored g.row.N) v c.self.invariant in
-    let t = reads g.row.N k h a.c c.requires.other c.without.result c.without-others.result c.index.result.now c.to_read-read.result c.agrees_on.result (c.without.ensures ∙ ap (λ x. without_id x.members x.me) v) c.without-others.ensures c.to_read-read.ensures in
+    let t = reads_of g.row.N c.self.view_is c.self.invariant a.c c.requires.other c.without.result c.without-others.result c.index.result.now c.to_read-read.result c.agrees_on.result c.without.ensures c.without-others.ensures c.to_read-read.ensures in
     omega (arith, c.loop-k-test.true, c.len-count.ensures.count, t.few, t.fewer)
 
 pub loop-k-init : goal.loop-k-init
