@@ -1,4 +1,4 @@
-use Rattle.std.proofs.Common.{ℕ, List, ◌≡◌, ◌<◌, ◌+◌, ◌-◌, length, get_or, set, refl, sym, ap, subst, ◌∙◌, arith, lit<}
+use Rattle.std.proofs.Common.{ℕ, List, ◌≡◌, ◌<◌, ◌+◌, ◌-◌, ◌++◌, length, get_or, set, take, drop, refl, sym, ap, subst, ◌∙◌, arith, lit<}
 use Rattle.node_grid.specs.NodeSet.{has_id, with_id, without_id}
 use Rattle.omh_paths.specs.Paths.{paths_of_length, path_at, path_count, IsListed}
 use Rattle.omh_paths.specs.PathLists.{has-of-without}
@@ -6,10 +6,22 @@ use Rattle.omh_paths.specs.MemberLaws.{few_ids}
 use Rattle.omh_paths.specs.declared.wrapped.Wrapped.{Wrapped}
 use Rattle.heard.specs.Keep.{Parts, IsStored, IsSmall, relayed, frame_at, set_at}
 use Rattle.heard.specs.Laid.{IsLaidUpTo}
+use Rattle.heard.specs.Shown.{parts_of}
+use Rattle.heard.proofs.Alike.{changed_stored}
+use Rattle.heard.proofs.EchoesRead.{low_fault}
 use Rattle.heard.proofs.Readings.{small_wrapped}
 use Rattle.heard.proofs.LayingOut.{laid_none, laid_more, path_real, others_many, laid_written}
 use Rattle.heard.proofs.Methods.{written}
 use Rattle.heard.proofs.store.Store.lay_echo.Goals as goal
+
+long_written : {X : Type 0} (was seen new : List X) (n : ℕ) → n ≡ length was → seen ≡ was → length new ≡ length seen → length (take n (new ++ drop (length new) was)) ≡ length was
+long_written was seen new n len s e = ap length (written was seen new n len s e) ∙ e ∙ ap length s
+
+kept_sets : {V : Type 0} (n : ℕ) (p : Parts V) → IsStored n p → (echoes in_cells : List (List ℕ)) → length echoes ≡ length p.echoes → length in_cells ≡ length p.in_cells → IsStored n (record p { echoes = echoes; in_cells = in_cells })
+kept_sets n p h echoes in_cells a b = changed_stored n p h p.as_expected echoes in_cells p.cells p.expected refl a b refl h.small refl h.small_expected h.alike_ok
+
+less_left : (n i : ℕ) → i < n → n - (i + 1) < n - i
+less_left n i low = omega arith
 
 pub count_paths-k-end-requires-clause-nodes : goal.count_paths-k-end-requires-clause-nodes
 count_paths-k-end-requires-clause-nodes g c =
@@ -127,3 +139,26 @@ unrank-requires g c =
     let h : IsStored g.row.N c.args.self.now = subst (IsStored g.row.N) c.self.view_is c.self.invariant in
     let total : c.count_paths-k-end.result ≡ path_count (length c.without-others.result) c.args.r = c.count_paths-k-end.ensures.product ∙ ap (λ (n : ℕ). path_count n c.args.r) c.len.ensures.count in
     (lit< tt, (h.capacity_ok, (c.requires.round.0, (omega (arith, c.requires.round.1, h.rounds_ok), omega (arith, c.loop-k-test.true, total)))))
+
+pub invariant_of-self : goal.invariant_of-self
+invariant_of-self g c =
+    let u = c.self-2.inside in
+    kept_sets g.row.N (parts_of u) c.self-2.invariant _ _
+    (long_written u.echoes.items c.as_mut_slice.result.now c.cut_node.new.sets u.echoes.len u.echoes.ok.0 c.as_mut_slice.ensures.value c.cut_node.auto.sets)
+    (long_written u.in_cells.items c.as_mut_slice-2.result.now c.put_node.new.sets u.in_cells.len u.in_cells.ok.0 c.as_mut_slice-2.ensures.value c.put_node.auto.sets)
+
+pub wrap-value-requires : goal.wrap-value-requires
+wrap-value-requires g c =
+    low_fault (2 + length c.unrank.result) c.relayed.result (omega (arith, c.unrank.ensures.long, c.requires.round.1, c.self.invariant.rounds_ok, ap (λ (x : Parts _). x.rounds) c.self.view_is)) c.relayed.ensures.small
+
+pub loop-k-smaller : goal.loop-k-smaller
+loop-k-smaller g c = less_left _ _ c.loop-k-test.true
+
+pub len-requires : goal.len-requires
+len-requires g c = lit< tt
+
+pub cut_node-requires : goal.cut_node-requires
+cut_node-requires g c = lit< tt
+
+pub put_node-requires : goal.put_node-requires
+put_node-requires g c = lit< tt
