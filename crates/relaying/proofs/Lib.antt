@@ -19,3 +19,4 @@ pub mod Roots
 pub mod Tabling
 pub mod OwnPaths
 pub mod CutOut
+pub mod Settled

@@ -1,4 +1,6 @@
-use Rattle.std.proofs.Common.{ℕ, ◌≡◌, ◌==◌, ◌&&◌, not, refl, sym, ap, ◌∙◌, arith}
+use Rattle.std.proofs.Common.{ℕ, ◌≡◌, ◌==◌, ◌&&◌, not, refl, sym, ap, ◌∙◌, arith, lit<}
+use Rattle.node_grid.specs.Capacity.{IsCapacity}
+use Rattle.node_grid.specs.CapacityLaws.{capacity-le}
 use Rattle.node_grid.specs.NodeSet.{with_id}
 use Rattle.node_grid.specs.NodeSetLaws.{ids_where_none, ids_where_all, ids_where_more_yes, ids_where_more_no}
 use Rattle.omh.specs.Heard.{Hearing, ear_of}
@@ -39,3 +41,27 @@ loop-node-preserved g c =
             w.guilty-is ∙ c.loop-node.invariant.so_far ∙ sym (ids_where_more_no (F h) g.row.N n (sym told ∙ w.if-convicts.false))
       ];
     }
+
+pub convicts_nobody-requires : goal.convicts_nobody-requires
+convicts_nobody-requires g c = assumption
+
+pub convicts-requires : goal.convicts-requires
+convicts-requires g c = assumption
+
+pub empty-guilty-requires : goal.empty-guilty-requires
+empty-guilty-requires g c = (lit< tt, capacity-le g.row.N c.requires.capacity)
+
+pub put-requires : goal.put-requires
+put-requires g c = (lit< tt, c.loop-node-test.true)
+
+pub overflow_cast-node-end : goal.overflow_cast-node-end
+overflow_cast-node-end g c = let cap : IsCapacity g.row.N = c.requires.capacity in omega arith
+
+pub loop-node-smaller : goal.loop-node-smaller
+loop-node-smaller g c = let t = c.loop-node-test.true in omega arith
+
+pub returns-clause-kept : goal.returns-clause-kept
+returns-clause-kept g c = c.loop-node.invariant.same
+
+pub returns-then-convicts_nobody-clause-kept : goal.returns-then-convicts_nobody-clause-kept
+returns-then-convicts_nobody-clause-kept g c = refl
