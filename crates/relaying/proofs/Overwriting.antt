@@ -116,10 +116,14 @@ entry_wide w spell f (x ∷ s) wide c on = elim (cases_Bool (x == c)) [
   | inr n ↦ entry_wide w spell f s (All-tail (λ x. length (spell x) ≡ w) (f x) (map f s) wide) c (ap (λ (b : Bool). b || has_id s c) (sym n) ∙ on)
 ]
 
+-- and is one of those of the row
+pub place_low : (n : ℕ) (s : List ℕ) (q place : ℕ) → IsIdSet n s → has_id s q ≡ true → place ≡ place_of s q → place < length s
+place_low n s q place ids on is = let i = index_in-lt s q on in let e = place-index n s q ids on in omega (arith, i, e, is)
+
 -- there is room for it
 pub row_room : (n w : ℕ) (s : List ℕ) (q place from size : ℕ) → IsIdSet n s → has_id s q ≡ true → place ≡ place_of s q → w * (from + length s) ≤ size → w * (from + place) + w ≤ size
 row_room n w s q place from size ids on is fits =
-    let low : place < length s = (let i = index_in-lt s q on in let e = place-index n s q ids on in omega (arith, i, e, is)) in
+    let low = place_low n s q place ids on is in
     let m : w * (from + place + 1) ≤ w * (from + length s) = mul-le-mul_left w (omega (arith, low)) in
     let g : w * (from + place + 1) ≡ w * (from + place) + w = grind arith in
     omega (arith, fits, m, g)

@@ -1,4 +1,4 @@
-use Rattle.std.proofs.Common.{ℕ, List, ◌≡◌, true, sym, ap, subst, ◌∙◌, arith, inl, inr}
+use Rattle.std.proofs.Common.{ℕ, List, ◌≡◌, true, sym, ap, subst, ◌∙◌, arith, inl, inr, lit<}
 use Rattle.std.proofs.lemmas.Bool.{cases_Bool, both_ways}
 use Rattle.node_grid.specs.NodeSet.{has_id}
 use Rattle.node_grid.specs.CapacityLaws.{capacity-le}
@@ -7,10 +7,11 @@ use Rattle.heard.specs.Passing.{ArePassingOn}
 use Rattle.relaying.specs.Table.{IsSameBut}
 use Rattle.relaying.proofs.Blocks.{same_but, same_own}
 use Rattle.relaying.proofs.Overwriting.{in_minus, not_left}
+use Rattle.std.proofs.lemmas.Bool.{false≢true}
 use Rattle.relaying.proofs.writing.changing.Goals as goal
 
 pub empty-requires : goal.empty-requires
-empty-requires g c = (omega arith, capacity-le g.row.N c.nodes-nodes.ensures.capacity)
+empty-requires g c = (lit< tt, capacity-le g.row.N c.nodes-nodes.ensures.capacity)
 
 pub returns-then-c-me-clause-same : goal.returns-then-c-me-clause-same
 returns-then-c-me-clause-same g c =
@@ -42,3 +43,27 @@ returns-clause-within g c =
     let a : has_id c.without.result q ≡ true = has-of-without c.without.result c.me-me.result q (ap (λ (xs : List ℕ). has_id xs q) (sym c.without-2.ensures) ∙ on) in
     let b : has_id c.minus.result q ≡ true = has-of-without c.minus.result c.args.c q (ap (λ (xs : List ℕ). has_id xs q) (sym c.without.ensures) ∙ a) in
     in_minus c.args.set.now c.trusted-trusted.result q (ap (λ (xs : List ℕ). has_id xs q) (sym c.minus.ensures) ∙ b)
+
+pub nodes-nodes-requires : goal.nodes-nodes-requires
+nodes-nodes-requires g c = assumption
+
+pub me-me-requires : goal.me-me-requires
+me-me-requires g c = assumption
+
+pub saturating_sub-requires : goal.saturating_sub-requires
+saturating_sub-requires g c = tt
+
+pub trusted-trusted-requires : goal.trusted-trusted-requires
+trusted-trusted-requires g c = (assumption, (lit< tt, omega (arith, c.saturating_sub.ensures, c.requires.round)))
+
+pub minus-requires : goal.minus-requires
+minus-requires g c = lit< tt
+
+pub without-requires : goal.without-requires
+without-requires g c = (lit< tt, c.requires.low)
+
+pub without-requires-2 : goal.without-requires-2
+without-requires-2 g c = (lit< tt, c.me-me.ensures.low)
+
+pub returns-then-c-me-clause-within : goal.returns-then-c-me-clause-within
+returns-then-c-me-clause-within g c = λ q on. absurd (false≢true (ap (λ (s : List ℕ). has_id s q) (sym c.empty.ensures) ∙ on))

@@ -1,10 +1,12 @@
-use Rattle.std.proofs.Common.{ℕ, List, ◌≡◌, ◌≢◌, ◌++◌, ◌∷◌, [], false, length, refl, sym, ap, ◌∙◌, inl, inr}
+use Rattle.std.proofs.Common.{ℕ, List, ◌≡◌, ◌≢◌, ◌++◌, ◌∷◌, [], false, length, refl, sym, ap, ◌∙◌, inl, inr, lit<, true}
 use Rattle.std.proofs.lemmas.Bool.{cases_Bool, cases_eq, both_ways}
 use Rattle.node_grid.specs.NodeSet.{has_id}
 use Rattle.omh_paths.specs.PathLists.{has-without, has-without-left, has-of-without}
-use Rattle.relaying.proofs.OwnPaths.{off_grown, on_last}
+use Rattle.relaying.proofs.OwnPaths.{off_grown, on_grown, on_last}
 use Rattle.relaying.proofs.Overwriting.{in_minus, not_left}
 use Rattle.relaying.proofs.Rows.{repeats, repeats_on}
+use Rattle.node_grid.specs.CapacityLaws.{capacity-le}
+use Rattle.std.proofs.lemmas.Bool.{false≢true}
 use Rattle.relaying.proofs.writing.odd_behind.Goals as goal
 
 pub returns-clause-within : goal.returns-clause-within
@@ -39,3 +41,34 @@ returns-clause-others g c =
             (c.requires.paths q on)
       ]
     ]
+
+pub nodes-nodes-requires : goal.nodes-nodes-requires
+nodes-nodes-requires g c = assumption
+
+pub me-me-requires : goal.me-me-requires
+me-me-requires g c = assumption
+
+pub empty-requires : goal.empty-requires
+empty-requires g c = (lit< tt, capacity-le g.row.N c.nodes-nodes.ensures.capacity)
+
+pub minus-requires : goal.minus-requires
+minus-requires g c = lit< tt
+
+pub without-requires : goal.without-requires
+without-requires g c = (lit< tt, c.me-me.ensures.low)
+
+pub has-requires : goal.has-requires
+has-requires g c = tt
+
+pub returns-then-has-clause-within : goal.returns-then-has-clause-within
+returns-then-has-clause-within g c = λ q on. absurd (false≢true (ap (λ (s : List ℕ). has_id s q) (sym c.empty.ensures) ∙ on))
+
+pub returns-then-has-clause-off : goal.returns-then-has-clause-off
+returns-then-has-clause-off g c = λ q on. absurd (false≢true (ap (λ (s : List ℕ). has_id s q) (sym c.empty.ensures) ∙ on))
+
+pub returns-then-has-clause-others : goal.returns-then-has-clause-others
+returns-then-has-clause-others g c = 
+    let h = c.args.heard.now in
+    let front : List ℕ = c.args.front.now in
+    let on : has_id front h.me ≡ true = ap (has_id front) (sym c.me-me.ensures.me) ∙ sym c.has.ensures ∙ c.if-has.true in
+    λ q there off. repeats_on h (length front) q front refl (on_grown front q h.me on)

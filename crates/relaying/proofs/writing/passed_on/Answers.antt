@@ -57,4 +57,34 @@ passed_next-value-requires-in-loop-k g c =
     let l = ap length f in
     let t = length-take-le (k + 1) path (omega (arith, low)) in
     let small : IsSmall (7 + k) c.loop-k.value = subst (IsSmall (7 + k)) (sym c.loop-k.invariant.1) (small_passed (own_told a.heard.now) a.heard.now c.requires.own c.requires.small k (take k path) (omega (arith, front_short k path, c.len-len.ensures.few, c.len-len.ensures.count))) in
-    (omega arith, not_full (7 + k) c.loop-k.value small (omega (arith, low, c.len-len.ensures.few, c.len-len.ensures.count)))
+    (assumption, not_full (7 + k) c.loop-k.value small (omega (arith, low, c.len-len.ensures.few, c.len-len.ensures.count)))
+
+pub loop-k-smaller : goal.loop-k-smaller
+loop-k-smaller g c = let t = c.loop-k-test.true in omega arith
+
+pub me-requires : goal.me-requires
+me-requires g c = assumption
+
+pub relay-requires : goal.relay-requires
+relay-requires g c = assumption
+
+pub told-own-requires : goal.told-own-requires
+told-own-requires g c = assumption
+
+pub at-requires : goal.at-requires
+at-requires g c = omega (arith, c.len-len.ensures.count, c.len-len.ensures.some)
+
+pub at-requires-in-loop-k : goal.at-requires-in-loop-k
+at-requires-in-loop-k g c = omega (arith, c.loop-k-test.true, c.len-len.ensures.count)
+
+pub has-requires : goal.has-requires
+has-requires g c = tt
+
+pub len-len-requires : goal.len-len-requires
+len-len-requires g c = tt
+
+pub root-front-requires : goal.root-front-requires
+root-front-requires g c = tt
+
+pub passed_next-value-requires : goal.passed_next-value-requires
+passed_next-value-requires g c = (assumption, not_full 3 c.told-own.result (subst (IsSmall 3) (sym c.told-own.ensures) c.requires.own) (omega arith))

@@ -20,3 +20,12 @@ overflow_add-result g c =
 pub returns-in-Fault : goal.returns-in-Fault
 returns-in-Fault g c =
     sym (wrapped_fault c.in-Fault.wraps c.args.round) ∙ ap (wrapped_times c.args.round) (sym c.in-Fault.is ∙ c.told.ensures ∙ sym (root_own c.args.heard.now c.args.c (c.if-c-me.false ∙ c.me.ensures.me)))
+
+pub me-requires : goal.me-requires
+me-requires g c = assumption
+
+pub relayed-requires : goal.relayed-requires
+relayed-requires g c = (assumption, c.requires.round)
+
+pub told-requires : goal.told-requires
+told-requires g c = assumption

@@ -1,11 +1,11 @@
-use Rattle.std.proofs.Common.{ℕ, List, [], ◌∷◌, ◌++◌, ◌≡◌, ◌≤◌, ◌+◌, ◌*◌, true, false, length, sym, ap, ap₂, subst, ◌∙◌, arith, append-nil, append_assoc, inl, inr}
+use Rattle.std.proofs.Common.{ℕ, List, [], ◌∷◌, ◌++◌, ◌≡◌, ◌≤◌, ◌+◌, ◌*◌, true, false, length, sym, ap, ap₂, subst, ◌∙◌, arith, append-nil, append_assoc, inl, inr, lit<, refl}
 use Rattle.std.proofs.lemmas.Bool.{cases_Bool, both_ways}
 use Rattle.node_grid.specs.NodeSet.{has_id}
 use Rattle.omh_paths.specs.MemberLaws.{member-lt}
 use Rattle.frames.specs.Writing.{pasted}
 use Rattle.relaying.specs.Table.{passed_after}
 use Rattle.relaying.proofs.Rows.{next_after, apart, has_next}
-use Rattle.relaying.proofs.Overwriting.{none_over, one_over, all_over, row_room}
+use Rattle.relaying.proofs.Overwriting.{none_over, one_over, all_over, row_room, place_low}
 use Rattle.relaying.proofs.Standing.{pasted_there}
 use Rattle.relaying.proofs.writing.write_odd.Goals as goal
 
@@ -23,7 +23,7 @@ loop-node-init g c =
       ends = tt;
       within = λ q on. ap (λ (xs : List ℕ). has_id xs q) (sym items) ∙ on;
       others = λ q on. ap (λ (xs : List ℕ). has_id xs q) items ∙ on;
-      size = omega arith;
+      size = refl;
       written = λ e long stands.
           sym (ap (λ (t : List ℕ). pasted (w * c.args.from) t c.args.out.now) (none_over spell f e s ∙ sym stands)
           ∙ pasted_there (w * c.args.from) (w * length s) c.args.out.now (let a = c.requires.can.room in omega (arith, split, a)));
@@ -39,7 +39,7 @@ pub place-requires : goal.place-requires
 place-requires g c =
     let split : c.loop-node.yielded ++ c.loop-node.node-iterator ≡ c.loop-node.yielded ++ c.in-Some.node ∷ c.next.new.self = ap (λ xs. c.loop-node.yielded ++ xs) c.in-Some.ensures.steps in
     let on = c.loop-node.invariant.within c.in-Some.node (ap (λ (s : List ℕ). has_id s c.in-Some.node) split ∙ has_next c.loop-node.yielded c.in-Some.node c.next.new.self) in
-    (omega arith, member-lt g.row.N c.args.odd.now c.in-Some.node c.iter-node-items.ensures.ids on)
+    (lit< tt, member-lt g.row.N c.args.odd.now c.in-Some.node c.iter-node-items.ensures.ids on)
 
 pub put-requires-clause-fits : goal.put-requires-clause-fits
 put-requires-clause-fits g c =
@@ -100,3 +100,28 @@ nodes-nodes-requires g c = assumption
 
 pub relay-value-requires : goal.relay-value-requires
 relay-value-requires g c = assumption
+
+pub iter-node-items-requires : goal.iter-node-items-requires
+iter-node-items-requires g c = (lit< tt, lit< tt)
+
+pub next-requires : goal.next-requires
+next-requires g c = (lit< tt, tt)
+
+pub then-requires-clause-room : goal.then-requires-clause-room
+then-requires-clause-room g c = omega (arith, c.requires.can.short)
+
+pub put-requires-clause-capacity : goal.put-requires-clause-capacity
+put-requires-clause-capacity g c = c.nodes-nodes.ensures.capacity
+
+pub put-requires-clause-nodes : goal.put-requires-clause-nodes
+put-requires-clause-nodes g c = c.nodes-nodes.ensures.few
+
+pub loop-node-smaller : goal.loop-node-smaller
+loop-node-smaller g c = let e : length c.loop-node.node-iterator ≡ length (c.in-Some.node ∷ c.next.new.self) = ap length c.in-Some.ensures.steps in omega arith
+
+pub overflow_add-from : goal.overflow_add-from
+overflow_add-from g c = 
+    let split : c.loop-node.yielded ++ c.loop-node.node-iterator ≡ c.loop-node.yielded ++ c.in-Some.node ∷ c.next.new.self = ap (λ xs. c.loop-node.yielded ++ xs) c.in-Some.ensures.steps in
+    let on = c.requires.stands.within c.in-Some.node (c.loop-node.invariant.within c.in-Some.node (ap (λ (ms : List ℕ). has_id ms c.in-Some.node) split ∙ has_next c.loop-node.yielded c.in-Some.node c.next.new.self)) in
+    let low = place_low g.row.N c.args.rest.now c.in-Some.node c.place.result c.place.ensures.ids on c.place.ensures.count in
+    omega (arith, low, c.requires.can.few)
