@@ -1,10 +1,11 @@
-use Rattle.std.proofs.Common.{ℕ, List, [], ◌≡◌, ◌≢◌, ◌≤◌, ◌+◌, ◌*◌, length, get_or, sym, ap, subst, ◌∙◌, arith}
+use Rattle.std.proofs.Common.{ℕ, List, [], ◌≡◌, ◌≢◌, ◌≤◌, ◌+◌, ◌*◌, length, get_or, sym, ap, subst, ◌∙◌, arith, lit<}
 use Rattle.omh_paths.specs.MemberLaws.{Distinct-ids}
 use Rattle.heard.specs.Keep.{wrapped_times}
 use Rattle.heard.specs.Places.{row_le}
 use Rattle.relaying.specs.Table.{root_of, paths_each, CanWrite, IsFilledWith, IsSameBut}
 use Rattle.relaying.proofs.Blocks.{block_room, block_plain, block_over, times_some}
 use Rattle.relaying.proofs.Standing.{stands_filled}
+use Rattle.std.proofs.lemmas.Bool.{false≢true}
 use Rattle.relaying.proofs.writing.write_block.Goals as goal
 
 pub overflow_mul-i : goal.overflow_mul-i
@@ -52,10 +53,10 @@ write_rows-requires g c =
     let filled = subst (λ x. IsFilledWith w (spell x) (i * paths_each s r) (paths_each s r) was mid) (c.root_passed-value.ensures ∙ ap (λ (x : ℕ). wrapped_times r (root_of h x)) c.at.ensures) each in
     let room = block_room h w spell s r (length was) d c.requires.can i c.requires.member in
     let stands = stands_filled w (spell (wrapped_times r (root_of h (get_or s i 0)))) (i * paths_each s r) (paths_each s r) was mid filled room in
-    let some : c.args.odd.now ≢ [] = λ e. absurd (let t = sym c.if-not-is_empty.true ∙ c.is_empty.ensures.1 e in cc) in (
-      omega arith,
+    let some : c.args.odd.now ≢ [] = λ e. absurd (false≢true (sym c.if-not-is_empty.true ∙ c.is_empty.ensures.1 e)) in (
+      assumption,
       (
-        omega arith,
+        lit< tt,
         (
           c.requires.member,
           (
@@ -114,3 +115,24 @@ returns-else-not-is_empty g c =
     let filled = subst (λ x. IsFilledWith w (spell x) (i * paths_each s r) (paths_each s r) was mid) (c.root_passed-value.ensures ∙ ap (λ (x : ℕ). wrapped_times r (root_of h x)) c.at.ensures) each in
     let none : c.args.odd.now ≡ [] = c.is_empty.ensures.0 c.if-not-is_empty.false in
     block_plain h w spell s r (length was) d c.requires.can i was mid c.requires.member (subst (IsSameBut h s (get_or s i 0) r) none c.requires.same) filled
+
+pub nodes-nodes-requires : goal.nodes-nodes-requires
+nodes-nodes-requires g c = assumption
+
+pub paths_of_each-width-requires : goal.paths_of_each-width-requires
+paths_of_each-width-requires g c = (lit< tt, (c.nodes-nodes.ensures.capacity, (c.requires.can.some_round, c.requires.can.few)))
+
+pub at-requires : goal.at-requires
+at-requires g c = (lit< tt, c.requires.member)
+
+pub root_passed-value-requires : goal.root_passed-value-requires
+root_passed-value-requires g c = (assumption, (c.requires.round, (c.requires.can.few, c.requires.can.own)))
+
+pub put_same-requires-clause-capacity : goal.put_same-requires-clause-capacity
+put_same-requires-clause-capacity g c = c.nodes-nodes.ensures.capacity
+
+pub put_same-requires-clause-nodes : goal.put_same-requires-clause-nodes
+put_same-requires-clause-nodes g c = c.nodes-nodes.ensures.few
+
+pub is_empty-requires : goal.is_empty-requires
+is_empty-requires g c = lit< tt

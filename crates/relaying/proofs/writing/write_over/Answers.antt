@@ -1,4 +1,4 @@
-use Rattle.std.proofs.Common.{ℕ, List, ◌≡◌, ◌+◌, ◌*◌, true, false, length, take, drop, sym, ap, subst, ◌∙◌, arith, inl, inr}
+use Rattle.std.proofs.Common.{ℕ, List, ◌≡◌, ◌+◌, ◌*◌, true, false, length, take, drop, sym, ap, subst, ◌∙◌, inl, inr, lit<}
 use Rattle.std.proofs.lemmas.Bool.{cases_Bool, both_ways}
 use Rattle.node_grid.specs.NodeSet.{has_id}
 use Rattle.heard.specs.Keep.{first_node, wrapped_times}
@@ -11,16 +11,16 @@ use Rattle.relaying.proofs.Rows.{in_outside, plain_after, repeated_after}
 use Rattle.relaying.proofs.writing.write_over.Goals as goal
 
 pub outside-rest-requires : goal.outside-rest-requires
-outside-rest-requires g c = (omega arith, λ q on. member-lt g.row.N c.args.set.now q c.requires.ids (c.requires.front.within q on))
+outside-rest-requires g c = (lit< tt, λ q on. member-lt g.row.N c.args.set.now q c.requires.ids (c.requires.front.within q on))
 
 pub odd_behind-odd-requires : goal.odd_behind-odd-requires
 odd_behind-odd-requires g c =
     let s : List ℕ = c.args.set.now in
     let front : List ℕ = c.args.front.now in
     let apart : (q : ℕ) → has_id front q ≡ true → has_id c.args.odd.now q ≡ false = c.avoids.ensures c.if-avoids.true in (
-      omega arith,
+      assumption,
       (
-        omega arith,
+        lit< tt,
         (
           c.requires.can.some,
           (
@@ -48,9 +48,9 @@ write_odd-requires g c =
       | inl y ↦ repeated_after h s front odd c.requires.same c.requires.front c.requires.can.some apart q (c.odd_behind-odd.ensures.others q y off)
       | inr n ↦ plain_after h s front odd c.requires.same c.requires.front c.requires.can.some apart q on n
     ] in (
-      omega arith,
+      assumption,
       (
-        omega arith,
+        lit< tt,
         (
           subst (λ (xs : List ℕ). CanWriteRow w spell h front xs from (length c.args.out.now)) is c.requires.can,
           record {
@@ -70,3 +70,6 @@ write_odd-requires g c =
         ),
       ),
     )
+
+pub avoids-requires : goal.avoids-requires
+avoids-requires g c = lit< tt

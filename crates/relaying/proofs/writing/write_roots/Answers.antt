@@ -1,4 +1,4 @@
-use Rattle.std.proofs.Common.{ℕ, ◌≡◌, ◌<◌, ◌≤◌, ◌+◌, ◌*◌, List, length, sym, ap, subst, ◌∙◌, arith}
+use Rattle.std.proofs.Common.{ℕ, ◌≡◌, ◌<◌, ◌≤◌, ◌+◌, ◌*◌, List, length, sym, ap, subst, ◌∙◌, arith, lit<}
 use Rattle.std.specs.List.{flat_map}
 use Rattle.std.proofs.lemmas.List.{take_all, get_or-map, length-map}
 use Rattle.omh_paths.specs.declared.wrapped.Wrapped.TheVariants.{Fault}
@@ -44,3 +44,24 @@ returns g c =
     let r : ℕ = c.args.round in
     let root = λ (x : ℕ). wrapped_times r (root_of h x) in
     c.loop-i.invariant ∙ ap (λ xs. pasted 0 (flat_map (g.V.Item.spelling h.nodes) xs) c.args.out.now) (take_all c.loop-i.i (roots_of h s r) (omega (arith, c.loop-i-test.false, c.len-i-end.ensures.count, length-map s root)))
+
+pub loop-i-smaller : goal.loop-i-smaller
+loop-i-smaller g c = let t = c.loop-i-test.true in omega arith
+
+pub nodes-nodes-requires : goal.nodes-nodes-requires
+nodes-nodes-requires g c = assumption
+
+pub len-i-end-requires : goal.len-i-end-requires
+len-i-end-requires g c = lit< tt
+
+pub at-requires : goal.at-requires
+at-requires g c = (lit< tt, omega (arith, c.loop-i-test.true, c.len-i-end.ensures.count))
+
+pub root_passed-value-requires : goal.root_passed-value-requires
+root_passed-value-requires g c = (assumption, (c.requires.round, (c.requires.few, c.requires.own)))
+
+pub put-requires-clause-capacity : goal.put-requires-clause-capacity
+put-requires-clause-capacity g c = c.nodes-nodes.ensures.capacity
+
+pub put-requires-clause-nodes : goal.put-requires-clause-nodes
+put-requires-clause-nodes g c = c.nodes-nodes.ensures.few

@@ -1,4 +1,4 @@
-use Rattle.std.proofs.Common.{ℕ, List, ◌≡◌, ◌≤◌, ◌+◌, ◌*◌, length, sym, ap, subst, ◌∙◌, arith}
+use Rattle.std.proofs.Common.{ℕ, List, ◌≡◌, ◌≤◌, ◌+◌, ◌*◌, length, sym, ap, subst, ◌∙◌, arith, lit<}
 use Rattle.std.proofs.lemmas.List.{length-map}
 use Rattle.heard.specs.Keep.{IsSmall}
 use Rattle.relaying.specs.Table.{own_told, passed_after, passed_behind, IsFilledWith, CanWriteRow}
@@ -39,9 +39,9 @@ write_odd-requires g c =
     let nodes = subst (λ (n : ℕ). IsFilledWith (g.V.Item.width n) (g.V.Item.spelling n v) from c.len.result c.args.out.now c.put_same.new.out) c.nodes.ensures.nodes c.put_same.ensures in
     let filled = subst (λ (n : ℕ). IsFilledWith w (spell v) from n c.args.out.now c.put_same.new.out) c.len.ensures.count nodes in
     let stands = stands_filled w (spell v) from (length rest) c.args.out.now c.put_same.new.out filled c.requires.can.room in (
-      omega arith,
+      assumption,
       (
-        omega arith,
+        lit< tt,
         (
           subst (CanWriteRow w spell h front rest from) (sym c.put_same.auto.out) c.requires.can,
           record {
@@ -70,3 +70,15 @@ returns g c =
     let nodes = subst (λ (n : ℕ). IsFilledWith (g.V.Item.width n) (g.V.Item.spelling n v) from c.len.result c.args.out.now c.put_same.new.out) c.nodes.ensures.nodes c.put_same.ensures in
     let filled = subst (λ (n : ℕ). IsFilledWith w (spell v) from n c.args.out.now c.put_same.new.out) c.len.ensures.count nodes in
     row_over w spell (passed_behind h front rest) (spell v) from (length rest) c.args.out.now c.put_same.new.out c.write_odd.new.out c.requires.can.wide (length-map rest (passed_after h front)) c.requires.can.room filled c.write_odd.ensures
+
+pub passed_on-requires : goal.passed_on-requires
+passed_on-requires g c = (assumption, (c.requires.can.own, c.requires.can.small))
+
+pub nodes-requires : goal.nodes-requires
+nodes-requires g c = assumption
+
+pub len-requires : goal.len-requires
+len-requires g c = lit< tt
+
+pub odd_behind-odd-requires : goal.odd_behind-odd-requires
+odd_behind-odd-requires g c = (assumption, (lit< tt, (c.requires.can.some, (c.requires.can.paths, c.requires.echoing))))

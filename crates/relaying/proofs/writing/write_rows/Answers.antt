@@ -1,4 +1,4 @@
-use Rattle.std.proofs.Common.{ℕ, suc, List, ◌≡◌, ◌+◌, ◌-◌, ◌*◌, length, get_or, refl, sym, ap, subst, ◌∙◌, arith}
+use Rattle.std.proofs.Common.{ℕ, suc, List, ◌≡◌, ◌+◌, ◌-◌, ◌*◌, length, get_or, refl, sym, ap, subst, ◌∙◌, arith, lit<}
 use Rattle.std.specs.List.{flat_map}
 use Rattle.node_grid.specs.Count.{Distinct}
 use Rattle.omh_paths.specs.MemberLaws.{few_ids, Distinct-ids, path_count-few}
@@ -97,9 +97,9 @@ write_over-requires g c =
     let stands = subst (λ (n : ℕ). Stands width (spell (wrapped_times n (root_of h (get_or s i 0)))) (i * paths_each s n) (paths_each s n) was) up c.requires.stands in
     let now = c.loop-j.invariant ∙ ap (λ (n : ℕ). pasted (width * (i * paths_each s n)) (flat_map spell (passed_until h s n (i * paths_each s n) (i * paths_each s n + j * w))) was) up in
     let row = row_is h width spell s odd r i m w size d c.requires.within are c.requires.member can few j c.loop-j-test.true front c.unrank-front.ensures.path was out long refl same stands now in (
-      omega arith,
+      assumption,
       (
-        omega arith,
+        lit< tt,
         (
           row.listed,
           (
@@ -164,3 +164,24 @@ returns g c =
     let now = c.loop-j.invariant ∙ ap (λ (n : ℕ). pasted (width * (i * paths_each s n)) (flat_map spell (passed_until h s n (i * paths_each s n) (i * paths_each s n + j * w))) was) up in
     all_rows h width spell s c.args.odd.now r i m w (length was) d c.requires.within are c.requires.member can few j was c.loop-j.out (omega (arith, c.loop-j-test.false, c.loop-j.auto.j-end)) now
     ∙ ap (λ (n : ℕ). pasted (width * (i * paths_each s n)) (flat_map spell (passed_from h s n i)) was) (sym up)
+
+pub loop-j-smaller : goal.loop-j-smaller
+loop-j-smaller g c = let t = c.loop-j-test.true in omega arith
+
+pub nodes-nodes-requires : goal.nodes-nodes-requires
+nodes-nodes-requires g c = assumption
+
+pub len-requires : goal.len-requires
+len-requires g c = lit< tt
+
+pub saturating_sub-each-requires : goal.saturating_sub-each-requires
+saturating_sub-each-requires g c = tt
+
+pub overflow_sub-round : goal.overflow_sub-round
+overflow_sub-round g c = omega (arith, c.requires.relayed)
+
+pub overflow_sub-round-in-loop-j : goal.overflow_sub-round-in-loop-j
+overflow_sub-round-in-loop-j g c = omega (arith, c.requires.relayed)
+
+pub paths_of_each-rows-requires : goal.paths_of_each-rows-requires
+paths_of_each-rows-requires g c = (lit< tt, (c.nodes-nodes.ensures.capacity, (omega (arith, c.requires.relayed), omega (arith, c.requires.can.few))))
