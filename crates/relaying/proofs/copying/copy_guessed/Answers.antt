@@ -1,4 +1,4 @@
-use Rattle.std.proofs.Common.{ℕ, List, ◌≡◌, ◌≤◌, ◌*◌, length, sym, ap, ap₂, subst, ◌∙◌, arith}
+use Rattle.std.proofs.Common.{ℕ, List, ◌≡◌, ◌≤◌, ◌*◌, length, sym, ap, ap₂, subst, ◌∙◌, arith, lit<, refl}
 use Rattle.std.specs.Prelude.{Option}
 use Rattle.std.specs.List.{flat_map}
 use Rattle.node_grid.specs.CapacityLaws.{capacity-le}
@@ -14,6 +14,7 @@ use Rattle.error_detect.specs.Guessing.{pieces_without}
 use Rattle.error_detect.specs.Inside.{said_as, guessed_bytes}
 use Rattle.relaying.specs.Relaying.{relays}
 use Rattle.relaying.proofs.CutOut.{cut_out}
+use Rattle.std.proofs.lemmas.Bool.{false≢true}
 use Rattle.relaying.proofs.copying.copy_guessed.Goals as goal
 
 pub copy_runs-requires : goal.copy_runs-requires
@@ -35,7 +36,7 @@ copy_runs-requires g c =
     ap (λ (n : ℕ). pieces_without n c.me.result (paths_of_length c.members-members.result r) bytes) width
     ∙ ap₂ (λ (q : ℕ) (s : List ℕ). pieces_without (g.V.Item.width h.nodes) q (paths_of_length s r) bytes) c.me.ensures.me members ∙ both.1 in
     let narrow : g.V.Item.width c.nodes.result ≤ 33 = g.met.V.Item.narrow c.nodes.result (omega (arith, capacity-le g.row.N c.nodes.ensures.capacity, c.nodes.ensures.few)) in (
-      omega arith,
+      lit< tt,
       (
         c.nodes.ensures.capacity,
         (
@@ -69,7 +70,7 @@ copy_without-requires g c =
     let pieces : pieces_without c.entry_width.result c.me.result (paths_of_length c.members-members.result r) bytes ≡ flat_map (g.V.Item.spelling h.nodes) (relays h r) =
     ap (λ (n : ℕ). pieces_without n c.me.result (paths_of_length c.members-members.result r) bytes) width
     ∙ ap₂ (λ (q : ℕ) (s : List ℕ). pieces_without (g.V.Item.width h.nodes) q (paths_of_length s r) bytes) c.me.ensures.me members ∙ both.1 in (
-      omega arith,
+      lit< tt,
       (
         c.nodes.ensures.capacity,
         (
@@ -124,3 +125,21 @@ returns-in-None-clause-yes g c copied =
     ap (λ (n : ℕ). pieces_without n c.me.result (paths_of_length c.members-members.result r) bytes) width
     ∙ ap₂ (λ (q : ℕ) (s : List ℕ). pieces_without (g.V.Item.width h.nodes) q (paths_of_length s r) bytes) c.me.ensures.me members ∙ both.1 in
     c.copy_without.ensures ∙ ap (λ (xs : List ℕ). pasted 0 xs c.args.out.now) pieces
+
+pub me-requires : goal.me-requires
+me-requires g c = assumption
+
+pub nodes-requires : goal.nodes-requires
+nodes-requires g c = assumption
+
+pub members-members-requires : goal.members-members-requires
+members-members-requires g c = (assumption, lit< tt)
+
+pub returns-in_default-clause-yes : goal.returns-in_default-clause-yes
+returns-in_default-clause-yes g c = λ e. absurd (false≢true e)
+
+pub returns-in_default-clause-no : goal.returns-in_default-clause-no
+returns-in_default-clause-no g c = λ e. refl
+
+pub returns-in-Some-runs-clause-no : goal.returns-in-Some-runs-clause-no
+returns-in-Some-runs-clause-no g c = c.copy_runs.ensures.no

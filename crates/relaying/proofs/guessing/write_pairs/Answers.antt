@@ -1,4 +1,4 @@
-use Rattle.std.proofs.Common.{ℕ, List, [], lit<, ◌<◌, ◌∷◌, ◌++◌, ◌≡◌, length, sym, ap, subst, ◌∙◌}
+use Rattle.std.proofs.Common.{ℕ, List, [], lit<, ◌<◌, ◌∷◌, ◌++◌, ◌≡◌, length, sym, ap, subst, ◌∙◌, arith}
 use Rattle.omh_paths.specs.PathLists.{has-of-without}
 use Rattle.frames.specs.Seen.{expected}
 use Rattle.relaying.specs.Round.{IsRoundOf}
@@ -59,3 +59,15 @@ returns-clause-table g c = c.loop-i.invariant
 
 pub returns-clause-length : goal.returns-clause-length
 returns-clause-length g c = c.loop-i.auto.out
+
+pub loop-i-smaller : goal.loop-i-smaller
+loop-i-smaller g c = let t = c.loop-i-test.true in omega arith
+
+pub len-i-end-requires : goal.len-i-end-requires
+len-i-end-requires g c = lit< tt
+
+pub at-requires : goal.at-requires
+at-requires g c = (lit< tt, omega (arith, c.loop-i-test.true, c.len-i-end.ensures.count))
+
+pub root-requires : goal.root-requires
+root-requires g c = tt

@@ -1,4 +1,4 @@
-use Rattle.std.proofs.Common.{ℕ, List, lit<, refl, ◌≡◌, ◌<◌, ◌≤◌, ◌+◌, ◌*◌, true, length, sym, ap, subst, ◌∙◌, arith}
+use Rattle.std.proofs.Common.{ℕ, List, lit<, refl, ◌≡◌, ◌<◌, ◌≤◌, ◌+◌, ◌*◌, true, length, sym, ap, subst, ◌∙◌}
 use Rattle.omh_paths.specs.Paths.{paths_of_length, path_count, place_in}
 use Rattle.node_grid.specs.NodeSet.{has_id}
 use Rattle.node_grid.specs.Count.{Distinct}
@@ -31,7 +31,7 @@ returns-clause-table g c =
     let P = g.V.Item.in_range e in
     let format : (v : _) → IsEntry P r v → length (g.V.Item.spelling h.nodes v) ≡ w = λ v range. subst (λ (n : ℕ). length (g.V.Item.spelling n v) ≡ g.V.Item.width n) c.requires.slot.nodes_are ((g.met.V.Item.format e r).long v range) in
     let low : c.rank-place.result < path_count (length h.members) r = subst (λ (ms : List ℕ). c.rank-place.result < path_count (length ms) r) c.members.ensures.members c.rank-place.ensures.in_range in
-    let yes : c.can_pass.result ≡ true = grind (arith, c.if-not-can_pass.false) in
+    let yes : c.can_pass.result ≡ true = c.if-not-can_pass.false in
     let range : IsEntry P r c.wrap.result = subst (IsEntry P r) (sym c.wrap.ensures) (subst (λ (n : ℕ). IsEntry P n (wrapped c.in-Some.said)) c.len.ensures.count (c.can_pass.ensures yes)) in
     entry_put P (g.V.Item.spelling h.nodes) w r h format c.args.out.now c.put.new.out c.requires.table c.args.path.now c.rank-place.result c.wrap.result
     (c.rank-place.ensures.place ∙ ap (λ (ms : List ℕ). place_in (paths_of_length ms r) c.args.path.now) c.members.ensures.members) low
@@ -67,3 +67,6 @@ returns-clause-length g c = c.put.auto.out
 
 pub rank-place-requires : goal.rank-place-requires
 rank-place-requires g c = (lit< tt, (c.nodes-nodes.ensures.capacity, λ q on. ap (λ (s : List ℕ). has_id s q) c.members.ensures.members ∙ c.requires.within q on))
+
+pub len-requires : goal.len-requires
+len-requires g c = tt

@@ -1,4 +1,4 @@
-use Rattle.std.proofs.Common.{ℕ, ◌<◌, lit<, subst}
+use Rattle.std.proofs.Common.{ℕ, ◌<◌, lit<, subst, arith}
 use Rattle.relaying.proofs.OwnPaths.{other_at}
 use Rattle.relaying.proofs.guessing.write_triples.Goals as goal
 
@@ -25,3 +25,15 @@ returns-clause-table g c = c.loop-i.invariant
 
 pub returns-clause-length : goal.returns-clause-length
 returns-clause-length g c = c.loop-i.auto.out
+
+pub loop-i-smaller : goal.loop-i-smaller
+loop-i-smaller g c = let t = c.loop-i-test.true in omega arith
+
+pub len-i-end-requires : goal.len-i-end-requires
+len-i-end-requires g c = lit< tt
+
+pub at-requires : goal.at-requires
+at-requires g c = (lit< tt, omega (arith, c.loop-i-test.true, c.len-i-end.ensures.count))
+
+pub loop-i-preserved : goal.loop-i-preserved
+loop-i-preserved g c = c.write_triples_of.ensures.table

@@ -1,4 +1,4 @@
-use Rattle.std.proofs.Common.{ℕ, List, [], lit<, ◌<◌, ◌∷◌, ◌++◌, ◌≡◌, ◌≢◌, length, refl, sym, ap, ap₂, subst, ◌∙◌}
+use Rattle.std.proofs.Common.{ℕ, List, [], lit<, ◌<◌, ◌∷◌, ◌++◌, ◌≡◌, ◌≢◌, length, refl, sym, ap, ap₂, subst, ◌∙◌, arith}
 use Rattle.node_grid.specs.NodeSet.{has_id, without_id}
 use Rattle.omh_paths.specs.MemberLaws.{member-lt}
 use Rattle.omh_paths.specs.PathLists.{has-of-without, has-without-left}
@@ -122,3 +122,18 @@ returns-clause-table g c = c.loop-i.invariant
 
 pub returns-clause-length : goal.returns-clause-length
 returns-clause-length g c = c.loop-i.auto.out
+
+pub loop-i-smaller : goal.loop-i-smaller
+loop-i-smaller g c = let t = c.loop-i-test.true in omega arith
+
+pub len-i-end-requires : goal.len-i-end-requires
+len-i-end-requires g c = lit< tt
+
+pub at-y-requires : goal.at-y-requires
+at-y-requires g c = (lit< tt, omega (arith, c.loop-i-test.true, c.len-i-end.ensures.count))
+
+pub root-requires : goal.root-requires
+root-requires g c = tt
+
+pub root-requires-2 : goal.root-requires-2
+root-requires-2 g c = tt

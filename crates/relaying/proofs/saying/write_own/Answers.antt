@@ -1,4 +1,4 @@
-use Rattle.std.proofs.Common.{ℕ, List, ◌≡◌, true, false, sym, ap, ap₂, ◌∙◌, arith}
+use Rattle.std.proofs.Common.{ℕ, List, ◌≡◌, true, false, sym, ap, ap₂, ◌∙◌, lit<}
 use Rattle.std.specs.List.{flat_map}
 use Rattle.node_grid.specs.NodeSet.{has_id, without_id}
 use Rattle.frames.specs.Writing.{pasted}
@@ -18,4 +18,19 @@ write_entries-requires g c =
     let members = c.members-members.ensures.members in
     let me = c.me-me.ensures.me in
     let member : has_id h.members h.me ≡ true = ap₂ has_id (sym members) (sym me) ∙ sym c.if-not-has.ensures in
-    (omega arith, (omega arith, (omega arith, (c.requires.nodes, (c.requires.some_round, (c.requires.round, (member, (c.without-others.ensures ∙ ap₂ without_id members me, (c.requires.slot, (c.requires.echoed, c.requires.room))))))))))
+    (lit< tt, (assumption, (lit< tt, (c.requires.nodes, (c.requires.some_round, (c.requires.round, (member, (c.without-others.ensures ∙ ap₂ without_id members me, (c.requires.slot, (c.requires.echoed, c.requires.room))))))))))
+
+pub members-members-requires : goal.members-members-requires
+members-members-requires g c = (assumption, lit< tt)
+
+pub me-me-requires : goal.me-me-requires
+me-me-requires g c = assumption
+
+pub has-requires : goal.has-requires
+has-requires g c = lit< tt
+
+pub without-others-requires : goal.without-others-requires
+without-others-requires g c = (lit< tt, c.me-me.ensures.low)
+
+pub returns : goal.returns
+returns g c = c.write_entries.ensures
