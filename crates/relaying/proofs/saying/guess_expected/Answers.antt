@@ -1,4 +1,4 @@
-use Rattle.std.proofs.Common.{ℕ, List, ◌≡◌, ◌≤◌, ◌*◌, length, take, replicate, true, sym, ap, subst, ◌∙◌, arith}
+use Rattle.std.proofs.Common.{ℕ, List, ◌≡◌, ◌≤◌, ◌*◌, length, take, replicate, true, sym, ap, subst, ◌∙◌, arith, lit<, refl}
 use Rattle.std.specs.Prelude.{IfSome}
 use Rattle.std.specs.List.{flat_map}
 use Rattle.std.proofs.lemmas.Nat.{mul-le}
@@ -29,9 +29,9 @@ write_roots-requires g c =
     let narrow : g.V.Item.width h.nodes ≤ 33 = g.met.V.Item.narrow h.nodes nodes in
     let room : g.V.Item.width h.nodes * length s ≤ 528 = mul-le (g.V.Item.width h.nodes) (length s) 33 16 narrow few in
     let wide = entries_wide g.row.N g.V.Item.kind r g.V.Item.in_range g.V.Item.width g.V.Item.spelling g.V.Item.read g.met.V.Item.format h c.requires.slot.0 c.requires.slot.2 c.requires.some_round s d in (
-      omega arith,
+      assumption,
       (
-        omega arith,
+        lit< tt,
         (
           c.requires.some_round,
           (
@@ -92,7 +92,7 @@ guess_runs-had_room-requires g c =
     ∙ g.met.V.Item.guessed h.nodes body ∙ ap g.V.Item.form.relay (entries_read g.row.N g.V.Item.kind r g.V.Item.in_range g.V.Item.width g.V.Item.spelling g.V.Item.read g.met.V.Item.format h c.requires.slot.0 c.requires.slot.2 c.requires.some_round s d body bytes) in
     let e = c.requires.slot.0 in
     let can : IsGuessable e (g.V.Item.form.relay es) = can_guess g.row.N g.V.Item.kind r g.V.Item.in_range g.V.Item.width g.V.Item.spelling g.V.Item.read g.met.V.Item.format h c.requires.slot.0 c.requires.slot.2 c.requires.some_round s d (g.met.V.Item.guessable e es) c.members-members.ensures.members few (omega (arith, c.requires.round, c.members-members.ensures.rounds)) narrow in (
-      omega arith,
+      lit< tt,
       (
         c.requires.before,
         (
@@ -128,3 +128,25 @@ returns-clause-echoed g c none =
     (said ∙ ap (λ (ms : List ℕ). g.V.Item.form.relay (passed_of h ms r)) c.members-members.ensures.members) in
     guess_echoed g.V.Item.form c.requires.slot.0 h r w new c.requires.some_round g.met.V.Item.passed_on c.requires.slot.2.members_are c.requires.slot.2.round_is c.requires.slot.1
     (guess_kept w new (said_as g.row.N w.nodes c.guess_form.result body) c.guess_runs-had_room.result c.guess_runs-had_room.ensures.yes c.guess_runs-had_room.ensures.no) either none
+
+pub members-members-requires : goal.members-members-requires
+members-members-requires g c = (assumption, lit< tt)
+
+pub nodes-requires : goal.nodes-requires
+nodes-requires g c = assumption
+
+pub paths_of_each-requires : goal.paths_of_each-requires
+paths_of_each-requires g c = (lit< tt, (c.nodes.ensures.capacity, (c.requires.some_round, omega (arith, c.requires.round, c.members-members.ensures.rounds))))
+
+pub len-requires : goal.len-requires
+len-requires g c = lit< tt
+
+pub returns-clause-kept : goal.returns-clause-kept
+returns-clause-kept g c = 
+    let w = c.args.watch.now in
+    let firsts : List ℕ = take (c.len.result * c.entry_width.result) c.write_roots.new.out in
+    let body : List ℕ = expanded c.entry_width.result c.paths_of_each.result c.len.result firsts in
+    guess_kept w c.guess_runs-had_room.new.self (said_as g.row.N w.nodes c.guess_form.result body) c.guess_runs-had_room.result c.guess_runs-had_room.ensures.yes c.guess_runs-had_room.ensures.no
+
+pub returns-then-runs-eq0-clause-kept : goal.returns-then-runs-eq0-clause-kept
+returns-then-runs-eq0-clause-kept g c = refl

@@ -10,3 +10,15 @@ guess_expected-requires g c =
 
 pub guess_each-requires : goal.guess_each-requires
 guess_each-requires g c = (lit< tt, (assumption, (c.requires.nodes, (c.requires.before, (c.requires.some_round, (c.requires.round, c.requires.slot))))))
+
+pub returns-then-relays_expected-clause-kept : goal.returns-then-relays_expected-clause-kept
+returns-then-relays_expected-clause-kept g c = c.guess_expected.ensures.kept
+
+pub returns-then-relays_expected-clause-echoed : goal.returns-then-relays_expected-clause-echoed
+returns-then-relays_expected-clause-echoed g c = c.guess_expected.ensures.echoed
+
+pub returns-clause-kept : goal.returns-clause-kept
+returns-clause-kept g c = c.guess_each.ensures.kept
+
+pub returns-clause-echoed : goal.returns-clause-echoed
+returns-clause-echoed g c = c.guess_each.ensures.echoed

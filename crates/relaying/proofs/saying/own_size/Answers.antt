@@ -1,4 +1,4 @@
-use Rattle.std.proofs.Common.{ℕ, List, ◌≡◌, ◌≤◌, ◌*◌, false, length, sym, ap, subst, ◌∙◌, arith}
+use Rattle.std.proofs.Common.{ℕ, List, ◌≡◌, ◌≤◌, ◌*◌, false, length, sym, ap, subst, ◌∙◌, arith, lit<}
 use Rattle.std.specs.List.{flat_map}
 use Rattle.node_grid.specs.NodeSet.{has_id}
 use Rattle.node_grid.specs.CapacityLaws.{capacity-le}
@@ -41,3 +41,27 @@ returns-clause-few g c =
     let few : c.len-others.result ≤ 16 = omega (arith, few_ids g.row.N c.without.result c.nodes.ensures.capacity c.len-others.ensures.ids, c.len-others.ensures.count) in
     let small : c.entry_width.result * c.count_paths.result ≤ 33 * 65536 = size_few c.entry_width.result c.count_paths.result c.len-others.result c.args.round narrow c.count_paths.ensures.product few (omega (arith, c.requires.round, c.members-members.ensures.rounds)) in
     omega (arith, small)
+
+pub members-members-requires : goal.members-members-requires
+members-members-requires g c = (assumption, lit< tt)
+
+pub me-me-requires : goal.me-me-requires
+me-me-requires g c = assumption
+
+pub has-requires : goal.has-requires
+has-requires g c = lit< tt
+
+pub returns-then-not-has-clause-few : goal.returns-then-not-has-clause-few
+returns-then-not-has-clause-few g c = omega arith
+
+pub without-requires : goal.without-requires
+without-requires g c = (lit< tt, c.me-me.ensures.low)
+
+pub len-others-requires : goal.len-others-requires
+len-others-requires g c = lit< tt
+
+pub nodes-requires : goal.nodes-requires
+nodes-requires g c = assumption
+
+pub count_paths-requires-clause-short : goal.count_paths-requires-clause-short
+count_paths-requires-clause-short g c = omega (arith, c.requires.round, c.members-members.ensures.rounds)
