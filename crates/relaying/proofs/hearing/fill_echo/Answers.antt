@@ -1,4 +1,4 @@
-use Rattle.std.proofs.Common.{ℕ, ◌≡◌, ◌<◌, length, refl, ap, ◌∙◌, arith}
+use Rattle.std.proofs.Common.{ℕ, ◌≡◌, ◌<◌, length, refl, ap, ◌∙◌, arith, lit<}
 use Rattle.omh_paths.specs.Paths.{path_count}
 use Rattle.omh_paths.specs.MemberLaws.{few_ids}
 use Rattle.relaying.proofs.Filling.{filled_more}
@@ -36,3 +36,20 @@ nodes-capacity-requires g c = assumption
 
 pub passed_on-requires : goal.passed_on-requires
 passed_on-requires g c = assumption
+
+pub loop-k-smaller : goal.loop-k-smaller
+loop-k-smaller g c = let t = c.loop-k-test.true in omega arith
+
+pub len-requires : goal.len-requires
+len-requires g c = lit< tt
+
+pub count_paths-count-requires-clause-short : goal.count_paths-count-requires-clause-short
+count_paths-count-requires-clause-short g c = omega (arith, c.requires.few)
+
+pub returns-clause-length : goal.returns-clause-length
+returns-clause-length g c = c.loop-k.invariant.1
+
+pub unrank-path-requires : goal.unrank-path-requires
+unrank-path-requires g c = 
+    let count : c.count_paths-count.result ≡ path_count (length c.args.others.now) c.args.round = c.count_paths-count.ensures.product ∙ ap (λ (n : ℕ). path_count n c.args.round) c.len.ensures.count in
+    (lit< tt, (c.nodes-capacity.ensures.capacity, (c.requires.some_round, (omega (arith, c.requires.few), omega (arith, c.loop-k-test.true, count)))))
