@@ -1,4 +1,4 @@
-use Rattle.std.proofs.Common.{◌≡◌, ◌*◌, ◌+◌, ◌-◌, ◌<◌, ◌≤◌, ℕ, List, take, drop, ap, sym, ◌∙◌, arith}
+use Rattle.std.proofs.Common.{◌≡◌, ◌*◌, ◌+◌, ◌-◌, ◌<◌, ◌≤◌, ℕ, List, length, take, drop, ap, sym, ◌∙◌, arith}
 use Rattle.std.proofs.lemmas.Bool.Decides.{Decides-eqb}
 use Rattle.std.proofs.lemmas.Slice.Eq.{slice_eq-Decides}
 use Rattle.std.proofs.lemmas.Nat.{mul-le}
@@ -9,6 +9,10 @@ use Rattle.frames.proofs.cells.are_alike.Goals as goal
 -- the bytes of a piece end no later than those of all pieces before a later place
 before : (w from until : ℕ) → from < until → from * w + w ≤ until * w
 before w from until h = let m : (from + 1) * w ≤ until * w = mul-le (from + 1) w until w (omega arith) (omega arith) in omega (arith, m)
+
+-- the two parts end within the bytes, and don't begin behind their ends
+parts : (w from until n : ℕ) → from < until → until * w ≤ n → (until * w - w ≤ n) × (until * w - w + w ≤ n) × (from * w ≤ until * w - w) × (from * w + w ≤ until * w - w + w)
+parts w from until n h within = let b = before w from until h in (omega (arith, within), omega (arith, within, b), omega (arith, b), omega (arith, b))
 
 pub returns : goal.returns
 returns c e k above below =
@@ -50,3 +54,15 @@ slice_bounds-eq-count-2 c = let b = before c.args.width c.args.from c.args.until
 
 pub overflow_mul-last : goal.overflow_mul-last
 overflow_mul-last c = omega (arith, c.requires.within)
+
+pub slice_bounds-eq-end : goal.slice_bounds-eq-end
+slice_bounds-eq-end c = (parts c.args.width c.args.from c.args.until (length c.args.bytes.now) c.requires.some c.requires.within).0
+
+pub slice_bounds-eq-end-2 : goal.slice_bounds-eq-end-2
+slice_bounds-eq-end-2 c = (parts c.args.width c.args.from c.args.until (length c.args.bytes.now) c.requires.some c.requires.within).1
+
+pub slice_bounds-eq-start : goal.slice_bounds-eq-start
+slice_bounds-eq-start c = (parts c.args.width c.args.from c.args.until (length c.args.bytes.now) c.requires.some c.requires.within).2
+
+pub slice_bounds-eq-start-2 : goal.slice_bounds-eq-start-2
+slice_bounds-eq-start-2 c = (parts c.args.width c.args.from c.args.until (length c.args.bytes.now) c.requires.some c.requires.within).3

@@ -1,5 +1,6 @@
-use Rattle.std.proofs.Common.{◌≡◌, ◌/◌, ◌<◌, ◌≤◌, ◌*◌, ◌+◌, ◌-◌, ℕ, List, length, subst, sym, ap, ◌∙◌, false, arith, get_or, take, drop}
+use Rattle.std.proofs.Common.{◌≡◌, ◌/◌, ◌<◌, ◌≤◌, ◌*◌, ◌+◌, ◌-◌, ℕ, List, length, subst, sym, ap, ◌∙◌, false, arith, get_or, take, drop, length-drop, lit<, inl, inr}
 use Rattle.std.specs.Prelude.{◌==◌, if◌then◌else◌}
+use Rattle.std.proofs.lemmas.List.{length-take-le}
 use Rattle.std.proofs.Math.Nat.{mul_comm}
 use Rattle.omh_paths.specs.declared.wrapped.Wrapped.{Wrapped}
 use Rattle.omh_paths.specs.declared.wrapped.Wrapped.TheVariants.{Plain, Fault}
@@ -19,6 +20,14 @@ entry capacity nodes width k bytes d e h =
 -- an entry lies within the bytes
 inside : (nodes width k n : ℕ) → width ≡ 1 + 2 * nodes → k < n / width → k * width + width ≤ n
 inside nodes width k n e h = let p = piece_within width k n (omega arith) h in omega (arith, p)
+
+-- the masks of an entry, behind its tag
+part_long : (nodes width at : ℕ) (bytes : List ℕ) → width ≡ 1 + 2 * nodes → at + width ≤ length bytes → length (take (at + width - (at + 1)) (drop (at + 1) bytes)) ≡ 2 * nodes
+part_long nodes width at bytes e fits =
+    length-take-le (at + width - (at + 1)) (drop (at + 1) bytes) (omega (arith, length-drop (at + 1) bytes, fits, e)) ∙ omega (arith, e)
+
+behind : (nodes width at : ℕ) → width ≡ 1 + 2 * nodes → at + 1 ≤ at + width
+behind nodes width at e = omega (arith, e)
 
 pub overflow_mul-at : goal.overflow_mul-at
 overflow_mul-at g c =
@@ -61,3 +70,22 @@ returns-in_default g c =
     let some : (get_or bytes at 0 == 0) ≡ false = grind arith in
     sym (entry g.row.N c.args.nodes c.args.self.now.width c.args.k bytes _ c.requires.wide c.requires.within
     ∙ ap (λ b. if b then Plain (row_in g.row.N c.args.nodes (take (2 * c.args.nodes) (drop (at + 1) bytes))) else Fault (get_or bytes at 0)) some)
+
+pub slice_bounds-read_row-end : goal.slice_bounds-read_row-end
+slice_bounds-read_row-end g c = inside c.args.nodes c.args.self.now.width c.args.k (length c.args.self.now.bytes.now) c.requires.wide c.requires.within
+
+pub slice_bounds-read_row-start : goal.slice_bounds-read_row-start
+slice_bounds-read_row-start g c = behind c.args.nodes c.args.self.now.width (c.args.k * c.args.self.now.width) c.requires.wide
+
+pub read_row-requires : goal.read_row-requires
+read_row-requires g c = (
+  elim c.requires.capacity [ inl e ↦ rw e (lit< tt) | inr e ↦ rw e (lit< tt) ],
+  (
+    c.requires.capacity,
+    (
+      c.requires.nodes,
+      part_long c.args.nodes c.args.self.now.width (c.args.k * c.args.self.now.width) c.args.self.now.bytes.now c.requires.wide
+      (inside c.args.nodes c.args.self.now.width c.args.k (length c.args.self.now.bytes.now) c.requires.wide c.requires.within),
+    ),
+  ),
+)
