@@ -1,6 +1,8 @@
-use Rattle.std.proofs.Common.{◌≡◌, ℕ, ◌^◌, ◌<◌, ◌+◌, ◌++◌, ◌∷◌, [], true, List, map, length, take, drop, get_or, sym, ap, ◌∙◌, arith, lit<, subst}
+use Rattle.std.proofs.Common.{◌≡◌, ℕ, zero, suc, false, replicate, refl, ◌≤◌, ◌^◌, ◌<◌, ◌+◌, ◌++◌, ◌∷◌, [], true, List, map, length, take, drop, get_or, sym, ap, ◌∙◌, arith, lit<, subst}
 use Rattle.std.proofs.lemmas.Result.{IfOk-from_err}
 use Rattle.std.proofs.lemmas.List.{length-map, take-append-le, take_all}
+use Rattle.node_grid.specs.CapacityLaws.{capacity-le}
+use Rattle.node_grid.specs.NodeSetLaws.{filter_none}
 use Rattle.fault_classes.specs.Line.{Line, line_of}
 use Rattle.fault_classes.specs.Rules.{is_line}
 use Rattle.fault_classes.specs.Index.{IsTouched}
@@ -12,6 +14,22 @@ use Rattle.fault_classes.proofs.index.touched_sets.Goals as goal
 
 written : (new old : List (List ℕ)) (n : ℕ) → length new ≡ length old → length old ≡ n → take n (new ++ drop (length new) old) ≡ new
 written new old n a b = take-append-le n new (drop (length new) old) (omega arith) ∙ take_all n new (omega arith)
+
+-- no line touches anything
+none_there : (k p : ℕ) → get_or {A = List ℕ} (replicate k []) p [] ≡ []
+none_there zero p = refl
+none_there (suc k) zero = refl
+none_there (suc k) (suc p) = none_there k p
+
+long_as : {X : Type 0} (k : ℕ) (x : X) → length (replicate k x) ≡ k
+long_as zero x = refl
+long_as (suc k) x = ap suc (long_as k x)
+
+none_touched : (n t : ℕ) (x : List ℕ) (sets : List (List ℕ)) → sets ≡ replicate t x → x ≡ [] → IsTouched n t [] sets
+none_touched n t x sets e z = record {
+  long = ap length e ∙ long_as t x;
+  members = λ p low. ap (λ v. get_or v p []) (e ∙ ap (replicate t) z) ∙ none_there t p ∙ sym (filter_none (λ i. false) 0 n (λ k l u. refl));
+}
 
 pub put_sender-requires : goal.put_sender-requires
 put_sender-requires g c =
@@ -52,3 +70,15 @@ loop-line-smaller g c = let t = c.loop-line-test.true in omega arith
 
 pub returns-in_err-sets : goal.returns-in_err-sets
 returns-in_err-sets g c = IfOk-from_err c.from_residual.result _ c.from_residual.ensures.0
+
+pub empty-requires : goal.empty-requires
+empty-requires g c = (lit< tt, capacity-le g.row.N c.requires.shape.capacity)
+
+pub loop-line-init : goal.loop-line-init
+loop-line-init g c = none_touched g.row.N c.args.shape.now.periods c.empty.result c.in_ok-sets.sets.items (c.in_ok-sets.ensures.items_if_clones_equal (λ y e. e)) c.empty.ensures
+
+pub returns : goal.returns
+returns g c =
+    let all : List Line = map (line_of {n = g.row.N}) c.args.lines.now in
+    let end : length all ≤ c.loop-line.line-index = omega (arith, c.loop-line-test.false, length-map c.args.lines.now (line_of {n = g.row.N})) in
+    subst (λ (ls : List Line). IsTouched g.row.N c.args.shape.now.periods ls c.loop-line.sets.items) (take_all c.loop-line.line-index all end) c.loop-line.invariant
