@@ -1,11 +1,22 @@
-use Rattle.std.proofs.Common.{◌≡◌, ◌<◌, [], length, get_or, take, true, None, ap, ◌∙◌, arith, lit<}
+use Rattle.std.proofs.Common.{◌≡◌, ℕ, ◌<◌, ◌≤◌, List, [], length, get_or, take, replicate, true, false, None, refl, sym, ap, ◌∙◌, arith, subst, lit<}
 use Rattle.std.proofs.lemmas.Result.{IfOk-from_err}
-use Rattle.std.proofs.lemmas.List.{take_more, get_or_read}
+use Rattle.std.proofs.lemmas.List.{take_more, take_all, get_or_read}
+use Rattle.node_grid.specs.CapacityLaws.{capacity-le}
+use Rattle.node_grid.specs.NodeSetLaws.{filter_none}
 use Rattle.node_grid.specs.NodeSet.{with_id}
 use Rattle.fault_classes.specs.declared.line.Restart.{Restart}
 use Rattle.fault_classes.specs.Rules.{is_restart}
+use Rattle.fault_classes.specs.Index.{IsRestarting}
+use Rattle.fault_classes.proofs.Places.{none_there, long_as}
 use Rattle.fault_classes.proofs.Restarting.{restart_ok, restart_parts, restarting_push}
 use Rattle.fault_classes.proofs.index.restarting_sets.Goals as goal
+
+-- nobody restarts
+none_restarts : (n t : ℕ) (x : List ℕ) (sets : List (List ℕ)) → sets ≡ replicate t x → x ≡ [] → IsRestarting n t [] sets
+none_restarts n t x sets e z = record {
+  long = ap length e ∙ long_as t x;
+  members = λ p low. ap (λ v. get_or v p []) (e ∙ ap (replicate t) z) ∙ none_there t p ∙ sym (filter_none (λ i. false) 0 n (λ k l u. refl));
+}
 
 pub index_mut-set-requires : goal.index_mut-set-requires
 index_mut-set-requires g c =
@@ -46,3 +57,15 @@ loop-restart-smaller g c = let t = c.loop-restart-test.true in omega arith
 
 pub returns-in_err-sets : goal.returns-in_err-sets
 returns-in_err-sets g c = IfOk-from_err c.from_residual.result _ c.from_residual.ensures.0
+
+pub empty-requires : goal.empty-requires
+empty-requires g c = (lit< tt, capacity-le g.row.N c.requires.capacity)
+
+pub loop-restart-init : goal.loop-restart-init
+loop-restart-init g c = none_restarts g.row.N c.args.periods c.empty.result c.in_ok-sets.sets.items (c.in_ok-sets.ensures.items_if_clones_equal (λ y e. e)) c.empty.ensures
+
+pub returns : goal.returns
+returns g c =
+    let all : List Restart = c.args.restarts.now in
+    let end : length all ≤ c.loop-restart.restart-index = omega (arith, c.loop-restart-test.false) in
+    subst (λ (rs : List Restart). IsRestarting g.row.N c.args.periods rs c.loop-restart.sets.items) (take_all c.loop-restart.restart-index all end) c.loop-restart.invariant

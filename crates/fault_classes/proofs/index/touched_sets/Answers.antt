@@ -1,4 +1,4 @@
-use Rattle.std.proofs.Common.{◌≡◌, ℕ, zero, suc, false, replicate, refl, ◌≤◌, ◌^◌, ◌<◌, ◌+◌, ◌++◌, ◌∷◌, [], true, List, map, length, take, drop, get_or, sym, ap, ◌∙◌, arith, lit<, subst}
+use Rattle.std.proofs.Common.{◌≡◌, ℕ, false, replicate, refl, ◌≤◌, ◌^◌, ◌<◌, ◌+◌, ◌++◌, ◌∷◌, [], true, List, map, length, take, drop, get_or, sym, ap, ◌∙◌, arith, lit<, subst}
 use Rattle.std.proofs.lemmas.Result.{IfOk-from_err}
 use Rattle.std.proofs.lemmas.List.{length-map, take-append-le, take_all}
 use Rattle.node_grid.specs.CapacityLaws.{capacity-le}
@@ -7,7 +7,7 @@ use Rattle.fault_classes.specs.Line.{Line, line_of}
 use Rattle.fault_classes.specs.Rules.{is_line}
 use Rattle.fault_classes.specs.Index.{IsTouched}
 use Rattle.fault_classes.proofs.Entries.{all_here}
-use Rattle.fault_classes.proofs.Places.{line_at, front_at}
+use Rattle.fault_classes.proofs.Places.{line_at, front_at, none_there, long_as}
 use Rattle.fault_classes.proofs.Ranges.{line_facts}
 use Rattle.fault_classes.proofs.Sending.{touched_push}
 use Rattle.fault_classes.proofs.index.touched_sets.Goals as goal
@@ -16,15 +16,6 @@ written : (new old : List (List ℕ)) (n : ℕ) → length new ≡ length old �
 written new old n a b = take-append-le n new (drop (length new) old) (omega arith) ∙ take_all n new (omega arith)
 
 -- no line touches anything
-none_there : (k p : ℕ) → get_or {A = List ℕ} (replicate k []) p [] ≡ []
-none_there zero p = refl
-none_there (suc k) zero = refl
-none_there (suc k) (suc p) = none_there k p
-
-long_as : {X : Type 0} (k : ℕ) (x : X) → length (replicate k x) ≡ k
-long_as zero x = refl
-long_as (suc k) x = ap suc (long_as k x)
-
 none_touched : (n t : ℕ) (x : List ℕ) (sets : List (List ℕ)) → sets ≡ replicate t x → x ≡ [] → IsTouched n t [] sets
 none_touched n t x sets e z = record {
   long = ap length e ∙ long_as t x;
