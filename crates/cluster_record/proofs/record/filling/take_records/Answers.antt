@@ -1,7 +1,12 @@
-use Rattle.std.proofs.Common.{inl, inr, lit<, ap, ◌∙◌, arith}
+use Rattle.std.proofs.Common.{ℕ, ◌≡◌, ◌<◌, ◌≤◌, ◌*◌, ◌^◌, length, inl, inr, lit<, ap, ◌∙◌, arith}
+use Rattle.std.proofs.lemmas.Nat.{mul-le}
 use Rattle.node_steps.specs.Parts.{NodeView}
 use Rattle.cluster_record.proofs.Taking.{more_records, all_records}
 use Rattle.cluster_record.proofs.record.filling.take_records.Goals as goal
+
+-- the place of an element has a number
+offset_fits : (i few many size : ℕ) → i < few → many ≡ few → many * size < 2 ^ 63 → i * size < 2 ^ 64
+offset_fits i few many size low same fits = let m : i * size ≤ many * size = mul-le i size many size (omega (arith, low, same)) (omega arith) in omega (arith, m, fits)
 
 pub loop-i-init : goal.loop-i-init
 loop-i-init g c = λ k d low. absurd (omega (arith, low))
@@ -33,3 +38,6 @@ loop-i-preserved g c =
 
 pub returns : goal.returns
 returns g c = all_records c.args.nodes.now c.loop-i.records c.loop-i.i (omega (arith, c.loop-i.auto.records, c.requires.each)) (omega (arith, c.loop-i-test.false)) c.loop-i.invariant
+
+pub offset_bounds-records-i : goal.offset_bounds-records-i
+offset_bounds-records-i g c = record { fits = offset_fits c.loop-i.i (length c.args.nodes.now) (length c.args.records.now) _ c.loop-i-test.true c.requires.each c.well_formed.1.0.1 }

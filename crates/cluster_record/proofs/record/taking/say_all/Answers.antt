@@ -1,11 +1,16 @@
-use Rattle.std.proofs.Common.{◌≡◌, ◌<◌, map, length, get_or, inl, inr, lit<, refl, ap, ◌∙◌, arith}
+use Rattle.std.proofs.Common.{ℕ, ◌≡◌, ◌<◌, ◌≤◌, ◌*◌, ◌^◌, map, length, get_or, inl, inr, lit<, refl, ap, ◌∙◌, arith}
 use Rattle.std.proofs.lemmas.List.{length-map}
+use Rattle.std.proofs.lemmas.Nat.{mul-le}
 use Rattle.std.proofs.lemmas.List.Elements.{All-get_or, All-set}
 use Rattle.node_steps.specs.Parts.{NodeView}
 use Rattle.node_steps.specs.Steps.{frame_of}
 use Rattle.cluster_record.specs.Buffers.{IsBuffer}
 use Rattle.cluster_record.proofs.Taking.{bytes_of, at_node, fits, buffer_refilled, more_taken, all_taken}
 use Rattle.cluster_record.proofs.record.taking.say_all.Goals as goal
+
+-- the place of an element has a number
+offset_fits : (i few many size : ℕ) → i < few → many ≡ few → many * size < 2 ^ 63 → i * size < 2 ^ 64
+offset_fits i few many size low same fits = let m : i * size ≤ many * size = mul-le i size many size (omega (arith, low, same)) (omega arith) in omega (arith, m, fits)
 
 pub offset_bounds-nodes-i : goal.offset_bounds-nodes-i
 offset_bounds-nodes-i g c = omega (arith, c.loop-i-test.true)
@@ -51,3 +56,6 @@ returns-clause-bytes g c =
     let a : length (map bytes_of c.loop-i.frames) ≡ length c.loop-i.frames = length-map c.loop-i.frames bytes_of in
     let b : length (map frame_of c.args.nodes.now) ≡ length c.args.nodes.now = length-map c.args.nodes.now frame_of in
     all_taken (map bytes_of c.loop-i.frames) (map frame_of c.args.nodes.now) c.loop-i.i (omega (arith, a, b, long)) (omega (arith, a, long, c.loop-i-test.false)) c.loop-i.invariant.0
+
+pub offset_bounds-frames-i : goal.offset_bounds-frames-i
+offset_bounds-frames-i g c = record { fits = offset_fits c.loop-i.i (length c.args.nodes.now) (length c.args.frames.now) 24 c.loop-i-test.true c.requires.each c.well_formed.1.0.1 }
