@@ -56,3 +56,8 @@ returns g c =
     let seen : PeriodView → PeriodView = λ v. record v { sent = set v.sent c.args.slot (map frame_of c.args.nodes.now) } in
     let with : List (List (List ℕ)) → PeriodView = λ xs. record (shown c.self.inside) { sent = xs } in
     ap with (map-set slot_bytes c.self.inside.sent.items c.args.slot (with_items old c.say_all.new.frames) ∙ ap (set (map slot_bytes c.self.inside.sent.items) c.args.slot) made) ∙ ap seen c.self.view_is
+
+pub index_mut-requires : goal.index_mut-requires
+index_mut-requires g c =
+    let m : c.self.inside.m ≡ c.args.self.now.m = ap (λ (v : PeriodView). v.m) c.self.view_is in
+    omega (arith, c.self.invariant.slots, ap slot_count m, c.requires.slot, c.self.inside.sent.ok.0)
