@@ -1,7 +1,12 @@
-use Rattle.std.proofs.Common.{◌≡◌, ◌<◌, ℕ, Option, None, Some, sym}
+use Rattle.std.proofs.Common.{◌≡◌, ◌<◌, ℕ, Option, None, Some, lit<, sym, ap, ◌∙◌}
 use Rattle.std.specs.Prelude.{IfSome}
+use Rattle.std.proofs.lemmas.Bool.{cond-true, cond-false}
+use Rattle.node_grid.specs.NodeSet.{has_id}
 use Rattle.list_scheduler.specs.Copies.{CopyTable, works}
 use Rattle.list_scheduler.specs.CopyLaws.{works_runs}
+use Rattle.node_grid.specs.Kinds.{no_claim}
+use Rattle.agreed_state.specs.Agreed.{AgreedView}
+use Rattle.protocol.specs.View.{claim_at, own_claim}
 use Rattle.node_core.proofs.claim.own_claim.Goals as goal
 
 low : (copies : CopyTable) (q : ℕ) (o : Option (ℕ × ℕ)) → o ≡ works copies q → IfSome o (λ w. w.0 < 32)
@@ -10,3 +15,20 @@ low copies q (Some w) e = (works_runs copies q w (sym e)).1
 
 pub claim_at-requires : goal.claim_at-requires
 claim_at-requires g c = low c.agreed.inside.copies c.args.me c.running.result c.running.ensures
+
+pub returns-then-has : goal.returns-then-has
+returns-then-has g c =
+    let n = c.agreed.inside in
+    let run = c.args.inputs.now.run in
+    c.claim_at.ensures ∙ ap (claim_at run) c.running.ensures
+    ∙ sym (cond-true (has_id n.members c.args.me) (claim_at run (works n.copies c.args.me)) no_claim (sym c.has.ensures ∙ c.if-has.true))
+    ∙ ap (λ (a : AgreedView). own_claim c.args.me c.args.inputs.now a) c.agreed.view_is
+
+pub returns-else-has : goal.returns-else-has
+returns-else-has g c =
+    let n = c.agreed.inside in
+    sym (cond-false (has_id n.members c.args.me) (claim_at c.args.inputs.now.run (works n.copies c.args.me)) no_claim (sym c.has.ensures ∙ c.if-has.false))
+    ∙ ap (λ (a : AgreedView). own_claim c.args.me c.args.inputs.now a) c.agreed.view_is
+
+pub has-requires : goal.has-requires
+has-requires g c = lit< tt
