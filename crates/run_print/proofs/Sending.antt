@@ -4,7 +4,8 @@ use Rattle.std.specs.Prelude.{is_err}
 use Rattle.std.proofs.KnownBytes.{Appends-trans}
 use Rattle.span_io.specs.Causes.{Writes, AppendsPrefix}
 use Rattle.span_io.specs.Progress.{front, back}
-use Rattle.run_print.specs.Printing.{Gathers, Fails, PrintedIf}
+use Rattle.run_print.specs.Printing.{Gathers, Fails, PrintedIf, Prints}
+use Rattle.run_print.specs.declared.printer.Printer.{Printer}
 
 -- what is gathered and the piece go to the sink
 written : {T E : Type 0} (old w w' : Option (List ℕ)) (before f f' : ℕ) (g t x : List ℕ) (r : Result T E) → Gathers old w before f g t → Writes w w' f f' (g ++ x) r → PrintedIf (is_err r) old w' before f' [] (t ++ x)
@@ -37,3 +38,17 @@ pub sent_alone : {T E : Type 0} (failed now : Bool) (old w w' : Option (List ℕ
     → Writes w w' f f' x r → PrintedIf failed old w before f g t → PrintedIf now old w' before f' g (t ++ x)
 sent_alone failed now old w w' before f f' g t x r none e n q h =
     subst (λ y. PrintedIf now old w' before f' y (t ++ x)) (sym none) (sent failed now old w w' before f f' [] t x r e n (q) (subst (λ y. PrintedIf failed old w before f y t) none h))
+
+-- what is gathered behind what was, or nothing where nothing goes there any more
+more : (b : Bool) (old w : Option (List ℕ)) (before f : ℕ) (g t x : List ℕ) → PrintedIf b old w before f g t → PrintedIf b old w before f (g ++ x) (t ++ x)
+more false old w before f g t x h = record { front = h.front; splits = sym (append_assoc h.front g x) ∙ ap (λ y. y ++ x) h.splits; written = h.written; same = h.same }
+more true old w before f g t x h = record { prefix = front old w t x h.prefix; rose = h.rose; later = h.later }
+
+-- a piece that is gathered
+pub kept : (failed : Bool) (old w : Option (List ℕ)) (before f : ℕ) (g g' t x : List ℕ) → g' ≡ g ++ x → PrintedIf failed old w before f g t → PrintedIf failed old w before f g' (t ++ x)
+kept failed old w before f g g' t x e h = subst (λ y. PrintedIf failed old w before f y (t ++ x)) (sym e) (more failed old w before f g t x h)
+
+-- a printer in which a piece found no room is the printer before
+pub unchanged : {S : Type 0} {room : ℕ} {written : S → Option (List ℕ)} {faults : S → ℕ} {b : Printer room} {r s : S} {text : List ℕ} (a : Printer room) (g : List ℕ) → g ≡ a.gathered
+    → Prints written faults (record { gathered = g; failed = a.failed }) r b s text → Prints written faults a r b s text
+unchanged {S} {room} {written} {faults} {b} {r} {s} {text} a g e h = subst (λ (y : List ℕ). Prints written faults (record { gathered = y; failed = a.failed }) r b s text) e h
