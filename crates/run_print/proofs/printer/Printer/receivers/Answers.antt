@@ -1,4 +1,4 @@
-use Rattle.std.proofs.Common.{◌≡◌, None, not, ap, ◌∙◌, append-nil}
+use Rattle.std.proofs.Common.{◌≡◌, ℕ, List, None, not, ap, ◌∙◌, append-nil}
 use Rattle.std.specs.List.{flat_map}
 use Rattle.node_grid.specs.NodeSet.{ids_below}
 use Rattle.fault_classes.specs.Change.{change_of}
@@ -16,16 +16,17 @@ loop-to-preserved g c =
     let slot = c.args.slot in
     let from = c.args.from in
     let to = c.loop-to.to in
+    let before : List ℕ = flat_map (link_text plan shown slot from) (ids_below to) in
     let period : c.shown.inside.period ≡ shown.period = ap (λ v. v.period) c.shown.view_is in
     elim c.if-to-from.branch [
       | then-to-from+then-is_none w ↦
           let untouched : effect_at plan.lines c.shown.inside.period slot from to ≡ None =
           no_effect (λ e. change_of e.now) w.effect.result (effect_at plan.lines c.shown.inside.period slot from to) (ap not (w.is_none.ensures ∙ ap not w.if-is_none.true)) w.effect.ensures in
           rw (w.self-is, w.sink-is, flat_next (link_text plan shown slot from) to, link_untouched plan shown slot from to w.if-to-from.true (rw period at untouched))
-          (then c.loop-to.invariant (rw (c.rest_of-rest.ensures, c.sent-sent.ensures.bytes, c.as_slice-start.ensures.value, c.start_of-written.ensures, period) at w.untouched.ensures))
+          (then {xs = before} c.loop-to.invariant (rw (c.rest_of-rest.ensures, c.sent-sent.ensures.bytes, c.as_slice-start.ensures.value, c.start_of-written.ensures, period) at w.untouched.ensures))
       | then-to-from+else-is_none w ↦
           rw (w.self-is, w.sink-is, flat_next (link_text plan shown slot from) to, link_some plan shown slot from to w.if-to-from.true)
-          (then c.loop-to.invariant (rw (w.deliveries-delivered.ensures, c.sent-sent.ensures.bytes, c.as_slice-start.ensures.value, c.start_of-written.ensures, period) at w.copies.ensures))
+          (then {xs = before} c.loop-to.invariant (rw (w.deliveries-delivered.ensures, c.sent-sent.ensures.bytes, c.as_slice-start.ensures.value, c.start_of-written.ensures, period) at w.copies.ensures))
       | else-to-from w ↦
-          rw (w.self-is, w.sink-is, flat_next (link_text plan shown slot from) to, link_none plan shown slot from to w.if-to-from.false, append-nil (flat_map (link_text plan shown slot from) (ids_below to))) c.loop-to.invariant
+          rw (w.self-is, w.sink-is, flat_next (link_text plan shown slot from) to, link_none plan shown slot from to w.if-to-from.false, append-nil before) c.loop-to.invariant
     ]
