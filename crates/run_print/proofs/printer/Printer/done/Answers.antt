@@ -1,7 +1,8 @@
-use Rattle.std.proofs.Common.{◌≡◌, ◌∷◌, [], ◌++◌, List, ℕ, length, map, arith, ap, sym, ◌∙◌, append_assoc, length-append}
+use Rattle.std.proofs.Common.{◌≡◌, ◌∷◌, [], ◌++◌, List, ℕ, length, map, arith, ap, sym, ◌∙◌, append_assoc, length-append, append-nil, subst}
 use Rattle.std.specs.Prelude.{codes}
 use Rattle.std.proofs.lemmas.List.{map-append, length-map}
-use Rattle.run_text.specs.Text.{done_item}
+use Rattle.run_text.specs.Text.{joined, done_item}
+use Rattle.run_print.specs.Printing.{Prints}
 use Rattle.run_print.proofs.Joining.{further}
 use Rattle.run_print.proofs.printer.Printer.done.Goals as goal
 
@@ -19,3 +20,10 @@ loop-member-preserved g c =
       place = omega (arith, c.loop-member.invariant.place, length-append ys (q ∷ []));
       prints = rw (map-append item ys (q ∷ [])) (further (codes " ") (map item ys) (item q) c.loop-member.invariant.prints (rw place at c.separator.ensures) c.done_item.ensures);
     }
+
+pub returns : goal.returns
+returns g c =
+    let ys = c.loop-member.yielded in
+    let all : ys ≡ c.args.members.now = sym (c.loop-member.invariant.split ∙ ap (λ (xs : List ℕ). ys ++ xs) c.in-None.ensures.steps.0 ∙ append-nil ys) in
+    subst (λ (xs : List ℕ). Prints g.K.Sink.written g.K.Sink.faults c.args.self.now c.args.sink.now c.loop-member.self c.loop-member.sink (joined (codes " ") (map (done_item c.args.done.now) xs)))
+    all c.loop-member.invariant.prints

@@ -1,10 +1,12 @@
-use Rattle.std.proofs.Common.{◌≡◌, ℕ, List, None, not, ap, ◌∙◌, append-nil}
+use Rattle.std.proofs.Common.{◌≡◌, ℕ, List, None, not, ap, subst, arith, ◌∙◌, append-nil}
 use Rattle.std.specs.List.{flat_map}
 use Rattle.node_grid.specs.NodeSet.{ids_below}
 use Rattle.fault_classes.specs.Change.{change_of}
 use Rattle.fault_classes.specs.Line.{effect_at}
+use Rattle.cluster_periods.specs.Record.{PeriodView}
 use Rattle.run_text.specs.TraceText.{link_text}
-use Rattle.run_print.proofs.Joining.{then}
+use Rattle.run_print.specs.Printing.{Prints}
+use Rattle.run_print.proofs.Joining.{then, nothing}
 use Rattle.run_print.proofs.Lists.{flat_next, link_some, link_none, link_untouched, no_effect}
 use Rattle.run_print.proofs.printer.Printer.receivers.Goals as goal
 use Rattle.run_print.proofs.printer.Printer.receivers.Goals.{then-to-from+then-is_none, then-to-from+else-is_none, else-to-from}
@@ -30,3 +32,19 @@ loop-to-preserved g c =
       | else-to-from w ↦
           rw (w.self-is, w.sink-is, flat_next (link_text plan shown slot from) to, link_none plan shown slot from to w.if-to-from.false, append-nil before) c.loop-to.invariant
     ]
+
+pub untouched-requires : goal.untouched-requires
+untouched-requires g c = assumption
+
+pub loop-to-init : goal.loop-to-init
+loop-to-init g c = nothing g.K.Sink.written g.K.Sink.faults c.args.self.now c.args.sink.now
+
+pub loop-to-smaller : goal.loop-to-smaller
+loop-to-smaller g c = omega (arith, c.loop-to-test.true)
+
+pub returns : goal.returns
+returns g c =
+    let nodes : c.shown.inside.nodes ≡ c.args.shown.now.nodes = ap (λ (t : PeriodView). t.nodes) c.shown.view_is in
+    let last : c.loop-to.to ≡ c.args.shown.now.nodes = omega (arith, nodes, c.loop-to-test.false, c.loop-to.auto.to-end) in
+    subst (λ (k : ℕ). Prints g.K.Sink.written g.K.Sink.faults c.args.self.now c.args.sink.now c.loop-to.self c.loop-to.sink
+    (flat_map (link_text c.args.plan.now c.args.shown.now c.args.slot c.args.from) (ids_below k))) last c.loop-to.invariant
