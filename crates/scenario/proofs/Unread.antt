@@ -1,5 +1,5 @@
 -- Parts that are read one after another, and what is made of one that can't be read.
-use Rattle.std.proofs.Common.{◌≡◌, ℕ, Bool, true, List, Option, Some, None, Result, Ok, Err, IsErrAnd, option_and_then, if◌then◌else◌, ap, sym, ◌∙◌}
+use Rattle.std.proofs.Common.{◌≡◌, ℕ, Bool, true, false, List, Option, Some, None, Result, Ok, Err, IsErrAnd, option_and_then, if◌then◌else◌, ap, sym, ◌∙◌}
 use Rattle.serde_json.specs.Data.{Data}
 use Rattle.json_parts.specs.Part.{Gives}
 use Rattle.json_parts.specs.Reading.{has_keys, object_of}
@@ -17,6 +17,9 @@ none_by f e = ap (option_and_then f) e
 pub keyed : {X : Type 0} (names : List (List ℕ)) (fields : Data → Option X) (d : Data) {has : Bool} {whole : Option X}
     → has ≡ has_keys names d → has ≡ true → fields d ≡ whole → object_of names fields d ≡ whole
 keyed names fields d e on h = ap (λ b. if b then fields d else None) (sym e ∙ on) ∙ h
+
+pub no_keys : {X : Type 0} (names : List (List ℕ)) (fields : Data → Option X) (d : Data) {has : Bool} → has ≡ has_keys names d → has ≡ false → object_of names fields d ≡ None
+no_keys names fields d e off = ap (λ b. if b then fields d else None) (sym e ∙ off)
 
 -- an error of a part is passed on, and where there is no part there is no whole
 pub unread : {A X Y : Type 0} (seen : A → X) (whole : Option X) (part : Option Y) (r : Result A PartError) (e : PartError) → IsErrAnd r (λ y. y ≡ e) → Gives (λ (y : Y). y) part (Err e)

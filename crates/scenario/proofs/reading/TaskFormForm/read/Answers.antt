@@ -1,7 +1,7 @@
 use Rattle.serde_json.specs.View.{view}
 use Rattle.scenario.specs.Keys.{task_names, task_fields}
 use Rattle.scenario.specs.Seen.{task_view}
-use Rattle.scenario.proofs.Unread.{then_by, none_by, keyed, unread}
+use Rattle.scenario.proofs.Unread.{then_by, none_by, keyed, no_keys, unread}
 use Rattle.scenario.proofs.reading.TaskFormForm.read.Goals as goal
 
 pub returns-in_err-required : goal.returns-in_err-required
@@ -39,3 +39,6 @@ returns-in_err-required-6 c =
     (λ n. keyed task_names task_fields (view c.args.value.now) c.has_keys.ensures c.if-not-has_keys.false
     (then_by _ c.in_ok-required.ensures (then_by _ c.in_ok-required-2.ensures (then_by _ c.in_ok-required-3.ensures (then_by _ c.in_ok-required-4.ensures
     (then_by _ c.in_ok-required-5.ensures (none_by _ n)))))))
+
+pub returns-then-not-has_keys : goal.returns-then-not-has_keys
+returns-then-not-has_keys c = no_keys task_names task_fields (view c.args.value.now) c.has_keys.ensures c.if-not-has_keys.true
