@@ -84,3 +84,27 @@ returns-clause-bytes c =
     let size : (place + count) - place ≡ count = omega arith in
     let copied : c.copy_from_slice.new.self ≡ take count (drop place items) = rw (size, c.deref-2.ensures.value) at c.copy_from_slice.ensures.after in
     (ap (λ s. s.left) (sym c.self.view_is) ∙ taken items (drop count c.args.buf.now) c.copy_from_slice.new.self place count within copied, λ none some. let end : length items ≤ place + count = omega (arith, within, c.self.invariant.0) in drop_all _ _ end)
+
+pub returns-then-contains-clause-bound : goal.returns-then-contains-clause-bound
+returns-then-contains-clause-bound c = tt
+
+pub returns-then-contains-clause-amount : goal.returns-then-contains-clause-amount
+returns-then-contains-clause-amount c = tt
+
+pub returns-then-contains-clause-bytes : goal.returns-then-contains-clause-bytes
+returns-then-contains-clause-bytes c = ap (λ (s : SourceState). s.left) c.self.view_is
+
+pub returns-then-contains-clause-given : goal.returns-then-contains-clause-given
+returns-then-contains-clause-given c = ap (λ (s : SourceState). s.given) c.self.view_is
+
+pub returns-then-contains-clause-same_piece : goal.returns-then-contains-clause-same_piece
+returns-then-contains-clause-same_piece c = ap (λ (s : SourceState). s.piece) c.self.view_is
+
+pub returns-then-contains-clause-same_fails : goal.returns-then-contains-clause-same_fails
+returns-then-contains-clause-same_fails c = ap (λ (s : SourceState). s.fails) c.self.view_is
+
+pub returns-clause-same_piece : goal.returns-clause-same_piece
+returns-clause-same_piece c = ap (λ (s : SourceState). s.piece) c.self.view_is
+
+pub returns-clause-same_fails : goal.returns-clause-same_fails
+returns-clause-same_fails c = ap (λ (s : SourceState). s.fails) c.self.view_is
