@@ -1,12 +1,14 @@
 -- What is written of a period is its printed text.
-use Rattle.std.proofs.Common.{◌≡◌, ℕ, Bool, refl, ap, subst, ◌∙◌, Result, Ok, Err}
+use Rattle.std.proofs.Common.{◌≡◌, ℕ, ◌<◌, ◌≤◌, Bool, true, false, refl, sym, ap, subst, ◌∙◌, arith, Result, Ok, Err}
 use Rattle.fault_classes.specs.Plan.{Plan}
-use Rattle.scenario.specs.Scenario.{ScenarioView, system_of}
+use Rattle.scenario.specs.Scenario.{ScenarioView, system_of, IsScenario}
 use Rattle.cluster_periods.specs.Record.{PeriodView, Shows, period_record}
 use Rattle.agreed_state.specs.declared.config.Config.{Config}
 use Rattle.node_steps.specs.Outcome.{Outcome}
 use Rattle.node_steps.specs.Stages.{outcome_of}
 use Rattle.run_text.specs.PeriodText.{alone_text}
+use Rattle.run_text.specs.TraceText.{IsPlanOf}
+use Rattle.cluster_record.proofs.Planned.{planned_periods, planned_rounds, planned_nodes}
 use Rattle.node_alone.specs.Log.{RecordView}
 use Rattle.node_alone.specs.Stepping.{AloneView}
 use Rattle.node_alone.specs.View.{view_alone}
@@ -32,6 +34,26 @@ unfolding printed
 printed_is {N} form f sc run plan frames t p e same g framed h =
     shown_so f plan t (period_record (system_of run) run.clock p) (subst (λ (b : Bool). Shows b t (period_record (system_of run) run.clock p)) (framed ∙ ap has_frames e) h)
     ∙ same_shown f form plan sc.plan (period_record (system_of run) run.clock p) (period_record (system_of sc) sc.clock p) e g (ap (λ (s : ScenarioView N). period_record (system_of s) s.clock p) same)
+
+-- what a shown record keeps of its period: the nodes, for which there is room, and that the scenario's plan is made for it
+parts_shown : (frames : Bool) (t r : PeriodView) → Shows frames t r → (t.nodes ≡ r.nodes) × (t.m ≡ r.m) × (t.period ≡ r.period)
+parts_shown true t r h = (ap (λ (v : PeriodView). v.nodes) h, ap (λ (v : PeriodView). v.m) h, ap (λ (v : PeriodView). v.period) h)
+parts_shown false t r h = (ap (λ (v : PeriodView). v.nodes) h, ap (λ (v : PeriodView). v.m) h, ap (λ (v : PeriodView). v.period) h)
+
+module _ {N : ℕ} (sc run : ScenarioView N) (frames : Bool) (t : PeriodView) (p : ℕ) (same : run ≡ sc) (is : IsScenario sc) (h : Shows frames t (period_record (system_of run) run.clock p)) where
+  kept : (t.nodes ≡ sc.config.nodes) × (t.m ≡ sc.config.m) × (t.period ≡ p)
+  kept = let k = parts_shown frames t (period_record (system_of run) run.clock p) h in
+      (k.0 ∙ ap (λ (s : ScenarioView N). s.config.nodes) same, k.1 ∙ ap (λ (s : ScenarioView N). s.config.m) same, k.2)
+
+  pub shown_few : t.nodes ≤ N
+  shown_few = subst (λ (n : ℕ). n ≤ N) (sym kept.0) is.system.config.few_nodes
+
+  pub shown_planned : (plan : Plan) → plan ≡ sc.plan → p < run.periods → IsPlanOf plan t
+  shown_planned plan lent more = record {
+    nodes = planned_nodes lent is ∙ sym kept.0;
+    rounds = planned_rounds lent is ∙ sym kept.1;
+    periods = omega (arith, more, kept.2, planned_periods lent is, ap (λ (s : ScenarioView N). s.periods) same);
+  }
 
 -- what is Ok is no error
 pub is_ok : {T E : Type 0} (x : T) (e : E) → ◌≡◌ {A = Result T E} (Ok x) (Err e) → ⊥
