@@ -35,7 +35,7 @@ fn scenario_of(alloc: Global, bytes: &[u8]) -> Result<Scenario<16>, ScenarioErro
     let Ok(value) = Value::from_slice(alloc, bytes) else {
         return Err(ScenarioError::Unreadable);
     };
-    let scenario = Scenario::from_value(alloc, &value);
+    let scenario = scenario_reading::from_value(alloc, &value);
     forget(value);
     scenario
 }

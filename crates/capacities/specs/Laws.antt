@@ -2,7 +2,7 @@
 use Rattle.std.specs.Prelude.{◌≤◌}
 use Rattle.serde_json.specs.Data.{Data}
 use Rattle.scenario.specs.Scenario.{ScenarioView}
-use Rattle.scenario.specs.Verdict.{IsAcceptedValue}
+use Rattle.scenario_reading.specs.Verdict.{IsAcceptedValue}
 use Rattle.capacities.specs.Texts.{HaveSameTexts}
 
 -- what is accepted with room for 8 nodes is accepted with room for 16, and has the same texts

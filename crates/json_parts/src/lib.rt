@@ -3,12 +3,10 @@
 
 mod error;
 mod forms;
-mod hexadecimal;
 mod keys;
 mod reading;
 
 pub use error::PartError;
 pub use forms::{Number, Numbers, Text, number_or};
-pub use hexadecimal::bytes_of_hex;
 pub use keys::has_keys;
 pub use reading::{Form, list, lone, optional, optional_list, required, required_list};

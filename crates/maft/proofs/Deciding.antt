@@ -3,8 +3,8 @@ use Rattle.std.proofs.Common.{◌≡◌, ℕ, ◌<◌, ◌≤◌, List, length, 
 use Rattle.std.specs.Prelude.{IfSome}
 use Rattle.span_io.specs.Causes.{Rose}
 use Rattle.serde_json.specs.Data.{Data}
-use Rattle.scenario.specs.Reading.{Reads}
-use Rattle.scenario.specs.Verdict.{value_refusal, refusal_on}
+use Rattle.scenario_reading.specs.Reading.{Reads}
+use Rattle.scenario_reading.specs.Verdict.{value_refusal, refusal_on}
 use Rattle.node_alone.specs.Rules.{record_refusal}
 use Rattle.maft.specs.declared.status.Status.{Status}
 use Rattle.maft.specs.declared.status.Status.TheVariants.{Done, Usage, Unreadable, Refused, ReadFault, WriteFault, NoMemory, TooLong}

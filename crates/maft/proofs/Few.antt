@@ -4,7 +4,7 @@ use Rattle.serde_json.specs.Data.{Data}
 use Rattle.scenario.specs.Parts.{ScenarioParts}
 use Rattle.scenario.specs.Given.{scenario_of}
 use Rattle.scenario.specs.Scenario.{ScenarioView, IsScenario}
-use Rattle.scenario.specs.Verdict.{IsAcceptedValue}
+use Rattle.scenario_reading.specs.Verdict.{IsAcceptedValue}
 use Rattle.node_alone.specs.Log.{RecordView}
 use Rattle.scenario_capacities.specs.Laws.{StaysAcceptedLaw}
 use Rattle.maft.specs.declared.form.Form.{Form}

@@ -3,9 +3,9 @@ use Rattle.std.specs.Prelude.{◌≡◌, ℕ, ◌<◌, ◌≤◌, ◌⊎◌, Lis
 use Rattle.std.specs.Io.KnownBytes.{Appends, Keeps, IsAtEnd}
 use Rattle.span_io.specs.Causes.{Rose, AppendsPrefix}
 use Rattle.serde_json.specs.Data.{Data}
-use Rattle.scenario.specs.Reading.{Reads}
+use Rattle.scenario_reading.specs.Reading.{Reads}
 use Rattle.scenario.specs.Scenario.{ScenarioView}
-use Rattle.scenario.specs.Verdict.{IsAcceptedValue, value_refusal}
+use Rattle.scenario_reading.specs.Verdict.{IsAcceptedValue, value_refusal}
 use Rattle.run_text.specs.PeriodText.{refused_text}
 use Rattle.node_alone.specs.Log.{RecordView}
 use Rattle.node_alone.specs.Rules.{IsAcceptedRecord, record_refusal}

@@ -6,7 +6,7 @@ use Rattle.node_grid.specs.NodeSet.{ids_below}
 use Rattle.node_grid.specs.declared.class.Class.TheVariants.{N}
 use Rattle.node_steps.specs.Outcome.{Outcome}
 use Rattle.scenario.specs.Scenario.{ScenarioView, IsScenario, system_of}
-use Rattle.scenario.specs.Verdict.{IsAcceptedValue}
+use Rattle.scenario_reading.specs.Verdict.{IsAcceptedValue}
 use Rattle.cluster_periods.specs.Record.{PeriodView, period_record}
 use Rattle.run_text.specs.Text.{class_text}
 use Rattle.run_text.specs.NodeText.{node_text}

@@ -6,7 +6,7 @@ ghost use Rattle.node_grid.specs.Capacity.{IsCapacity};
 ghost use Rattle.serde_json.specs.Data.{Data};
 ghost use Rattle.serde_json.specs.View.{view};
 ghost use Rattle.scenario.specs.Scenario.{ScenarioView};
-ghost use Rattle.scenario.specs.Verdict.{IsAcceptedValue};
+ghost use Rattle.scenario_reading.specs.Verdict.{IsAcceptedValue};
 ghost use Rattle.run_text.specs.PeriodText.{refused_text};
 ghost use Rattle.maft.specs.declared.form.Reading.{Reading as SpecReading};
 ghost use Rattle.maft.specs.declared.form.Reading.TheVariants.{Scenario as SpecScenario, Log as SpecLog};
@@ -24,6 +24,7 @@ use crate::{Command, Form, Reading, ReplayError, Status};
 use node_alone::Record;
 use run_print::{WriteFault, write_refused, write_storm};
 use scenario::{Scenario, ScenarioError};
+use scenario_reading::from_value;
 use serde_json::{Category, Value};
 use span_io::{ReadError, Sink, Source, read_all};
 use std::alloc::Global;
@@ -102,13 +103,13 @@ fn answer_value<K: Sink>(alloc: Global, form: Form, value: &Value, sink: &mut K)
     ensures { AnswersValue form (view value.now) (K.written sink.old) (K.written sink.new) (K.faults sink.old) (K.faults sink.new) result }
 {
     if has_few_nodes(value) {
-        match Scenario::<FEW>::from_value(alloc, value) {
+        match from_value::<FEW>(alloc, value) {
             Ok(scenario) => return ended(write_few(alloc, &scenario, form, sink)),
             Err(ScenarioError::NoMemory) => return Status::NoMemory,
             Err(_) => {}
         }
     }
-    match Scenario::<CAPACITY>::from_value(alloc, value) {
+    match from_value::<CAPACITY>(alloc, value) {
         Ok(scenario) => ended(write_form(alloc, &scenario, form, sink)),
         Err(ScenarioError::Refused { rule, place }) => {
             let _ = write_refused(rule, place, sink);

@@ -5,12 +5,13 @@ use Rattle.std.specs.Option.{option_or}
 use Rattle.std.proofs.lemmas.Bool.{lt-ltb, le-ltb}
 use Rattle.serde_json.specs.Data.{Data}
 use Rattle.scenario.specs.Parts.{ScenarioParts}
-use Rattle.scenario.specs.Keys.{parts_of}
+use Rattle.scenario_reading.specs.Keys.{parts_of}
 use Rattle.scenario.specs.Rules.{unless, at_place}
 use Rattle.scenario.specs.Scenario.{ScenarioView, IsScenario}
 use Rattle.scenario.specs.Given.{scenario_of}
-use Rattle.scenario.specs.Verdict.{Tells, IsAcceptedValue, value_refusal}
-use Rattle.scenario.specs.Verdict as scenario
+use Rattle.scenario.specs.Verdict.{Tells}
+use Rattle.scenario_reading.specs.Verdict.{IsAcceptedValue, value_refusal}
+use Rattle.scenario_reading.specs.Verdict as scenario
 use Rattle.scenario.specs.declared.error.ScenarioError.{ScenarioError}
 use Rattle.scenario.specs.declared.error.ScenarioError.TheVariants.{Unreadable, Refused, NoMemory}
 use Rattle.node_alone.specs.Log.{Entry}

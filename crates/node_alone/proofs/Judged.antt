@@ -14,7 +14,7 @@ use Rattle.node_alone.specs.Rules.{Limits, is_placed, is_entry, entry_of, first_
 use Rattle.node_alone.specs.Seen.{part_view, entry_view, IsPlaced, Ascends}
 use Rattle.node_alone.specs.declared.entry.Entry.{Entry as Kept}
 use Rattle.node_alone.specs.declared.reading.EntryPart.{EntryPart}
-use Rattle.json_parts.proofs.Collect.{drop-here}
+use Rattle.scenario.proofs.Turns.{drop-here}
 use Rattle.node_alone.proofs.Ordering.{follows, ascends_more}
 
 pub below : (n : ℕ) (z : ℤ) → is_below n z ≡ true → natural z < n

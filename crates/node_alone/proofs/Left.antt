@@ -7,7 +7,7 @@ use Rattle.node_steps.specs.Steps.{given_frame}
 use Rattle.node_alone.specs.Log.{Entry, is_before, arriving, arrivals}
 use Rattle.node_alone.specs.Seen.{Ascends}
 use Rattle.node_alone.specs.Stepping.{handed, from_slot, IsFromOther, IsReady}
-use Rattle.json_parts.proofs.Collect.{drop-here}
+use Rattle.scenario.proofs.Turns.{drop-here}
 use Rattle.node_alone.proofs.Ordering.{at_from, from_next, passes, ascends_drop, all_later, later_stay, later_bring, bring_next, skip_next}
 
 pub nothing_left : (es : List Entry) (k : ℕ) → length es ≤ k → drop k es ≡ []

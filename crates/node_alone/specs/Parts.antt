@@ -3,7 +3,7 @@ use Rattle.std.specs.Prelude.{ℕ, ℤ, List, [], ◌∷◌, Option, Some, None,
 use Rattle.serde_json.specs.Data.{Data, Items, no_items, item}
 use Rattle.serde_json.specs.Find.{as_array, as_str, as_object}
 use Rattle.json_parts.specs.Reading.{whole, list_of, required, object_of}
-use Rattle.scenario.specs.Keys.{◌>>=◌}
+use Rattle.scenario_reading.specs.Keys.{◌>>=◌}
 
 -- an entry, before any rule on its numbers is tried: four numbers, and a text, which is the list of its bytes
 pub record EntryParts : Type 0 where

@@ -8,7 +8,7 @@ use Rattle.slot_plan.specs.Slots.{slot_count}
 use Rattle.slot_plan.specs.Ticks.{last_tick}
 use Rattle.serde_json.specs.Data.{Data}
 use Rattle.scenario.specs.Parts.{ScenarioParts}
-use Rattle.scenario.specs.Keys.{parts_of}
+use Rattle.scenario_reading.specs.Keys.{parts_of}
 use Rattle.scenario.specs.Numbers.{is_within, is_below, natural}
 use Rattle.scenario.specs.Rules.{refusal, unless, at_place}
 use Rattle.scenario.specs.Scenario.{ScenarioView}

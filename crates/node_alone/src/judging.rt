@@ -12,8 +12,7 @@ ghost use Rattle.node_alone.specs.Seen.{part_view, limits_view, entry_view};
 use crate::entry::Entry;
 use crate::reading::EntryPart;
 use crate::table::Table;
-use json_parts::bytes_of_hex;
-use scenario::ScenarioError;
+use scenario::{ScenarioError, bytes_of_hex};
 use slot_plan::LAST_TICK;
 use std::alloc::{AllocError, Global};
 

@@ -93,7 +93,7 @@ impl<const N: usize> Record<N> {
             Err(PartError::NoPart) => return Err(ScenarioError::Refused { rule: 15, place: 0 }),
             Err(PartError::NoMemory) => return Err(ScenarioError::NoMemory),
         };
-        let scenario = match Scenario::from_value(alloc, parts.scenario) {
+        let scenario = match scenario_reading::from_value(alloc, parts.scenario) {
             Ok(scenario) => scenario,
             Err(error) => return Err(error),
         };

@@ -12,7 +12,7 @@ use Rattle.scenario.specs.Line.{lie_in}
 use Rattle.scenario.specs.Rules.{first_bad, is_fair, is_said, is_lie, fits_lie}
 use Rattle.scenario.specs.Seen.{lie_view}
 use Rattle.scenario.specs.declared.parts.LiePart.{LiePart}
-use Rattle.json_parts.proofs.Collect.{drop-here}
+use Rattle.scenario.proofs.Turns.{drop-here}
 use Rattle.scenario.proofs.Places.{none_before, bad_here}
 
 pub range_at : (f : ℕ → Bool) (a n k : ℕ) → list_all f (range_with_len a n) ≡ true → a ≤ k → k < a + n → f k ≡ true

@@ -1,9 +1,13 @@
 -- Lists whose elements are tried in turn, up to the first that fails.
-use Rattle.std.proofs.Common.{◌≡◌, ℕ, ◌+◌, ◌<◌, ◌≤◌, Bool, true, false, ◌&&◌, nat_le, ℤ, List, map, length, drop, get_or, sym, ap, ◌∙◌}
+use Rattle.std.proofs.Common.{◌≡◌, ℕ, ◌+◌, suc, ◌<◌, ◌≤◌, Bool, true, false, ◌&&◌, nat_le, ℤ, List, ◌∷◌, map, length, drop, get_or, sym, ap, ◌∙◌, add-one}
+use Rattle.std.proofs.Math.Seq.{drop-cons}
 use Rattle.std.specs.List.{list_all}
 use Rattle.std.proofs.lemmas.List.{length-map, at_drop_all}
-use Rattle.json_parts.proofs.Collect.{drop-here}
 use Rattle.scenario.specs.Rules.{are_rows}
+
+-- what is left begins with the element at i
+pub drop-here : {X : Type 0} (xs : List X) (i : ℕ) (x : X) → i < length xs → x ≡ get_or xs i x → drop i xs ≡ x ∷ drop (i + 1) xs
+drop-here xs i x h e = rw (add-one, drop-cons xs i x) (ap (λ w. w ∷ drop (suc i) xs) (sym e))
 
 module _ {X Y : Type 0} (p : Y → Bool) (v : X → Y) (xs : List X) (k : ℕ) where
   -- an element is tried, and then those behind it

@@ -1,6 +1,0 @@
-use Rattle.std.proofs.Common.{sym, ◌∙◌}
-use Rattle.json_parts.proofs.Digits.{no_bytes}
-use Rattle.json_parts.proofs.hexadecimal.decode_pairs.Goals as goal
-
-pub returns-then-not-are_digits-clause-none : goal.returns-then-not-are_digits-clause-none
-returns-then-not-are_digits-clause-none c _ = no_bytes 0 _ (sym c.are_digits.ensures ∙ c.if-not-are_digits.true)

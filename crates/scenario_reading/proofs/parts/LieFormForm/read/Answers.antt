@@ -1,0 +1,27 @@
+use Rattle.serde_json.specs.View.{view}
+use Rattle.scenario_reading.specs.Keys.{lie_names, lie_fields}
+use Rattle.scenario.specs.Seen.{lie_view}
+use Rattle.scenario_reading.proofs.Unread.{then_by, none_by, keyed, unread}
+use Rattle.scenario_reading.proofs.parts.LieFormForm.read.Goals as goal
+
+pub returns-in_err-required : goal.returns-in_err-required
+returns-in_err-required c =
+    unread lie_view _ _ c.from_residual.result _ c.from_residual.ensures.1 c.in_err-required.ensures
+    (λ n. keyed lie_names lie_fields (view c.args.value.now) c.has_keys.ensures c.if-not-has_keys.false (none_by _ n))
+
+pub returns-in_err-required-2 : goal.returns-in_err-required-2
+returns-in_err-required-2 c =
+    unread lie_view _ _ c.from_residual-in_err-required-2.result _ c.from_residual-in_err-required-2.ensures.1 c.in_err-required-2.ensures
+    (λ n. keyed lie_names lie_fields (view c.args.value.now) c.has_keys.ensures c.if-not-has_keys.false (then_by _ c.in_ok-required.ensures (none_by _ n)))
+
+pub returns-in_err-required-3 : goal.returns-in_err-required-3
+returns-in_err-required-3 c =
+    unread lie_view _ _ c.from_residual-in_err-required-3.result _ c.from_residual-in_err-required-3.ensures.1 c.in_err-required-3.ensures
+    (λ n. keyed lie_names lie_fields (view c.args.value.now) c.has_keys.ensures c.if-not-has_keys.false
+    (then_by _ c.in_ok-required.ensures (then_by _ c.in_ok-required-2.ensures (none_by _ n))))
+
+pub returns-in_err-required-4 : goal.returns-in_err-required-4
+returns-in_err-required-4 c =
+    unread lie_view _ _ c.from_residual-in_err-required-4.result _ c.from_residual-in_err-required-4.ensures.1 c.in_err-required-4.ensures
+    (λ n. keyed lie_names lie_fields (view c.args.value.now) c.has_keys.ensures c.if-not-has_keys.false
+    (then_by _ c.in_ok-required.ensures (then_by _ c.in_ok-required-2.ensures (then_by _ c.in_ok-required-3.ensures (none_by _ n)))))
