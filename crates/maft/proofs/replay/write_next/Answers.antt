@@ -38,8 +38,7 @@ write_period-requires g c =
 
 pub write_period-requires-in-Trace : goal.write_period-requires-in-Trace
 write_period-requires-in-Trace g c =
-    let few : c.period-shown.result.now.nodes ≤ g.row.N = shown_few c.args.scenario.now c.args.cluster.now.scenario c.args.cluster.now.frames c.period-shown.result.now c.args.cluster.now.run c.requires.same c.plan-plan.ensures.scenario c.period-shown.ensures.shown in
-    (
+    let few : c.period-shown.result.now.nodes ≤ g.row.N = shown_few c.args.scenario.now c.args.cluster.now.scenario c.args.cluster.now.frames c.period-shown.result.now c.args.cluster.now.run c.requires.same c.plan-plan.ensures.scenario c.period-shown.ensures.shown in (
       elim c.requires.capacity [ inl e ↦ rw e (lit< tt) | inr e ↦ rw e (lit< tt) ],
       (
         lit< tt,

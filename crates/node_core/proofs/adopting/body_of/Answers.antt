@@ -39,8 +39,7 @@ at_self nodes me j o same = grind (arith, common_steps)
 
 pub frame-requires : goal.frame-requires
 frame-requires g c =
-    let heard = c.requires.watching in
-    (
+    let heard = c.requires.watching in (
       lit< tt,
       (
         elim c.requires.capacity [ inl e ↦ rw e (lit< tt) | inr e ↦ rw e (lit< tt) ],
@@ -56,8 +55,7 @@ frame-requires g c =
 
 pub state_of-requires : goal.state_of-requires
 state_of-requires g c =
-    let w = c.args.watch.now in
-    (
+    let w = c.args.watch.now in (
       elim c.requires.capacity [ inl e ↦ rw e (lit< tt) | inr e ↦ rw e (lit< tt) ],
       (
         c.requires.capacity,
@@ -73,7 +71,7 @@ returns g c =
     let w = c.args.watch.now in
     let j : ℕ = c.args.node in
     let heard = c.requires.watching in
-    c.state_of.ensures ∙ ap (λ (o : Option Content). content (arrived state_in None o)) (told_here w c.args.nodes j c.frame.result c.requires.watching.nodes_are c.frame.ensures.told) 
+    c.state_of.ensures ∙ ap (λ (o : Option Content). content (arrived state_in None o)) (told_here w c.args.nodes j c.frame.result c.requires.watching.nodes_are c.frame.ensures.told)
     ∙ body_had w j heard.some_slot (subst (λ (n : ℕ). j < n) (sym heard.nodes_are) c.if-node-nodes.false) (λ e. c.if-node-me.false (e ∙ heard.me_is))
     ∙ other_there c.args.nodes c.args.me j (content (has_of state_in w j)) c.if-node-nodes.false c.if-node-me.false
 

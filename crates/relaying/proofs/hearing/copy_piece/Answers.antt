@@ -73,7 +73,7 @@ pub set_entry-requires : goal.set_entry-requires
 set_entry-requires g c = omega (arith, c.loop-k-test.true, c.requires.within, c.requires.room, c.loop-k.invariant.1)
 
 pub returns-clause-copied : goal.returns-clause-copied
-returns-clause-copied g c = 
+returns-clause-copied g c =
     subst (λ (n : ℕ). take n c.loop-k.entries ≡ take n (entries_of (g.V.Item.read c.args.nodes) (g.V.Item.width c.args.nodes) c.args.cells.now.bytes.now)) (omega (arith, c.loop-k-test.false, c.loop-k.auto.k-end, c.requires.some)) c.loop-k.invariant.0
 
 pub returns-clause-length : goal.returns-clause-length

@@ -50,6 +50,6 @@ pub returns-clause-length : goal.returns-clause-length
 returns-clause-length g c = c.loop-k.invariant.1
 
 pub unrank-path-requires : goal.unrank-path-requires
-unrank-path-requires g c = 
+unrank-path-requires g c =
     let count : c.count_paths-count.result ≡ path_count (length c.args.others.now) c.args.round = c.count_paths-count.ensures.product ∙ ap (λ (n : ℕ). path_count n c.args.round) c.len.ensures.count in
     (lit< tt, (c.nodes-capacity.ensures.capacity, (c.requires.some_round, (omega (arith, c.requires.few), omega (arith, c.loop-k-test.true, count)))))

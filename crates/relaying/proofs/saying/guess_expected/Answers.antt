@@ -142,7 +142,7 @@ pub len-requires : goal.len-requires
 len-requires g c = lit< tt
 
 pub returns-clause-kept : goal.returns-clause-kept
-returns-clause-kept g c = 
+returns-clause-kept g c =
     let w = c.args.watch.now in
     let firsts : List ℕ = take (c.len.result * c.entry_width.result) c.write_roots.new.out in
     let body : List ℕ = expanded c.entry_width.result c.paths_of_each.result c.len.result firsts in

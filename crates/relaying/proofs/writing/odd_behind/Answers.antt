@@ -67,7 +67,7 @@ pub returns-then-has-clause-off : goal.returns-then-has-clause-off
 returns-then-has-clause-off g c = λ q on. absurd (false≢true (ap (λ (s : List ℕ). has_id s q) (sym c.empty.ensures) ∙ on))
 
 pub returns-then-has-clause-others : goal.returns-then-has-clause-others
-returns-then-has-clause-others g c = 
+returns-then-has-clause-others g c =
     let h = c.args.heard.now in
     let front : List ℕ = c.args.front.now in
     let on : has_id front h.me ≡ true = ap (has_id front) (sym c.me-me.ensures.me) ∙ sym c.has.ensures ∙ c.if-has.true in

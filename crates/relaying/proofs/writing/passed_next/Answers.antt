@@ -12,14 +12,14 @@ pub relay-requires : goal.relay-requires
 relay-requires g c = assumption
 
 pub returns-then-has : goal.returns-then-has
-returns-then-has g c = 
+returns-then-has g c =
     let h = c.args.heard.now in
     let path : List ℕ = c.args.path.now in
     let on : has_id path h.me ≡ true = ap (has_id path) (sym c.me.ensures.me) ∙ sym c.has.ensures ∙ c.if-has.true in
     c.wrap.ensures ∙ sym (cond-true (has_id path h.me) (wrapped c.args.before) (wrapped (heard_in h.heard path)) on)
 
 pub returns-else-has : goal.returns-else-has
-returns-else-has g c = 
+returns-else-has g c =
     let h = c.args.heard.now in
     let path : List ℕ = c.args.path.now in
     let off : has_id path h.me ≡ false = ap (has_id path) (sym c.me.ensures.me) ∙ sym c.has.ensures ∙ c.if-has.false in

@@ -120,7 +120,7 @@ pub loop-node-smaller : goal.loop-node-smaller
 loop-node-smaller g c = let e : length c.loop-node.node-iterator ≡ length (c.in-Some.node ∷ c.next.new.self) = ap length c.in-Some.ensures.steps in omega arith
 
 pub overflow_add-from : goal.overflow_add-from
-overflow_add-from g c = 
+overflow_add-from g c =
     let split : c.loop-node.yielded ++ c.loop-node.node-iterator ≡ c.loop-node.yielded ++ c.in-Some.node ∷ c.next.new.self = ap (λ xs. c.loop-node.yielded ++ xs) c.in-Some.ensures.steps in
     let on = c.requires.stands.within c.in-Some.node (c.loop-node.invariant.within c.in-Some.node (ap (λ (ms : List ℕ). has_id ms c.in-Some.node) split ∙ has_next c.loop-node.yielded c.in-Some.node c.next.new.self)) in
     let low = place_low g.row.N c.args.rest.now c.in-Some.node c.place.result c.place.ensures.ids on c.place.ensures.count in

@@ -85,7 +85,7 @@ read_row-requires g c = (
     (
       c.requires.nodes,
       part_long c.args.nodes c.args.self.now.width (c.args.k * c.args.self.now.width) c.args.self.now.bytes.now c.requires.wide
-      (inside c.args.nodes c.args.self.now.width c.args.k (length c.args.self.now.bytes.now) c.requires.wide c.requires.within),
+          (inside c.args.nodes c.args.self.now.width c.args.k (length c.args.self.now.bytes.now) c.requires.wide c.requires.within),
     ),
   ),
 )

@@ -198,9 +198,14 @@ without-others-requires g t c =
     (lit< tt, seat_low g.row.N c.self.view_is c.self.invariant c.args.path.now c.len-r.result c.len-r.ensures.count c.len-r.ensures.some c.len-r.ensures.distinct c.requires.within c.requires.short c.at-q.result c.at-q.ensures)
 
 pub rank-requires : goal.rank-requires
-rank-requires g t c =
-    (lit< tt, (c.self.invariant.capacity_ok, listed_in g.row.N c.self.view_is c.self.invariant c.args.path.now c.len-r.result c.len-r.ensures.count c.len-r.ensures.some c.len-r.ensures.distinct c.requires.within c.requires.short
-    c.if-r-eq0.false c.at-q.result c.at-q.ensures c.without-others.result c.front_of-2.result c.without-others.ensures c.front_of-2.ensures))
+rank-requires g t c = (
+  lit< tt,
+  (
+    c.self.invariant.capacity_ok,
+    listed_in g.row.N c.self.view_is c.self.invariant c.args.path.now c.len-r.result c.len-r.ensures.count c.len-r.ensures.some c.len-r.ensures.distinct c.requires.within c.requires.short
+        c.if-r-eq0.false c.at-q.result c.at-q.ensures c.without-others.result c.front_of-2.result c.without-others.ensures c.front_of-2.ensures,
+  ),
+)
 
 pub overflow_add-frame_at : goal.overflow_add-frame_at
 overflow_add-frame_at g t c =
