@@ -1,6 +1,7 @@
 -- Of which senders it is known that their frames are as commonly guessed.
-use Rattle.std.proofs.Common.{ℕ, ◌≡◌, ◌<◌, ◌≤◌, ◌==◌, ◌||◌, ◌+◌, true, false, List, [], map, length, get_or, set, sym, ap, subst, ◌∙◌, inl, inr, arith, ne_eqb}
+use Rattle.std.proofs.Common.{ℕ, ◌≡◌, ◌<◌, ◌≤◌, ◌==◌, ◌||◌, ◌+◌, ◌*◌, ◌^◌, true, false, List, [], map, length, get_or, set, sym, ap, subst, ◌∙◌, inl, inr, arith, ne_eqb}
 use Rattle.std.proofs.lemmas.Bool.{cases_eq, cases_lt}
+use Rattle.std.proofs.lemmas.Nat.{mul-le}
 use Rattle.std.proofs.lemmas.List.{get_or-map, get_or-set_same, get_or-set_other}
 use Rattle.node_grid.specs.NodeSet.{has_id, with_id}
 use Rattle.node_grid.specs.NodeSetLaws.{has-with_id, hasnt-above, IsIdSet-filter}
@@ -46,3 +47,7 @@ one_found cs ds i c frame low is here before = λ k d under.
 
 pub all_found : (cs : List Common) (i n : ℕ) (frame : ℕ → List ℕ) → length cs ≡ n → n ≤ i → ((k : ℕ) (d : Common) → k < i → AreGuessedIn (get_or cs k d) frame) → (k : ℕ) (d : Common) → k < length cs → AreGuessedIn (get_or cs k d) frame
 all_found cs i n frame long end before = λ k d low. before k d (omega (arith, low, long, end))
+
+-- the place of an element of a list that fits into memory has a number
+pub offset_fits : (i many size : ℕ) → i < many → many * size < 2 ^ 63 → i * size < 2 ^ 64
+offset_fits i many size low fits = let m : i * size ≤ many * size = mul-le i size many size (omega (arith, low)) (omega arith) in omega (arith, m, fits)

@@ -27,3 +27,12 @@ loop-node-preserved g c = λ k d low. elim (cases_eq k c.loop-node.node-index) [
 
 pub returns : goal.returns
 returns g c = λ x k d low. c.loop-node.invariant k d (omega (arith, low, c.loop-node-test.false))
+
+pub bounds-nodes-node-index : goal.bounds-nodes-node-index
+bounds-nodes-node-index g c = c.loop-node-test.true
+
+pub loop-node-smaller : goal.loop-node-smaller
+loop-node-smaller g c = omega (arith, c.loop-node-test.true)
+
+pub offset_bounds-nodes-node-index : goal.offset_bounds-nodes-node-index
+offset_bounds-nodes-node-index g c = omega (arith, c.loop-node-test.true)

@@ -1,4 +1,5 @@
-use Rattle.std.proofs.Common.{ℕ, List, [], map, inl, inr, lit<, ap, sym, ◌∙◌, ◌==◌, ne_eqb}
+use Rattle.std.proofs.Common.{ℕ, ◌≤◌, List, [], map, length, inl, inr, lit<, ap, sym, ◌∙◌, ◌==◌, ne_eqb, arith}
+use Rattle.std.proofs.lemmas.List.{length-take-le}
 use Rattle.std.proofs.lemmas.Bool.{cond-false}
 use Rattle.error_detect.specs.Finding.{Delivery}
 use Rattle.fault_classes.specs.Line.{effect_at}
@@ -25,3 +26,19 @@ returns g c =
     (c.deliveries-arrived.ensures ∙ ap (λ (i : ℕ). delivered_of (effect_at c.args.self.now.plan.now.lines c.args.self.now.period c.args.self.now.slot from i) c.args.sent.now) c.me.ensures)
     ∙ ap (handed c.args.node.now)
     (sym (cond-false (from == me) [] (map (arriving from) (delivered_of (effect_at c.args.self.now.plan.now.lines c.args.self.now.period c.args.self.now.slot from me) c.args.sent.now)) (ne_eqb from me c.requires.other)))
+
+pub deliveries-arrived-requires : goal.deliveries-arrived-requires
+deliveries-arrived-requires g c =
+    let few : length c.args.sent.now ≤ length c.as_mut_slice.result.now = omega (arith, c.fit.ensures, ap length c.as_mut_slice.ensures.value, ap length c.scratch.view_is) in
+    (lit< tt, (c.args.self.now.in_plan, (c.args.self.now.in_period, (c.args.self.now.in_use, (omega (arith, c.me.ensures, c.requires.ready.me), (λ e. c.requires.other (e ∙ c.me.ensures), length-take-le (length c.args.sent.now) c.as_mut_slice.result.now few))))))
+
+pub fit-requires : goal.fit-requires
+fit-requires g c = c.requires.short
+
+pub invariant_of-scratch : goal.invariant_of-scratch
+invariant_of-scratch g c = c.scratch.invariant
+
+pub slice_bounds-deliveries-end : goal.slice_bounds-deliveries-end
+slice_bounds-deliveries-end g c =
+    let few : length c.args.sent.now ≤ length c.as_mut_slice.result.now = omega (arith, c.fit.ensures, ap length c.as_mut_slice.ensures.value, ap length c.scratch.view_is) in
+    sym (length-take-le (length c.args.sent.now) c.as_mut_slice.result.now few)

@@ -1,6 +1,7 @@
-use Rattle.std.proofs.Common.{inl, inr, lit<, subst, arith}
+use Rattle.std.proofs.Common.{length, inl, inr, lit<, refl, subst, arith}
 use Rattle.cluster_periods.specs.Periods.{begun_by, IsResting}
 use Rattle.cluster_periods.proofs.Handing.{holds_here, put_over, all_put}
+use Rattle.cluster_step.proofs.Shared.{offset_fits}
 use Rattle.cluster_step.proofs.stepping.Period.begin_all.Goals as goal
 
 pub begin_node-requires : goal.begin_node-requires
@@ -23,3 +24,15 @@ loop-node-preserved g c =
 pub returns : goal.returns
 returns g c =
     all_put (begun_by c.args.self.now.scenario.now c.args.self.now.number) c.args.nodes.now c.loop-node.nodes c.loop-node.node-index (omega (arith, c.loop-node-test.false)) c.loop-node.invariant
+
+pub bounds-nodes-node-index : goal.bounds-nodes-node-index
+bounds-nodes-node-index g c = omega (arith, c.loop-node-test.true, c.loop-node.auto.nodes)
+
+pub loop-node-init : goal.loop-node-init
+loop-node-init g c = refl
+
+pub loop-node-smaller : goal.loop-node-smaller
+loop-node-smaller g c = omega (arith, c.loop-node-test.true)
+
+pub offset_bounds-nodes-node-index : goal.offset_bounds-nodes-node-index
+offset_bounds-nodes-node-index g c = record { fits = offset_fits c.loop-node.node-index (length c.args.nodes.now) _ c.loop-node-test.true c.well_formed.1.0.1 }

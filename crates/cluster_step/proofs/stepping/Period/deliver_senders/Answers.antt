@@ -154,3 +154,15 @@ returns g c =
     whole_behind sc.plan c.args.self.now.number c.args.slot (frame_by (map (λ (f : Vec ℕ Global). f.items) c.args.frames.now)) c.args.node.now c.loop-from.node c.deliver_piece-2.new.node c.args.senders.start c.loop-from.start c.args.senders.end so_far.1
     (omega (arith, so_far.2, ended)) (subst (λ (i : ℕ). AreUntouched sc.plan c.args.self.now.number c.args.slot i c.loop-from.start c.args.senders.end) c.me-me.ensures (subst (AreUntouched sc.plan c.args.self.now.number c.args.slot c.me-me.result c.loop-from.start) last so_far.3)) so_far.0
     c.deliver_piece-2.ensures
+
+pub loop-from-smaller : goal.loop-from-smaller
+loop-from-smaller g c = omega (arith, c.loop-from-test.true)
+
+pub offset_bounds-frames-from : goal.offset_bounds-frames-from
+offset_bounds-frames-from g c = let few = c.plan-plan.ensures.scenario.system.config.few_nodes in elim c.requires.capacity [ inl e ↦ omega (arith, e, few, c.loop-from-test.true, c.requires.senders) | inr e ↦ omega (arith, e, few, c.loop-from-test.true, c.requires.senders) ]
+
+pub overflow_add-start : goal.overflow_add-start
+overflow_add-start g c = let few = c.plan-plan.ensures.scenario.system.config.few_nodes in elim c.requires.capacity [ inl e ↦ omega (arith, e, few, c.loop-from-test.true, c.requires.senders) | inr e ↦ omega (arith, e, few, c.loop-from-test.true, c.requires.senders) ]
+
+pub overflow_cast-from : goal.overflow_cast-from
+overflow_cast-from g c = let few = c.plan-plan.ensures.scenario.system.config.few_nodes in elim c.requires.capacity [ inl e ↦ omega (arith, e, few, c.loop-from-test.true, c.requires.senders) | inr e ↦ omega (arith, e, few, c.loop-from-test.true, c.requires.senders) ]
