@@ -1,11 +1,12 @@
-use Rattle.std.proofs.Common.{ℕ, ◌≡◌, ◌<◌, length, refl, sym, ap, subst, ◌∙◌, Some, inl, inr, lit<}
+use Rattle.std.proofs.Common.{ℕ, ◌≡◌, ◌<◌, length, map, refl, sym, ap, subst, ◌∙◌, Some, inl, inr, lit<}
 use Rattle.std.specs.Prelude.{slice_get}
-use Rattle.std.proofs.lemmas.Option.{slice_get_read}
-use Rattle.node_grid.specs.NodeSet.{has_id}
+use Rattle.std.proofs.lemmas.Option.{slice_get_read, slice_get_past}
+use Rattle.node_grid.specs.NodeSet.{has_id, ids_below}
 use Rattle.clock_skew.specs.Correction.{IsReading}
 use Rattle.protocol.specs.View.Mode.{Full, Joining, Cold}
 use Rattle.node_steps.specs.Outcome.{Outcome}
 use Rattle.node_core.specs.Modes.{mode_of}
+use Rattle.cluster_record.specs.Clocking.{read_by, corrects_by}
 use Rattle.cluster_record.proofs.Clocking.{corrects_there, read_alike}
 use Rattle.cluster_record.proofs.Sums.{zero_reading, reading_kept}
 use Rattle.cluster_record.proofs.clocks.Clocks.correction_of.Goals as goal
@@ -63,3 +64,10 @@ pub returns-in-Cold-clause-correction : goal.returns-in-Cold-clause-correction
 returns-in-Cold-clause-correction g c =
     let there : slice_get c.args.records.now c.args.i ≡ Some c.in-Some.record.now = slice_get_read c.args.records.now (length c.args.records.now) c.args.i c.in-Some.record.now refl c.in-Some.ensures.lookup.3.0 c.in-Some.ensures.lookup.1 in
     corrects_there c.args.m c.args.i c.readings-readings.result _ c.args.records.now _ c.in-Some.record.now Cold c.record.view_is there (c.readings-readings.ensures.readings ∙ read_alike c.args.self.now.plan.now _ _ c.args.self.now.offset.now c.args.self.now.period c.args.i g.row.N (sym c.requires.each)) (ap mode_of c.in-Cold.is)
+
+pub get-requires : goal.get-requires
+get-requires g c = λ k. (refl, tt)
+
+pub returns-in_default-clause-correction : goal.returns-in_default-clause-correction
+returns-in_default-clause-correction g c =
+    sym (ap (corrects_by c.args.m c.args.i (map (read_by c.args.self.now.plan.now (length c.args.records.now) c.args.self.now.offset.now c.args.self.now.period c.args.i) (ids_below g.row.N))) (slice_get_past c.args.records.now c.args.i c.in_default.ensures.lookup.3))

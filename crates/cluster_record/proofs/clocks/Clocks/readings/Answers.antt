@@ -1,7 +1,9 @@
+use Rattle.std.proofs.Common.{inl, inr, lit<, arith}
 use Rattle.clock_skew.specs.Correction.{IsReading}
+use Rattle.std.proofs.lemmas.List.{length-replicate}
 use Rattle.cluster_record.specs.Clocking.{read_by}
 use Rattle.cluster_record.proofs.Sums.{reading_fits}
-use Rattle.cluster_record.proofs.Written.{more_written, all_written, all_hold}
+use Rattle.cluster_record.proofs.Written.{none_written, more_written, all_written, all_hold}
 use Rattle.cluster_record.proofs.clocks.Clocks.readings.Goals as goal
 
 pub loop-j-preserved : goal.loop-j-preserved
@@ -13,3 +15,24 @@ returns-clause-readings g c = all_written IsReading (read_by c.args.self.now.pla
 
 pub returns-clause-range : goal.returns-clause-range
 returns-clause-range g c = all_hold IsReading (read_by c.args.self.now.plan.now c.args.self.now.nodes c.args.self.now.offset.now c.args.self.now.period c.args.i) g.row.N c.loop-j.j c.loop-j.readings c.loop-j-test.false c.loop-j.invariant
+
+pub bounds-readings-j : goal.bounds-readings-j
+bounds-readings-j g c = c.loop-j-test.true
+
+pub loop-j-init : goal.loop-j-init
+loop-j-init g c = none_written IsReading (read_by c.args.self.now.plan.now c.args.self.now.nodes c.args.self.now.offset.now c.args.self.now.period c.args.i) g.row.N _ (length-replicate g.row.N _)
+
+pub loop-j-smaller : goal.loop-j-smaller
+loop-j-smaller g c = omega (arith, c.loop-j-test.true)
+
+pub offset_bounds-readings-j : goal.offset_bounds-readings-j
+offset_bounds-readings-j g c = elim c.requires.steady.capacity [ inl e ↦ omega (arith, e, c.loop-j-test.true) | inr e ↦ omega (arith, e, c.loop-j-test.true) ]
+
+pub overflow_cast-j : goal.overflow_cast-j
+overflow_cast-j g c = elim c.requires.steady.capacity [ inl e ↦ omega (arith, e, c.loop-j-test.true) | inr e ↦ omega (arith, e, c.loop-j-test.true) ]
+
+pub overflow_cast-j-end : goal.overflow_cast-j-end
+overflow_cast-j-end g c = elim c.requires.steady.capacity [ inl e ↦ omega (arith, e) | inr e ↦ omega (arith, e) ]
+
+pub reading-requires : goal.reading-requires
+reading-requires g c = (lit< tt, (c.requires.steady, c.requires.reader))

@@ -137,3 +137,9 @@ returns g c =
     } in
     shown_is sys sc.clock p r refl nodes m retire members.refers members.are budget within claim class made c.next_clocks-self-inside.ensures
     ∙ ap (λ (fs : List (List (List ℕ))). record (period_record sys sc.clock p) { sent = fs }) (ap (λ (v : PeriodView). v.sent) c.self.view_is)
+
+pub holds-self-inside-requires : goal.holds-self-inside-requires
+holds-self-inside-requires g c = tt
+
+pub reference-reference-requires : goal.reference-reference-requires
+reference-reference-requires g c = (lit< tt, omega (arith, planned_periods c.plan-plan.ensures.plan c.plan-plan.ensures.scenario, c.requires.in_run))

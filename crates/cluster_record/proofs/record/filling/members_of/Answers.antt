@@ -1,4 +1,4 @@
-use Rattle.std.proofs.Common.{◌≡◌, [], refl, sym, ap, subst, ◌∙◌}
+use Rattle.std.proofs.Common.{◌≡◌, [], refl, sym, ap, subst, ◌∙◌, inl, inr, lit<, arith}
 use Rattle.std.proofs.lemmas.Option.{slice_get_past, slice_get_read}
 use Rattle.node_steps.specs.Outcome.{Outcome}
 use Rattle.cluster_record.specs.Filling.{members_by, members_shown}
@@ -26,3 +26,15 @@ returns-else-eq g c =
     c.empty-else-eq.ensures
     ∙ sym (subst (λ (o : Outcome). members_by o.mode o.members ≡ []) c.record.view_is (of_another c.record.inside.mode c.record.inside.members (sym c.eq.ensures ∙ c.if-eq.false)))
     ∙ sym (shown_with c.args.records.now c.args.reference c.in-Some.node c.in-Some-get.record.now c.in-Some.is at)
+
+pub empty-requires : goal.empty-requires
+empty-requires g c = (lit< tt, elim c.requires [ inl e ↦ omega (arith, e) | inr e ↦ omega (arith, e) ])
+
+pub empty-requires-else-eq : goal.empty-requires-else-eq
+empty-requires-else-eq g c = (lit< tt, elim c.requires [ inl e ↦ omega (arith, e) | inr e ↦ omega (arith, e) ])
+
+pub empty-requires-in_default-get : goal.empty-requires-in_default-get
+empty-requires-in_default-get g c = (lit< tt, elim c.requires [ inl e ↦ omega (arith, e) | inr e ↦ omega (arith, e) ])
+
+pub eq-requires : goal.eq-requires
+eq-requires g c = tt
