@@ -1,4 +1,4 @@
-use Rattle.std.proofs.Common.{◌≡◌, ℕ, get_or, sym, ap, ◌∙◌, inl, inr, arith}
+use Rattle.std.proofs.Common.{◌≡◌, ℕ, get_or, sym, ap, ◌∙◌, inl, inr, arith, lit<}
 use Rattle.std.proofs.lemmas.Bool.{cases_eq}
 use Rattle.std.proofs.lemmas.List.{get_or_default}
 use Rattle.node_steps.specs.Parts.{NodeView}
@@ -23,3 +23,15 @@ loop-node-preserved g c = λ k d low. elim (cases_eq k c.loop-node.node-index) [
 pub returns : goal.returns
 returns g c = λ yes'.
     all_settled c.args.nodes.now c.in-Some.others.now c.in-Some.first.now c.in-Some.ensures.cases.0 (λ k d low. c.loop-node.invariant k d (omega (arith, low, c.loop-node-test.false)))
+
+pub bounds-others-node-index : goal.bounds-others-node-index
+bounds-others-node-index g c = c.loop-node-test.true
+
+pub loop-node-smaller : goal.loop-node-smaller
+loop-node-smaller g c = omega (arith, c.loop-node-test.true)
+
+pub offset_bounds-others-node-index : goal.offset_bounds-others-node-index
+offset_bounds-others-node-index g c = omega (arith, c.loop-node-test.true)
+
+pub settles_as-requires : goal.settles_as-requires
+settles_as-requires g c = elim c.requires.capacity [ inl e ↦ rw e (lit< tt) | inr e ↦ rw e (lit< tt) ]

@@ -1,4 +1,5 @@
-use Rattle.std.proofs.Common.{◌≡◌, ◌<◌, ◌+◌, ℕ, List, get_or, set, ap, subst, sym, ◌∙◌, inl, inr, lit<, arith}
+use Rattle.cluster_step.proofs.Shared.{offset_fits}
+use Rattle.std.proofs.Common.{◌≡◌, ◌<◌, ◌+◌, ℕ, List, get_or, set, ap, subst, sym, ◌∙◌, inl, inr, lit<, arith, length, refl}
 use Rattle.std.proofs.lemmas.Bool.{cases_eq}
 use Rattle.std.proofs.lemmas.List.{get_or-set_same, get_or-set_other, get_or_default, get_or-map}
 use Rattle.calm_period.specs.declared.statement.Statement.{Statement}
@@ -137,3 +138,15 @@ returns g c =
           (node_there sc p room c.args.nodes.now c.requires.before.before i d low) (c.loop-i.invariant.0 i d (omega (arith, low, many, c.loop-i-test.false))))
           (c.requires.before.before.node 0);
     }
+
+pub claims-requires : goal.claims-requires
+claims-requires g c = tt
+
+pub loop-i-init : goal.loop-i-init
+loop-i-init g c = (λ k d low. absurd (omega (arith, low)), λ k d low. refl)
+
+pub loop-i-smaller : goal.loop-i-smaller
+loop-i-smaller g c = omega (arith, c.loop-i-test.true)
+
+pub offset_bounds-nodes-i : goal.offset_bounds-nodes-i
+offset_bounds-nodes-i g c = record { fits = offset_fits c.loop-i.i (length c.args.nodes.now) _ c.loop-i-test.true c.well_formed.1.0.1 }

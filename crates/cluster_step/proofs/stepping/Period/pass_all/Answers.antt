@@ -1,4 +1,5 @@
-use Rattle.std.proofs.Common.{◌≡◌, ◌<◌, ℕ, List, get_or, set, ap, subst, sym, ◌∙◌, inl, inr, lit<, arith}
+use Rattle.cluster_step.proofs.Shared.{offset_fits}
+use Rattle.std.proofs.Common.{◌≡◌, ◌<◌, ℕ, List, get_or, set, ap, subst, sym, ◌∙◌, inl, inr, lit<, arith, length, refl}
 use Rattle.std.proofs.lemmas.Bool.{cases_eq}
 use Rattle.std.proofs.lemmas.List.{get_or-set_same, get_or-set_other, get_or_default, get_or-map}
 use Rattle.agreed_state.specs.declared.config.Config.{Config}
@@ -91,3 +92,15 @@ returns-clause-alike g c =
     let after = all_passed sc p c.args.nodes.now c.loop-i.nodes c.requires.before many c.loop-i.auto.nodes (λ k d low. c.loop-i.invariant.0 k d (omega (arith, low, c.loop-i-test.false))) in
     alike_after sc p c.calm.ensures c.requires.calm.scenario c.args.state.now c.requires.calm c.args.statements.now c.requires.said c.args.calm.now c.requires.made c.loop-i.nodes
     (let n = c.loop-i.auto.nodes in omega (arith, n, many)) after
+
+pub calm-requires : goal.calm-requires
+calm-requires g c = tt
+
+pub loop-i-init : goal.loop-i-init
+loop-i-init g c = (λ k d low. absurd (omega (arith, low)), λ k d low. refl)
+
+pub loop-i-smaller : goal.loop-i-smaller
+loop-i-smaller g c = omega (arith, c.loop-i-test.true)
+
+pub offset_bounds-nodes-i : goal.offset_bounds-nodes-i
+offset_bounds-nodes-i g c = record { fits = offset_fits c.loop-i.i (length c.args.nodes.now) _ c.loop-i-test.true c.well_formed.1.0.1 }

@@ -142,3 +142,9 @@ offset_bounds-inputs-i g c =
       | inl e ↦ (let low : c.loop-i.i < 8 = omega (arith, e, many, few, c.loop-i-test.true) in omega arith)
       | inr e ↦ (let low : c.loop-i.i < 16 = omega (arith, e, many, few, c.loop-i-test.true) in omega arith)
     ]
+
+pub loop-i-smaller : goal.loop-i-smaller
+loop-i-smaller g c = omega (arith, c.loop-i-test.true)
+
+pub offset_bounds-nodes-i : goal.offset_bounds-nodes-i
+offset_bounds-nodes-i g c = omega (arith, c.loop-i-test.true)

@@ -1,4 +1,5 @@
-use Rattle.std.proofs.Common.{ℕ, List, [], get_or, inl, inr, lit<, ap, subst, sym, ◌∙◌, arith, ◌<◌, refl}
+use Rattle.cluster_step.proofs.Shared.{offset_fits}
+use Rattle.std.proofs.Common.{ℕ, List, [], get_or, inl, inr, lit<, ap, subst, sym, ◌∙◌, arith, ◌<◌, refl, length}
 use Rattle.std.specs.Prelude.{All, slice_index_or}
 use Rattle.slot_plan.specs.Slots.{slot_count}
 use Rattle.guessed_frames.specs.Common.{Common, AreGuessedIn, frame_by}
@@ -54,3 +55,12 @@ pub returns : goal.returns
 returns g c =
     let sc : ScenarioView g.row.N = c.args.self.now.scenario.now in
     all_put (through_slot sc.plan sc.order sc.config.nodes c.args.self.now.number c.args.slot (slice_index_or c.args.shown.now.sent c.args.slot [])) c.args.nodes.now c.loop-node.nodes c.loop-node.node-index (omega (arith, c.loop-node-test.false)) c.loop-node.invariant
+
+pub bounds-nodes-node-index : goal.bounds-nodes-node-index
+bounds-nodes-node-index g c = omega (arith, c.loop-node-test.true, c.loop-node.auto.nodes)
+
+pub loop-node-smaller : goal.loop-node-smaller
+loop-node-smaller g c = omega (arith, c.loop-node-test.true)
+
+pub offset_bounds-nodes-node-index : goal.offset_bounds-nodes-node-index
+offset_bounds-nodes-node-index g c = record { fits = offset_fits c.loop-node.node-index (length c.args.nodes.now) _ c.loop-node-test.true c.well_formed.1.1.1.1.0.1 }

@@ -45,3 +45,9 @@ returns g c =
     c.swap_rooms-2.ensures ∙ c.slot_end.ensures
     ∙ ap (λ (v : NodeView g.row.N). after_slot v)
     (c.deliver_all.ensures ∙ ap (handed_all sc.plan sc.order sc.config.nodes c.args.self.now.number c.args.slot (map (λ f. f.items) c.args.frames.now)) c.swap_rooms.ensures)
+
+pub invariant_of-scratch : goal.invariant_of-scratch
+invariant_of-scratch g c = c.scratch.invariant
+
+pub invariant_of-scratch-2 : goal.invariant_of-scratch-2
+invariant_of-scratch-2 g c = c.scratch-2.invariant

@@ -73,3 +73,15 @@ returns-in-End-clause-after g c = c.pass.ensures.end c.in-End.is
 
 pub returns-in-End-clause-alike : goal.returns-in-End-clause-alike
 returns-in-End-clause-alike g c = λ yes'. c.pass.ensures.alike c.in-End.is
+
+pub returns-in-Data-clause-after : goal.returns-in-Data-clause-after
+returns-in-Data-clause-after g c = c.step_late.ensures.after
+
+pub returns-in-Data-clause-frames : goal.returns-in-Data-clause-frames
+returns-in-Data-clause-frames g c = λ on. absurd (let off = c.if-frames.false in cc)
+
+pub returns-in-Data-clause-shown : goal.returns-in-Data-clause-shown
+returns-in-Data-clause-shown g c = c.step_late.ensures.shown
+
+pub returns-in-Data-clause-slots : goal.returns-in-Data-clause-slots
+returns-in-Data-clause-slots g c = c.step_late.ensures.slots
