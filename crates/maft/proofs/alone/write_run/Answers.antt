@@ -40,3 +40,9 @@ returns g c =
     let log = c.args.log.now in
     let ends : c.periods.period ≡ log.scenario.periods = omega (arith, c.periods-periods.ensures.periods, c.periods-test.false, c.periods.invariant.few) in
     last _ _ _ _ _ _ _ _ _ (rw (rest-last (log_printed log) log.scenario.periods c.periods.period ends) at c.periods.invariant.so_far) (rw c.periods-periods.ensures.periods at c.write_end.ensures)
+
+pub periods-periods-requires : goal.periods-periods-requires
+periods-periods-requires g c = elim c.requires.capacity [ inl e ↦ rw e (lit< tt) | inr e ↦ rw e (lit< tt) ]
+
+pub periods-smaller : goal.periods-smaller
+periods-smaller g c = omega (arith, c.periods-test.true)
