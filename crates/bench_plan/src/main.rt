@@ -28,7 +28,7 @@ const LOOKUPS: u32 = 1_000_000;
 const JUDGED: u32 = 60_000;
 
 /// A frame of a plan.
-#[derive(Clone, Copy, Debug)]
+#[derive(Clone, Copy)]
 struct Place {
     period: u32,
     slot: u8,

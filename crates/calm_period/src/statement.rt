@@ -3,7 +3,7 @@
 use error_reports::RowBuilder;
 
 /// What a node says in a calm period, and what it notes as the period begins.
-#[derive(Clone, Copy, Debug)]
+#[derive(Clone, Copy)]
 pub struct Statement<const N: usize> {
     /// The task that it claims to have done, or `NO_CLAIM`.
     pub claim: u8,

@@ -18,7 +18,7 @@ use safety::laws::clocks::offsets;
 use scenario::Scenario;
 
 /// The clocks of all nodes in a period. Behind the nodes in use all numbers are 0.
-#[derive(Clone, Copy, Debug)]
+#[derive(Clone, Copy)]
 pub struct ClockRecord<const N: usize> {
     /// By how much each node corrected its clock.
     pub correction: [i64; N],

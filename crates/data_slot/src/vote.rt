@@ -18,7 +18,7 @@ use node_grid::NodeSet;
 use omh_paths::Wrapped;
 
 /// What a node goes into the data slot of a period with.
-#[derive(Clone, Copy, Debug)]
+#[derive(Clone, Copy)]
 pub struct DataSlot<'a> {
     /// The node.
     pub me: u8,
@@ -31,7 +31,7 @@ pub struct DataSlot<'a> {
 }
 
 /// What a node knows at the end of a data slot.
-#[derive(Clone, Copy, Debug)]
+#[derive(Clone, Copy)]
 pub struct Voted<const N: usize> {
     /// The votes by channel, with none on those that aren't due, or of which no voter told a value.
     pub votes: [Option<i64>; 8],

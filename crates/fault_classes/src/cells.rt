@@ -9,7 +9,7 @@ use node_grid::NodeSet;
 use std::alloc::Global;
 
 /// The sizes of a plan's index, which has a cell for each period, sender, slot and receiver.
-#[derive(Clone, Copy, Debug)]
+#[derive(Clone, Copy)]
 pub struct Shape {
     pub nodes: u8,
     pub slots: u8,

@@ -1,5 +1,5 @@
 /// What a fault line does to each frame that it touches. A frame that no line touches arrives once, at tick 15.
-#[derive(Debug, Drop)]
+#[derive(Drop)]
 pub enum Effect {
     /// Nothing arrives.
     Drop,

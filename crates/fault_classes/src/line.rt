@@ -2,7 +2,7 @@ use crate::Effect;
 use node_grid::NodeSet;
 
 /// One effect on the frames of one sender, on stated links, periods and slots.
-#[derive(Debug, Drop)]
+#[derive(Drop)]
 pub struct FaultLine<const N: usize> {
     /// The sender.
     pub from: u8,
@@ -19,7 +19,7 @@ pub struct FaultLine<const N: usize> {
 }
 
 /// A node that forgets all that it knows at the start of a period.
-#[derive(Clone, Copy, Debug, PartialEq, Eq)]
+#[derive(Clone, Copy, PartialEq, Eq)]
 pub struct Restart {
     /// The node.
     pub node: u8,

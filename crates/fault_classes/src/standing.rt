@@ -14,7 +14,7 @@ use node_grid::{Class, NodeSet};
 use std::alloc::{AllocError, Global};
 
 /// How the nodes stand in one period.
-#[derive(Debug, Drop)]
+#[derive(Drop)]
 pub struct Standing<const N: usize> {
     /// The nodes whose frames no line touches.
     pub clean: NodeSet<N>,

@@ -13,7 +13,7 @@ use fault_classes::{Effect, FaultPlan};
 use slot_plan::ON_TIME;
 
 /// What arrives at one receiver of one frame: so many copies, all alike.
-#[derive(Clone, Copy, Debug)]
+#[derive(Clone, Copy)]
 pub struct Delivered<'a> {
     /// How many copies arrive: 0, 1 or 2.
     pub copies: u8,

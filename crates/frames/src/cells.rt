@@ -18,7 +18,7 @@ use omh_paths::Wrapped;
 /// The entries of a relay frame, as they stand in its bytes: a tag and a value each.
 ///
 /// Tag 0 is a plain value, and tag k is `Fault(k)`, whose value bytes are all 0.
-#[derive(Clone, Copy, Debug)]
+#[derive(Clone, Copy)]
 pub struct Cells<'a> {
     bytes: &'a [u8],
     width: usize,

@@ -14,7 +14,7 @@ use node_grid::{NodeSet, Row};
 pub type StateBody = ArrayVec<u8, 1152>;
 
 /// Who sent a frame, for which slot of which period, and in which version of the formats.
-#[derive(Clone, Copy, Debug, PartialEq, Eq)]
+#[derive(Clone, Copy, PartialEq, Eq)]
 pub struct Head {
     /// The version, 1 or 2.
     pub version: u8,
@@ -27,7 +27,7 @@ pub struct Head {
 }
 
 /// A frame.
-#[derive(Clone, Copy, Debug)]
+#[derive(Clone, Copy)]
 pub struct Frame<'a, const N: usize> {
     /// Who sent it, and for which slot.
     pub head: Head,
@@ -36,7 +36,7 @@ pub struct Frame<'a, const N: usize> {
 }
 
 /// What a frame says.
-#[derive(Clone, Copy, Debug)]
+#[derive(Clone, Copy)]
 pub enum Body<'a, const N: usize> {
     /// The sender's agreed state.
     State(&'a [u8]),
@@ -68,7 +68,7 @@ impl<const N: usize> Body<'_, N> {
 }
 
 /// What a receiver expects of a frame.
-#[derive(Clone, Copy, Debug)]
+#[derive(Clone, Copy)]
 pub struct Expect<const N: usize> {
     /// The version, 1 or 2, of which the masks of rows have 8 or 16 bits.
     pub version: u8,

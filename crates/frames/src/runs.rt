@@ -5,7 +5,7 @@ ghost use Rattle.frames.specs.Filling.{repeated};
 ghost use Rattle.frames.specs.Runs.{firsts, expanded};
 
 /// So many runs, each of one entry of so many bytes, so many times.
-#[derive(Clone, Copy, Debug, PartialEq, Eq)]
+#[derive(Clone, Copy, PartialEq, Eq)]
 pub struct Runs {
     /// The bytes of an entry.
     pub width: usize,

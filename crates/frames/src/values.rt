@@ -10,7 +10,7 @@ ghost use Rattle.frames.specs.Writing.{pasted};
 use crate::pieces::write_at;
 
 /// The values of a data frame, as they stand in its bytes.
-#[derive(Clone, Copy, Debug)]
+#[derive(Clone, Copy)]
 pub struct Values<'a> {
     bytes: &'a [u8],
     ghost small: { AreBytes bytes.now },

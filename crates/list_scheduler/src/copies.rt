@@ -6,7 +6,7 @@ ghost use Rattle.list_scheduler.specs.Schedule.{left_by, all_idle};
 use std::marker::Model;
 
 /// How one copy of a task stands in a frame of periods.
-#[derive(Clone, Copy, Debug, PartialEq, Eq)]
+#[derive(Clone, Copy, PartialEq, Eq)]
 pub enum CopyState {
     /// It wasn't started.
     Idle,
@@ -39,7 +39,7 @@ impl CopyState {
 }
 
 /// The copies of 32 tasks on `N` nodes.
-#[derive(Clone, Copy, Debug, PartialEq, Eq)]
+#[derive(Clone, Copy, PartialEq, Eq)]
 pub struct Copies<const N: usize> {
     pub(crate) rows: [[CopyState; N]; 32],
 }

@@ -12,7 +12,7 @@ use node_grid::NodeSet;
 use penalty::{Counts, Policy};
 
 /// How often each node left the members, as far as that is counted.
-#[derive(Clone, Copy, Debug, PartialEq, Eq)]
+#[derive(Clone, Copy, PartialEq, Eq)]
 pub struct Left<const N: usize> {
     /// The number stands still at 65535; it is 0 for a node that isn't in use.
     pub times: [u16; N],

@@ -34,7 +34,7 @@ use std::marker::Model;
 use std::ops::Range;
 
 /// Where a node stands.
-#[derive(Clone, Copy, Debug)]
+#[derive(Clone, Copy)]
 pub struct Phase<const N: usize> {
     me: u8,
     period: u32,
@@ -48,7 +48,7 @@ pub struct Phase<const N: usize> {
 }
 
 /// What a node keeps from one period to the next.
-#[derive(Clone, Copy, Debug)]
+#[derive(Clone, Copy)]
 pub struct Keeping<const N: usize> {
     state: Option<Agreed<N>>,
     notes: RowBuilder<N>,

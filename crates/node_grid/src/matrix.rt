@@ -6,7 +6,7 @@ ghost use Rattle.node_grid.specs.Matrix.{row_at};
 use std::marker::Model;
 
 /// What one node accuses each node of: a mask of kinds for each node.
-#[derive(Clone, Copy, PartialEq, Eq, Debug)]
+#[derive(Clone, Copy, PartialEq, Eq)]
 pub struct Row<const N: usize> {
     /// Bit k of the mask at j accuses node j of kind k.
     pub masks: [u16; N],
@@ -34,7 +34,7 @@ impl<const N: usize> Row<N> {
 }
 
 /// For each node its row, or none.
-#[derive(Clone, Copy, PartialEq, Eq, Debug)]
+#[derive(Clone, Copy, PartialEq, Eq)]
 pub struct Matrix<const N: usize> {
     rows: [Option<Row<N>>; N],
 }

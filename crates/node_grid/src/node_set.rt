@@ -8,7 +8,7 @@ ghost use Rattle.std.specs.Iterator.{YieldsFirst, item_count};
 use std::marker::Model;
 
 /// A set of nodes, which are numbers below `N`.
-#[derive(Clone, Copy, Debug)]
+#[derive(Clone, Copy)]
 pub struct NodeSet<const N: usize> {
     mask: u16,
 }

@@ -86,7 +86,7 @@ struct Branch {
 }
 
 /// Who settles: the node, the members whose relays it hears, and the rounds of relaying.
-#[derive(Clone, Copy, Debug)]
+#[derive(Clone, Copy)]
 pub struct Station<const N: usize> {
     /// The members and the node are below this.
     pub nodes: u8,

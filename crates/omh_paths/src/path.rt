@@ -9,7 +9,7 @@ use std::marker::Model;
 pub const MAX_NODES: usize = 4;
 
 /// A path of relaying: one to four distinct nodes, the commander first and the last relay last.
-#[derive(Clone, Copy, Debug, PartialEq, Eq)]
+#[derive(Clone, Copy, PartialEq, Eq)]
 pub struct Path {
     nodes: [u8; MAX_NODES],
     len: u8,

@@ -5,7 +5,7 @@ ghost use Rattle.omh_paths.specs.declared.wrapped.Wrapped.TheVariants.{Fault};
 /// A value in transit: the value itself, or an error with the number of relays that it went through.
 ///
 /// After the idea of wrapped error values of Lincoln and Rushby (1993); this coding of them is this project's own.
-#[derive(Clone, Copy, Debug, PartialEq, Eq, Drop)]
+#[derive(Clone, Copy, PartialEq, Eq, Drop)]
 pub enum Wrapped<V> {
     /// The value as it was sent.
     Plain(V),

@@ -7,7 +7,7 @@ use crate::Policy;
 
 /// For each node the penalties that it has gathered, and its streak: how many periods it has gone without a charge
 /// since the last one, or since its last full streak.
-#[derive(Clone, Copy, Debug, PartialEq, Eq)]
+#[derive(Clone, Copy, PartialEq, Eq)]
 pub struct Counts<const N: usize> {
     /// At most the policy's `cap`; 0 for a node that isn't in use.
     pub counts: [u16; N],

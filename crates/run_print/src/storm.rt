@@ -11,7 +11,7 @@ use span_io::Sink;
 use std::marker::Model;
 
 /// What is told of a storm.
-#[derive(Debug, Drop)]
+#[derive(Drop)]
 pub struct StormSum<const N: usize> {
     /// The number that it was made from.
     pub seed: u64,

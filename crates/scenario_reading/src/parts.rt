@@ -418,7 +418,7 @@ fn clock(alloc: Global, value: &Value) -> Result<Option<ClockPart>, PartError>
 // ---- the scenario
 
 /// The numbers of the whole.
-#[derive(Clone, Copy, Debug)]
+#[derive(Clone, Copy)]
 struct Sizes {
     nodes: i64,
     m: i64,

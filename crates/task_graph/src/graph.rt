@@ -21,7 +21,7 @@ pub enum GraphError {
 }
 
 /// Tasks over a number of nodes, at most 32 of them, each in range and none after itself.
-#[derive(Debug, Drop)]
+#[derive(Drop)]
 pub struct TaskGraph<const N: usize> {
     nodes: u8,
     tasks: Vec<Task<N>>,

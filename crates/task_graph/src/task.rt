@@ -5,7 +5,7 @@ use node_grid::NodeSet;
 use std::marker::Model;
 
 /// A task: what it comes after, who may run it, and what finishes it.
-#[derive(Debug, Drop)]
+#[derive(Drop)]
 pub struct Task<const N: usize> {
     /// The tasks that must be finished before it is picked, in ascending order.
     pub after: Vec<u8>,

@@ -16,7 +16,7 @@ fn paths_of_two_of_four(rt: HostRuntime) {
     let set = members();
     let path = Path::root(1).then(4);
     assert!(rt; rank(&set, &path) == 5);
-    assert_eq!(rt; unrank(&set, 2, 11), Path::root(4).then(2));
+    assert!(rt; unrank(&set, 2, 11) == Path::root(4).then(2));
     assert!(rt; count_paths(7, 2) == 42);
     assert!(rt; path.len() == 2 && path.at(0) == 1 && path.at(1) == 4);
     assert!(rt; path.has(4) && !path.has(0));
@@ -30,11 +30,8 @@ fn majorities_leave_out_the_error(rt: HostRuntime) {
         Wrapped::Plain(5),
         Wrapped::Fault(1),
     ];
-    assert_eq!(rt; majority(&values), Wrapped::Plain(5));
-    assert_eq!(rt;
-        majority(&[Wrapped::Plain(5u8), Wrapped::Fault(1)]),
-        Wrapped::Fault(1)
-    );
+    assert!(rt; majority(&values) == Wrapped::Plain(5));
+    assert!(rt; majority(&[Wrapped::Plain(5u8), Wrapped::Fault(1)]) == Wrapped::Fault(1));
     let none: [Wrapped<u8>; 0] = [];
-    assert_eq!(rt; majority(&none), Wrapped::Fault(1));
+    assert!(rt; majority(&none) == Wrapped::Fault(1));
 }
