@@ -21,7 +21,7 @@ use node_core::Node;
 use slot_plan::slot_count;
 
 /// How far a period went without frames.
-#[derive(Clone, Copy, PartialEq, Eq)]
+#[derive(Clone, Copy)]
 pub(crate) enum Reached {
     /// Not at all: it didn't begin.
     Nothing,

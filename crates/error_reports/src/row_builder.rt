@@ -13,7 +13,7 @@ use std::marker::Model;
 ///
 /// What a node finds in a period's report slots comes too late for the row that it has sent by then: it is carried
 /// over to the next period's row.
-#[derive(Clone, Copy, PartialEq, Eq)]
+#[derive(Clone, Copy)]
 pub struct RowBuilder<const N: usize> {
     nodes: u8,
     me: u8,

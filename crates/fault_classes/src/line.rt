@@ -19,7 +19,7 @@ pub struct FaultLine<const N: usize> {
 }
 
 /// A node that forgets all that it knows at the start of a period.
-#[derive(Clone, Copy, PartialEq, Eq)]
+#[derive(Clone, Copy)]
 pub struct Restart {
     /// The node.
     pub node: u8,

@@ -14,7 +14,7 @@ use node_grid::{NodeSet, Row};
 pub type StateBody = ArrayVec<u8, 1152>;
 
 /// Who sent a frame, for which slot of which period, and in which version of the formats.
-#[derive(Clone, Copy, PartialEq, Eq)]
+#[derive(Clone, Copy)]
 pub struct Head {
     /// The version, 1 or 2.
     pub version: u8,

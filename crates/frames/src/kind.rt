@@ -8,7 +8,7 @@ use crate::frame::Body;
 use slot_plan::Slot;
 
 /// The kind of a frame, by its number.
-#[derive(Clone, Copy, PartialEq, Eq)]
+#[derive(Clone, Copy)]
 pub(crate) enum Kind {
     State = 1,
     Done0 = 2,

@@ -5,7 +5,7 @@ ghost use Rattle.json_parts.specs.declared.error.PartError.TheVariants.{NoMemory
 use std::alloc::AllocError;
 
 /// Why a part isn't read.
-#[derive(Clone, Copy, PartialEq, Eq)]
+#[derive(Clone, Copy)]
 pub enum PartError {
     /// There is no memory for it.
     NoMemory,

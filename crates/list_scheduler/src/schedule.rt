@@ -12,7 +12,7 @@ use omh_paths::Wrapped;
 use task_graph::TaskGraph;
 
 /// What completion says of a node by its settled claim.
-#[derive(Clone, Copy, PartialEq, Eq)]
+#[derive(Clone, Copy)]
 pub struct Verdict {
     /// It claimed a task that it didn't run, or too early.
     pub claim: bool,

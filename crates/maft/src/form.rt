@@ -5,7 +5,7 @@ ghost use Rattle.maft.specs.Words.{texts, words_of, Calls};
 use itoa::Buffer;
 
 /// What is done with a scenario, and how much of its run is printed.
-#[derive(Clone, Copy, PartialEq, Eq)]
+#[derive(Clone, Copy)]
 pub enum Form {
     /// `replay`: of each period its line and the lines of every node.
     Replay,
@@ -30,7 +30,7 @@ impl Form {
 }
 
 /// What is read from the source, and what is done with it.
-#[derive(Clone, Copy, PartialEq, Eq)]
+#[derive(Clone, Copy)]
 pub enum Reading {
     /// A scenario is run, and printed in this form.
     Scenario(Form),
@@ -39,7 +39,7 @@ pub enum Reading {
 }
 
 /// What the program is called for.
-#[derive(Clone, Copy, PartialEq, Eq)]
+#[derive(Clone, Copy)]
 pub enum Command {
     /// An input is read.
     Read(Reading),

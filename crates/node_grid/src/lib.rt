@@ -18,5 +18,5 @@ pub use planes::Planes;
 pub const NO_CLAIM: u8 = 255;
 
 /// The answer of a call that could not have the memory that it needs.
-#[derive(Clone, Copy, PartialEq, Eq)]
+#[derive(Clone, Copy, Debug, PartialEq, Eq)]
 pub struct NoMemory;

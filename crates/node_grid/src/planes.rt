@@ -13,7 +13,7 @@ const PLANES: usize = 5;
 ///
 /// The counts lie in planes of bits: bit k of the word at plane x and node j is bit x of the count of node j and
 /// kind k. So all kinds of a node are counted at once, by an addition and a comparison of whole words.
-#[derive(Clone, Copy, PartialEq, Eq)]
+#[derive(Clone, Copy)]
 pub struct Planes<const N: usize> {
     planes: [[u16; N]; PLANES],
 }

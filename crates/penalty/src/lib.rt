@@ -10,7 +10,7 @@ mod counts;
 pub use counts::Counts;
 
 /// How errors are weighed, and when a node leaves the members and joins them.
-#[derive(Clone, Copy, PartialEq, Eq)]
+#[derive(Clone, Copy)]
 pub struct Policy {
     /// What an error of each kind adds to a count: 0 to 1000, and 0 for a kind that isn't in use.
     pub weights: [u16; 16],

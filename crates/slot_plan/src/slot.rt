@@ -2,7 +2,7 @@ ghost use Rattle.std.specs.Prelude.{◌≡◌, ℕ, ◌+◌, ◌<◌, ◌≤◌,
 ghost use Rattle.slot_plan.specs.Slots.{slot_at, slot_number, round_of, slot_count, IsSlot};
 
 /// What the nodes send in a slot.
-#[derive(Clone, Copy, PartialEq, Eq)]
+#[derive(Clone, Copy)]
 pub enum Slot {
     /// Their agreed states, by which a node that restarts comes back.
     Sync,

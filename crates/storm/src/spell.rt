@@ -1,5 +1,5 @@
 /// The faulty node of a block, and in which periods a fault line touches its frames.
-#[derive(Clone, Copy, PartialEq, Eq)]
+#[derive(Clone, Copy)]
 pub struct Spell {
     /// The node: 5, 6 or 7.
     pub node: u8,

@@ -13,7 +13,7 @@ use node_grid::NodeSet;
 use penalty::Counts;
 
 /// What is summed up of the periods that were run, and what the last of them leaves.
-#[derive(Clone, Copy, PartialEq, Eq)]
+#[derive(Clone, Copy)]
 pub struct Sums {
     /// How many periods are claimed.
     pub claimed: u32,

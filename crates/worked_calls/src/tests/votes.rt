@@ -52,7 +52,6 @@ fn channels(rt: HostRuntime) {
         delta: 6,
         task: Some(5),
     };
-    assert!(rt; state != sensor);
     assert!(rt; state.delta() == 10 && state.task() == None);
     assert!(rt; sensor.delta() == 6 && sensor.task() == Some(5));
     let copy: Channel<8> = Channel::Copy {
