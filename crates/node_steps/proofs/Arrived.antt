@@ -24,7 +24,7 @@ use Rattle.error_detect.specs.Watching.{Watch, told_at, finding_at, found_in, to
 use Rattle.error_detect.specs.Multiset.{Arriving, from_sender, all_delivered, FindsEach}
 use Rattle.protocol.specs.Arrival.{arrived, arrival}
 use Rattle.protocol.specs.Heard.{Rounds, paths_of, heard}
-use Rattle.relaying.specs.Relaying.{relays}
+use Rattle.relay_rules.specs.Relaying.{relays}
 use Rattle.noting.specs.Findings.{has_of}
 use Rattle.node_steps.specs.At.{heard_upto, table_at}
 use Rattle.node_steps.proofs.TablesTold.{Agrees, upto_here}

@@ -6,7 +6,7 @@ use Rattle.std.proofs.lemmas.Bool.Decides.{nat_tests}
 use Rattle.frames.specs.Content.{Content}
 use Rattle.frames.specs.Content.Content.{DoneRelay, ReportRelay, Cold}
 use Rattle.protocol.specs.View.{own_claim}
-use Rattle.relaying.specs.Relaying.{relays}
+use Rattle.relay_rules.specs.Relaying.{relays}
 use Rattle.node_steps.specs.Stages.{row_of, done_table, row_table}
 use Rattle.node_steps.specs.Owed.{FramesAreOwed}
 use Rattle.node_steps.proofs.Arrived.{relays_tabled}

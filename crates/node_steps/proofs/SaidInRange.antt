@@ -24,7 +24,7 @@ use Rattle.protocol.specs.Heard.{paths_of}
 use Rattle.protocol.specs.View.{own_claim, own_in}
 use Rattle.protocol.specs.Run.{members_in}
 use Rattle.node_steps.specs.Parts.{NodeView}
-use Rattle.relaying.specs.Relaying.{relays}
+use Rattle.relay_rules.specs.Relaying.{relays}
 use Rattle.node_steps.specs.Sound.{HasSizes, Hears, IsInSlot, IsSound}
 use Rattle.node_steps.specs.Steps.{expected_in, own_in_slot, said_by}
 use Rattle.node_steps.specs.PremiseLaws.{few_due, goes_agreed, goes_distinct, done_hears, rows_hears, claims_pass, rows_pass}

@@ -33,8 +33,8 @@ use Rattle.node_steps.specs.Parts.{Found, NodeView}
 use Rattle.protocol.specs.Configured.{setting_of}
 use Rattle.noting.specs.Findings.{has_of, bad_in}
 use Rattle.data_slot.specs.Values.{only_values}
-use Rattle.relaying.specs.Settling.{settled_in}
-use Rattle.relaying.specs.Hearing.{after_round}
+use Rattle.relay_rules.specs.Settling.{settled_in}
+use Rattle.relay_rules.specs.Hearing.{after_round}
 use Rattle.node_steps.specs.Steps.{by_conviction, claims_known, shut, slot_taken, next_open, started, synced, with_sync, expected_in}
 use Rattle.node_steps.specs.At.{heard_upto, table_at, IsRound}
 use Rattle.node_steps.specs.Stages.{rounds_closed, by_verdict, stage, notes_sync, notes_done, claims_of, due_of, own_of, votes_of, notes_verdicts, convicts_over_claims, notes_claims, row_of, done_table, row_table, found_done, found_data, found_report, in_done, in_data, in_report, outcome_of}

@@ -22,11 +22,11 @@ use Rattle.protocol.specs.Arrival.{Form, arrived, said}
 use Rattle.protocol.specs.Heard.{Rounds, paths_of, with_entries, entry, heard}
 use Rattle.protocol.specs.FurtherKinds.{convicts_member}
 use Rattle.protocol.specs.Settled.{plain, settled_items, ear_of as ear_by}
-use Rattle.relaying.specs.Hearing.{slot_rounds, after_round}
-use Rattle.relaying.specs.Settling.{settled_in}
+use Rattle.relay_rules.specs.Hearing.{slot_rounds, after_round}
+use Rattle.relay_rules.specs.Settling.{settled_in}
 use Rattle.node_steps.specs.At.{heard_upto, table_at, IsRound}
 use Rattle.protocol.specs.TalkLaws.{heard_push}
-use Rattle.relaying.specs.HearingLaws.{Split, split, slot_tabled}
+use Rattle.relay_rules.specs.HearingLaws.{Split, split, slot_tabled}
 
 -- a kind of error goes with nothing said
 pub record Agrees (k : Option ℕ) (o : Option Content) : Type 0 where

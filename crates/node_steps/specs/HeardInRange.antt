@@ -15,9 +15,9 @@ use Rattle.protocol.specs.Arrival.{Form, arrived, read_as, claim_form, row_form}
 use Rattle.protocol.specs.Arrival.Arrival.{Good}
 use Rattle.protocol.specs.Heard.{paths_of, heard, heard_back}
 use Rattle.protocol.specs.View.{content}
-use Rattle.relaying.specs.Hearing.{has_path, slot_rounds, all_told, after_round}
-use Rattle.relaying.specs.Ranged.{HeardIn, IsRanged}
-use Rattle.relaying.specs.HearingLaws.{length_all}
+use Rattle.relay_rules.specs.Hearing.{has_path, slot_rounds, all_told, after_round}
+use Rattle.relay_rules.specs.Ranged.{HeardIn, IsRanged}
+use Rattle.relay_rules.specs.HearingLaws.{length_all}
 use Rattle.node_steps.specs.TableRanges.{ranged_told, entry_in, said_in}
 use Rattle.node_steps.specs.ToldInRange.{told_in_range}
 

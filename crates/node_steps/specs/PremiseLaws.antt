@@ -18,11 +18,11 @@ use Rattle.agreed_state.specs.ReadLaws.{state_len-short}
 use Rattle.protocol.specs.Arrival.{arrived, state_in, claims_in, rows_in}
 use Rattle.protocol.specs.View.{content}
 use Rattle.protocol.specs.Run.{members_in}
-use Rattle.relaying.specs.Hearing.{Brings}
+use Rattle.relay_rules.specs.Hearing.{Brings}
 use Rattle.node_steps.specs.Parts.{NodeView}
 use Rattle.node_steps.specs.Steps.{expected_in}
 use Rattle.node_steps.specs.Sound.{HasSizes, Hears, IsInSlot, IsTaken}
-use Rattle.relaying.specs.Relaying.{relays}
+use Rattle.relay_rules.specs.Relaying.{relays}
 use Rattle.node_steps.specs.TableRanges.{relays_in}
 use Rattle.node_steps.specs.ToldInRange.{claims_brought, rows_brought, states_sized}
 

@@ -6,7 +6,7 @@ use Rattle.frames.specs.Content.{IsClaim, IsRow, IsValue}
 use Rattle.agreed_state.specs.declared.config.Config.{Config}
 use Rattle.agreed_state.specs.Agreed.{AgreedView, IsAgreed}
 use Rattle.protocol.specs.View.{Kept, own_in}
-use Rattle.relaying.specs.Ranged.{HeardIn, IsRanged}
+use Rattle.relay_rules.specs.Ranged.{HeardIn, IsRanged}
 use Rattle.node_steps.specs.Parts.{Found, NodeView}
 use Rattle.node_steps.specs.Steps.{expected_in}
 

@@ -27,7 +27,7 @@ use Rattle.protocol.specs.Configured.{setting_of}
 use Rattle.node_steps.specs.Steps.{expected_in, with_notes, shut, synced, with_sync, after_sync, taken, slot_taken, after_done, after_data, after_report, heard_done, claims_known, finished, period_over, next_open, after_slot, begun, restarted, given_frame}
 use Rattle.data_slot.specs.Values.{only_values}
 use Rattle.noting.specs.Findings.{has_of}
-use Rattle.relaying.specs.Ranged.{IsRanged}
+use Rattle.relay_rules.specs.Ranged.{IsRanged}
 use Rattle.node_steps.specs.PremiseLaws.{no_ids}
 pub use Rattle.node_steps.specs.PremiseLaws.{le_is, gt_is}
 use Rattle.protocol.specs.ClaimLaws.{own_claim_fits}

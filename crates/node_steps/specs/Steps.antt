@@ -21,9 +21,9 @@ use Rattle.protocol.specs.View.{nothing, adopted_by, own_claim, as_claim, due_ch
 use Rattle.protocol.specs.View.Mode.{Full, Joining, Cold}
 use Rattle.protocol.specs.Run.{members_in}
 use Rattle.node_steps.specs.Parts.{NodeView}
-use Rattle.relaying.specs.Hearing.{after_round}
-use Rattle.relaying.specs.Relaying.{relays}
-use Rattle.relaying.specs.Settling.{settled_in}
+use Rattle.relay_rules.specs.Hearing.{after_round}
+use Rattle.relay_rules.specs.Relaying.{relays}
+use Rattle.relay_rules.specs.Settling.{settled_in}
 use Rattle.noting.specs.Findings.{has_of, bad_in, good_in}
 use Rattle.data_slot.specs.Values.{only_values}
 use Rattle.protocol.specs.Configured.{setting_of}

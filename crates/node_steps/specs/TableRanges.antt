@@ -13,9 +13,9 @@ use Rattle.frames.specs.Content.{IsEntry}
 use Rattle.protocol.specs.Arrival.{Arrival, said}
 use Rattle.protocol.specs.Arrival.Arrival.{Bad, Good}
 use Rattle.protocol.specs.Heard.{looked_up, with_entries, entry, paths_of}
-use Rattle.relaying.specs.Hearing.{told_to, has_path}
-use Rattle.relaying.specs.Ranged.{HeardIn, IsRanged}
-use Rattle.relaying.specs.Relaying.{relays}
+use Rattle.relay_rules.specs.Hearing.{told_to, has_path}
+use Rattle.relay_rules.specs.Ranged.{HeardIn, IsRanged}
+use Rattle.relay_rules.specs.Relaying.{relays}
 use Rattle.protocol.specs.TalkLaws.{AreLong, paths_long}
 
 -- what is heard for a path after a slot is what the slot says, where it speaks of the path, or what was heard before

@@ -6,7 +6,7 @@ use Rattle.omh_paths.specs.declared.wrapped.Wrapped.{Wrapped}
 use Rattle.omh_paths.specs.declared.wrapped.Wrapped.TheVariants.{Plain, Fault}
 use Rattle.node_grid.specs.NodeSet.{has_id}
 use Rattle.omh_paths.specs.Paths.{path_count}
-use Rattle.heard.specs.Keep.{IsSmall}
+use Rattle.omh.specs.Written.{IsSmall}
 use Rattle.frames.specs.Content.{Content, Expectation, IsEntry, IsClaim, IsRow, round_in, entries_due}
 use Rattle.frames.specs.Content.Content.{State, Done0, DoneRelay, Data, Report0, ReportRelay, Cold}
 use Rattle.frames.specs.Spelling.{IsInRange}
@@ -17,7 +17,7 @@ use Rattle.error_detect.specs.Finding.{told_of}
 use Rattle.error_detect.specs.Watching.{Arrival, Watch, of_sender, told_at, told_by, told_in, nothing, one, too_long, several}
 use Rattle.protocol.specs.Arrival.{arrived, state_in, claims_in, rows_in}
 use Rattle.protocol.specs.View.{content}
-use Rattle.relaying.specs.Hearing.{AreEntries, Brings}
+use Rattle.relay_rules.specs.Hearing.{AreEntries, Brings}
 
 was_read : (o : Option Content) (c : Content) → told_of o ≡ Some c → o ≡ Some c
 was_read None c h = absurd (cc)

@@ -1,6 +1,7 @@
 pub mod Omh
 pub mod Laws
 pub mod Heard
+pub mod Written
 pub mod Flat
 pub mod FlatLaws
 pub mod HeardLaws

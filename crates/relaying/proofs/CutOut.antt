@@ -15,7 +15,7 @@ use Rattle.error_detect.specs.Guessing.{pieces_without, IsGuessable}
 use Rattle.protocol.specs.Arrival.{Form}
 use Rattle.protocol.specs.TalkLaws.{paths_of_member}
 use Rattle.relaying.specs.Guessed.{IsEchoOf, IsCutOut, CutsOut}
-use Rattle.relaying.specs.Relaying.{relays}
+use Rattle.relay_rules.specs.Relaying.{relays}
 use Rattle.relaying.specs.Round.{IsRoundOf}
 
 alike : {X : Type 0} (f g : List ℕ → X) (ps : List (List ℕ)) → ((k : ℕ) → k < length ps → f (path_at ps k) ≡ g (path_at ps k)) → map f ps ≡ map g ps

@@ -21,11 +21,11 @@ use Rattle.error_detect.specs.Watching.{Watch, told_at}
 use Rattle.protocol.specs.Arrival.{Arrival, Form, arrived, said}
 use Rattle.protocol.specs.Arrival.Arrival.{Bad, Good}
 use Rattle.protocol.specs.Heard.{with_entries, entry, heard, paths_of}
-use Rattle.relaying.specs.Hearing.{has_path, told_to, slot_rounds, pushed, paths_from, frame_says}
+use Rattle.relay_rules.specs.Hearing.{has_path, told_to, slot_rounds, pushed, paths_from, frame_says}
 use Rattle.relaying.proofs.Lengths.{take-front}
 use Rattle.protocol.specs.TalkLaws.{heard_push, paths_of_member}
 use Rattle.relaying.proofs.Putting.{told, looked_up-place}
-use Rattle.relaying.specs.HearingLaws.{Split, split, front_distinct, last_off, listed, listed_pushed, listed_kept, kept_listed, all_at}
+use Rattle.relay_rules.specs.HearingLaws.{Split, split, front_distinct, last_off, listed, listed_pushed, listed_kept, kept_listed, all_at}
 
 -- ---- the last node of a path
 

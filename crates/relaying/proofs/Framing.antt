@@ -19,7 +19,7 @@ use Rattle.frames.specs.PieceLaws.{IsFormat}
 use Rattle.frames.specs.Spelling.{spelling, header_spelling, body_spelling}
 use Rattle.frames.specs.Writing.{pasted}
 use Rattle.protocol.specs.TalkLaws.{paths_of_member}
-use Rattle.relaying.specs.Relaying.{relays}
+use Rattle.relay_rules.specs.Relaying.{relays}
 use Rattle.relaying.specs.Table.{own_told, passed, passed_of}
 use Rattle.relaying.specs.Round.{IsRoundOf}
 use Rattle.relaying.proofs.Tables.{passed_off}

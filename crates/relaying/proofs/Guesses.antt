@@ -22,11 +22,11 @@ use Rattle.error_detect.specs.Guessing.{said_by, is_guessed_of}
 use Rattle.error_detect.specs.Watching.{Watch, told_at, guesses, guesses_at, said_in, said_at}
 use Rattle.protocol.specs.Arrival.{Form, arrived, read_as, said}
 use Rattle.protocol.specs.Arrival.Arrival.{Good}
-use Rattle.relaying.specs.Hearing.{has_path, told_to, all_told, with_told, IsByPath, Brings, AreEntries, brought}
+use Rattle.relay_rules.specs.Hearing.{has_path, told_to, all_told, with_told, IsByPath, Brings, AreEntries, brought}
 use Rattle.relaying.specs.Guessed.{IsEchoOf, IsEchoed, BringsEcho, AreSmall}
 use Rattle.relaying.proofs.Lengths.{take-front}
 use Rattle.relaying.proofs.Putting.{told}
-use Rattle.relaying.specs.HearingLaws.{length_all}
+use Rattle.relay_rules.specs.HearingLaws.{length_all}
 use Rattle.relaying.proofs.Entries.{Behind, behind, each_entry, where_all}
 
 -- what was told by a guessed frame

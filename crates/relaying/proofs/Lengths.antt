@@ -7,7 +7,7 @@ use Rattle.frames.specs.PieceLaws.{length-cut}
 use Rattle.relaying.specs.Items.{entries_in}
 use Rattle.protocol.specs.Arrival.{Arrival}
 use Rattle.protocol.specs.Arrival.Arrival.{Bad, Good}
-use Rattle.relaying.specs.Hearing.{Brings, FitsIn}
+use Rattle.relay_rules.specs.Hearing.{Brings, FitsIn}
 
 pub entries_length : {V : Type 0} (read : List ℕ → Wrapped V) (width : ℕ) (bytes : List ℕ) → length (entries_in read width bytes) ≡ length bytes / width
 entries_length read width bytes = length-map (cut width bytes) read ∙ length-cut width bytes

@@ -19,7 +19,7 @@ use Rattle.frames.specs.Content.{Expectation, IsEntry, kind_in, round_in}
 use Rattle.frames.specs.PieceLaws.{IsFormat, read_spelt, take-pasted}
 use Rattle.frames.specs.Writing.{pasted}
 use Rattle.frames.specs.Reading.{cut}
-use Rattle.relaying.specs.Ranged.{HeardIn, IsRanged}
+use Rattle.relay_rules.specs.Ranged.{HeardIn, IsRanged}
 use Rattle.relaying.specs.Round.{IsRoundOf}
 use Rattle.relaying.specs.Table.{own_told, passed, passed_of, CanWrite}
 use Rattle.relaying.proofs.Tables.{length_wide, length-passed}

@@ -21,8 +21,8 @@ use Rattle.heard.specs.Seen.{with_frames, with_echoes}
 use Rattle.error_detect.specs.Watching.{Watch, IsAsGuessed}
 use Rattle.protocol.specs.Arrival.{Arrival, Form}
 use Rattle.protocol.specs.Heard.{heard}
-use Rattle.relaying.specs.Hearing.{has_path, told_to, slot_rounds, paths_from, paths_told, all_told, frame_says, told_by, IsByPath}
-use Rattle.relaying.specs.HearingLaws.{has_path-append, kept_listed, listed_kept, length_all, told_all, told_is}
+use Rattle.relay_rules.specs.Hearing.{has_path, told_to, slot_rounds, paths_from, paths_told, all_told, frame_says, told_by, IsByPath}
+use Rattle.relay_rules.specs.HearingLaws.{has_path-append, kept_listed, listed_kept, length_all, told_all, told_is}
 use Rattle.relaying.specs.Guessed.{IsEchoOf, IsEchoed, BringsEcho}
 use Rattle.relaying.proofs.Entries.{Behind, behind, shape_told, says_heard, each_entry, where_all}
 use Rattle.relaying.proofs.Guesses.{brings_echo, echo_at, untold}

@@ -15,7 +15,7 @@ use Rattle.error_detect.specs.Guessing.{said_by, body_without, IsGuessable}
 use Rattle.error_detect.specs.Watching.{Watch}
 use Rattle.protocol.specs.Arrival.{Form}
 use Rattle.protocol.specs.Arrival.Arrival.{Good}
-use Rattle.relaying.specs.Hearing.{brought}
+use Rattle.relay_rules.specs.Hearing.{brought}
 
 -- a guess of the frames of relay round r: of each sender's an entry for each path of the others, which of a path without the
 -- node itself is what the node passes on of it

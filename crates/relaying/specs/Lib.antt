@@ -1,11 +1,11 @@
 pub mod Items
 pub mod ItemLaws
-pub mod Hearing
-pub mod HearingLaws
-pub mod Relaying
-pub mod Settling
-pub mod Ranged
 pub mod Table
 pub mod Round
 pub mod Guessed
 pub mod Tabled
+pub use Rattle.relay_rules.specs.Hearing
+pub use Rattle.relay_rules.specs.HearingLaws
+pub use Rattle.relay_rules.specs.Relaying
+pub use Rattle.relay_rules.specs.Settling
+pub use Rattle.relay_rules.specs.Ranged

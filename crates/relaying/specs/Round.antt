@@ -2,7 +2,7 @@
 use Rattle.std.specs.Prelude.{◌≡◌, ℕ}
 use Rattle.omh.specs.Heard.{Hearing}
 use Rattle.frames.specs.Content.{Expectation, kind_in, round_in}
-use Rattle.relaying.specs.Ranged.{HeardIn, IsRanged}
+use Rattle.relay_rules.specs.Ranged.{HeardIn, IsRanged}
 
 -- a slot of relay round r of an item whose relay frames have this kind, as the node expects it that heard this, all of it in
 -- range

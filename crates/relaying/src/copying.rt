@@ -6,7 +6,7 @@ ghost use Rattle.node_grid.specs.NodeSet.{has_id};
 ghost use Rattle.frames.specs.Content.{Expectation};
 ghost use Rattle.frames.specs.Writing.{pasted};
 ghost use Rattle.relaying.specs.Guessed.{IsEchoed};
-ghost use Rattle.relaying.specs.Relaying.{relays};
+ghost use Rattle.relay_rules.specs.Relaying.{relays};
 ghost use Rattle.relaying.specs.Round.{IsRoundOf};
 
 use crate::item::Item;

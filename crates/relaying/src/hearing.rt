@@ -17,9 +17,9 @@ ghost use Rattle.frames.specs.Seen.{content, HasWidth};
 ghost use Rattle.error_detect.specs.Watching.{told_at};
 ghost use Rattle.protocol.specs.Arrival.{arrived, said};
 ghost use Rattle.protocol.specs.Arrival.Arrival.{Good};
-ghost use Rattle.relaying.specs.Hearing.{Brings, FitsIn, read_out, with_told, IsByPath};
-ghost use Rattle.relaying.specs.Hearing.{IsHeardBy, brought, told_from, told_by};
-ghost use Rattle.relaying.specs.Hearing.{after_round};
+ghost use Rattle.relay_rules.specs.Hearing.{Brings, FitsIn, read_out, with_told, IsByPath};
+ghost use Rattle.relay_rules.specs.Hearing.{IsHeardBy, brought, told_from, told_by};
+ghost use Rattle.relay_rules.specs.Hearing.{after_round};
 ghost use Rattle.relaying.specs.Guessed.{AreSmall, IsFilled, IsEchoed};
 ghost use Rattle.relaying.specs.Items.{entries_in as entries_of};
 

@@ -11,7 +11,7 @@ ghost use Rattle.frames.specs.Spelling.{spelling, head_of};
 ghost use Rattle.frames.specs.Writing.{pasted};
 ghost use Rattle.error_detect.specs.Watching.{nothing};
 ghost use Rattle.relaying.specs.Guessed.{unguessed, IsEchoed};
-ghost use Rattle.relaying.specs.Relaying.{relays};
+ghost use Rattle.relay_rules.specs.Relaying.{relays};
 ghost use Rattle.relaying.specs.Round.{IsRoundOf};
 
 use crate::copying::copy_guessed;

@@ -8,7 +8,7 @@ ghost use Rattle.omh.specs.Heard.{ear_of};
 ghost use Rattle.protocol.specs.FurtherKinds.{convicts_member};
 ghost use Rattle.protocol.specs.Settled.{plain};
 ghost use Rattle.protocol.specs.View.{as_claim};
-ghost use Rattle.relaying.specs.Settling.{settled_at_node, settled_in};
+ghost use Rattle.relay_rules.specs.Settling.{settled_at_node, settled_in};
 
 use crate::item::Item;
 use heard::Heard;

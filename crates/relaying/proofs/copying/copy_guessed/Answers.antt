@@ -12,7 +12,7 @@ use Rattle.frames.specs.Spelling.{body_spelling}
 use Rattle.frames.specs.Writing.{pasted}
 use Rattle.error_detect.specs.Guessing.{pieces_without}
 use Rattle.error_detect.specs.Inside.{said_as, guessed_bytes}
-use Rattle.relaying.specs.Relaying.{relays}
+use Rattle.relay_rules.specs.Relaying.{relays}
 use Rattle.relaying.proofs.CutOut.{cut_out}
 use Rattle.std.proofs.lemmas.Bool.{false≢true}
 use Rattle.relaying.proofs.copying.copy_guessed.Goals as goal

@@ -3,7 +3,7 @@ use Rattle.std.specs.Prelude.{option_map}
 use Rattle.omh_paths.specs.declared.wrapped.Wrapped.{Wrapped}
 use Rattle.frames.specs.Seen.{content}
 use Rattle.protocol.specs.Arrival.{Arrival, arrived, read_as}
-use Rattle.relaying.specs.Hearing.{with_told}
+use Rattle.relay_rules.specs.Hearing.{with_told}
 use Rattle.relaying.specs.Items.{entries_in}
 use Rattle.relaying.proofs.hearing.hear_expected.Goals as goal
 

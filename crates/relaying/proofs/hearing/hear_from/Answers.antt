@@ -4,7 +4,7 @@ use Rattle.omh.specs.Heard.{with_heard}
 use Rattle.heard.specs.Keep.{IsSmall}
 use Rattle.error_detect.specs.Watching.{told_at}
 use Rattle.protocol.specs.Arrival.{arrived}
-use Rattle.relaying.specs.Hearing.{told_from}
+use Rattle.relay_rules.specs.Hearing.{told_from}
 use Rattle.relaying.proofs.Putting.{first_put}
 use Rattle.relaying.proofs.Entries.{said_small}
 use Rattle.relaying.proofs.hearing.hear_from.Goals as goal

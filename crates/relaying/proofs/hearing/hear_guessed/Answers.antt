@@ -10,7 +10,7 @@ use Rattle.std.specs.Prelude.{All}
 use Rattle.heard.specs.Keep.{IsSmall}
 use Rattle.heard.specs.Seen.{SaysEcho, with_written}
 use Rattle.protocol.specs.Arrival.Arrival.{Good}
-use Rattle.relaying.specs.Hearing.{with_told}
+use Rattle.relay_rules.specs.Hearing.{with_told}
 use Rattle.relaying.specs.Guessed.{AreSmall}
 use Rattle.relaying.proofs.Guesses.{same_echo}
 use Rattle.relaying.proofs.Filling.{filled_says, filled_small}

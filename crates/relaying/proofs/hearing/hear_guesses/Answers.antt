@@ -1,7 +1,7 @@
 use Rattle.std.proofs.Common.{◌≡◌, ◌<◌, ℕ, List, true, false, ap, subst, ◌∙◌, arith}
 use Rattle.node_grid.specs.NodeSet.{has_id, IsIdSet}
 use Rattle.protocol.specs.Heard.{heard}
-use Rattle.relaying.specs.Hearing.{slot_rounds, all_told}
+use Rattle.relay_rules.specs.Hearing.{slot_rounds, all_told}
 use Rattle.relaying.proofs.Together.{none_taken, echoes_told, fewer_ids}
 use Rattle.relaying.proofs.hearing.hear_guesses.Goals as goal
 

@@ -6,7 +6,7 @@ use Rattle.omh_paths.specs.MemberLaws.{Distinct-ids}
 use Rattle.frames.specs.Seen.{content, HasWidth}
 use Rattle.error_detect.specs.Watching.{told_at, said_at, guesses_at}
 use Rattle.protocol.specs.Arrival.{Arrival, arrived}
-use Rattle.relaying.specs.Hearing.{Brings, with_told}
+use Rattle.relay_rules.specs.Hearing.{Brings, with_told}
 use Rattle.relaying.specs.Guessed.{BringsEcho}
 use Rattle.relaying.proofs.Entries.{frame_told}
 use Rattle.relaying.proofs.Guesses.{brings_echo, echo_small, if_none}

@@ -6,7 +6,7 @@ use Rattle.omh_paths.specs.Paths.{path_count}
 use Rattle.omh_paths.specs.MemberLaws.{Distinct-ids}
 use Rattle.omh.specs.Heard.{Hearing}
 use Rattle.protocol.specs.Heard.{heard}
-use Rattle.relaying.specs.Hearing.{slot_rounds, paths_from, all_told, Brings, brought, IsHeardBy, after_round, told_by}
+use Rattle.relay_rules.specs.Hearing.{slot_rounds, paths_from, all_told, Brings, brought, IsHeardBy, after_round, told_by}
 use Rattle.relaying.specs.Guessed.{IsEchoed}
 use Rattle.relaying.proofs.Guesses.{still_echoed}
 use Rattle.relaying.proofs.Putting.{told, told_nothing, all_more, all_same, not_both, not_here}

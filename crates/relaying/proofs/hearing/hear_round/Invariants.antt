@@ -1,7 +1,7 @@
 use Rattle.std.proofs.Common.{◌≡◌, ◌≤◌}
 use Rattle.std.specs.Prelude.{vec_capacity}
 use Rattle.protocol.specs.Heard.{heard}
-use Rattle.relaying.specs.Hearing.{slot_rounds, all_told}
+use Rattle.relay_rules.specs.Hearing.{slot_rounds, all_told}
 use Rattle.relaying.proofs.Putting.{told}
 use Rattle.relaying.proofs.hearing.hear_round.Given as goal
 

@@ -5,7 +5,7 @@ use Rattle.omh.specs.Heard.{Hearing}
 use Rattle.omh_paths.specs.Paths.{path_count}
 use Rattle.frames.specs.Seen.{content, HasWidth}
 use Rattle.protocol.specs.Arrival.{Arrival, arrived}
-use Rattle.relaying.specs.Hearing.{Brings, FitsIn, with_told, IsByPath, read_out}
+use Rattle.relay_rules.specs.Hearing.{Brings, FitsIn, with_told, IsByPath, read_out}
 use Rattle.relaying.proofs.Lengths.{brought_fits}
 use Rattle.relaying.proofs.hearing.hear_told.Goals as goal
 

@@ -3,7 +3,7 @@ use Rattle.std.specs.Prelude.{vec_capacity, option_map, IfSome}
 use Rattle.frames.specs.Seen.{content, HasWidth}
 use Rattle.std.proofs.lemmas.List.{take_at}
 use Rattle.protocol.specs.Arrival.{Good, arrived, read_as}
-use Rattle.relaying.specs.Hearing.{FitsIn}
+use Rattle.relay_rules.specs.Hearing.{FitsIn}
 use Rattle.relaying.specs.Items.{entries_in as entries_of}
 use Rattle.relaying.proofs.Lengths.{entries_length}
 use Rattle.relaying.proofs.hearing.read_entries.Goals as goal

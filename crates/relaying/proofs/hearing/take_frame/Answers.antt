@@ -1,5 +1,5 @@
 use Rattle.std.proofs.Common.{ap, sym, ◌∙◌, ℕ, Option}
-use Rattle.relaying.specs.Hearing.{read_out, with_told}
+use Rattle.relay_rules.specs.Hearing.{read_out, with_told}
 use Rattle.relaying.proofs.hearing.take_frame.Goals as goal
 
 pub returns-in-None-clause-is : goal.returns-in-None-clause-is

@@ -6,7 +6,7 @@ use Rattle.std.proofs.lemmas.Bool.{cond-true}
 use Rattle.std.proofs.lemmas.List.{length-append, with_items_is}
 use Rattle.frames.specs.Seen.{expected}
 use Rattle.frames.specs.Spelling.{header_spelling, head_of}
-use Rattle.relaying.specs.Relaying.{relays}
+use Rattle.relay_rules.specs.Relaying.{relays}
 use Rattle.relaying.proofs.Framing.{frame_written}
 use Rattle.relaying.proofs.saying.say_round.Goals as goal
 

@@ -3,7 +3,7 @@ use Rattle.std.specs.List.{flat_map}
 use Rattle.node_grid.specs.NodeSet.{IsIdSet}
 use Rattle.omh_paths.specs.Paths.{path_count}
 use Rattle.frames.specs.Writing.{pasted}
-use Rattle.relaying.specs.Relaying.{relays}
+use Rattle.relay_rules.specs.Relaying.{relays}
 use Rattle.relaying.proofs.Framing.{own_part}
 use Rattle.relaying.proofs.Ranges.{can_write}
 use Rattle.relaying.proofs.saying.write_entries.Goals as goal

@@ -6,8 +6,8 @@ use Rattle.node_grid.specs.NodeSet.{ids_below}
 use Rattle.omh.specs.Heard.{Hearing}
 use Rattle.omh_paths.specs.declared.wrapped.Wrapped.TheVariants.{Plain, Fault}
 use Rattle.protocol.specs.View.{as_claim}
-use Rattle.relaying.specs.Settling.{settled_at_node}
-use Rattle.relaying.specs.HearingLaws.{map_map}
+use Rattle.relay_rules.specs.Settling.{settled_at_node}
+use Rattle.relay_rules.specs.HearingLaws.{map_map}
 use Rattle.relaying.proofs.Settled.{settled_none, settled_one, settled_not}
 use Rattle.relaying.proofs.settling.settle_claims.Goals as goal
 use Rattle.relaying.proofs.settling.settle_claims.Goals.{in-Some, in_default}

@@ -2,7 +2,7 @@ use Rattle.std.proofs.Common.{◌≡◌}
 use Rattle.std.specs.Prelude.{nat_eq}
 use Rattle.omh_paths.specs.declared.wrapped.Wrapped.TheVariants.{Fault}
 use Rattle.protocol.specs.View.{as_claim}
-use Rattle.relaying.specs.Settling.{settled_at_node}
+use Rattle.relay_rules.specs.Settling.{settled_at_node}
 use Rattle.relaying.proofs.Settled.{IsFilledBelow}
 use Rattle.relaying.proofs.settling.settle_claims.Given as goal
 

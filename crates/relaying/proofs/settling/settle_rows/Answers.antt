@@ -3,7 +3,7 @@ use Rattle.std.specs.Prelude.{◌==◌}
 use Rattle.std.specs.Cmp.Lexicographic.{pointwise}
 use Rattle.std.proofs.lemmas.List.FromFn.{fill_by_all}
 use Rattle.omh.specs.Heard.{Hearing}
-use Rattle.relaying.specs.Settling.{settled_at_node}
+use Rattle.relay_rules.specs.Settling.{settled_at_node}
 use Rattle.relaying.proofs.Settled.{IsFilledBelow, settled_none, settled_one, settled_not}
 use Rattle.node_grid.specs.Capacity.{IsCapacity}
 use Rattle.relaying.proofs.settling.settle_rows.Goals as goal

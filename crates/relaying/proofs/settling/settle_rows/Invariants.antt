@@ -1,7 +1,7 @@
 use Rattle.std.proofs.Common.{◌≡◌, None}
 use Rattle.std.specs.Prelude.{◌==◌}
 use Rattle.std.specs.Cmp.Lexicographic.{pointwise}
-use Rattle.relaying.specs.Settling.{settled_at_node}
+use Rattle.relay_rules.specs.Settling.{settled_at_node}
 use Rattle.relaying.proofs.Settled.{IsFilledBelow}
 use Rattle.relaying.proofs.settling.settle_rows.Given as goal
 

@@ -6,8 +6,8 @@ use Rattle.omh_paths.specs.declared.wrapped.Wrapped.{Wrapped}
 use Rattle.omh_paths.specs.declared.wrapped.Wrapped.TheVariants.{Fault}
 use Rattle.omh_paths.specs.Paths.{same_nodes, paths_of_length}
 use Rattle.omh.specs.Heard.{Entry, Hearing, heard_paths}
-use Rattle.heard.specs.Keep.{IsSmall, last_node}
-use Rattle.heard.specs.Seen.{as_written, with_frame}
+use Rattle.omh.specs.Written.{IsSmall, last_node}
+use Rattle.omh.specs.Written.{as_written, with_frame}
 use Rattle.error_detect.specs.Watching.{Watch, told_at}
 use Rattle.node_grid.specs.Kinds.{malformed}
 use Rattle.protocol.specs.Arrival.{Arrival, Form, arrived}

@@ -12,7 +12,7 @@ use Rattle.omh_paths.specs.PathLists.{same_nodes-tells, same_nodes-finds, length
 use Rattle.omh_paths.specs.MemberLaws.{Distinct-ids, member-lt}
 use Rattle.omh.specs.Heard.{entry, heard_paths}
 use Rattle.omh.specs.HeardLaws.{IsHeardPath, entries_alike}
-use Rattle.relaying.specs.Hearing.{has_path, told_to, pushed, paths_from, paths_told, all_told}
+use Rattle.relay_rules.specs.Hearing.{has_path, told_to, pushed, paths_from, paths_told, all_told}
 
 -- ---- paths of two lists
 

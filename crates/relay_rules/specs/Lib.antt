@@ -1,0 +1,5 @@
+pub mod Hearing
+pub mod HearingLaws
+pub mod Relaying
+pub mod Settling
+pub mod Ranged
