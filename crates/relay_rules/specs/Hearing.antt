@@ -6,8 +6,7 @@ use Rattle.omh_paths.specs.declared.wrapped.Wrapped.{Wrapped}
 use Rattle.omh_paths.specs.declared.wrapped.Wrapped.TheVariants.{Fault}
 use Rattle.omh_paths.specs.Paths.{same_nodes, paths_of_length}
 use Rattle.omh.specs.Heard.{Entry, Hearing, heard_paths}
-use Rattle.omh.specs.Written.{IsSmall, last_node}
-use Rattle.omh.specs.Written.{as_written, with_frame}
+use Rattle.omh.specs.Written.{IsSmall, last_node, with_frame, as_written}
 use Rattle.error_detect.specs.Watching.{Watch, told_at}
 use Rattle.node_grid.specs.Kinds.{malformed}
 use Rattle.protocol.specs.Arrival.{Arrival, Form, arrived}
