@@ -1,11 +1,11 @@
-ghost use Rattle.std.specs.Prelude.{◌≡◌, ℕ, ◌^◌, ◌<◌, ◌≤◌, ◌⊎◌, true, not, None, Some, IfOk, MatchResult, IsTrue, map, length, option_map};
+ghost use Rattle.std.specs.Prelude.{◌≡◌, ℕ, ◌^◌, ◌<◌, ◌≤◌, ◌⊎◌, [], true, not, None, Some, IfOk, MatchResult, IsTrue, map, length, option_map};
 ghost use Rattle.std.specs.List.{list_all};
 ghost use Rattle.fault_classes.specs.Change.{change_of};
 ghost use Rattle.fault_classes.specs.Line.{line_of, effect_at, touches};
 ghost use Rattle.slot_plan.specs.Slots.{slot_count};
 ghost use Rattle.fault_classes.specs.Plan.{plan_of, restarts_at, is_clean};
-ghost use Rattle.fault_classes.specs.Rules.{is_line, refusal_of, first_bad_restart};
-ghost use Rattle.fault_classes.specs.Cells.{IsShape, entry_of};
+ghost use Rattle.fault_classes.specs.Rules.{is_line, refusal_of, first_bad_line, first_overlap, first_bad_restart};
+ghost use Rattle.fault_classes.specs.Cells.{IsShape, IsTable, entry_of};
 ghost use Rattle.fault_classes.specs.Index.{IsRestarting, IsSent, IsTouched};
 ghost use Rattle.node_grid.specs.Capacity.{IsCapacity};
 ghost use Rattle.node_grid.specs.NodeSet.{ids_where};
@@ -45,6 +45,31 @@ impl<const N: usize> Model for PlanIndex<N> {
     ghost view = { λ x. plan_of x.shape.nodes x.rounds x.shape.periods (map line_of x.lines.items) x.restarts.items };
 
     ghost invariant = { λ x. IsIndex N (plan_of x.shape.nodes x.rounds x.shape.periods (map line_of x.lines.items) x.restarts.items) x.shape.slots x.cells.items x.restarting.items x.touched.items };
+}
+
+/// The cells of these lines, where no rule refuses them and these restarts.
+fn accepted_cells<const N: usize>(
+    alloc: Global,
+    shape: &Shape,
+    lines: &[FaultLine<N>],
+    restarts: &[Restart],
+) -> Result<Vec<u16>, PlanError>
+    requires shape { IsShape N shape.now.nodes shape.now.slots shape.now.periods }
+    requires few_lines { length lines.now < 2 ^ 32 }
+    requires few_restarts { length restarts.now < 2 ^ 32 }
+    ensures { MatchResult result (λ v. IsTable shape.now.nodes shape.now.slots shape.now.periods (map line_of lines.now) v.items × (first_bad_line shape.now.nodes shape.now.slots shape.now.periods 0 (map line_of lines.now) ≡ None) × (first_overlap [] (map line_of lines.now) ≡ None) × (first_bad_restart shape.now.nodes shape.now.periods None 0 restarts.now ≡ None) × (length lines.now ≤ 4096)) (λ e. (e ≡ PlanError.NoMemory) ⊎ ((m : ℕ) → slot_count m ≡ shape.now.slots → refusal_of (plan_of shape.now.nodes m shape.now.periods (map line_of lines.now) restarts.now) ≡ Some e)) }
+{
+    if let Some(place) = first_bad_line(lines, shape) {
+        return Err(PlanError::Range(place));
+    }
+    let cells = cells_of(alloc, shape, lines)?;
+    if let Some(place) = first_bad_restart(restarts, shape.nodes, shape.periods) {
+        return Err(PlanError::Restart(place));
+    }
+    if lines.len() > MOST_LINES {
+        return Err(PlanError::TooMany);
+    }
+    Ok(cells)
 }
 
 /// For each period the set of the nodes that restart at it.
@@ -119,16 +144,7 @@ impl<const N: usize> PlanIndex<N> {
             slots: slot_count(m),
             periods,
         };
-        if let Some(place) = first_bad_line(lines.as_slice(), &shape) {
-            return Err(PlanError::Range(place));
-        }
-        let cells = cells_of(alloc, &shape, lines.as_slice())?;
-        if let Some(place) = first_bad_restart(restarts.as_slice(), nodes, periods) {
-            return Err(PlanError::Restart(place));
-        }
-        if lines.len() > MOST_LINES {
-            return Err(PlanError::TooMany);
-        }
+        let cells = accepted_cells(alloc, &shape, lines.as_slice(), restarts.as_slice())?;
         let Ok(restarting) = restarting_sets(alloc, restarts.as_slice(), nodes, periods) else {
             return Err(PlanError::NoMemory);
         };

@@ -13,10 +13,10 @@ use thiserror::Error;
 #[derive(Clone, Copy, Debug, PartialEq, Eq, Error)]
 pub enum GraphError {
     /// A task is out of range: its number, its predecessors, its nodes, its need or its run times.
-    #[error("task {0} is out of range")]
+    #[error("a task is out of range")]
     Range(u8),
     /// All tasks are in range, and this one comes after itself by a chain of predecessors.
-    #[error("task {0} comes after itself")]
+    #[error("a task comes after itself")]
     Cycle(u8),
 }
 

@@ -57,7 +57,7 @@ fn a_graph(rt: HostRuntime) {
 #[test]
 fn texts_of_errors(rt: HostRuntime) {
     let range = format!(in rt.alloc(); "{}", GraphError::Range(32)).expect(&rt, "memory");
-    assert!(rt; range.as_str() == "task 32 is out of range");
+    assert!(rt; range.as_str() == "a task is out of range");
     let cycle = format!(in rt.alloc(); "{}", GraphError::Cycle(1)).expect(&rt, "memory");
-    assert!(rt; cycle.as_str() == "task 1 comes after itself");
+    assert!(rt; cycle.as_str() == "a task comes after itself");
 }

@@ -1,8 +1,9 @@
-use Rattle.std.proofs.Common.{◌≡◌, ◌+◌, ◌*◌, ◌<◌, true, false, sym, length, ◌∙◌, arith}
+use Rattle.std.proofs.Common.{◌≡◌, ◌+◌, ◌*◌, ◌<◌, true, false, sym, length, ◌∙◌, arith, lit<}
 use Rattle.std.specs.Prelude.{◌==◌}
 use Rattle.node_grid.specs.NodeSet.{has_id}
 use Rattle.fault_classes.specs.Cells.{in_row}
 use Rattle.fault_classes.proofs.Marking.{digits_below, digits_yes, digits_no, digits_here, marked_more, marked_same, marked_cell, taken_cell, taken_later}
+use Rattle.fault_classes.proofs.Ranges.{falls}
 use Rattle.fault_classes.proofs.cells.mark_row.Goals as goal
 use Rattle.fault_classes.proofs.cells.mark_row.Goals.{then-has+else-cells-cell-ne0, else-has}
 
@@ -37,3 +38,30 @@ loop-id-preserved g c =
           let off : has_id to k ≡ false = sym c.has.ensures ∙ w.if-has.false in
           rw w.cells-is (marked_same (digits_below (has_id to) n r k) (digits_below (has_id to) n r (k + 1)) m old now c.loop-id.invariant (λ x. digits_no (has_id to) n r k x off))
     ]
+
+pub overflow_mul-start : goal.overflow_mul-start
+overflow_mul-start g c = omega (arith, c.requires.within, c.requires.few)
+
+pub has-requires : goal.has-requires
+has-requires g c = lit< tt
+
+pub overflow_cast-cell : goal.overflow_cast-cell
+overflow_cast-cell g c = omega (arith, c.ranges.nodes, c.loop-id-test.true)
+
+pub overflow_add-cell : goal.overflow_add-cell
+overflow_add-cell g c = omega (arith, c.requires.within, c.requires.few, c.loop-id-test.true)
+
+pub offset_bounds-cells-cell : goal.offset_bounds-cells-cell
+offset_bounds-cells-cell g c = omega (arith, c.requires.within, c.requires.few, c.loop-id-test.true)
+
+pub bounds-cells-cell : goal.bounds-cells-cell
+bounds-cells-cell g c = omega (arith, c.requires.within, c.loop-id-test.true, c.loop-id.auto.cells)
+
+pub offset_bounds-cells-cell-then-has : goal.offset_bounds-cells-cell-then-has
+offset_bounds-cells-cell-then-has g c = omega (arith, c.requires.within, c.requires.few, c.loop-id-test.true)
+
+pub bounds-cells-cell-then-has : goal.bounds-cells-cell-then-has
+bounds-cells-cell-then-has g c = omega (arith, c.requires.within, c.loop-id-test.true, c.loop-id.auto.cells)
+
+pub loop-id-smaller : goal.loop-id-smaller
+loop-id-smaller g c = falls c.args.nodes c.loop-id.id c.loop-id-test.true

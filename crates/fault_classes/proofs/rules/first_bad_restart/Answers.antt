@@ -1,4 +1,4 @@
-use Rattle.std.proofs.Common.{length, refl}
+use Rattle.std.proofs.Common.{length, refl, arith}
 use Rattle.fault_classes.proofs.Ranges.{falls, place_fits}
 use Rattle.fault_classes.proofs.rules.first_bad_restart.Goals as goal
 
@@ -16,3 +16,9 @@ bounds-restarts-place c = c.loop-place-test.true
 
 pub overflow_sub-in_range : goal.overflow_sub-in_range
 overflow_sub-in_range c = c.requires.periods
+
+pub offset_bounds-restarts-place : goal.offset_bounds-restarts-place
+offset_bounds-restarts-place c = omega (arith, c.loop-place-test.true, c.requires.few)
+
+pub comes_after-requires : goal.comes_after-requires
+comes_after-requires c = tt

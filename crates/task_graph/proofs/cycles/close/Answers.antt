@@ -20,3 +20,36 @@ loop-t-preserved g c =
         many = i.many;
       })
     ]
+
+pub offset_bounds-masks-k : goal.offset_bounds-masks-k
+offset_bounds-masks-k g c = omega (arith, c.loop-k-test.true, few_tasks c.args.nodes c.args.tasks.now c.requires.in_range)
+
+pub bounds-masks-k : goal.bounds-masks-k
+bounds-masks-k g c = omega (arith, c.loop-k-test.true, few_tasks c.args.nodes c.args.tasks.now c.requires.in_range)
+
+pub offset_bounds-masks-t : goal.offset_bounds-masks-t
+offset_bounds-masks-t g c = omega (arith, c.loop-t-test.true, few_tasks c.args.nodes c.args.tasks.now c.requires.in_range)
+
+pub bounds-masks-t : goal.bounds-masks-t
+bounds-masks-t g c = omega (arith, c.loop-t-test.true, few_tasks c.args.nodes c.args.tasks.now c.requires.in_range)
+
+pub overflow_cast-k : goal.overflow_cast-k
+overflow_cast-k g c = omega (arith, c.loop-k-test.true, few_tasks c.args.nodes c.args.tasks.now c.requires.in_range)
+
+pub overflow_shr-masks : goal.overflow_shr-masks
+overflow_shr-masks g c = omega (arith, c.loop-k-test.true, few_tasks c.args.nodes c.args.tasks.now c.requires.in_range)
+
+pub offset_bounds-masks-t-then-masks-t-eq1 : goal.offset_bounds-masks-t-then-masks-t-eq1
+offset_bounds-masks-t-then-masks-t-eq1 g c = omega (arith, c.loop-t-test.true, few_tasks c.args.nodes c.args.tasks.now c.requires.in_range)
+
+pub bounds-masks-t-then-masks-t-eq1 : goal.bounds-masks-t-then-masks-t-eq1
+bounds-masks-t-then-masks-t-eq1 g c = omega (arith, c.loop-t-test.true, few_tasks c.args.nodes c.args.tasks.now c.requires.in_range)
+
+pub bounds-masks-t-then-masks-t-eq1-2 : goal.bounds-masks-t-then-masks-t-eq1-2
+bounds-masks-t-then-masks-t-eq1-2 g c = omega (arith, c.loop-t-test.true, few_tasks c.args.nodes c.args.tasks.now c.requires.in_range)
+
+pub loop-t-smaller : goal.loop-t-smaller
+loop-t-smaller g c = omega (arith, c.loop-t-test.true)
+
+pub loop-k-smaller : goal.loop-k-smaller
+loop-k-smaller g c = omega (arith, c.loop-k-test.true)

@@ -1,13 +1,21 @@
-use Rattle.std.proofs.Common.{◌≡◌, ◌+◌, ◌++◌, ◌∷◌, [], sym, ap, ◌∙◌, arith, append_assoc}
+use Rattle.std.proofs.Common.{◌≡◌, ◌+◌, ◌++◌, ◌∷◌, [], sym, ap, ◌∙◌, arith, append_assoc, lit<, refl, List, ℕ, ◌<◌, length, append-nil, suc, subst, length-append}
 use Rattle.std.proofs.lemmas.List.{length_push}
 use Rattle.node_grid.specs.declared.class.Class.{Class}
-use Rattle.node_grid.specs.Count.{bit}
+use Rattle.node_grid.specs.Count.{bit, count}
 use Rattle.node_grid.specs.Class.{is_asymmetric, is_symmetric, is_silent}
 use Rattle.fault_classes.specs.declared.budget.Budget.{Budget}
 use Rattle.fault_classes.specs.Plan.{class_of}
 use Rattle.fault_classes.specs.Budget.{counts_as, with_member}
 use Rattle.node_grid.specs.ListLaws.{count-more, bit_le}
+use Rattle.std.specs.Prelude.{All}
 use Rattle.fault_classes.proofs.plan.FaultPlan.budget.Goals as goal
+
+front : (n : ℕ) (ys rest : List ℕ) (x : ℕ) → All (λ k. k < n) (ys ++ x ∷ rest) → x < n
+front n [] rest x all = all 0 0 (omega arith)
+front n (y ∷ ys) rest x all = front n ys rest x (λ k d l. all (suc k) d (omega arith))
+
+less : {rest : List ℕ} {x : ℕ} {zs : List ℕ} → rest ≡ x ∷ zs → length zs < length rest
+less e = rw e (omega arith)
 
 pub loop-node-preserved : goal.loop-node-preserved
 loop-node-preserved g c =
@@ -35,3 +43,65 @@ loop-node-preserved g c =
       few_symmetric = omega (arith, s, long, i.few_symmetric, bit_le (is_symmetric class));
       few_silent = omega (arith, b, long, i.few_silent, bit_le (is_silent class));
     }
+
+pub len-requires : goal.len-requires
+len-requires g c = lit< tt
+
+pub iter-node-items-requires : goal.iter-node-items-requires
+iter-node-items-requires g c = (lit< tt, lit< tt)
+
+pub next-requires : goal.next-requires
+next-requires g c = (lit< tt, tt)
+
+pub loop-node-smaller : goal.loop-node-smaller
+loop-node-smaller g c = less c.in-Some.ensures.steps
+
+pub loop-node-init : goal.loop-node-init
+loop-node-init g c = record {
+  can = tt;
+  ends = tt;
+  split = sym (c.into_iter-node-iterator.ensures.into_iter_gives ∙ c.iter-node-items.ensures.members);
+  all = c.len.ensures.count;
+  asymmetric = refl;
+  symmetric = refl;
+  silent = refl;
+  few = omega arith;
+  few_symmetric = omega arith;
+  few_silent = omega arith;
+}
+
+pub returns : goal.returns
+returns g c =
+    let plan = c.args.self.now in
+    let p = c.args.period in
+    let i = c.loop-node.invariant in
+    let ys : List ℕ = c.loop-node.yielded in
+    let whole : ys ≡ c.args.members.now = sym (i.split ∙ ap (λ (xs : List ℕ). ys ++ xs) c.in-None.ensures.steps.0 ∙ append-nil ys) in
+    record {
+      all = i.all;
+      asymmetric = i.asymmetric ∙ ap (count (counts_as is_asymmetric plan p)) whole;
+      symmetric = i.symmetric ∙ ap (count (counts_as is_symmetric plan p)) whole;
+      silent = i.silent ∙ ap (count (counts_as is_silent plan p)) whole;
+    }
+
+pub class-requires : goal.class-requires
+class-requires g c =
+    let ys : List ℕ = c.loop-node.yielded in
+    let split = c.loop-node.invariant.split ∙ ap (λ (xs : List ℕ). ys ++ xs) c.in-Some.ensures.steps in
+    let low : c.in-Some.node < c.args.self.now.nodes = front c.args.self.now.nodes ys c.next.new.self c.in-Some.node (subst (λ xs. All (λ k. k < c.args.self.now.nodes) xs) split c.requires.members) in
+    (lit< tt, (low, c.requires.period))
+
+pub add-requires-clause-a : goal.add-requires-clause-a
+add-requires-clause-a g c =
+    let part = ap length c.loop-node.invariant.split ∙ length-append c.loop-node.yielded c.loop-node.node-iterator in
+    omega (arith, part, ap length c.in-Some.ensures.steps, c.len.ensures.count, c.len.type_inv, c.loop-node.invariant.few)
+
+pub add-requires-clause-s : goal.add-requires-clause-s
+add-requires-clause-s g c =
+    let part = ap length c.loop-node.invariant.split ∙ length-append c.loop-node.yielded c.loop-node.node-iterator in
+    omega (arith, part, ap length c.in-Some.ensures.steps, c.len.ensures.count, c.len.type_inv, c.loop-node.invariant.few_symmetric)
+
+pub add-requires-clause-b : goal.add-requires-clause-b
+add-requires-clause-b g c =
+    let part = ap length c.loop-node.invariant.split ∙ length-append c.loop-node.yielded c.loop-node.node-iterator in
+    omega (arith, part, ap length c.in-Some.ensures.steps, c.len.ensures.count, c.len.type_inv, c.loop-node.invariant.few_silent)

@@ -1,6 +1,7 @@
-use Rattle.std.proofs.Common.{ℕ, ◌+◌, ◌*◌, ◌≤◌, sym, subst, arith, lit<}
+use Rattle.std.proofs.Common.{ℕ, ◌+◌, ◌*◌, ◌≤◌, sym, subst, arith, lit<, inl, inr, refl, ap, ◌≡◌}
 use Rattle.fault_classes.specs.Plan.{Plan}
 use Rattle.fault_classes.specs.Rules.{IsPlan}
+use Rattle.std.proofs.lemmas.Result.{err_from_is_err_and}
 use Rattle.fault_classes.proofs.plan.FaultPlan.new.Goals as goal
 
 some_slots : (m : ℕ) → 4 ≤ 2 * m + 4
@@ -49,3 +50,14 @@ invariant_of-result g c =
 
 pub returns : goal.returns
 returns g c = (c.in_ok-index.ensures.0, c.in_ok-index.ensures.1)
+
+pub returns-in_err-index : goal.returns-in_err-index
+returns-in_err-index g c = let p = err_from_is_err_and c.from_residual.result c.from_residual.ensures.1 in rw (p.1, p.2) c.in_err-index.ensures
+
+pub returns-in_default : goal.returns-in_default
+returns-in_default g c = inl refl
+
+pub standings_of-requires : goal.standings_of-requires
+standings_of-requires g c =
+    let e : c.in_ok-index.index.nodes ≡ c.args.nodes = ap (λ (p : Plan). p.nodes) c.in_ok-index.ensures.0 in
+    (lit< tt, (elim c.requires.capacity [ inl n ↦ rw n (lit< tt) | inr n ↦ rw n (lit< tt) ], (c.requires.capacity, (omega (arith, e, c.requires.few_nodes), omega (arith, e, c.requires.some_nodes)))))
