@@ -6,7 +6,7 @@ ghost use Rattle.node_grid.specs.NodeSet.{has_id, without_id};
 ghost use Rattle.omh_paths.specs.Paths.{path_count};
 ghost use Rattle.omh_paths.specs.Wrapped.{wrapped};
 ghost use Rattle.heard.specs.Keep.{relayed, last_node, frame_at, set_at, IsSmall, IsMemberPath};
-ghost use Rattle.heard.specs.Keep.{IsRound, IsStored};
+ghost use Rattle.heard.specs.Keep.{IsRound, IsStored, root, base};
 ghost use Rattle.heard.specs.Doubts.{AreDoubted, AreDoubtedIn, AreHit};
 ghost use Rattle.heard.specs.Seen.{IsNewest};
 ghost use Rattle.heard.specs.Laid.{IsLaidUpTo, IsLaidOut, IsPut, IsEcho, laid_parts};
@@ -55,6 +55,17 @@ impl<V: Value, const N: usize> Store<V, N> {
             }
         }
         true
+    }
+
+    /// Whether a frame of relay round `r` that says what is expected can be taken up unread: whether
+    /// what was heard of each member itself is expected of it, and no frame of more relays is kept
+    /// as one that says what the node itself passes on.
+    pub fn may_take_expected(&self, r: u8) -> bool
+        ensures agree { result ≡ true → (c : ℕ) → has_id self.now.members c ≡ true →
+            root self.now c ≡ base self.now c }
+        ensures newest { result ≡ true → IsNewest self.now.rounds self.now r }
+    {
+        self.agrees() && self.is_newest(r)
     }
 
     /// Sets a value of a frame that is not kept by cells.

@@ -5,6 +5,7 @@ ghost use Rattle.omh_paths.specs.declared.wrapped.Wrapped.TheVariants.{Fault};
 ghost use Rattle.omh_paths.specs.Paths.{path_count};
 ghost use Rattle.heard.specs.Keep.{IsFrame};
 
+use crate::places::is_value_at;
 use crate::value::Value;
 use node_grid::NodeSet;
 use omh_paths::{Wrapped, count_paths};
@@ -37,11 +38,8 @@ pub fn are_expected<V: Value>(
     ensures { result ≡ true → (k : ℕ) → from ≤ k → k < until →
         slice_index_or values.now k (Fault 0) ≡ expected }
 {
-    if from > until || until > values.len() {
-        return false;
-    }
-    for value in &values[from..until] {
-        if *value != expected {
+    for k in from..until {
+        if !is_value_at(values, k, &expected) {
             return false;
         }
     }

@@ -238,10 +238,7 @@ impl<V: Value, const N: usize> Heard<V, N> {
         if !self.store.hears_relays(q, r) {
             return false;
         }
-        if !self.store.agrees() {
-            return false;
-        }
-        if !self.store.is_newest(r) {
+        if !self.store.may_take_expected(r) {
             return false;
         }
         self.any_frame = true;
@@ -263,9 +260,6 @@ impl<V: Value, const N: usize> Heard<V, N> {
         if !self.store.hears_relays(q, r) {
             return false;
         }
-        if r == 1 {
-            return self.hear_expected(q, r);
-        }
         if self.relays_expected(r) {
             return self.hear_expected(q, r);
         }
@@ -286,10 +280,7 @@ impl<V: Value, const N: usize> Heard<V, N> {
         ensures is { result ≡ true → self.new ≡ with_echoes senders.now r self.old }
         ensures left { result ≡ false → self.new ≡ self.old }
     {
-        if !self.store.agrees() {
-            return false;
-        }
-        if !self.store.is_newest(r) {
+        if !self.store.may_take_expected(r) {
             return false;
         }
         self.any_frame = true;
@@ -308,9 +299,6 @@ impl<V: Value, const N: usize> Heard<V, N> {
     {
         if !self.store.has_round(r) {
             return false;
-        }
-        if r == 1 {
-            return self.hear_all_expected(senders, r);
         }
         if self.relays_expected(r) {
             return self.hear_all_expected(senders, r);

@@ -27,6 +27,9 @@ odd_differs w n left b h odd same rest e =
     let yes : b ≡ true = same (ap (take left.pending) e ∙ take_at p (unmarked w (replicate n true ++ rest) (drop left.pending left.table.now)) left.pending (pending_long w n left h)) in
     cc
 
+no_less : (n : ℕ) → n ≤ n
+no_less n = omega arith
+
 pub returns-clause-over : goal.returns-clause-over
 returns-clause-over c =
     let k : ℕ = c.args.width * c.args.count in
@@ -65,3 +68,9 @@ pub returns-then-not-is_same-clause-odd : goal.returns-then-not-is_same-clause-o
 returns-then-not-is_same-clause-odd c =
     odd_differs c.args.width c.args.count c.args.left c.is_same.result c.requires.room c.if-not-is_same.true
     (λ same. c.is_same.ensures.1 (c.split_at.ensures.front ∙ same ∙ sym c.split_at-2.ensures.front))
+
+pub slice_bounds-result-start : goal.slice_bounds-result-start
+slice_bounds-result-start c = room_behind c.args.width c.args.count c.args.left c.split_at-2.result.1.now c.requires.room c.split_at-2.ensures.back
+
+pub slice_bounds-result-end : goal.slice_bounds-result-end
+slice_bounds-result-end c = no_less (length c.split_at-2.result.1.now)

@@ -1,12 +1,16 @@
-use Rattle.std.proofs.Common.{ℕ, ◌≡◌, ◌+◌, ◌-◌, ◌*◌, List, length, take, drop, sym, ap, ap₂, ◌∙◌, arith}
+use Rattle.std.proofs.Common.{ℕ, ◌≡◌, ◌≤◌, ◌+◌, ◌-◌, ◌*◌, List, length, take, drop, sym, ap, ap₂, ◌∙◌, lit<, arith}
 use Rattle.std.proofs.lemmas.List.{take_all, length-drop}
 use Rattle.std.proofs.Math.Nat.{mul_comm}
 use Rattle.frames.specs.Runs.{expanded}
 use Rattle.frames.specs.Writing.{pasted}
+use Rattle.node_grid.specs.ListLaws.{has_some}
 use Rattle.omh_paths.specs.Paths.{path_count}
 use Rattle.omh_paths.specs.MemberLaws.{member-lt, few_ids, Distinct-ids}
 use Rattle.guessed_frames.proofs.OwnRuns.{gap_low, gap_fits, near_long, far_long, own_room, own_written, fewer_paths, few_paths, run_small}
 use Rattle.guessed_frames.proofs.copying.write_runs_without.Goals as goal
+
+no_less : (n : ℕ) → n ≤ n
+no_less n = omega arith
 
 pub place-gap-requires : goal.place-gap-requires
 place-gap-requires g c = (omega arith, member-lt g.row.N c.args.set.now c.args.own.node c.len.ensures.ids c.requires.node)
@@ -179,3 +183,24 @@ returns g c =
     let count : c.len.result - 1 - gap ≡ length s - 1 - gap = ap (λ (n : ℕ). n - 1 - gap) c.len.ensures.count in
     own_written g.row.N w q c.args.r t gap s xs ids c.requires.node c.requires.some f c.place-gap.ensures.count c.requires.whole c.args.out.now c.write_runs.new.out c.write_runs-2.new.out c.requires.room c.write_runs.ensures
     (c.write_runs-2.ensures ∙ ap₂ (λ (n : ℕ) (u : List ℕ). pasted (gap * (t * w)) (expanded w t n u) c.write_runs.new.out) count all)
+
+pub len-requires : goal.len-requires
+len-requires g c = lit< tt
+
+pub overflow_cast-others : goal.overflow_cast-others
+overflow_cast-others g c = omega (arith, c.len.ensures.count, few_ids g.row.N c.args.set.now c.requires.capacity c.len.ensures.ids)
+
+pub overflow_sub-others : goal.overflow_sub-others
+overflow_sub-others g c = omega (arith, c.len.ensures.count, has_some c.args.set.now c.args.own.node c.requires.node)
+
+pub paths_of_each-times-requires : goal.paths_of_each-times-requires
+paths_of_each-times-requires g c = (lit< tt, (c.requires.capacity, (c.requires.some, c.requires.few)))
+
+pub write_runs-requires-clause-narrow : goal.write_runs-requires-clause-narrow
+write_runs-requires-clause-narrow g c = c.requires.narrow
+
+pub write_runs-requires-2-clause-narrow : goal.write_runs-requires-2-clause-narrow
+write_runs-requires-2-clause-narrow g c = c.requires.narrow
+
+pub slice_bounds-write_runs-end-2 : goal.slice_bounds-write_runs-end-2
+slice_bounds-write_runs-end-2 g c = no_less (length c.args.firsts.now)

@@ -1,41 +1,24 @@
 use Rattle.std.proofs.lemmas.Bool.{false≢true}
-use Rattle.std.proofs.Common.{ℕ, ◌≡◌, ◌<◌, ◌+◌, ◌-◌, get_or, ap, ◌∙◌, arith}
+use Rattle.std.proofs.Common.{ℕ, ◌≡◌, ◌≤◌, ◌<◌, ◌+◌, ◌-◌, get_or, arith}
 use Rattle.omh_paths.specs.declared.wrapped.Wrapped.TheVariants.{Fault}
+use Rattle.heard.proofs.Members.{hit_next}
 use Rattle.heard.proofs.frame.are_expected.Goals as goal
 
 less_left : (n i : ℕ) → i < n → n - (i + 1) < n - i
 less_left n i low = omega arith
 
+pub loop-k-init : goal.loop-k-init
+loop-k-init g c = λ j low above. absurd (omega (arith, low, above))
+
+pub loop-k-preserved : goal.loop-k-preserved
+loop-k-preserved g c =
+    hit_next (λ j. c.args.from ≤ j → get_or c.args.values.now j (Fault 0) ≡ c.args.expected) c.loop-k.k c.loop-k.invariant (λ above. c.is_value_at.ensures c.if-not-is_value_at.false)
+
+pub loop-k-smaller : goal.loop-k-smaller
+loop-k-smaller g c = less_left _ _ c.loop-k-test.true
+
 pub returns : goal.returns
-returns g c =
-    λ t k above below.
-    let at : k ≡ c.args.from + (k - c.args.from) = omega arith in
-    let low : k - c.args.from < c.loop-value.value-index = omega (arith, c.loop-value-test.false, below, above) in
-    ap (λ (i : ℕ). get_or c.args.values.now i (Fault 0)) at ∙ c.loop-value.invariant (k - c.args.from) low
+returns g c = λ t k above below. c.loop-k.invariant k (omega (arith, c.loop-k-test.false, below)) above
 
-pub offset_bounds-value-items-value-index : goal.offset_bounds-value-items-value-index
-offset_bounds-value-items-value-index g c = c.loop-value.auto.value-index-end
-
-pub offset_bounds-values-from : goal.offset_bounds-values-from
-offset_bounds-values-from g c = omega (arith, c.if-from-until.false, c.if-until-values.false)
-
-pub loop-value-init : goal.loop-value-init
-loop-value-init g c = λ j low. absurd (omega (arith, low))
-
-pub bounds-value-items-value-index : goal.bounds-value-items-value-index
-bounds-value-items-value-index g c = c.loop-value-test.true
-
-pub loop-value-smaller : goal.loop-value-smaller
-loop-value-smaller g c = less_left _ _ c.loop-value-test.true
-
-pub returns-then-from-until : goal.returns-then-from-until
-returns-then-from-until g c = λ t k above below. absurd (false≢true t)
-
-pub returns-then-ne : goal.returns-then-ne
-returns-then-ne g c = λ t k above below. absurd (false≢true t)
-
-pub slice_bounds-value-items-start : goal.slice_bounds-value-items-start
-slice_bounds-value-items-start g c = c.if-from-until.false
-
-pub slice_bounds-value-items-end : goal.slice_bounds-value-items-end
-slice_bounds-value-items-end g c = c.if-until-values.false
+pub returns-then-not-is_value_at : goal.returns-then-not-is_value_at
+returns-then-not-is_value_at g c = λ t k above below. absurd (false≢true t)

@@ -9,21 +9,14 @@ invariant_of-self g c =
 
 pub returns-clause-is : goal.returns-clause-is
 returns-clause-is g c e =
-    let agree : c.agrees.result ≡ true = c.if-not-agrees.false in
-    let fresh : c.is_newest.result ≡ true = c.if-not-is_newest.false in
-    all_expected_seen c.self.invariant c.self.view_is c.args.senders.now c.args.r c.requires.round.0 c.requires.round.1 (c.is_newest.ensures fresh) (c.agrees.ensures agree) c.requires.expected c.take_all_expected.new.self c.take_all_expected.ensures
+    let may : c.may_take_expected.result ≡ true = c.if-not-may_take_expected.false in
+    all_expected_seen c.self.invariant c.self.view_is c.args.senders.now c.args.r c.requires.round.0 c.requires.round.1 (c.may_take_expected.ensures.newest may) (c.may_take_expected.ensures.agree may) c.requires.expected c.take_all_expected.new.self c.take_all_expected.ensures
 
-pub returns-then-not-agrees-clause-is : goal.returns-then-not-agrees-clause-is
-returns-then-not-agrees-clause-is g c e = absurd (false≢true e)
+pub returns-then-not-may_take_expected-clause-is : goal.returns-then-not-may_take_expected-clause-is
+returns-then-not-may_take_expected-clause-is g c e = absurd (false≢true e)
 
-pub returns-then-not-is_newest-clause-is : goal.returns-then-not-is_newest-clause-is
-returns-then-not-is_newest-clause-is g c e = absurd (false≢true e)
-
-pub returns-then-not-agrees-clause-left : goal.returns-then-not-agrees-clause-left
-returns-then-not-agrees-clause-left g c e = refl
-
-pub returns-then-not-is_newest-clause-left : goal.returns-then-not-is_newest-clause-left
-returns-then-not-is_newest-clause-left g c e = refl
+pub returns-then-not-may_take_expected-clause-left : goal.returns-then-not-may_take_expected-clause-left
+returns-then-not-may_take_expected-clause-left g c e = refl
 
 pub returns-clause-left : goal.returns-clause-left
 returns-clause-left g c e = absurd (true≢false e)

@@ -1,4 +1,3 @@
-use Rattle.heard.proofs.PassingLaws.{roots_alone}
 use Rattle.std.proofs.Common.{◌≡◌, ◌≤◌, true, ap, arith, refl, rules}
 use Rattle.std.proofs.lemmas.Bool.{false≢true, true≢false}
 use Rattle.heard.proofs.Methods.{paths_seen}
@@ -7,10 +6,6 @@ use Rattle.heard.proofs.hearing.Heard.hear_echoes.Goals as goal
 
 pub returns-then-not-has_round-clause-paths : goal.returns-then-not-has_round-clause-paths
 returns-then-not-has_round-clause-paths g c =
-    paths_seen c.self.invariant c.self.view_is
-
-pub returns-then-r-eq1-clause-paths : goal.returns-then-r-eq1-clause-paths
-returns-then-r-eq1-clause-paths g c =
     paths_seen c.self.invariant c.self.view_is
 
 pub returns-then-relays_expected-clause-paths : goal.returns-then-relays_expected-clause-paths
@@ -36,7 +31,7 @@ returns-clause-is g c e =
     let round = c.has_round.ensures c.if-not-has_round.false in
     let short : c.args.r ≤ c.args.self.now.rounds = omega (arith, round.1, ap (λ h. h.rounds) c.self.view_is) in
     let fresh : c.is_newest.result ≡ true = c.if-not-is_newest.false in
-    all_echoes_seen c.self.invariant c.self.view_is c.args.senders.now c.args.r round.0 short (omega (arith, round.0, c.if-r-eq1.false)) (c.is_newest.ensures fresh) c.take_all_echoes.new.self c.take_all_echoes.ensures
+    all_echoes_seen c.self.invariant c.self.view_is c.args.senders.now c.args.r round.0 short (c.relays_expected.ensures.no c.if-relays_expected.false) (c.is_newest.ensures fresh) c.take_all_echoes.new.self c.take_all_echoes.ensures
 
 pub returns-then-not-has_round-clause-is : goal.returns-then-not-has_round-clause-is
 returns-then-not-has_round-clause-is g c e = absurd (false≢true e)
@@ -53,26 +48,14 @@ returns-then-not-is_newest-clause-left g c e = refl
 pub returns-clause-left : goal.returns-clause-left
 returns-clause-left g c e = absurd (true≢false e)
 
-pub returns-then-r-eq1-clause-is : goal.returns-then-r-eq1-clause-is
-returns-then-r-eq1-clause-is g c = c.hear_all_expected.ensures.is
-
-pub returns-then-r-eq1-clause-left : goal.returns-then-r-eq1-clause-left
-returns-then-r-eq1-clause-left g c = c.hear_all_expected.ensures.left
-
 pub returns-then-relays_expected-clause-is : goal.returns-then-relays_expected-clause-is
-returns-then-relays_expected-clause-is g c = c.hear_all_expected-then-relays_expected.ensures.is
+returns-then-relays_expected-clause-is g c = c.hear_all_expected.ensures.is
 
 pub returns-then-relays_expected-clause-left : goal.returns-then-relays_expected-clause-left
-returns-then-relays_expected-clause-left g c = c.hear_all_expected-then-relays_expected.ensures.left
+returns-then-relays_expected-clause-left g c = c.hear_all_expected.ensures.left
 
 pub hear_all_expected-requires : goal.hear_all_expected-requires
 hear_all_expected-requires g c =
-    let round = c.has_round.ensures c.if-not-has_round.false in
-    let short : c.args.r ≤ c.args.self.now.rounds = omega (arith, round.1, ap (λ h. h.rounds) c.self.view_is) in
-    (search rules, (omega arith, ((round.0, short), roots_alone c.args.self.now c.args.r c.if-r-eq1.true)))
-
-pub hear_all_expected-requires-then-relays_expected : goal.hear_all_expected-requires-then-relays_expected
-hear_all_expected-requires-then-relays_expected g c =
     let round = c.has_round.ensures c.if-not-has_round.false in
     let short : c.args.r ≤ c.args.self.now.rounds = omega (arith, round.1, ap (λ h. h.rounds) c.self.view_is) in
     (search rules, (omega arith, ((round.0, short), c.relays_expected.ensures.yes c.if-relays_expected.true c.args.r round.0 (omega arith))))
