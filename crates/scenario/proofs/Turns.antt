@@ -24,6 +24,20 @@ module _ {X Y : Type 0} (p : Y → Bool) (v : X → Y) (xs : List X) (k : ℕ) w
   pub all_passed : (whole : Bool) → length xs ≤ k → list_all p (map v (drop k xs)) ≡ whole → true ≡ whole
   all_passed whole past h = sym (at_drop_all (λ ys. list_all p (map v ys)) xs k past) ∙ h
 
+-- elements that are tried as they are
+module _ {X : Type 0} (p : X → Bool) (xs : List X) (k : ℕ) (d x : X) (whole : Bool) (low : k < length xs) (is : x ≡ get_or xs k d) where
+  here : drop k xs ≡ x ∷ drop (k + 1) xs
+  here = rw (add-one, drop-cons xs k d) (ap (λ w. w ∷ drop (suc k) xs) (sym is))
+
+  all_at : (b : Bool) → p x ≡ b → list_all p (drop k xs) ≡ whole → (b && list_all p (drop (k + 1) xs)) ≡ whole
+  all_at b e h = sym (ap (list_all p) here ∙ ap (λ t. t && list_all p (drop (k + 1) xs)) e) ∙ h
+
+  pub all_go_on : p x ≡ true → list_all p (drop k xs) ≡ whole → list_all p (drop (k + 1) xs) ≡ whole
+  all_go_on = all_at true
+
+  pub all_end_here : p x ≡ false → list_all p (drop k xs) ≡ whole → false ≡ whole
+  all_end_here = all_at false
+
 -- rows, after their number
 module _ {X : Type 0} (is : List ℤ → Bool) (v : X → List ℤ) (rows : List X) (few : Bool) (count : few ≡ (nat_le 1 (length rows) && nat_le (length rows) 1024)) where
   counted : few && list_all is (map v rows) ≡ are_rows is (map v rows)

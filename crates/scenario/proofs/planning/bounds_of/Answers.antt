@@ -1,4 +1,4 @@
-use Rattle.std.proofs.Common.{rules, w64, to_z-of_z}
+use Rattle.std.proofs.Common.{rules, w64, to_z-of_z, arith, inl, inr}
 use Rattle.std.specs.Prelude.{FitsSigned}
 use Rattle.scenario.proofs.planning.bounds_of.Goals as goal
 
@@ -16,3 +16,21 @@ pub returns-clause-periods : goal.returns-clause-periods
 returns-clause-periods g c =
     let fits : FitsSigned w64 c.args.parts.now.periods = search rules in
     simp to_z-of_z at c.natural-3.ensures
+
+pub overflow_cast-result : goal.overflow_cast-result
+overflow_cast-result g c =
+    let fits : FitsSigned w64 c.args.parts.now.nodes = search rules in
+    let is = simp to_z-of_z at c.natural.ensures in
+    elim c.requires.capacity [ inl e ↦ omega (arith, is, e, c.requires.ranges.few_nodes) | inr e ↦ omega (arith, is, e, c.requires.ranges.few_nodes) ]
+
+pub overflow_cast-result-2 : goal.overflow_cast-result-2
+overflow_cast-result-2 g c =
+    let fits : FitsSigned w64 c.args.parts.now.m = search rules in
+    let is = simp to_z-of_z at c.natural-2.ensures in
+    omega (arith, is, c.requires.ranges.three_rounds)
+
+pub overflow_cast-result-3 : goal.overflow_cast-result-3
+overflow_cast-result-3 g c =
+    let fits : FitsSigned w64 c.args.parts.now.periods = search rules in
+    let is = simp to_z-of_z at c.natural-3.ensures in
+    omega (arith, is, c.requires.ranges.few_periods)
