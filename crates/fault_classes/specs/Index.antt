@@ -1,13 +1,25 @@
 -- What the index of a plan keeps beside the plan.
-use Rattle.std.specs.Prelude.{◌≡◌, ℕ, ◌^◌, ◌<◌, ◌≤◌, ◌==◌, ◌&&◌, nat_le, Bool, [], List, length, None, if◌then◌else◌}
+use Rattle.std.specs.Prelude.{◌≡◌, ℕ, ◌^◌, ◌<◌, ◌≤◌, ◌==◌, ◌&&◌, ◌⊎◌, nat_le, Bool, [], List, length, None, Some, if◌then◌else◌}
 use Rattle.std.specs.List.{slice_index_or, list_any}
 use Rattle.fault_classes.specs.declared.line.Restart.{Restart}
 use Rattle.node_grid.specs.NodeSet.{ids_where, with_id}
 use Rattle.slot_plan.specs.Slots.{slot_count}
 use Rattle.fault_classes.specs.Line.{Line}
-use Rattle.fault_classes.specs.Plan.{Plan, is_restart_of}
-use Rattle.fault_classes.specs.Rules.{refusal_of}
+use Rattle.fault_classes.specs.Plan.{Plan, plan_of, is_restart_of}
+use Rattle.fault_classes.specs.Rules.{refusal_of, first_bad_line, first_overlap, first_bad_restart}
+use Rattle.fault_classes.specs.declared.error.PlanError.{PlanError}
+use Rattle.fault_classes.specs.declared.error.PlanError.TheVariants.{NoMemory}
 use Rattle.fault_classes.specs.Cells.{IsShape, IsTable}
+
+-- these are the cells of the lines, and no rule refuses the lines and the restarts
+abbrev pub AreAccepted : ℕ → ℕ → ℕ → List Line → List Restart → List ℕ → Type 0
+AreAccepted nodes slots periods lines restarts cells =
+    IsTable nodes slots periods lines cells × (first_bad_line nodes slots periods 0 lines ≡ None) × (first_overlap [] lines ≡ None)
+    × (first_bad_restart nodes periods None 0 restarts ≡ None) × (length lines ≤ 4096)
+
+-- want of memory, or what refuses a plan of the lines and the restarts, of so many relay rounds that it has so many slots
+abbrev pub IsRefusedBy : ℕ → ℕ → ℕ → List Line → List Restart → PlanError → Type 0
+IsRefusedBy nodes slots periods lines restarts e = (e ≡ NoMemory) ⊎ ((m : ℕ) → slot_count m ≡ slots → refusal_of (plan_of nodes m periods lines restarts) ≡ Some e)
 
 -- for each period the set of the nodes that restart
 pub record IsRestarting (n periods : ℕ) (restarts : List Restart) (sets : List (List ℕ)) : Type 0 where

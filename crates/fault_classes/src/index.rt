@@ -1,12 +1,12 @@
-ghost use Rattle.std.specs.Prelude.{◌≡◌, ℕ, ◌^◌, ◌<◌, ◌≤◌, ◌⊎◌, [], true, not, None, Some, IfOk, MatchResult, IsTrue, map, length, option_map};
+ghost use Rattle.std.specs.Prelude.{◌≡◌, ℕ, ◌^◌, ◌<◌, ◌≤◌, ◌⊎◌, true, not, None, Some, IfOk, MatchResult, IsTrue, map, length, option_map};
 ghost use Rattle.std.specs.List.{list_all};
 ghost use Rattle.fault_classes.specs.Change.{change_of};
 ghost use Rattle.fault_classes.specs.Line.{line_of, effect_at, touches};
 ghost use Rattle.slot_plan.specs.Slots.{slot_count};
 ghost use Rattle.fault_classes.specs.Plan.{plan_of, restarts_at, is_clean};
-ghost use Rattle.fault_classes.specs.Rules.{is_line, refusal_of, first_bad_line, first_overlap, first_bad_restart};
-ghost use Rattle.fault_classes.specs.Cells.{IsShape, IsTable, entry_of};
-ghost use Rattle.fault_classes.specs.Index.{IsRestarting, IsSent, IsTouched};
+ghost use Rattle.fault_classes.specs.Rules.{is_line, refusal_of, first_bad_restart};
+ghost use Rattle.fault_classes.specs.Cells.{IsShape, entry_of};
+ghost use Rattle.fault_classes.specs.Index.{IsRestarting, IsSent, IsTouched, AreAccepted, IsRefusedBy};
 ghost use Rattle.node_grid.specs.Capacity.{IsCapacity};
 ghost use Rattle.node_grid.specs.NodeSet.{ids_where};
 
@@ -57,7 +57,9 @@ fn accepted_cells<const N: usize>(
     requires shape { IsShape N shape.now.nodes shape.now.slots shape.now.periods }
     requires few_lines { length lines.now < 2 ^ 32 }
     requires few_restarts { length restarts.now < 2 ^ 32 }
-    ensures { MatchResult result (λ v. IsTable shape.now.nodes shape.now.slots shape.now.periods (map line_of lines.now) v.items × (first_bad_line shape.now.nodes shape.now.slots shape.now.periods 0 (map line_of lines.now) ≡ None) × (first_overlap [] (map line_of lines.now) ≡ None) × (first_bad_restart shape.now.nodes shape.now.periods None 0 restarts.now ≡ None) × (length lines.now ≤ 4096)) (λ e. (e ≡ PlanError.NoMemory) ⊎ ((m : ℕ) → slot_count m ≡ shape.now.slots → refusal_of (plan_of shape.now.nodes m shape.now.periods (map line_of lines.now) restarts.now) ≡ Some e)) }
+    ensures { MatchResult result
+        (λ v. AreAccepted shape.now.nodes shape.now.slots shape.now.periods (map line_of lines.now) restarts.now v.items)
+        (λ e. IsRefusedBy shape.now.nodes shape.now.slots shape.now.periods (map line_of lines.now) restarts.now e) }
 {
     if let Some(place) = first_bad_line(lines, shape) {
         return Err(PlanError::Range(place));

@@ -77,5 +77,5 @@ returns g c = (
   sym c.first_bad_line.ensures ∙ c.in_default.is,
   c.in_ok-cells.ensures.1,
   sym c.first_bad_restart.ensures ∙ c.in_default-first_bad_restart.is,
-  omega (arith, c.if-lines-gt-MOST_LINES.false),
+  omega (arith, c.if-lines-gt-MOST_LINES.false, length-map c.args.lines.now (line_of {n = g.row.N})),
 )

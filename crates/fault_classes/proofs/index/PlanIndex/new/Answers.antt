@@ -1,5 +1,4 @@
 use Rattle.std.proofs.Common.{◌≡◌, ℕ, ◌+◌, ◌*◌, ◌^◌, ◌≤◌, List, [], length, map, None, inl, inr, refl, sym, ap, ap₂, ◌∙◌, arith, lit<, subst}
-use Rattle.std.proofs.lemmas.List.{length-map}
 use Rattle.std.proofs.lemmas.Result.{err_from_is_err_and}
 use Rattle.slot_plan.specs.Slots.{slot_count}
 use Rattle.fault_classes.specs.declared.line.FaultLine.{FaultLine}
@@ -19,7 +18,7 @@ rounds_few : (m : ℕ) → 2 * m + 4 ≤ 10 → m ≤ 3
 rounds_few m h = omega arith
 
 lines_few : (g : given.Over) (c : goal.In-Ok-touched_sets g) → length (map (line_of {n = g.row.N}) c.args.lines.items) ≤ 4096
-lines_few g c = omega (arith, c.in_ok-cells.ensures.4, ap length c.as_slice.ensures.value, length-map c.args.lines.items (line_of {n = g.row.N}))
+lines_few g c = omega (arith, c.in_ok-cells.ensures.4, ap (λ (xs : List (FaultLine g.row.N)). length (map line_of xs)) c.as_slice.ensures.value)
 
 accepted : (g : given.Over) (c : goal.In-Ok-touched_sets g) → refusal_of (plan_of c.args.nodes c.args.m c.args.periods (map (line_of {n = g.row.N}) c.args.lines.items) c.args.restarts.items) ≡ None
 accepted g c =
