@@ -37,7 +37,9 @@ fn accusation<const N: usize>(rows: &Matrix<N>, member: u8, node: u8, kind: u8) 
     if member == node {
         return None;
     }
-    let row = rows.get(member)?;
+    let Some(row) = rows.get(member) else {
+        return None;
+    };
     Some((row.masks[node as usize] >> kind) & 1 == 1)
 }
 

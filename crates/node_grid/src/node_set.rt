@@ -226,7 +226,9 @@ impl<const N: usize> Iterator for Ids<N> {
     ghost remaining = { item_count (λ i. i) };
 
     fn next(&mut self) -> Option<u8> {
-        let first = self.left.least()?;
+        let Some(first) = self.left.least() else {
+            return None;
+        };
         self.left = self.left.rest();
         Some(first)
     }

@@ -1,4 +1,4 @@
-use Rattle.std.proofs.Common.{rules, ◌<◌, ◌++◌, ◌∷◌, [], ℕ, ℤ, List, length, sym, ap, subst, ◌∙◌, arith, append_assoc, append-nil, Option}
+use Rattle.std.proofs.Common.{rules, ◌<◌, ◌++◌, ◌∷◌, [], ℕ, ℤ, List, length, sym, ap, subst, ◌∙◌, arith, append_assoc, append-nil, Option, lit<, ◌≡◌}
 use mir.Syntax.{w64}
 use mir.Val.{SFits, to_z, of_z}
 use Rattle.std.specs.List.{filter_map, cons_option, All}
@@ -6,6 +6,9 @@ use Rattle.std.proofs.lemmas.Int.{to_z-of_z}
 use Rattle.std.proofs.lemmas.List.{length_push}
 use Rattle.std.proofs.lemmas.List.Elements.{All-head, All-tail, filter_map-append}
 use Rattle.mme_vote.proofs.gathering.vote_of_members.Goals as goal
+
+less : {rest : List ℕ} {x : ℕ} {zs : List ℕ} → rest ≡ x ∷ zs → length zs < length rest
+less e = rw e (omega arith)
 
 pub loop-k-preserved-in-Some-value_of : goal.loop-k-preserved-in-Some-value_of
 loop-k-preserved-in-Some-value_of g c =
@@ -48,3 +51,18 @@ loop-k-preserved g c =
           ∙ sym (filter_map-append f xs (k ∷ []));
       few = (let n = i.few in omega arith);
     }
+
+pub new-present-requires : goal.new-present-requires
+new-present-requires g c = lit< tt
+
+pub iter-k-items-requires : goal.iter-k-items-requires
+iter-k-items-requires g c = (lit< tt, lit< tt)
+
+pub next-requires : goal.next-requires
+next-requires g c = (lit< tt, tt)
+
+pub loop-k-smaller-in-Some-value_of : goal.loop-k-smaller-in-Some-value_of
+loop-k-smaller-in-Some-value_of g c = less c.in-Some.ensures.steps
+
+pub loop-k-smaller : goal.loop-k-smaller
+loop-k-smaller g c = less c.in-Some.ensures.steps
