@@ -327,6 +327,7 @@ fn fill_echo<V: Item<N>, const N: usize>(
     others: &NodeSet<N>,
     round: u8,
 ) -> usize
+    requires capacity { IsCapacity N }
     requires some_round { 0 < round }
     requires few { round ≤ 3 }
     requires room { path_count (length others.now) round ≤ length entries.old }
@@ -334,7 +335,6 @@ fn fill_echo<V: Item<N>, const N: usize>(
     ensures filled { IsFilled round others.now table.now entries.new result }
     ensures length { length entries.new ≡ length entries.old }
 {
-    let _capacity = table.nodes();
     let count = count_paths(others.len(), round);
     for k in 0..count {
         let path = unrank(others, round, k);
@@ -351,6 +351,7 @@ fn hear_guessed<V: Item<N>, const N: usize>(
     round: u8,
     sender: u8,
 )
+    requires capacity { IsCapacity N }
     requires sender { has_id table.old.members sender ≡ true }
     requires some_round { 0 < round }
     requires round { round ≤ table.old.rounds }
@@ -364,8 +365,6 @@ fn hear_guessed<V: Item<N>, const N: usize>(
     ensures paths { IsByPath table.old }
     ensures room { vec_capacity entries.old ≤ vec_capacity entries.new }
 {
-    // its clause bounds the capacity
-    let _nodes = table.nodes();
     let others = table.members().without(sender);
     if table.hear_echo(sender, round) {
         return;
@@ -398,6 +397,7 @@ fn hear_relay<V: Item<N>, const N: usize>(
     round: u8,
     sender: u8,
 )
+    requires capacity { IsCapacity N }
     requires low { sender < table.old.nodes }
     requires watching { IsHeardBy watch.now table.old.nodes table.old.me }
     requires echoed { IsEchoed V.form round watch.now table.old }

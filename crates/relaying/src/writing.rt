@@ -83,6 +83,7 @@ fn odd_behind<V: Item<N>, const N: usize>(
     rest: &NodeSet<N>,
     echoing: &NodeSet<N>,
 ) -> NodeSet<N>
+    requires capacity { IsCapacity N }
     requires some { 0 < length front.now }
     requires paths { (q : ℕ) → has_id rest.now q ≡ true →
         IsListed heard.now.members (length front.now + 1) (front.now ++ q ∷ []) }
@@ -94,8 +95,6 @@ fn odd_behind<V: Item<N>, const N: usize>(
     ensures others { (q : ℕ) → has_id rest.now q ≡ true → has_id result q ≡ false →
         IsRepeatedBy heard.now front.now q }
 {
-    // its clause bounds the capacity
-    let _nodes = heard.nodes();
     let me = heard.me();
     if front.has(me) {
         return NodeSet::empty();
@@ -183,6 +182,7 @@ fn write_over<V: Item<N>, const N: usize>(
     from: usize,
     out: &mut [u8],
 )
+    requires capacity { IsCapacity N }
     requires front { IsListed set.now (length front.now) front.now }
     requires ids { IsIdSet N set.now }
     requires odd { (q : ℕ) → has_id odd.now q ≡ true → has_id set.now q ≡ true }
@@ -249,27 +249,53 @@ pub(crate) fn write_roots<V: Item<N>, const N: usize>(
 }
 
 /// The nodes of a set through which what node `c` told of itself may have come changed, in the relays
-/// of the rounds up to this one.
+/// of the rounds up to this one: none where all that is passed on is as expected.
 fn changing<V: Item<N>, const N: usize>(
     heard: &Heard<V, N>,
     set: &NodeSet<N>,
     c: u8,
     round: u8,
+    is_expected: bool,
 ) -> NodeSet<N>
+    requires capacity { IsCapacity N }
     requires low { c < N }
     requires within { (q : ℕ) → has_id set.now q ≡ true → has_id heard.now.members q ≡ true }
+    requires some_round { 0 < round }
     requires round { round ≤ heard.now.rounds }
+    requires expected { is_expected ≡ true → (r : ℕ) → 0 < r → r ≤ round →
+        IsAllExpected heard.now r }
     ensures same { IsSameBut heard.now set.now c round result }
     ensures within { (q : ℕ) → has_id result q ≡ true → has_id set.now q ≡ true }
+    ensures none { is_expected ≡ true → result ≡ [] }
 {
-    // its clause bounds the capacity
-    let _nodes = heard.nodes();
     let me = heard.me();
+    if is_expected {
+        return NodeSet::empty();
+    }
     if c == me {
         return NodeSet::empty();
     }
     let trusted = heard.trusted(c, round.saturating_sub(1));
     set.minus(&trusted).without(c).without(me)
+}
+
+/// Members whose frames of the relay round before this one are known to say what the node itself
+/// passes on; none where all that is passed on is as expected, and where none is asked for.
+fn echoing_before<V: Item<N>, const N: usize>(
+    heard: &Heard<V, N>,
+    round: u8,
+    is_expected: bool,
+) -> NodeSet<N>
+    requires relayed { is_expected ≡ false → 1 < round }
+    requires round { round ≤ heard.now.rounds }
+    ensures { (q : ℕ) → has_id result q ≡ true → IsEchoing heard.now (round - 1) q }
+{
+    // its clause bounds the capacity
+    let _nodes = heard.nodes();
+    if is_expected {
+        return NodeSet::empty();
+    }
+    heard.echoing(round - 1)
 }
 
 /// Writes what is passed on of the paths of `round` of these members that begin with the one at
@@ -284,6 +310,7 @@ fn write_rows<V: Item<N>, const N: usize>(
     odd: &NodeSet<N>,
     out: &mut [u8],
 )
+    requires capacity { IsCapacity N }
     requires member { i < length set.now }
     requires within { (q : ℕ) → has_id set.now q ≡ true → has_id heard.now.members q ≡ true }
     requires odd { (q : ℕ) → has_id odd.now q ≡ true → has_id set.now q ≡ true }
@@ -298,8 +325,6 @@ fn write_rows<V: Item<N>, const N: usize>(
     ensures { out.new ≡ pasted (V.width heard.now.nodes * (i * paths_each set.now round))
         (flat_map (V.spelling heard.now.nodes) (passed_from heard.now set.now round i)) out.old }
 {
-    // its clause bounds the capacity
-    let _nodes = heard.nodes();
     let each = (set.len() + 1).saturating_sub(round) as usize;
     let rows = paths_of_each(set, round - 1);
     let first = i as usize * rows;
@@ -312,22 +337,22 @@ fn write_rows<V: Item<N>, const N: usize>(
 
 /// Writes what is passed on of the paths of `round` of these members that begin with the one at
 /// place `i`, behind the entries of those before it: one entry for all of them, and over it those
-/// of the paths that the `odd` nodes are on.
+/// of the paths on which it may have come changed. It can't have where all is as expected.
 fn write_block<V: Item<N>, const N: usize>(
     heard: &Heard<V, N>,
     set: &NodeSet<N>,
     round: u8,
     i: u8,
+    is_expected: bool,
     echoing: &NodeSet<N>,
-    odd: &NodeSet<N>,
     out: &mut [u8],
 )
     requires member { i < length set.now }
     requires within { (q : ℕ) → has_id set.now q ≡ true → has_id heard.now.members q ≡ true }
-    requires odd { (q : ℕ) → has_id odd.now q ≡ true → has_id set.now q ≡ true }
-    requires same { IsSameBut heard.now set.now (slice_index_or set.now i 0) round odd.now }
+    requires expected { is_expected ≡ true → (r : ℕ) → 0 < r → r ≤ round →
+        IsAllExpected heard.now r }
+    requires relayed { is_expected ≡ false → 1 < round }
     requires echoing { (q : ℕ) → has_id echoing.now q ≡ true → IsEchoing heard.now (round - 1) q }
-    requires relayed { odd.now ≢ [] → 1 < round }
     requires round { round ≤ heard.now.rounds }
     requires can { CanWrite (V.width heard.now.nodes) (V.spelling heard.now.nodes)
         heard.now set.now round (length out.old) }
@@ -336,61 +361,17 @@ fn write_block<V: Item<N>, const N: usize>(
 {
     let nodes = heard.nodes();
     let width = paths_of_each(set, round);
-    let value = root_passed(heard, set.at(i), round);
+    let c = set.at(i);
+    let odd = changing(heard, set, c, round, is_expected);
+    let value = root_passed(heard, c, round);
     put_same(out, nodes, i as usize * width, width, &value);
     if !odd.is_empty() {
-        write_rows(heard, set, round, i, echoing, odd, out);
+        write_rows(heard, set, round, i, echoing, &odd, out);
     }
 }
 
-/// Writes what is passed on of the paths of `round` of these members, commander by commander.
-fn write_each<V: Item<N>, const N: usize>(
-    heard: &Heard<V, N>,
-    set: &NodeSet<N>,
-    round: u8,
-    out: &mut [u8],
-)
-    requires within { (q : ℕ) → has_id set.now q ≡ true → has_id heard.now.members q ≡ true }
-    requires round { round ≤ heard.now.rounds }
-    requires relayed { 1 < round }
-    requires can { CanWrite (V.width heard.now.nodes) (V.spelling heard.now.nodes)
-        heard.now set.now round (length out.old) }
-    ensures { out.new ≡ pasted 0
-        (flat_map (V.spelling heard.now.nodes) (passed_of heard.now set.now round)) out.old }
-{
-    let echoing = heard.echoing(round - 1);
-    for i in 0..set.len() {
-        let odd = changing(heard, set, set.at(i), round);
-        write_block(heard, set, round, i, &echoing, &odd, out);
-    }
-}
-
-/// Writes what is passed on of the paths of `round` of these members where all of it is as
-/// expected, commander by commander.
-fn write_expected<V: Item<N>, const N: usize>(
-    heard: &Heard<V, N>,
-    set: &NodeSet<N>,
-    round: u8,
-    out: &mut [u8],
-)
-    requires within { (q : ℕ) → has_id set.now q ≡ true → has_id heard.now.members q ≡ true }
-    requires round { round ≤ heard.now.rounds }
-    requires expected { (r : ℕ) → 0 < r → r ≤ round → IsAllExpected heard.now r }
-    requires can { CanWrite (V.width heard.now.nodes) (V.spelling heard.now.nodes)
-        heard.now set.now round (length out.old) }
-    ensures { out.new ≡ pasted 0
-        (flat_map (V.spelling heard.now.nodes) (passed_of heard.now set.now round)) out.old }
-{
-    // its clause bounds the capacity
-    let _nodes = heard.nodes();
-    let none = NodeSet::empty();
-    for i in 0..set.len() {
-        write_block(heard, set, round, i, &none, &none, out);
-    }
-}
-
-/// Writes what is passed on of the paths of `round` of these members to the front of `out`: an
-/// entry for each path, in lexicographic order.
+/// Writes what is passed on of the paths of `round` of these members to the front of `out`, commander
+/// by commander: an entry for each path, in lexicographic order.
 pub(crate) fn write_passed<V: Item<N>, const N: usize>(
     heard: &Heard<V, N>,
     set: &NodeSet<N>,
@@ -404,9 +385,9 @@ pub(crate) fn write_passed<V: Item<N>, const N: usize>(
     ensures { out.new ≡ pasted 0
         (flat_map (V.spelling heard.now.nodes) (passed_of heard.now set.now round)) out.old }
 {
-    if heard.relays_expected(round) {
-        write_expected(heard, set, round, out);
-    } else {
-        write_each(heard, set, round, out);
+    let is_expected = heard.relays_expected(round);
+    let echoing = echoing_before(heard, round, is_expected);
+    for i in 0..set.len() {
+        write_block(heard, set, round, i, is_expected, &echoing, out);
     }
 }

@@ -5,7 +5,7 @@ use Rattle.relaying.proofs.Filling.{filled_more}
 use Rattle.relaying.proofs.hearing.fill_echo.Goals as goal
 
 pub count_paths-count-requires-clause-nodes : goal.count_paths-count-requires-clause-nodes
-count_paths-count-requires-clause-nodes g c = let l = few_ids g.row.N c.args.others.now c.nodes-capacity.ensures.capacity c.len.ensures.ids in let n = c.len.ensures.count in omega arith
+count_paths-count-requires-clause-nodes g c = let l = few_ids g.row.N c.args.others.now c.requires.capacity c.len.ensures.ids in let n = c.len.ensures.count in omega arith
 
 pub loop-k-init : goal.loop-k-init
 loop-k-init g c = ((λ j low. absurd (omega arith)), refl)
@@ -31,9 +31,6 @@ returns-clause-count g c = c.count_paths-count.ensures.product ∙ ap (λ (n : �
 pub returns-clause-filled : goal.returns-clause-filled
 returns-clause-filled g c j low = c.loop-k.invariant.0 j (let t = c.loop-k-test.false in let u = c.loop-k.auto.k-end in omega arith)
 
-pub nodes-capacity-requires : goal.nodes-capacity-requires
-nodes-capacity-requires g c = assumption
-
 pub passed_on-requires : goal.passed_on-requires
 passed_on-requires g c = assumption
 
@@ -52,4 +49,4 @@ returns-clause-length g c = c.loop-k.invariant.1
 pub unrank-path-requires : goal.unrank-path-requires
 unrank-path-requires g c =
     let count : c.count_paths-count.result ≡ path_count (length c.args.others.now) c.args.round = c.count_paths-count.ensures.product ∙ ap (λ (n : ℕ). path_count n c.args.round) c.len.ensures.count in
-    (lit< tt, (c.nodes-capacity.ensures.capacity, (c.requires.some_round, (omega (arith, c.requires.few), omega (arith, c.loop-k-test.true, count)))))
+    (lit< tt, (c.requires.capacity, (c.requires.some_round, (omega (arith, c.requires.few), omega (arith, c.loop-k-test.true, count)))))

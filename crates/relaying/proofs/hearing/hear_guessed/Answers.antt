@@ -6,7 +6,7 @@ use Rattle.omh_paths.specs.Paths.{path_count}
 use Rattle.omh_paths.specs.PathLists.{length-without}
 use Rattle.omh_paths.specs.MemberLaws.{few_ids, member-lt, Distinct-ids}
 use Rattle.omh.specs.Heard.{Hearing}
-use Rattle.std.specs.Prelude.{All}
+use Rattle.std.specs.Prelude.{All, vec_capacity}
 use Rattle.heard.specs.Keep.{IsSmall}
 use Rattle.heard.specs.Seen.{SaysEcho, with_written}
 use Rattle.protocol.specs.Arrival.Arrival.{Good}
@@ -15,6 +15,9 @@ use Rattle.relaying.specs.Guessed.{AreSmall}
 use Rattle.relaying.proofs.Guesses.{same_echo}
 use Rattle.relaying.proofs.Filling.{filled_says, filled_small}
 use Rattle.relaying.proofs.hearing.hear_guessed.Goals as goal
+
+no_less : (n : ℕ) → n ≤ n
+no_less n = omega arith
 
 pub without-others-requires : goal.without-others-requires
 without-others-requires g c = (omega arith, member-lt g.row.N c.members.result c.args.sender c.members.ensures.ids (ap (λ (ms : List ℕ). has_id ms c.args.sender) c.members.ensures.members ∙ c.requires.sender))
@@ -27,7 +30,7 @@ fill_echo-count-requires g c =
     let others : c.without-others.result ≡ without_id t.members c.args.sender = c.without-others.ensures ∙ ap (λ (ms : List ℕ). without_id ms c.args.sender) c.members.ensures.members in
     let long : length c.without-others.result ≡ length t.members - 1 = ap length others ∙ length-without t.members c.args.sender d c.requires.sender in
     let due : c.count_paths.result ≡ path_count (length t.members - 1) r = c.count_paths.ensures.product ∙ ap (λ (k : ℕ). path_count k r) (c.len.ensures.count ∙ long) in
-    (omega arith, (lit< tt, (c.requires.some_round, (omega (arith, c.requires.round, c.members.ensures.rounds), subst (λ (n : ℕ). path_count n r ≤ length c.as_mut_slice.result.now) (sym long) (omega (arith, due, c.fill_room.ensures.long, ap length c.as_mut_slice.ensures.value))))))
+    (omega arith, (lit< tt, (c.requires.capacity, (c.requires.some_round, (omega (arith, c.requires.round, c.members.ensures.rounds), subst (λ (n : ℕ). path_count n r ≤ length c.as_mut_slice.result.now) (sym long) (omega (arith, due, c.fill_room.ensures.long, ap length c.as_mut_slice.ensures.value)))))))
 
 pub hear_frame-requires : goal.hear_frame-requires
 hear_frame-requires g c =
@@ -94,7 +97,7 @@ slice_bounds-hear_frame-end g c =
 
 pub count_paths-requires : goal.count_paths-requires
 count_paths-requires g c = record {
-  nodes = omega (arith, c.len.ensures.count, few_ids g.row.N c.without-others.result c.nodes-nodes.ensures.capacity c.len.ensures.ids);
+  nodes = omega (arith, c.len.ensures.count, few_ids g.row.N c.without-others.result c.requires.capacity c.len.ensures.ids);
   short = omega (arith, c.requires.round, c.members.ensures.rounds);
 }
 
@@ -108,8 +111,26 @@ fill_room-requires g c =
     let due : c.count_paths.result ≡ path_count (length t.members - 1) r = c.count_paths.ensures.product ∙ ap (λ (k : ℕ). path_count k r) (c.len.ensures.count ∙ long) in
     record { room = omega (arith, due, c.requires.room) }
 
-pub nodes-nodes-requires : goal.nodes-nodes-requires
-nodes-nodes-requires g c = assumption
-
 pub members-requires : goal.members-requires
 members-requires g c = (assumption, lit< tt)
+
+pub hear_echo-requires : goal.hear_echo-requires
+hear_echo-requires g c = omega arith
+
+pub returns-then-hear_echo-clause-is : goal.returns-then-hear_echo-clause-is
+returns-then-hear_echo-clause-is g c = λ values count says. c.hear_echo.ensures.is c.if-hear_echo.true values count says
+
+pub returns-then-hear_echo-clause-paths : goal.returns-then-hear_echo-clause-paths
+returns-then-hear_echo-clause-paths g c = c.hear_echo.ensures.paths
+
+pub returns-then-hear_echo-clause-room : goal.returns-then-hear_echo-clause-room
+returns-then-hear_echo-clause-room g c = no_less (vec_capacity c.args.entries.now)
+
+pub len-requires : goal.len-requires
+len-requires g c = lit< tt
+
+pub returns-clause-paths : goal.returns-clause-paths
+returns-clause-paths g c = c.hear_echo.ensures.paths
+
+pub returns-clause-room : goal.returns-clause-room
+returns-clause-room g c = c.fill_room.ensures.room

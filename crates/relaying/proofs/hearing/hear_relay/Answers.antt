@@ -21,7 +21,7 @@ hear_guessed-requires g c =
     let d : Distinct t.members = subst Distinct c.members-members.ensures.members (Distinct-ids g.row.N c.members-members.result c.members-members.ensures.ids) in
     let same : (guesses_at w q ≡ true) × (told_at w q ≡ said_at w q) = if_none c.told.result c.in-None.is c.told.ensures.same in
     let b : BringsEcho g.V.Item.form r q w t = brings_echo g.V.Item.form r q w t d c.requires.sender c.requires.echoed same.0 same.1 in
-    (omega arith, (c.requires.sender, (c.requires.some_round, (c.requires.round, (c.requires.room, echo_small g.V.Item.form r q _ w t d c.requires.sender b c.requires.brings)))))
+    (omega arith, (c.requires.capacity, (c.requires.sender, (c.requires.some_round, (c.requires.round, (c.requires.room, echo_small g.V.Item.form r q _ w t d c.requires.sender b c.requires.brings))))))
 
 pub returns-in-None-clause-heard : goal.returns-in-None-clause-heard
 returns-in-None-clause-heard g c =

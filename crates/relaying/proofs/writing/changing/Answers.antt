@@ -5,19 +5,22 @@ use Rattle.node_grid.specs.CapacityLaws.{capacity-le}
 use Rattle.omh_paths.specs.PathLists.{has-without, has-of-without}
 use Rattle.heard.specs.Passing.{ArePassingOn}
 use Rattle.relaying.specs.Table.{IsSameBut}
-use Rattle.relaying.proofs.Blocks.{same_but, same_own}
+use Rattle.relaying.proofs.Blocks.{same_but, same_own, same_expected}
 use Rattle.relaying.proofs.Overwriting.{in_minus, not_left}
 use Rattle.std.proofs.lemmas.Bool.{false≢true}
 use Rattle.relaying.proofs.writing.changing.Goals as goal
 
 pub empty-requires : goal.empty-requires
-empty-requires g c = (lit< tt, capacity-le g.row.N c.nodes-nodes.ensures.capacity)
+empty-requires g c = (lit< tt, capacity-le g.row.N c.requires.capacity)
+
+pub empty-requires-then-c-me : goal.empty-requires-then-c-me
+empty-requires-then-c-me g c = (lit< tt, capacity-le g.row.N c.requires.capacity)
 
 pub returns-then-c-me-clause-same : goal.returns-then-c-me-clause-same
 returns-then-c-me-clause-same g c =
     let h = c.args.heard.now in
     let s : List ℕ = c.args.set.now in
-    subst (λ (x : ℕ). IsSameBut h s x c.args.round c.empty.result) (sym (c.if-c-me.true ∙ c.me-me.ensures.me)) (same_own h s c.args.round c.empty.result c.requires.within)
+    subst (λ (x : ℕ). IsSameBut h s x c.args.round c.empty-then-c-me.result) (sym (c.if-c-me.true ∙ c.me-me.ensures.me)) (same_own h s c.args.round c.empty-then-c-me.result c.requires.within)
 
 pub returns-clause-same : goal.returns-clause-same
 returns-clause-same g c =
@@ -44,9 +47,6 @@ returns-clause-within g c =
     let b : has_id c.minus.result q ≡ true = has-of-without c.minus.result c.args.c q (ap (λ (xs : List ℕ). has_id xs q) (sym c.without.ensures) ∙ a) in
     in_minus c.args.set.now c.trusted-trusted.result q (ap (λ (xs : List ℕ). has_id xs q) (sym c.minus.ensures) ∙ b)
 
-pub nodes-nodes-requires : goal.nodes-nodes-requires
-nodes-nodes-requires g c = assumption
-
 pub me-me-requires : goal.me-me-requires
 me-me-requires g c = assumption
 
@@ -66,4 +66,20 @@ pub without-requires-2 : goal.without-requires-2
 without-requires-2 g c = (lit< tt, c.me-me.ensures.low)
 
 pub returns-then-c-me-clause-within : goal.returns-then-c-me-clause-within
-returns-then-c-me-clause-within g c = λ q on. absurd (false≢true (ap (λ (s : List ℕ). has_id s q) (sym c.empty.ensures) ∙ on))
+returns-then-c-me-clause-within g c = λ q on. absurd (false≢true (ap (λ (s : List ℕ). has_id s q) (sym c.empty-then-c-me.ensures) ∙ on))
+
+pub returns-then-is_expected-clause-same : goal.returns-then-is_expected-clause-same
+returns-then-is_expected-clause-same g c =
+    same_expected c.args.heard.now c.args.set.now c.args.c c.args.round c.empty.result c.requires.within (c.requires.expected c.if-is_expected.true) c.requires.some_round
+
+pub returns-then-is_expected-clause-within : goal.returns-then-is_expected-clause-within
+returns-then-is_expected-clause-within g c = λ q on. absurd (false≢true (ap (λ (s : List ℕ). has_id s q) (sym c.empty.ensures) ∙ on))
+
+pub returns-then-is_expected-clause-none : goal.returns-then-is_expected-clause-none
+returns-then-is_expected-clause-none g c = λ e. c.empty.ensures
+
+pub returns-then-c-me-clause-none : goal.returns-then-c-me-clause-none
+returns-then-c-me-clause-none g c = λ e. absurd (false≢true (sym c.if-is_expected.false ∙ e))
+
+pub returns-clause-none : goal.returns-clause-none
+returns-clause-none g c = λ e. absurd (false≢true (sym c.if-is_expected.false ∙ e))

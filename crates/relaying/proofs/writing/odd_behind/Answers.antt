@@ -42,14 +42,11 @@ returns-clause-others g c =
       ]
     ]
 
-pub nodes-nodes-requires : goal.nodes-nodes-requires
-nodes-nodes-requires g c = assumption
-
 pub me-me-requires : goal.me-me-requires
 me-me-requires g c = assumption
 
 pub empty-requires : goal.empty-requires
-empty-requires g c = (lit< tt, capacity-le g.row.N c.nodes-nodes.ensures.capacity)
+empty-requires g c = (lit< tt, capacity-le g.row.N c.requires.capacity)
 
 pub minus-requires : goal.minus-requires
 minus-requires g c = lit< tt

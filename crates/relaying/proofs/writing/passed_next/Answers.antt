@@ -24,3 +24,9 @@ returns-else-has g c =
     let path : List ℕ = c.args.path.now in
     let off : has_id path h.me ≡ false = ap (has_id path) (sym c.me.ensures.me) ∙ sym c.has.ensures ∙ c.if-has.false in
     c.relay.ensures ∙ sym (cond-false (has_id path h.me) (wrapped c.args.before) (wrapped (heard_in h.heard path)) off)
+
+pub has-requires : goal.has-requires
+has-requires g c = tt
+
+pub wrap-requires : goal.wrap-requires
+wrap-requires g c = c.requires.small

@@ -1,12 +1,20 @@
-use Rattle.std.proofs.Common.{ℕ, List, [], ◌≡◌, ◌≢◌, ◌≤◌, ◌+◌, ◌*◌, length, get_or, sym, ap, subst, ◌∙◌, arith, lit<}
-use Rattle.omh_paths.specs.MemberLaws.{Distinct-ids}
+use Rattle.std.proofs.Common.{ℕ, Bool, List, [], ◌≡◌, ◌≢◌, ◌<◌, ◌≤◌, ◌+◌, ◌*◌, true, false, length, get_or, sym, ap, subst, ◌∙◌, arith, inl, inr, lit<}
+use Rattle.node_grid.specs.NodeSet.{has_id}
+use Rattle.omh_paths.specs.PathLists.{has-at}
+use Rattle.omh_paths.specs.MemberLaws.{Distinct-ids, member-lt}
 use Rattle.heard.specs.Keep.{wrapped_times}
 use Rattle.heard.specs.Places.{row_le}
 use Rattle.relaying.specs.Table.{root_of, paths_each, CanWrite, IsFilledWith, IsSameBut}
 use Rattle.relaying.proofs.Blocks.{block_room, block_plain, block_over, times_some}
 use Rattle.relaying.proofs.Standing.{stands_filled}
-use Rattle.std.proofs.lemmas.Bool.{false≢true}
+use Rattle.std.proofs.lemmas.Bool.{cases_Bool, false≢true}
 use Rattle.relaying.proofs.writing.write_block.Goals as goal
+
+relayed_of : (b : Bool) (r : ℕ) (odd : List ℕ) → (b ≡ false → 1 < r) → (b ≡ true → odd ≡ []) → odd ≢ [] → 1 < r
+relayed_of b r odd more none some = elim (cases_Bool b) [
+  | inl y ↦ absurd (some (none y))
+  | inr n ↦ more n
+]
 
 pub overflow_mul-i : goal.overflow_mul-i
 overflow_mul-i g c =
@@ -15,7 +23,7 @@ overflow_mul-i g c =
     omega (arith, a, e.whole, e.small)
 
 pub put_same-requires-clause-some : goal.put_same-requires-clause-some
-put_same-requires-clause-some g c = times_some c.args.round (root_of c.args.heard.now c.at.result) c.root_passed-value.result c.requires.can.some_round c.root_passed-value.ensures
+put_same-requires-clause-some g c = times_some c.args.round (root_of c.args.heard.now c.at-c.result) c.root_passed-value.result c.requires.can.some_round c.root_passed-value.ensures
 
 pub put_same-requires-clause-small : goal.put_same-requires-clause-small
 put_same-requires-clause-small g c =
@@ -50,34 +58,14 @@ write_rows-requires g c =
     let d = Distinct-ids g.row.N s c.paths_of_each-width.ensures.ids in
     let nodes = subst (λ (n : ℕ). IsFilledWith (g.V.Item.width n) (g.V.Item.spelling n v) (i * k) k was mid) c.nodes-nodes.ensures.nodes c.put_same.ensures in
     let each = subst (λ (n : ℕ). IsFilledWith w (spell v) (i * n) n was mid) c.paths_of_each-width.ensures.width nodes in
-    let filled = subst (λ x. IsFilledWith w (spell x) (i * paths_each s r) (paths_each s r) was mid) (c.root_passed-value.ensures ∙ ap (λ (x : ℕ). wrapped_times r (root_of h x)) c.at.ensures) each in
+    let filled = subst (λ x. IsFilledWith w (spell x) (i * paths_each s r) (paths_each s r) was mid) (c.root_passed-value.ensures ∙ ap (λ (x : ℕ). wrapped_times r (root_of h x)) c.at-c.ensures) each in
     let room = block_room h w spell s r (length was) d c.requires.can i c.requires.member in
     let stands = stands_filled w (spell (wrapped_times r (root_of h (get_or s i 0)))) (i * paths_each s r) (paths_each s r) was mid filled room in
-    let some : c.args.odd.now ≢ [] = λ e. absurd (false≢true (sym c.if-not-is_empty.true ∙ c.is_empty.ensures.1 e)) in (
-      assumption,
-      (
-        lit< tt,
-        (
-          c.requires.member,
-          (
-            c.requires.within,
-            (
-              c.requires.odd,
-              (
-                c.requires.same,
-                (
-                  c.requires.echoing,
-                  (
-                    c.requires.relayed some,
-                    (subst (CanWrite w spell h s r) (sym c.put_same.auto.out) c.requires.can, stands),
-                  ),
-                ),
-              ),
-            ),
-          ),
-        ),
-      ),
-    )
+    let some : c.changing-odd.result ≢ [] = λ e. absurd (false≢true (sym c.if-not-is_empty.true ∙ c.is_empty.ensures.1 e)) in
+    let same = subst (λ (n : ℕ). IsSameBut h s n r c.changing-odd.result) c.at-c.ensures c.changing-odd.ensures.same in
+    let relayed = relayed_of c.args.is_expected r c.changing-odd.result c.requires.relayed c.changing-odd.ensures.none some in
+    let can = subst (CanWrite w spell h s r) (sym c.put_same.auto.out) c.requires.can in
+    (assumption, (lit< tt, (c.nodes-nodes.ensures.capacity, (c.requires.member, (c.requires.within, (c.changing-odd.ensures.within, (same, (c.requires.echoing, (relayed, (can, stands))))))))))
 
 pub returns-then-not-is_empty : goal.returns-then-not-is_empty
 returns-then-not-is_empty g c =
@@ -112,9 +100,9 @@ returns-else-not-is_empty g c =
     let d = Distinct-ids g.row.N s c.paths_of_each-width.ensures.ids in
     let nodes = subst (λ (n : ℕ). IsFilledWith (g.V.Item.width n) (g.V.Item.spelling n v) (i * k) k was mid) c.nodes-nodes.ensures.nodes c.put_same.ensures in
     let each = subst (λ (n : ℕ). IsFilledWith w (spell v) (i * n) n was mid) c.paths_of_each-width.ensures.width nodes in
-    let filled = subst (λ x. IsFilledWith w (spell x) (i * paths_each s r) (paths_each s r) was mid) (c.root_passed-value.ensures ∙ ap (λ (x : ℕ). wrapped_times r (root_of h x)) c.at.ensures) each in
-    let none : c.args.odd.now ≡ [] = c.is_empty.ensures.0 c.if-not-is_empty.false in
-    block_plain h w spell s r (length was) d c.requires.can i was mid c.requires.member (subst (IsSameBut h s (get_or s i 0) r) none c.requires.same) filled
+    let filled = subst (λ x. IsFilledWith w (spell x) (i * paths_each s r) (paths_each s r) was mid) (c.root_passed-value.ensures ∙ ap (λ (x : ℕ). wrapped_times r (root_of h x)) c.at-c.ensures) each in
+    let none : c.changing-odd.result ≡ [] = c.is_empty.ensures.0 c.if-not-is_empty.false in
+    block_plain h w spell s r (length was) d c.requires.can i was mid c.requires.member (subst (IsSameBut h s (get_or s i 0) r) none (subst (λ (n : ℕ). IsSameBut h s n r c.changing-odd.result) c.at-c.ensures c.changing-odd.ensures.same)) filled
 
 pub nodes-nodes-requires : goal.nodes-nodes-requires
 nodes-nodes-requires g c = assumption
@@ -122,8 +110,8 @@ nodes-nodes-requires g c = assumption
 pub paths_of_each-width-requires : goal.paths_of_each-width-requires
 paths_of_each-width-requires g c = (lit< tt, (c.nodes-nodes.ensures.capacity, (c.requires.can.some_round, c.requires.can.few)))
 
-pub at-requires : goal.at-requires
-at-requires g c = (lit< tt, c.requires.member)
+pub at-c-requires : goal.at-c-requires
+at-c-requires g c = (lit< tt, c.requires.member)
 
 pub root_passed-value-requires : goal.root_passed-value-requires
 root_passed-value-requires g c = (assumption, (c.requires.round, (c.requires.can.few, c.requires.can.own)))
@@ -136,3 +124,9 @@ put_same-requires-clause-nodes g c = c.nodes-nodes.ensures.few
 
 pub is_empty-requires : goal.is_empty-requires
 is_empty-requires g c = lit< tt
+
+pub changing-odd-requires : goal.changing-odd-requires
+changing-odd-requires g c =
+    let s : List ℕ = c.args.set.now in
+    let on : has_id s c.at-c.result ≡ true = ap (has_id s) c.at-c.ensures ∙ has-at s c.args.i 0 c.requires.member in
+    (assumption, (lit< tt, (c.nodes-nodes.ensures.capacity, (member-lt g.row.N s c.at-c.result c.paths_of_each-width.ensures.ids on, (c.requires.within, (c.requires.can.some_round, (c.requires.round, c.requires.expected)))))))

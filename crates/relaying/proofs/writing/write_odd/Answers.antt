@@ -125,3 +125,10 @@ overflow_add-from g c =
     let on = c.requires.stands.within c.in-Some.node (c.loop-node.invariant.within c.in-Some.node (ap (λ (ms : List ℕ). has_id ms c.in-Some.node) split ∙ has_next c.loop-node.yielded c.in-Some.node c.next.new.self)) in
     let low = place_low g.row.N c.args.rest.now c.in-Some.node c.place.result c.place.ensures.ids on c.place.ensures.count in
     omega (arith, low, c.requires.can.few)
+
+pub overflow_cast-place : goal.overflow_cast-place
+overflow_cast-place g c =
+    let split : c.loop-node.yielded ++ c.loop-node.node-iterator ≡ c.loop-node.yielded ++ c.in-Some.node ∷ c.next.new.self = ap (λ xs. c.loop-node.yielded ++ xs) c.in-Some.ensures.steps in
+    let on = c.requires.stands.within c.in-Some.node (c.loop-node.invariant.within c.in-Some.node (ap (λ (ms : List ℕ). has_id ms c.in-Some.node) split ∙ has_next c.loop-node.yielded c.in-Some.node c.next.new.self)) in
+    let low = place_low g.row.N c.args.rest.now c.in-Some.node c.place.result c.place.ensures.ids on c.place.ensures.count in
+    omega (arith, low, c.requires.can.few)

@@ -5,7 +5,9 @@ use Rattle.heard.specs.Keep.{first_node, wrapped_times}
 use Rattle.omh_paths.specs.Paths.{outside}
 use Rattle.omh_paths.specs.MemberLaws.{member-lt}
 use Rattle.frames.specs.Filling.{repeated}
-use Rattle.relaying.specs.Table.{passed_after, root_of, CanWriteRow}
+use Rattle.relaying.specs.Table.{passed_after, passed_behind, root_of, CanWriteRow}
+use Rattle.std.specs.List.{flat_map}
+use Rattle.frames.specs.Writing.{pasted}
 use Rattle.relaying.proofs.Overwriting.{entry_wide}
 use Rattle.relaying.proofs.Rows.{in_outside, plain_after, repeated_after}
 use Rattle.relaying.proofs.writing.write_over.Goals as goal
@@ -17,19 +19,8 @@ pub odd_behind-odd-requires : goal.odd_behind-odd-requires
 odd_behind-odd-requires g c =
     let s : List ℕ = c.args.set.now in
     let front : List ℕ = c.args.front.now in
-    let apart : (q : ℕ) → has_id front q ≡ true → has_id c.args.odd.now q ≡ false = c.avoids.ensures c.if-avoids.true in (
-      assumption,
-      (
-        lit< tt,
-        (
-          c.requires.can.some,
-          (
-            λ q on. c.requires.can.paths q (in_outside s front q (c.requires.odd q on) (elim (cases_Bool (has_id front q)) [ inl y ↦ absurd (both_ways _ (apart q y) on) | inr n ↦ n ])),
-            c.requires.echoing,
-          ),
-        ),
-      ),
-    )
+    let apart : (q : ℕ) → has_id front q ≡ true → has_id c.args.odd.now q ≡ false = c.avoids.ensures c.if-avoids.true in
+    (assumption, (lit< tt, (c.requires.capacity, (c.requires.can.some, ((λ q on. c.requires.can.paths q (in_outside s front q (c.requires.odd q on) (elim (cases_Bool (has_id front q)) [ inl y ↦ absurd (both_ways _ (apart q y) on) | inr n ↦ n ]))), c.requires.echoing)))))
 
 pub write_odd-requires : goal.write_odd-requires
 write_odd-requires g c =
@@ -73,3 +64,21 @@ write_odd-requires g c =
 
 pub avoids-requires : goal.avoids-requires
 avoids-requires g c = lit< tt
+
+pub write_row-requires : goal.write_row-requires
+write_row-requires g c =
+    let h = c.args.heard.now in
+    let is = sym c.outside-rest.ensures in
+    (assumption, (lit< tt, (subst (λ (xs : List ℕ). CanWriteRow (g.V.Item.width h.nodes) (g.V.Item.spelling h.nodes) h c.args.front.now xs c.args.from (length c.args.out.now)) is c.requires.can, c.requires.echoing)))
+
+pub returns-then-avoids : goal.returns-then-avoids
+returns-then-avoids g c =
+    let h = c.args.heard.now in
+    c.write_odd.ensures
+    ∙ ap (λ (xs : List ℕ). pasted (g.V.Item.width h.nodes * c.args.from) (flat_map (g.V.Item.spelling h.nodes) (passed_behind h c.args.front.now xs)) c.args.out.now) c.outside-rest.ensures
+
+pub returns-else-avoids : goal.returns-else-avoids
+returns-else-avoids g c =
+    let h = c.args.heard.now in
+    c.write_row.ensures
+    ∙ ap (λ (xs : List ℕ). pasted (g.V.Item.width h.nodes * c.args.from) (flat_map (g.V.Item.spelling h.nodes) (passed_behind h c.args.front.now xs)) c.args.out.now) c.outside-rest.ensures

@@ -11,7 +11,7 @@ use Rattle.relaying.proofs.BlockRows.{AreRows, row_place, row_within, block_with
 use Rattle.relaying.proofs.writing.write_rows.Goals as goal
 
 pub overflow_add-len : goal.overflow_add-len
-overflow_add-len g c = let l = few_ids g.row.N c.args.set.now c.nodes-nodes.ensures.capacity c.len.ensures.ids in let n = c.len.ensures.count in omega arith
+overflow_add-len g c = let l = few_ids g.row.N c.args.set.now c.requires.capacity c.len.ensures.ids in let n = c.len.ensures.count in omega arith
 
 pub overflow_mul-first : goal.overflow_mul-first
 overflow_mul-first g c =
@@ -34,7 +34,7 @@ loop-j-init g c =
     let e = c.paths_of_each-rows.ensures in
     let are : AreRows (length s) r c.paths_of_each-rows.result c.saturating_sub-each.result =
     record { some = (let a = c.requires.relayed in omega (arith, a)); rows = e.width; whole = e.whole; wide = (let a = c.saturating_sub-each.ensures in omega (arith, a, c.len.ensures.count, up)) } in
-    let few = path_count-few (length s) (suc r) (few_ids g.row.N s c.nodes-nodes.ensures.capacity c.len.ensures.ids) (let a = c.requires.can.few in omega (arith, up, a)) in
+    let few = path_count-few (length s) (suc r) (few_ids g.row.N s c.requires.capacity c.len.ensures.ids) (let a = c.requires.can.few in omega (arith, up, a)) in
     no_rows h width spell s c.args.odd.now r i c.paths_of_each-rows.result c.saturating_sub-each.result (length was) d c.requires.within are c.requires.member can few was
     ∙ ap (λ (n : ℕ). pasted (width * (i * paths_each s n)) (flat_map spell (passed_until h s n (i * paths_each s n) (i * paths_each s n + 0 * c.saturating_sub-each.result))) was) (sym up)
 
@@ -49,7 +49,7 @@ unrank-front-requires g c =
     let e = c.paths_of_each-rows.ensures in
     let a = row_le c.args.i (length c.args.set.now) c.paths_of_each-rows.result c.requires.member in (
       omega arith,
-      (c.nodes-nodes.ensures.capacity, ((let k = c.requires.relayed in omega (arith, k)), ((let f = c.requires.can.few in omega (arith, f)), omega (arith, a, e.whole, c.loop-j-test.true)))),
+      (c.requires.capacity, ((let k = c.requires.relayed in omega (arith, k)), ((let f = c.requires.can.few in omega (arith, f)), omega (arith, a, e.whole, c.loop-j-test.true)))),
     )
 
 pub overflow_mul-at : goal.overflow_mul-at
@@ -63,7 +63,7 @@ overflow_mul-at g c =
     let e = c.paths_of_each-rows.ensures in
     let are : AreRows (length s) r m w =
     record { some = (let a = c.requires.relayed in omega (arith, a)); rows = e.width; whole = e.whole; wide = (let a = c.saturating_sub-each.ensures in omega (arith, a, c.len.ensures.count, up)) } in
-    let few = path_count-few (length s) (suc r) (few_ids g.row.N s c.nodes-nodes.ensures.capacity c.len.ensures.ids) (let a = c.requires.can.few in omega (arith, up, a)) in
+    let few = path_count-few (length s) (suc r) (few_ids g.row.N s c.requires.capacity c.len.ensures.ids) (let a = c.requires.can.few in omega (arith, up, a)) in
     let place = row_place (length s) r m w are i c.loop-j.j in
     let row = row_within (length s) r m w are c.loop-j.j c.loop-j-test.true in
     let block = block_within (length s) r m w are i c.requires.member in
@@ -92,32 +92,12 @@ write_over-requires g c =
     let e = c.paths_of_each-rows.ensures in
     let are : AreRows (length s) r m w =
     record { some = (let a = c.requires.relayed in omega (arith, a)); rows = e.width; whole = e.whole; wide = (let a = c.saturating_sub-each.ensures in omega (arith, a, c.len.ensures.count, up)) } in
-    let few = path_count-few (length s) (suc r) (few_ids g.row.N s c.nodes-nodes.ensures.capacity c.len.ensures.ids) (let a = c.requires.can.few in omega (arith, up, a)) in
+    let few = path_count-few (length s) (suc r) (few_ids g.row.N s c.requires.capacity c.len.ensures.ids) (let a = c.requires.can.few in omega (arith, up, a)) in
     let same = subst (λ (n : ℕ). IsSameBut h s (get_or s i 0) n odd) up c.requires.same in
     let stands = subst (λ (n : ℕ). Stands width (spell (wrapped_times n (root_of h (get_or s i 0)))) (i * paths_each s n) (paths_each s n) was) up c.requires.stands in
     let now = c.loop-j.invariant ∙ ap (λ (n : ℕ). pasted (width * (i * paths_each s n)) (flat_map spell (passed_until h s n (i * paths_each s n) (i * paths_each s n + j * w))) was) up in
-    let row = row_is h width spell s odd r i m w size d c.requires.within are c.requires.member can few j c.loop-j-test.true front c.unrank-front.ensures.path was out long refl same stands now in (
-      assumption,
-      (
-        lit< tt,
-        (
-          row.listed,
-          (
-            c.len.ensures.ids,
-            (
-              c.requires.odd,
-              (
-                row.same,
-                (
-                  λ q on. subst (λ (n : ℕ). IsEchoing h n q) (sym c.unrank-front.ensures.long) (c.requires.echoing q on),
-                  (row.can_row, row.stands),
-                ),
-              ),
-            ),
-          ),
-        ),
-      ),
-    )
+    let row = row_is h width spell s odd r i m w size d c.requires.within are c.requires.member can few j c.loop-j-test.true front c.unrank-front.ensures.path was out long refl same stands now in
+    (assumption, (lit< tt, (c.requires.capacity, (row.listed, (c.len.ensures.ids, (c.requires.odd, (row.same, (λ q on. subst (λ (n : ℕ). IsEchoing h n q) (sym c.unrank-front.ensures.long) (c.requires.echoing q on), (row.can_row, row.stands)))))))))
 
 pub loop-j-preserved : goal.loop-j-preserved
 loop-j-preserved g c =
@@ -137,7 +117,7 @@ loop-j-preserved g c =
     let e = c.paths_of_each-rows.ensures in
     let are : AreRows (length s) r m w =
     record { some = (let a = c.requires.relayed in omega (arith, a)); rows = e.width; whole = e.whole; wide = (let a = c.saturating_sub-each.ensures in omega (arith, a, c.len.ensures.count, up)) } in
-    let few = path_count-few (length s) (suc r) (few_ids g.row.N s c.nodes-nodes.ensures.capacity c.len.ensures.ids) (let a = c.requires.can.few in omega (arith, up, a)) in
+    let few = path_count-few (length s) (suc r) (few_ids g.row.N s c.requires.capacity c.len.ensures.ids) (let a = c.requires.can.few in omega (arith, up, a)) in
     let now = c.loop-j.invariant ∙ ap (λ (n : ℕ). pasted (width * (i * paths_each s n)) (flat_map spell (passed_until h s n (i * paths_each s n) (i * paths_each s n + j * w))) was) up in
     row_done h width spell s c.args.odd.now r i m w (length was) d c.requires.within are c.requires.member can few j c.loop-j-test.true c.unrank-front.result c.unrank-front.ensures.path was c.loop-j.out c.write_over.new.out refl now c.write_over.ensures
     ∙ ap (λ (n : ℕ). pasted (width * (i * paths_each s n)) (flat_map spell (passed_until h s n (i * paths_each s n) (i * paths_each s n + (j + 1) * w))) was) (sym up)
@@ -160,16 +140,13 @@ returns g c =
     let e = c.paths_of_each-rows.ensures in
     let are : AreRows (length s) r m w =
     record { some = (let a = c.requires.relayed in omega (arith, a)); rows = e.width; whole = e.whole; wide = (let a = c.saturating_sub-each.ensures in omega (arith, a, c.len.ensures.count, up)) } in
-    let few = path_count-few (length s) (suc r) (few_ids g.row.N s c.nodes-nodes.ensures.capacity c.len.ensures.ids) (let a = c.requires.can.few in omega (arith, up, a)) in
+    let few = path_count-few (length s) (suc r) (few_ids g.row.N s c.requires.capacity c.len.ensures.ids) (let a = c.requires.can.few in omega (arith, up, a)) in
     let now = c.loop-j.invariant ∙ ap (λ (n : ℕ). pasted (width * (i * paths_each s n)) (flat_map spell (passed_until h s n (i * paths_each s n) (i * paths_each s n + j * w))) was) up in
     all_rows h width spell s c.args.odd.now r i m w (length was) d c.requires.within are c.requires.member can few j was c.loop-j.out (omega (arith, c.loop-j-test.false, c.loop-j.auto.j-end)) now
     ∙ ap (λ (n : ℕ). pasted (width * (i * paths_each s n)) (flat_map spell (passed_from h s n i)) was) (sym up)
 
 pub loop-j-smaller : goal.loop-j-smaller
 loop-j-smaller g c = let t = c.loop-j-test.true in omega arith
-
-pub nodes-nodes-requires : goal.nodes-nodes-requires
-nodes-nodes-requires g c = assumption
 
 pub len-requires : goal.len-requires
 len-requires g c = lit< tt
@@ -184,4 +161,4 @@ pub overflow_sub-round-in-loop-j : goal.overflow_sub-round-in-loop-j
 overflow_sub-round-in-loop-j g c = omega (arith, c.requires.relayed)
 
 pub paths_of_each-rows-requires : goal.paths_of_each-rows-requires
-paths_of_each-rows-requires g c = (lit< tt, (c.nodes-nodes.ensures.capacity, (omega (arith, c.requires.relayed), omega (arith, c.requires.can.few))))
+paths_of_each-rows-requires g c = (lit< tt, (c.requires.capacity, (omega (arith, c.requires.relayed), omega (arith, c.requires.can.few))))

@@ -2,7 +2,7 @@ use Rattle.std.proofs.Common.{◌≡◌, ◌*◌}
 use Rattle.std.specs.List.{flat_map}
 use Rattle.frames.specs.Writing.{pasted}
 use Rattle.relaying.specs.Table.{passed_until, paths_each}
-use Rattle.relaying.proofs.writing.write_expected.Given as goal
+use Rattle.relaying.proofs.writing.write_passed.Given as goal
 
 abbrev pub invariant-loop-i : goal.invariant-loop-i
 invariant-loop-i g l =
