@@ -1,14 +1,27 @@
-use Rattle.std.proofs.Common.{◌≡◌, ◌+◌, ◌≤◌, None, Some, sym, ap, ◌∙◌, arith, inl, inr, length, length-append, [], ◌∷◌, get_or, set, lit<, ℕ, List, ◌<◌, ◌++◌, append-nil, suc, subst}
+use Rattle.std.proofs.Common.{◌≡◌, ◌+◌, ◌≤◌, None, Some, sym, ap, ◌∙◌, arith, inl, inr, length, length-append, [], ◌∷◌, get_or, set, lit<, ℕ, List, ◌<◌, ◌++◌, append-nil, zero, suc, subst, refl}
 use Rattle.error_reports.specs.Charge.{is_sender, is_accuser}
 use Rattle.node_grid.specs.Count.{count}
-use Rattle.std.specs.Prelude.{All}
+use Rattle.std.specs.Prelude.{All, slice_index, replicate}
 use Rattle.node_grid.specs.Capacity.{IsCapacity}
 use Rattle.std.specs.Int.{bit_at}
 use Rattle.node_grid.specs.Planes.{count_at}
 use Rattle.node_grid.specs.Matrix.{row_at}
 use Rattle.error_reports.proofs.Voting.{split_more}
 use Rattle.error_reports.proofs.Voters.{accusers_more, accusers_same, senders_more, senders_same, accusers_few}
+use Rattle.std.proofs.lemmas.Nat.Bits.{bit_at-zero}
 use Rattle.error_reports.proofs.charge_all.tally.Goals as goal
+
+zero_there : (n j : ℕ) → slice_index (replicate n 0) j ≡ 0
+zero_there zero j = refl
+zero_there (suc n) zero = refl
+zero_there (suc n) (suc j) = zero_there n j
+
+no_counts : (n planes j k : ℕ) → count_at (replicate planes (replicate n 0)) j k ≡ 0
+no_counts n zero j k = refl
+no_counts n (suc planes) j k = rw (zero_there n j, no_counts n planes j k, bit_at-zero k) refl
+
+zero_counts : (n planes j k : ℕ) (counts : List (List ℕ)) → counts ≡ replicate planes (replicate n 0) → count_at counts j k ≡ 0
+zero_counts n planes j k counts e = ap (λ xs. count_at xs j k) e ∙ no_counts n planes j k
 
 front : (n : ℕ) (ys rest : List ℕ) (x : ℕ) → All (λ k. k < n) (ys ++ x ∷ rest) → x < n
 front n [] rest x all = all 0 0 (omega arith)
@@ -149,3 +162,13 @@ offset_bounds-others-inside-member g c =
     member_in g.row.N c.args.members.now seen c.next.new.self c.in-Some.member c.iter-member-items.ensures.within (c.loop-member.invariant.split ∙ ap (λ (zs : List ℕ). seen ++ zs) c.in-Some.ensures.steps) in
     let cap : IsCapacity g.row.N = c.requires in
     omega arith
+
+pub loop-member-init : goal.loop-member-init
+loop-member-init g c = record {
+  can = tt;
+  ends = tt;
+  split = sym (c.into_iter-member-iterator.ensures.into_iter_gives ∙ c.iter-member-items.ensures.members);
+  accusers = λ j k in_use few. zero_counts g.row.N 5 j k c.zero-accusers.result c.zero-accusers.ensures;
+  senders = refl;
+  few = omega arith;
+}

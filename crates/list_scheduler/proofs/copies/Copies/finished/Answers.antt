@@ -1,10 +1,11 @@
-use Rattle.std.proofs.Common.{◌≡◌, ◌<◌, ◌≤◌, ◌+◌, sym, ap, ◌∙◌, arith}
+use Rattle.std.proofs.Common.{◌≡◌, ◌<◌, ◌≤◌, ◌+◌, sym, ap, ◌∙◌, arith, lit<, inl, inr}
 use Rattle.node_grid.specs.NodeSet.{ids_below}
 use Rattle.node_grid.specs.Count.{bit, count}
 use Rattle.list_scheduler.specs.Copies.{copy_at, is_passed}
 use Rattle.node_grid.specs.CapacityLaws.{capacity-le}
 use Rattle.node_grid.specs.NodeSetLaws.{count-below}
 use Rattle.list_scheduler.proofs.Picking.{count_few}
+use Rattle.task_graph.specs.GraphLaws.{few_tasks}
 use Rattle.list_scheduler.proofs.copies.Copies.finished.Goals as goal
 use Rattle.list_scheduler.proofs.copies.Copies.finished.Goals.{then-is_passed, else-is_passed}
 
@@ -34,3 +35,17 @@ loop-node-preserved g c =
           let p : c.if-is_passed.passed ≡ c.loop-node.passed = w.passed-is in
           omega arith
     ]
+
+pub nodes-node-end-requires : goal.nodes-node-end-requires
+nodes-node-end-requires g c = lit< tt
+
+pub loop-node-smaller : goal.loop-node-smaller
+loop-node-smaller g c = omega (arith, c.loop-node-test.true)
+
+pub task-requires : goal.task-requires
+task-requires g c = (lit< tt, (lit< tt, c.requires.task))
+
+pub at-requires : goal.at-requires
+at-requires g c =
+    let few = few_tasks _ _ c.nodes-node-end.ensures.graph.tasks.in_range in
+    (elim c.requires.capacity [ inl e ↦ rw e (lit< tt) | inr e ↦ rw e (lit< tt) ], (c.requires.capacity, (omega (arith, c.requires.task, few), omega (arith, c.loop-node-test.true, c.nodes-node-end.ensures.count, c.nodes-node-end.ensures.graph.few_nodes))))

@@ -1,4 +1,4 @@
-use Rattle.std.proofs.Common.{◌≡◌, ℕ, ◌<◌, length, get_or, List, true, ap, sym, subst, ◌∙◌, arith, rules}
+use Rattle.std.proofs.Common.{◌≡◌, ℕ, ◌<◌, length, get_or, List, true, ap, sym, subst, ◌∙◌, arith, rules, lit<}
 use Rattle.std.specs.List.{list_all}
 use Rattle.task_graph.specs.Graph.{TaskView, task_at}
 use Rattle.list_scheduler.specs.Schedule.{finished}
@@ -20,3 +20,12 @@ returns g c =
     let e : c.deref-before-items.result.now ≡ (task_at c.args.graph.now.tasks c.args.t).after = c.deref-before-items.ensures.value ∙ ap (λ (x : TaskView). x.after) (c.behind-graph.view_is ∙ c.task.ensures.task) in
     let all : list_all (finished c.args.graph.now c.args.self.now) c.deref-before-items.result.now ≡ true = all_taken (finished c.args.graph.now c.args.self.now) c.deref-before-items.result.now c.loop-before.before-index (omega arith) c.loop-before.invariant in
     sym (sym (ap (list_all (finished c.args.graph.now c.args.self.now)) e) ∙ all)
+
+pub task-requires : goal.task-requires
+task-requires g c = (lit< tt, (lit< tt, c.requires.task))
+
+pub bounds-before-items-before-index : goal.bounds-before-items-before-index
+bounds-before-items-before-index g c = c.loop-before-test.true
+
+pub loop-before-smaller : goal.loop-before-smaller
+loop-before-smaller g c = omega (arith, c.loop-before-test.true)

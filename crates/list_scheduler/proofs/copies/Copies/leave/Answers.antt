@@ -1,4 +1,4 @@
-use Rattle.std.proofs.Common.{sym, ◌∙◌}
+use Rattle.std.proofs.Common.{sym, ◌∙◌, lit<, arith, inl, inr}
 use Rattle.list_scheduler.proofs.Leaving.{left_running, left_other}
 use Rattle.list_scheduler.proofs.copies.Copies.leave.Goals as goal
 use Rattle.list_scheduler.proofs.copies.Copies.leave.Goals.{in-Running, in_default}
@@ -10,3 +10,12 @@ loop-t-preserved g c = elim c.match-at.branch [
   | in_default w ↦ w.self-is ∙ left_other g.row.N c.loop-t.t c.args.node c.args.self.now c.loop-t.self c.loop-t-test.true c.requires.node c.loop-t.invariant
       (λ e runs. w.in_default.not-Running e (c.at.ensures.copy ∙ runs))
 ]
+
+pub at-requires : goal.at-requires
+at-requires g c = (elim c.requires.capacity [ inl e ↦ rw e (lit< tt) | inr e ↦ rw e (lit< tt) ], (c.requires.capacity, (c.loop-t-test.true, c.requires.node)))
+
+pub set-requires : goal.set-requires
+set-requires g c = (elim c.requires.capacity [ inl e ↦ rw e (lit< tt) | inr e ↦ rw e (lit< tt) ], (c.requires.capacity, (c.loop-t-test.true, c.requires.node)))
+
+pub loop-t-smaller : goal.loop-t-smaller
+loop-t-smaller g c = omega (arith, c.loop-t-test.true)

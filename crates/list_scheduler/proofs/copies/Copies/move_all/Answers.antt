@@ -77,3 +77,9 @@ returns-clause-busy g c =
     let kept = moved_kept n graph c.args.before.now c.args.after.now c.args.self.now c.args.claims.now (graph_ordered n graph c.len-t-end.ensures.graph) c.requires.copies in
     c.loop-t.invariant.busy ∙ filter_range _ (λ q. is_some (works c.loop-t.self q)) 0 n (λ q l u.
     ap is_some (works_tasks graph all q c.loop-t.t kept (omega arith) (omega arith) ∙ ap (λ (x : CopyTable). works x q) (sym (returns-clause-copies g c))))
+
+pub len-t-end-requires : goal.len-t-end-requires
+len-t-end-requires g c = lit< tt
+
+pub loop-t-smaller : goal.loop-t-smaller
+loop-t-smaller g c = omega (arith, c.loop-t-test.true)

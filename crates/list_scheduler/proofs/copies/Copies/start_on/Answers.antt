@@ -51,3 +51,6 @@ start-requires g c =
     let count = c.len-t-end.ensures.count in
     let test = c.loop-t-test.true in
     (elim c.requires.capacity [ inl e ↦ rw e (lit< tt) | inr e ↦ rw e (lit< tt) ], (lit< tt, (c.requires.capacity, omega (arith, few, count, test))))
+
+pub loop-t-smaller : goal.loop-t-smaller
+loop-t-smaller g c = omega (arith, c.loop-t-test.true)

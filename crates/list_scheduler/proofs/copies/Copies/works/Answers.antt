@@ -1,4 +1,4 @@
-use Rattle.std.proofs.Common.{sym, arith, rules}
+use Rattle.std.proofs.Common.{sym, arith, rules, lit<}
 use Rattle.task_graph.specs.GraphLaws.{few_tasks}
 use Rattle.list_scheduler.specs.CopyLaws.{works_first}
 use Rattle.list_scheduler.proofs.Completing.{works_within}
@@ -23,3 +23,9 @@ returns g c =
     let count = c.len-t-end.ensures.count in
     let end = c.loop-t-test.false in
     sym (works_within c.args.graph.now c.args.self.now c.args.node c.requires.copies (λ u h. c.loop-t.invariant u (omega arith)))
+
+pub len-t-end-requires : goal.len-t-end-requires
+len-t-end-requires g c = lit< tt
+
+pub loop-t-smaller : goal.loop-t-smaller
+loop-t-smaller g c = omega (arith, c.loop-t-test.true)
