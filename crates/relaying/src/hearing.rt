@@ -5,7 +5,7 @@ ghost use Rattle.std.specs.Prelude.{true, false, length, take, slice_index_or, s
 ghost use Rattle.std.specs.Prelude.{vec_capacity};
 ghost use Rattle.std.specs.Prelude.{IfSome, IsSome, option_map, None};
 ghost use Rattle.node_grid.specs.Capacity.{IsCapacity};
-ghost use Rattle.node_grid.specs.NodeSet.{has_id, without_id};
+ghost use Rattle.node_grid.specs.NodeSet.{has_id, without_id, IsIdSet};
 ghost use Rattle.omh_paths.specs.Paths.{path_count};
 ghost use Rattle.omh_paths.specs.declared.wrapped.Wrapped.{Wrapped};
 ghost use Rattle.omh_paths.specs.declared.wrapped.Wrapped.TheVariants.{Fault};
@@ -408,10 +408,10 @@ fn hear_relay<V: Item<N>, const N: usize>(
     requires brings { Brings (path_count (length table.old.members - 1) round)
         (brought V.form watch.now sender) }
     requires room { path_count (length table.old.members - 1) round ≤ vec_capacity entries.old }
+    requires ids { IsIdSet N table.old.members }
     ensures heard { table.new ≡ told_from V.form watch.now round sender table.old }
     ensures room { vec_capacity entries.old ≤ vec_capacity entries.new }
 {
-    let _members = table.members();
     match watch.told(sender) {
         None => hear_guessed(table, entries, round, sender),
         Some(frame) => hear_told(table, entries, &frame, round, sender),
@@ -436,6 +436,7 @@ fn hear_from<V: Item<N>, const N: usize>(
     requires brings { Brings (path_count (length table.old.members - 1) round)
         (brought V.form watch.now sender) }
     requires room { path_count (length table.old.members - 1) round ≤ vec_capacity entries.old }
+    requires ids { IsIdSet N table.old.members }
     ensures heard { table.new ≡ told_from V.form watch.now round sender table.old }
     ensures room { vec_capacity entries.old ≤ vec_capacity entries.new }
 {

@@ -2,7 +2,7 @@
 
 ghost use Rattle.std.specs.Prelude.{ℕ, ◌≡◌, ◌+◌, ◌*◌, ◌<◌, ◌≤◌, length, replicate, true, vec_capacity};
 ghost use Rattle.std.specs.Prelude.{Some, None};
-ghost use Rattle.node_grid.specs.NodeSet.{has_id, without_id};
+ghost use Rattle.node_grid.specs.NodeSet.{has_id, without_id, IsIdSet};
 ghost use Rattle.std.specs.List.{flat_map};
 ghost use Rattle.heard.specs.Passing.{IsAllExpected};
 ghost use Rattle.frames.specs.Content.{Expectation};
@@ -93,6 +93,8 @@ fn write_entries<V: Item<N>, const N: usize>(
     requires nodes { watch.now.nodes ≡ heard.now.nodes }
     requires some_round { 0 < round }
     requires round { round ≤ heard.now.rounds }
+    requires few { heard.now.rounds ≤ 3 }
+    requires ids { IsIdSet N heard.now.members }
     requires member { has_id heard.now.members heard.now.me ≡ true }
     requires others { others.now ≡ without_id heard.now.members heard.now.me }
     requires slot { (e : Expectation) × (watch.now.expect ≡ Some e) ×
@@ -103,8 +105,6 @@ fn write_entries<V: Item<N>, const N: usize>(
     ensures { out.new ≡ pasted 0
         (flat_map (V.spelling heard.now.nodes) (relays heard.now round)) out.old }
 {
-    // its clauses bound the rounds
-    let _members = heard.members();
     if copy_guessed(watch, heard, round, out) {
         return;
     }

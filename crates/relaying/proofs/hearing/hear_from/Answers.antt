@@ -30,4 +30,4 @@ returns-then-round-eq0-clause-heard g c =
 pub hear_relay-requires : goal.hear_relay-requires
 hear_relay-requires g c =
     let some : 0 < c.args.round = omega (arith, c.if-round-eq0.false) in
-    (omega arith, (omega arith, (c.requires.capacity, (c.requires.low, (c.requires.watching, (c.requires.echoed some, (c.requires.sender, (c.requires.other, (some, (c.requires.round, (c.requires.brings, c.requires.room)))))))))))
+    (omega arith, (omega arith, (c.requires.capacity, (c.requires.low, (c.requires.watching, (c.requires.echoed some, (c.requires.sender, (c.requires.other, (some, (c.requires.round, (c.requires.brings, (c.requires.room, c.requires.ids))))))))))))

@@ -18,7 +18,7 @@ hear_guessed-requires g c =
     let q : ℕ = c.args.sender in
     let r : ℕ = c.args.round in
     let w = c.args.watch.now in
-    let d : Distinct t.members = subst Distinct c.members-members.ensures.members (Distinct-ids g.row.N c.members-members.result c.members-members.ensures.ids) in
+    let d : Distinct t.members = Distinct-ids g.row.N t.members c.requires.ids in
     let same : (guesses_at w q ≡ true) × (told_at w q ≡ said_at w q) = if_none c.told.result c.in-None.is c.told.ensures.same in
     let b : BringsEcho g.V.Item.form r q w t = brings_echo g.V.Item.form r q w t d c.requires.sender c.requires.echoed same.0 same.1 in
     (omega arith, (c.requires.capacity, (c.requires.sender, (c.requires.some_round, (c.requires.round, (c.requires.room, echo_small g.V.Item.form r q _ w t d c.requires.sender b c.requires.brings))))))
@@ -29,7 +29,7 @@ returns-in-None-clause-heard g c =
     let q : ℕ = c.args.sender in
     let r : ℕ = c.args.round in
     let w = c.args.watch.now in
-    let d : Distinct t.members = subst Distinct c.members-members.ensures.members (Distinct-ids g.row.N c.members-members.result c.members-members.ensures.ids) in
+    let d : Distinct t.members = Distinct-ids g.row.N t.members c.requires.ids in
     let same : (guesses_at w q ≡ true) × (told_at w q ≡ said_at w q) = if_none c.told.result c.in-None.is c.told.ensures.same in
     let b : BringsEcho g.V.Item.form r q w t = brings_echo g.V.Item.form r q w t d c.requires.sender c.requires.echoed same.0 same.1 in
     c.hear_guessed.ensures.is b.values b.long b.echo
@@ -50,7 +50,7 @@ returns-in-Some-clause-heard g c =
     let q : ℕ = c.args.sender in
     let r : ℕ = c.args.round in
     let w = c.args.watch.now in
-    let d : Distinct t.members = subst Distinct c.members-members.ensures.members (Distinct-ids g.row.N c.members-members.result c.members-members.ensures.ids) in
+    let d : Distinct t.members = Distinct-ids g.row.N t.members c.requires.ids in
     let said = subst (λ o. IfSome o (λ p. option_map (λ f. content w.nodes f.body) p ≡ told_at w q)) c.in-Some.is c.told.ensures.told in
     let told = ap (λ o. arrived g.V.Item.form.relay_in None o) (ap (λ n. option_map (λ f. content n f.body) c.in-Some.frame) (sym c.requires.watching.nodes_are) ∙ said) in
     c.hear_told.ensures.is

@@ -1,6 +1,6 @@
 use Rattle.std.proofs.Common.{◌==◌, not, ◌≡◌, ◌≢◌, ◌≤◌, ◌<◌, ◌-◌, true, arith, ℕ, List, length, sym, ap, subst, ◌∙◌}
 use Rattle.std.specs.Prelude.{vec_capacity}
-use Rattle.node_grid.specs.NodeSet.{has_id}
+use Rattle.node_grid.specs.NodeSet.{has_id, IsIdSet}
 use Rattle.node_grid.specs.Count.{Distinct}
 use Rattle.omh_paths.specs.Paths.{path_count}
 use Rattle.omh_paths.specs.MemberLaws.{Distinct-ids}
@@ -94,7 +94,10 @@ hear_from-requires g c =
                       back (λ h. r ≤ h.rounds) (first (λ h. r ≤ h.rounds) c.requires.round),
                       (
                         back (λ h. Brings (path_count (length h.members - 1) r) (brought g.V.Item.form w q)) (first (λ h. Brings (path_count (length h.members - 1) r) (brought g.V.Item.form w q)) (c.requires.brings q on)),
-                        back (λ h. path_count (length h.members - 1) r ≤ vec_capacity c.loop-q.entries) (first (λ h. path_count (length h.members - 1) r ≤ vec_capacity c.loop-q.entries) room),
+                        (
+                          back (λ h. path_count (length h.members - 1) r ≤ vec_capacity c.loop-q.entries) (first (λ h. path_count (length h.members - 1) r ≤ vec_capacity c.loop-q.entries) room),
+                          back (λ h. IsIdSet g.row.N h.members) (first (λ h. IsIdSet g.row.N h.members) (subst (IsIdSet g.row.N) c.members-members.ensures.members c.members-members.ensures.ids)),
+                        ),
                       ),
                     ),
                   ),

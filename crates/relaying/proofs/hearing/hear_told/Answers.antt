@@ -9,6 +9,9 @@ use Rattle.relay_rules.specs.Hearing.{Brings, FitsIn, with_told, IsByPath, read_
 use Rattle.relaying.proofs.Lengths.{brought_fits}
 use Rattle.relaying.proofs.hearing.hear_told.Goals as goal
 
+no_less : (n : ℕ) → n ≤ n
+no_less n = omega arith
+
 pub hear_expected-requires : goal.hear_expected-requires
 hear_expected-requires g c =
     (omega arith, (omega arith, (c.requires.widths, (c.requires.sender, (c.requires.some_round, (c.requires.round, c.requires.brings))))))
@@ -55,3 +58,18 @@ pub returns-clause-paths : goal.returns-clause-paths
 returns-clause-paths g c =
     let same : ◌≡◌ {A = Hearing g.row.V.Denot} c.hear_expected.new.table c.args.table.now = c.hear_expected.ensures.left c.if-hear_expected.false in
     subst (λ (h : Hearing g.row.V.Denot). IsByPath h) same c.take_frame.ensures.paths
+
+pub nodes-nodes-requires : goal.nodes-nodes-requires
+nodes-nodes-requires g c = omega arith
+
+pub returns-then-hear_expected-clause-is : goal.returns-then-hear_expected-clause-is
+returns-then-hear_expected-clause-is g c = c.hear_expected.ensures.is c.if-hear_expected.true
+
+pub returns-then-hear_expected-clause-paths : goal.returns-then-hear_expected-clause-paths
+returns-then-hear_expected-clause-paths g c = c.hear_expected.ensures.paths c.if-hear_expected.true
+
+pub returns-then-hear_expected-clause-room : goal.returns-then-hear_expected-clause-room
+returns-then-hear_expected-clause-room g c = no_less (vec_capacity c.args.entries.now)
+
+pub returns-clause-room : goal.returns-clause-room
+returns-clause-room g c = c.read_entries-read.ensures.room

@@ -1,6 +1,6 @@
-use Rattle.std.proofs.Common.{ℕ, List, ◌≡◌, true, false, sym, ap, ap₂, ◌∙◌, lit<}
+use Rattle.std.proofs.Common.{ℕ, List, ◌≡◌, true, false, sym, ap, ap₂, ◌∙◌, lit<, subst}
 use Rattle.std.specs.List.{flat_map}
-use Rattle.node_grid.specs.NodeSet.{has_id, without_id}
+use Rattle.node_grid.specs.NodeSet.{has_id, without_id, IsIdSet}
 use Rattle.frames.specs.Writing.{pasted}
 use Rattle.frames.specs.PieceLaws.{pasted_nothing}
 use Rattle.relaying.proofs.Framing.{no_entries}
@@ -18,7 +18,7 @@ write_entries-requires g c =
     let members = c.members-members.ensures.members in
     let me = c.me-me.ensures.me in
     let member : has_id h.members h.me ≡ true = ap₂ has_id (sym members) (sym me) ∙ sym c.if-not-has.ensures in
-    (lit< tt, (assumption, (lit< tt, (c.requires.nodes, (c.requires.some_round, (c.requires.round, (member, (c.without-others.ensures ∙ ap₂ without_id members me, (c.requires.slot, (c.requires.echoed, c.requires.room))))))))))
+    (lit< tt, (assumption, (lit< tt, (c.requires.nodes, (c.requires.some_round, (c.requires.round, (c.members-members.ensures.rounds, (subst (IsIdSet g.row.N) members c.members-members.ensures.ids, (member, (c.without-others.ensures ∙ ap₂ without_id members me, (c.requires.slot, (c.requires.echoed, c.requires.room))))))))))))
 
 pub members-members-requires : goal.members-members-requires
 members-members-requires g c = (assumption, lit< tt)
