@@ -1,14 +1,15 @@
 //! A node before its first period.
 
-ghost use Rattle.std.specs.Prelude.{◌≡◌, ℕ, ◌*◌, ◌+◌, ◌<◌, ◌≤◌, IfOk, None};
+ghost use Rattle.std.specs.Prelude.{◌≡◌, ℕ, ◌*◌, ◌+◌, ◌<◌, ◌≤◌, IfOk, Ok};
 ghost use Rattle.node_grid.specs.Capacity.{IsCapacity};
 ghost use Rattle.node_grid.specs.Version.{kind_count};
 ghost use Rattle.omh_paths.specs.declared.wrapped.Wrapped.TheVariants.{Fault};
 ghost use Rattle.omh_paths.specs.Paths.{path_count};
 ghost use Rattle.frames.specs.Bound.{IsGreatest};
+ghost use Rattle.error_detect.specs.Watching.{fresh};
 ghost use Rattle.agreed_state.specs.Body.{state_len};
 ghost use Rattle.agreed_state.specs.Config.{IsConfig};
-ghost use Rattle.node_steps.specs.Fresh.{newly_open};
+ghost use Rattle.node_steps.specs.Fresh.{newly_open, unused};
 ghost use Rattle.node_core.specs.Inside.{HasRooms, found_of, none_found};
 
 use super::{Buffers, Controller, Findings, Keeping, Phase};
@@ -18,7 +19,7 @@ use arrayvec::ArrayVec;
 use error_detect::SlotWatch;
 use error_reports::RowBuilder;
 use heard::Heard;
-use node_grid::{NoMemory, NodeSet};
+use node_grid::{NoMemory, NodeSet, Row};
 use omh_paths::{Wrapped, count_paths};
 use slot_plan::Slot;
 use std::alloc::Global;
@@ -55,6 +56,18 @@ fn most_bytes(nodes: u8, m: u8) -> usize
     ensures { (r : ℕ) → r ≤ m → path_count nodes r * (1 + 2 * nodes) ≤ result }
 {
     most_entries(nodes, m) * (1 + 2 * nodes as usize)
+}
+
+/// Both of two, where both could be had.
+fn both<A: Drop, B: Drop>(
+    one: Result<A, NoMemory>,
+    other: Result<B, NoMemory>,
+) -> Result<(A, B), NoMemory>
+    ensures { IfOk result (λ p. (one ≡ Ok p.0) × (other ≡ Ok p.1)) }
+{
+    let one = one?;
+    let other = other?;
+    Ok((one, other))
 }
 
 impl<const N: usize> Buffers<N> {
@@ -116,13 +129,40 @@ impl<'c, const N: usize> Controller<'c, N> {
         requires greatest { IsGreatest config.now.nodes config.now.m (state_len config.now) 8 frame_max }
         ensures { IfOk result (λ p. p ≡ newly_open config.now me frame_max) }
     {
-        let done = Heard::open(alloc, config.nodes, config.m)?;
-        let rows = Heard::open(alloc, config.nodes, config.m)?;
-        let buffers: Buffers<N> = Buffers::open(alloc, config.nodes, config.m)?;
+        let tables = both(
+            Heard::open(alloc, config.nodes, config.m),
+            Heard::open(alloc, config.nodes, config.m),
+        );
         let guess_max = most_bytes(config.nodes, config.m);
-        let watch = SlotWatch::open(alloc, config.nodes, me, frame_max, guess_max)?;
+        let rooms = both(
+            SlotWatch::open(alloc, config.nodes, me, frame_max, guess_max),
+            Buffers::open(alloc, config.nodes, config.m),
+        );
+        let ((done, rows), (watch, buffers)) = both(tables, rooms)?;
+        Ok(Controller::before_first(config, me, done, rows, watch, buffers))
+    }
+
+    /// Node `me` before the first period, with these tables, of which none was used yet.
+    fn before_first(
+        config: &'c Config<N>,
+        me: u8,
+        done: Heard<u8, N>,
+        rows: Heard<Row<N>, N>,
+        watch: SlotWatch<N>,
+        buffers: Buffers<N>,
+    ) -> Controller<'c, N>
+        requires capacity { IsCapacity N }
+        requires config { IsConfig N config.now }
+        requires me { me < config.now.nodes }
+        requires done { done ≡ unused config.now.nodes config.now.m }
+        requires rows { rows ≡ unused config.now.nodes config.now.m }
+        requires watch { watch ≡ fresh config.now.nodes me watch.frame_max }
+        requires greatest { IsGreatest config.now.nodes config.now.m (state_len config.now) 8 watch.frame_max }
+        requires rooms { HasRooms config.now.nodes config.now.m buffers }
+        ensures { result ≡ newly_open config.now me watch.entry.frame_max }
+    {
         let notes = RowBuilder::new(config.nodes, me, kind_count(config.version));
-        Ok(Controller {
+        Controller {
             config,
             phase: Phase {
                 me,
@@ -148,6 +188,6 @@ impl<'c, const N: usize> Controller<'c, N> {
             watch,
             outcome: NodeRecord::cold(),
             buffers,
-        })
+        }
     }
 }

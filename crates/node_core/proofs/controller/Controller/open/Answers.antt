@@ -1,21 +1,18 @@
-use Rattle.std.proofs.Common.{ap₂, sym, ap, subst, ◌∙◌, arith, inl, inr, lit<, ℕ, ◌≡◌, List, Some, replicate}
+use mathlib.Core.List.{not-mem-nil}
+use Rattle.std.proofs.Common.{sym, ap, subst, ◌∙◌, arith, inl, inr, lit<, ℕ, ◌≡◌, List, Ok}
+use Rattle.std.specs.Result.{IfOk}
+use Rattle.std.specs.declared.result.Result.{Result}
+use Rattle.std.proofs.lemmas.Result.{IfOk-from_err}
+use Rattle.node_steps.specs.Parts.{NodeView}
+use Rattle.node_grid.specs.Capacity.{IsCapacity}
 use Rattle.frames.specs.Bound.{IsGreatest}
 use Rattle.error_detect.specs.Watching.{Watch, fresh}
-use Rattle.error_reports.specs.Notes.{Notes}
 use Rattle.agreed_state.specs.Body.{state_len}
 use Rattle.agreed_state.specs.ConfigLaws.{few_rounds}
 use Rattle.node_steps.specs.PremiseLaws.{few_capacity}
-use Rattle.node_core.specs.Inside.{AreItsNotes, none_found}
+use Rattle.node_core.specs.Inside.{HasRooms}
 use Rattle.omh.specs.Heard.{Hearing}
-use Rattle.agreed_state.specs.Agreed.{AgreedView, first_agreed}
-use Rattle.agreed_state.specs.declared.config.Config.{Config}
-use Rattle.relaying.specs.Guessed.{unguessed}
-use Rattle.protocol.specs.Configured.{setting_of}
-use Rattle.protocol.specs.View.{first_kept}
 use Rattle.node_steps.specs.Fresh.{newly_open, unused}
-use Rattle.node_steps.specs.Outcome.{Outcome, cold_outcome}
-use Rattle.node_steps.specs.Parts.{NodeView, Found}
-use Rattle.node_core.proofs.Standing.{shut_open}
 use Rattle.node_core.proofs.controller.Controller.open.Goals as goal
 
 pub open-requires : goal.open-requires
@@ -27,8 +24,8 @@ open-requires-2 g c = (
   record { capacity = c.requires.capacity; nodes = c.requires.config.few_nodes; rounds = few_rounds g.row.N c.args.config.now c.requires.config },
 )
 
-pub open-requires-3 : goal.open-requires-3
-open-requires-3 g c =
+pub open-requires-4 : goal.open-requires-4
+open-requires-4 g c =
     let few = c.requires.config.few_nodes in
     let cap = few_capacity g.row.N c.requires.capacity in
     (lit< tt, (omega (arith, few, cap), few_rounds g.row.N c.args.config.now c.requires.config))
@@ -39,53 +36,8 @@ most_bytes-guess_max-requires g c =
     let cap = few_capacity g.row.N c.requires.capacity in
     record { nodes = omega (arith, few, cap); rounds = few_rounds g.row.N c.args.config.now c.requires.config }
 
-pub new-notes-requires : goal.new-notes-requires
-new-notes-requires g c = (
-  elim c.requires.capacity [ inl e ↦ rw e (lit< tt) | inr e ↦ rw e (lit< tt) ],
-  (c.requires.capacity, (c.requires.config.few_nodes, c.kind_count.ensures.few)),
-)
-
-pub first-requires : goal.first-requires
-first-requires g c = (
-  elim c.requires.capacity [ inl e ↦ rw e (lit< tt) | inr e ↦ rw e (lit< tt) ],
-  (elim c.requires.capacity [ inl e ↦ rw e (lit< tt) | inr e ↦ rw e (lit< tt) ], (c.requires.capacity, c.requires.config)),
-)
-
-pub cold-requires : goal.cold-requires
-cold-requires g c = (elim c.requires.capacity [ inl e ↦ rw e (lit< tt) | inr e ↦ rw e (lit< tt) ], c.requires.capacity)
-
-pub invariant_of-result : goal.invariant_of-result
-invariant_of-result g c =
-    let ok = c.requires.config in
-    let w = c.in_ok-watch.ensures in
-    let its : AreItsNotes c.args.config.now c.args.me c.new-notes.result = record {
-      nodes = ap (λ (x : Notes). x.nodes) c.new-notes.ensures;
-      me_is = ap (λ (x : Notes). x.me) c.new-notes.ensures;
-      kinds = ap (λ (x : Notes). x.kinds) c.new-notes.ensures ∙ c.kind_count.ensures.count;
-    } in
-    record {
-      place = record { capacity = c.requires.capacity; few = ok.few_nodes; me_low = c.requires.me; few_rounds = few_rounds g.row.N c.args.config.now ok; config_is = ok };
-      slot = tt;
-      watch = record {
-        nodes = ap (λ (x : Watch). x.nodes) w;
-        me_is = ap (λ (x : Watch). x.me) w;
-        greatest = subst (IsGreatest c.args.config.now.nodes c.args.config.now.m (state_len c.args.config.now) 8) (sym (ap (λ (x : Watch). x.frame_max) w)) c.requires.greatest;
-        expects = λ h. absurd (shut_open (ap (λ (x : Watch). x.is_open) w) h);
-      };
-      kept_notes = its;
-      notes = subst (AreItsNotes c.args.config.now c.args.me) (sym c.none.ensures.notes) its;
-      rooms = c.in_ok-buffers.ensures;
-      guessed = λ o h. absurd (shut_open (ap (λ (x : Watch). x.is_open) w) h);
-    }
-
-pub kind_count-requires : goal.kind_count-requires
-kind_count-requires g c = tt
-
-pub none-requires : goal.none-requires
-none-requires g c = (elim c.requires.capacity [ inl e ↦ rw e (lit< tt) | inr e ↦ rw e (lit< tt) ], (elim c.requires.capacity [ inl e ↦ rw e (lit< tt) | inr e ↦ rw e (lit< tt) ], c.requires.capacity))
-
-pub open-requires-4 : goal.open-requires-4
-open-requires-4 g c = (lit< tt, (c.requires.capacity, c.requires.config.few_nodes))
+pub open-requires-3 : goal.open-requires-3
+open-requires-3 g c = (lit< tt, (c.requires.capacity, c.requires.config.few_nodes))
 
 pub open-requires-2-room-V-Value : goal.open-requires-2-room-V-Value
 open-requires-2-room-V-Value g c = λ κs. elim c.requires.capacity [ inl e ↦ rw e (lit< tt) | inr e ↦ rw e (lit< tt) ]
@@ -96,25 +48,77 @@ open-requires-2-room-V-Eq g c = λ κs. elim c.requires.capacity [ inl e ↦ rw 
 pub open-requires-2-room-V-PartialEq : goal.open-requires-2-room-V-PartialEq
 open-requires-2-room-V-PartialEq g c = λ κs. elim c.requires.capacity [ inl e ↦ rw e (lit< tt) | inr e ↦ rw e (lit< tt) ]
 
--- what is opened is seen as a node before its first period
-abbrev made : {N : ℕ} → Config N → ℕ → ℕ → AgreedView → List ℕ → Hearing ℕ → Hearing (List ℕ) → Found → Watch → Outcome → NodeView N
-made config me frame_max a carried done rows found w o = record (newly_open config me frame_max) {
-  kept = record (first_kept (setting_of config)) { state = Some a; carried = carried };
-  done = done;
-  rows = rows;
-  found = found;
-  arrived = unguessed w;
-  outcome = o;
-}
+told : {T E : Type 0} (P : T → Type 0) (r : Result T E) (x : T) → r ≡ Ok x → IfOk r P → P x
+told P r x e h = subst (λ s. IfOk s P) e h
 
-module _ {N : ℕ} (config : Config N) (me frame_max : ℕ) (a : AgreedView) (x : Notes) (done : Hearing ℕ) (rows : Hearing (List ℕ)) (f : Found) (w : Watch) (o : Outcome) where
-  fresh_seen : {kinds : ℕ} → a ≡ first_agreed N config → x ≡ record { nodes = config.nodes; me = me; kinds = kinds; row = replicate N 0; carried = replicate N 0 } → done ≡ unused config.nodes config.m → rows ≡ unused config.nodes config.m → f ≡ none_found N x → w ≡ fresh config.nodes me frame_max → o ≡ cold_outcome N
-      → made config me frame_max a x.carried done rows f w o ≡ newly_open config me frame_max
-  fresh_seen first notes heard told none watch cold =
-      ap₂ (λ (d : Hearing ℕ) (r : Hearing (List ℕ)). made config me frame_max a x.carried d r f w o) heard told
-      ∙ ap₂ (λ (b : AgreedView) (y : List ℕ). made config me frame_max b y (unused config.nodes config.m) (unused config.nodes config.m) f w o) first (ap (λ (y : Notes). y.carried) notes)
-      ∙ ap₂ (λ (g : Found) (v : Watch). made config me frame_max (first_agreed N config) (replicate N 0) (unused config.nodes config.m) (unused config.nodes config.m) g v o) (none ∙ ap (λ (y : Notes). none_found N y) notes) watch
-      ∙ ap (λ (p : Outcome). made config me frame_max (first_agreed N config) (replicate N 0) (unused config.nodes config.m) (unused config.nodes config.m) (none_found N (record { nodes = config.nodes; me = me; kinds = 0; row = replicate N 0; carried = replicate N 0 })) (fresh config.nodes me frame_max) p) cold
+pub before_first-requires : goal.before_first-requires
+before_first-requires g c =
+    let cap : IsCapacity g.row.N = c.requires.capacity in
+    let config = c.args.config.now in
+    let both = c.in_ok-done.ensures in
+    let tables = told (λ p. (c.open.result ≡ Ok p.0) × (c.open-2.result ≡ Ok p.1)) c.both-tables.result (c.in_ok-done.done, c.in_ok-done.rows) both.0 c.both-tables.ensures in
+    let rooms = told (λ p. (c.open-3.result ≡ Ok p.0) × (c.open-4.result ≡ Ok p.1)) c.both-rooms.result (c.in_ok-done.watch, c.in_ok-done.buffers) both.1 c.both-rooms.ensures in
+    let watch = told (λ (w : Watch). w ≡ fresh config.nodes c.args.me c.args.frame_max) c.open-3.result c.in_ok-done.watch rooms.0 c.open-3.ensures in
+    let max : c.in_ok-done.watch.frame_max ≡ c.args.frame_max = ap (λ (w : Watch). w.frame_max) watch in (
+      elim cap [ inl e ↦ rw e (lit< tt) | inr e ↦ rw e (lit< tt) ],
+      (
+        lit< tt,
+        (
+          elim cap [ inl e ↦ rw e (lit< tt) | inr e ↦ rw e (lit< tt) ],
+          (
+            elim cap [ inl e ↦ rw e (lit< tt) | inr e ↦ rw e (lit< tt) ],
+            (
+              lit< tt,
+              (
+                lit< tt,
+                (
+                  elim cap [ inl e ↦ rw e (lit< tt) | inr e ↦ rw e (lit< tt) ],
+                  (
+                    cap,
+                    (
+                      c.requires.config,
+                      (
+                        c.requires.me,
+                        (
+                          told (λ (h : Hearing ℕ). h ≡ unused config.nodes config.m) c.open.result c.in_ok-done.done tables.0 c.open.ensures,
+                          (
+                            told (λ (h : Hearing (List ℕ)). h ≡ unused config.nodes config.m) c.open-2.result c.in_ok-done.rows tables.1 c.open-2.ensures,
+                            (
+                              watch ∙ ap (fresh config.nodes c.args.me) (sym max),
+                              (
+                                subst (IsGreatest config.nodes config.m (state_len config) 8) (sym max) c.requires.greatest,
+                                told (HasRooms config.nodes config.m) c.open-4.result c.in_ok-done.buffers rooms.1 c.open-4.ensures,
+                              ),
+                            ),
+                          ),
+                        ),
+                      ),
+                    ),
+                  ),
+                ),
+              ),
+            ),
+          ),
+        ),
+      ),
+    )
 
 pub returns : goal.returns
-returns g c = fresh_seen c.args.config.now c.args.me c.args.frame_max _ _ _ _ _ _ _ c.first.ensures.first c.new-notes.ensures c.in_ok-done.ensures c.in_ok-rows.ensures c.none.ensures.found c.in_ok-watch.ensures c.cold.ensures
+returns g c =
+    let config = c.args.config.now in
+    let both = c.in_ok-done.ensures in
+    let rooms = told (λ p. (c.open-3.result ≡ Ok p.0) × (c.open-4.result ≡ Ok p.1)) c.both-rooms.result (c.in_ok-done.watch, c.in_ok-done.buffers) both.1 c.both-rooms.ensures in
+    let watch = told (λ (w : Watch). w ≡ fresh config.nodes c.args.me c.args.frame_max) c.open-3.result c.in_ok-done.watch rooms.0 c.open-3.ensures in
+    c.before_first.ensures ∙ ap (newly_open config c.args.me) (ap (λ (w : Watch). w.frame_max) watch)
+
+pub both-tables-requires : goal.both-tables-requires
+both-tables-requires g c κs = ((lit< tt, (elim c.requires.capacity [ inl e ↦ rw e (lit< tt) | inr e ↦ rw e (lit< tt) ], tt)), ((λ a m. absurd (not-mem-nil m)), (λ a m. absurd (not-mem-nil m))))
+
+pub both-rooms-requires : goal.both-rooms-requires
+both-rooms-requires g c κs = ((lit< tt, (lit< tt, tt)), ((λ a m. absurd (not-mem-nil m)), (λ a m. absurd (not-mem-nil m))))
+
+pub both-requires : goal.both-requires
+both-requires g c κs = ((lit< tt, (elim c.requires.capacity [ inl e ↦ rw e (lit< tt) | inr e ↦ rw e (lit< tt) ], (lit< tt, (lit< tt, tt)))), ((λ a m. absurd (not-mem-nil m)), (λ a m. absurd (not-mem-nil m))))
+
+pub returns-in_err-done : goal.returns-in_err-done
+returns-in_err-done g c = IfOk-from_err c.from_residual.result (λ (p : NodeView g.row.N). p ≡ newly_open c.args.config.now c.args.me c.args.frame_max) c.from_residual.ensures.0
