@@ -6,7 +6,9 @@ use Rattle.frames.specs.Writing.{pasted}
 use Rattle.relaying.specs.Table.{passed_after}
 use Rattle.relaying.proofs.Rows.{next_after, apart, has_next}
 use Rattle.relaying.proofs.Overwriting.{none_over, one_over, all_over, row_room, place_low}
+use Rattle.omh.specs.Heard.{heard_in}
 use Rattle.relaying.proofs.Standing.{pasted_there}
+use Rattle.relaying.proofs.Tables.{wrapped_some}
 use Rattle.relaying.proofs.writing.write_odd.Goals as goal
 
 pub loop-node-init : goal.loop-node-init
@@ -132,3 +134,6 @@ overflow_cast-place g c =
     let on = c.requires.stands.within c.in-Some.node (c.loop-node.invariant.within c.in-Some.node (ap (λ (ms : List ℕ). has_id ms c.in-Some.node) split ∙ has_next c.loop-node.yielded c.in-Some.node c.next.new.self)) in
     let low = place_low g.row.N c.args.rest.now c.in-Some.node c.place.result c.place.ensures.ids on c.place.ensures.count in
     omega (arith, low, c.requires.can.few)
+
+pub put-requires-clause-some : goal.put-requires-clause-some
+put-requires-clause-some g c = λ e. wrapped_some (heard_in c.args.heard.now.heard c.then.result) (sym c.relay-value.ensures ∙ e)
