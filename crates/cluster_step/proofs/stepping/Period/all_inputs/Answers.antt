@@ -44,3 +44,6 @@ pub returns : goal.returns
 returns g c = λ i d low.
     let nodes : c.config.result.now.nodes ≡ c.args.self.now.scenario.now.config.nodes = ap (λ (y : Config g.row.N). y.nodes) c.config.ensures.config in
     c.loop-node.invariant.1 i d (omega (arith, low, nodes, c.loop-node-test.false))
+
+pub loop-node-smaller : goal.loop-node-smaller
+loop-node-smaller g c = omega (arith, c.loop-node-test.true)

@@ -28,3 +28,6 @@ pub returns : goal.returns
 returns g c = λ no j low.
     let nodes : c.config.result.now.nodes ≡ c.args.self.now.scenario.now.config.nodes = ap (λ (y : Config g.row.N). y.nodes) c.config.ensures.config in
     c.loop-node.invariant j (omega (arith, low, nodes, c.config.ensures.scenario.system.plan_nodes, c.loop-node-test.false))
+
+pub loop-node-smaller : goal.loop-node-smaller
+loop-node-smaller g c = omega (arith, c.loop-node-test.true)

@@ -52,3 +52,6 @@ returns-then-clean g c = λ yes' i low ne.
     clean_at sc.plan c.args.self.now.number c.args.slot c.args.from i
     (ap (λ (q : Plan). is_clean q c.args.self.now.number c.args.from) (sym c.plan-plan.ensures.plan) ∙ sym c.clean.ensures ∙ c.if-clean.true)
     (subst (λ (m : ℕ). c.args.slot < slot_count m) (sym c.plan-plan.ensures.scenario.system.plan_rounds) c.requires.slot) low ne
+
+pub loop-to-smaller : goal.loop-to-smaller
+loop-to-smaller g c = omega (arith, c.loop-to-test.true)

@@ -31,3 +31,6 @@ pub returns : goal.returns
 returns g c = λ yes' j i lj li ne.
     let nodes : c.config.result.now.nodes ≡ c.args.self.now.scenario.now.config.nodes = ap (λ (y : Config g.row.N). y.nodes) c.config.ensures.config in
     c.loop-node.invariant j i (omega (arith, lj, nodes, c.config.ensures.scenario.system.plan_nodes, c.loop-node-test.false)) li ne
+
+pub loop-node-smaller : goal.loop-node-smaller
+loop-node-smaller g c = omega (arith, c.loop-node-test.true)

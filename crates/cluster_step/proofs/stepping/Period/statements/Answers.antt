@@ -148,3 +148,6 @@ loop-i-smaller g c = omega (arith, c.loop-i-test.true)
 
 pub offset_bounds-nodes-i : goal.offset_bounds-nodes-i
 offset_bounds-nodes-i g c = omega (arith, c.loop-i-test.true)
+
+pub bounds-inputs-0 : goal.bounds-inputs-0
+bounds-inputs-0 g c = elim c.requires.capacity [ inl e ↦ rw e (lit< tt) | inr e ↦ rw e (lit< tt) ]

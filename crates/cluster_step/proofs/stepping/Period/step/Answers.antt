@@ -106,3 +106,6 @@ pub returns-clause-shown : goal.returns-clause-shown
 returns-clause-shown g c =
     let ended : slot_count c.args.self.now.scenario.now.config.m ≤ c.loop-slot.slot = omega (arith, c.loop-slot-test.false, c.slot_count-slots.ensures, ap slot_count (ap (λ (y : Config g.row.N). y.m) c.config.ensures.config)) in
     all_taken c.args.self.now.scenario.now c.args.self.now.number c.loop-slot.slot c.args.shown.now c.loop-slot.shown ended c.loop-slot.invariant.1
+
+pub loop-slot-smaller : goal.loop-slot-smaller
+loop-slot-smaller g c = omega (arith, c.loop-slot-test.true)

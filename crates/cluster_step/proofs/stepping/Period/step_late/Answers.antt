@@ -118,3 +118,6 @@ returns-clause-shown g c = c.loop-slot.invariant.1.1.0
 
 pub returns-clause-slots : goal.returns-clause-slots
 returns-clause-slots g c = c.loop-slot.invariant.1.1.1.slots
+
+pub loop-slot-smaller : goal.loop-slot-smaller
+loop-slot-smaller g c = omega (arith, c.loop-slot-test.true)

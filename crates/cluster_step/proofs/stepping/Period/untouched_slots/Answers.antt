@@ -43,3 +43,6 @@ pub returns-clause-few : goal.returns-clause-few
 returns-clause-few g c =
     let many : c.slot_count-slots.result ≡ slot_count c.args.self.now.scenario.now.config.m = c.slot_count-slots.ensures ∙ ap (λ (y : Config g.row.N). slot_count y.m) c.config.ensures.config in
     omega (arith, many)
+
+pub loop-slot-smaller : goal.loop-slot-smaller
+loop-slot-smaller g c = omega (arith, c.loop-slot-test.true)
