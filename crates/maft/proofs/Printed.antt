@@ -1,5 +1,8 @@
 -- What is written of a period is its printed text.
-use Rattle.std.proofs.Common.{◌≡◌, ℕ, ◌<◌, ◌≤◌, Bool, true, false, refl, sym, ap, subst, ◌∙◌, arith, Result, Ok, Err}
+use Rattle.std.proofs.Common.{◌≡◌, ℕ, ◌<◌, ◌≤◌, Bool, true, false, List, Option, refl, sym, ap, subst, ◌∙◌, arith, Result, Ok, Err}
+use Rattle.std.specs.Prelude.{OnOk, IsErrOf, MatchResult}
+use Rattle.std.specs.Io.KnownBytes.{Appends}
+use Rattle.span_io.specs.Causes.{Writes, AppendsPrefix, Rose}
 use Rattle.fault_classes.specs.Plan.{Plan}
 use Rattle.scenario.specs.Scenario.{ScenarioView, system_of, IsScenario}
 use Rattle.cluster_periods.specs.Record.{PeriodView, Shows, period_record}
@@ -62,6 +65,26 @@ is_ok x e h = cc
 -- and want of memory is no fault of the sink
 pub other_error : {T : Type 0} → ◌≡◌ {A = Result T ReplayError} (Err WriteFault) (Err NoMemory) → ⊥
 other_error {T = T} h = cc
+
+-- a run that is answered as its text was written
+module _ {E : Type 0} {old new : Option (List ℕ)} {before now : ℕ} {text : List ℕ} where
+  pub told_whole : (w : Result (Unit {0}) E) (r : Result (Unit {0}) ReplayError) → Writes old new before now text w → MatchResult w (λ done. r ≡ Ok done) (λ fault. r ≡ Err WriteFault) → OnOk r (Appends old new text)
+  told_whole (Ok x) r h e = subst (λ (s : Result (Unit {0}) ReplayError). OnOk s (Appends old new text)) (sym e) h.whole
+  told_whole (Err x) r h e = subst (λ (s : Result (Unit {0}) ReplayError). OnOk s (Appends old new text)) (sym e) tt
+
+  pub told_faultless : (w : Result (Unit {0}) E) (r : Result (Unit {0}) ReplayError) → Writes old new before now text w → MatchResult w (λ done. r ≡ Ok done) (λ fault. r ≡ Err WriteFault) → OnOk r (now ≡ before)
+  told_faultless (Ok x) r h e = subst (λ (s : Result (Unit {0}) ReplayError). OnOk s (now ≡ before)) (sym e) h.faultless
+  told_faultless (Err x) r h e = subst (λ (s : Result (Unit {0}) ReplayError). OnOk s (now ≡ before)) (sym e) tt
+
+  pub told_fault : (w : Result (Unit {0}) E) (r : Result (Unit {0}) ReplayError) → Writes old new before now text w → MatchResult w (λ done. r ≡ Ok done) (λ fault. r ≡ Err WriteFault)
+      → IsErrOf r WriteFault → AppendsPrefix old new text × Rose before now
+  told_fault (Ok x) r h e is = absurd (is_ok x WriteFault (sym e ∙ is))
+  told_fault (Err x) r h e is = (h.prefix, h.failed)
+
+-- and not for want of memory
+pub told_memory : {E P : Type 0} (w : Result (Unit {0}) E) (r : Result (Unit {0}) ReplayError) → MatchResult w (λ done. r ≡ Ok done) (λ fault. r ≡ Err WriteFault) → IsErrOf r NoMemory → P
+told_memory (Ok x) r e is = absurd (is_ok x NoMemory (sym e ∙ is))
+told_memory (Err x) r e is = absurd (other_error (sym e ∙ is))
 
 -- what is written of a period of a log
 pub log_printed_is : {N : ℕ} (log : RecordView N) (alone : AloneView N) (p : ℕ) (config : Config N) (id : ℕ) (shown : Outcome)

@@ -5,6 +5,7 @@ ghost use Rattle.span_io.specs.Causes.{Writes};
 ghost use Rattle.maft.specs.Alone.{log_printed, log_text, IsLogRun};
 
 use crate::ReplayError;
+use crate::replay::told;
 use node_alone::{Alone, Record};
 use run_print::{WriteFault, write_alone, write_end};
 use span_io::Sink;
@@ -68,8 +69,5 @@ pub(crate) fn write_log<const N: usize, K: Sink>(
     let Ok(mut alone) = Alone::open(alloc, log) else {
         return Err(ReplayError::NoMemory);
     };
-    let Ok(()) = write_run(log, &mut alone, sink) else {
-        return Err(ReplayError::WriteFault);
-    };
-    Ok(())
+    told(write_run(log, &mut alone, sink))
 }

@@ -1,5 +1,5 @@
 //! The run of an accepted scenario, written as it goes.
-ghost use Rattle.std.specs.Prelude.{◌≡◌, ◌+◌, ◌<◌};
+ghost use Rattle.std.specs.Prelude.{◌≡◌, ◌+◌, ◌<◌, Ok, Err, MatchResult};
 ghost use Rattle.node_grid.specs.Capacity.{IsCapacity};
 ghost use Rattle.span_io.specs.Causes.{Writes};
 ghost use Rattle.maft.specs.Run.{traced, has_frames, printed, run_text, IsRun};
@@ -68,6 +68,16 @@ fn write_run<const N: usize, K: Sink>(
     write_end(periods, sink)
 }
 
+/// What a run is answered whose text was written so.
+pub(crate) fn told(written: Result<(), WriteFault>) -> Result<(), ReplayError>
+    ensures { MatchResult written (λ done. result ≡ Ok done) (λ fault. result ≡ Err ReplayError.WriteFault) }
+{
+    match written {
+        Ok(()) => Ok(()),
+        Err(WriteFault) => Err(ReplayError::WriteFault),
+    }
+}
+
 /// Runs a scenario, and writes the text that this form has of it.
 ///
 /// # Errors
@@ -87,10 +97,7 @@ fn run_and_write<const N: usize, K: Sink>(
     let Ok(mut cluster) = Cluster::open(alloc, scenario, form.has_frames()) else {
         return Err(ReplayError::NoMemory);
     };
-    let Ok(()) = write_run(scenario, &mut cluster, periods, form, sink) else {
-        return Err(ReplayError::WriteFault);
-    };
-    Ok(())
+    told(write_run(scenario, &mut cluster, periods, form, sink))
 }
 
 /// Runs a scenario, and writes of each period its line and the lines of every node, with `trace` also a line for each

@@ -1,5 +1,5 @@
 use Rattle.std.proofs.Common.{inl, inr, lit<}
-use Rattle.maft.proofs.Printed.{is_ok}
+use Rattle.maft.proofs.Printed.{told_whole, told_faultless, told_fault, told_memory}
 use Rattle.maft.proofs.alone.write_log.Goals as goal
 
 pub open-requires : goal.open-requires
@@ -9,4 +9,7 @@ pub write_run-requires : goal.write_run-requires
 write_run-requires g c = (elim c.requires [ inl e ↦ rw e (lit< tt) | inr e ↦ rw e (lit< tt) ], (elim c.requires [ inl e ↦ rw e (lit< tt) | inr e ↦ rw e (lit< tt) ], (c.requires, c.in-Ok.ensures)))
 
 pub returns : goal.returns
-returns g c = record { written = c.in-Ok-write_run.ensures.whole; faultless = c.in-Ok-write_run.ensures.faultless; write_fault = λ e. absurd (is_ok _ _ e); no_memory = λ e. absurd (is_ok _ _ e) }
+returns g c =
+    let wrote = c.write_run.ensures in
+    let told = c.told.ensures in
+    record { written = told_whole _ _ wrote told; faultless = told_faultless _ _ wrote told; write_fault = told_fault _ _ wrote told; no_memory = told_memory _ _ told }

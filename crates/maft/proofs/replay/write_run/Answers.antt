@@ -1,4 +1,4 @@
-use Rattle.std.proofs.Common.{◌≡◌, ◌<◌, ◌+◌, arith, ap, ◌∙◌}
+use Rattle.std.proofs.Common.{◌≡◌, ◌<◌, ◌+◌, arith, ap, ◌∙◌, inl, inr, lit<}
 use Rattle.cluster_step.specs.Stepped.{ClusterView}
 use Rattle.span_io.specs.Progress.{start, more, last, fail}
 use Rattle.maft.specs.Run.{printed}
@@ -39,3 +39,16 @@ returns g c =
     let sc = c.args.scenario.now in
     let ends : c.periods.counter ≡ sc.periods = omega (arith, c.requires.periods, c.periods-test.false, c.periods.auto.counter-end) in
     last _ _ _ _ _ _ _ _ _ (rw (rest-last (printed c.args.form sc) sc.periods c.periods.counter ends) at c.periods.invariant.so_far) (rw c.requires.periods at c.write_end.ensures)
+
+pub write_next-requires : goal.write_next-requires
+write_next-requires g c =
+    let stands = c.periods.invariant in (
+      elim c.requires.capacity [ inl e ↦ rw e (lit< tt) | inr e ↦ rw e (lit< tt) ],
+      (
+        elim c.requires.capacity [ inl e ↦ rw e (lit< tt) | inr e ↦ rw e (lit< tt) ],
+        (c.requires.capacity, (stands.scenario, (stands.frames, omega (arith, stands.run, c.requires.periods, c.periods-test.true)))),
+      ),
+    )
+
+pub periods-smaller : goal.periods-smaller
+periods-smaller g c = omega (arith, c.periods-test.true)
