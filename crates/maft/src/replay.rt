@@ -12,16 +12,13 @@ use run_print::{WriteFault, write_end, write_head, write_period};
 use scenario::Scenario;
 use span_io::Sink;
 use std::alloc::Global;
-use thiserror::Error;
 
 /// Why a run was not written whole.
-#[derive(Clone, Copy, Debug, PartialEq, Eq, Error)]
+#[derive(Clone, Copy)]
 pub enum ReplayError {
     /// The sink failed, and its count of faults rose. A prefix of the text was written.
-    #[error("the output could not be written")]
     WriteFault,
     /// There was no memory for the cluster. Nothing was written.
-    #[error("out of memory")]
     NoMemory,
 }
 
