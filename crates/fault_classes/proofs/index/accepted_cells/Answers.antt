@@ -1,12 +1,16 @@
-use Rattle.std.proofs.Common.{◌≡◌, ℕ, Some, None, map, sym, ap, ◌∙◌, inl, inr, lit<, ◌<◌, length, arith}
+use Rattle.std.proofs.Common.{◌≡◌, ℕ, List, Some, None, map, sym, ap, ◌∙◌, inl, inr, lit<, ◌<◌, length, arith}
 use Rattle.std.proofs.lemmas.Result.{err_from_is_err_and}
 use Rattle.slot_plan.specs.Slots.{slot_count}
-use Rattle.fault_classes.specs.Line.{line_of}
+use Rattle.fault_classes.specs.Line.{Line, line_of}
 use Rattle.fault_classes.specs.Plan.{Plan, plan_of}
 use Rattle.fault_classes.specs.Rules.{first_bad_line}
 use Rattle.fault_classes.proofs.Refusals.{all_good, by_range, by_overlap, by_restart, by_count}
 use Rattle.std.proofs.lemmas.List.{length-map}
 use Rattle.fault_classes.proofs.index.accepted_cells.Goals as goal
+
+-- with any number of relay rounds that makes so many slots
+all_in_range : (n s t : ℕ) (ls : List Line) → first_bad_line n s t 0 ls ≡ None → (m : ℕ) → slot_count m ≡ s → first_bad_line n (slot_count m) t 0 ls ≡ None
+all_in_range n s t ls h m e = ap (λ k. first_bad_line n k t 0 ls) e ∙ h
 
 pub first_bad_line-requires : goal.first_bad_line-requires
 first_bad_line-requires g c = (lit< tt, c.requires.few_lines)
@@ -40,8 +44,7 @@ returns-in_err-cells g c =
     let s = a.shape.now.slots in
     let t = a.shape.now.periods in
     let plan : ℕ → Plan = λ m. plan_of n m t (map (line_of {n = g.row.N}) a.lines.now) a.restarts.now in
-    let in_range : (m : ℕ) → slot_count m ≡ s → first_bad_line n (slot_count m) t 0 (map (line_of {n = g.row.N}) a.lines.now) ≡ None =
-    λ m e. ap (λ k. first_bad_line n k t 0 (map (line_of {n = g.row.N}) a.lines.now)) e ∙ sym c.first_bad_line.ensures ∙ c.in_default.is in
+    let in_range = all_in_range n s t (map (line_of {n = g.row.N}) a.lines.now) (sym c.first_bad_line.ensures ∙ c.in_default.is) in
     let p = err_from_is_err_and c.from_residual.result c.from_residual.ensures.1 in
     rw (p.1, p.2) (elim c.in_err-cells.ensures [
       | inl none ↦ inl none
@@ -55,8 +58,7 @@ returns-in-Some-first_bad_restart g c =
     let s = a.shape.now.slots in
     let t = a.shape.now.periods in
     let plan : ℕ → Plan = λ m. plan_of n m t (map (line_of {n = g.row.N}) a.lines.now) a.restarts.now in
-    let in_range : (m : ℕ) → slot_count m ≡ s → first_bad_line n (slot_count m) t 0 (map (line_of {n = g.row.N}) a.lines.now) ≡ None =
-    λ m e. ap (λ k. first_bad_line n k t 0 (map (line_of {n = g.row.N}) a.lines.now)) e ∙ sym c.first_bad_line.ensures ∙ c.in_default.is in
+    let in_range = all_in_range n s t (map (line_of {n = g.row.N}) a.lines.now) (sym c.first_bad_line.ensures ∙ c.in_default.is) in
     inr (λ m e. by_restart (plan m) c.in-Some-first_bad_restart.place (in_range m e) c.in_ok-cells.ensures.1 (sym c.first_bad_restart.ensures ∙ c.in-Some-first_bad_restart.is))
 
 pub returns-then-lines-gt-MOST_LINES : goal.returns-then-lines-gt-MOST_LINES
@@ -66,8 +68,7 @@ returns-then-lines-gt-MOST_LINES g c =
     let s = a.shape.now.slots in
     let t = a.shape.now.periods in
     let plan : ℕ → Plan = λ m. plan_of n m t (map (line_of {n = g.row.N}) a.lines.now) a.restarts.now in
-    let in_range : (m : ℕ) → slot_count m ≡ s → first_bad_line n (slot_count m) t 0 (map (line_of {n = g.row.N}) a.lines.now) ≡ None =
-    λ m e. ap (λ k. first_bad_line n k t 0 (map (line_of {n = g.row.N}) a.lines.now)) e ∙ sym c.first_bad_line.ensures ∙ c.in_default.is in
+    let in_range = all_in_range n s t (map (line_of {n = g.row.N}) a.lines.now) (sym c.first_bad_line.ensures ∙ c.in_default.is) in
     let many : 4096 < length (map (line_of {n = g.row.N}) a.lines.now) = omega (arith, c.if-lines-gt-MOST_LINES.true, length-map a.lines.now (line_of {n = g.row.N})) in
     inr (λ m e. by_count (plan m) (in_range m e) c.in_ok-cells.ensures.1 (sym c.first_bad_restart.ensures ∙ c.in_default-first_bad_restart.is) many)
 
