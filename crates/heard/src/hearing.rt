@@ -68,14 +68,14 @@ impl<V: Value, const N: usize> Heard<V, N> {
           heard = nothing_heard [] 0 m;
         }) }
     {
-        let Ok(store) = Store::open(alloc, nodes, m) else {
-            return Err(NoMemory);
-        };
         let none = NodeSet::empty();
         let Ok(doubted) = copies(alloc, &none, nodes as usize) else {
             return Err(NoMemory);
         };
         let Ok(scratch) = unheard(alloc, 48) else {
+            return Err(NoMemory);
+        };
+        let Ok(store) = Store::open(alloc, nodes, m) else {
             return Err(NoMemory);
         };
         Ok(Heard {
