@@ -49,12 +49,3 @@ relays_expected-is_expected-requires g c = assumption
 
 pub echoing_before-echoing-requires : goal.echoing_before-echoing-requires
 echoing_before-echoing-requires g c = (assumption, (lit< tt, (c.relays_expected-is_expected.ensures.no, c.requires.round)))
-
-pub write_block-requires : goal.write_block-requires
-write_block-requires g c =
-    let h = c.args.heard.now in
-    let s : List ℕ = c.args.set.now in
-    let low : c.loop-i.i < length s = omega (arith, c.loop-i-test.true, c.len-i-end.ensures.count) in
-    let can = subst (CanWrite (g.V.Item.width h.nodes) (g.V.Item.spelling h.nodes) h s c.args.round) (sym c.loop-i.auto.out) c.requires.can in
-    let come = c.relays_expected-is_expected.ensures in
-    (assumption, (lit< tt, (low, (c.requires.within, (come.yes, (come.no, (c.echoing_before-echoing.ensures, (c.requires.round, can))))))))
