@@ -27,8 +27,5 @@ returns g c =
     c.write_passed.ensures ∙ ap (λ xs. pasted 0 (flat_map (g.V.Item.spelling h.nodes) xs) c.copy_guessed.new.out) p.own
     ∙ ap (pasted 0 (flat_map (g.V.Item.spelling h.nodes) (relays h c.args.round))) (c.copy_guessed.ensures.no c.if-copy_guessed.false)
 
-pub copy_guessed-requires : goal.copy_guessed-requires
-copy_guessed-requires g c = (lit< tt, (assumption, (c.requires.nodes, (c.requires.some_round, (c.requires.round, (c.requires.member, (c.requires.slot, (c.requires.echoed, c.requires.room))))))))
-
 pub returns-then-copy_guessed : goal.returns-then-copy_guessed
 returns-then-copy_guessed g c = c.copy_guessed.ensures.yes c.if-copy_guessed.true

@@ -12,14 +12,6 @@ returns-then-not-has g c =
     let off : has_id h.members h.me ≡ false = ap (λ (ms : List ℕ). has_id ms h.me) (sym c.members-members.ensures.members) ∙ ap (has_id c.members-members.result) (sym c.me-me.ensures.me) ∙ sym c.if-not-has.ensures in
     sym (pasted_nothing 0 c.args.out.now) ∙ ap (λ xs. pasted 0 (flat_map (g.V.Item.spelling h.nodes) xs) c.args.out.now) (sym (no_entries h c.args.round off))
 
-pub write_entries-requires : goal.write_entries-requires
-write_entries-requires g c =
-    let h = c.args.heard.now in
-    let members = c.members-members.ensures.members in
-    let me = c.me-me.ensures.me in
-    let member : has_id h.members h.me ≡ true = ap₂ has_id (sym members) (sym me) ∙ sym c.if-not-has.ensures in
-    (lit< tt, (assumption, (lit< tt, (c.requires.nodes, (c.requires.some_round, (c.requires.round, (c.members-members.ensures.rounds, (subst (IsIdSet g.row.N) members c.members-members.ensures.ids, (member, (c.without-others.ensures ∙ ap₂ without_id members me, (c.requires.slot, (c.requires.echoed, c.requires.room))))))))))))
-
 pub members-members-requires : goal.members-members-requires
 members-members-requires g c = (assumption, lit< tt)
 

@@ -57,9 +57,6 @@ len-i-end-requires g c = lit< tt
 pub at-requires : goal.at-requires
 at-requires g c = (lit< tt, omega (arith, c.loop-i-test.true, c.len-i-end.ensures.count))
 
-pub root_passed-value-requires : goal.root_passed-value-requires
-root_passed-value-requires g c = (assumption, (c.requires.round, (c.requires.few, c.requires.own)))
-
 pub put-requires-clause-capacity : goal.put-requires-clause-capacity
 put-requires-clause-capacity g c = c.nodes-nodes.ensures.capacity
 

@@ -79,6 +79,3 @@ nodes-requires g c = assumption
 
 pub len-requires : goal.len-requires
 len-requires g c = lit< tt
-
-pub odd_behind-odd-requires : goal.odd_behind-odd-requires
-odd_behind-odd-requires g c = (assumption, (lit< tt, (c.nodes.ensures.capacity, (c.requires.can.some, (c.requires.can.paths, c.requires.echoing)))))
