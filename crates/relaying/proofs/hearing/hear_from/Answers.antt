@@ -26,8 +26,3 @@ returns-then-round-eq0-clause-heard g c =
     ∙ ap (λ (v : Wrapped g.row.V.Denot). record t { heard = map (with_heard (q ∷ []) v) t.heard }) c.first_told.ensures
     ∙ first_put g.V.Item.form t.members t.me q w t c.requires.other
     ∙ ap (λ (r : ℕ). told_from g.V.Item.form w r q t) (sym c.if-round-eq0.true)
-
-pub hear_relay-requires : goal.hear_relay-requires
-hear_relay-requires g c =
-    let some : 0 < c.args.round = omega (arith, c.if-round-eq0.false) in
-    (omega arith, (omega arith, (c.requires.capacity, (c.requires.low, (c.requires.watching, (c.requires.echoed some, (c.requires.sender, (c.requires.other, (some, (c.requires.round, (c.requires.brings, (c.requires.room, c.requires.ids))))))))))))

@@ -12,10 +12,6 @@ use Rattle.relaying.proofs.hearing.hear_told.Goals as goal
 no_less : (n : ℕ) → n ≤ n
 no_less n = omega arith
 
-pub hear_expected-requires : goal.hear_expected-requires
-hear_expected-requires g c =
-    (omega arith, (omega arith, (c.requires.widths, (c.requires.sender, (c.requires.some_round, (c.requires.round, c.requires.brings))))))
-
 pub read_entries-read-requires : goal.read_entries-read-requires
 read_entries-read-requires g c =
     let same = sym c.nodes-nodes.ensures.nodes in (

@@ -113,9 +113,6 @@ paths_of_each-width-requires g c = (lit< tt, (c.nodes-nodes.ensures.capacity, (c
 pub at-c-requires : goal.at-c-requires
 at-c-requires g c = (lit< tt, c.requires.member)
 
-pub root_passed-value-requires : goal.root_passed-value-requires
-root_passed-value-requires g c = (assumption, (c.requires.round, (c.requires.can.few, c.requires.can.own)))
-
 pub put_same-requires-clause-capacity : goal.put_same-requires-clause-capacity
 put_same-requires-clause-capacity g c = c.nodes-nodes.ensures.capacity
 
