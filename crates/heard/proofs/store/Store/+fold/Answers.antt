@@ -1,4 +1,4 @@
-use Rattle.std.proofs.Common.{◌≡◌, ◌<◌, ◌≤◌, ◌+◌, ◌-◌, length, map, take, refl, sym, ap, subst, ◌∙◌, arith, rules}
+use Rattle.std.proofs.Common.{ℕ, ◌≡◌, ◌<◌, ◌≤◌, ◌+◌, ◌-◌, length, map, take, refl, sym, ap, subst, ◌∙◌, arith, rules, lit<}
 use Rattle.std.proofs.lemmas.List.{take_all, length_push, length-take-le}
 use Rattle.node_grid.specs.NodeSet.{has_id}
 use Rattle.omh_paths.specs.Paths.{outside}
@@ -19,23 +19,30 @@ use Rattle.heard.proofs.Folds.{fold_end, fold_later, term_me, term_other, terms_
 use Rattle.heard.proofs.store.Store.+fold.Goals.{then-q-self, else-q-self}
 use Rattle.heard.proofs.store.Store.+fold.Goals as goal
 
+-- the places of the loop, and how long the path is
+low_in : (k count n : ℕ) → k < count → count ≡ n → k < n
+low_in k count n low is = omega arith
+
+deep_in : (len n was now : ℕ) → len ≤ was → len ≡ n → was ≡ now → n ≤ now
+deep_in len n was now few is same = omega arith
+
+room_in : (k count n size front : ℕ) → n ≤ 16 → count ≡ n → k < count → size ≡ front → front ≡ 16 → k < size
+room_in k count n size front few is low same all = omega arith
+
 pub returns-then-len-self : goal.returns-then-len-self
 returns-then-len-self g t c =
-    let s = c.self.inside in
     let k = c.args.self.now in
     let v = c.self.view_is in
-    let h : IsStored g.row.N k = subst (IsStored g.row.N) v c.self.invariant in
     let path = c.args.path.now in
     fold_end g.V.PartialEq.eq (kept_ear k) path c.at-heard.result (omega (arith, c.if-len-self.true, c.len.ensures.count, ap (λ x. x.rounds) v)) c.at-heard.ensures.kept
 
 pub outside-others-requires : goal.outside-others-requires
 outside-others-requires g t c =
-    let s = c.self.inside in
     let k = c.args.self.now in
     let v = c.self.view_is in
     let h : IsStored g.row.N k = subst (IsStored g.row.N) v c.self.invariant in
     let path = c.args.path.now in
-    (omega arith, λ q on. let l = h.low q (c.requires.path.within q on) in let n = h.nodes_ok in omega arith)
+    (lit< tt, λ q on. let l = h.low q (c.requires.path.within q on) in let n = h.nodes_ok in omega arith)
 
 pub returns-then-is_echoed : goal.returns-then-is_echoed
 returns-then-is_echoed g t c =
@@ -52,27 +59,23 @@ returns-then-is_echoed g t c =
 
 pub then-requires-clause-off : goal.then-requires-clause-off
 then-requires-clause-off g t c =
-    let s = c.self.inside in
     let k = c.args.self.now in
     let v = c.self.view_is in
-    let h : IsStored g.row.N k = subst (IsStored g.row.N) v c.self.invariant in
     let path = c.args.path.now in
-    let here : c.loop-k.k < length c.outside-others.result = omega (arith, c.loop-k-test.true, c.len-count.ensures.count) in
+    let here : c.loop-k.k < length c.outside-others.result = low_in _ _ _ c.loop-k-test.true c.len-count.ensures.count in
     let o : c.outside-others.result ≡ outside k.members path = c.outside-others.ensures ∙ ap (λ x. outside x.members path) v in
     let out = has_outside k.members path c.at-q.result (ap (λ t. has_id t c.at-q.result) (sym o) ∙ ap (has_id c.outside-others.result) c.at-q.ensures ∙ has-at c.outside-others.result c.loop-k.k 0 here) in
     out.1
 
 pub fold-term-requires : goal.fold-term-requires
 fold-term-requires g t c =
-    let s = c.self.inside in
     let k = c.args.self.now in
     let v = c.self.view_is in
-    let h : IsStored g.row.N k = subst (IsStored g.row.N) v c.self.invariant in
     let path = c.args.path.now in
-    let here : c.loop-k.k < length c.outside-others.result = omega (arith, c.loop-k-test.true, c.len-count.ensures.count) in
+    let here : c.loop-k.k < length c.outside-others.result = low_in _ _ _ c.loop-k-test.true c.len-count.ensures.count in
     let o : c.outside-others.result ≡ outside k.members path = c.outside-others.ensures ∙ ap (λ x. outside x.members path) v in
     let out = has_outside k.members path c.at-q.result (ap (λ t. has_id t c.at-q.result) (sym o) ∙ ap (has_id c.outside-others.result) c.at-q.ensures ∙ has-at c.outside-others.result c.loop-k.k 0 here) in
-    let deep : length path ≤ k.rounds = omega (arith, c.if-len-self.false, c.len.ensures.count, ap (λ x. x.rounds) v) in
+    let deep : length path ≤ k.rounds = deep_in _ _ _ _ c.if-len-self.false c.len.ensures.count (ap (λ x. x.rounds) v) in
     let l : length c.then.result ≡ length path + 1 = ap length c.then.ensures ∙ length_push path c.at-q.result in
     λ κs e. (
       omega (arith, c.decreases, l, deep),
@@ -97,18 +100,17 @@ fold-term-requires g t c =
 
 pub loop-k-preserved : goal.loop-k-preserved
 loop-k-preserved g t c =
-    let s = c.self.inside in
     let k = c.args.self.now in
     let v = c.self.view_is in
     let h : IsStored g.row.N k = subst (IsStored g.row.N) v c.self.invariant in
     let path = c.args.path.now in
-    let deep : length path ≤ k.rounds = omega (arith, c.if-len-self.false, c.len.ensures.count, ap (λ x. x.rounds) v) in
+    let deep : length path ≤ k.rounds = deep_in _ _ _ _ c.if-len-self.false c.len.ensures.count (ap (λ x. x.rounds) v) in
     let x = kept_ear k in
     let f = term_in g.V.PartialEq.eq x (k.rounds - length path) path in
     let q = c.at-q.result in
     let few = few_ids g.row.N c.outside-others.result h.capacity_ok c.len-count.ensures.ids in
-    let here : c.loop-k.k < length c.outside-others.result = omega (arith, c.loop-k-test.true, c.len-count.ensures.count) in
-    let room : c.loop-k.k < length c.loop-k.terms = omega (arith, few, c.len-count.ensures.count, c.loop-k-test.true, c.loop-k.auto.terms, c.split_at_mut-terms.ensures.front_len) in
+    let here : c.loop-k.k < length c.outside-others.result = low_in _ _ _ c.loop-k-test.true c.len-count.ensures.count in
+    let room : c.loop-k.k < length c.loop-k.terms = room_in _ _ _ _ _ few c.len-count.ensures.count c.loop-k-test.true c.loop-k.auto.terms c.split_at_mut-terms.ensures.front_len in
     let is : c.if-q-self.term ≡ f q =
     elim c.if-q-self.branch [
       | then-q-self w ↦
@@ -126,12 +128,10 @@ unwrap-requires g t c =
 
 pub returns : goal.returns
 returns g t c =
-    let s = c.self.inside in
     let k = c.args.self.now in
     let v = c.self.view_is in
-    let h : IsStored g.row.N k = subst (IsStored g.row.N) v c.self.invariant in
     let path = c.args.path.now in
-    let deep : length path ≤ k.rounds = omega (arith, c.if-len-self.false, c.len.ensures.count, ap (λ x. x.rounds) v) in
+    let deep : length path ≤ k.rounds = deep_in _ _ _ _ c.if-len-self.false c.len.ensures.count (ap (λ x. x.rounds) v) in
     let x = kept_ear k in
     let n : take c.loop-k.k c.loop-k.terms ≡ take c.len-count.result c.loop-k.terms = ap (λ i. take i c.loop-k.terms) (omega (arith, c.loop-k-test.false, c.loop-k.auto.k-end)) in
     let all : take c.loop-k.k c.outside-others.result ≡ outside k.members path =
@@ -140,13 +140,13 @@ returns g t c =
     (sym n ∙ c.loop-k.invariant ∙ ap (map (term_in g.V.PartialEq.eq x (k.rounds - length path) path)) all) c.majority.ensures c.unwrap.ensures
 
 pub at-heard-requires : goal.at-heard-requires
-at-heard-requires g t c = (omega arith, c.requires.path)
+at-heard-requires g t c = (lit< tt, c.requires.path)
 
 pub at-q-requires : goal.at-q-requires
-at-q-requires g t c = (omega arith, omega (arith, c.loop-k-test.true, c.len-count.ensures.count))
+at-q-requires g t c = (lit< tt, low_in _ _ _ c.loop-k-test.true c.len-count.ensures.count)
 
 pub is_echoed-requires : goal.is_echoed-requires
-is_echoed-requires g t c = (omega arith, (omega arith, (omega (arith, c.len-2.ensures.some), omega (arith, c.if-len-self.false, c.len.ensures.count, c.len-2.ensures.count, ap (λ x. x.rounds) c.self.view_is))))
+is_echoed-requires g t c = (lit< tt, (lit< tt, (c.len-2.ensures.some, deep_in _ _ _ _ c.if-len-self.false (c.len.ensures.count ∙ sym c.len-2.ensures.count) (ap (λ x. x.rounds) c.self.view_is))))
 
 pub majority-requires : goal.majority-requires
 majority-requires g t c = g.met.V.Value.exact
@@ -163,11 +163,11 @@ slice_bounds-majority-end-2 g t c = sym (length-take-le c.len-count.result c.loo
 
 pub split_at_mut-terms-requires : goal.split_at_mut-terms-requires
 split_at_mut-terms-requires g t c =
-    let deep : length c.args.path.now ≤ c.args.self.now.rounds = omega (arith, c.if-len-self.false, c.len.ensures.count, ap (λ x. x.rounds) c.self.view_is) in
+    let deep : length c.args.path.now ≤ c.args.self.now.rounds = deep_in _ _ _ _ c.if-len-self.false c.len.ensures.count (ap (λ x. x.rounds) c.self.view_is) in
     omega (arith, deep, c.requires.room)
 
 pub then-requires-clause-room : goal.then-requires-clause-room
 then-requires-clause-room g t c =
     let h : IsStored g.row.N c.args.self.now = subst (IsStored g.row.N) c.self.view_is c.self.invariant in
-    let deep : length c.args.path.now ≤ c.args.self.now.rounds = omega (arith, c.if-len-self.false, c.len.ensures.count, ap (λ x. x.rounds) c.self.view_is) in
+    let deep : length c.args.path.now ≤ c.args.self.now.rounds = deep_in _ _ _ _ c.if-len-self.false c.len.ensures.count (ap (λ x. x.rounds) c.self.view_is) in
     omega (arith, deep, h.rounds_ok)
