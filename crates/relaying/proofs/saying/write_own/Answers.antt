@@ -1,6 +1,6 @@
-use Rattle.std.proofs.Common.{ℕ, List, ◌≡◌, true, false, sym, ap, ap₂, ◌∙◌, lit<, subst}
+use Rattle.std.proofs.Common.{ℕ, List, ◌≡◌, false, sym, ap, ◌∙◌, lit<}
 use Rattle.std.specs.List.{flat_map}
-use Rattle.node_grid.specs.NodeSet.{has_id, without_id, IsIdSet}
+use Rattle.node_grid.specs.NodeSet.{has_id}
 use Rattle.frames.specs.Writing.{pasted}
 use Rattle.frames.specs.PieceLaws.{pasted_nothing}
 use Rattle.relaying.proofs.Framing.{no_entries}

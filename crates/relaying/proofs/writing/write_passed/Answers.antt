@@ -1,6 +1,5 @@
-use Rattle.std.proofs.Common.{ℕ, List, ◌<◌, length, refl, sym, subst, arith, lit<}
+use Rattle.std.proofs.Common.{ℕ, List, ◌<◌, length, refl, arith, lit<}
 use Rattle.omh_paths.specs.MemberLaws.{Distinct-ids}
-use Rattle.relaying.specs.Table.{CanWrite}
 use Rattle.relaying.proofs.Blocks.{no_blocks, more_blocks, last_block}
 use Rattle.relaying.proofs.writing.write_passed.Goals as goal
 
