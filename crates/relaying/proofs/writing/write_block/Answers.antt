@@ -22,26 +22,25 @@ overflow_mul-i g c =
     let a = row_le c.args.i (length c.args.set.now) c.paths_of_each-width.result c.requires.member in
     omega (arith, a, e.whole, e.small)
 
-pub put_same-requires-clause-some : goal.put_same-requires-clause-some
-put_same-requires-clause-some g c = times_some c.args.round (root_of c.args.heard.now c.at-c.result) c.root_passed-value.result c.requires.can.some_round c.root_passed-value.ensures
-
-pub put_same-requires-clause-small : goal.put_same-requires-clause-small
-put_same-requires-clause-small g c =
-    let e = c.paths_of_each-width.ensures in
-    let a = row_le c.args.i (length c.args.set.now) c.paths_of_each-width.result c.requires.member in
-    omega (arith, a, e.whole, e.small)
-
-pub put_same-requires-clause-room : goal.put_same-requires-clause-room
-put_same-requires-clause-room g c =
+pub put_same-requires : goal.put_same-requires
+put_same-requires g c =
     let h = c.args.heard.now in
     let s : List ℕ = c.args.set.now in
     let w : ℕ = g.V.Item.width h.nodes in
     let i : ℕ = c.args.i in
     let size : ℕ = length c.args.out.now in
-    let d = Distinct-ids g.row.N s c.paths_of_each-width.ensures.ids in
+    let e = c.paths_of_each-width.ensures in
+    let a = row_le c.args.i (length c.args.set.now) c.paths_of_each-width.result c.requires.member in
+    let d = Distinct-ids g.row.N s e.ids in
     let room = block_room h w (g.V.Item.spelling h.nodes) s c.args.round size d c.requires.can i c.requires.member in
-    subst (λ (n : ℕ). g.V.Item.width n * (i * c.paths_of_each-width.result + c.paths_of_each-width.result) ≤ size) (sym c.nodes-nodes.ensures.nodes)
-    (subst (λ (k : ℕ). w * (i * k + k) ≤ size) (sym c.paths_of_each-width.ensures.width) room)
+    record {
+      capacity = c.nodes-nodes.ensures.capacity;
+      some = times_some c.args.round (root_of h c.at-c.result) c.root_passed-value.result c.requires.can.some_round c.root_passed-value.ensures;
+      nodes = c.nodes-nodes.ensures.few;
+      small = omega (arith, a, e.whole, e.small);
+      room = subst (λ (n : ℕ). g.V.Item.width n * (i * c.paths_of_each-width.result + c.paths_of_each-width.result) ≤ size) (sym c.nodes-nodes.ensures.nodes)
+          (subst (λ (k : ℕ). w * (i * k + k) ≤ size) (sym e.width) room);
+    }
 
 pub write_rows-requires : goal.write_rows-requires
 write_rows-requires g c =
@@ -112,12 +111,6 @@ paths_of_each-width-requires g c = (lit< tt, (c.nodes-nodes.ensures.capacity, (c
 
 pub at-c-requires : goal.at-c-requires
 at-c-requires g c = (lit< tt, c.requires.member)
-
-pub put_same-requires-clause-capacity : goal.put_same-requires-clause-capacity
-put_same-requires-clause-capacity g c = c.nodes-nodes.ensures.capacity
-
-pub put_same-requires-clause-nodes : goal.put_same-requires-clause-nodes
-put_same-requires-clause-nodes g c = c.nodes-nodes.ensures.few
 
 pub is_empty-requires : goal.is_empty-requires
 is_empty-requires g c = lit< tt

@@ -71,9 +71,6 @@ returns g c =
     let filled = subst (λ (n : ℕ). IsFilledWith w (spell v) from n c.args.out.now c.put_same.new.out) c.len.ensures.count nodes in
     row_over w spell (passed_behind h front rest) (spell v) from (length rest) c.args.out.now c.put_same.new.out c.write_odd.new.out c.requires.can.wide (length-map rest (passed_after h front)) c.requires.can.room filled c.write_odd.ensures
 
-pub passed_on-requires : goal.passed_on-requires
-passed_on-requires g c = (assumption, (c.requires.can.own, c.requires.can.small))
-
 pub nodes-requires : goal.nodes-requires
 nodes-requires g c = assumption
 
