@@ -35,36 +35,6 @@ fn can_pass<V: Item<N>, const N: usize>(said: &Wrapped<V>, expect: &Expect<N>, r
     }
 }
 
-/// Writes what was said of a path that the node itself is on, as what the others pass on of it,
-/// where they can.
-fn write_said<V: Item<N>, const N: usize>(
-    heard: &Heard<V, N>,
-    expect: &Expect<N>,
-    path: &Path,
-    said: &Option<Wrapped<V>>,
-    out: &mut [u8],
-)
-    requires slot { IsRoundOf N V.kind V.in_range (length path.now) heard.now (expected expect.now) }
-    requires on { has_id path.now heard.now.me ≡ true }
-    requires within { (q : ℕ) → has_id path.now q ≡ true → has_id heard.now.members q ≡ true }
-    requires small { IfSome said.now (IsSmall 7) }
-    requires table { HasGuess (V.in_range (expected expect.now)) (V.spelling heard.now.nodes)
-        (length path.now) heard.now out.old }
-    ensures table { HasGuess (V.in_range (expected expect.now)) (V.spelling heard.now.nodes)
-        (length path.now) heard.now out.new }
-    ensures length { length out.new ≡ length out.old }
-{
-    let Some(said) = said else {
-        return;
-    };
-    let nodes = heard.nodes();
-    if !can_pass(said, expect, path.len()) {
-        return;
-    }
-    let place = rank(&heard.members(), path);
-    V::put(out, nodes, place, &said.wrap());
-}
-
 /// What the last node of a path said for the path before it, where that is known, and else what is
 /// passed on of that path, of which `before` was said.
 fn said_of<V: Item<N>, const N: usize>(
@@ -84,6 +54,36 @@ fn said_of<V: Item<N>, const N: usize>(
     }
 }
 
+/// Writes what was said of a path that the node itself is on, as what the others pass on of it,
+/// where they can. Of the path without its last node `before` was said.
+fn write_said<V: Item<N>, const N: usize>(
+    heard: &Heard<V, N>,
+    expect: &Expect<N>,
+    path: &Path,
+    before: &Option<Wrapped<V>>,
+    out: &mut [u8],
+)
+    requires slot { IsRoundOf N V.kind V.in_range (length path.now) heard.now (expected expect.now) }
+    requires on { has_id path.now heard.now.me ≡ true }
+    requires within { (q : ℕ) → has_id path.now q ≡ true → has_id heard.now.members q ≡ true }
+    requires small { IfSome before.now (IsSmall 6) }
+    requires table { HasGuess (V.in_range (expected expect.now)) (V.spelling heard.now.nodes)
+        (length path.now) heard.now out.old }
+    ensures table { HasGuess (V.in_range (expected expect.now)) (V.spelling heard.now.nodes)
+        (length path.now) heard.now out.new }
+    ensures length { length out.new ≡ length out.old }
+{
+    let Some(said) = said_of(heard, before, path) else {
+        return;
+    };
+    let nodes = heard.nodes();
+    if !can_pass(&said, expect, path.len()) {
+        return;
+    }
+    let place = rank(&heard.members(), path);
+    V::put(out, nodes, place, &said.wrap());
+}
+
 /// Writes what each other member said of the node itself.
 fn write_pairs<V: Item<N>, const N: usize>(heard: &Heard<V, N>, expect: &Expect<N>, out: &mut [u8])
     requires slot { IsRoundOf N V.kind V.in_range 2 heard.now (expected expect.now) }
@@ -98,7 +98,7 @@ fn write_pairs<V: Item<N>, const N: usize>(heard: &Heard<V, N>, expect: &Expect<
     let others = heard.members().without(me);
     for i in 0..others.len() {
         let path = Path::root(me).then(others.at(i));
-        write_said(heard, expect, &path, &said_of(heard, &None, &path), out);
+        write_said(heard, expect, &path, &None, out);
     }
 }
 
@@ -126,9 +126,9 @@ fn write_triples_of<V: Item<N>, const N: usize>(
     for i in 0..others.len() {
         let y = others.at(i);
         let near = front.then(y);
-        write_said(heard, expect, &near, &said_of(heard, &before, &near), out);
+        write_said(heard, expect, &near, &before, out);
         let far = back.then(y);
-        write_said(heard, expect, &far, &said_of(heard, &None, &far), out);
+        write_said(heard, expect, &far, &None, out);
     }
 }
 

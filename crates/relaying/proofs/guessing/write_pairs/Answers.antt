@@ -24,7 +24,7 @@ write_said-requires g c =
         assumption,
         (
           subst (λ (n : ℕ). IsRoundOf g.row.N g.V.Item.kind g.V.Item.in_range n h e) (sym own.long) c.requires.slot,
-          (own.on, (own.within, (c.said_of.ensures.small, subst (λ (n : ℕ). HasGuess (g.V.Item.in_range e) (g.V.Item.spelling h.nodes) n h c.loop-i.out) (sym own.long) c.loop-i.invariant))),
+          (own.on, (own.within, (tt, subst (λ (n : ℕ). HasGuess (g.V.Item.in_range e) (g.V.Item.spelling h.nodes) n h c.loop-i.out) (sym own.long) c.loop-i.invariant))),
         ),
       ),
     )
@@ -41,9 +41,6 @@ me-me-requires g c = assumption
 
 pub members-requires : goal.members-requires
 members-requires g c = (assumption, lit< tt)
-
-pub said_of-requires : goal.said_of-requires
-said_of-requires g c = (assumption, tt)
 
 pub without-others-requires : goal.without-others-requires
 without-others-requires g c = (lit< tt, c.me-me.ensures.low)

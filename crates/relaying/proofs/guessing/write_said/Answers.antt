@@ -1,5 +1,4 @@
 use Rattle.std.proofs.Common.{ℕ, List, lit<, refl, ◌≡◌, ◌<◌, ◌≤◌, ◌+◌, ◌*◌, true, length, sym, ap, subst, ◌∙◌}
-use Rattle.std.specs.Prelude.{IfSome}
 use Rattle.omh_paths.specs.Paths.{paths_of_length, path_count, place_in}
 use Rattle.node_grid.specs.NodeSet.{has_id}
 use Rattle.node_grid.specs.Count.{Distinct}
@@ -8,7 +7,6 @@ use Rattle.omh_paths.specs.MemberLaws.{Distinct-ids}
 use Rattle.frames.specs.Content.{IsEntry}
 use Rattle.frames.specs.Seen.{expected}
 use Rattle.frames.specs.Writing.{pasted}
-use Rattle.heard.specs.Keep.{IsSmall}
 use Rattle.heard.specs.Places.{small_known}
 use Rattle.relaying.proofs.Tables.{wrapped_some}
 use Rattle.relaying.proofs.Tabling.{room_for, entry_put}
@@ -76,7 +74,7 @@ pub len-requires : goal.len-requires
 len-requires g c = tt
 
 pub wrap-requires : goal.wrap-requires
-wrap-requires g c = small_known 7 c.in-Some.said (lit< tt) (subst (λ o. IfSome o (IsSmall 7)) c.in-Some.is c.requires.small)
+wrap-requires g c = small_known 7 c.in-Some.said (lit< tt) c.in-Some.ensures.small
 
 pub put-requires-clause-some : goal.put-requires-clause-some
 put-requires-clause-some g c = λ e. wrapped_some c.in-Some.said (sym c.wrap.ensures ∙ e)

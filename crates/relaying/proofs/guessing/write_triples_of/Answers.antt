@@ -39,7 +39,7 @@ write_said-requires g c =
         assumption,
         (
           subst (λ (n : ℕ). IsRoundOf g.row.N g.V.Item.kind g.V.Item.in_range n h e) (sym own.long) c.requires.slot,
-          (own.on, (own.within, (c.said_of.ensures.small, subst (λ (n : ℕ). HasGuess (g.V.Item.in_range e) (g.V.Item.spelling h.nodes) n h c.loop-i.out) (sym own.long) c.loop-i.invariant))),
+          (own.on, (own.within, (c.passed_by-before.ensures.small, subst (λ (n : ℕ). HasGuess (g.V.Item.in_range e) (g.V.Item.spelling h.nodes) n h c.loop-i.out) (sym own.long) c.loop-i.invariant))),
         ),
       ),
     )
@@ -67,7 +67,7 @@ write_said-requires-in-loop-i g c =
         assumption,
         (
           subst (λ (n : ℕ). IsRoundOf g.row.N g.V.Item.kind g.V.Item.in_range n h e) (sym own.long) c.requires.slot,
-          (own.on, (own.within, (c.said_of-in-loop-i.ensures.small, subst (λ (n : ℕ). HasGuess (g.V.Item.in_range e) (g.V.Item.spelling h.nodes) n h c.write_said.new.out) (near ∙ sym own.long) c.write_said.ensures.table))),
+          (own.on, (own.within, (tt, subst (λ (n : ℕ). HasGuess (g.V.Item.in_range e) (g.V.Item.spelling h.nodes) n h c.write_said.new.out) (near ∙ sym own.long) c.write_said.ensures.table))),
         ),
       ),
     )
@@ -87,12 +87,6 @@ members-requires g c = (assumption, lit< tt)
 
 pub passed_by-before-requires : goal.passed_by-before-requires
 passed_by-before-requires g c = assumption
-
-pub said_of-requires : goal.said_of-requires
-said_of-requires g c = (assumption, c.passed_by-before.ensures.small)
-
-pub said_of-requires-in-loop-i : goal.said_of-requires-in-loop-i
-said_of-requires-in-loop-i g c = (assumption, tt)
 
 pub without-requires : goal.without-requires
 without-requires g c = (lit< tt, c.me-me.ensures.low)
