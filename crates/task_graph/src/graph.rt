@@ -6,19 +6,43 @@ ghost use Rattle.task_graph.specs.Refusal.{IsRefusal};
 use crate::Task;
 use crate::cycles::first_cyclic;
 use crate::range::first_out_of_range;
+use std::error::Error;
+use std::fmt;
 use std::marker::Model;
-use thiserror::Error;
 
 /// Why tasks make no graph. The number is the least task at fault.
-#[derive(Clone, Copy, Debug, PartialEq, Eq, Error)]
+#[derive(Clone, Copy, PartialEq, Eq)]
 pub enum GraphError {
     /// A task is out of range: its number, its predecessors, its nodes, its need or its run times.
-    #[error("a task is out of range")]
     Range(u8),
     /// All tasks are in range, and this one comes after itself by a chain of predecessors.
-    #[error("a task comes after itself")]
     Cycle(u8),
 }
+
+impl GraphError {
+    /// What is wrong, without the task.
+    fn text(&self) -> &'static str {
+        match self {
+            GraphError::Range(_) => "a task is out of range",
+            GraphError::Cycle(_) => "a task comes after itself",
+        }
+    }
+}
+
+impl fmt::Display for GraphError {
+    fn fmt<W: fmt::Write>(&self, f: &mut fmt::Formatter<W>) -> fmt::Result {
+        f.write_str(self.text())
+    }
+}
+
+// The same text.
+impl fmt::Debug for GraphError {
+    fn fmt<W: fmt::Write>(&self, f: &mut fmt::Formatter<W>) -> fmt::Result {
+        f.write_str(self.text())
+    }
+}
+
+impl Error for GraphError {}
 
 /// Tasks over a number of nodes, at most 32 of them, each in range and none after itself.
 #[derive(Drop)]
