@@ -5,21 +5,37 @@ ghost use Rattle.span_io.specs.Causes.{Rose, GivenPast, TakesSome, Takes};
 
 use crate::Source;
 use std::alloc::Global;
-use thiserror::Error;
+use std::error::Error;
+use std::fmt;
 
 /// Why an input was not read to its end.
-#[derive(Clone, Copy, Debug, PartialEq, Eq, Error)]
+#[derive(Clone, Copy, Debug, PartialEq, Eq)]
 pub enum ReadError {
     /// The source failed.
-    #[error("the device failed")]
     Failed,
     /// The source gave more bytes than the limit.
-    #[error("the input is too long")]
     TooLong,
     /// There was no memory for the bytes.
-    #[error("out of memory")]
     NoMemory,
 }
+
+impl ReadError {
+    fn text(&self) -> &'static str {
+        match self {
+            ReadError::Failed => "the device failed",
+            ReadError::TooLong => "the input is too long",
+            ReadError::NoMemory => "out of memory",
+        }
+    }
+}
+
+impl fmt::Display for ReadError {
+    fn fmt<W: fmt::Write>(&self, f: &mut fmt::Formatter<W>) -> fmt::Result {
+        f.write_str(self.text())
+    }
+}
+
+impl Error for ReadError {}
 
 const PIECE: usize = 4096;
 
