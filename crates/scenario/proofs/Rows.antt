@@ -1,5 +1,5 @@
 -- Rows of numbers: what stands behind their numbers, and how close these are.
-use Rattle.std.proofs.Common.{◌≡◌, ℕ, zero, suc, ◌-◌, ◌<◌, ◌≤◌, ◌%◌, ◌≤ℤ◌, ℤ, pos, true, false, ◌==◌, List, [], ◌∷◌, ◌++◌, map, length, replicate, refl, sym, ap, ◌∙◌, arith, inl, inr}
+use Rattle.std.proofs.Common.{◌≡◌, ℕ, zero, suc, ◌-◌, ◌<◌, ◌≤◌, ◌%◌, ◌≤ℤ◌, ℤ, pos, true, false, get_or, ◌==◌, List, [], ◌∷◌, ◌++◌, map, length, replicate, refl, sym, ap, ◌∙◌, arith, inl, inr}
 use Rattle.std.specs.Prelude.{slice_index_or}
 use Rattle.std.specs.List.{list_all}
 use Rattle.std.proofs.lemmas.Bool.{cases_lt, not-true, eqb-true}
@@ -49,3 +49,20 @@ some_of (suc n) h = omega arith
 pub no_reading : {X : Type 0} (v : X → List ℤ) (i p : ℕ) (rows : List X) → (length rows == 0) ≡ true → pos 0 ≡ reading_at i p (map v rows)
 no_reading v i p [] h = refl
 no_reading v i p (row ∷ rows) h = let none : length (row ∷ rows) ≡ 0 = eqb-true (length (row ∷ rows)) 0 h in absurd (omega arith)
+
+-- the number of a node in the row whose turn it is
+module _ {X : Type 0} (v : X → List ℤ) (rows : List X) (i p : ℕ) (row : X) (some : (length rows == 0) ≡ false) (is : row ≡ get_or rows (p % length rows) row) where
+  turn_is : slice_index_or (map v rows) (p % length (map v rows)) [] ≡ v row
+  turn_is =
+      ap (λ n. slice_index_or (map v rows) (p % n) []) (length-map rows v)
+      ∙ list.get_or-map v rows (p % length rows) row [] (mod_below p (length rows) (some_of (length rows) some))
+      ∙ ap v (sym is)
+
+  pub reading_is : slice_index_or (v row) i (pos 0) ≡ reading_at i p (map v rows)
+  reading_is = sym (ap (λ ys. slice_index_or ys i (pos 0)) turn_is)
+
+  pub no_number : (ys : List ℤ) → ys ≡ v row → length ys ≤ i → pos 0 ≡ reading_at i p (map v rows)
+  no_number ys same past = sym (get_or_past ys i (pos 0) past) ∙ ap (λ zs. slice_index_or zs i (pos 0)) same ∙ reading_is
+
+  pub number_there : (ys : List ℤ) (number : ℤ) → ys ≡ v row → number ≡ slice_index_or ys i (pos 0) → number ≡ reading_at i p (map v rows)
+  number_there ys number same is_there = is_there ∙ ap (λ zs. slice_index_or zs i (pos 0)) same ∙ reading_is
