@@ -1,6 +1,5 @@
 pub mod Bodies
 pub mod Bounds
 pub mod Words
-pub mod Relays
 pub mod Repeats
 pub mod Headers

@@ -15,7 +15,6 @@ pub mod Filling
 pub mod FillingLaws
 pub mod Runs
 pub mod RunsLaws
-pub mod Relaying
 pub use Rattle.node_grid.specs.Capacity
 pub use Rattle.node_grid.specs.Version
 pub use Rattle.node_grid.specs.Kinds

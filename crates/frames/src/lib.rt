@@ -13,7 +13,6 @@ mod kind;
 mod known;
 pub mod laws;
 mod pieces;
-mod relay;
 mod runs;
 mod values;
 
@@ -24,6 +23,5 @@ pub use encoding::{HEADER, encode, header, is_header};
 pub use filling::fill_entries;
 pub use frame::{Body, Expect, Frame, Head, StateBody};
 pub use known::decode_known;
-pub use relay::{end_claims, end_rows, put_claims, put_rows};
 pub use runs::{Runs, are_runs, has_firsts};
 pub use values::{Values, put_value};
