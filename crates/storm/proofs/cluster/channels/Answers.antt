@@ -7,26 +7,17 @@ returns-in_err-from_slice c = IfOk-from_err c.from_residual.result _ c.from_resi
 pub returns-in_err-push : goal.returns-in_err-push
 returns-in_err-push c = IfOk-from_err c.from_residual-in_err-push.result _ c.from_residual-in_err-push.ensures.0
 
-pub returns-in_err-from_slice-2 : goal.returns-in_err-from_slice-2
-returns-in_err-from_slice-2 c = IfOk-from_err c.from_residual-in_err-from_slice-2.result _ c.from_residual-in_err-from_slice-2.ensures.0
+pub returns-in_err-push_row : goal.returns-in_err-push_row
+returns-in_err-push_row c = IfOk-from_err c.from_residual-in_err-push_row.result _ c.from_residual-in_err-push_row.ensures.0
+
+pub returns-in_err-push_row-2 : goal.returns-in_err-push_row-2
+returns-in_err-push_row-2 c = IfOk-from_err c.from_residual-in_err-push_row-2.result _ c.from_residual-in_err-push_row-2.ensures.0
 
 pub returns-in_err-push-2 : goal.returns-in_err-push-2
 returns-in_err-push-2 c = IfOk-from_err c.from_residual-in_err-push-2.result _ c.from_residual-in_err-push-2.ensures.0
 
-pub returns-in_err-from_slice-3 : goal.returns-in_err-from_slice-3
-returns-in_err-from_slice-3 c = IfOk-from_err c.from_residual-in_err-from_slice-3.result _ c.from_residual-in_err-from_slice-3.ensures.0
+pub returns-in_err-push_row-3 : goal.returns-in_err-push_row-3
+returns-in_err-push_row-3 c = IfOk-from_err c.from_residual-in_err-push_row-3.result _ c.from_residual-in_err-push_row-3.ensures.0
 
 pub returns-in_err-push-3 : goal.returns-in_err-push-3
 returns-in_err-push-3 c = IfOk-from_err c.from_residual-in_err-push-3.result _ c.from_residual-in_err-push-3.ensures.0
-
-pub returns-in_err-from_slice-4 : goal.returns-in_err-from_slice-4
-returns-in_err-from_slice-4 c = IfOk-from_err c.from_residual-in_err-from_slice-4.result _ c.from_residual-in_err-from_slice-4.ensures.0
-
-pub returns-in_err-push-4 : goal.returns-in_err-push-4
-returns-in_err-push-4 c = IfOk-from_err c.from_residual-in_err-push-4.result _ c.from_residual-in_err-push-4.ensures.0
-
-pub returns-in_err-push-5 : goal.returns-in_err-push-5
-returns-in_err-push-5 c = IfOk-from_err c.from_residual-in_err-push-5.result _ c.from_residual-in_err-push-5.ensures.0
-
-pub returns-in_err-push-6 : goal.returns-in_err-push-6
-returns-in_err-push-6 c = IfOk-from_err c.from_residual-in_err-push-6.result _ c.from_residual-in_err-push-6.ensures.0
