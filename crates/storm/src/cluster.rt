@@ -57,28 +57,6 @@ pub fn channels(alloc: Global) -> Result<Vec<ChannelPart>, AllocError>
     Ok(channels)
 }
 
-/// A task.
-fn task(
-    alloc: Global,
-    after: &[i64],
-    nodes: &[i64],
-    need: i64,
-    min: i64,
-    max: i64,
-    run: &[i64],
-) -> Result<TaskPart, AllocError>
-    ensures { IfOk result (λ t. task_view t ≡ record { after = after.now; nodes = nodes.now; need = need; min = min; max = max; run = run.now }) }
-{
-    Ok(TaskPart {
-        after: Vec::from_slice(alloc, after)?,
-        nodes: Vec::from_slice(alloc, nodes)?,
-        need,
-        min,
-        max,
-        run: Vec::from_slice(alloc, run)?,
-    })
-}
-
 /// Adds a task whose run times lie between two numbers of periods.
 fn push_task(
     tasks: &mut Vec<TaskPart>,
@@ -92,8 +70,14 @@ fn push_task(
     ensures { OnOk result (map task_view tasks.new.items ≡ map task_view tasks.old.items
         ++ record { after = after.now; nodes = nodes.now; need = need; min = between.0; max = between.1; run = run.now } ∷ []) }
 {
-    let (min, max) = between;
-    tasks.push(task(alloc, after, nodes, need, min, max, run)?)?;
+    tasks.push(TaskPart {
+        after: Vec::from_slice(alloc, after)?,
+        nodes: Vec::from_slice(alloc, nodes)?,
+        need,
+        min: between.0,
+        max: between.1,
+        run: Vec::from_slice(alloc, run)?,
+    })?;
     Ok(())
 }
 
