@@ -40,8 +40,16 @@ pub fn channels(alloc: Global) -> Result<Vec<ChannelPart>, AllocError>
         step: 5,
     })?;
     let mut sensor = Vec::new(alloc);
-    push_row(&mut sensor, alloc, &[200, 202, 201, 203, 204, 200, 202, 201])?;
-    push_row(&mut sensor, alloc, &[210, 211, 212, 210, 213, 214, 211, 212])?;
+    push_row(
+        &mut sensor,
+        alloc,
+        &[200, 202, 201, 203, 204, 200, 202, 201],
+    )?;
+    push_row(
+        &mut sensor,
+        alloc,
+        &[210, 211, 212, 210, 213, 214, 211, 212],
+    )?;
     channels.push(ChannelPart::Sensor {
         delta: 6,
         task: None,
