@@ -4,7 +4,7 @@ use Rattle.std.specs.Prelude.{All}
 use Rattle.std.proofs.lemmas.List.Elements.{All-weaker}
 use Rattle.error_detect.specs.Watching.{of_sender, delivered}
 use Rattle.error_detect.specs.Multiset.{Arriving}
-use Rattle.fault_classes.specs.Plan.{restarts_at}
+use Rattle.fault_classes.specs.Plan.{Plan, restarts_at}
 use Rattle.agreed_state.specs.declared.config.Config.{Config}
 use Rattle.agreed_state.specs.declared.config.Inputs.{Inputs}
 use Rattle.protocol.specs.View.{Kept, nothing, opened}
@@ -15,7 +15,7 @@ use Rattle.node_steps.specs.Steps.{restarted}
 use Rattle.node_steps.specs.Stages.{outcome_of}
 use Rattle.node_steps.specs.Period.{slots_run, expect_at}
 use Rattle.node_steps.specs.Sending.{Fixed, fixed, fixed_of, GoesThrough, PeriodLaw}
-use Rattle.scenario.specs.Scenario.{inputs_of, IsScenario}
+use Rattle.scenario.specs.Scenario.{ScenarioView, inputs_of, IsScenario}
 use Rattle.node_alone.specs.Log.{Entry, RecordView, arriving, arrivals}
 use Rattle.node_alone.specs.View.{received, kept_alone, begins_alone, view_alone}
 use Rattle.node_alone.specs.Seen.{IsPlaced, IsRecord}
@@ -36,6 +36,27 @@ woken_keeps config false v y c e = e
 pub woken_shut : {N : ℕ} (b : Bool) (v : NodeView N) → (if b then restarted v else v).phase.is_open ≡ v.phase.is_open
 woken_shut true v = refl
 woken_shut false v = refl
+
+-- where a restart is asked for
+pub restart_places : {N : ℕ} (log : RecordView N) → IsRecord log → (sc : ScenarioView N) → sc ≡ log.scenario → (plan : Plan) → plan ≡ sc.plan → (id p : ℕ) → id ≡ log.id → p < log.scenario.periods
+    → (id < plan.nodes) × (p < plan.periods)
+restart_places {N} log is sc same plan lent id p mine low =
+    let nodes : plan.nodes ≡ log.scenario.config.nodes = ap (λ (q : Plan). q.nodes) lent ∙ ap (λ (s : ScenarioView N). s.plan.nodes) same ∙ is.scenario.system.plan_nodes in
+    let periods : plan.periods ≡ log.scenario.periods = ap (λ (q : Plan). q.periods) lent ∙ ap (λ (s : ScenarioView N). s.plan.periods) same ∙ is.scenario.plan_periods in
+    let inside : log.id < log.scenario.config.nodes = is.id in
+    (omega (arith, nodes, mine, inside), omega (arith, periods, low))
+
+-- whether the node restarts, as a plan that is lent says
+pub restarting : {N : ℕ} (log : RecordView N) (sc : ScenarioView N) (plan : Plan) (id p : ℕ) (r b : Bool) → sc ≡ log.scenario → plan ≡ sc.plan → id ≡ log.id → r ≡ restarts_at plan id p → r ≡ b
+    → restarts_at log.scenario.plan log.id p ≡ b
+restarting {N} log sc plan id p r b same lent mine e f =
+    sym (ap₂ (λ (q : Plan) (i : ℕ). restarts_at q i p) (lent ∙ ap (λ (s : ScenarioView N). s.plan) same) mine) ∙ sym e ∙ f
+
+pub wakes : {N : ℕ} (log : RecordView N) (p : ℕ) (v w : NodeView N) → restarts_at log.scenario.plan log.id p ≡ true → w ≡ restarted v → w ≡ woken log p v
+wakes log p v w b e = e ∙ ap (λ (t : Bool). if t then restarted v else v) (sym b)
+
+pub sleeps : {N : ℕ} (log : RecordView N) (p : ℕ) (v : NodeView N) → restarts_at log.scenario.plan log.id p ≡ false → v ≡ woken log p v
+sleeps log p v b = ap (λ (t : Bool). if t then restarted v else v) (sym b)
 
 -- ---- a period
 

@@ -4,6 +4,7 @@ use Rattle.frames.specs.Content.{IsValue}
 use Rattle.fault_classes.specs.Plan.{restarts_at}
 use Rattle.agreed_state.specs.declared.config.Inputs.{Inputs}
 use Rattle.node_steps.specs.Parts.{NodeView}
+use Rattle.node_steps.specs.Steps.{begun}
 use Rattle.scenario.specs.Scenario.{ScenarioView, inputs_of}
 use Rattle.node_alone.specs.Log.{RecordView}
 use Rattle.node_alone.proofs.Stepped.{woken_shut}
@@ -31,3 +32,16 @@ begin-requires g c =
         subst (λ (x : Inputs). All IsValue x.reading) (sym given) (c.id.ensures.log.scenario.system.inputs log.id c.args.period c.id.ensures.log.id).readings,
       ),
     )
+
+pub wake-requires : goal.wake-requires
+wake-requires g c = 
+    (elim c.requires.capacity [ inl e ↦ rw e (lit< tt) | inr e ↦ rw e (lit< tt) ], (elim c.requires.capacity [ inl e ↦ rw e (lit< tt) | inr e ↦ rw e (lit< tt) ], (c.requires.capacity, (c.requires.closed, c.requires.period))))
+
+pub id-requires : goal.id-requires
+id-requires g c = elim c.requires.capacity [ inl e ↦ rw e (lit< tt) | inr e ↦ rw e (lit< tt) ]
+
+pub returns : goal.returns
+returns g c = 
+    let given : c.inputs.result ≡ inputs_of c.args.input.now.scenario c.args.input.now.id c.args.period =
+        c.inputs.ensures ∙ ap₂ (λ (s : ScenarioView g.row.N) (i : ℕ). inputs_of s i c.args.period) c.scenario.ensures.scenario c.id.ensures.id in
+    c.begin.ensures ∙ ap₂ (λ (v : NodeView g.row.N) (i : Inputs). begun v c.args.period i) c.wake.ensures given

@@ -53,3 +53,13 @@ pub slot_count-count-requires : goal.slot_count-count-requires
 slot_count-count-requires g c =
     let m : c.config.result.now.m ≡ c.args.input.now.scenario.config.m = ap (λ (y : Config g.row.N). y.m) c.config.ensures.config in
     omega (arith, m, few_rounds g.row.N c.args.input.now.scenario.config c.config.ensures.log.scenario.system.config)
+
+pub period-requires : goal.period-requires
+period-requires g c = tt
+
+pub begin-requires : goal.begin-requires
+begin-requires g c = 
+    (elim c.requires.capacity [ inl e ↦ rw e (lit< tt) | inr e ↦ rw e (lit< tt) ], (elim c.requires.capacity [ inl e ↦ rw e (lit< tt) | inr e ↦ rw e (lit< tt) ], (c.requires.capacity, (c.requires.before.shut, c.requires.period))))
+
+pub entries-requires : goal.entries-requires
+entries-requires g c = elim c.requires.capacity [ inl e ↦ rw e (lit< tt) | inr e ↦ rw e (lit< tt) ]

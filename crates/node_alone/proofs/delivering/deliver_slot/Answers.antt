@@ -85,3 +85,15 @@ returns-clause-rest g c =
     subst (All (λ e. is_before c.args.period (c.args.slot + 1) e ≡ false)) (sym (nothing_left c.args.entries.now c.loop-place.place over)) (All-nil (λ e. is_before c.args.period (c.args.slot + 1) e ≡ false)) in
     ap (λ n. drop n c.args.entries.now) c.len.ensures ∙ nothing_left c.args.entries.now (length c.args.entries.now) (omega arith) ∙ sym (nothing_left c.args.entries.now c.loop-place.place over)
     ∙ rest_all c.args.period c.args.slot c.args.next c.loop-place.place c.args.entries.now c.requires.rest late c.loop-place.invariant.rest
+
+pub loop-place-smaller : goal.loop-place-smaller
+loop-place-smaller g c = omega (arith, c.loop-place-test.true)
+
+pub entry-entry-requires : goal.entry-entry-requires
+entry-entry-requires g c = omega (arith, c.len-place-end.ensures, c.loop-place-test.true)
+
+pub len-place-end-requires : goal.len-place-end-requires
+len-place-end-requires g c = tt
+
+pub len-requires : goal.len-requires
+len-requires g c = tt

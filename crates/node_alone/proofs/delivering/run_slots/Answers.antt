@@ -1,4 +1,4 @@
-use Rattle.std.proofs.Common.{ℕ, ◌≡◌, ◌+◌, suc, inl, inr, lit<, sym, ap, subst, ◌∙◌, arith, List}
+use Rattle.std.proofs.Common.{ℕ, ◌≡◌, ◌+◌, suc, inl, inr, lit<, refl, sym, ap, subst, ◌∙◌, arith, List}
 use Rattle.error_detect.specs.Multiset.{Arriving}
 use Rattle.node_steps.specs.Parts.{NodeView}
 use Rattle.node_steps.specs.Steps.{after_slot}
@@ -39,3 +39,9 @@ returns-clause-after g c =
 pub returns-clause-rest : goal.returns-clause-rest
 returns-clause-rest g c =
     c.loop-slot.invariant.rest ∙ ap (λ (t : ℕ). from_slot c.args.period t c.args.entries.now) (let e : c.loop-slot.slot ≡ c.args.count = omega (arith, c.loop-slot.auto.slot-end, c.loop-slot-test.false) in e)
+
+pub loop-slot-init : goal.loop-slot-init
+loop-slot-init g c = record { node = refl; rest = c.requires.rest }
+
+pub loop-slot-smaller : goal.loop-slot-smaller
+loop-slot-smaller g c = omega (arith, c.loop-slot-test.true)

@@ -1,4 +1,4 @@
-use Rattle.std.proofs.Common.{ℕ, ◌≡◌, ap, ◌∙◌, arith, inl, inr, lit<}
+use Rattle.std.proofs.Common.{ℕ, ◌≡◌, ◌+◌, ap, ◌∙◌, arith, inl, inr, lit<}
 use Rattle.node_steps.specs.Stages.{outcome_of}
 use Rattle.node_alone.specs.View.{view_alone}
 use Rattle.node_alone.specs.Stepping.{AloneView}
@@ -27,3 +27,12 @@ invariant_of-self g c =
       rest = c.step-self-inside.ensures.rest;
       last = λ q e. c.record-shown.ensures ∙ c.step-self-inside.ensures.shown ∙ ap (λ (n : ℕ). outcome_of (view_alone c.self.inside.input.now n)) (let same : p ≡ q = omega (arith, e) in same);
     }
+
+pub overflow_add-self : goal.overflow_add-self
+overflow_add-self g c = 
+    let run : c.self.inside.run ≡ c.args.self.now.run = ap (λ (v : AloneView g.row.N). v.run) c.self.view_is in
+    let periods : c.self.inside.input.now.scenario.periods ≡ c.args.self.now.input.scenario.periods = ap (λ (v : AloneView g.row.N). v.input.scenario.periods) c.self.view_is in
+    omega (arith, run, periods, c.requires.more, c.self.invariant.input.scenario.few_periods)
+
+pub returns : goal.returns
+returns g c = ap (λ (v : AloneView g.row.N). record v { run = v.run + 1 }) c.self.view_is

@@ -1,4 +1,4 @@
-use Rattle.std.proofs.Common.{◌≡◌, sym, ap, subst, arith, inl, inr, lit<}
+use Rattle.std.proofs.Common.{◌≡◌, refl, sym, ap, subst, arith, inl, inr, lit<}
 use Rattle.agreed_state.specs.declared.config.Config.{Config}
 use Rattle.agreed_state.specs.Config.{IsConfig}
 use Rattle.node_steps.specs.Fresh.{IsFresh}
@@ -28,3 +28,12 @@ invariant_of-result g c = record {
   rest = sym (from_first c.args.input.now.entries);
   last = λ q e. cc;
 }
+
+pub config-requires : goal.config-requires
+config-requires g c = (elim c.requires [ inl e ↦ rw e (lit< tt) | inr e ↦ rw e (lit< tt) ], elim c.requires [ inl e ↦ rw e (lit< tt) | inr e ↦ rw e (lit< tt) ])
+
+pub id-requires : goal.id-requires
+id-requires g c = elim c.requires [ inl e ↦ rw e (lit< tt) | inr e ↦ rw e (lit< tt) ]
+
+pub returns : goal.returns
+returns g c = refl
