@@ -1,12 +1,16 @@
 -- What tests tell of lists that are equal.
 use Rattle.std.proofs.Common.{rules, ◌≡◌, ℕ, Bool, true, false, not, ◌&&◌, List, [], ◌∷◌, Option, None, Some, ℤ, refl, sym, ap, ap₂, ◌∙◌, true≢false}
-use Rattle.std.specs.Prelude.{nat_eq}
+use Rattle.std.specs.Prelude.{nat_eq, ◌++◌, map, codes}
 use Rattle.std.specs.Option.{option_eq}
 use Rattle.std.specs.Ordering.{int_eq}
 use Rattle.std.specs.Cmp.Lexicographic.{pointwise, same_text}
 use Rattle.std.proofs.lemmas.Bool.{eqb-true}
 use Rattle.std.proofs.lemmas.Bool.Decides.{Decides-int_eq}
 use Rattle.omh_paths.specs.declared.wrapped.Wrapped.{Wrapped}
+use Rattle.node_steps.specs.Outcome.{Outcome}
+use Rattle.run_text.specs.Text.{joined, done_item, rows_item, votes_text}
+use Rattle.run_text.specs.NodeText.{settled_text}
+use Rattle.run_print.specs.Common.{AreSettledAlike}
 use Rattle.omh_paths.specs.declared.wrapped.Wrapped.TheVariants.{Plain, Fault}
 
 found : {X : Type 0} → X → Option X → X
@@ -46,6 +50,25 @@ module _ {X : Type 0} (E : X → X → Bool) (exact : (x y : X) → E x y ≡ tr
 
 int_exact : (x y : ℤ) → int_eq x y ≡ true → x ≡ y
 int_exact x y h = search (rules, Decides-int_eq x y, h)
+
+pub numbers_same : (xs ys : List ℕ) → pointwise nat_eq xs ys ≡ true → xs ≡ ys
+numbers_same xs ys h = same_text xs ys (sym h)
+
+text_of : ℕ → List ℕ → List (Option (List ℕ)) → List (Wrapped ℕ) → List ℕ → List (Option ℤ) → List ℕ
+text_of nodes members rows done due votes =
+    codes "\n  done " ++ joined (codes " ") (map (done_item done) members)
+    ++ codes "\n  rows " ++ joined (codes " ") (map (rows_item nodes rows) members)
+    ++ codes "\n  votes " ++ votes_text votes due ++ codes "\n"
+
+-- nodes that settled and voted the same have one text
+pub settled_same : (nodes : ℕ) (one other : Outcome) → AreSettledAlike one other → settled_text nodes one ≡ settled_text nodes other
+unfolding text_of
+settled_same nodes one other h =
+    ap (λ (x : List ℕ). text_of nodes x one.rows one.done one.due one.votes) h.members
+    ∙ ap (λ (x : List (Option (List ℕ))). text_of nodes other.members x one.done one.due one.votes) h.rows
+    ∙ ap (λ (x : List (Wrapped ℕ)). text_of nodes other.members other.rows x one.due one.votes) h.done
+    ∙ ap (λ (x : List ℕ). text_of nodes other.members other.rows other.done x one.votes) h.due
+    ∙ ap (λ (x : List (Option ℤ)). text_of nodes other.members other.rows other.done other.due x) h.votes
 
 pub votes_same : (xs ys : List (Option ℤ)) → pointwise (option_eq int_eq) xs ys ≡ true → xs ≡ ys
 votes_same = lists_same (option_eq int_eq) (options_same int_eq int_exact)

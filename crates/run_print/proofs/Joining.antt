@@ -28,6 +28,10 @@ module _ {S : Type 0} {room : ℕ} {written : S → Option (List ℕ)} {faults :
         subst (λ text. Printed old before text c (written t) (faults t)) (append_assoc done xs ys) (second.goes_on old before (done ++ xs) (first.goes_on old before done h));
   }
 
+  -- one text after the other, where the second is printed as two
+  pub then_both : {a b c : Printer room} {r s t : S} {xs : List ℕ} (ys zs : List ℕ) → Prints written faults a r b s xs → Prints written faults b s c t (ys ++ zs) → Prints written faults a r c t (xs ++ ys ++ zs)
+  then_both {a} {b} {c} {r} {s} {t} {xs} ys zs first second = subst (λ text. Prints written faults a r c t text) (sym (append_assoc xs ys zs)) (then first second)
+
   -- the text of a further item, behind a separator
   pub further : {a b c d : Printer room} {r s t u : S} (separator : List ℕ) (items : List (List ℕ)) (item : List ℕ)
       → Prints written faults a r b s (joined separator items) → Prints written faults b s c t (separator_at separator (length items)) → Prints written faults c t d u item

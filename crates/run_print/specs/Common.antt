@@ -9,3 +9,11 @@ use Rattle.run_print.specs.declared.printer.Printer.{Printer}
 pub record IsCommon {room more : ℕ} (nodes : ℕ) (r : Outcome) (standing : Printer room) (settled : Printer more) : Type 0 where
   pub stands : standing.failed ≡ false → (a : AgreedView) → r.agreed ≡ Some a → standing.gathered ≡ standing_text nodes a
   pub settles : settled.failed ≡ false → settled.gathered ≡ settled_text nodes r
+
+-- two nodes that settled and voted the same
+pub record AreSettledAlike (one other : Outcome) : Type 0 where
+  pub members : one.members ≡ other.members
+  pub rows : one.rows ≡ other.rows
+  pub done : one.done ≡ other.done
+  pub due : one.due ≡ other.due
+  pub votes : one.votes ≡ other.votes

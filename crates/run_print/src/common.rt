@@ -3,7 +3,7 @@ ghost use Rattle.std.specs.Prelude.{◌≡◌, ◌≤◌, ◌<◌, true, false, 
 ghost use Rattle.node_grid.specs.Capacity.{IsCapacity};
 ghost use Rattle.agreed_state.specs.Agreed.{AgreedView};
 ghost use Rattle.run_text.specs.NodeText.{standing_text, settled_text};
-ghost use Rattle.run_print.specs.Common.{IsCommon};
+ghost use Rattle.run_print.specs.Common.{IsCommon, AreSettledAlike};
 
 use crate::printer::Printer;
 use agreed_state::Agreed;
@@ -125,11 +125,7 @@ fn standing_alike<const N: usize>(one: &Agreed<N>, other: &Agreed<N>) -> bool
 
 /// Whether two nodes settled and voted the same.
 fn settled_alike<const N: usize>(one: &NodeRecord<N>, other: &NodeRecord<N>) -> bool
-    ensures members { result ≡ true → one.now.members ≡ other.now.members }
-    ensures rows { result ≡ true → one.now.rows ≡ other.now.rows }
-    ensures done { result ≡ true → one.now.done ≡ other.now.done }
-    ensures due { result ≡ true → one.now.due ≡ other.now.due }
-    ensures votes { result ≡ true → one.now.votes ≡ other.now.votes }
+    ensures { result ≡ true → AreSettledAlike one.now other.now }
 {
     if one.members != other.members {
         return false;

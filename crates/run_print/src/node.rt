@@ -135,8 +135,7 @@ impl<const ROOM: usize> Printer<ROOM> {
     pub(crate) fn named<K: Sink>(&mut self, sink: &mut K, i: u8, letter: &[u8])
         ensures { Prints K.written K.faults self.old sink.old self.new sink.new (codes "node " ++ decimal i ++ codes " " ++ letter.now ++ codes " ") }
     {
-        self.text(sink, b"node ");
-        self.number(sink, i as u64);
+        self.labelled(sink, b"node ", i as u64);
         self.byte(sink, b' ');
         self.text(sink, letter);
         self.byte(sink, b' ');
@@ -186,8 +185,7 @@ pub fn write_alone<const N: usize, K: Sink>(
     ensures { WritesText K.written K.faults sink.old sink.new (alone_text period id nodes retire shown.now) result }
 {
     let mut printer = Printer::<SMALL>::new();
-    printer.text(sink, b"period ");
-    printer.number(sink, period as u64);
+    printer.labelled(sink, b"period ", period as u64);
     printer.byte(sink, b'\n');
     printer.named(sink, id, b"-");
     printer.beliefs(sink, nodes, retire, shown, &Common::of(nodes, shown));

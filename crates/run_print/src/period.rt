@@ -20,22 +20,17 @@ impl<const ROOM: usize> Printer<ROOM> {
     fn budget<K: Sink>(&mut self, sink: &mut K, budget: &Budget)
         ensures { Prints K.written K.faults self.old sink.old self.new sink.new (budget_text budget.now) }
     {
-        self.text(sink, b" n ");
-        self.number(sink, budget.n as u64);
-        self.text(sink, b" a ");
-        self.number(sink, budget.a as u64);
-        self.text(sink, b" s ");
-        self.number(sink, budget.s as u64);
-        self.text(sink, b" b ");
-        self.number(sink, budget.b as u64);
+        self.labelled(sink, b" n ", budget.n as u64);
+        self.labelled(sink, b" a ", budget.a as u64);
+        self.labelled(sink, b" s ", budget.s as u64);
+        self.labelled(sink, b" b ", budget.b as u64);
     }
 
     /// Prints the period line.
     fn head<K: Sink, const N: usize>(&mut self, sink: &mut K, shown: &PeriodRecord<N>)
         ensures { Prints K.written K.faults self.old sink.old self.new sink.new (head_text shown.now) }
     {
-        self.text(sink, b"period ");
-        self.number(sink, shown.period as u64);
+        self.labelled(sink, b"period ", shown.period as u64);
         self.text(sink, b" members ");
         self.set(sink, &shown.members);
         self.budget(sink, &shown.budget);
@@ -209,8 +204,7 @@ pub fn write_end<K: Sink>(periods: u32, sink: &mut K) -> Result<(), WriteFault>
     ensures { WritesText K.written K.faults sink.old sink.new (end_text periods) result }
 {
     let mut printer = Printer::<SMALL>::new();
-    printer.text(sink, b"end ");
-    printer.number(sink, periods as u64);
+    printer.labelled(sink, b"end ", periods as u64);
     printer.byte(sink, b'\n');
     printer.finish(sink)
 }
@@ -223,10 +217,8 @@ pub fn write_refused<K: Sink>(rule: u8, place: u32, sink: &mut K) -> Result<(), 
     ensures { WritesText K.written K.faults sink.old sink.new (refused_text rule place) result }
 {
     let mut printer = Printer::<SMALL>::new();
-    printer.text(sink, b"refused ");
-    printer.number(sink, rule as u64);
-    printer.byte(sink, b' ');
-    printer.number(sink, place as u64);
+    printer.labelled(sink, b"refused ", rule as u64);
+    printer.labelled(sink, b" ", place as u64);
     printer.byte(sink, b'\n');
     printer.finish(sink)
 }

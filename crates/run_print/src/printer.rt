@@ -1,5 +1,5 @@
 ghost use Rattle.std.specs.Fmt.{signed_decimal};
-ghost use Rattle.std.specs.Prelude.{◌≡◌, false, [], ◌∷◌, decimal};
+ghost use Rattle.std.specs.Prelude.{◌≡◌, false, [], ◌∷◌, ◌++◌, decimal};
 ghost use Rattle.run_print.specs.Printing.{Prints, Finishes};
 
 use crate::WriteFault;
@@ -73,6 +73,14 @@ impl<const ROOM: usize> Printer<ROOM> {
         }
         let mut buffer = Buffer::new();
         self.text(sink, buffer.format(n).as_bytes());
+    }
+
+    /// Prints a label and the number behind it.
+    pub(crate) fn labelled<K: Sink>(&mut self, sink: &mut K, label: &[u8], n: u64)
+        ensures { Prints K.written K.faults self.old sink.old self.new sink.new (label.now ++ decimal n) }
+    {
+        self.text(sink, label);
+        self.number(sink, n);
     }
 
     /// Prints a number with a sign in decimal.

@@ -48,20 +48,13 @@ impl<const ROOM: usize> Printer<ROOM> {
     fn sums<K: Sink, const N: usize>(&mut self, sink: &mut K, sum: &StormSum<N>)
         ensures { Prints K.written K.faults self.old sink.old self.new sink.new (sums_text sum.now) }
     {
-        self.text(sink, b"storm ");
-        self.number(sink, sum.seed);
-        self.text(sink, b"\nperiods ");
-        self.number(sink, sum.periods as u64);
-        self.text(sink, b" claimed ");
-        self.number(sink, sum.claimed as u64);
-        self.text(sink, b"\nlines ");
-        self.number(sink, sum.lines as u64);
-        self.text(sink, b" restarts ");
-        self.number(sink, sum.restarts as u64);
-        self.text(sink, b"\nexcluded ");
-        self.number(sink, sum.excluded as u64);
-        self.text(sink, b" readmitted ");
-        self.number(sink, sum.readmitted as u64);
+        self.labelled(sink, b"storm ", sum.seed);
+        self.labelled(sink, b"\nperiods ", sum.periods as u64);
+        self.labelled(sink, b" claimed ", sum.claimed as u64);
+        self.labelled(sink, b"\nlines ", sum.lines as u64);
+        self.labelled(sink, b" restarts ", sum.restarts as u64);
+        self.labelled(sink, b"\nexcluded ", sum.excluded as u64);
+        self.labelled(sink, b" readmitted ", sum.readmitted as u64);
     }
 
     /// Prints the last lines of a summary: members and counts, and the end.
@@ -73,8 +66,7 @@ impl<const ROOM: usize> Printer<ROOM> {
         self.set(sink, &sum.members);
         self.text(sink, b" counts ");
         self.numbers(sink, &sum.counts.counts[..sum.nodes as usize]);
-        self.text(sink, b"\nend ");
-        self.number(sink, sum.periods as u64);
+        self.labelled(sink, b"\nend ", sum.periods as u64);
         self.byte(sink, b'\n');
     }
 }

@@ -29,6 +29,12 @@ const PIECE: usize = 512;
 /// How many bytes stand before and behind the digits in the rest of a line.
 const AROUND: usize = 5;
 
+/// Room for a slot in which all frames are short.
+const SHORT_ROOM: usize = 3 * SHORT_FRAME + AROUND;
+
+/// Room for a slot of any frames.
+const LONG_ROOM: usize = 3 * LONGEST_FRAME + AROUND;
+
 /// Room for the start of a line: a word, three numbers, and the spaces behind them.
 type Start = ArrayVec<u8, 32>;
 
@@ -251,10 +257,10 @@ impl<const ROOM: usize> Printer<ROOM> {
         }
     }
 
-    /// Prints all frames that arrive in a slot, of any length. It stays a function of its own, since it takes much room on
-    /// the stack, which short frames don't need.
+    /// Prints all frames that arrive in a slot, with this much room for the longest of them. It stays a function of its own,
+    /// since the room for long frames is large on the stack, and short frames don't need it.
     #[inline(never)]
-    fn long_slot<K: Sink, const N: usize>(
+    fn slot_within<K: Sink, const N: usize, const BYTES: usize>(
         &mut self,
         sink: &mut K,
         shown: &PeriodRecord<N>,
@@ -263,27 +269,11 @@ impl<const ROOM: usize> Printer<ROOM> {
     )
         requires planned { IsPlanOf plan.now shown.now }
         requires slot { slot < slot_count shown.now.m }
-        requires short { (from : ℕ) → from < shown.now.nodes → length (frame_at shown.now slot from) ≤ 90104 }
+        requires few { BYTES ≤ 270317 }
+        requires room { (from : ℕ) → from < shown.now.nodes → 3 * length (frame_at shown.now slot from) + 5 ≤ BYTES }
         ensures { Prints K.written K.faults self.old sink.old self.new sink.new (slot_text plan.now shown.now slot) }
     {
-        let mut room = [0; 3 * LONGEST_FRAME + AROUND];
-        self.senders(sink, shown, plan, slot, &mut room);
-    }
-
-    /// Prints all frames that arrive in a slot, all of them short.
-    fn short_slot<K: Sink, const N: usize>(
-        &mut self,
-        sink: &mut K,
-        shown: &PeriodRecord<N>,
-        plan: &FaultPlan<N>,
-        slot: u8,
-    )
-        requires planned { IsPlanOf plan.now shown.now }
-        requires slot { slot < slot_count shown.now.m }
-        requires short { (from : ℕ) → from < shown.now.nodes → length (frame_at shown.now slot from) ≤ 1024 }
-        ensures { Prints K.written K.faults self.old sink.old self.new sink.new (slot_text plan.now shown.now slot) }
-    {
-        let mut room = [0; 3 * SHORT_FRAME + AROUND];
+        let mut room = [0; BYTES];
         self.senders(sink, shown, plan, slot, &mut room);
     }
 
@@ -300,9 +290,9 @@ impl<const ROOM: usize> Printer<ROOM> {
         ensures { Prints K.written K.faults self.old sink.old self.new sink.new (slot_text plan.now shown.now slot) }
     {
         if longest(shown, slot) <= SHORT_FRAME {
-            self.short_slot(sink, shown, plan, slot);
+            self.slot_within::<K, N, SHORT_ROOM>(sink, shown, plan, slot);
         } else {
-            self.long_slot(sink, shown, plan, slot);
+            self.slot_within::<K, N, LONG_ROOM>(sink, shown, plan, slot);
         }
     }
 

@@ -1,6 +1,5 @@
-use Rattle.run_print.proofs.Joining.{then}
+use Rattle.run_print.proofs.Joining.{then_both}
 use Rattle.run_print.proofs.printer.Printer.budget.Goals as goal
 
 pub returns : goal.returns
-returns g c =
-    then (then (then (then (then (then (then c.text.ensures c.number.ensures) c.text-2.ensures) c.number-2.ensures) c.text-3.ensures) c.number-3.ensures) c.text-4.ensures) c.number-4.ensures
+returns g c = then_both _ _ (then_both _ _ (then_both _ _ c.labelled.ensures c.labelled-2.ensures) c.labelled-3.ensures) c.labelled-4.ensures

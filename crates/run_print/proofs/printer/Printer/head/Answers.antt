@@ -5,7 +5,7 @@ use Rattle.run_print.proofs.printer.Printer.head.Goals as goal
 pub returns : goal.returns
 returns g c =
     rw (sym c.shown.view_is)
-    (then (then (then (then (then (then (then (then (then c.text.ensures c.number.ensures) c.text-2.ensures) c.set.ensures) c.budget.ensures) c.text-3.ensures) c.yes_no.ensures) c.text-4.ensures) c.yes_no-2.ensures) c.byte.ensures)
+    (then (then (then (then (then (then (then (then c.labelled.ensures c.text.ensures) c.set.ensures) c.budget.ensures) c.text-2.ensures) c.yes_no.ensures) c.text-3.ensures) c.yes_no-2.ensures) c.byte.ensures)
 
 pub text-requires : goal.text-requires
 text-requires g c = assumption
@@ -16,11 +16,8 @@ text-requires-2 g c = assumption
 pub text-requires-3 : goal.text-requires-3
 text-requires-3 g c = assumption
 
-pub text-requires-4 : goal.text-requires-4
-text-requires-4 g c = assumption
-
-pub number-requires : goal.number-requires
-number-requires g c = assumption
+pub labelled-requires : goal.labelled-requires
+labelled-requires g c = assumption
 
 pub byte-requires : goal.byte-requires
 byte-requires g c = assumption

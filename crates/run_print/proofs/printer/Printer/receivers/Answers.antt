@@ -1,4 +1,4 @@
-use Rattle.std.proofs.Common.{◌≡◌, ℕ, List, None, not, ap, subst, arith, ◌∙◌, append-nil}
+use Rattle.std.proofs.Common.{◌≡◌, ℕ, List, None, not, ap, sym, subst, arith, ◌∙◌, append-nil, lit<}
 use Rattle.std.specs.List.{flat_map}
 use Rattle.node_grid.specs.NodeSet.{ids_below}
 use Rattle.fault_classes.specs.Change.{change_of}
@@ -48,3 +48,26 @@ returns g c =
     let last : c.loop-to.to ≡ c.args.shown.now.nodes = omega (arith, nodes, c.loop-to-test.false, c.loop-to.auto.to-end) in
     subst (λ (k : ℕ). Prints g.K.Sink.written g.K.Sink.faults c.args.self.now c.args.sink.now c.loop-to.self c.loop-to.sink
     (flat_map (link_text c.args.plan.now c.args.shown.now c.args.slot c.args.from) (ids_below k))) last c.loop-to.invariant
+
+pub sent-sent-requires : goal.sent-sent-requires
+sent-sent-requires g c = (assumption, (c.requires.from, c.requires.slot))
+
+pub start_of-written-requires : goal.start_of-written-requires
+start_of-written-requires g c = tt
+
+pub as_slice-start-requires : goal.as_slice-start-requires
+as_slice-start-requires g c = lit< tt
+
+pub effect-requires : goal.effect-requires
+effect-requires g c =
+    let period : c.shown.inside.period ≡ c.args.shown.now.period = ap (λ (t : PeriodView). t.period) c.shown.view_is in
+    let nodes : c.shown.inside.nodes ≡ c.args.shown.now.nodes = ap (λ (t : PeriodView). t.nodes) c.shown.view_is in (
+      lit< tt,
+      (
+        omega (arith, period, c.requires.planned.periods),
+        (
+          rw c.requires.planned.rounds c.requires.slot,
+          (rw c.requires.planned.nodes c.requires.from, (omega (arith, c.requires.planned.nodes, nodes, c.loop-to-test.true), λ e. c.if-to-from.true (sym e))),
+        ),
+      ),
+    )
