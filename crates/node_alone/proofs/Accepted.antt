@@ -4,6 +4,8 @@ use Rattle.std.specs.Prelude.{All}
 use Rattle.std.specs.Option.{option_or}
 use Rattle.std.proofs.lemmas.Bool.{lt-ltb, le-ltb}
 use Rattle.serde_json.specs.Data.{Data}
+use Rattle.slot_plan.specs.Slots.{slot_count}
+use Rattle.agreed_state.specs.declared.config.Config.{Config}
 use Rattle.scenario.specs.Parts.{ScenarioParts}
 use Rattle.scenario_reading.specs.Keys.{parts_of}
 use Rattle.scenario.specs.Rules.{unless, at_place}
@@ -19,6 +21,13 @@ use Rattle.node_alone.specs.Parts.{RecordParts, record_parts}
 use Rattle.node_alone.specs.Rules.{Limits, limits_of, entry_of, first_bad_entry, log_refusal, parts_refusal, refusal_on, record_refusal, IsAcceptedRecord}
 use Rattle.node_alone.specs.Seen.{IsPlaced, Ascends, IsRecord}
 use Rattle.node_alone.proofs.Judged.{all_placed, all_ascend}
+
+-- limits that are told by parts of a scenario
+pub same_limits : {N : ℕ} (sc : ScenarioView N) (id : ℕ) (config : Config N) (slots periods : ℕ) → config ≡ sc.config → slots ≡ slot_count config.m → periods ≡ sc.periods
+    → ◌≡◌ {A = Limits} (record { nodes = config.nodes; slots = slots; periods = periods; id = id }) (limits_of sc id)
+same_limits {N} sc id config slots periods e f h =
+    ap₂ (λ (s p : ℕ). record { nodes = config.nodes; slots = s; periods = p; id = id }) f h
+    ∙ ap (λ (c : Config N). record { nodes = c.nodes; slots = slot_count c.m; periods = sc.periods; id = id }) e
 
 module _ (N id : ℕ) (d : Data) where
   -- rule 15
