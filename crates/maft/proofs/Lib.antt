@@ -6,3 +6,4 @@ pub mod Rooms
 pub mod Logs
 pub mod Gathering
 pub mod Few
+pub mod Ending
