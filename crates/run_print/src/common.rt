@@ -101,7 +101,8 @@ impl<'a, const N: usize> Common<'a, N> {
 
     /// Whether another node settled and voted the same.
     pub(crate) fn settles(&self, nodes: u8, other: &NodeRecord<N>) -> bool
-        requires { IsCommon nodes self.now.shown.now self.now.standing self.now.settled }
+        requires capacity { IsCapacity N }
+        requires common { IsCommon nodes self.now.shown.now self.now.standing self.now.settled }
         ensures { result ≡ true → self.now.settled.gathered ≡ settled_text nodes other.now }
     {
         !self.settled.failed && settled_alike(self.shown, other)
@@ -125,6 +126,7 @@ fn standing_alike<const N: usize>(one: &Agreed<N>, other: &Agreed<N>) -> bool
 
 /// Whether two nodes settled and voted the same.
 fn settled_alike<const N: usize>(one: &NodeRecord<N>, other: &NodeRecord<N>) -> bool
+    requires { IsCapacity N }
     ensures { result ≡ true → AreSettledAlike one.now other.now }
 {
     if one.members != other.members {

@@ -9,7 +9,7 @@ pub settled-requires : goal.settled-requires
 settled-requires g c = (assumption, (assumption, (c.requires.capacity, c.requires.nodes)))
 
 pub settles-requires : goal.settles-requires
-settles-requires g c = (lit< tt, (assumption, c.requires.common))
+settles-requires g c = (lit< tt, (assumption, (c.requires.capacity, c.requires.common)))
 
 pub text-requires : goal.text-requires
 text-requires g c = assumption
