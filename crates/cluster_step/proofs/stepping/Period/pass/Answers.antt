@@ -1,4 +1,4 @@
-use Rattle.std.proofs.Common.{ℕ, ◌≡◌, ◌≤◌, ◌+◌, length, take, ap, subst, sym, ◌∙◌, inl, inr, lit<, arith}
+use Rattle.std.proofs.Common.{refl, ℕ, ◌≡◌, ◌≤◌, ◌+◌, length, take, ap, subst, sym, ◌∙◌, inl, inr, lit<, arith}
 use Rattle.slot_plan.specs.Slots.{slot_count}
 use Rattle.agreed_state.specs.declared.config.Config.{Config}
 use Rattle.agreed_state.specs.Config.{IsConfig}
@@ -9,6 +9,7 @@ use Rattle.scenario.specs.Scenario.{ScenarioView}
 use Rattle.cluster_step.specs.Calming.{IsCalmWith}
 use Rattle.cluster_step.proofs.Calmed.{fewer_calm}
 use Rattle.cluster_periods.proofs.Listed.{many_nodes}
+use Rattle.cluster_step.proofs.Reaching.{nothing_data, nothing_end, data_nothing, data_end, end_nothing, end_data}
 use Rattle.cluster_step.proofs.stepping.Period.pass.Goals as goal
 
 pub config-config-requires : goal.config-config-requires
@@ -85,3 +86,21 @@ open_data_all-requires g c =
     let m : c.config-config.result.now.m ≡ sc.config.m = ap (λ (y : Config g.row.N). y.m) c.config-config.ensures.config in
     let enough : sc.config.m + 2 ≤ c.in-Some.untouched = omega (arith, c.if-untouched-config.false, m) in
     (lit< tt, (elim c.requires.capacity [ inl e ↦ rw e (lit< tt) | inr e ↦ rw e (lit< tt) ], (elim c.requires.capacity [ inl e ↦ rw e (lit< tt) | inr e ↦ rw e (lit< tt) ], (elim c.requires.capacity [ inl e ↦ rw e (lit< tt) | inr e ↦ rw e (lit< tt) ], (elim c.requires.capacity [ inl e ↦ rw e (lit< tt) | inr e ↦ rw e (lit< tt) ], (elim c.requires.capacity [ inl e ↦ rw e (lit< tt) | inr e ↦ rw e (lit< tt) ], (c.requires.capacity, (c.requires.before, (c.all_inputs-inputs.ensures, (fewer_calm sc p c.in-Some-calm_state.state c.in-Some.untouched (sc.config.m + 2) enough calm, (c.statements-all.ensures, subst (λ (y : Config g.row.N). IsClaimed y c.in-Some-calm_state.state (said_by (take (length c.args.nodes.now) c.statements-all.result)) c.of-claimed.result) is c.of-claimed.ensures)))))))))))
+
+pub returns-in_default : goal.returns-in_default
+returns-in_default g c = record { end = λ e. nothing_end e; alike = λ e. nothing_end e; «data» = λ e. nothing_data e; nothing = λ e. refl }
+
+pub returns-then-untouched-config : goal.returns-then-untouched-config
+returns-then-untouched-config g c = record { end = λ e. nothing_end e; alike = λ e. nothing_end e; «data» = λ e. nothing_data e; nothing = λ e. refl }
+
+pub returns-in_default-calm_state : goal.returns-in_default-calm_state
+returns-in_default-calm_state g c = record { end = λ e. nothing_end e; alike = λ e. nothing_end e; «data» = λ e. nothing_data e; nothing = λ e. refl }
+
+pub returns-then-untouched-slot_count : goal.returns-then-untouched-slot_count
+returns-then-untouched-slot_count g c = record { end = λ e. c.pass_all.ensures.after; alike = λ e. c.pass_all.ensures.alike; «data» = λ e. end_data e; nothing = λ e. end_nothing e }
+
+pub returns : goal.returns
+returns g c = record { end = λ e. data_end e; alike = λ e. data_end e; «data» = λ e. c.open_data_all.ensures; nothing = λ e. data_nothing e }
+
+pub untouched_slots-requires : goal.untouched_slots-requires
+untouched_slots-requires g c = (lit< tt, c.requires.capacity)

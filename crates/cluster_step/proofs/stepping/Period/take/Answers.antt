@@ -1,9 +1,10 @@
-use Rattle.std.proofs.Common.{ℕ, ◌+◌, length, ap, subst, sym, ◌∙◌, inl, inr, lit<}
+use Rattle.std.proofs.Common.{refl, ℕ, ◌+◌, length, ap, subst, sym, ◌∙◌, inl, inr, lit<}
 use Rattle.scenario.specs.Scenario.{system_of}
 use Rattle.cluster_periods.specs.Record.{PeriodView}
 use Rattle.cluster_periods.specs.Periods.{AreNodes}
 use Rattle.cluster_record.proofs.Showing.{many_slots}
 use Rattle.cluster_step.proofs.Calmed.{alike_by_rows}
+use Rattle.cluster_step.proofs.Slotting.{with_sent}
 use Rattle.cluster_periods.proofs.Listed.{many_nodes}
 use Rattle.cluster_step.proofs.stepping.Period.take.Goals as goal
 
@@ -85,3 +86,36 @@ returns-in-Data-clause-shown g c = c.step_late.ensures.shown
 
 pub returns-in-Data-clause-slots : goal.returns-in-Data-clause-slots
 returns-in-Data-clause-slots g c = c.step_late.ensures.slots
+
+pub returns-then-frames-clause-after : goal.returns-then-frames-clause-after
+returns-then-frames-clause-after g c = c.step.ensures.after
+
+pub returns-then-frames-clause-shown : goal.returns-then-frames-clause-shown
+returns-then-frames-clause-shown g c = with_sent c.args.shown.now c.step.new.shown _ c.step.ensures.shown
+
+pub returns-then-frames-clause-frames : goal.returns-then-frames-clause-frames
+returns-then-frames-clause-frames g c = λ on. ap (λ (r : PeriodView). r.sent) c.step.ensures.shown
+
+pub returns-then-frames-clause-alike : goal.returns-then-frames-clause-alike
+returns-then-frames-clause-alike g c = λ told. cc
+
+pub returns-in-Nothing-clause-after : goal.returns-in-Nothing-clause-after
+returns-in-Nothing-clause-after g c = c.step-in-Nothing.ensures.after
+
+pub returns-in-Nothing-clause-shown : goal.returns-in-Nothing-clause-shown
+returns-in-Nothing-clause-shown g c = with_sent c.args.shown.now c.step-in-Nothing.new.shown _ c.step-in-Nothing.ensures.shown
+
+pub returns-in-Nothing-clause-frames : goal.returns-in-Nothing-clause-frames
+returns-in-Nothing-clause-frames g c = λ on. ap (λ (r : PeriodView). r.sent) c.step-in-Nothing.ensures.shown
+
+pub returns-in-Nothing-clause-alike : goal.returns-in-Nothing-clause-alike
+returns-in-Nothing-clause-alike g c = λ told. cc
+
+pub returns-in-End-clause-shown : goal.returns-in-End-clause-shown
+returns-in-End-clause-shown g c = refl
+
+pub returns-in-End-clause-slots : goal.returns-in-End-clause-slots
+returns-in-End-clause-slots g c = c.requires.shape.slots
+
+pub returns-in-End-clause-frames : goal.returns-in-End-clause-frames
+returns-in-End-clause-frames g c = λ on. absurd (let off = c.if-frames.false in cc)
