@@ -1,5 +1,5 @@
 -- Of which senders it is known that their frames are as commonly guessed.
-use Rattle.std.proofs.Common.{ℕ, ◌≡◌, ◌<◌, ◌≤◌, ◌==◌, ◌||◌, ◌+◌, ◌*◌, ◌^◌, true, false, List, [], map, length, get_or, set, sym, ap, subst, ◌∙◌, inl, inr, arith, ne_eqb}
+use Rattle.std.proofs.Common.{Fits, w64, ℕ, ◌≡◌, ◌<◌, ◌≤◌, ◌==◌, ◌||◌, ◌+◌, ◌*◌, ◌^◌, true, false, List, [], map, length, get_or, set, sym, ap, subst, ◌∙◌, inl, inr, arith, ne_eqb}
 use Rattle.std.proofs.lemmas.Bool.{cases_eq, cases_lt}
 use Rattle.std.proofs.lemmas.Nat.{mul-le}
 use Rattle.std.proofs.lemmas.List.{get_or-map, get_or-set_same, get_or-set_other}
@@ -51,3 +51,7 @@ all_found cs i n frame long end before = λ k d low. before k d (omega (arith, l
 -- the place of an element of a list that fits into memory has a number
 pub offset_fits : (i many size : ℕ) → i < many → many * size < 2 ^ 63 → i * size < 2 ^ 64
 offset_fits i many size low fits = let m : i * size ≤ many * size = mul-le i size many size (omega (arith, low)) (omega arith) in omega (arith, m, fits)
+
+-- a byte is a place
+pub byte_fits : (x : ℕ) → x < 256 → Fits w64 x
+byte_fits x low = omega arith

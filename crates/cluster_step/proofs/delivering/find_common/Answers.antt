@@ -3,7 +3,7 @@ use Rattle.std.proofs.lemmas.List.Elements.{All-get_or}
 use Rattle.guessed_frames.specs.Common.{Common, AreGuessedIn, frame_by}
 use Rattle.node_steps.specs.Parts.{NodeView}
 use Rattle.node_steps.specs.Steps.{frame_of}
-use Rattle.cluster_step.proofs.Shared.{none_known, one_known, told_here}
+use Rattle.cluster_step.proofs.Shared.{byte_fits, none_known, one_known, told_here}
 use Rattle.cluster_step.proofs.delivering.find_common.Goals as goal
 use Rattle.cluster_step.proofs.delivering.find_common.Goals.{then-me-i+then-has+then-tells, else-me-i, else-me-i-via-then-me-i+then-has+else-tells, else-me-i-via-then-me-i+else-has, else-me-i-via-else-me-i}
 
@@ -68,3 +68,6 @@ returns g c = c.loop-i.invariant
 
 pub returns-in_default : goal.returns-in_default
 returns-in_default g c = none_known c.forget.new.self (frame_by (map frame_of c.args.nodes.now)) c.forget.ensures
+
+pub overflow_cast-me : goal.overflow_cast-me
+overflow_cast-me g c = byte_fits c.me.result c.me.type_inv
