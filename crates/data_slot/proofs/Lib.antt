@@ -3,3 +3,4 @@ mod Owns
 mod Senders
 mod Spelling
 mod Voting
+mod Judging
