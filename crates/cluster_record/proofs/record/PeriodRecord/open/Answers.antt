@@ -1,4 +1,5 @@
-use Rattle.std.proofs.Common.{◌≤◌, refl, ◌∙◌, arith, inl, inr, lit<}
+use mathlib.Core.List.{not-mem-nil}
+use Rattle.std.proofs.Common.{lit≤, ◌≤◌, refl, ◌∙◌, arith, inl, inr, lit<}
 use Rattle.std.proofs.lemmas.List.{length-map}
 use Rattle.agreed_state.specs.ConfigLaws.{few_rounds}
 use Rattle.cluster_record.specs.Buffers.{slot_bytes}
@@ -31,3 +32,21 @@ returns g c = record {
   claimed = refl;
   clocks = refl;
 }
+
+pub returns-in_default : goal.returns-in_default
+returns-in_default g c = tt
+
+pub all_buffers-requires : goal.all_buffers-requires
+all_buffers-requires g c = tt
+
+pub returns-in_default-all_buffers : goal.returns-in_default-all_buffers
+returns-in_default-all_buffers g c = tt
+
+pub no_members-requires : goal.no_members-requires
+no_members-requires g c = tt
+
+pub empty-requires : goal.empty-requires
+empty-requires g c = (lit< tt, elim c.requires.capacity [ inl e ↦ rw e (lit≤ tt) | inr e ↦ rw e (lit≤ tt) ])
+
+pub drop-records-requires : goal.drop-records-requires
+drop-records-requires g c κs = ((λ a m. absurd (not-mem-nil m)), (λ a m. absurd (not-mem-nil m)))
