@@ -1,4 +1,6 @@
 -- What holds of a controller is kept where little of it changes.
+use lib.Dec.{ltb}
+use borrow.Author.Tests.{ltb-true}
 use Rattle.std.proofs.Common.{ℕ, ◌≡◌, ◌≤◌, Bool, true, false, List, Option, None, Some, Vec, Global, refl, sym, ap, subst, ◌∙◌, arith}
 use Rattle.std.specs.Prelude.{IsSome, IfSome, vec_capacity}
 use Rattle.omh_paths.specs.declared.wrapped.Wrapped.{Wrapped}
@@ -39,6 +41,10 @@ module _ {N : ℕ} (config : Config N) (me : ℕ) (w : Watch) (i : IsItsWatch co
 
 pub shut_open : {b : Bool} → b ≡ false → b ≡ true → ⊥
 shut_open p q = let x = sym p ∙ q in cc
+
+-- no round is a later one and the first
+pub none_above : (r : ℕ) → r ≤ 0 → ltb 0 r ≡ true → ⊥
+none_above r low high = let l = ltb-true 0 r high in omega arith
 
 -- no slot is open where the watch was closed
 pub not_open : (w u : Watch) → u ≡ closed w → u.is_open ≡ true → ⊥

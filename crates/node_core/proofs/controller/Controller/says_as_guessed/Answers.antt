@@ -1,10 +1,11 @@
+use mathlib.Core.List.{not-mem-nil}
 use Rattle.std.proofs.Common.{◌≡◌, true, sym, ap, ap₂, subst, ◌∙◌, refl, inl, inr, lit<}
 use Rattle.std.specs.Prelude.{IsSome}
 use Rattle.node_grid.specs.NodeSet.{has_id}
 use Rattle.protocol.specs.Run.{members_in}
 use Rattle.node_steps.specs.Parts.{NodeView}
 use Rattle.node_core.proofs.Told.{in_round}
-use Rattle.node_core.proofs.Standing.{shut_open}
+use Rattle.node_core.proofs.Standing.{none_above, shut_open}
 use Rattle.slot_plan.specs.declared.slot.Slot.TheVariants.{Sync}
 use Rattle.node_core.specs.Telling.IsSharedSlot.{in_sync}
 use Rattle.node_core.proofs.Behind.{stands_in}
@@ -39,3 +40,12 @@ returns-in-Sync g c = λ h.
       state = subst (λ (w : NodeView g.row.N). IsSome w.phase.before) is c.if-is_none.ensures;
       slot = in_sync (stands_in c.self.inside c.args.self.now c.self.invariant is Sync c.in-Sync.is);
     }
+
+pub is_none-requires : goal.is_none-requires
+is_none-requires g c = λ κs a m. absurd (not-mem-nil m)
+
+pub has-requires : goal.has-requires
+has-requires g c = lit< tt
+
+pub returns-else-round-gt0 : goal.returns-else-round-gt0
+returns-else-round-gt0 g c = λ h. absurd (none_above c.in-Claims.round c.if-round-gt0.false h)

@@ -1,4 +1,4 @@
-use Rattle.std.proofs.Common.{sym, ◌∙◌}
+use Rattle.std.proofs.Common.{inl, inr, lit<, sym, ◌∙◌}
 use Rattle.std.proofs.lemmas.Bool.{cond-true, cond-false}
 use Rattle.node_core.proofs.controller.sync.state_of_period.Goals as goal
 
@@ -13,3 +13,6 @@ returns-else-phase-clause-state g c = c.adopt.ensures.adopted ∙ sym (cond-fals
 
 pub returns-then-phase-clause-state : goal.returns-then-phase-clause-state
 returns-then-phase-clause-state g c = sym (cond-true _ _ _ c.if-phase.true)
+
+pub adopt-requires : goal.adopt-requires
+adopt-requires g c = (elim c.requires.capacity [ inl e ↦ rw e (lit< tt) | inr e ↦ rw e (lit< tt) ], (lit< tt, (elim c.requires.capacity [ inl e ↦ rw e (lit< tt) | inr e ↦ rw e (lit< tt) ], (c.requires.capacity, (c.requires.config, (c.requires.watching c.if-phase.false, c.requires.sized))))))
