@@ -127,8 +127,12 @@ impl<'s, const N: usize> Period<'s, N> {
         requires untouched { IsUntouched self.now.scenario.now.plan self.now.number untouched }
         ensures { IfSome result (λ a. IsCalmWith self.now.scenario.now self.now.number a untouched) }
     {
-        let (first, others) = nodes.split_first()?;
-        let state = first.state()?;
+        let Some((first, others)) = nodes.split_first() else {
+            return None;
+        };
+        let Some(state) = first.state() else {
+            return None;
+        };
         if state.members.len() <= self.scenario.config().m || !all_keep(others, &state, alike) {
             return None;
         }

@@ -16,17 +16,17 @@ returns g c =
     let sc = c.args.self.now.scenario.now in
     let nodes = c.args.nodes.now in
     let m : c.config.result.now.m ≡ sc.config.m = ap (λ (y : Config g.row.N). y.m) c.config.ensures.config in
-    let many : c.len.result ≡ length c.in_ok-state.state.standing.members = c.len.ensures.count ∙ ap (λ (a : AgreedView). length a.standing.members) c.state-2.view_is in
-    let parted : nodes ≡ c.in_ok-first.first.now ∷ c.in_ok-first.others.now = c.in_ok-first.ensures.cases.0 in
-    let here : c.in_ok-first.first.now.kept.state ≡ Some c.in_ok-state.state = sym c.in_ok-state.ensures in
+    let many : c.len.result ≡ length c.in-Some-state.state.standing.members = c.len.ensures.count ∙ ap (λ (a : AgreedView). length a.standing.members) c.state-2.view_is in
+    let parted : nodes ≡ c.in-Some.first.now ∷ c.in-Some.others.now = c.in-Some.ensures.cases.0 in
+    let here : c.in-Some.first.now.kept.state ≡ Some c.in-Some-state.state = sym c.in-Some-state.ensures in
     calm_with sc c.args.self.now.number c.requires.capacity c.config.ensures.scenario nodes c.requires.before
     (many_nodes sc c.requires.before.room c.args.self.now.number nodes c.requires.before.before)
-    c.args.untouched c.requires.untouched c.in_ok-state.state (omega (arith, m, many, c.if-len-config.false))
-    (all_keep nodes c.in_ok-first.others.now c.in_ok-first.first.now c.in_ok-state.state parted here (c.all_keep.ensures c.if-not-all_keep.false))
+    c.args.untouched c.requires.untouched c.in-Some-state.state (omega (arith, m, many, c.if-len-config.false))
+    (all_keep nodes c.in-Some.others.now c.in-Some.first.now c.in-Some-state.state parted here (c.all_keep.ensures c.if-not-all_keep.false))
 
 pub all_keep-requires : goal.all_keep-requires
 all_keep-requires g c =
     let nodes = c.args.nodes.now in
-    let parted : nodes ≡ c.in_ok-first.first.now ∷ c.in_ok-first.others.now = c.in_ok-first.ensures.cases.0 in
-    let here : c.in_ok-first.first.now.kept.state ≡ Some c.in_ok-state.state = sym c.in_ok-state.ensures in
-    (elim c.requires.capacity [ inl e ↦ rw e (lit< tt) | inr e ↦ rw e (lit< tt) ], (elim c.requires.capacity [ inl e ↦ rw e (lit< tt) | inr e ↦ rw e (lit< tt) ], (c.requires.capacity, λ told. others_keep nodes c.in_ok-first.others.now c.in_ok-first.first.now c.in_ok-state.state parted here (c.requires.alike told))))
+    let parted : nodes ≡ c.in-Some.first.now ∷ c.in-Some.others.now = c.in-Some.ensures.cases.0 in
+    let here : c.in-Some.first.now.kept.state ≡ Some c.in-Some-state.state = sym c.in-Some-state.ensures in
+    (elim c.requires.capacity [ inl e ↦ rw e (lit< tt) | inr e ↦ rw e (lit< tt) ], (elim c.requires.capacity [ inl e ↦ rw e (lit< tt) | inr e ↦ rw e (lit< tt) ], (c.requires.capacity, λ told. others_keep nodes c.in-Some.others.now c.in-Some.first.now c.in-Some-state.state parted here (c.requires.alike told))))
