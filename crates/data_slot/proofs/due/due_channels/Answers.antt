@@ -56,3 +56,6 @@ returns g c =
     let p : ℕ → Bool = λ c'. due_by (slice_index_or c.args.config.now.channels.items c' no_channel) c.args.finished in
     let all : c.loop-c.c ≡ length c.args.config.now.channels.items = (let t = c.loop-c-test.false in let n = c.len-c-end.ensures.value in let e = c.loop-c.auto.c-end in omega arith) in
     c.loop-c.invariant ∙ ap (λ (n : ℕ). ids_where p n) all
+
+pub overflow_cast-c : goal.overflow_cast-c
+overflow_cast-c g c = let t = c.loop-c-test.true in let n = c.len-c-end.ensures.value in let f = c.requires.config.few_channels in omega arith
