@@ -1,4 +1,5 @@
 use Rattle.std.proofs.Common.{◌≡◌, ◌<◌, ◌+◌, ℕ, List, Option, ℤ, pos, None, Some, inl, inr, length, length-set, set, get_or, get_or-set_other, get_or-set_same, sym, ap, ◌∙◌, arith}
+use Rattle.std.proofs.lemmas.List.{length-replicate}
 use Rattle.std.proofs.lemmas.Bool.{cases_eq}
 use Rattle.protocol.specs.View.{own_in}
 use Rattle.data_slot.specs.Told.{at_channel, value_told}
@@ -52,3 +53,6 @@ loop-node-preserved g c =
 
 pub returns : goal.returns
 returns g c q k low few = let t = c.loop-node-test.false in c.loop-node.invariant.so_far q k (omega arith) few
+
+pub loop-node-init : goal.loop-node-init
+loop-node-init g c = record { wide = length-replicate g.row.N None; so_far = λ q k low few. absurd (omega (arith, low)) }

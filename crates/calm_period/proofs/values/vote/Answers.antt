@@ -54,3 +54,6 @@ returns-clause-off g c =
     c.nodes_off-off.ensures
     ∙ ap₂ (λ (due : List ℕ) (votes : List (Option ℤ)). ids_where (is_off config due told votes) config.nodes) c.requires.due (returns-clause-votes g c)
     ∙ offs_are config a said told all
+
+pub values_told-told-requires : goal.values_told-told-requires
+values_told-told-requires g c = let cap : IsCapacity g.row.N = c.requires.capacity in (elim cap [ inl e ↦ rw e (lit< tt) | inr e ↦ rw e (lit< tt) ], (elim cap [ inl e ↦ rw e (lit< tt) | inr e ↦ rw e (lit< tt) ], (elim cap [ inl e ↦ rw e (lit< tt) | inr e ↦ rw e (lit< tt) ], (c.requires.config, c.requires.statements))))

@@ -102,3 +102,9 @@ returns g c =
           ∙ ap (agreed_after g.row.N config p a (calm_claims (setting_of config) a said)) rows;
       agreed = c.step_from.ensures.agreed;
     }
+
+pub of-claimed-requires : goal.of-claimed-requires
+of-claimed-requires g c = (elim c.requires.capacity [ inl e ↦ rw e (lit< tt) | inr e ↦ rw e (lit< tt) ], (elim c.requires.capacity [ inl e ↦ rw e (lit< tt) | inr e ↦ rw e (lit< tt) ], (elim c.requires.capacity [ inl e ↦ rw e (lit< tt) | inr e ↦ rw e (lit< tt) ], (elim c.requires.capacity [ inl e ↦ rw e (lit< tt) | inr e ↦ rw e (lit< tt) ], (c.requires.capacity, (c.requires.config, (c.requires.agreed, c.requires.statements)))))))
+
+pub deref-requires : goal.deref-requires
+deref-requires g c = lit< tt
