@@ -43,3 +43,8 @@ returns-clause-off g c =
     let told : TellsValues c.args.config.now.nodes slot.me slot.full slot.due.now slot.own.now c.args.watch.now c.hear-told.result = record { each = c.hear-told.ensures } in
     c.deviating-off.ensures
     ∙ offs_are c.args.config.now slot.me slot.full slot.due.now slot.own.now c.args.watch.now c.hear-told.result c.vote_due-votes.result told
+
+pub hear-told-requires : goal.hear-told-requires
+hear-told-requires g c =
+    let cap : IsCapacity g.row.N = c.requires.capacity in
+    (lit< tt, (elim cap [ inl e ↦ rw e (lit< tt) | inr e ↦ rw e (lit< tt) ], (elim cap [ inl e ↦ rw e (lit< tt) | inr e ↦ rw e (lit< tt) ], (cap, (c.requires.config, (c.requires.due, (c.requires.closed, (c.requires.some_slot, (c.requires.unguessed, (c.requires.nodes, c.requires.me))))))))))
