@@ -45,7 +45,7 @@ pub returns-in-Ok-clause-unreadable : goal.returns-in-Ok-clause-unreadable
 returns-in-Ok-clause-unreadable g c =
     let bytes = c.as_slice.result.now in
     let whole : IsWhole (g.S.Source.left c.args.source.now) (g.S.Source.left c.read_all.new.source) bytes =
-        record { all = rw c.as_slice.ensures.value c.in-Ok.ensures.whole; end = c.in-Ok.ensures.end; short = rw c.as_slice.ensures.value c.in-Ok.ensures.within } in
+    record { all = rw c.as_slice.ensures.value c.in-Ok.ensures.whole; end = c.in-Ok.ensures.end; short = rw c.as_slice.ensures.value c.in-Ok.ensures.within } in
     λ e. let a = answers_so c.in-Some-Read.reading c.as_slice.result.now _ _ _ _ c.answer.result Unreadable c.answer.ensures e in (bytes, whole, a.0, a.1)
 
 pub returns-in-Ok-clause-refused : goal.returns-in-Ok-clause-refused
@@ -53,7 +53,7 @@ returns-in-Ok-clause-refused g c =
     let calls : Calls (texts c.args.words.now) (Read c.in-Some-Read.reading) = subst (λ (command : Command). Calls (texts c.args.words.now) command) c.in-Some-Read.field-0-is c.in-Some-Read.ensures.found in
     let bytes = c.as_slice.result.now in
     let whole : IsWhole (g.S.Source.left c.args.source.now) (g.S.Source.left c.read_all.new.source) bytes =
-        record { all = rw c.as_slice.ensures.value c.in-Ok.ensures.whole; end = c.in-Ok.ensures.end; short = rw c.as_slice.ensures.value c.in-Ok.ensures.within } in
+    record { all = rw c.as_slice.ensures.value c.in-Ok.ensures.whole; end = c.in-Ok.ensures.end; short = rw c.as_slice.ensures.value c.in-Ok.ensures.within } in
     λ e. let a = answers_so c.in-Some-Read.reading c.as_slice.result.now _ _ _ _ c.answer.result Refused c.answer.ensures e in (c.in-Some-Read.reading, bytes, a.0, a.1, calls, whole, a.2, a.3)
 
 pub returns-in-Ok-clause-write_fault : goal.returns-in-Ok-clause-write_fault
@@ -61,7 +61,7 @@ returns-in-Ok-clause-write_fault g c =
     let calls : Calls (texts c.args.words.now) (Read c.in-Some-Read.reading) = subst (λ (command : Command). Calls (texts c.args.words.now) command) c.in-Some-Read.field-0-is c.in-Some-Read.ensures.found in
     let bytes = c.as_slice.result.now in
     let whole : IsWhole (g.S.Source.left c.args.source.now) (g.S.Source.left c.read_all.new.source) bytes =
-        record { all = rw c.as_slice.ensures.value c.in-Ok.ensures.whole; end = c.in-Ok.ensures.end; short = rw c.as_slice.ensures.value c.in-Ok.ensures.within } in
+    record { all = rw c.as_slice.ensures.value c.in-Ok.ensures.whole; end = c.in-Ok.ensures.end; short = rw c.as_slice.ensures.value c.in-Ok.ensures.within } in
     λ e. let a = answers_so c.in-Some-Read.reading c.as_slice.result.now _ _ _ _ c.answer.result WriteFault c.answer.ensures e in (Read c.in-Some-Read.reading, bytes, a.0, calls, whole, a.1, a.2, a.3)
 
 pub returns-in-Ok-clause-no_memory : goal.returns-in-Ok-clause-no_memory
@@ -73,7 +73,7 @@ returns-in-Ok-clause-done g c =
     let calls : Calls (texts c.args.words.now) (Read c.in-Some-Read.reading) = subst (λ (command : Command). Calls (texts c.args.words.now) command) c.in-Some-Read.field-0-is c.in-Some-Read.ensures.found in
     let bytes = c.as_slice.result.now in
     let whole : IsWhole (g.S.Source.left c.args.source.now) (g.S.Source.left c.read_all.new.source) bytes =
-        record { all = rw c.as_slice.ensures.value c.in-Ok.ensures.whole; end = c.in-Ok.ensures.end; short = rw c.as_slice.ensures.value c.in-Ok.ensures.within } in
+    record { all = rw c.as_slice.ensures.value c.in-Ok.ensures.whole; end = c.in-Ok.ensures.end; short = rw c.as_slice.ensures.value c.in-Ok.ensures.within } in
     λ e. let a = answers_so c.in-Some-Read.reading c.as_slice.result.now _ _ _ _ c.answer.result Done c.answer.ensures e in (Read c.in-Some-Read.reading, bytes, a.0, calls, whole, a.1, a.2)
 
 pub returns-in-Some-Storm-clause-usage : goal.returns-in-Some-Storm-clause-usage

@@ -34,14 +34,14 @@ begin-requires g c =
     )
 
 pub wake-requires : goal.wake-requires
-wake-requires g c = 
+wake-requires g c =
     (elim c.requires.capacity [ inl e ↦ rw e (lit< tt) | inr e ↦ rw e (lit< tt) ], (elim c.requires.capacity [ inl e ↦ rw e (lit< tt) | inr e ↦ rw e (lit< tt) ], (c.requires.capacity, (c.requires.closed, c.requires.period))))
 
 pub id-requires : goal.id-requires
 id-requires g c = elim c.requires.capacity [ inl e ↦ rw e (lit< tt) | inr e ↦ rw e (lit< tt) ]
 
 pub returns : goal.returns
-returns g c = 
+returns g c =
     let given : c.inputs.result ≡ inputs_of c.args.input.now.scenario c.args.input.now.id c.args.period =
-        c.inputs.ensures ∙ ap₂ (λ (s : ScenarioView g.row.N) (i : ℕ). inputs_of s i c.args.period) c.scenario.ensures.scenario c.id.ensures.id in
+    c.inputs.ensures ∙ ap₂ (λ (s : ScenarioView g.row.N) (i : ℕ). inputs_of s i c.args.period) c.scenario.ensures.scenario c.id.ensures.id in
     c.begin.ensures ∙ ap₂ (λ (v : NodeView g.row.N) (i : Inputs). begun v c.args.period i) c.wake.ensures given

@@ -58,7 +58,7 @@ pub period-requires : goal.period-requires
 period-requires g c = tt
 
 pub begin-requires : goal.begin-requires
-begin-requires g c = 
+begin-requires g c =
     (elim c.requires.capacity [ inl e ↦ rw e (lit< tt) | inr e ↦ rw e (lit< tt) ], (elim c.requires.capacity [ inl e ↦ rw e (lit< tt) | inr e ↦ rw e (lit< tt) ], (c.requires.capacity, (c.requires.before.shut, c.requires.period))))
 
 pub entries-requires : goal.entries-requires

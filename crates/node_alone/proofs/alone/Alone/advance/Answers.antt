@@ -29,7 +29,7 @@ invariant_of-self g c =
     }
 
 pub overflow_add-self : goal.overflow_add-self
-overflow_add-self g c = 
+overflow_add-self g c =
     let run : c.self.inside.run ≡ c.args.self.now.run = ap (λ (v : AloneView g.row.N). v.run) c.self.view_is in
     let periods : c.self.inside.input.now.scenario.periods ≡ c.args.self.now.input.scenario.periods = ap (λ (v : AloneView g.row.N). v.input.scenario.periods) c.self.view_is in
     omega (arith, run, periods, c.requires.more, c.self.invariant.input.scenario.few_periods)
