@@ -6,38 +6,28 @@ ghost use Rattle.omh.specs.Heard.{heard_in};
 ghost use Rattle.heard.specs.Keep.{IsSmall, last_node};
 
 use crate::hearing::Heard;
-use crate::places::{are_one, has_at};
+use crate::places::has_at;
 use crate::store::Store;
 use crate::value::Value;
 use omh_paths::{Path, Wrapped};
 
 impl<V: Value, const N: usize> Store<V, N> {
-    /// Whether no frame of relay round `r` of another node came, nor did it say anything of itself.
-    fn is_silent(&self, q: u8, r: usize) -> bool
-        ensures { result ≡ true → q ≢ self.now.me }
-    {
-        if q == self.me || has_at(&self.as_expected, r, q) || has_at(&self.echoes, r, q) {
-            return false;
-        }
-        are_one(self.heard_of(q), Wrapped::Fault(0))
-    }
-
-    /// Whether more is known of what another node said in its frame of relay round `r` than that
-    /// it's what was guessed: its values are kept, or it's silent.
+    /// Whether more is known of what another node said in its frame of relay round `r`, once that
+    /// was taken up, than that it's what was guessed: its values are kept, or it didn't come.
     fn tells(&self, q: u8, r: usize) -> bool
         ensures { result ≡ true → q ≢ self.now.me }
     {
         if q == self.me {
             return false;
         }
-        has_at(&self.in_cells, r, q) || self.is_silent(q, r)
+        !has_at(&self.as_expected, r, q) && !has_at(&self.echoes, r, q)
     }
 }
 
 impl<V: Value, const N: usize> Heard<V, N> {
     /// What the last node of a path, another one, said for the path before it, where its frame is
-    /// kept value by value, or where it's silent. It's that also for a path that the node itself is
-    /// on: what is said for such paths isn't among what was heard, and of it nothing more is
+    /// kept value by value, or where it didn't come. It's that also for a path that the node itself
+    /// is on: what is said for such paths isn't among what was heard, and of it nothing more is
     /// promised.
     pub fn passed_by(&self, path: &Path) -> Option<Wrapped<V>>
         ensures heard { has_id path.now self.now.me ≡ false →

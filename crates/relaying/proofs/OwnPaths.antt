@@ -1,5 +1,5 @@
 -- Paths that the node itself is on.
-use Rattle.std.proofs.Common.{ℕ, ◌≡◌, ◌≢◌, ◌<◌, ◌==◌, ◌||◌, Bool, true, false, List, [], ◌∷◌, ◌++◌, length, get_or, refl, sym, ap, ap₂, ◌∙◌, inl, inr, eq-eqb, ne_eqb, eqb-true}
+use Rattle.std.proofs.Common.{ℕ, ◌≡◌, ◌≢◌, ◌<◌, ◌+◌, ◌==◌, ◌||◌, Bool, true, false, List, [], ◌∷◌, ◌++◌, length, length-append, get_or, refl, sym, ap, ap₂, ◌∙◌, inl, inr, eq-eqb, ne_eqb, eqb-true, arith}
 use Rattle.std.proofs.lemmas.Bool.{or_left, or_right, or_cases}
 use Rattle.node_grid.specs.NodeSet.{has_id, without_id}
 use Rattle.node_grid.specs.ListLaws.{has_push}
@@ -29,7 +29,7 @@ pub record IsOwn (members : List ℕ) (me r : ℕ) (path : List ℕ) : Type 0 wh
   pub on : has_id path me ≡ true
   pub within : (q : ℕ) → has_id path q ≡ true → has_id members q ≡ true
 
-root_within : (s : List ℕ) (c : ℕ) → has_id s c ≡ true → (q : ℕ) → has_id (c ∷ []) q ≡ true → has_id s q ≡ true
+pub root_within : (s : List ℕ) (c : ℕ) → has_id s c ≡ true → (q : ℕ) → has_id (c ∷ []) q ≡ true → has_id s q ≡ true
 root_within s c on q h = elim (or_cases (c == q) false h) [
   | inl e ↦ ap (has_id s) (sym (eqb-true c q e)) ∙ on
   | inr n ↦ absurd (cc)
@@ -58,6 +58,19 @@ module _ (members : List ℕ) (me : ℕ) (member : has_id members me ≡ true) w
     on = ap (λ (p : List ℕ). has_id p me) is ∙ on_grown ((x ∷ []) ++ me ∷ []) y me (on_last (x ∷ []) me);
     within = λ q h. within_grown members ((x ∷ []) ++ me ∷ []) y (within_grown members (x ∷ []) me (root_within members x on) member) here q (ap (λ (p : List ℕ). has_id p q) (sym is) ∙ h);
   }
+
+  pub end_own : (front path : List ℕ) → ((q : ℕ) → has_id front q ≡ true → has_id members q ≡ true) → path ≡ front ++ me ∷ [] → IsOwn members me (length front + 1) path
+  end_own front path within is = record {
+    long = ap length is ∙ length-append front (me ∷ []);
+    on = ap (λ (p : List ℕ). has_id p me) is ∙ on_last front me;
+    within = λ q h. within_grown members front me within member q (ap (λ (p : List ℕ). has_id p q) (sym is) ∙ h);
+  }
+
+pub some_left : (xs : List ℕ) (b : Bool) → (xs ≡ [] → b ≡ true) → b ≡ false → 0 < length xs
+some_left [] b is none =
+    let yes : b ≡ true = is refl in
+    absurd (cc)
+some_left (x ∷ xs) b is none = omega arith
 
 -- another member, read at a place
 pub other_at : (members ms others : List ℕ) (me m i y : ℕ) → ms ≡ members → m ≡ me → others ≡ without_id ms m → i < length others → y ≡ get_or others i 0 → has_id (without_id members me) y ≡ true

@@ -1,7 +1,7 @@
 //! What a node guesses of the relay frames of a round where not all of it is as expected.
 
-ghost use Rattle.std.specs.Prelude.{ℕ, ◌≡◌, ◌≢◌, ◌*◌, ◌<◌, ◌≤◌, true, length, replicate};
-ghost use Rattle.std.specs.Prelude.{Some, None, IfSome};
+ghost use Rattle.std.specs.Prelude.{ℕ, ◌≡◌, ◌≢◌, ◌+◌, ◌*◌, ◌<◌, ◌≤◌, true, false, length};
+ghost use Rattle.std.specs.Prelude.{replicate, Some, None, IfSome};
 ghost use Rattle.node_grid.specs.NodeSet.{has_id, without_id};
 ghost use Rattle.omh_paths.specs.Paths.{path_count};
 ghost use Rattle.omh_paths.specs.declared.wrapped.Wrapped.TheVariants.{Fault};
@@ -20,6 +20,7 @@ use crate::writing::write_passed;
 use error_detect::SlotWatch;
 use frames::Expect;
 use heard::Heard;
+use node_grid::NodeSet;
 use omh_paths::{Path, Wrapped, count_paths, rank};
 
 /// Whether what was said of a path can be passed on in a relay round: it is in range where this is
@@ -55,7 +56,34 @@ fn said_of<V: Item<N>, const N: usize>(
 }
 
 /// Writes what was said of a path that the node itself is on, as what the others pass on of it,
-/// where they can. Of the path without its last node `before` was said.
+/// where they can.
+fn put_said<V: Item<N>, const N: usize>(
+    heard: &Heard<V, N>,
+    expect: &Expect<N>,
+    path: &Path,
+    said: &Wrapped<V>,
+    out: &mut [u8],
+)
+    requires slot { IsRoundOf N V.kind V.in_range (length path.now) heard.now (expected expect.now) }
+    requires on { has_id path.now heard.now.me ≡ true }
+    requires within { (q : ℕ) → has_id path.now q ≡ true → has_id heard.now.members q ≡ true }
+    requires small { IsSmall 7 said.now }
+    requires table { HasGuess (V.in_range (expected expect.now)) (V.spelling heard.now.nodes)
+        (length path.now) heard.now out.old }
+    ensures table { HasGuess (V.in_range (expected expect.now)) (V.spelling heard.now.nodes)
+        (length path.now) heard.now out.new }
+    ensures length { length out.new ≡ length out.old }
+{
+    let nodes = heard.nodes();
+    if !can_pass(said, expect, path.len()) {
+        return;
+    }
+    let place = rank(&heard.members(), path);
+    V::put(out, nodes, place, &said.wrap());
+}
+
+/// Writes what its last node said of a path that the node itself is on, or what is passed on of it,
+/// of which `before` was said without that node; where either is known.
 fn write_said<V: Item<N>, const N: usize>(
     heard: &Heard<V, N>,
     expect: &Expect<N>,
@@ -73,18 +101,82 @@ fn write_said<V: Item<N>, const N: usize>(
         (length path.now) heard.now out.new }
     ensures length { length out.new ≡ length out.old }
 {
-    let Some(said) = said_of(heard, before, path) else {
-        return;
-    };
-    let nodes = heard.nodes();
-    if !can_pass(&said, expect, path.len()) {
-        return;
+    if let Some(said) = said_of(heard, before, path) {
+        put_said(heard, expect, path, &said, out);
     }
-    let place = rank(&heard.members(), path);
-    V::put(out, nodes, place, &said.wrap());
 }
 
-/// Writes what each other member said of the node itself.
+/// Whether the member that said this of a path heard nothing for it. Where it isn't known what it
+/// said, that is taken to be `unknown`.
+fn is_nothing<V: Item<N>, const N: usize>(said: &Option<Wrapped<V>>, unknown: bool) -> bool {
+    match said {
+        None => unknown,
+        Some(Wrapped::Plain(_)) => false,
+        Some(Wrapped::Fault(wraps)) => *wraps <= 1,
+    }
+}
+
+/// Whether none of these members heard anything for a path; of those of which nothing is known that
+/// is taken to be `unknown`.
+fn is_unheard<V: Item<N>, const N: usize>(
+    heard: &Heard<V, N>,
+    front: &Path,
+    rest: &NodeSet<N>,
+    unknown: bool,
+) -> bool
+    requires room { length front.now < 4 }
+    requires off { (q : ℕ) → has_id rest.now q ≡ true → has_id front.now q ≡ false }
+{
+    for i in 0..rest.len() {
+        let said = heard.passed_by(&front.then(rest.at(i)));
+        if !is_nothing(&said, unknown) {
+            return false;
+        }
+    }
+    true
+}
+
+/// Whether the others are taken to hear nothing of the node itself: whether none of them heard what
+/// it told, nor, as far as is known, what it passed on of the first of them.
+fn is_mute<V: Item<N>, const N: usize>(heard: &Heard<V, N>) -> bool {
+    let me = heard.me();
+    let others = heard.members().without(me);
+    if others.is_empty() || !is_unheard(heard, &Path::root(me), &others, false) {
+        return false;
+    }
+    let x = others.at(0);
+    let front = Path::root(x).then(me);
+    is_unheard(heard, &front, &others.without(x), true)
+}
+
+/// Writes that nothing was heard for the path that goes on from this one with the node itself,
+/// where the others hear nothing of it.
+fn write_unheard<V: Item<N>, const N: usize>(
+    heard: &Heard<V, N>,
+    expect: &Expect<N>,
+    front: &Path,
+    is_mute: bool,
+    out: &mut [u8],
+)
+    requires slot { IsRoundOf N V.kind V.in_range (length front.now + 1) heard.now
+        (expected expect.now) }
+    requires room { length front.now < 4 }
+    requires off { has_id front.now heard.now.me ≡ false }
+    requires within { (q : ℕ) → has_id front.now q ≡ true → has_id heard.now.members q ≡ true }
+    requires member { has_id heard.now.members heard.now.me ≡ true }
+    requires table { HasGuess (V.in_range (expected expect.now)) (V.spelling heard.now.nodes)
+        (length front.now + 1) heard.now out.old }
+    ensures table { HasGuess (V.in_range (expected expect.now)) (V.spelling heard.now.nodes)
+        (length front.now + 1) heard.now out.new }
+    ensures length { length out.new ≡ length out.old }
+{
+    let path = front.then(heard.me());
+    if is_mute {
+        put_said(heard, expect, &path, &Wrapped::Fault(0), out);
+    }
+}
+
+/// Writes what each other member said of the node itself, and what the others heard of it of each.
 fn write_pairs<V: Item<N>, const N: usize>(heard: &Heard<V, N>, expect: &Expect<N>, out: &mut [u8])
     requires slot { IsRoundOf N V.kind V.in_range 2 heard.now (expected expect.now) }
     requires member { has_id heard.now.members heard.now.me ≡ true }
@@ -95,18 +187,23 @@ fn write_pairs<V: Item<N>, const N: usize>(heard: &Heard<V, N>, expect: &Expect<
     ensures length { length out.new ≡ length out.old }
 {
     let me = heard.me();
+    let root = Path::root(me);
     let others = heard.members().without(me);
+    let is_mute = is_unheard(heard, &root, &others, false);
     for i in 0..others.len() {
-        let path = Path::root(me).then(others.at(i));
-        write_said(heard, expect, &path, &None, out);
+        let x = others.at(i);
+        write_said(heard, expect, &root.then(x), &None, out);
+        write_unheard(heard, expect, &Path::root(x), is_mute, out);
     }
 }
 
-/// Writes what each other member said of the node itself and another one, in both orders.
+/// Writes what each other member said of the node itself and another one, in both orders, and what
+/// the others heard of it of each and that one.
 fn write_triples_of<V: Item<N>, const N: usize>(
     heard: &Heard<V, N>,
     expect: &Expect<N>,
     x: u8,
+    is_mute: bool,
     out: &mut [u8],
 )
     requires slot { IsRoundOf N V.kind V.in_range 3 heard.now (expected expect.now) }
@@ -119,20 +216,26 @@ fn write_triples_of<V: Item<N>, const N: usize>(
     ensures length { length out.new ≡ length out.old }
 {
     let me = heard.me();
+    let root = Path::root(x);
     let front = Path::root(me).then(x);
-    let back = Path::root(x).then(me);
+    let back = root.then(me);
     let before = heard.passed_by(&front);
+    let behind = if is_mute {
+        Some(Wrapped::Fault(0))
+    } else {
+        None
+    };
     let others = heard.members().without(me).without(x);
     for i in 0..others.len() {
         let y = others.at(i);
-        let near = front.then(y);
-        write_said(heard, expect, &near, &before, out);
-        let far = back.then(y);
-        write_said(heard, expect, &far, &None, out);
+        write_said(heard, expect, &front.then(y), &before, out);
+        write_said(heard, expect, &back.then(y), &behind, out);
+        write_unheard(heard, expect, &root.then(y), is_mute, out);
     }
 }
 
-/// Writes what each other member said of the node itself and another one.
+/// Writes what each other member said of the node itself and another one, and what the others heard
+/// of it of both.
 fn write_triples<V: Item<N>, const N: usize>(
     heard: &Heard<V, N>,
     expect: &Expect<N>,
@@ -147,8 +250,9 @@ fn write_triples<V: Item<N>, const N: usize>(
     ensures length { length out.new ≡ length out.old }
 {
     let others = heard.members().without(heard.me());
+    let is_mute = is_mute(heard);
     for i in 0..others.len() {
-        write_triples_of(heard, expect, others.at(i), out);
+        write_triples_of(heard, expect, others.at(i), is_mute, out);
     }
 }
 

@@ -10,7 +10,7 @@ use Rattle.frames.specs.Writing.{pasted}
 use Rattle.heard.specs.Places.{small_known}
 use Rattle.relaying.proofs.Tables.{wrapped_some}
 use Rattle.relaying.proofs.Tabling.{room_for, entry_put}
-use Rattle.relaying.proofs.guessing.write_said.Goals as goal
+use Rattle.relaying.proofs.guessing.put_said.Goals as goal
 
 pub put-requires-clause-fits : goal.put-requires-clause-fits
 put-requires-clause-fits g c =
@@ -34,17 +34,11 @@ returns-clause-table g c =
     let format : (v : _) → IsEntry P r v → length (g.V.Item.spelling h.nodes v) ≡ w = λ v range. subst (λ (n : ℕ). length (g.V.Item.spelling n v) ≡ g.V.Item.width n) c.requires.slot.nodes_are ((g.met.V.Item.format e r).long v range) in
     let low : c.rank-place.result < path_count (length h.members) r = subst (λ (ms : List ℕ). c.rank-place.result < path_count (length ms) r) c.members.ensures.members c.rank-place.ensures.in_range in
     let yes : c.can_pass.result ≡ true = c.if-not-can_pass.false in
-    let range : IsEntry P r c.wrap.result = subst (IsEntry P r) (sym c.wrap.ensures) (subst (λ (n : ℕ). IsEntry P n (wrapped c.in-Some.said)) c.len.ensures.count (c.can_pass.ensures yes)) in
+    let range : IsEntry P r c.wrap.result = subst (IsEntry P r) (sym c.wrap.ensures) (subst (λ (n : ℕ). IsEntry P n (wrapped c.args.said.now)) c.len.ensures.count (c.can_pass.ensures yes)) in
     entry_put P (g.V.Item.spelling h.nodes) w r h format c.args.out.now c.put.new.out c.requires.table c.args.path.now c.rank-place.result c.wrap.result
     (c.rank-place.ensures.place ∙ ap (λ (ms : List ℕ). place_in (paths_of_length ms r) c.args.path.now) c.members.ensures.members) low
     (subst Distinct c.members.ensures.members (Distinct-ids g.row.N c.members.result c.members.ensures.ids)) c.requires.on range
     (c.put.ensures ∙ ap (λ (n : ℕ). pasted (g.V.Item.width n * c.rank-place.result) (g.V.Item.spelling n c.wrap.result) c.args.out.now) c.nodes-nodes.ensures.nodes)
-
-pub returns-in_default-clause-table : goal.returns-in_default-clause-table
-returns-in_default-clause-table g c = c.requires.table
-
-pub returns-in_default-clause-length : goal.returns-in_default-clause-length
-returns-in_default-clause-length g c = refl
 
 pub nodes-nodes-requires : goal.nodes-nodes-requires
 nodes-nodes-requires g c = assumption
@@ -74,7 +68,7 @@ pub len-requires : goal.len-requires
 len-requires g c = tt
 
 pub wrap-requires : goal.wrap-requires
-wrap-requires g c = small_known 7 c.in-Some.said (lit< tt) c.in-Some.ensures.small
+wrap-requires g c = small_known 7 c.args.said.now (lit< tt) c.requires.small
 
 pub put-requires-clause-some : goal.put-requires-clause-some
-put-requires-clause-some g c = λ e. wrapped_some c.in-Some.said (sym c.wrap.ensures ∙ e)
+put-requires-clause-some g c = λ e. wrapped_some c.args.said.now (sym c.wrap.ensures ∙ e)
