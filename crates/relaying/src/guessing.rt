@@ -106,8 +106,8 @@ fn write_said<V: Item<N>, const N: usize>(
     }
 }
 
-/// Whether the member that said this of a path heard nothing for it. Where it isn't known what it
-/// said, that is taken to be `unknown`.
+/// Whether the member that said this of a path heard nothing for it, or said nothing at all. Where
+/// it isn't known what it said, that is taken to be `unknown`.
 fn is_nothing<V: Item<N>, const N: usize>(said: &Option<Wrapped<V>>, unknown: bool) -> bool {
     match said {
         None => unknown,
