@@ -2,3 +2,5 @@
 
 Nothing here is proved. The tools read and write the program's texts, and leave every judgement of a scenario to the program.
 """
+
+__version__ = "2026.11.30"

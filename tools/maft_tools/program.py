@@ -6,11 +6,12 @@ import os
 import pathlib
 import subprocess
 
+from . import check, json_text
 from .plan import Json, WordsError
 
 TOP = pathlib.Path(__file__).resolve().parents[2]
 STATUSES = {
-    3: "the input is no JSON text",
+    2: "its words are none of its forms; a node is numbered from 0 to 15",
     5: "the input could not be read",
     6: "its output could not be written",
     7: "there was not enough memory",
@@ -31,32 +32,42 @@ def find(given: str | None) -> str:
     return done.stdout.strip()
 
 
-def run(program: str, words: list[str], scenario: Json | str) -> tuple[int, str]:
-    """Status and output of the program on a scenario, given as an object or as its text."""
+def input_of(scenario: Json | str | bytes) -> bytes:
+    """The program's input: a scenario given as an object, as its text, or as bytes."""
+    if isinstance(scenario, bytes):
+        return scenario
     text = scenario if isinstance(scenario, str) else json.dumps(scenario, separators=(",", ":"))
-    done = subprocess.run([program, *words], input=text.encode(), capture_output=True)
+    return text.encode()
+
+
+def run(program: str, words: list[str], scenario: Json | str | bytes) -> tuple[int, str]:
+    """Status and output of the program on a scenario, or on a log."""
+    done = subprocess.run([program, *words], input=input_of(scenario), capture_output=True)
     return done.returncode, done.stdout.decode()
 
 
-def run_well(program: str, words: list[str], scenario: Json | str) -> str:
+def why_not(scenario: Json | str | bytes, words: list[str], status: int, out: str) -> str:
+    """In words, why the program ended with a status other than 0 on this input."""
+    if status in (3, 4):
+        return check.explain(input_of(scenario), words, status, out.strip())
+    return f"the program ended with {status}: {STATUSES.get(status, 'which is none of its statuses')}"
+
+
+def run_well(program: str, words: list[str], scenario: Json | str | bytes) -> str:
     """The output; raises WordsError where the status isn't 0."""
     status, out = run(program, words, scenario)
-    if status == 4:
-        raise WordsError(f"the scenario is refused: {out.strip()}; ./maft check says in words why")
     if status:
-        raise WordsError(f"the program ended with {status}: {STATUSES.get(status, 'which is none of its statuses')}")
+        what = "the log is " if words[:1] == ["node"] else "the scenario is "
+        raise WordsError((what if status == 4 else "") + why_not(scenario, words, status, out))
     return out
 
 
 def load(path: str) -> Json:
     """The scenario in a file, or in standard input for `-`."""
-    import sys
-
     try:
-        text = sys.stdin.read() if path == "-" else pathlib.Path(path).read_text()
-        scenario = json.loads(text)
-    except (OSError, ValueError) as error:
-        raise WordsError(f"{path}: {error}") from None
+        scenario = json_text.read(json_text.bytes_of(path))
+    except json_text.BrokenJson as error:
+        raise WordsError(f"{json_text.printable(path)} is no JSON text: {error}") from None
     if not isinstance(scenario, dict):
-        raise WordsError(f"{path} isn't a scenario, which is an object")
+        raise WordsError(f"{json_text.printable(path)} isn't a scenario, which is an object")
     return scenario

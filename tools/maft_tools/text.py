@@ -170,7 +170,7 @@ def read(lines: Iterable[str], reference_only: bool = False) -> Text:
             elif line.startswith("end "):
                 end = int(line[4:])
             elif line.startswith("refused "):
-                raise WordsError(f"the scenario was refused: {line}; ./maft check says in words why")
+                raise WordsError(f"the scenario was refused: {line}; tools/check says of a scenario in words why")
             elif line.startswith("storm "):
                 raise WordsError("this is a storm's summary already")
             else:
