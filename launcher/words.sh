@@ -111,7 +111,7 @@ explain() {
         8) say "the input is longer than 4,194,304 bytes" ;;
         126) say "the system could not run $program: it is cut short, or of another kind of machine" ;;
         127) say "the program could not begin: this processor is too old for it, or a library that it needs isn't there" ;;
-        139) say "the program was ended by the system (signal 11); where the stack is small (ulimit -s), it needs 192 kilobytes" ;;
+        139) say "the program was ended by the system (signal 11); it needs 512 kilobytes of stack, see ulimit -s" ;;
         129 | 1[3-9]? | 2??) say "the program was ended by signal $(($1 - 128))" ;;
         *) say "the program ended with $1, which is none of its statuses" ;;
     esac

@@ -3,12 +3,12 @@
 #
 #   tests/devices.sh [PROGRAM]
 #
-# The input is closed, or a folder; the output is closed, a full device, or a pipe whose reader goes away. The status is 5 or 6, and
-# the launcher hands it on and says what it means. The launcher is run as a copy beside a copy of the program, so that it builds
+# The input is closed, or a folder; the output is closed, a full device, or a pipe whose reader goes away; the stack is small. The status is
+# 5 or 6, of which the launcher says what it means. The launcher is run as a copy beside a copy of the program, so that it builds
 # nothing. PROGRAM is by default what the gate built. The last line is 'N passed, M failed'.
 . "${BASH_SOURCE[0]%/*}/lib/head.sh"
 take_program "$@"
-mkdir -p "$work/crates" "$work/.maft" && : >"$work/crates.txt" && cp "$top/maft" "$work/maft" && cp "$program" "$work/.maft/maft" || exit 2
+mkdir -p "$work/crates/maft/out" && : >"$work/crates.txt" && cp -r "$top/maft" "$top/launcher" "$work" && cp "$program" "$work/crates/maft/out/maft" || exit 2
 small=$top/tests/cases/smallest/stdin
 long=$top/tests/cases/long_run/stdin
 
@@ -42,5 +42,8 @@ devices() {
 }
 
 devices "the program" "" "" "$program"
+(ulimit -s 512 && exec "$program" replay <"$top/scenarios/sixteen_nodes.json") >"$work/out" 2>"$work/noise"
+judge "the program, a stack of 512 kilobytes" $? 0 ""
+if cmp -s "$work/out" "$top/scenarios/sixteen_nodes.txt"; then pass; else refuse "a stack of 512 kilobytes: the text is another"; fi
 devices "the launcher" "could not be read" "could not be written" "$work/maft"
 finish
