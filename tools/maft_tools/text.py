@@ -2,6 +2,7 @@
 from __future__ import annotations
 
 import dataclasses
+import functools
 from collections.abc import Iterable
 
 from .plan import WordsError
@@ -45,8 +46,8 @@ class Node:
             return out
         for node in range(count):
             voters = [row[node] for teller, row in plain.items() if teller != node and node < len(row)]
-            mask = 0
-            for bit in range(16):
+            mask, named = 0, functools.reduce(int.__or__, voters, 0)
+            for bit in range(named.bit_length()):
                 if 2 * sum(it >> bit & 1 for it in voters) > len(voters):
                     mask |= 1 << bit
             if mask:
@@ -118,7 +119,8 @@ def _period(words: list[str]) -> Period:
 def _node(words: list[str]) -> Node:
     if len(words) == 4 and words[3] == "cold":
         return Node(int(words[1]), words[2], "cold")
-    if len(words) not in (12, 14) or words[3] not in ("full", "joining") or words[4:11:2] != ["members", "counts", "streaks", "run"]:
+    named = words[4:11:2] == ["members", "counts", "streaks", "run"]
+    if len(words) not in (12, 14) or words[3] not in ("full", "joining") or not named:
         raise ValueError("a node's line")
     run = [None if it == "-" else int(it) for it in words[11].split(",")]
     left = numbers(words[13]) if len(words) == 14 else []
@@ -140,27 +142,49 @@ def _more(node: Node, words: list[str]) -> None:
             raise ValueError("a line")
 
 
+@functools.lru_cache(maxsize=4096)
+def _votes(line: str) -> dict[int, int | None]:
+    """The votes of a line, which many nodes have alike."""
+    node = Node(0, "", "")
+    _more(node, line.split())
+    return node.votes
+
+
+def _glance(line: str, has_reference: bool) -> Node:
+    """A node of a text that is read quickly: all of its line for the reference, else its number, class and whether it
+    is cold."""
+    words = line.split(" ", 4)
+    if not has_reference and words[2] in "N-" and words[3] != "cold":
+        return _node(line.split(" "))
+    return Node(int(words[1]), words[2], words[3])
+
+
 def read(lines: Iterable[str], reference_only: bool = False) -> Text:
-    """Reads a text; with `reference_only` no more of each period than its line and its least nonfaulty node, which is quicker.
+    """Reads a text. With `reference_only`, which is quicker, no more of each period than its line, the whole of its
+    least nonfaulty node, and of the others their class and the votes of the sound ones.
 
     Raises WordsError where the text isn't one of the program's, or is cut short.
     """
     periods: list[Period] = []
     node: Node | None = None
+    whole = has_reference = False
     slots, end = 0, None
     for at, line in enumerate(lines, 1):
         line = line.rstrip("\r\n")
         try:
             if line.startswith("  "):
-                if node is not None:
+                if node is not None and whole:
                     _more(node, line.split())
+                elif node is not None and line[2] == "v":
+                    node.votes = _votes(line) if node.letter in "NJ" else node.votes
             elif line.startswith("node "):
-                node = None
-                if not reference_only or line.split(" ", 3)[2] in "N-" and periods[-1].reference is None:
-                    node = _node(line.split(" "))
-                    periods[-1].nodes.append(node)
+                node = _glance(line, has_reference) if reference_only else _node(line.split(" "))
+                whole = not reference_only or bool(node.counts)
+                has_reference = has_reference or bool(node.counts)
+                periods[-1].nodes.append(node)
             elif line.startswith("period "):
                 periods.append(_period(line.split(" ")))
+                has_reference = False
             elif line.startswith("frame "):
                 slots = max(slots, int(line.split(" ")[2]) + 1)
             elif line.startswith("clock skew "):
