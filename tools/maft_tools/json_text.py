@@ -264,6 +264,8 @@ def _is_shallow(value: Any) -> bool:
 
 def bytes_of(path: str) -> bytes:
     """What a file has, or standard input for `-`; raises WordsError where it can't be read."""
+    if path == "-" and sys.stdin is None:
+        raise WordsError("standard input is closed")
     try:
         return sys.stdin.buffer.read() if path == "-" else pathlib.Path(path).read_bytes()
     except (OSError, ValueError) as error:

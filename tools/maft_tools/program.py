@@ -4,9 +4,12 @@ from __future__ import annotations
 import json
 import os
 import pathlib
+import shlex
 import subprocess
+import sys
+from collections.abc import Iterator
 
-from . import check, json_text
+from . import check, json_text, log
 from .plan import Json, WordsError
 
 TOP = pathlib.Path(__file__).resolve().parents[2]
@@ -23,13 +26,17 @@ def find(given: str | None) -> str:
     """The program's path: the one given, or that of the variable PROGRAM, or what the launcher answers with."""
     named = given or os.environ.get("PROGRAM")
     if named:
-        if not os.access(named, os.X_OK):
-            raise WordsError(f"there is no program {named}")
-        return named
-    done = subprocess.run([str(TOP / "maft"), "which"], stdin=subprocess.DEVNULL, stdout=subprocess.PIPE, text=True)
+        if not os.path.isfile(named) or not os.access(named, os.X_OK):
+            raise WordsError(f"there is no program {json_text.printable(named)}")
+        # what was tested is what is run: a name without a slash would be looked for on the PATH
+        return os.path.abspath(named)
+    launcher = TOP / "maft"
+    if not launcher.exists():
+        raise WordsError(f"the launcher {launcher} isn't there: give the program by --program or the variable PROGRAM")
+    done = subprocess.run([str(launcher), "which"], stdin=subprocess.DEVNULL, stdout=subprocess.PIPE)
     if done.returncode:
         raise WordsError("the launcher has no program; see what it says above")
-    return done.stdout.strip()
+    return os.fsdecode(done.stdout).removesuffix("\n")
 
 
 def input_of(scenario: Json | str | bytes) -> bytes:
@@ -42,8 +49,11 @@ def input_of(scenario: Json | str | bytes) -> bytes:
 
 def run(program: str, words: list[str], scenario: Json | str | bytes) -> tuple[int, str]:
     """Status and output of the program on a scenario, or on a log."""
-    done = subprocess.run([program, *words], input=input_of(scenario), capture_output=True)
-    return done.returncode, done.stdout.decode()
+    try:
+        done = subprocess.run([program, *words], input=input_of(scenario), capture_output=True)
+    except OSError as error:
+        raise WordsError(f"the program {json_text.printable(program)} can't be run: {error.strerror}") from None
+    return done.returncode, done.stdout.decode(errors="replace")
 
 
 def why_not(scenario: Json | str | bytes, words: list[str], status: int, out: str) -> str:
@@ -70,4 +80,23 @@ def load(path: str) -> Json:
         raise WordsError(f"{json_text.printable(path)} is no JSON text: {error}") from None
     if not isinstance(scenario, dict):
         raise WordsError(f"{json_text.printable(path)} isn't a scenario, which is an object")
+    if check.is_log(scenario):
+        node = log.owner(scenario)
+        which = "I" if node is None else node
+        raise WordsError(
+            f"{json_text.printable(path)} is the log of {'one node' if node is None else f'node {node}'}, and no scenario; it is summed up by: "
+            f"./maft node {which} < {shlex.quote(json_text.printable(path))} | tools/summary")
     return scenario
+
+
+def text_lines(path: str) -> Iterator[str]:
+    """The lines of the file of a text, or of standard input for `-`. A byte that isn't UTF-8 stands as one that no text has."""
+    if path == "-":
+        if sys.stdin is None:
+            raise WordsError("standard input is closed")
+        for line in sys.stdin.buffer:
+            yield line.decode(errors="replace")
+        return
+    with open(path, "rb") as file:
+        for line in file:
+            yield line.decode(errors="replace")

@@ -284,6 +284,16 @@ def _of_accusations(run: Summary) -> list[str]:
     return [f"{_named(nodes)} accuse{'s' if len(nodes) == 1 else ''} {'; '.join(facts)}" for nodes, facts in _grouped(said)]
 
 
+def _of_votes(run: Summary) -> list[str]:
+    """Of each channel, in how many periods it was voted, and how far the votes of sound nodes lay apart; a log has one node's alone."""
+    lines = []
+    for spread in run.spreads:
+        where = f" (period {spread.at})" if spread.greatest else ""
+        apart = "" if run.command == "node" else f"; sound votes at most {spread.greatest} apart{where}"
+        lines.append(f"channel {spread.channel}: voted in {spread.periods} periods{apart}")
+    return lines
+
+
 def _over_time(values: list[int | None]) -> str:
     """A list over periods in runs: `3 in 0, 1 in 1-2`."""
     out: list[tuple[int | None, int, int]] = []
@@ -311,9 +321,7 @@ def page(run: Summary) -> str:
         elif known:
             lines.append(f"margin n - (2a + 2s + b + m), kept from 1 on: {_over_time(run.margins)}")
     lines += _of_nodes(run)
-    for spread in run.spreads:
-        where = f" (period {spread.at})" if spread.greatest else ""
-        lines.append(f"channel {spread.channel}: voted in {spread.periods} periods; sound votes at most {spread.greatest} apart{where}")
+    lines += _of_votes(run)
     if run.skews:
         lines.append(f"clock skew of sound nodes: {_over_time(run.skews)}")
     lines += _of_accusations(run)
@@ -331,7 +339,7 @@ def table(text: Text, run: Summary) -> str:
         moved = []
         for which in ("left", "joined", "cold"):
             moved.append(" ".join(str(it.node) for it in run.stories if period.number in getattr(it, which)))
-        spread = max((it.greatest for it in _spreads([period])), default="")
+        spread = max((it.greatest for it in _spreads([period])), default="") if run.command != "node" else ""
         skew = "" if period.skew is None else period.skew
         counted = [""] * 4 if period.budget is None else [str(it) for it in (period.n, period.a, period.s, period.b)]
         gap = "" if run.margins[at] is None else run.margins[at]

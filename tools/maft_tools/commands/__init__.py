@@ -27,6 +27,8 @@ def end(name: str, main: Callable[[], int]) -> None:
     """Runs a command and ends with its status; whatever stops it is said in a sentence: 1, or 130 where the user stopped it."""
     status = 1
     try:
+        if sys.stdout is None:
+            raise WordsError("standard output is closed")
         status = main()
         sys.stdout.flush()
     except BrokenPipeError:
@@ -41,4 +43,6 @@ def end(name: str, main: Callable[[], int]) -> None:
         status = 130
     except MemoryError:
         say(name, "there is not enough memory")
+    except RecursionError:
+        say(name, "the input is nested too deeply")
     sys.exit(status)
