@@ -674,7 +674,7 @@ def _digits(path: str, text: str) -> Iterator[str]:
 RULES = (sizes, policy, channels, distances, tasks, cycles, lines, overlaps, restarts, too_many, clock, lies)
 
 
-def _first(found: Iterable[Finding], most: int = 8) -> list[Finding]:
+def first(found: Iterable[Finding], most: int = 8) -> list[Finding]:
     """What fails at the first place of the first rule among findings that come by rule and place."""
     out: list[Finding] = []
     for it in found:
@@ -688,17 +688,17 @@ def _first(found: Iterable[Finding], most: int = 8) -> list[Finding]:
 
 def findings(scenario: Any) -> list[Finding]:
     """What fails at the first place of the first rule that refuses a scenario; empty where none does."""
-    found = _first(types(scenario))
+    found = first(types(scenario))
     for rule in RULES:
         if found:
             break
-        found = _first(rule(scenario))
+        found = first(rule(scenario))
     return found
 
 
 def log_findings(log: Any, node: int) -> list[Finding]:
     """The same of the log of a node."""
-    return _first(log_types(log)) or findings(log["scenario"]) or _first(log_entries(log, node))
+    return first(log_types(log)) or findings(log["scenario"]) or first(log_entries(log, node))
 
 
 def told(found: list[Finding], most: int = 8) -> str:

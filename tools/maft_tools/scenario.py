@@ -12,11 +12,13 @@ import re
 from collections.abc import Callable, Iterable
 from typing import Any, Union
 
-from . import plan
+from . import check, json_text, plan
 from .plan import Json, WordsError
 
 Effect = Union[str, Json]
 Span = tuple[int, int]
+POLICY = ("exclude", "readmit", "credit", "streak", "cap", "retire")
+# where several are named, a statement makes as many lines as there are nodes and spans of periods
 FORMS = """node I tells V on channel C [to nodes J, K and L] in periods P to Q
 node I is silent [to nodes ..] in period P [in slots S, T]
 node I is late [at tick T] [to nodes ..] in periods P to Q [in slots ..]
@@ -26,7 +28,11 @@ node I accuses node J of deviate and missing [to nodes ..] in periods P to Q
 node I claims task T [to nodes ..] in periods P to Q      (or: claims nothing)
 node I sends bytes HEX at O in slot S [to nodes ..] in periods P to Q
 clock of node I lies by B [to nodes ..] in periods P to Q
-node I restarts in period P"""
+node I restarts in period P
+policy exclude is N      (or readmit, credit, streak, cap, retire); policy weight of deviate is N
+clock drift is N      (or epsilon); clock start is N, N, ..; clock drifts are N, N, ..; N, N, ..      (or errors)
+readings of channel C are N, N, ..; N, N, ..      (or: start of channel C is N, N, ..; delta of channel C is N; step of channel C is N)
+Several nodes: nodes I, J and K are silent .. Several periods: in periods 2, 7 and 12 to 14, or every 5 periods from 2 to 40"""
 
 
 class Scenario:
@@ -36,12 +42,13 @@ class Scenario:
     """
 
     def __init__(self, data: Json, due: Callable[[Json, int], list[int]] | None = None) -> None:
+        for rule in (check.types, check.sizes, check.lines):
+            found = check.first(rule(data))
+            if found:
+                raise WordsError(f"nothing can be added to this scenario: {check.told(found)}")
         self.data = copy.deepcopy(data)
         self.due = due
-        try:
-            self.nodes, self.m, self.periods = (int(self.data[key]) for key in ("nodes", "m", "periods"))
-        except (KeyError, TypeError, ValueError):
-            raise WordsError("the scenario has no whole numbers nodes, m and periods") from None
+        self.nodes, self.m, self.periods = (self.data[key] for key in ("nodes", "m", "periods"))
         self.version = self.data.get("version", 1)
 
     # what the program would say of ranges, in words of the statement
@@ -65,10 +72,13 @@ class Scenario:
             raise WordsError(f"node {sender} sends nothing to itself" if found else "there is nobody to send to")
         return found
 
-    def _links(self, line: Json) -> tuple[set[int], set[int], set[int]]:
-        to = set(range(self.nodes)) - {line["from"]} if line["to"] == "all" else set(line["to"])
-        slots = set(range(plan.slots(self.m))) if line["slots"] == "all" else set(line["slots"])
-        return to, slots, set(range(line["periods"][0], line["periods"][1] + 1))
+    def _shared(self, line: Json, other: Json) -> tuple[int, int, int] | None:
+        """The first receiver, slot and period that two lines of one sender both have, if there is one."""
+        count = plan.slots(self.m)
+        to = set(check.receivers(line, self.nodes)) & set(check.receivers(other, self.nodes))
+        slots = set(check.slots_of(line, count)) & set(check.slots_of(other, count))
+        first, last = (choose(it) for choose, it in zip((max, min), zip(line["periods"], other["periods"])))
+        return (min(to), min(slots), first) if to and slots and first <= last else None
 
     def fault(self, sender: int, effect: Effect, periods: Span, to: Iterable[int] | None = None, slots: Iterable[int] | None = None) -> None:
         """Adds a fault line; raises WordsError where a line has one of its links, periods and slots already."""
@@ -76,11 +86,11 @@ class Scenario:
         if isinstance(in_slots, list) and not all(0 <= it < plan.slots(self.m) for it in in_slots):
             raise WordsError(f"slots are numbered from 0 to {plan.slots(self.m) - 1}")
         line = {"from": self._node(sender), "to": self._to(sender, to), "periods": self._span(periods), "slots": in_slots, "effect": effect}
-        new = self._links(line)
         lines = self.data.setdefault("faults", [])
         for at, other in enumerate(lines):
-            if other.get("from") == sender and all(a & b for a, b in zip(new, self._links(other))):
-                node, slot, period = (min(a & b) for a, b in zip(new, self._links(other)))
+            shared = self._shared(line, other) if other["from"] == sender else None
+            if shared:
+                node, slot, period = shared
                 raise WordsError(f"line {at} of faults has the link from {sender} to {node} in period {period} and slot {slot} already")
         lines.append(line)
 
@@ -160,15 +170,60 @@ class Scenario:
         found = {(it["period"], it["node"]) for it in self.data.get("restarts", [])} | {(period, self._node(node))}
         self.data["restarts"] = [{"node": it[1], "period": it[0]} for it in sorted(found)]
 
+    def set_policy(self, key: str, value: int) -> None:
+        """A number of the policy."""
+        self.data["policy"][key] = value
+
+    def set_weight(self, kind: str, value: int) -> None:
+        """The weight of one kind of error."""
+        at, weights = plan.kind_mask([kind], self.version).bit_length() - 1, self.data["policy"]["weights"]
+        if at >= len(weights):
+            raise WordsError(f"policy.weights has {len(weights)} numbers, and that of {kind} is the {at + 1}th")
+        weights[at] = value
+
+    def set_clock(self, key: str, value: Any) -> None:
+        """A part of the clock; a scenario that has none gets one that is right and doesn't drift."""
+        if self.version == 1:
+            raise WordsError("version 1 has no clock; it takes \"version\": 2")
+        start, drifts, errors = ([0] * self.nodes for _ in range(3))
+        clock = self.data.setdefault("clock", {"epsilon": 0, "drift": 0, "start": start, "drifts": [drifts], "errors": [errors], "lies": []})
+        clock[key] = value
+
+    def set_channel(self, channel: int, key: str, value: Any) -> None:
+        """A part of a channel; raises WordsError where its kind hasn't such a part."""
+        channels = self.data.get("channels", [])
+        if not 0 <= channel < len(channels):
+            raise WordsError(f"there is no channel {channel}; the scenario has {len(channels)}")
+        if key not in channels[channel]:
+            raise WordsError(f"channel {channel} is a {channels[channel]['kind']} channel, which has no {key}")
+        channels[channel][key] = value
+
     def add(self, statement: str) -> None:
-        """Reads a statement and adds what it says; raises WordsError where it is of no form."""
+        """Reads a statement and adds what it says, all of it or nothing; raises WordsError where it is of no form."""
+        before = copy.deepcopy(self.data)
+        try:
+            self._add(statement)
+        except ValueError as error:
+            self.data = before
+            raise WordsError(f"a number of '{json_text.printable(statement)}' is too long") from error
+        except WordsError:
+            self.data = before
+            raise
+
+    def _add(self, statement: str) -> None:
+        if any(_settle(self, pattern, act, statement) for pattern, act in _SETTINGS):
+            return
+        if re.match(r"(policy|clock (?!of)|readings|start|delta|step)\b", statement.strip()):
+            raise WordsError(f"'{json_text.printable(statement)}' is of none of these forms:\n{FORMS}")
         said = _Statement(statement)
         for pattern, act in _FORMS:
             found = re.fullmatch(pattern, said.what)
             if found:
-                act(self, said, *found.groups())
+                for node in said.nodes or [found.group(1)]:
+                    for said.periods in said.spans:
+                        act(self, said, str(node), *found.groups()[1:])
                 return
-        raise WordsError(f"'{statement}' is of none of these forms:\n{FORMS}")
+        raise WordsError(f"'{json_text.printable(statement)}' is of none of these forms:\n{FORMS}")
 
     def dumps(self) -> str:
         """The scenario as JSON text, each fault, restart, channel and task on a line."""
@@ -182,23 +237,42 @@ class Scenario:
         return "{\n  " + ",\n  ".join(parts) + "\n}\n"
 
 
+# the plural of each verb, and its singular
+_VERBS = {"are": "is", "tell": "tells", "accuse": "accuses", "claim": "claims", "send": "sends", "restart": "restarts", "speak": "speaks", "lie": "lies"}
+_LIST = r"(?:\d+|,|and| )+"
+_SOME = r"\d+(?: to \d+)?"
+
+
 class _Statement:
-    """A statement taken apart: what happens, to whom, in which periods and slots."""
+    """A statement taken apart: what happens, by which nodes where there are several, to whom, in which periods and slots.
+
+    `what` is a sentence of one node; `spans` are the spans of periods, each in its turn `periods` while the statement is added.
+    """
 
     def __init__(self, statement: str) -> None:
         rest = " ".join(statement.replace(",", " , ").split()).rstrip(" .")
-        rest, slots = self._take(rest, r"in slots? ((?:\d+|,|and| )+)$")
+        rest, slots = self._take(rest, rf"in slots? ({_LIST})$")
         if slots is None:
-            rest, slots = self._take(rest, r"in slots? (\d+)(?= in | to |$)")
-        rest, periods = self._take(rest, r"in periods? (\d+(?: to \d+)?)")
-        rest, to = self._take(rest, r"to (all|nodes? (?:\d+|,|and| )+)")
-        self.slots = None if slots is None else list(map(int, re.findall(r"\d+", slots)))
-        self.to = None if to is None or to == "all" else list(map(int, re.findall(r"\d+", to)))
-        if periods is None:
-            raise WordsError(f"'{statement}' doesn't say in which period, as in 'in periods 1 to 2'")
-        numbers = list(map(int, re.findall(r"\d+", periods)))
-        self.periods: Span = (numbers[0], numbers[-1])
-        self.what = " ".join(rest.replace(",", " ").split())
+            rest, slots = self._take(rest, r"in slots? (\d+)(?= in | to | every |$)")
+        rest, every = self._take(rest, r"every (\d+ periods? from \d+ to \d+)")
+        rest, periods = self._take(rest, rf"in periods? ({_SOME}(?:(?: ,| and| , and) {_SOME})*)")
+        rest, to = self._take(rest, rf"to (all|nodes? {_LIST})")
+        self.slots = None if slots is None else _numbers(slots)
+        self.to = None if to is None or to == "all" else _numbers(to)
+        if (periods is None) == (every is None):
+            raise WordsError(f"'{json_text.printable(statement)}' doesn't say in which period, as in 'in periods 1 to 2'")
+        self.spans = _spans(periods) if every is None else _repeated(*_numbers(every))
+        self.periods: Span = self.spans[0]
+        self.nodes, self.what = self._singular(" ".join(rest.replace(",", " ").split()))
+
+    @staticmethod
+    def _singular(what: str) -> tuple[list[int], str]:
+        """Which nodes a sentence in the plural is of, and the sentence of the first; of another there are none."""
+        found = re.fullmatch(rf"(clocks of )?nodes ({_LIST})({'|'.join(_VERBS)})\b(.*)", what)
+        if found is None:
+            return [], what
+        clocks, nodes, verb, rest = found.groups()
+        return _numbers(nodes), f"{'clock of ' if clocks else ''}node {_numbers(nodes)[0]} {_VERBS[verb]}{rest}"
 
     @staticmethod
     def _take(text: str, pattern: str) -> tuple[str, str | None]:
@@ -206,6 +280,36 @@ class _Statement:
         if found is None:
             return text, None
         return (text[: found.start()] + " " + text[found.end():]).strip(" ,"), found.group(1).strip(" ,")
+
+
+def _numbers(text: str) -> list[int]:
+    return [int(it) for it in re.findall(r"-?\d+", text)]
+
+
+def _spans(text: str) -> list[Span]:
+    """The spans of `2, 7 and 12 to 14`."""
+    numbers = [_numbers(it) for it in re.findall(_SOME, text)]
+    return [(it[0], it[-1]) for it in numbers]
+
+
+def _repeated(step: int, first: int, last: int) -> list[Span]:
+    """Every so many periods from one to another."""
+    if step < 1 or last < first or last > 1023:
+        raise WordsError(f"every {step} periods from {first} to {last} is no period, or one beyond 1023")
+    return [(it, it) for it in range(first, last + 1, step)]
+
+
+def _rows(text: str) -> list[list[int]]:
+    """The rows of `1, 2, 3; 4, 5, 6`."""
+    return [_numbers(it) for it in text.split(";")]
+
+
+def _settle(scenario: Scenario, pattern: str, act: Callable[..., Any], statement: str) -> bool:
+    """Does what a statement sets, if it is of this form."""
+    found = re.fullmatch(pattern, " ".join(statement.split()).rstrip(" ."))
+    if found:
+        act(scenario, *found.groups())
+    return found is not None
 
 
 def _kinds(text: str) -> list[str]:
@@ -236,6 +340,26 @@ _FORMS: list[tuple[str, Callable[..., Any]]] = [
     (r"clock of node (\d+) lies by (-?\d+)", lambda s, w, n, b: s.clock_lies(int(n), int(b), w.periods, w.to)),
     (r"node (\d+) restarts", _restart),
 ]
+
+
+_ROW = r"(-?\d+(?:(?: ?,| and| ,? and|) -?\d+)*)"
+_ROWS = r"(-?\d[-\d, ]*(?:;[-\d, ]*\d)*)"
+# statements that set a number or a row, whatever the period
+_SETTINGS: list[tuple[str, Callable[..., Any]]] = [
+    (rf"policy ({'|'.join(POLICY)}) is (-?\d+)", lambda s, key, value: s.set_policy(key, int(value))),
+    (r"policy weight of ([a-z]+) is (-?\d+)", lambda s, kind, value: s.set_weight(kind, int(value))),
+    (r"clock (epsilon|drift) is (-?\d+)", lambda s, key, value: s.set_clock(key, int(value))),
+    (rf"clock (start) is {_ROW}", lambda s, key, row: s.set_clock(key, _numbers(row))),
+    (rf"clock (drifts|errors) are {_ROWS}", lambda s, key, rows: s.set_clock(key, _rows(rows))),
+    (rf"readings of channel (\d+) are {_ROWS}", lambda s, channel, rows: s.set_channel(int(channel), "readings", _rows(rows))),
+    (rf"start of channel (\d+) is {_ROW}", lambda s, channel, row: s.set_channel(int(channel), "start", _numbers(row))),
+    (r"(delta|step) of channel (\d+) is (-?\d+)", lambda s, key, channel, value: s.set_channel(int(channel), key, int(value))),
+]
+
+
+def statements_in(text: str) -> list[str]:
+    """The statements of a file: one a line; what stands behind # is passed over."""
+    return [it for it in (line.split("#", 1)[0].strip() for line in text.splitlines()) if it]
 
 
 def due_by(program: str) -> Callable[[Json, int], list[int]]:
