@@ -10,7 +10,7 @@ from .plan import INPUT_LIMIT, Json, WordsError
 
 Entry = tuple[int, int, int, int, str]
 _NUMBER = "([0-9]{1,9})"
-_FRAME = re.compile(f"frame {_NUMBER} {_NUMBER} {_NUMBER} {_NUMBER} {_NUMBER} (-|(?:[0-9a-f]{{2}})+)")
+_FRAME = re.compile(f"frame {_NUMBER} {_NUMBER} {_NUMBER} {_NUMBER} {_NUMBER} (-|[0-9a-f]+)")
 
 
 def entries(trace: Iterable[str], node: int) -> list[Entry]:

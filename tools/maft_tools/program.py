@@ -72,14 +72,20 @@ def run_well(program: str, words: list[str], scenario: Json | str | bytes) -> st
     return out
 
 
-def load(path: str) -> Json:
-    """The scenario in a file, or in standard input for `-`."""
+def load_object(path: str) -> Json:
+    """The object in a file, a scenario's or a log's, or in standard input for `-`."""
     try:
         scenario = json_text.read(json_text.bytes_of(path))
     except json_text.BrokenJson as error:
         raise WordsError(f"{json_text.printable(path)} is no JSON text: {error}") from None
     if not isinstance(scenario, dict):
         raise WordsError(f"{json_text.printable(path)} isn't a scenario, which is an object")
+    return scenario
+
+
+def load(path: str) -> Json:
+    """The scenario in a file, or in standard input for `-`; raises WordsError for a log, with what sums that up."""
+    scenario = load_object(path)
     if check.is_log(scenario):
         node = log.owner(scenario)
         which = "I" if node is None else node

@@ -103,7 +103,7 @@ _NODE = re.compile(
     f"node ({_NUMBER}) ([NJBSA-]) (full|joining) members ({_SET}) counts ({_LIST}) streaks ({_LIST})"
     f" run ((?:-|{_NUMBER})(?:,(?:-|{_NUMBER}))*)(?: left ({_LIST}))?")
 _CLOCK = re.compile(f"clock skew (-|{_NUMBER}) offsets ({_SIGNED}(?:,{_SIGNED})*)")
-_FRAME = re.compile(f"frame ({_NUMBER}) ({_NUMBER}) ({_NUMBER}) ({_NUMBER}) ({_NUMBER}) (-|(?:[0-9a-f]{{2}})+)")
+_FRAME = re.compile(f"frame ({_NUMBER}) ({_NUMBER}) ({_NUMBER}) ({_NUMBER}) ({_NUMBER}) (-|[0-9a-f]+)")
 _END = re.compile(f"end ({_NUMBER})")
 _REFUSED = re.compile(f"refused {_NUMBER} {_NUMBER}")
 # the lines behind a node's first one, in their order
@@ -144,8 +144,8 @@ def _votes(line: str) -> dict[int, int | None] | None:
 class _Reader:
     """Reads a text line by line. What isn't as the program prints it is refused, with the line."""
 
-    def __init__(self, reference_only: bool) -> None:
-        self.reference_only = reference_only
+    def __init__(self, reference_only: bool, is_part: bool = False) -> None:
+        self.reference_only, self.is_part = reference_only, is_part
         self.periods: list[Period] = []
         # how many nodes the lists are of, and the numbers of the nodes that each period must tell of, once they are known
         self.count = 0
@@ -195,12 +195,12 @@ class _Reader:
         if found is None:
             raise self.strange(line)
         number, members, n, a, s, b, budget, claim = found.groups()
-        if int(number) != len(self.periods):
+        if int(number) != len(self.periods) and not self.is_part:
             raise self.fail(f"period {int(number)} comes where period {len(self.periods)} should")
         self.close()
-        period = Period(len(self.periods))
+        period = Period(int(number))
         if members is not None:
-            period = Period(len(self.periods), numbers(members), int(n), int(a), int(s), int(b), budget == "yes", claim == "yes")
+            period = Period(int(number), numbers(members), int(n), int(a), int(s), int(b), budget == "yes", claim == "yes")
             self.check_period(period)
         if self.periods and (period.budget is None) != (self.periods[0].budget is None):
             raise self.fail("one node's log and a cluster's text are mixed")
@@ -211,7 +211,8 @@ class _Reader:
         self.check_nodes(period.members)
         if period.n != len(period.members) or period.a + period.s + period.b > period.n:
             raise self.fail("n, a, s and b don't count these members")
-        if period.claim != (period.budget is True and (not self.periods or self.periods[-1].claim is True)):
+        before = not self.periods or self.periods[-1].claim is True
+        if period.claim != (period.budget is True and before) and (period.claim or not self.is_part):
             raise self.fail("a period is claimed where its budget and those before it are kept, and this one says otherwise")
 
     def check_nodes(self, nodes: list[int]) -> None:
@@ -326,6 +327,15 @@ class _Reader:
         if self.ids != self.told:
             raise self.fail("the lines of a node are missing before this one, or too many")
         self.ids, self.node, self.has_reference = [], None, False
+
+
+def read_part(lines: Iterable[str]) -> Period:
+    """Reads the lines of one period, wherever in its text it stands; raises WordsError as `read` does."""
+    reader = _Reader(False, is_part=True)
+    for line in lines:
+        reader.read(line.rstrip("\r\n"))
+    reader.read("end 1")
+    return reader.periods[0]
 
 
 def read(lines: Iterable[str], reference_only: bool = False) -> Text:

@@ -67,7 +67,7 @@ def _cut_spans(lines: list[Json], last: int) -> list[Json]:
 def _period_of(lines: list[bytes]) -> text.Period:
     """The record of a period's lines that are no frames'."""
     decoded = [it.decode("ascii", "replace").rstrip("\r\n") for it in lines]
-    return text.read([*decoded, "end 1"]).periods[0]
+    return text.read_part(decoded)
 
 
 def _take(line: bytes, wanted: Wanted, frames: dict[tuple[int, int, int], Arrived], known: dict[bytes, bytes]) -> int:

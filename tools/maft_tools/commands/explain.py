@@ -35,7 +35,7 @@ def spans(words: str) -> set[int]:
 def slices_of(given: argparse.Namespace, wanted: trace.Wanted) -> tuple[Json, Iterator[trace.Slice]]:
     """The scenario, where it is known, and the periods of what is given."""
     if given.input.endswith(".json"):
-        value = program.load(given.input)
+        value = program.load_object(given.input)
         maft = program.find(given.program)
         if not check.is_log(value):
             return value, trace.of_scenario(maft, value, wanted)
