@@ -34,12 +34,14 @@ def classes(scenario: Json) -> list[str]:
     restarts = {(it["period"], it["node"]) for it in scenario.get("restarts", [])}
     sound, out = set(range(nodes)), []
     for period in range(scenario["periods"]):
-        links = {node: [[on.get((period, slot, node, it)) for it in range(nodes) if it != node] for slot in of] for node in range(nodes)}
-        clean = {node for node in range(nodes) if not any(effect is not None for slot in links[node] for effect in slot)}
+        links = {node: [[on.get((period, slot, node, it)) for it in range(nodes) if it != node] for slot in of]
+                 for node in range(nodes)}
+        clean = {node for node in range(nodes) if all(effect is None for slot in links[node] for effect in slot)}
         well = {node for node in clean if (period, node) not in restarts and (period == 0 or node in sound)}
         letters = []
         for node in range(nodes):
-            seen = [it for it in range(nodes) if it != node and it not in well and not shows(on.get((period, 0, it, node)))]
+            others = [it for it in range(nodes) if it != node and it not in well]
+            seen = [it for it in others if not shows(on.get((period, 0, it, node)))]
             if node in well:
                 letters.append("N")
             elif node in clean and (period, node) in restarts and len(well) > len(seen):

@@ -1,30 +1,34 @@
 #!/usr/bin/env python3
-"""Draws an accepted scenario from a number: liars, silence and restarts, beside channels and tasks of every kind and clocks.
+"""Draws an accepted scenario from a number: liars, silence and restarts, beside channels, tasks and clocks.
 
     tests/lib/draw.py SEED
 
-Most scenarios keep the fault bound; some don't. `alter` adds lines to one whose run was traced once: frames that are made of those that
-the trace shows.
+Many scenarios keep the fault bound; others don't. `alter` adds lines to one whose run was traced once: frames that are
+made of those that the trace shows.
 """
 from __future__ import annotations
 
 import json
 import math
+import os
 import pathlib
 import random
 import sys
-from collections.abc import Callable, Iterable
+from collections.abc import Iterable
 from typing import Any, Union
 
 sys.dont_write_bytecode = True
 sys.path.insert(0, str(pathlib.Path(__file__).resolve().parents[2] / "tools"))
-from maft_tools.plan import CLAIM_SLOT, HEADER, VALUE_LIMIT, Json, data_slot, report_slot, slots, value_at, value_hex  # noqa: E402
+from maft_tools.plan import CLAIM_SLOT, HEADER, VALUE_LIMIT, Json, data_slot  # noqa: E402
+from maft_tools.plan import report_slot, slots, value_at, value_hex  # noqa: E402
 
 # how many entries all frames of a relay round have together, at most, but in the few large scenarios
-ENTRIES = 60000
+ENTRIES = int(os.environ.get("ENTRIES", 60000))
+# each number before a multiple of this draws a large one
 LARGE = 97
+# how many of the ways to misbehave meet all alike
+ALIKE = 3
 To = Union[str, "list[int]"]
-Link = "tuple[int, int, int, int]"
 
 
 def entries_of(nodes: int, m: int) -> int:
@@ -67,10 +71,11 @@ class Drawing:
 
     def __init__(self, seed: int) -> None:
         self.random = random.Random(seed)
-        self.large = seed % LARGE == LARGE - 1
+        self.large = seed % LARGE == LARGE - 1 and "ENTRIES" not in os.environ
         self.version = 2 if self.large else self.random.choice([1, 2, 2])
         self.nodes, self.m = (16, 3) if self.large else self.size()
-        self.periods = 1 + self.random.randint(0, 1) if self.large else self.random.randint(3, 8 if self.nodes < 10 else 5)
+        least, most = (1, 2) if self.large else (3, 8 if self.nodes < 10 else 5)
+        self.periods = self.random.randint(least, most)
         self.lines = Lines(self.nodes, self.m, [])
         self.restarts: set[tuple[int, int]] = set()
         self.lies: list[Json] = []
@@ -90,7 +95,8 @@ class Drawing:
         """Weights and thresholds; in version 2 often with retirement."""
         cap = self.random.choice([4, 12, 20, 40])
         exclude = 1 if self.strict else self.random.randint(2, cap)
-        drawn = {"weights": [self.random.choice([int(self.strict), 1, 3, 5, 5]) for _ in range(8 * self.version)], "exclude": exclude,
+        weights = [self.random.choice([int(self.strict), 1, 3, 5, 5]) for _ in range(8 * self.version)]
+        drawn = {"weights": weights, "exclude": exclude,
                  "readmit": self.random.randint(0, exclude - 1), "credit": self.random.randint(0, 6),
                  "streak": self.random.randint(1, 3), "cap": cap}
         if self.version == 2 and self.random.random() < 0.35:
@@ -102,7 +108,8 @@ class Drawing:
         nodes = sorted(self.random.sample(range(self.nodes), self.random.randint(2, min(5, self.nodes))))
         least = self.random.randint(1, 2)
         most = self.random.randint(least, 3)
-        return {"after": sorted(self.random.sample(range(before), self.random.randint(0, min(before, 1)))), "nodes": nodes,
+        after = sorted(self.random.sample(range(before), self.random.randint(0, min(before, 1))))
+        return {"after": after, "nodes": nodes,
                 "need": self.random.randint(1, len(nodes)), "min": least, "max": most,
                 "run": [self.random.randint(least, most) for _ in nodes]}
 
@@ -130,7 +137,8 @@ class Drawing:
         epsilon, drift = self.random.choice([0, 2, 5]), self.random.choice([0, 3])
 
         def table(least: int, most: int) -> list[list[int]]:
-            return [[self.random.randint(least, most) for _ in range(self.nodes)] for _ in range(self.random.randint(1, 3))]
+            rows = range(self.random.randint(1, 3))
+            return [[self.random.randint(least, most) for _ in range(self.nodes)] for _ in rows]
 
         return {"epsilon": epsilon, "drift": drift, "start": [self.random.randint(-60, 60) for _ in range(self.nodes)],
                 "drifts": table(1, drift + 1), "errors": table(-epsilon, epsilon), "lies": self.lies}
@@ -140,39 +148,47 @@ class Drawing:
     def effect(self) -> Any:
         """An effect of any kind."""
         place, text = HEADER + self.random.randrange(12), self.random.choice(["00", "01", "ff", "0081"])
-        return self.random.choice(["drop", "twice", {"cut": self.random.choice([1, 4, 20])}, {"time": self.random.choice([0, 9, 21, 30])},
-                                   poke(place, text), {"raw": self.random.choice(["", "00", "4d46"])}])
+        return self.random.choice([
+            "drop", "twice", {"cut": self.random.choice([1, 4, 20])}, {"time": self.random.choice([0, 9, 21, 30])},
+            poke(place, text), {"raw": self.random.choice(["", "00", "4d46"])}])
 
     def lie(self, node: int, first: int, last: int) -> None:
         """One node misbehaves in some periods, and lies about its clock in the first of them."""
         others = [other for other in range(self.nodes) if other != node]
         some = sorted(self.random.sample(others, self.random.randint(1, len(others) - 1)))
         rest = [other for other in others if other not in some]
-        periods, value = [first, last], self.random.choice([999, -VALUE_LIMIT, VALUE_LIMIT + 1])
-        told = (value & (1 << 64) - 1).to_bytes(8, "big").hex()
-        of = self.random.randrange(slots(self.m))
-        alike: dict[int, Callable[[], bool]] = {
-            0: lambda: self.lines.add(node, "all", periods, "all", self.random.choice(["drop", "twice", {"cut": 1}, {"time": 25}])),
-            1: lambda: self.lines.add(node, "all", periods, [data_slot(self.m)], poke(value_at(0), told)),
-            2: lambda: self.lines.add(node, "all", periods, [of], self.effect()),
-        }
-        apart: dict[int, Callable[[], bool]] = {
-            3: lambda: self.lines.add(node, some, periods, [of], self.effect()),
-            4: lambda: self.lines.add(node, some, periods, [data_slot(self.m)], poke(value_at(0), told))
-            and self.lines.add(node, rest, periods, [data_slot(self.m)], poke(value_at(0), value_hex(-999))),
-            5: lambda: self.lines.add(node, some, periods, [report_slot(self.m)], poke(HEADER + 2 * self.random.randrange(self.nodes), "0081")),
-            6: lambda: self.lines.add(node, some, periods, [CLAIM_SLOT], poke(HEADER, "00")),
-            7: lambda: self.lines.add(node, some, periods, [slots(self.m) - 1], self.random.choice(["drop", poke(HEADER, "01"), {"raw": ""}])),
-            8: lambda: self.lines.add(node, some, periods, [0], poke(HEADER + 2 * self.random.randrange(1 + self.nodes), "0001")),
-        }
         kind = self.random.randrange(9)
-        if {**alike, **apart}[kind]() and self.random.random() < 0.8:
-            self.clock_lies(node, first, some if kind in apart else others, others)
+        plan = self.plans(some, rest)[kind]
+        added = [self.lines.add(node, to, [first, last], of, effect) for to, of, effect in plan]
+        if all(added) and self.random.random() < 0.8:
+            self.clock_lies(node, first, others if kind < ALIKE else some, others)
+
+    def plans(self, some: list[int], rest: list[int]) -> list[list[tuple[To, To, Any]]]:
+        """The ways to misbehave: whom it meets, in which slots, and how. The first of them meet all alike."""
+        data, reports, last = data_slot(self.m), report_slot(self.m), slots(self.m) - 1
+        value = self.random.choice([999, -VALUE_LIMIT, VALUE_LIMIT + 1])
+        told = poke(value_at(0), (value & (1 << 64) - 1).to_bytes(8, "big").hex())
+        at, slot = HEADER + 2 * self.random.randrange(self.nodes), self.random.randrange(last + 1)
+        effect = self.effect()
+        whole = self.random.choice(["drop", "twice", {"cut": 1}, {"time": 25}])
+        end = self.random.choice(["drop", poke(HEADER, "01"), {"raw": ""}])
+        return [
+            [("all", "all", whole)],
+            [("all", [data], told)],
+            [("all", [slot], effect)],
+            [(some, [slot], effect)],
+            [(some, [data], told), (rest, [data], poke(value_at(0), value_hex(-999)))],
+            [(some, [reports], poke(at, "0081"))],
+            [(some, [CLAIM_SLOT], poke(HEADER, "00"))],
+            [(some, [last], end)],
+            [(some, [0], poke(at, "0001"))],
+        ]
 
     def clock_lies(self, node: int, period: int, to: list[int], others: list[int]) -> None:
         """One or two lies about a clock in a period; the second one overlaps the first."""
         for told in (to, others)[:self.random.randint(1, 2)]:
-            self.lies.append({"from": node, "to": told, "periods": [period, period], "by": self.random.randint(-5000, 5000)})
+            by = self.random.randint(-5000, 5000)
+            self.lies.append({"from": node, "to": told, "periods": [period, period], "by": by})
 
     def mislead(self, node: int, period: int) -> None:
         """A node restarts, and most others are heard with another count: perhaps above the cap."""
@@ -225,7 +241,8 @@ class Drawing:
             self.restarts |= {(self.periods - 1, node) for node in range(self.nodes)}
         elif rare < 0.08:
             period = self.random.randrange(1, self.periods)
-            self.restarts |= {(period, node) for node in self.random.sample(range(self.nodes), self.random.randint(2, self.nodes - 1))}
+            many = self.random.sample(range(self.nodes), self.random.randint(2, self.nodes - 1))
+            self.restarts |= {(period, node) for node in many}
         elif rare < 0.13:
             self.mislead(self.random.randrange(self.nodes), self.random.randrange(1, self.periods))
         elif rare < 0.17:
@@ -240,8 +257,9 @@ class Drawing:
         tasks = [self.task(k) for k in range(self.random.choice([0, 1, 2, 3]))]
         channels = [self.channel(tasks) for _ in range(self.random.choice([1, 2, 3, 4]))]
         self.befall()
-        drawn = {"nodes": self.nodes, "m": self.m, "periods": self.periods, "policy": self.policy(), "channels": channels, "tasks": tasks,
-                 "faults": self.lines.all, "restarts": [{"node": node, "period": period} for period, node in sorted(self.restarts)],
+        restarts = [{"node": node, "period": period} for period, node in sorted(self.restarts)]
+        drawn = {"nodes": self.nodes, "m": self.m, "periods": self.periods, "policy": self.policy(),
+                 "channels": channels, "tasks": tasks, "faults": self.lines.all, "restarts": restarts,
                  "frame": self.random.randint(1, self.periods), "order": self.random.randrange(self.nodes)}
         if self.version == 2:
             drawn["version"] = 2
@@ -274,7 +292,8 @@ def _relay_line(source: random.Random, data: Json, lines: Lines, frame: list[str
     width = 2 if given[3] == 3 else 1 + 2 * data["nodes"]
     count = (len(given) - HEADER) // width
     at = HEADER + width * source.randrange(min(count, 4096 // width - 1))
-    entry = _other_entry(source, data, width, slot - (1 if given[3] == 3 else report_slot(data["m"])), given[at:at + width])
+    round_ = slot - (CLAIM_SLOT if given[3] == 3 else report_slot(data["m"]))
+    entry = _other_entry(source, data, width, round_, given[at:at + width])
     altered = given[:at] + entry + given[at + width:]
     effect = {"raw": altered.hex()} if len(altered) <= 4096 and source.random() < 0.5 else poke(at, entry.hex())
     others = [it for it in range(data["nodes"]) if it != sender]
@@ -286,8 +305,9 @@ def _outsider_line(source: random.Random, data: Json, lines: Lines, outside: lis
     """One that is no member speaks otherwise than it would: it claims, accuses, or tells a value."""
     period, node = source.choice(outside)
     m, others = data["m"], [it for it in range(data["nodes"]) if it != node]
-    slot, effect = source.choice([(CLAIM_SLOT, poke(HEADER, "00")), (report_slot(m), poke(HEADER, "00ff")),
-                                  (data_slot(m), poke(value_at(0), value_hex(999))), (slots(m) - 1, poke(10, "00000002"))])
+    slot, effect = source.choice([
+        (CLAIM_SLOT, poke(HEADER, "00")), (report_slot(m), poke(HEADER, "00ff")),
+        (data_slot(m), poke(value_at(0), value_hex(999))), (slots(m) - 1, poke(10, "00000002"))])
     to = sorted(source.sample(others, source.randint(1, len(others))))
     return lines.add(node, to, [period, period], [slot], effect)
 
@@ -304,7 +324,8 @@ def alter(seed: int, data: Json, trace: list[str]) -> tuple[Json, set[str]]:
         if _relay_line(source, data, lines, source.choice(well if source.random() < 0.85 else relays)):
             did.add("altered relay entry")
     heads = [line.split(" ") for line in trace if line.startswith("period ")]
-    outside = [(int(it[1]), node) for it in heads if it[3] != "-" for node in range(data["nodes"]) if str(node) not in it[3].split(",")]
+    outside = [(int(it[1]), node) for it in heads if it[3] != "-"
+               for node in range(data["nodes"]) if str(node) not in it[3].split(",")]
     if outside and source.random() < 0.7 and _outsider_line(source, data, lines, outside):
         did.add("excluded node that speaks")
     return {**data, "faults": lines.all}, did

@@ -9,17 +9,19 @@ from promises import Groups, tolerates
 CLASSES = {"A": "asymmetric", "S": "symmetric", "B": "benign", "J": "joining"}
 EFFECTS = ("drop", "twice", "cut", "time", "set", "raw")
 # what must come up, besides what `draw.alter` says that it did
-WANTED = [*CLASSES.values(), *EFFECTS, "version 1", "version 2", *(f"m {m}" for m in range(4)), *(f"{n} nodes" for n in range(3, 17)),
-          "state channel", "sensor", "sensor of a task", "copy", "copy within its own bound", "vote missing", "task claimed", "task finished",
-          "restart of one", "restart of many", "cold", "cold for two periods", "claim lost", "excluded", "readmitted", "all would leave",
+WANTED = [*CLASSES.values(), *EFFECTS, "version 1", "version 2", *(f"m = {m}" for m in range(4)),
+          *(f"nodes = {nodes}" for nodes in range(3, 17)), "state channel", "sensor", "sensor of a task", "copy",
+          "copy within its own bound", "vote missing", "task claimed", "task finished", "restart of one",
+          "restart of many", "cold", "cold for two periods", "claim lost", "excluded", "readmitted", "all would leave",
           "retired", "equivocator", "clock", "overlapping clock lies", "last slot alone", "state above the cap"]
 DRAWN = ["altered relay entry", "excluded node that speaks"]
 
 
 def of_scenario(scenario: Json) -> set[str]:
     """What the scenario alone has."""
-    found = {f"version {scenario.get('version', 1)}", f"m {scenario['m']}", f"{scenario['nodes']} nodes"}
-    found |= {line["effect"] if isinstance(line["effect"], str) else next(iter(line["effect"])) for line in scenario.get("faults", [])}
+    found = {f"version {scenario.get('version', 1)}", f"m = {scenario['m']}", f"nodes = {scenario['nodes']}"}
+    effects = [line["effect"] for line in scenario.get("faults", [])]
+    found |= {it if isinstance(it, str) else next(iter(it)) for it in effects}
     periods = [it["period"] for it in scenario.get("restarts", [])]
     found |= {"restart of many" if periods.count(it) > 1 else "restart of one" for it in periods}
     by_sender: dict[tuple[int, int], set[int]] = {}
@@ -31,7 +33,8 @@ def of_scenario(scenario: Json) -> set[str]:
         found.add("last slot alone")
     if "clock" in scenario:
         found.add("clock")
-        lies = [(it["from"], period, to) for it in scenario["clock"]["lies"] for period in range(it["periods"][0], it["periods"][1] + 1) for to in it["to"]]
+        lies = [(it["from"], period, to) for it in scenario["clock"]["lies"]
+                for period in range(it["periods"][0], it["periods"][1] + 1) for to in it["to"]]
         if len(lies) > len(set(lies)):
             found.add("overlapping clock lies")
     return found
@@ -44,8 +47,10 @@ def of_votes(scenario: Json, text: Text) -> set[str]:
         for node in period.nodes:
             for channel, vote in node.votes.items():
                 part = scenario["channels"][channel]
-                kind = {"state": "state channel", "sensor": "sensor of a task" if "task" in part else "sensor", "copy": "copy"}[part["kind"]]
-                found |= {kind if vote is not None else "vote missing"} | ({"task finished"} if "task" in part else set())
+                sensor = "sensor of a task" if "task" in part else "sensor"
+                kind = {"state": "state channel", "sensor": sensor, "copy": "copy"}[part["kind"]]
+                found.add(kind if vote is not None else "vote missing")
+                found |= {"task finished"} if "task" in part else set()
     return found
 
 
@@ -54,7 +59,8 @@ def of_members(scenario: Json, text: Text) -> set[str]:
     found, policy = set(), scenario["policy"]
     before: list[int] = []
     for period in text.periods:
-        if any(not node.is_cold and all(node.counts[it] >= policy["exclude"] for it in node.members) for node in period.nodes):
+        held = [[node.counts[it] for it in node.members] for node in period.nodes if not node.is_cold]
+        if any(min(counts) >= policy["exclude"] for counts in held):
             found.add("all would leave")
         reference = period.reference
         if reference is None:
@@ -92,11 +98,13 @@ def of_copies(scenario: Json, text: Text, groups: Groups) -> set[str]:
     for period in text.periods:
         letters = {node.id: node.letter for node in period.nodes}
         for channel, group in groups.get(period.number, {}).items():
-            if period.claim and group and tolerates([letters[it] for it in group], scenario["channels"][channel]["lies"]):
+            faults = scenario["channels"][channel]["lies"]
+            if period.claim and group and tolerates([letters[it] for it in group], faults):
                 return {"copy within its own bound"}
     return set()
 
 
 def came_up(scenario: Json, text: Text, groups: Groups) -> set[str]:
     """All of it; who votes on copy channels is told beside the text."""
-    return of_scenario(scenario) | of_votes(scenario, text) | of_members(scenario, text) | of_nodes(text) | of_copies(scenario, text, groups)
+    found = of_scenario(scenario) | of_votes(scenario, text) | of_members(scenario, text)
+    return found | of_nodes(text) | of_copies(scenario, text, groups)

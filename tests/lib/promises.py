@@ -1,7 +1,7 @@
 """What a replayed text must say of each claimed period, read from the text and the scenario alone.
 
-`judge` answers a list of what is wrong. It knows no rule by which a node moves: only what the nodes promise each other. Who votes on a
-copy channel isn't in the text; that is told beside it.
+`judge` answers a list of what is wrong. It knows no rule by which a node moves: only what the nodes promise each other.
+Who votes on a copy channel isn't in the text; that is told beside it.
 """
 from __future__ import annotations
 
@@ -76,7 +76,8 @@ def convictions_wrong(period: Period, before: Optional[Period]) -> Iterator[str]
     """Nonfaulty nodes convict those alone that are asymmetric, in this period or in the one before it."""
     for node in of(period, "N"):
         for other, mask in enumerate(node.rows.get(node.id) or ()):
-            if mask & EQUIVOCATE and not any(it.nodes[other].letter == "A" for it in (before, period) if it is not None):
+            letters = [it.nodes[other].letter for it in (before, period) if it is not None]
+            if mask & EQUIVOCATE and "A" not in letters:
                 yield f"node {node.id} convicts node {other}, which isn't asymmetric"
 
 
@@ -93,7 +94,7 @@ def spread_wrong(channel: int, votes: list[Optional[int]], values: list[Optional
 
 
 def votes_wrong(period: Period, channels: list[Json], own: Values, groups: Mapping[int, list[int]]) -> Iterator[str]:
-    """Votes of a channel lie within what the nonfaulty members read, or those of its group where that keeps its own bound."""
+    """Votes lie within what the nonfaulty members read; of copies those of a group that keeps its own bound."""
     letters = {node.id: node.letter for node in period.nodes}
     for channel, part in enumerate(channels):
         votes = [node.votes[channel] for node in of(period, "NJ") if channel in node.votes]
@@ -116,7 +117,8 @@ def clock_wrong(period: Period, clock: Optional[Json], offsets: Optional[list[in
     if period.skew != (max(sound) - min(sound) if sound else None):
         yield "the skew is not that of the offsets"
     before = [offsets[node.id] for node in of(period, "N") if node.id in period.members]
-    if period.claim and max(sound) - min(sound) > (max(before) - min(before) + 1) // 2 + 2 * clock["epsilon"] + clock["drift"]:
+    further = 2 * clock["epsilon"] + clock["drift"]
+    if period.claim and max(sound) - min(sound) > (max(before) - min(before) + 1) // 2 + further:
         yield "the skew is beyond the bound"
 
 

@@ -1,4 +1,4 @@
-"""Frames as docs/FORMATS.md has them: how a sender spells one, what bytes say to a receiver, and what a fault line makes of one.
+"""Frames as docs/FORMATS.md has them: how one is spelt, what bytes say to a receiver, and what fault lines make of one.
 
 This is written from the document, beside the program's own crates, so that a trace can be judged byte by byte.
 """
@@ -32,7 +32,8 @@ def carries(slot: int, m: int) -> tuple[str, int]:
 def spell(version: int, place: tuple[int, int, int], kind: int, body: bytes) -> bytes:
     """A frame of a period, a slot and a sender."""
     period, slot, sender = place
-    return b"MF" + bytes([version, kind]) + period.to_bytes(4, "big") + bytes([sender, slot]) + len(body).to_bytes(4, "big") + body
+    head = b"MF" + bytes([version, kind]) + period.to_bytes(4, "big") + bytes([sender, slot])
+    return head + len(body).to_bytes(4, "big") + body
 
 
 def words_of(body: bytes) -> Words:
@@ -83,14 +84,16 @@ def state_length(scenario: Json) -> int:
 
 def read_state(scenario: Json, body: bytes) -> Optional[State]:
     """The state that a body of the right length says, or None where it says none."""
-    nodes, version, tasks, policy = scenario["nodes"], scenario.get("version", 1), scenario.get("tasks", []), scenario["policy"]
+    nodes, version, policy = scenario["nodes"], scenario.get("version", 1), scenario["policy"]
     words = words_of(body)
     rows = [words[at:at + nodes] for at in range(1, len(words), nodes)]
     left = rows[2] if version == 2 else [0] * nodes
     state = State([it for it in range(16) if words[0] >> it & 1], rows[0], rows[1], left, rows[version + 1:])
-    if not state.members or state.members[-1] >= nodes or max(state.counts) > policy["cap"] or max(state.streaks) >= policy["streak"]:
+    if not state.members or state.members[-1] >= nodes:
         return None
-    return state if copies_fit(tasks, state) else None
+    if max(state.counts) > policy["cap"] or max(state.streaks) >= policy["streak"]:
+        return None
+    return state if copies_fit(scenario.get("tasks", []), state) else None
 
 
 def _entries(scenario: Json, what: str, tags: int, count: int, body: bytes) -> Optional[list[Told]]:
@@ -123,7 +126,7 @@ def _values(body: bytes, due: int) -> Optional[list[int]]:
 
 
 def said(scenario: Json, members: list[int], due: int, place: tuple[int, int, int], given: bytes) -> object:
-    """What bytes say to one who expects a frame of a period, a slot and a sender: a body, an item, a list; COLD; or None."""
+    """What bytes say to one who expects a frame of this place: a body, an item, a list; COLD; or None for nothing."""
     m, (_, slot, sender) = scenario["m"], place
     what, tags = carries(slot, m)
     kind, body = given[3] if len(given) > 3 else 0, given[HEADER:]

@@ -1,12 +1,13 @@
 """Works out what a node says and believes from what it was delivered, by the rules of docs/PROTOCOL.md in plain Python.
 
-This is a second telling of the rules, on purpose: it shares nothing with the program's crates. It is slow, and judges drawn scenarios.
+This is a second telling of the rules, on purpose: it shares nothing with the program's crates. It is slow, and judges
+drawn scenarios.
 """
 from __future__ import annotations
 
 import functools
 from collections.abc import Callable
-from typing import Optional
+from typing import Dict, List, Optional
 
 import wire
 from maft_tools.plan import VALUE_LIMIT, Json
@@ -16,6 +17,8 @@ NO_CLAIM = b"\xff"
 MISSING, MALFORMED, TIMING, COLD_KIND, STATE, CLAIM, OVERRUN, DEVIATE, EQUIVOCATE = (1 << bit for bit in range(9))
 # what arrived of one frame: by period, slot, sender and receiver
 Arrived = Callable[[int, int], wire.Arrivals]
+# the rows that are settled; None for an error
+Rows = Dict[int, Optional[List[int]]]
 
 
 def wrapped(told: Told) -> Told:
@@ -84,7 +87,7 @@ def first_state(scenario: Json) -> State:
     return state
 
 
-def charged(rows: dict[int, Optional[list[int]]], node: int) -> int:
+def charged(rows: Rows, node: int) -> int:
     """The kinds of which more than half of the others' settled rows accuse a node."""
     masks = [row[node] for teller, row in rows.items() if row is not None and teller != node]
     return sum(1 << bit for bit in range(16) if 2 * sum(it >> bit & 1 for it in masks) > len(masks))
@@ -107,14 +110,14 @@ def move(policy: Json, state: State) -> None:
     leaves = [node for node in state.members if state.counts[node] >= policy["exclude"]]
     if leaves == state.members:
         leaves = []
-    joins = [node for node in range(len(state.counts)) if node not in state.members and state.counts[node] <= policy["readmit"]
+    joins = [node for node, held in enumerate(state.counts) if node not in state.members and held <= policy["readmit"]
              and (retire == 0 or state.left[node] < retire)]
     for node in leaves if retire else []:
         state.left[node] = min(65535, state.left[node] + 1)
     state.members = sorted(set(state.members) - set(leaves) | set(joins))
 
 
-def step(scenario: Json, state: State, rows: dict[int, Optional[list[int]]], period: int) -> None:
+def step(scenario: Json, state: State, rows: Rows, period: int) -> None:
     """The state after a period, of which the claims are taken, by its settled rows."""
     policy, tasks = scenario["policy"], scenario.get("tasks", [])
     for node in range(scenario["nodes"]):
@@ -193,7 +196,8 @@ class Heard:
 def _paths(members: tuple[int, ...], length: int) -> list[tuple[int, ...]]:
     if length == 0:
         return [()]
-    return [(first, *rest) for first in members for rest in _paths(tuple(it for it in members if it != first), length - 1)]
+    others = {first: tuple(it for it in members if it != first) for first in members}
+    return [(first, *rest) for first in members for rest in _paths(others[first], length - 1)]
 
 
 # ---- a node
@@ -218,7 +222,7 @@ class Node:
         self.members: list[int] = []
 
     def period(self, number: int, arrived: Arrived) -> list[str]:
-        """Goes through a period, with what arrived in a slot from a sender. Answers the node's lines but for their class."""
+        """Goes through a period, with what arrived in a slot from a sender. Answers the lines without a class."""
         self.number, self.arrived, self.said = number, arrived, []
         if number in self.restarts:
             self.state, self.mode, self.carried, self.own, self.last = None, "cold", [0] * self.nodes, {}, {}
@@ -283,7 +287,8 @@ class Node:
         for round_ in range(self.m + 1):
             told = heard.relayed(round_) if round_ else [own]
             width = len(own)
-            entries = [bytes([it]) + bytes(width) if isinstance(it, int) else (b"\0" if round_ else b"") + it for it in told]
+            plain = b"\0" if round_ else b""
+            entries = [bytes([it]) + bytes(width) if isinstance(it, int) else plain + it for it in told]
             self._say(slot + round_, b"".join(entries))
             for sender in self.others:
                 content = self._hear(slot + round_, sender, notes, self.members)
@@ -308,7 +313,8 @@ class Node:
                 self.row[member] |= verdicts[member]
         self._convict(heard, self.row)
         now = finished(self.tasks, self.state) - before
-        self.due = [c for c, it in enumerate(self.channels) if it["kind"] == "state" or it.get("task", None) in (None, *now)]
+        due = (None, *now)
+        self.due = [c for c, it in enumerate(self.channels) if it["kind"] == "state" or it.get("task") in due]
         return done
 
     def _convict(self, heard: Heard, notes: list[int]) -> None:
@@ -328,7 +334,8 @@ class Node:
 
     def _values(self) -> dict[int, Optional[int]]:
         """The slot of values: the vote of each channel that is due."""
-        self.own = {c: self._own_value(c) for c, part in enumerate(self.channels) if part["kind"] == "state" or c in self.due}
+        kept = [c for c, part in enumerate(self.channels) if part["kind"] == "state" or c in self.due]
+        self.own = {c: self._own_value(c) for c in kept}
         mine = [self.own[c] for c in self.due]
         self._say(self.m + 2, b"".join(it.to_bytes(8, "big", signed=True) for it in mine))
         told = {it: self._hear(self.m + 2, it, self.row, self.members) for it in self.others}
@@ -353,7 +360,7 @@ class Node:
         self.groups[channel] = [it for it in self.members if passed[it] == PASSED]
         return vote([voters[it][at] for it in self.groups[channel] if it in voters], part["lies"])
 
-    def _rows(self) -> dict[int, Optional[list[int]]]:
+    def _rows(self) -> Rows:
         """The slots of reports: the rows that are settled. What is found in them is carried into the next period."""
         self.row[self.me] = 0
         own = wire.bytes_of(self.row)
@@ -361,16 +368,19 @@ class Node:
         self._convict(heard, self.carried)
         return {it: None if isinstance(told, int) else wire.words_of(told) for it, told in heard.items(own).items()}
 
-    def _lines(self, done: dict[int, Told], rows: dict[int, Optional[list[int]]], votes: dict[int, Optional[int]]) -> list[str]:
+    def _lines(self, done: dict[int, Told], rows: Rows, votes: dict[int, Optional[int]]) -> list[str]:
         state = self.state
         running = [state.running(it) for it in range(self.nodes)]
-        head = f"node {self.me} - {self.mode} members {_list(state.members)} counts {_list(state.counts)} streaks {_list(state.streaks)}"
+        head = f"node {self.me} - {self.mode} members {_list(state.members)}"
+        head += f" counts {_list(state.counts)} streaks {_list(state.streaks)}"
         head += f" run {','.join('-' if it is None else str(it) for it in running)}"
         head += f" left {_list(state.left)}" if self.scenario["policy"].get("retire", 0) else ""
-        claims = (f"{it}={'E' if isinstance(told, int) else '-' if told == NO_CLAIM else told[0]}" for it, told in done.items())
+        claims = (f"{it}={'E' if isinstance(told, int) else '-' if told == NO_CLAIM else told[0]}"
+                  for it, told in done.items())
         cells = (f"{it}={'E' if row is None else _list(row)}" for it, row in rows.items())
         ballots = [f"{it}={'-' if of is None else of}" for it, of in votes.items()]
-        return [head, "  done " + " ".join(claims), "  rows " + " ".join(cells), "  votes " + (" ".join(ballots) or "-")]
+        votes_line = "  votes " + (" ".join(ballots) or "-")
+        return [head, "  done " + " ".join(claims), "  rows " + " ".join(cells), votes_line]
 
 
 def _list(numbers: list[int]) -> str:
