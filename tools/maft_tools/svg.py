@@ -5,6 +5,8 @@ import math
 from html import escape
 
 from .charts import Chart, Curves, HeatMap, Line
+from .estimates import Estimate
+from .figures import percent
 
 WIDTH, HEIGHT = 660, 380
 LEFT, TOP, RIGHT, BOTTOM = 70, 30, 20, 60
@@ -16,10 +18,12 @@ def number(value: float) -> str:
     return f"{value:.2f}".rstrip("0").rstrip(".")
 
 
-def text(x: float, y: float, words: str, kind: str = "", anchor: str = "middle", more: str = "") -> str:
-    """Words at a place; kinds are those of the style."""
-    kind = f' class="{kind}"' if kind else ""
-    return f'<text x="{number(x)}" y="{number(y)}" text-anchor="{anchor}"{kind}{more}>{escape(words)}</text>'
+TITLE = ' class="title"'
+
+
+def text(x: float, y: float, words: str, anchor: str = "middle", more: str = "") -> str:
+    """Words at a place, with more attributes."""
+    return f'<text x="{number(x)}" y="{number(y)}" text-anchor="{anchor}"{more}>{escape(words)}</text>'
 
 
 def ticks(low: float, high: float, most: int = 8) -> list[float]:
@@ -98,7 +102,7 @@ def _line(line: Line, plane: _Plane) -> list[str]:
 def curves(chart: Curves) -> str:
     """A chart of lines, with a legend below where they have names."""
     plane = _Plane(chart)
-    parts = [text(WIDTH / 2, 18, chart.title, "title"), *_axes(chart, plane)]
+    parts = [text(WIDTH / 2, 18, chart.title, more=TITLE), *_axes(chart, plane)]
     for line in chart.lines:
         parts += _line(line, plane)
     named = [it for it in chart.lines if it.name]
@@ -116,29 +120,35 @@ def _shade(share: float) -> str:
     return "#" + "".join(f"{round(255 + (it - 255) * part):02x}" for it in side)
 
 
+def _field(share: Estimate | None, corner: tuple[float, float], size: tuple[float, float], name: str) -> list[str]:
+    """One field of a heat map; its interval is told where the pointer rests on it."""
+    (x, y), (wide, high) = corner, size
+    fill = "#eeeeee" if share is None else _shade(share.value)
+    place = f'x="{number(x)}" y="{number(y)}" width="{number(wide)}" height="{number(high)}"'
+    parts = [f'<rect {place} fill="{fill}" stroke="#fff"><title>{escape(name)}: {percent(share)}</title></rect>']
+    if share is not None:
+        dark = ' fill="#fff"' if abs(share.value - 0.5) > 0.3 else ""
+        parts.append(text(x + wide / 2, y + high / 2 + 4, f"{100 * share.value:.0f}", more=f' class="share"{dark}'))
+    return parts
+
+
 def heat_map(chart: HeatMap) -> str:
     """A field for each pair of values, with its share in percent."""
     wide = (WIDTH - LEFT - RIGHT) / max(1, len(chart.xs))
     high = min(40.0, wide)
     foot = TOP + high * len(chart.ys)
-    parts = [text(WIDTH / 2, 18, chart.title, "title")]
+    parts = [text(WIDTH / 2, 18, chart.title, more=TITLE)]
     for row, y_word in enumerate(reversed(chart.ys)):
         y = TOP + high * row
         parts.append(text(LEFT - 8, y + high / 2 + 4, y_word, anchor="end"))
         for at, x_word in enumerate(chart.xs):
-            share = chart.values.get((x_word, y_word))
-            fill = "#eeeeee" if share is None else _shade(share.value)
-            place = f'x="{number(LEFT + wide * at)}" y="{number(y)}" width="{number(wide)}" height="{number(high)}"'
-            parts.append(f'<rect {place} fill="{fill}" stroke="#fff"/>')
-            if share is not None:
-                dark = ' fill="#fff"' if abs(share.value - 0.5) > 0.3 else ""
-                parts.append(text(LEFT + wide * (at + 0.5), y + high / 2 + 4, f"{100 * share.value:.0f}", "share",
-                    more=dark))
+            name = f"{chart.x_label} {x_word}, {chart.y_label} {y_word}"
+            parts += _field(chart.values.get((x_word, y_word)), (LEFT + wide * at, y), (wide, high), name)
     for at, x_word in enumerate(chart.xs):
         parts.append(text(LEFT + wide * (at + 0.5), foot + 16, x_word))
     parts.append(text((LEFT + WIDTH - RIGHT) / 2, foot + 36, chart.x_label))
-    parts.append(text(16, (TOP + foot) / 2, chart.y_label,
-        more=f' transform="rotate(-90 16 {number((TOP + foot) / 2)})"'))
+    turned = f' transform="rotate(-90 16 {number((TOP + foot) / 2)})"'
+    parts.append(text(16, (TOP + foot) / 2, chart.y_label, more=turned))
     return _frame(chart.title, foot + 50, parts)
 
 

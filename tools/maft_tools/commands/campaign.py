@@ -250,7 +250,8 @@ class Campaign:
     def saved(self, case: str, name: str) -> str | None:
         """The file that a drawn scenario is saved in, or that of a folder; None where there is none."""
         if self.given.folder is not None:
-            return os.path.join(self.given.folder, f"{name}.json")
+            path = os.path.join(self.given.folder, f"{name}.json")
+            return path if os.path.exists(path) else None
         if not self.given.save:
             return None
         at = [it.words for it in self.cases].index(case)
