@@ -118,7 +118,7 @@ class _Pool:
         cause = _cause(worker.process.exitcode)
         self.deaths[at] += 1
         if self.deaths[at] >= DEATHS:
-            raise WordsError(f"{DEATHS} processes died over the scenarios {names}; the last by {cause}")
+            raise WordsError(f"{self.deaths[at]} processes died over the scenarios {names}; the last by {cause}")
         self.say(f"a process died by {cause}; the scenarios {names} are run again")
         self.again.append(at)
         self.workers[self.workers.index(worker)] = _Worker(self.program)
