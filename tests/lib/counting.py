@@ -18,7 +18,7 @@ class Count:
             self.passed += 1
         else:
             self.failed += 1
-            print(f"{name}: failed {str(shown)[:400]}".rstrip())
+            print(f"{name}: failed {str(shown)[:600]}".rstrip())
         return good
 
     def refuse(self, words: str) -> None:
