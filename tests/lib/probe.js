@@ -24,8 +24,7 @@ function luminance(hex) {
 function contrast(a, b) { const [low, high] = [luminance(a), luminance(b)].sort((x, y) => x - y); return (high + 0.05) / (low + 0.05); }
 
 function checkDrawing(drawing) {
-  if (drawing.scenario) show(drawing.scenario);
-  show(drawing.text);
+  showAll([...(drawing.scenario ? [{ name: "the scenario", text: drawing.scenario }] : []), { name: "the text", text: drawing.text }]);
   const problem = document.getElementById("problem").textContent;
   demand(problem === "", drawing.name + ": " + problem);
   if (!window.shown) { demand(false, drawing.name + ": nothing is shown"); return; }
@@ -41,6 +40,59 @@ function checkDrawing(drawing) {
   for (const [period, x, lane, y, wanted] of drawing.places || []) { const got = colour(state.width * period + x, (state.at[lane] || 0) + y); demand(got === wanted, drawing.name + ", period " + period + ", " + lane + " " + x + "," + y + ": " + got + ", not " + wanted); }
   if (drawing.lost !== undefined) { go(0, 0); document.getElementById("lost").click(); demand(state.period === drawing.lost && !document.getElementById("lost").disabled, drawing.name + ": the lost claim is not gone to"); }
   else demand(document.getElementById("lost").disabled, drawing.name + ": a lost claim is told");
+}
+
+function told(id) { return document.getElementById(id).textContent; }
+
+// a text and its scenario are a pair; an old scenario goes unless it fits and the user keeps it
+function checkPairs() {
+  const [one, other] = pairs, file = (name, text) => ({ name, text });
+  clear(); state.offered = null;
+  showAll([file("a.txt", one.text)]);
+  demand(told("pair") === "Text: a.txt. Scenario: none." && !document.getElementById("ask").hidden, "a text alone: " + told("pair"));
+  demand(margin(state.run.periods[0]) === null && pageWords().includes("the margin is ?"), "a margin is told where m isn't known");
+  document.getElementById("m").value = "1"; giveRounds();
+  demand(margin(state.run.periods[0]) === 4 && pageWords().includes("with a margin of 4"), "m as the user gives it makes no margin");
+  showAll([file("a.json", one.scenario)]);
+  demand(told("pair") === "Text: a.txt. Scenario: a.json." && document.getElementById("ask").hidden, "a scenario after its text: " + told("pair"));
+  showAll([file("b.txt", other.text)]);
+  demand(told("pair") === "Text: b.txt. Scenario: none." && document.getElementById("keep").hidden, "a scenario that doesn't fit is offered or kept: " + told("pair"));
+  showAll([file("a.json", one.scenario), file("a.txt", one.text)]); showAll([file("c.txt", one.text)]);
+  demand(told("pair") === "Text: c.txt. Scenario: none." && !document.getElementById("keep").hidden, "a scenario that fits isn't offered, or is kept unasked: " + told("pair"));
+  document.getElementById("keep").click();
+  demand(told("pair") === "Text: c.txt. Scenario: a.json." && document.getElementById("keep").hidden, "a scenario isn't kept: " + told("pair"));
+  showAll([file("b.json", other.scenario)]);
+  demand(told("problem").includes("isn't that of this text: it has") && canvas.width === 0, "another text's scenario is taken: " + told("problem"));
+  showAll([file("a.json", one.scenario)]); showAll([file("a.txt", one.text)]);
+  demand(told("pair") === "Text: a.txt. Scenario: a.json.", "a scenario before its text: " + told("pair"));
+  showAll([file("a.txt", one.text), { name: "x.txt", text: "", error: "too long" }]);
+  demand(told("problem") === "x.txt can't be read: too long" && canvas.width === 0 && !window.shown, "a file that can't be read: " + told("problem"));
+}
+
+// the question mark of a margin that isn't known, zoom, and what happens
+function checkDoing() {
+  const [one] = pairs;
+  showAll([{ name: "a.json", text: one.scenario }, { name: "a.txt", text: one.text }]);
+  const before = state.width;
+  zoomBy(1); demand(state.width > before && canvas.style.width === state.width * 10 + 8 + "px", "no wider columns");
+  zoomBy(-1); zoomBy(-1); demand(state.width < before, "no narrower columns");
+  plot.style.width = "300px"; document.getElementById("fit").click();
+  demand(canvas.offsetWidth + SIDE <= plot.clientWidth, "the width isn't fitted: " + canvas.offsetWidth);
+  plot.style.width = "";
+  go(0, 0);
+  for (const [period, words] of [[1, "node 4 is asymmetric"], [2, "node 4 is charged with deviate"], [3, "node 4 is symmetric"]]) {
+    document.getElementById("next").click();
+    demand(state.period === period && pageWords().includes(words), "the next event in period " + period + " is in " + state.period + ", and the words have no '" + words + "'");
+  }
+  document.getElementById("last").click(); demand(state.period === 2, "the event before is in period " + state.period);
+  go(9, 0); goEvent(1); demand(state.period === 9 && told("told").includes("Nothing happens behind"), "something happens behind the end");
+}
+
+function checkPolicy() {
+  const policy = document.querySelector("meta[http-equiv=Content-Security-Policy]");
+  demand(policy && policy.content.startsWith("default-src 'none'; script-src 'sha256-") && !/unsafe|http|\*/.test(policy.content), "the page's policy allows more than it needs");
+  const script = document.createElement("script"); script.textContent = "window.injected = 2;"; document.body.append(script);
+  demand(window.injected !== 2, "another script runs in the page");
 }
 
 function checkRefusal(refusal) {
@@ -68,7 +120,8 @@ function drop(kind) {
 }
 
 try {
-  for (const drawing of drawings) { state.plan = null; checkDrawing(drawing); }
+  for (const drawing of drawings) { clear(); checkDrawing(drawing); }
+  checkPairs(); checkDoing(); checkPolicy();
   for (const refusal of refusals) checkRefusal(refusal);
   injections.forEach(checkInjection);
   checkContrasts();
