@@ -2,9 +2,13 @@
 
 ghost use Rattle.cluster_periods.specs.Periods.{PeriodsLaw};
 ghost use Rattle.cluster_periods.specs.Late.{LatesLaw};
-ghost use Rattle.cluster_periods.specs.Laws.{ClaimLaw, SafeLaw, ConvictionLaw, CopyLaw, ClockLaw, PromiseLaw, OrderLaw};
+ghost use Rattle.cluster_periods.specs.Laws.{ClaimLaw, SafeLaw, ConvictionLaw, CopyLaw, ClockLaw, LifetimeLaw, PromiseLaw, OrderLaw};
 
 use node_steps::laws::{late, period};
+use safety::laws::convergence::{skew, skew_from_start, starts, values};
+use safety::laws::lifetime::{
+    exclusion, light, recovery, remaining, returning, silence, standing, well,
+};
 use safety::laws::runs::{run_clocks, run_convictions, run_copies, runs};
 use safety::laws::talk::{delivery, saying};
 
@@ -62,6 +66,25 @@ pub fn clocks()
     run_clocks();
 }
 
+/// In each claimed period values and clocks are as near as the periods up to it bring them, a node that is well is charged
+/// with nothing and comes back among the members, and one that all accuse or that is silent is out.
+pub fn over_time()
+    ensures { LifetimeLaw }
+{
+    starts();
+    skew_from_start();
+    standing();
+    well();
+    light();
+    values();
+    skew();
+    recovery();
+    returning();
+    remaining();
+    exclusion();
+    silence();
+}
+
 /// All that is promised of each claimed period of a scenario.
 pub fn promises()
     ensures { PromiseLaw }
@@ -70,6 +93,7 @@ pub fn promises()
     convictions();
     copies();
     clocks();
+    over_time();
 }
 
 /// The node with which deliveries begin changes no period.
