@@ -58,8 +58,8 @@ ClockLaw =
     → (c : ClockView) → sc.clock ≡ Some c → (i j : ℕ) → is_sound (classes_of sc p i) ≡ true → is_sound (classes_of sc p j) ≡ true
     → ClocksNear (run_of sc) (classes_of sc) c p (members_at (run_of sc) (classes_of sc) p) i j
 
--- of the periods from p to p + k, each of which is claimed, and all before them: values and clocks converge, a node that is well recovers, returns
--- and remains, one that all accuse leaves, and so does a silent one
+-- what the periods from p to p + k come to, where the last of them is claimed: values and clocks converge, a node that is well recovers, returns and
+-- remains, one that all accuse leaves, and so does one of which nothing is heard
 pub record Lasting {N : ℕ} (sc : ScenarioView N) (p k : ℕ) : Type 0 where
   pub values : ValuesConverge (system_of sc) p k
   pub clocks : (c : ClockView) → sc.clock ≡ Some c → ClocksSettle (system_of sc) c p k
@@ -69,8 +69,8 @@ pub record Lasting {N : ℕ} (sc : ScenarioView N) (p k : ℕ) : Type 0 where
   pub exclusion : AccusedLeave (system_of sc) p k
   pub silence : SilentLeave (system_of sc) p k
 
--- what many periods come to in a claimed one: how near values and clocks are by their starts, what each sound node holds, whom nobody accuses, who
--- remains a member, and all that lasted from any period up to this one
+-- what all periods up to a claimed one come to: how near values and clocks are by their starts, what standing each sound node holds, whom nobody
+-- accuses, who stays a member below the bound of exclusion, and what each stretch of periods that ends with this one comes to
 pub record Lifetimes {N : ℕ} (sc : ScenarioView N) (p : ℕ) : Type 0 where
   pub starts : StartsConverge (system_of sc) p
   pub clocks : (c : ClockView) → sc.clock ≡ Some c → StartedClocks (system_of sc) c p

@@ -66,8 +66,9 @@ pub fn clocks()
     run_clocks();
 }
 
-/// In each claimed period values and clocks are as near as the periods up to it bring them, a node that is well is charged
-/// with nothing and comes back among the members, and one that all accuse or that is silent is out.
+/// By each claimed period values and clocks are as near as the periods up to it bring them; a node
+/// that is well is charged with nothing and a member again in time, and one that all accuse or of
+/// which nothing is heard is out in time.
 pub fn over_time()
     ensures { LifetimeLaw }
 {

@@ -114,7 +114,7 @@ module _ (cl : Cluster) (class_of : Classing) (p : ℕ) (h : Here cl class_of p)
       self : (n : ℕ) → pos n ≤ℤ pos n
       self n = omega (arith, ints)
 
--- what is added in a period
+-- clocks that are at most d apart before a period are half of that apart after it, rounded up, and what the period adds
 module _ (cl : Cluster) (class_of : Classing) (p : ℕ) (h : IsHere cl class_of p) (law : ClockLaw) (c : ClockView) (clocks : AreClocks cl class_of c) (d : ℕ)
     (near : OffsetsNear cl class_of c p d) where
   skew_halves : SkewAfter cl class_of c p ((d + 1) / 2 + 2 * unsigned_abs c.epsilon + unsigned_abs c.drift)

@@ -338,7 +338,7 @@ module _ (start : StartLaw) (next : StepLaw) (law : MembersLaw) (cl : Cluster) (
     low_of : (q : ℕ) → class_of q j ≡ N → j < cl.setting.config.nodes
     low_of q n = given.classing.bounded q j (ap is_sound n)
 
-    -- what a streak of 0 would have been before
+    -- a streak is below its full length
     short : Claim cl class_of p → class_of p j ≡ N → slice_index first.streaks j < cl.setting.config.policy.streak
     short claim n =
         let s = begun p claim (suc p) (omega arith) in

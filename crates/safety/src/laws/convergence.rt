@@ -1,4 +1,5 @@
-//! How values and clocks come together over many periods.
+//! How values and clocks come together over many claimed periods. Distances of values are in the
+//! units of values, those of clocks in the units of offsets.
 
 ghost use Rattle.safety.specs.Convergence.{ValuesConvergeLaw, StartsConvergeLaw, ClocksSettleLaw, StartedClocksLaw};
 
@@ -6,7 +7,8 @@ use crate::laws::clocks;
 use crate::laws::talk::reception;
 use crate::laws::views::{start, step};
 
-/// What own values of a state channel are apart is halved in each period, rounded up.
+/// Own values of a state channel that nonfaulty nodes have at most d apart in period p are at most
+/// d / 2^k apart in period p + k, and votes there at most d / 2^(k + 1), rounded up.
 pub fn values()
     ensures { ValuesConvergeLaw }
 {
@@ -16,7 +18,8 @@ pub fn values()
     mme_vote::laws::members();
 }
 
-/// So in period p they are at most the spread of the starts by 2^p apart, rounded up.
+/// Own values of a state channel whose starts are at most d apart are at most d / 2^p apart in
+/// period p, and votes there at most d / 2^(p + 1), rounded up.
 pub fn starts()
     ensures { StartsConvergeLaw }
 {
@@ -27,7 +30,9 @@ pub fn starts()
     values();
 }
 
-/// What clocks are further apart than they settle is halved in each period, rounded up.
+/// Clocks of nonfaulty nodes that are at most d apart before period p are at most (d - s) / 2^k + s
+/// apart before period p + k, rounded up, where s is 4 epsilon + 2 drift and d - s stops at 0.
+/// After it those of sound nodes are so with k + 1.
 pub fn skew()
     ensures { ClocksSettleLaw }
 {
@@ -37,8 +42,8 @@ pub fn skew()
     clocks::clocks();
 }
 
-/// So before period p they are at most so far apart by how they start, and in the end no further than they settle, but for
-/// one.
+/// The same of clocks that start at most d apart, for period p; and before it they are at most s +
+/// 1 apart where d is at most s + 2^p.
 pub fn skew_from_start()
     ensures { StartedClocksLaw }
 {

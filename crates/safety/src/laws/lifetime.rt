@@ -1,4 +1,5 @@
-//! What becomes of one node over many periods: once well, back among the members, and out.
+//! What becomes of one node over many claimed periods: once well, back among the members, and out.
+//! Counts are in the units of weights, streaks and deadlines in periods.
 
 ghost use Rattle.safety.specs.Lifetime.{StandingLaw, WellLaw, RecoveryLaw, ReturnLaw, RemainLaw, LightLaw, ExclusionLaw, SilenceLaw};
 
@@ -6,7 +7,8 @@ use crate::laws::runs::runs;
 use crate::laws::talk::{delivery, reception};
 use crate::laws::views::{start, step};
 
-/// Sound nodes go through a period with the standing before it, and end it with that after it.
+/// Each sound node goes through a period with the members, counts, streaks and numbers of leavings
+/// before it, and ends it with those of the next one.
 pub fn standing()
     ensures { StandingLaw }
 {
@@ -17,7 +19,8 @@ pub fn standing()
     mme_vote::laws::members();
 }
 
-/// A node that is nonfaulty, and was so in the period before, is charged with nothing.
+/// A node that is nonfaulty, and was so in the period before, is accused by no other nonfaulty node
+/// and charged with nothing, whatever befell it earlier.
 pub fn well()
     ensures { WellLaw }
 {
@@ -27,7 +30,8 @@ pub fn well()
     mme_vote::laws::members();
 }
 
-/// So from then on its count falls by the credit with each full streak.
+/// While a node is nonfaulty from period p on, its count after period p + k is that after p less
+/// the credit for each full streak.
 pub fn recovery()
     ensures { RecoveryLaw }
 {
@@ -37,7 +41,9 @@ pub fn recovery()
     mme_vote::laws::members();
 }
 
-/// And it is a member again after so many periods.
+/// While a node is nonfaulty from period p on, it is a member after period p + k at the latest
+/// where k and its streak after p come to the periods that its count takes to `readmit`, unless it
+/// retires.
 pub fn returning()
     ensures { ReturnLaw }
 {
@@ -47,7 +53,8 @@ pub fn returning()
     mme_vote::laws::members();
 }
 
-/// And a member then, where its count is below the bound of exclusion.
+/// While a node is nonfaulty from period p on, it remains a member where it is one after p with a
+/// count below the bound of exclusion.
 pub fn remaining()
     ensures { RemainLaw }
 {
@@ -57,7 +64,8 @@ pub fn remaining()
     mme_vote::laws::members();
 }
 
-/// A node that was nonfaulty throughout is a member whose count stays below the bound of exclusion.
+/// A node that was nonfaulty in all periods so far is a member, and its count stays below the bound
+/// of exclusion.
 pub fn light()
     ensures { LightLaw }
 {
@@ -67,7 +75,9 @@ pub fn light()
     mme_vote::laws::members();
 }
 
-/// A node that all nonfaulty members accuse is out after so many periods.
+/// A node that all other nonfaulty members give kinds of at least weight w in k + 1 periods on end
+/// is no member after them, where its count before and (k + 1) w come to the bound of exclusion and
+/// the count of some member stays below it.
 pub fn exclusion()
     ensures { ExclusionLaw }
 {
@@ -77,7 +87,7 @@ pub fn exclusion()
     mme_vote::laws::members();
 }
 
-/// And so is a silent one.
+/// So is a node of which no frame of slot 0 arrives, with w the weight of missing frames.
 pub fn silence()
     ensures { SilenceLaw }
 {
