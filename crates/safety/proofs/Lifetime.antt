@@ -1,5 +1,5 @@
 -- The laws of one node over many periods: once well, back among the members, and out.
-use Rattle.std.proofs.Common.{ℕ, zero, suc, ◌≡◌, ◌≢◌, ◌<◌, ◌≤◌, ◌+◌, ◌-◌, ◌*◌, ◌/◌, ◌%◌, ◌⊎◌, Bool, true, false, not, ◌&&◌, ◌||◌, ◌==◌, List, [], ◌∷◌, length, get_or, Option, None, Some, refl, sym, ap, ap₂, subst, ◌∙◌, inl, inr, arith, lt-ltb, le-ltb, eq-eqb, ne_eqb, nat_lt, min}
+use Rattle.std.proofs.Common.{ℕ, zero, suc, ◌≡◌, ◌≢◌, ◌<◌, ◌≤◌, ◌+◌, ◌-◌, ◌*◌, ◌/◌, ◌%◌, ◌⊎◌, Bool, true, false, not, ◌&&◌, ◌||◌, ◌==◌, List, [], ◌∷◌, length, get_or, Option, refl, sym, ap, ap₂, subst, ◌∙◌, inl, inr, arith, lt-ltb, le-ltb, eq-eqb, ne_eqb, nat_lt, min}
 use Rattle.std.specs.Prelude.{nat_le, if◌then◌else◌, slice_index}
 use Rattle.std.specs.Int.{bit_at}
 use Rattle.std.specs.List.{list_all}
@@ -10,15 +10,9 @@ use Rattle.std.proofs.lemmas.List.FromFn.{get_or-range_with_len, length-range_wi
 use Rattle.std.proofs.Math.Nat.{add-mul, mul-add, mul-one, suc-mul, mul_comm, min-eq_left, min-eq_right}
 use Rattle.node_grid.specs.declared.class.Class.TheVariants.{N}
 use Rattle.node_grid.specs.Class.{is_sound}
-use Rattle.node_grid.specs.Kinds.{missing}
-use Rattle.node_grid.specs.Version.{kind_count}
-use Rattle.node_grid.specs.NodeSet.{ids_below, ids_where, has_id, mask_of}
+use Rattle.node_grid.specs.NodeSet.{ids_below, has_id}
 use Rattle.node_grid.specs.MaskLaws.{mask-has}
 use Rattle.mme_vote.specs.Members.{MembersLaw}
-use Rattle.slot_plan.specs.Slots.{slot_count}
-use Rattle.fault_classes.specs.Change.{Change}
-use Rattle.fault_classes.specs.Change.Change.{Drop}
-use Rattle.fault_link.specs.Arrival.{delivered_of}
 use Rattle.list_scheduler.specs.declared.schedule.Verdict.{Verdict}
 use Rattle.error_reports.specs.Charge.{accuses, charged, charged_mask}
 use Rattle.penalty.specs.declared.Policy.{Policy}
@@ -27,27 +21,22 @@ use Rattle.penalty.specs.StepLaws.{for_nodes-at}
 use Rattle.membership.specs.Members.{Standing, remains, joins, all_would_leave, stays, leaves, times_after, standing_after}
 use Rattle.agreed_state.specs.Agreed.{standing_by}
 use Rattle.protocol.specs.RowLaws.{mask-zero, kinds-few}
-use Rattle.protocol.specs.Arrival.{arrival, is_bad, state_in}
-use Rattle.protocol.specs.View.{Setting, noted, row_by}
+use Rattle.protocol.specs.View.{Setting}
 use Rattle.protocol.specs.FurtherKinds.{convictions}
 use Rattle.protocol.specs.Cluster.{Cluster, view}
-use Rattle.protocol.specs.Accepted.{IsAccepted}
-use Rattle.protocol.specs.Run.{System, run, classes, change_at, expectation, sent}
+use Rattle.protocol.specs.Run.{run, classes}
 use Rattle.protocol.specs.Safe.{Classing, Claim, members_at, rows_from, rows_at, IsContinuous, IsInnocent}
-use Rattle.safety.specs.Talk.{DeliveryLaw}
 use Rattle.safety.specs.Rows.{CanCharge}
 use Rattle.safety.specs.Given.{IsGiven, Started}
 use Rattle.safety.specs.Views.{StartLaw, StepLaw}
 use Rattle.safety.specs.Runs.{ReceptionLaw, RunLaw}
-use Rattle.safety.specs.Lifetime.{standing_at, StandingLaw, IsWell, IsNonfaulty, IsSpared, WellLaw, RecoveryLaw, streaks_needed, MayReturn, ReturnLaw, RemainLaw, IsAccused, StaysLight, LightLaw, ExclusionLaw, SilenceLaw}
-use Rattle.safety.proofs.Lists.{tabulated}
+use Rattle.safety.specs.Lifetime.{standing_at, StandingLaw, IsWell, IsNonfaulty, IsSpared, WellLaw, RecoveryLaw, streaks_needed, MayReturn, ReturnLaw, RemainLaw, IsAccused, StaysLight, LightLaw, ExclusionLaw}
 use Rattle.safety.proofs.Charges.{no_charge_law, full_charge_law}
 use Rattle.safety.proofs.Standings.{count_at, member_at, counted_full, no_count}
-use Rattle.safety.proofs.Period.{Here, members_are, before_is, reference_is, within, rows_fit, same_rows, row_item, found_is, by_kind_none}
+use Rattle.safety.proofs.Period.{Here, members_are, before_is, reference_is, within, rows_fit, same_rows, row_item, by_kind_none}
 use Rattle.safety.proofs.Sync.{no_other_body}
 use Rattle.safety.proofs.Data.{no_deviations}
 use Rattle.safety.proofs.Induction.{here, no_verdicts}
-use Rattle.safety.proofs.FaultPlans.{untouched_at}
 use Rattle.safety.proofs.Runs.{given_of}
 use Rattle.safety.proofs.Convictions.{unsaid}
 use Rattle.safety.proofs.Convergence.{started_at, is_here, claim_below}
@@ -318,10 +307,10 @@ module _ (start : StartLaw) (next : StepLaw) (law : MembersLaw) (cl : Cluster) (
   begun : (p : ℕ) → Claim cl class_of p → (q : ℕ) → q ≤ suc p → Started cl class_of q
   begun p claim q low = started_at start next cl class_of given are p claim q low
 
-  at : (p : ℕ) → Claim cl class_of p → Here cl class_of p
+  pub at : (p : ℕ) → Claim cl class_of p → Here cl class_of p
   at p claim = here cl class_of p (is_here start next cl class_of given are p claim)
 
-  down : (p q : ℕ) → Claim cl class_of q → p ≤ q → Claim cl class_of p
+  pub down : (p q : ℕ) → Claim cl class_of q → p ≤ q → Claim cl class_of p
   down p q claim low = claim_below start next cl class_of given are p q claim low
 
   well_spared : (p : ℕ) → Claim cl class_of p → (j : ℕ) → IsWell class_of j p → IsSpared cl class_of p j
@@ -481,54 +470,6 @@ module _ (start : StartLaw) (next : StepLaw) (law : MembersLaw) (cl : Cluster) (
         ] in
         goes_out cl class_of (p + k) (at (p + k) claim) i j l.0 l.1 full
 
--- ---- a silent node
-
-noted_row : (s : Setting) (i : ℕ) (notes : ℕ → ℕ → Bool) (j k : ℕ) → j < s.config.nodes → s.config.nodes ≤ s.capacity → j ≢ i → k < kind_count s.config.version → notes j k ≡ true → accuses (row_by s i notes) j k ≡ true
-unfolding row_by
-noted_row s i notes j k low few ne kind is =
-    ap (λ (m : ℕ). bit_at m k == 1) (tabulated s.capacity (λ j. if nat_lt j s.config.nodes && not (j == i) then mask_of (ids_where (notes j) (kind_count s.config.version)) else 0) j 0 (omega arith))
-    ∙ ap (λ b. bit_at (if b then mask_of (ids_where (notes j) (kind_count s.config.version)) else 0) k == 1) (and_from _ _ (lt-ltb _ _ low) (ap not (ne_eqb j i ne)))
-    ∙ mask-has (notes j) (kind_count s.config.version) k (kinds-few s.config.version) kind ∙ is
-
-some_kinds : (version : ℕ) → 0 < kind_count version
-some_kinds version = elim (version == 1) as (λ b. 0 < (if b then 8 else 16)) [ true ↦ omega arith | false ↦ omega arith ]
-
-another : (j n : ℕ) → 3 ≤ n → (i : ℕ) × (i < n) × (i ≢ j)
-another zero n few = (1, omega arith, omega arith)
-another (suc j) n few = (0, omega arith, omega arith)
-
-module _ (delivery : DeliveryLaw) (sys : System) (given : IsAccepted sys) (q j : ℕ) (low : j < sys.setting.config.nodes)
-    (dropped : (i : ℕ) → i < sys.setting.config.nodes → i ≢ j → change_at sys q 0 j i ≡ Some Drop) where
-  lost : (i : ℕ) → i < sys.setting.config.nodes → i ≢ j → is_bad (((run sys).received i q).sync j) missing ≡ true
-  lost i on ne =
-      ap (λ f. is_bad f missing) ((delivery sys q i).sync j)
-      ∙ ap (λ (o : Option Change). is_bad (arrival state_in (expectation sys q 0 j [] 0) (delivered_of o (sent sys q 0 j))) missing) (dropped i on ne)
-
-  faulty : classes sys q j ≢ N
-  faulty n =
-      let x = another j sys.setting.config.nodes given.config.some_nodes in
-      let in_plan : x.0 < sys.plan.nodes = let e = given.plan_nodes in let l = x.1 in omega arith in
-      let some_slots : 0 < slot_count sys.plan.rounds = omega arith in
-      let clean = untouched_at sys.plan q 0 j x.0 (ap is_sound n) in_plan some_slots (λ e. x.2 (sym e)) in
-      let both : None ≡ Some Drop = sym clean ∙ dropped x.0 x.1 x.2 in
-      cc
-
-  accuses_lost : Here (run sys) (classes sys) q → (i : ℕ) → classes sys q i ≡ N → i ≢ j → accuses (view (run sys) i q).found j missing ≡ true
-  unfolding noted
-  accuses_lost h i n apart =
-      ap (λ (r : List ℕ). accuses r j missing) (found_is (run sys) (classes sys) q h i n)
-      ∙ noted_row sys.setting i _ j missing low given.config.few_nodes (λ e. apart (sym e)) (some_kinds sys.setting.config.version)
-      (or_left _ _ (lost i (h.all.given.classing.bounded q i (ap is_sound n)) apart))
-
-  silent_accused : Here (run sys) (classes sys) q → IsAccused (run sys) (classes sys) q j (slice_index sys.setting.config.policy.weights missing)
-  silent_accused h = record {
-    kind = missing;
-    is_listed = some_kinds sys.setting.config.version;
-    weighs = omega arith;
-    can = inl (λ on. faulty);
-    accused = λ i on n apart. accuses_lost h i n apart;
-  }
-
 -- ---- the laws
 
 pub well_law : ReceptionLaw → StartLaw → StepLaw → MembersLaw → WellLaw
@@ -554,13 +495,6 @@ light_law reception start next law sys given are p claim i always = light start 
 pub exclusion_law : ReceptionLaw → StartLaw → StepLaw → MembersLaw → ExclusionLaw
 exclusion_law reception start next law sys given are p k claim j weight low accused i stays high =
     is_out start next law (run sys) (classes sys) (given_of reception sys given) are p j weight low k claim accused i stays high
-
-pub silence_law : ReceptionLaw → StartLaw → StepLaw → MembersLaw → DeliveryLaw → ExclusionLaw → SilenceLaw
-silence_law reception start next law delivery exclusion sys given are p k claim j low dropped i stays high =
-    let all : IsGiven (run sys) (classes sys) = given_of reception sys given in
-    exclusion sys given are p k claim j (slice_index sys.setting.config.policy.weights missing) low
-    (λ q l u. silent_accused delivery sys given q j low (λ x on ne. dropped q x l u on ne) (at start next law (run sys) (classes sys) all are q (down start next law (run sys) (classes sys) all are q (p + k) claim u)))
-    i stays high
 
 pub standing_law : RunLaw → ReceptionLaw → StartLaw → StepLaw → MembersLaw → StandingLaw
 standing_law runs reception start next law sys given are p claim i s =

@@ -3,14 +3,12 @@ use Rattle.std.specs.Prelude.{ℕ, suc, ◌≡◌, ◌≢◌, ◌+◌, ◌-◌, 
 use Rattle.node_grid.specs.declared.class.Class.TheVariants.{N}
 use Rattle.node_grid.specs.Version.{kind_count}
 use Rattle.node_grid.specs.Class.{is_sound}
-use Rattle.node_grid.specs.Kinds.{missing}
 use Rattle.node_grid.specs.NodeSet.{has_id}
-use Rattle.fault_classes.specs.Change.Change.{Drop}
 use Rattle.error_reports.specs.Charge.{accuses, charged}
 use Rattle.membership.specs.Members.{Standing}
 use Rattle.agreed_state.specs.Agreed.{AgreedView, fold}
 use Rattle.protocol.specs.Cluster.{Cluster, view}
-use Rattle.protocol.specs.Run.{System, run, classes, change_at}
+use Rattle.protocol.specs.Run.{System, run, classes}
 use Rattle.protocol.specs.Safe.{Classing, members_at, rows_at, IsContinuous, AllAccuse}
 use Rattle.safety.specs.Rows.{CanCharge}
 use Rattle.safety.specs.Convergence.{OfEachClaimed, OfAllClaimed}
@@ -143,18 +141,3 @@ AccusedLeave sys p k =
 
 abbrev pub ExclusionLaw : Type 0
 ExclusionLaw = OfAllClaimed AccusedLeave
-
--- in each of the periods from p to p + k no frame of slot 0 arrives from node j at any other node in use
-abbrev pub IsUnheard : System → ℕ → ℕ → ℕ → Type 0
-IsUnheard sys j p k = (q i : ℕ) → p ≤ q → q ≤ p + k → i < sys.setting.config.nodes → i ≢ j → change_at sys q 0 j i ≡ Some Drop
-
--- so such a node is out after as many periods as the weight of missing frames takes to the bound
-abbrev pub SilentLeave : System → ℕ → ℕ → Type 0
-SilentLeave sys p k =
-    (j : ℕ) → j < sys.setting.config.nodes → IsUnheard sys j p k
-    → (i : ℕ) → StaysLight (run sys) (classes sys) (p + k) i
-    → sys.setting.config.policy.exclude ≤ slice_index (standing_of sys p).counts j + suc k * slice_index sys.setting.config.policy.weights missing
-    → has_id (standing_of sys (suc (p + k))).members j ≡ false
-
-abbrev pub SilenceLaw : Type 0
-SilenceLaw = OfAllClaimed SilentLeave

@@ -1,10 +1,11 @@
 //! What becomes of one node over many claimed periods: once well, back among the members, and out.
 //! Counts are in the units of weights, streaks and deadlines in periods.
 
-ghost use Rattle.safety.specs.Lifetime.{StandingLaw, WellLaw, RecoveryLaw, ReturnLaw, RemainLaw, LightLaw, ExclusionLaw, SilenceLaw};
+ghost use Rattle.safety.specs.Lifetime.{StandingLaw, WellLaw, RecoveryLaw, ReturnLaw, RemainLaw, LightLaw, ExclusionLaw};
+ghost use Rattle.safety.specs.Manifest.{ManifestLaw, ManifestExclusionLaw, SilenceLaw};
 
 use crate::laws::runs::runs;
-use crate::laws::talk::{delivery, reception};
+use crate::laws::talk::reception;
 use crate::laws::views::{start, step};
 
 /// Each sound node goes through a period with the members, counts, streaks and numbers of leavings
@@ -87,14 +88,31 @@ pub fn exclusion()
     mme_vote::laws::members();
 }
 
-/// So is a node of which no frame of slot 0 arrives, with w the weight of missing frames.
-pub fn silence()
-    ensures { SilenceLaw }
+/// Where all other nodes see alike that a node is faulty, each nonfaulty one gives it the kind:
+/// missing of frames that are lost, malformed of ones that are cut or come twice, timing of ones
+/// that come outside the window, and cold of a node that goes into the period without an agreed
+/// state. A fault in a slot of rows is noted in the next period.
+pub fn manifest()
+    ensures { ManifestLaw }
 {
     reception();
     start();
     step();
-    mme_vote::laws::members();
-    delivery();
+}
+
+/// So such a node is out in time, as by `exclusion`, with w the least weight of the kinds that it
+/// gets.
+pub fn manifest_exclusion()
+    ensures { ManifestExclusionLaw }
+{
+    manifest();
     exclusion();
+}
+
+/// A node of which no frame of slot 0 arrives at any other is out in time, with w the weight of
+/// missing frames.
+pub fn silence()
+    ensures { SilenceLaw }
+{
+    manifest_exclusion();
 }
