@@ -12,7 +12,8 @@ use Rattle.protocol.specs.Safe.{Classing, Budget, Claim, members_at, CopiesClose
 use Rattle.protocol.specs.Clocks.{ClocksNear}
 use Rattle.safety.specs.Convictions.{ConvictionsHold}
 use Rattle.safety.specs.Convergence.{ValuesConverge, StartsConverge, ClocksSettle, StartedClocks}
-use Rattle.safety.specs.Lifetime.{HaveStanding, WellSpared, AllRecover, AllReturn, AllRemain, ContinuousLight, AccusedLeave, SilentLeave}
+use Rattle.safety.specs.Lifetime.{HaveStanding, WellSpared, AllRecover, AllReturn, AllRemain, ContinuousLight, AccusedLeave}
+use Rattle.safety.specs.Manifest.{AllNote, ManifestLeave, SilentLeave}
 use Rattle.scenario.specs.Scenario.{ScenarioView, system_of, IsScenario}
 use Rattle.cluster_periods.specs.Record.{period_record}
 
@@ -59,7 +60,7 @@ ClockLaw =
     → ClocksNear (run_of sc) (classes_of sc) c p (members_at (run_of sc) (classes_of sc) p) i j
 
 -- what the periods from p to p + k come to, where the last of them is claimed: values and clocks converge, a node that is well recovers, returns and
--- remains, one that all accuse leaves, and so does one of which nothing is heard
+-- remains, one that all accuse leaves, and so does one whose faults all see alike, or of which nothing is heard
 pub record Lasting {N : ℕ} (sc : ScenarioView N) (p k : ℕ) : Type 0 where
   pub values : ValuesConverge (system_of sc) p k
   pub clocks : (c : ClockView) → sc.clock ≡ Some c → ClocksSettle (system_of sc) c p k
@@ -67,15 +68,18 @@ pub record Lasting {N : ℕ} (sc : ScenarioView N) (p k : ℕ) : Type 0 where
   pub returning : AllReturn (system_of sc) p k
   pub remaining : AllRemain (system_of sc) p k
   pub exclusion : AccusedLeave (system_of sc) p k
+  pub manifest : ManifestLeave (system_of sc) p k
   pub silence : SilentLeave (system_of sc) p k
 
 -- what all periods up to a claimed one come to: how near values and clocks are by their starts, what standing each sound node holds, whom nobody
--- accuses, who stays a member below the bound of exclusion, and what each stretch of periods that ends with this one comes to
+-- accuses, of whom all note a fault, who stays a member below the bound of exclusion, and what each stretch of periods that ends with this one
+-- comes to
 pub record Lifetimes {N : ℕ} (sc : ScenarioView N) (p : ℕ) : Type 0 where
   pub starts : StartsConverge (system_of sc) p
   pub clocks : (c : ClockView) → sc.clock ≡ Some c → StartedClocks (system_of sc) c p
   pub standing : HaveStanding (system_of sc) p
   pub well : WellSpared (system_of sc) p
+  pub manifest : AllNote (system_of sc) p
   pub light : ContinuousLight (system_of sc) p
   pub lasting : (q k : ℕ) → q + k ≡ p → Lasting sc q k
 

@@ -7,7 +7,8 @@ ghost use Rattle.cluster_periods.specs.Laws.{ClaimLaw, SafeLaw, ConvictionLaw, C
 use node_steps::laws::{late, period};
 use safety::laws::convergence::{skew, skew_from_start, starts, values};
 use safety::laws::lifetime::{
-    exclusion, light, recovery, remaining, returning, silence, standing, well,
+    exclusion, light, manifest, manifest_exclusion, recovery, remaining, returning, silence,
+    standing, well,
 };
 use safety::laws::runs::{run_clocks, run_convictions, run_copies, runs};
 use safety::laws::talk::{delivery, saying};
@@ -67,8 +68,9 @@ pub fn clocks()
 }
 
 /// By each claimed period values and clocks are as near as the periods up to it bring them; a node
-/// that is well is charged with nothing and a member again in time, and one that all accuse or of
-/// which nothing is heard is out in time.
+/// that is well is charged with nothing and a member again in time; a fault that all see alike is
+/// noted by all; and a node that all accuse, or whose faults all see alike, or of which nothing is
+/// heard, is out in time.
 pub fn over_time()
     ensures { LifetimeLaw }
 {
@@ -76,6 +78,7 @@ pub fn over_time()
     skew_from_start();
     standing();
     well();
+    manifest();
     light();
     values();
     skew();
@@ -83,6 +86,7 @@ pub fn over_time()
     returning();
     remaining();
     exclusion();
+    manifest_exclusion();
     silence();
 }
 

@@ -13,6 +13,7 @@ returns c N sc p is claimed =
       clocks = λ k has. c.skew_from_start.ensures (system_of sc) is.system refl p claim k (is.clock k has);
       standing = c.standing.ensures (system_of sc) is.system refl p claim;
       well = c.well.ensures (system_of sc) is.system refl p claim;
+      manifest = c.manifest.ensures (system_of sc) is.system refl p claim;
       light = c.light.ensures (system_of sc) is.system refl p claim;
       lasting = λ q n e.
           let to : Claim (run (system_of sc)) (classes (system_of sc)) (q + n) = subst (Claim (run (system_of sc)) (classes (system_of sc))) (sym e) claim in
@@ -23,6 +24,7 @@ returns c N sc p is claimed =
             returning = c.returning.ensures (system_of sc) is.system refl q n to;
             remaining = c.remaining.ensures (system_of sc) is.system refl q n to;
             exclusion = c.exclusion.ensures (system_of sc) is.system refl q n to;
+            manifest = c.manifest_exclusion.ensures (system_of sc) is.system refl q n to;
             silence = c.silence.ensures (system_of sc) is.system refl q n to;
           };
     }
