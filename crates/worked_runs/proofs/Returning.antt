@@ -1,5 +1,5 @@
 -- A node that comes back, by computation.
-use Rattle.std.proofs.Common.{◌≡◌, ◌-◌, [], ◌∷◌, map, Some, None, refl}
+use Rattle.std.proofs.Common.{◌≡◌, [], ◌∷◌, map, Some, None, refl}
 use Rattle.node_grid.specs.declared.class.Class.TheVariants.{N, J}
 use Rattle.safety.specs.Lifetime.{streaks_needed}
 use Rattle.worked_runs.specs.Systems.{restarted_and_well}
