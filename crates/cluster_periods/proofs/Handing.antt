@@ -7,7 +7,7 @@ use Rattle.std.proofs.lemmas.List.Elements.{All-get_or}
 use Rattle.std.proofs.lemmas.List.Edits.{map_over_more}
 use Rattle.error_detect.specs.Finding.{Delivery}
 use Rattle.error_detect.specs.Watching.{Watch, delivered}
-use Rattle.error_detect.specs.Multiset.{Arriving, all_delivered}
+use Rattle.error_detect.specs.Multiset.{all_delivered}
 use Rattle.node_steps.specs.Parts.{NodeView}
 use Rattle.node_steps.specs.Steps.{given_frame}
 use Rattle.fault_classes.specs.Plan.{Plan}

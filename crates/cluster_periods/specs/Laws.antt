@@ -1,5 +1,5 @@
 -- What the periods of a scenario promise, over the definitions alone.
-use Rattle.std.specs.Prelude.{◌≡◌, ℕ, ℤ, true, ◌↔◌, Option, Some}
+use Rattle.std.specs.Prelude.{◌≡◌, ℕ, ◌+◌, ℤ, true, ◌↔◌, Option, Some}
 use Rattle.node_grid.specs.Class.{is_sound}
 use Rattle.node_grid.specs.NodeSet.{has_id}
 use Rattle.mme_vote.specs.declared.channel.Channel.TheVariants.{Copy}
@@ -11,6 +11,9 @@ use Rattle.protocol.specs.Run.{System, run, classes}
 use Rattle.protocol.specs.Safe.{Classing, Budget, Claim, members_at, CopiesClose, Safe}
 use Rattle.protocol.specs.Clocks.{ClocksNear}
 use Rattle.safety.specs.Convictions.{ConvictionsHold}
+use Rattle.safety.specs.Convergence.{ValuesConverge, StartsConverge, ClocksSettle, StartedClocks}
+use Rattle.safety.specs.Lifetime.{HaveStanding, WellSpared, AllRecover, AllReturn, AllRemain, ContinuousLight, AccusedLeave}
+use Rattle.safety.specs.Manifest.{AllNote, ManifestLeave, SilentLeave}
 use Rattle.scenario.specs.Scenario.{ScenarioView, system_of, IsScenario}
 use Rattle.cluster_periods.specs.Record.{period_record}
 
@@ -56,6 +59,33 @@ ClockLaw =
     → (c : ClockView) → sc.clock ≡ Some c → (i j : ℕ) → is_sound (classes_of sc p i) ≡ true → is_sound (classes_of sc p j) ≡ true
     → ClocksNear (run_of sc) (classes_of sc) c p (members_at (run_of sc) (classes_of sc) p) i j
 
+-- what the periods from p to p + k come to, where the last of them is claimed: values and clocks converge, a node that is well recovers, returns and
+-- remains, one that all accuse leaves, and so does one whose faults all see alike, or of which nothing is heard
+pub record Lasting {N : ℕ} (sc : ScenarioView N) (p k : ℕ) : Type 0 where
+  pub values : ValuesConverge (system_of sc) p k
+  pub clocks : (c : ClockView) → sc.clock ≡ Some c → ClocksSettle (system_of sc) c p k
+  pub recovery : AllRecover (system_of sc) p k
+  pub returning : AllReturn (system_of sc) p k
+  pub remaining : AllRemain (system_of sc) p k
+  pub exclusion : AccusedLeave (system_of sc) p k
+  pub manifest : ManifestLeave (system_of sc) p k
+  pub silence : SilentLeave (system_of sc) p k
+
+-- what all periods up to a claimed one come to: how near values and clocks are by their starts, what standing each sound node holds, whom nobody
+-- accuses, of whom all note a fault, who stays a member below the bound of exclusion, and what each stretch of periods that ends with this one
+-- comes to
+pub record Lifetimes {N : ℕ} (sc : ScenarioView N) (p : ℕ) : Type 0 where
+  pub starts : StartsConverge (system_of sc) p
+  pub clocks : (c : ClockView) → sc.clock ≡ Some c → StartedClocks (system_of sc) c p
+  pub standing : HaveStanding (system_of sc) p
+  pub well : WellSpared (system_of sc) p
+  pub manifest : AllNote (system_of sc) p
+  pub light : ContinuousLight (system_of sc) p
+  pub lasting : (q k : ℕ) → q + k ≡ p → Lasting sc q k
+
+abbrev pub LifetimeLaw : Type 0
+LifetimeLaw = (N : ℕ) (sc : ScenarioView N) (p : ℕ) → IsScenario sc → IsClaimed sc p → Lifetimes sc p
+
 -- all that is promised of a period
 pub record Promises {N : ℕ} (sc : ScenarioView N) (p : ℕ) : Type 0 where
   pub safe : Safe (run_of sc) (classes_of sc) p
@@ -65,6 +95,7 @@ pub record Promises {N : ℕ} (sc : ScenarioView N) (p : ℕ) : Type 0 where
       → CopiesClose (run_of sc) (classes_of sc) p a i j c t lies
   pub clocks : (c : ClockView) → sc.clock ≡ Some c → (i j : ℕ) → is_sound (classes_of sc p i) ≡ true → is_sound (classes_of sc p j) ≡ true
       → ClocksNear (run_of sc) (classes_of sc) c p (members_at (run_of sc) (classes_of sc) p) i j
+  pub lifetimes : Lifetimes sc p
 
 -- it holds of each claimed period of a scenario
 abbrev pub PromiseLaw : Type 0

@@ -2,9 +2,14 @@
 
 ghost use Rattle.cluster_periods.specs.Periods.{PeriodsLaw};
 ghost use Rattle.cluster_periods.specs.Late.{LatesLaw};
-ghost use Rattle.cluster_periods.specs.Laws.{ClaimLaw, SafeLaw, ConvictionLaw, CopyLaw, ClockLaw, PromiseLaw, OrderLaw};
+ghost use Rattle.cluster_periods.specs.Laws.{ClaimLaw, SafeLaw, ConvictionLaw, CopyLaw, ClockLaw, LifetimeLaw, PromiseLaw, OrderLaw};
 
 use node_steps::laws::{late, period};
+use safety::laws::convergence::{skew, skew_from_start, starts, values};
+use safety::laws::lifetime::{
+    exclusion, light, manifest, manifest_exclusion, recovery, remaining, returning, silence,
+    standing, well,
+};
 use safety::laws::runs::{run_clocks, run_convictions, run_copies, runs};
 use safety::laws::talk::{delivery, saying};
 
@@ -62,6 +67,29 @@ pub fn clocks()
     run_clocks();
 }
 
+/// By each claimed period values and clocks are as near as the periods up to it bring them; a node
+/// that is well is charged with nothing and a member again in time; a fault that all see alike is
+/// noted by all; and a node that all accuse, or whose faults all see alike, or of which nothing is
+/// heard, is out in time.
+pub fn over_time()
+    ensures { LifetimeLaw }
+{
+    starts();
+    skew_from_start();
+    standing();
+    well();
+    manifest();
+    light();
+    values();
+    skew();
+    recovery();
+    returning();
+    remaining();
+    exclusion();
+    manifest_exclusion();
+    silence();
+}
+
 /// All that is promised of each claimed period of a scenario.
 pub fn promises()
     ensures { PromiseLaw }
@@ -70,6 +98,7 @@ pub fn promises()
     convictions();
     copies();
     clocks();
+    over_time();
 }
 
 /// The node with which deliveries begin changes no period.

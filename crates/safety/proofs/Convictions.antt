@@ -19,15 +19,18 @@ use Rattle.error_reports.specs.Charge.{accuses}
 use Rattle.agreed_state.specs.Agreed.{AgreedView}
 use Rattle.protocol.specs.Heard.{Rounds}
 use Rattle.protocol.specs.Settled.{ear_of}
-use Rattle.protocol.specs.View.{Further, is_further, Kept, nothing}
+use Rattle.list_scheduler.specs.Schedule.{verdict}
+use Rattle.agreed_state.specs.Body.{body}
+use Rattle.protocol.specs.View.{Further, is_further, Kept, nothing, other_body, deviates, by_kind}
 use Rattle.protocol.specs.Cluster.{Cluster, begins, view}
 use Rattle.protocol.specs.Run.{members_in, run, classes}
 use Rattle.node_grid.specs.Kinds.{equivocate}
 use Rattle.protocol.specs.FurtherKinds.{convicts_member, convictions}
-use Rattle.protocol.specs.Safe.{Classing, Claim, IsContinuous, CopiesClose, Safe}
+use Rattle.protocol.specs.Safe.{Classing, Claim, CopiesClose, Safe}
 use Rattle.safety.specs.Talk.{Told}
 use Rattle.safety.specs.Given.{IsGiven, Started, IsHere, AllSparing}
 use Rattle.safety.specs.Views.{StartLaw, StepLaw}
+use Rattle.safety.specs.Lifetime.{IsWell}
 use Rattle.safety.specs.Runs.{ReceptionLaw, SparingLaw, RunLaw, RunCopiesLaw}
 use Rattle.safety.specs.ClockLaws.{SparingClockLaw, RunClockLaw}
 use Rattle.safety.specs.Convictions.{ConvictsWell, ConvictionsHold, ConvictionsLaw, SparedLaw, RunConvictionsLaw}
@@ -121,26 +124,35 @@ nonfaulty_tells_alike _ n = cc
 
 module _ (cl : Cluster) (class_of : Classing) (given : IsGiven cl class_of) (are : cl.setting.further ≡ convictions cl.setting.config.m) where
   carried_spares : (p : ℕ) → Claim cl class_of p → ((q : ℕ) → q ≤ p → Started cl class_of q)
-      → (i j k : ℕ) → class_of p i ≡ N → IsContinuous class_of j p → j ≢ i → accuses (begins cl i p).carried j k ≡ false
-  carried_spares zero claim started i j k n always ne = ap (λ (x : Kept). accuses x.carried j k) (begins_first cl class_of i given.classing n) ∙ accuses_none cl.setting.capacity j k
-  carried_spares (suc p) claim started i j k n always ne =
+      → (i j k : ℕ) → class_of p i ≡ N → IsWell class_of j p → j ≢ i → accuses (begins cl i p).carried j k ≡ false
+  carried_spares zero claim started i j k n well ne = ap (λ (x : Kept). accuses x.carried j k) (begins_first cl class_of i given.classing n) ∙ accuses_none cl.setting.capacity j k
+  carried_spares (suc p) claim started i j k n well ne =
       let h : Here cl class_of p = here cl class_of p (record { given = given; start = started p (omega arith); budget = claim p (omega arith) }) in
-      let nj = always p (omega arith) in
-      carried_without cl class_of p h i j k n always ne
+      let nj = well p (omega arith) (omega arith) in
+      carried_without cl class_of p h i j k n nj ne
       (ap (λ (f : Further). f.rows i (is_nonfaulty (class_of p i)) (started p (omega arith)).state.standing.members (cl.received i p).report j k && is_further k) are
       ∙ not_given (pointwise ◌==◌) (ear_of cl.setting.config.m i (is_nonfaulty (class_of p i)) (started p (omega arith)).state.standing.members (cl.received i p).report) j k
       (λ on. (rows_convict cl class_of p h).spares i j (given.classing.sound_before p i n) on (nonfaulty_tells_alike (class_of p j) nj) ne))
 
+  -- where a kind is no finding of its own, a nonfaulty node says it of none that is well
+  pub unsaid : (p : ℕ) → Claim cl class_of p → ((q : ℕ) → q ≤ p → Started cl class_of q) → (h : Here cl class_of p)
+      → (i j k : ℕ) → class_of p i ≡ N → IsWell class_of j p → j ≢ i
+      → (let v = verdict cl.setting.config.graph h.start.state.standing.members h.start.state.copies (view cl i p).done j in
+      by_kind (other_body (body cl.setting.config h.start.state) ((cl.received i p).sync j)) v.claim v.overrun (deviates cl.setting (view cl i p).due (view cl i p).votes (cl.received i p) j) k) ≡ false
+      → accuses (view cl i p).found j k ≡ false
+  unsaid p claim started h i j k n well ne other =
+      let nj = well p (omega arith) (omega arith) in
+      row_without cl class_of p h i j k n nj ne (carried_spares p claim started i j k n well ne)
+      (ap (λ (f : Further). f.claims i true h.start.state.standing.members (cl.received i p).done j k && is_further k) are
+      ∙ not_given nat_eq (ear_of cl.setting.config.m i true h.start.state.standing.members (cl.received i p).done) j k
+      (λ on. ap (λ b. convicts nat_eq (ear_of cl.setting.config.m i b h.start.state.standing.members (cl.received i p).done) j) (sym (ap is_nonfaulty n))
+      ∙ (claims_convict cl class_of p h).spares i j (ap is_sound n) on (nonfaulty_tells_alike (class_of p j) nj) ne))
+      other
+
   convictions_spare : AllSparing cl class_of
   convictions_spare p claim started i j k n always ne high =
       let h : Here cl class_of p = here cl class_of p (record { given = given; start = started p (omega arith); budget = claim p (omega arith) }) in
-      let nj = always p (omega arith) in
-      row_without cl class_of p h i j k n always ne (carried_spares p claim started i j k n always ne)
-      (ap (λ (f : Further). f.claims i true (started p (omega arith)).state.standing.members (cl.received i p).done j k && is_further k) are
-      ∙ not_given nat_eq (ear_of cl.setting.config.m i true (started p (omega arith)).state.standing.members (cl.received i p).done) j k
-      (λ on. ap (λ b. convicts nat_eq (ear_of cl.setting.config.m i b (started p (omega arith)).state.standing.members (cl.received i p).done) j) (sym (ap is_nonfaulty n))
-      ∙ (claims_convict cl class_of p h).spares i j (ap is_sound n) on (nonfaulty_tells_alike (class_of p j) nj) ne))
-      (by_kind_named _ _ _ _ k high)
+      unsaid p claim started h i j k n (λ q low near. always q low) ne (by_kind_named _ _ _ _ k high)
 
 pub spared_law : SparedLaw
 spared_law = convictions_spare

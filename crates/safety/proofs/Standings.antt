@@ -30,7 +30,7 @@ pub member_at : (s : Setting) (rows : List (Option (List ℕ))) (old : Standing)
 unfolding standing_after
 member_at s rows old j = has_where (stays s.config.policy old.members (λ q. slice_index (standing_by s.config.policy s.config.nodes rows old).counts q) (λ q. slice_index old.left q)) s.config.nodes j
 
-no_count : (policy : Policy) (mask c t : ℕ) → mask ≡ 0 → c ≡ 0 → count_after policy mask c t ≡ 0
+pub no_count : (policy : Policy) (mask c t : ℕ) → mask ≡ 0 → c ≡ 0 → count_after policy mask c t ≡ 0
 no_count policy mask c t e z = rw (e, z) (elim (t + 1 == policy.streak) as (λ b. (if b then 0 - policy.credit else 0) ≡ 0) [ true ↦ omega arith | false ↦ refl ])
 
 -- a member with count 0 that is charged with nothing stays one

@@ -6,4 +6,5 @@ returns c N sc p is claimed = record {
   convictions = c.convictions.ensures N sc p is claimed;
   copies = c.copies.ensures N sc p is claimed;
   clocks = c.clocks.ensures N sc p is claimed;
+  lifetimes = c.over_time.ensures N sc p is claimed;
 }
