@@ -1,22 +1,25 @@
--- Which rule refuses a record, by its parts and its scenario.
+-- Which rule refuses a record, by its parts and its scenario; and what none refuses is a log.
 use Rattle.std.proofs.Common.{ℕ, ◌≡◌, ◌<◌, ◌≤◌, ◌+◌, ◌*◌, List, map, sym, ap, ap₂, subst, ◌∙◌, Option, None, Some}
-use Rattle.std.specs.Prelude.{All}
+use Rattle.std.specs.Prelude.{All, nat_lt}
 use Rattle.std.specs.Option.{option_or}
-use Rattle.std.proofs.lemmas.Bool.{lt-ltb, le-ltb}
+use Rattle.std.proofs.lemmas.Bool.{lt-ltb, le-ltb, ltb-true}
 use Rattle.serde_json.specs.Data.{Data}
+use Rattle.node_grid.specs.Capacity.{IsCapacity}
 use Rattle.slot_plan.specs.Slots.{slot_count}
 use Rattle.agreed_state.specs.declared.config.Config.{Config}
 use Rattle.scenario.specs.Parts.{ScenarioParts}
 use Rattle.scenario_reading.specs.Keys.{parts_of}
-use Rattle.scenario.specs.Rules.{unless, at_place}
+use Rattle.scenario.specs.Rules.{unless, at_place, refusal}
 use Rattle.scenario.specs.Scenario.{ScenarioView, IsScenario}
 use Rattle.scenario.specs.Given.{scenario_of}
 use Rattle.scenario.specs.Verdict.{Tells}
+use Rattle.scenario.specs.Laws.{AcceptedLaw}
+use Rattle.scenario.proofs.Places.{first_none, second_none, holds, nowhere}
 use Rattle.scenario_reading.specs.Verdict.{IsAcceptedValue, value_refusal}
 use Rattle.scenario_reading.specs.Verdict as scenario
 use Rattle.scenario.specs.declared.error.ScenarioError.{ScenarioError}
 use Rattle.scenario.specs.declared.error.ScenarioError.TheVariants.{Unreadable, Refused, NoMemory}
-use Rattle.node_alone.specs.Log.{Entry}
+use Rattle.node_alone.specs.Log.{Entry, RecordView}
 use Rattle.node_alone.specs.Parts.{RecordParts, record_parts}
 use Rattle.node_alone.specs.Rules.{Limits, limits_of, entry_of, first_bad_entry, log_refusal, parts_refusal, refusal_on, record_refusal, IsAcceptedRecord}
 use Rattle.node_alone.specs.Seen.{IsPlaced, Ascends, IsRecord}
@@ -85,3 +88,21 @@ module _ (N id : ℕ) (d : Data) where
             placed = subst (All (IsPlaced s.config.nodes (2 * s.config.m + 4) s.periods id)) (sym are) (all_placed (limits_of s id) 0 0 0 parts.frames good_here);
             ascends = subst Ascends (sym are) (all_ascend (limits_of s id) 0 0 0 parts.frames good_here);
           }
+
+-- what no rule refuses is the log of one of the nodes of a scenario
+pub record_is : AcceptedLaw → (N id : ℕ) (d : Data) (r : RecordView N) → IsCapacity N → IsAcceptedRecord id d r → IsRecord r
+record_is scenarios N id d r room h =
+    let sc : ScenarioView N = scenario_of N h.scenario in
+    let frames = h.parts.frames in
+    let rules : option_or (refusal N h.scenario) (log_refusal sc id frames) ≡ None =
+    sym (ap (parts_refusal N id frames) h.reads_scenario) ∙ sym (ap (refusal_on N id) h.reads) ∙ h.unrefused in
+    let later = second_none (refusal N h.scenario) (log_refusal sc id frames) rules in
+    let no_node = unless (nat_lt id sc.config.nodes) 16 0 in
+    let bad_entry = at_place 17 (first_bad_entry (limits_of sc id) 0 0 0 frames) in
+    let good : first_bad_entry (limits_of sc id) 0 0 0 frames ≡ None = nowhere 17 _ (second_none no_node bad_entry later) in
+    subst (λ (x : RecordView N). IsRecord x) (sym h.says) (record {
+      scenario = scenarios N h.scenario room (first_none (refusal N h.scenario) (log_refusal sc id frames) rules);
+      id = ltb-true id sc.config.nodes (holds (nat_lt id sc.config.nodes) 16 0 (first_none no_node bad_entry later));
+      placed = all_placed (limits_of sc id) 0 0 0 frames good;
+      ascends = all_ascend (limits_of sc id) 0 0 0 frames good;
+    })

@@ -1,11 +1,19 @@
--- Where a log is that of a run, its view is that of the run.
+-- What is accepted is a log; and where a log is that of a run, its view is that of the run.
 use Rattle.std.specs.Prelude.{◌≡◌, ◌≢◌, ◌<◌, ◌+◌, ◌*◌, ℕ}
+use Rattle.serde_json.specs.Data.{Data}
+use Rattle.node_grid.specs.Capacity.{IsCapacity}
 use Rattle.protocol.specs.Cluster.{kept, view}
 use Rattle.protocol.specs.Run.{run, deliveries}
 use Rattle.node_steps.specs.Stages.{outcome_of}
 use Rattle.scenario.specs.Scenario.{system_of, IsScenario}
 use Rattle.node_alone.specs.Log.{RecordView, entries_at}
+use Rattle.node_alone.specs.Rules.{IsAcceptedRecord}
+use Rattle.node_alone.specs.Seen.{IsRecord}
 use Rattle.node_alone.specs.View.{kept_alone, view_alone}
+
+-- what is accepted of a JSON value is the log of one of the nodes of a scenario
+abbrev pub AcceptedRecordLaw : Type 0
+AcceptedRecordLaw = (capacity id : ℕ) (d : Data) (log : RecordView capacity) → IsCapacity capacity → IsAcceptedRecord id d log → IsRecord log
 
 -- the entries are what the run of the scenario delivers to the node
 pub record IsOfRun {N : ℕ} (log : RecordView N) : Type 0 where

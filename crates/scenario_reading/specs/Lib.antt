@@ -2,3 +2,4 @@ pub use Rattle.json_parts.specs.Reading
 pub mod Keys
 pub mod Sizes
 pub mod Verdict
+pub mod Laws

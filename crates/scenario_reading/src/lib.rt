@@ -2,6 +2,7 @@
 #![tactic(auto)]
 
 mod accepting;
+pub mod laws;
 mod parts;
 
 pub use accepting::{from_value, read};
