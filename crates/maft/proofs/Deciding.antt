@@ -10,7 +10,7 @@ use Rattle.maft.specs.declared.status.Status.{Status}
 use Rattle.maft.specs.declared.status.Status.TheVariants.{Done, Usage, Unreadable, Refused, ReadFault, WriteFault, NoMemory, TooLong}
 use Rattle.maft.specs.declared.form.Reading.{Reading}
 use Rattle.maft.specs.declared.form.Reading.TheVariants.{Scenario, Log}
-use Rattle.maft.specs.Answers.{limit, capacity, IsRefused, IsUnreadable, HasTextOf, Decides, Answers}
+use Rattle.maft.specs.Answers.{limit, capacity, IsRefused, IsUnreadable, IsAcceptedInput, HasTextOf, Decides, Answers}
 
 -- bytes are text of one value alone
 same_value : (bytes : List ℕ) (d e : Data) → Reads bytes d → Reads bytes e → d ≡ e
@@ -19,19 +19,24 @@ same_value bytes d e h k = let s : ◌≡◌ {A = Option Data} (Some d) (Some e)
 nothing : (rule place : ℕ) → ◌≡◌ {A = Option (ℕ × ℕ)} None (Some (rule, place)) → ⊥
 nothing rule place e = cc
 
--- bytes with a text are JSON text
-readable : (reading : Reading) (bytes text : List ℕ) → HasTextOf reading bytes text → IsUnreadable bytes → ⊥
-readable (Scenario form) bytes text h u = u h.1.value h.1.reads
-readable (Log id) bytes text h u = u h.1.value h.1.reads
+-- bytes with a text are accepted
+input_of : (reading : Reading) (bytes text : List ℕ) → HasTextOf reading bytes text → IsAcceptedInput reading bytes
+input_of (Scenario form) bytes text h = (h.0, h.1)
+input_of (Log id) bytes text h = (h.0, h.1)
+
+-- bytes that are accepted are JSON text
+readable : (reading : Reading) (bytes : List ℕ) → IsAcceptedInput reading bytes → IsUnreadable bytes → ⊥
+readable (Scenario form) bytes h u = u h.1.value h.1.reads
+readable (Log id) bytes h u = u h.1.value h.1.reads
 
 -- and no rule refuses them
-not_both : (reading : Reading) (bytes text : List ℕ) (rule place : ℕ) → HasTextOf reading bytes text → IsRefused reading bytes rule place → ⊥
-not_both (Scenario form) bytes text rule place h r =
+not_both : (reading : Reading) (bytes : List ℕ) (rule place : ℕ) → IsAcceptedInput reading bytes → IsRefused reading bytes rule place → ⊥
+not_both (Scenario form) bytes rule place h r =
     let a = h.1 in
     let same : a.value ≡ r.value = same_value bytes a.value r.value a.reads r.reads in
     let unrefused : value_refusal capacity a.value ≡ None = ap (refusal_on capacity) a.accepted.reads ∙ a.accepted.unrefused in
     nothing rule place (sym unrefused ∙ ap (value_refusal capacity) same ∙ r.refused)
-not_both (Log id) bytes text rule place h r =
+not_both (Log id) bytes rule place h r =
     let a = h.1 in
     let same : a.value ≡ r.value = same_value bytes a.value r.value a.reads r.reads in
     nothing rule place (sym a.accepted.unrefused ∙ ap (record_refusal capacity id) same ∙ r.refused)
@@ -41,7 +46,7 @@ no_memory reading bytes before now = record {
   too_long = λ h. inr refl;
   unreadable = λ h u. inr refl;
   refused = λ h rule place r. inr refl;
-  accepted = λ h text a n. inr refl;
+  accepted = λ h a n. inr refl;
 }
 
 pub too_long : (reading : Reading) (bytes : List ℕ) (before now : ℕ) → limit < length bytes → Decides reading bytes before now TooLong
@@ -49,23 +54,23 @@ too_long reading bytes before now long = record {
   too_long = λ h. inl refl;
   unreadable = λ h u. absurd (omega arith);
   refused = λ h rule place r. absurd (omega arith);
-  accepted = λ h text a n. absurd (omega arith);
+  accepted = λ h a n. absurd (omega arith);
 }
 
-done : (reading : Reading) (bytes : List ℕ) (before now : ℕ) (text : List ℕ) → length bytes ≤ limit → HasTextOf reading bytes text → Decides reading bytes before now Done
-done reading bytes before now text short a = record {
+done : (reading : Reading) (bytes : List ℕ) (before now : ℕ) → length bytes ≤ limit → IsAcceptedInput reading bytes → Decides reading bytes before now Done
+done reading bytes before now short a = record {
   too_long = λ h. absurd (omega arith);
-  unreadable = λ h u. absurd (readable reading bytes text a u);
-  refused = λ h rule place r. absurd (not_both reading bytes text rule place a r);
-  accepted = λ h text a n. inl refl;
+  unreadable = λ h u. absurd (readable reading bytes a u);
+  refused = λ h rule place r. absurd (not_both reading bytes rule place a r);
+  accepted = λ h a n. inl refl;
 }
 
-write_fault : (reading : Reading) (bytes : List ℕ) (before now : ℕ) (text : List ℕ) → length bytes ≤ limit → HasTextOf reading bytes text → Rose before now → Decides reading bytes before now WriteFault
-write_fault reading bytes before now text short a rose = record {
+write_fault : (reading : Reading) (bytes : List ℕ) (before now : ℕ) → length bytes ≤ limit → IsAcceptedInput reading bytes → Rose before now → Decides reading bytes before now WriteFault
+write_fault reading bytes before now short a rose = record {
   too_long = λ h. absurd (omega arith);
-  unreadable = λ h u. absurd (readable reading bytes text a u);
-  refused = λ h rule place r. absurd (not_both reading bytes text rule place a r);
-  accepted = λ h text a n. absurd (n rose);
+  unreadable = λ h u. absurd (readable reading bytes a u);
+  refused = λ h rule place r. absurd (not_both reading bytes rule place a r);
+  accepted = λ h a n. absurd (n rose);
 }
 
 refused : (reading : Reading) (bytes : List ℕ) (before now rule place : ℕ) → length bytes ≤ limit → IsRefused reading bytes rule place → Decides reading bytes before now Refused
@@ -73,7 +78,7 @@ refused reading bytes before now rule place short r = record {
   too_long = λ h. absurd (omega arith);
   unreadable = λ h u. absurd (u r.value r.reads);
   refused = λ h rule place r. inl refl;
-  accepted = λ h text a n. absurd (not_both reading bytes text rule place a r);
+  accepted = λ h a n. absurd (not_both reading bytes rule place a r);
 }
 
 unreadable : (reading : Reading) (bytes : List ℕ) (before now : ℕ) → length bytes ≤ limit → IsUnreadable bytes → Decides reading bytes before now Unreadable
@@ -81,13 +86,13 @@ unreadable reading bytes before now short u = record {
   too_long = λ h. absurd (omega arith);
   unreadable = λ h u. inl refl;
   refused = λ h rule place r. absurd (u r.value r.reads);
-  accepted = λ h text a n. absurd (readable reading bytes text a u);
+  accepted = λ h a n. absurd (readable reading bytes a u);
 }
 
 -- the answer to the bytes of an input that is not too long
 pub answered : (reading : Reading) (bytes : List ℕ) (old new : Option (List ℕ)) (before now : ℕ) (status : Status) → length bytes ≤ limit → Answers reading bytes old new before now status → Decides reading bytes before now status
-answered reading bytes old new before now Done short a = done reading bytes before now a.0 short a.1
-answered reading bytes old new before now WriteFault short a = write_fault reading bytes before now a.0 short a.1 a.3
+answered reading bytes old new before now Done short a = done reading bytes before now short (input_of reading bytes a.0 a.1)
+answered reading bytes old new before now WriteFault short a = write_fault reading bytes before now short (input_of reading bytes a.0 a.1) a.3
 answered reading bytes old new before now Unreadable short a = unreadable reading bytes before now short a.0
 answered reading bytes old new before now Refused short a = refused reading bytes before now a.0 a.1 short a.2
 answered reading bytes old new before now NoMemory short a = no_memory reading bytes before now

@@ -1,12 +1,7 @@
 -- A scenario of few nodes, run with room for few.
-use Rattle.std.proofs.Common.{◌≡◌, ℕ, List, Option, Some, Result, Ok, Err, inr, refl, sym, ap, subst, ◌∙◌}
-use Rattle.serde_json.specs.Data.{Data}
-use Rattle.scenario.specs.Parts.{ScenarioParts}
-use Rattle.scenario.specs.Given.{scenario_of}
-use Rattle.scenario.specs.Scenario.{ScenarioView, IsScenario}
-use Rattle.scenario_reading.specs.Verdict.{IsAcceptedValue}
+use Rattle.std.proofs.Common.{◌≡◌, ℕ, List, Option, Result, Ok, Err, refl, sym}
+use Rattle.scenario.specs.Scenario.{ScenarioView}
 use Rattle.node_alone.specs.Log.{RecordView}
-use Rattle.scenario_capacities.specs.Laws.{StaysAcceptedLaw}
 use Rattle.maft.specs.declared.form.Form.{Form}
 use Rattle.maft.specs.declared.form.Reading.TheVariants.{Scenario, Log}
 use Rattle.maft.specs.declared.replay.ReplayError.{ReplayError}
@@ -14,15 +9,6 @@ use Rattle.maft.specs.declared.replay.ReplayError.TheVariants.{WriteFault, NoMem
 use Rattle.maft.specs.Run.{run_text, IsSafeRun, IsRun}
 use Rattle.maft.specs.Alone.{log_text, IsLogRun}
 use Rattle.maft.specs.Answers.{capacity, status_of, IsAccepted, IsAcceptedLog, Answers}
-
-same_parts : (a b : ScenarioParts) (found : Option ScenarioParts) → found ≡ Some a → found ≡ Some b → a ≡ b
-same_parts a b found e f = let s : ◌≡◌ {A = Option ScenarioParts} (Some a) (Some b) = sym e ∙ f in cc
-
--- what is accepted with room for 8 nodes and for 16 is a scenario in the second where it is one in the first
-pub large_is : StaysAcceptedLaw → (d : Data) (small : ScenarioView 8) (large : ScenarioView 16) → IsAcceptedValue d small → IsScenario small → IsAcceptedValue d large → IsScenario large
-large_is stays d small large h is a =
-    subst (λ (sc : ScenarioView 16). IsScenario sc) (ap (scenario_of 16) (same_parts h.parts a.parts _ h.reads a.reads) ∙ sym a.says)
-    (stays 8 8 h.parts (inr refl) h.unrefused (subst (λ (sc : ScenarioView 8). IsScenario sc) h.says is))
 
 -- a run whose text is also that of another, which is safe
 pub run_of : {N M : ℕ} (form : Form) (a : ScenarioView N) (b : ScenarioView M) (old new : Option (List ℕ)) (before now : ℕ) (r : Result (Unit {0}) ReplayError)

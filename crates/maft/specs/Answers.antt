@@ -1,7 +1,7 @@
 -- What the program says of the bytes that it reads.
-use Rattle.std.specs.Prelude.{◌≡◌, ℕ, ◌<◌, ◌≤◌, ◌⊎◌, List, length, Option, Some, IfSome, Result, Ok, Err}
+use Rattle.std.specs.Prelude.{◌≡◌, ℕ, ◌<◌, ◌≤◌, ◌↔◌, ◌⊎◌, List, length, Option, Some, IfSome, Result, Ok, Err}
 use Rattle.std.specs.Io.KnownBytes.{Appends, Keeps, IsAtEnd}
-use Rattle.span_io.specs.Causes.{Rose, AppendsPrefix}
+use Rattle.span_io.specs.Causes.{Rose, AppendsPrefix, GivenPast}
 use Rattle.serde_json.specs.Data.{Data}
 use Rattle.scenario_reading.specs.Reading.{Reads}
 use Rattle.scenario.specs.Scenario.{ScenarioView}
@@ -9,8 +9,7 @@ use Rattle.scenario_reading.specs.Verdict.{IsAcceptedValue, value_refusal}
 use Rattle.run_text.specs.PeriodText.{refused_text}
 use Rattle.node_alone.specs.Log.{RecordView}
 use Rattle.node_alone.specs.Rules.{IsAcceptedRecord, record_refusal}
-use Rattle.storm.specs.Laws.{Weathers, storm_system}
-use Rattle.storm_sum.specs.Laws.{storm_summary, IsStormSummary}
+use Rattle.storm_sum.specs.Laws.{storm_summary, IsStormSummary, Withstands}
 use Rattle.run_text.specs.StormText.{storm_text}
 use Rattle.maft.specs.declared.form.Reading.{Reading}
 use Rattle.maft.specs.declared.form.Reading.TheVariants.{Scenario, Log}
@@ -21,6 +20,7 @@ use Rattle.maft.specs.declared.status.Status.TheVariants.{Done, Usage, Unreadabl
 use Rattle.maft.specs.declared.form.Form.{Form}
 use Rattle.maft.specs.declared.replay.ReplayError.{ReplayError}
 use Rattle.maft.specs.declared.replay.ReplayError.TheVariants as errors
+use Rattle.maft.specs.Words.{Calls}
 use Rattle.maft.specs.Run.{run_text, IsSafeRun}
 use Rattle.maft.specs.Alone.{log_text}
 
@@ -44,6 +44,11 @@ pub record IsAcceptedLog (bytes : List ℕ) (id : ℕ) (log : RecordView capacit
   pub reads : Reads bytes value
   pub accepted : IsAcceptedRecord id value log
 
+-- they are an accepted input of this kind
+abbrev pub IsAcceptedInput : Reading → List ℕ → Type 0
+IsAcceptedInput (Scenario form) bytes = (sc : ScenarioView capacity) × IsAccepted bytes sc
+IsAcceptedInput (Log id) bytes = (log : RecordView capacity) × IsAcceptedLog bytes id log
+
 -- what the rules say of a JSON value
 abbrev pub refusal_for : Reading → Data → Option (ℕ × ℕ)
 refusal_for (Scenario form) d = value_refusal capacity d
@@ -60,10 +65,10 @@ abbrev pub HasTextOf : Reading → List ℕ → List ℕ → Type 0
 HasTextOf (Scenario form) bytes text = (sc : ScenarioView capacity) × IsAccepted bytes sc × (text ≡ run_text form sc) × IsSafeRun sc
 HasTextOf (Log id) bytes text = (log : RecordView capacity) × IsAcceptedLog bytes id log × (text ≡ log_text log)
 
--- The text that is written where nothing fails. Of a storm, for which nothing is read, all periods are claimed, and safe
+-- The text that is written where nothing fails. Of a storm, for which nothing is read, all periods are claimed, and keep what is promised
 abbrev pub HasText : Command → List ℕ → List ℕ → Type 0
 HasText (Read reading) bytes text = HasTextOf reading bytes text
-HasText (Storm seed) bytes text = (text ≡ storm_text (storm_summary seed)) × IsStormSummary (storm_summary seed) × Weathers (storm_system seed)
+HasText (Storm seed) bytes text = (text ≡ storm_text (storm_summary seed)) × IsStormSummary (storm_summary seed) × Withstands seed
 
 -- they are no JSON text
 abbrev pub IsUnreadable : List ℕ → Type 0
@@ -75,10 +80,15 @@ pub record IsWhole (old new : Option (List ℕ)) (bytes : List ℕ) : Type 0 whe
   pub end : IsAtEnd new
   pub short : length bytes ≤ limit
 
+-- nothing was read: the source gave no byte, and where it tells what is left, that is what was left
+pub record IsUnread (left_old left_new : Option (List ℕ)) (given_old given_new : ℕ) : Type 0 where
+  pub left : Keeps left_old left_new
+  pub given : given_new ≡ given_old
+
 -- what was read: all bytes of the source, or nothing for a storm
-abbrev pub IsRead : Command → Option (List ℕ) → Option (List ℕ) → List ℕ → Type 0
-IsRead (Read reading) old new bytes = IsWhole old new bytes
-IsRead (Storm seed) old new bytes = Keeps old new
+abbrev pub IsRead : Command → (left_old left_new : Option (List ℕ)) → (given_old given_new : ℕ) → List ℕ → Type 0
+IsRead (Read reading) left_old left_new given_old given_new bytes = IsWhole left_old left_new bytes
+IsRead (Storm seed) left_old left_new given_old given_new bytes = IsUnread left_old left_new given_old given_new
 
 -- nothing was read or written
 pub record IsUntouched (left_old left_new : Option (List ℕ)) (given_old given_new : ℕ) (written_old written_new : Option (List ℕ)) : Type 0 where
@@ -95,7 +105,7 @@ pub record Decides (reading : Reading) (bytes : List ℕ) (before now : ℕ) (st
   pub too_long : limit < length bytes → (status ≡ TooLong) ⊎ (status ≡ NoMemory)
   pub unreadable : length bytes ≤ limit → IsUnreadable bytes → (status ≡ Unreadable) ⊎ (status ≡ NoMemory)
   pub refused : length bytes ≤ limit → (rule place : ℕ) → IsRefused reading bytes rule place → (status ≡ Refused) ⊎ (status ≡ NoMemory)
-  pub accepted : length bytes ≤ limit → (text : List ℕ) → HasTextOf reading bytes text → ¬ Rose before now → (status ≡ Done) ⊎ (status ≡ NoMemory)
+  pub accepted : length bytes ≤ limit → IsAcceptedInput reading bytes → ¬ Rose before now → (status ≡ Done) ⊎ (status ≡ NoMemory)
 
 -- the same of a command, by what was left in the source, and the counts of faults of source and sink
 abbrev pub IsDecided : Command → Option (List ℕ) → ℕ → ℕ → ℕ → ℕ → Status → Type 0
@@ -128,11 +138,40 @@ AnswersValue form d old new before now status = (bytes : List ℕ) → Reads byt
 
 -- what is answered of a storm, and written
 abbrev pub AnswersStorm : ℕ → Option (List ℕ) → Option (List ℕ) → ℕ → ℕ → Status → Type 0
-AnswersStorm seed old new before now Done = IsStormSummary (storm_summary seed) × Weathers (storm_system seed) × Appends old new (storm_text (storm_summary seed)) × (now ≡ before)
-AnswersStorm seed old new before now WriteFault = IsStormSummary (storm_summary seed) × Weathers (storm_system seed) × AppendsPrefix old new (storm_text (storm_summary seed)) × Rose before now
+AnswersStorm seed old new before now Done = IsStormSummary (storm_summary seed) × Withstands seed × Appends old new (storm_text (storm_summary seed)) × (now ≡ before)
+AnswersStorm seed old new before now WriteFault = IsStormSummary (storm_summary seed) × Withstands seed × AppendsPrefix old new (storm_text (storm_summary seed)) × Rose before now
 AnswersStorm seed old new before now NoMemory = Keeps old new × (now ≡ before)
 AnswersStorm seed old new before now Usage = ⊥
 AnswersStorm seed old new before now Unreadable = ⊥
 AnswersStorm seed old new before now Refused = ⊥
 AnswersStorm seed old new before now ReadFault = ⊥
 AnswersStorm seed old new before now TooLong = ⊥
+
+-- what is seen of a source and a sink: what is left to read, how many bytes the source gave, and how many faults it counted; what was written,
+-- and how many faults the sink counted
+pub record Devices : Type 0 where
+  pub left : Option (List ℕ)
+  pub given : ℕ
+  pub source_faults : ℕ
+  pub written : Option (List ℕ)
+  pub sink_faults : ℕ
+
+-- all that the top call promises of its status, clause by clause under the same names
+pub record IsStatusOf (words : List (List ℕ)) (old new : Devices) (status : Status) : Type 0 where
+  pub usage : (status ≡ Usage) ↔ ((command : Command) → Calls words command → ⊥)
+  pub usage_untouched : status ≡ Usage → IsUntouched old.left new.left old.given new.given old.written new.written
+  pub read_fault : status ≡ ReadFault → Rose old.source_faults new.source_faults × Keeps old.written new.written
+  pub faults : (status ≡ ReadFault) ⊎ (new.source_faults ≡ old.source_faults)
+  pub sink_faults : (status ≡ WriteFault) ⊎ ((status ≡ Refused) ⊎ (new.sink_faults ≡ old.sink_faults))
+  pub too_long : status ≡ TooLong → IfSome old.left (λ bytes. limit < length bytes) × GivenPast limit old.given new.given × Keeps old.written new.written
+  pub unreadable : status ≡ Unreadable → (bytes : List ℕ) × IsWhole old.left new.left bytes × IsUnreadable bytes × Keeps old.written new.written
+  pub refused : status ≡ Refused → (reading : Reading) × (bytes : List ℕ) × (rule : ℕ) × (place : ℕ) × Calls words (Read reading) × IsWhole old.left new.left bytes
+      × IsRefused reading bytes rule place × WritesSome old.written new.written old.sink_faults new.sink_faults (refused_text rule place)
+  pub write_fault : status ≡ WriteFault → (command : Command) × (bytes : List ℕ) × (text : List ℕ) × Calls words command
+      × IsRead command old.left new.left old.given new.given bytes × HasText command bytes text × AppendsPrefix old.written new.written text
+      × Rose old.sink_faults new.sink_faults
+  pub no_memory : status ≡ NoMemory → Keeps old.written new.written
+  pub done : status ≡ Done → (command : Command) × (bytes : List ℕ) × (text : List ℕ) × Calls words command
+      × IsRead command old.left new.left old.given new.given bytes × HasText command bytes text × Appends old.written new.written text
+  pub decided : (status ≡ Usage) ⊎ ((command : Command) × Calls words command
+      × IsDecided command old.left old.source_faults new.source_faults old.sink_faults new.sink_faults status)

@@ -16,10 +16,15 @@ use Rattle.node_alone.specs.Laws.{IsOfRun}
 use Rattle.maft.specs.declared.form.Form.{Form}
 use Rattle.maft.specs.Run.{run_text, IsSafeRun}
 use Rattle.maft.specs.Alone.{log_text}
+use Rattle.maft.specs.Answers.{capacity, IsAccepted, IsAcceptedLog}
 
--- each claimed period of an accepted scenario keeps what is promised, and its line tells whether it is claimed
+-- each claimed period of a scenario keeps what is promised, and its line tells whether it is claimed
 abbrev pub SafeRunLaw : Type 0
 SafeRunLaw = (capacity : ℕ) (sc : ScenarioView capacity) → IsScenario sc → IsSafeRun sc
+
+-- so do those of bytes that are an accepted scenario
+abbrev pub AcceptedRunLaw : Type 0
+AcceptedRunLaw = (bytes : List ℕ) (sc : ScenarioView capacity) → IsAccepted bytes sc → IsSafeRun sc
 
 -- the node whose frames are delivered first changes no text
 abbrev pub OrderLaw : Type 0
@@ -36,8 +41,7 @@ pub record OneTextLaw : Type 0 where
 
 -- what is accepted with room for 8 nodes is accepted with room for 16, with one text, and its run there is safe
 abbrev pub FewNodesLaw : Type 0
-FewNodesLaw = (d : Data) (small : ScenarioView 8) → IsAcceptedValue d small → IsScenario small
-    → (large : ScenarioView 16) × IsAcceptedValue d large × HaveOneText small large × IsSafeRun large
+FewNodesLaw = (d : Data) (small : ScenarioView 8) → IsAcceptedValue d small → (large : ScenarioView 16) × IsAcceptedValue d large × HaveOneText small large × IsSafeRun large
 
 -- ---- the log of a node, and the run that it is a log of
 
@@ -64,3 +68,7 @@ pub record IsNodeOfReplay {capacity : ℕ} (log : RecordView capacity) : Type 0 
 -- where the entries of a node's log are what the run of its scenario delivers to the node
 abbrev pub AloneTextLaw : Type 0
 AloneTextLaw = (capacity : ℕ) (log : RecordView capacity) → IsScenario log.scenario → IsOfRun log → log.id < log.scenario.config.nodes → IsNodeOfReplay log
+
+-- and where the log is that of bytes that are accepted
+abbrev pub AcceptedLogLaw : Type 0
+AcceptedLogLaw = (bytes : List ℕ) (id : ℕ) (log : RecordView capacity) → IsAcceptedLog bytes id log → IsOfRun log → IsNodeOfReplay log

@@ -1,17 +1,26 @@
 //! What holds of the runs that the program prints, over the definitions alone. Each function's promise is its law.
-ghost use Rattle.maft.specs.Laws.{SafeRunLaw, OrderLaw, OneTextLaw, FewNodesLaw, AloneTextLaw};
+ghost use Rattle.maft.specs.Laws.{SafeRunLaw, AcceptedRunLaw, OrderLaw, OneTextLaw, FewNodesLaw, AloneTextLaw, AcceptedLogLaw};
 
 use capacities::laws as rooms;
 use cluster_periods::laws;
-use scenario_capacities::laws::stays_accepted;
+use node_alone::laws::{accepted_records, alone};
+use scenario_reading::laws::accepted_values;
 
-/// Each claimed period of an accepted scenario keeps what is promised of it, and its line says `claim yes` exactly where
-/// it is claimed.
+/// Each claimed period of a scenario keeps what is promised of it, and its line says `claim yes` exactly where it is
+/// claimed.
 pub fn safe_runs()
     ensures { SafeRunLaw }
 {
     laws::claims();
     laws::promises();
+}
+
+/// So does each claimed period of bytes that are an accepted scenario.
+pub fn accepted_runs()
+    ensures { AcceptedRunLaw }
+{
+    safe_runs();
+    accepted_values();
 }
 
 /// Scenarios that differ only in the node whose frames are delivered first have the same text.
@@ -35,7 +44,7 @@ pub fn few_nodes()
 {
     one_text();
     safe_runs();
-    stays_accepted();
+    accepted_values();
 }
 
 /// Where the log of a node holds what a run delivers to it, the text of the log is that node's lines of the run's replay, but
@@ -43,5 +52,13 @@ pub fn few_nodes()
 pub fn alone_text()
     ensures { AloneTextLaw }
 {
-    node_alone::laws::alone();
+    alone();
+}
+
+/// So has the text of bytes that are an accepted log.
+pub fn accepted_logs()
+    ensures { AcceptedLogLaw }
+{
+    alone_text();
+    accepted_records();
 }

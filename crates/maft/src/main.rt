@@ -30,10 +30,14 @@
 //! | the text of the run | `run_text` in specs/Run; `period_record` in cluster_periods/specs/Record; run_text/specs PeriodText, NodeText, TraceText |
 //! | a period's line says `claim yes` exactly where the period is claimed | `told` of `IsSafeRun` in specs/Run |
 //!
-//! For `storm SEED` nothing is read, and all periods of that storm are claimed and safe (`Weathers` in storm/specs/Laws). For
-//! `node I` the text is what the node believed by its log (`view_alone` in node_alone/specs/View); of it nothing is claimed
-//! but that, and law `alone_text`: a log of what a run delivers has the text of that node's lines in the run's replay, but for
-//! the class.
+//! For `storm SEED` nothing is read, and all periods of that storm are claimed and keep what is promised (`Withstands` in
+//! storm_sum/specs/Laws). For `node I` the text is what the node believed by its log (`view_alone` in node_alone/specs/View);
+//! of it nothing is claimed but that, and law `accepted_logs`: a log of what a run delivers has the text of that node's lines
+//! in the run's replay, but for the class.
+//!
+//! What is accepted is a scenario of which the laws speak: law `accepted` of scenario, and from it `accepted_runs` and
+//! `accepted_logs` of this crate. `main` makes the devices and leaves with what [`run`] answers, which is the number of the
+//! status of `maft`.
 //!
 //! Nothing else is assumed. A source and a sink that don't tell their bytes are promised nothing of bytes. Want of memory
 //! is the one free answer; each other answer says its cause, and the bytes decide it where no device failed.
@@ -50,7 +54,7 @@ mod replay;
 mod status;
 
 pub use form::{Command, Form, Reading};
-pub use program::maft;
+pub use program::{maft, run};
 pub use replay::{ReplayError, replay_at};
 use span_io::{StdSink, StdSource};
 pub use status::Status;
@@ -84,5 +88,5 @@ fn main(rt: HostRuntime) -> ExitCode {
     };
     let mut source = StdSource::new(rt.stdin());
     let mut sink = StdSink::new(rt.stdout());
-    ExitCode::from(maft(rt.alloc(), words.as_slice(), &mut source, &mut sink).number())
+    ExitCode::from(run(rt.alloc(), words.as_slice(), &mut source, &mut sink))
 }

@@ -12,9 +12,11 @@ ghost use Rattle.maft.specs.declared.form.Reading.{Reading as SpecReading};
 ghost use Rattle.maft.specs.declared.form.Reading.TheVariants.{Scenario as SpecScenario, Log as SpecLog};
 ghost use Rattle.maft.specs.declared.form.Command.{Command as SpecCommand};
 ghost use Rattle.maft.specs.declared.form.Command.TheVariants.{Read as SpecRead};
+ghost use Rattle.maft.specs.declared.status.Status.{Status as SpecStatus};
+ghost use Rattle.maft.specs.Status.{number_of};
 ghost use Rattle.maft.specs.Words.{texts, Calls};
 ghost use Rattle.maft.specs.Run.{IsRun};
-ghost use Rattle.maft.specs.Answers.{limit, capacity, status_of, AnswersValue, IsRefused, IsUnreadable, IsWhole, IsRead, IsUntouched, WritesSome, HasText, IsDecided, Answers, AnswersStorm};
+ghost use Rattle.maft.specs.Answers.{limit, capacity, status_of, AnswersValue, IsRefused, IsUnreadable, IsWhole, IsRead, IsUntouched, WritesSome, HasText, IsDecided, Answers, AnswersStorm, IsStatusOf};
 
 use crate::alone::write_log;
 use crate::form::command_of;
@@ -94,7 +96,6 @@ fn write_few<K: Sink>(
         × IsRun form sc (K.written sink.old) (K.written sink.new) (K.faults sink.old) (K.faults sink.new) result }
 {
     few_nodes();
-    let _periods = scenario.periods();
     write_form(alloc, scenario, form, sink)
 }
 
@@ -165,7 +166,7 @@ fn answer<K: Sink>(alloc: Global, reading: Reading, bytes: &[u8], sink: &mut K) 
 fn answer_storm<K: Sink>(alloc: Global, seed: u64, sink: &mut K) -> Status
     ensures { AnswersStorm seed (K.written sink.old) (K.written sink.new) (K.faults sink.old) (K.faults sink.new) result }
 {
-    storm::laws::weathered();
+    storm_sum::laws::withstands();
     let Ok(sum) = storm_sum::summary(alloc, seed) else {
         return Status::NoMemory;
     };
@@ -204,13 +205,15 @@ pub fn maft<S: Source, K: Sink>(
         × Calls (texts words.now) (SpecRead reading) × IsWhole (S.left source.old) (S.left source.new) bytes × IsRefused reading bytes rule place
         × WritesSome (K.written sink.old) (K.written sink.new) (K.faults sink.old) (K.faults sink.new) (refused_text rule place) }
     ensures write_fault { result ≡ Status.WriteFault → (command : SpecCommand) × (bytes : List ℕ) × (text : List ℕ)
-        × Calls (texts words.now) command × IsRead command (S.left source.old) (S.left source.new) bytes × HasText command bytes text
+        × Calls (texts words.now) command × IsRead command (S.left source.old) (S.left source.new)
+        (S.given source.old) (S.given source.new) bytes × HasText command bytes text
         × AppendsPrefix (K.written sink.old) (K.written sink.new) text × Rose (K.faults sink.old) (K.faults sink.new) }
     ensures no_memory { result ≡ Status.NoMemory → Keeps (K.written sink.old) (K.written sink.new) }
 
     // The headline: what was read is accepted, its text was written, and each claimed period of a run is safe.
     ensures done { result ≡ Status.Done → (command : SpecCommand) × (bytes : List ℕ) × (text : List ℕ)
-        × Calls (texts words.now) command × IsRead command (S.left source.old) (S.left source.new) bytes × HasText command bytes text
+        × Calls (texts words.now) command × IsRead command (S.left source.old) (S.left source.new)
+        (S.given source.old) (S.given source.new) bytes × HasText command bytes text
         × Appends (K.written sink.old) (K.written sink.new) text }
 
     // Where neither count of faults rose, words and bytes decide the answer, but for want of memory.
@@ -228,4 +231,14 @@ pub fn maft<S: Source, K: Sink>(
         Err(ReadError::TooLong) => Status::TooLong,
         Err(ReadError::NoMemory) => Status::NoMemory,
     }
+}
+
+/// Answers the words as [`maft`] does, with the number of its status.
+pub fn run<S: Source, K: Sink>(alloc: Global, words: &[String], source: &mut S, sink: &mut K) -> u8
+    ensures { (status : SpecStatus) × (result ≡ number_of status) × IsStatusOf (texts words.now)
+        (record { left = S.left source.old; given = S.given source.old; source_faults = S.faults source.old; written = K.written sink.old; sink_faults = K.faults sink.old })
+        (record { left = S.left source.new; given = S.given source.new; source_faults = S.faults source.new; written = K.written sink.new; sink_faults = K.faults sink.new })
+        status }
+{
+    maft(alloc, words, source, sink).number()
 }

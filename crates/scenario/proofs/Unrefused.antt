@@ -1,5 +1,5 @@
 -- Parts that no rule refuses say a scenario.
-use Rattle.std.proofs.Common.{◌≡◌, ◌≤◌, ℕ, arith, inl, inr, length, map, None}
+use Rattle.std.proofs.Common.{◌≡◌, ◌≤◌, ℕ, arith, inl, inr, map, None}
 use Rattle.std.specs.Option.{option_or}
 use Rattle.node_grid.specs.Capacity.{IsCapacity}
 use Rattle.scenario.specs.Parts.{ScenarioParts}

@@ -1,5 +1,5 @@
--- The summary of a storm.
-use Rattle.std.proofs.Common.{◌≡◌, ℕ, zero, suc, ◌+◌, Bool, true, List, map, Option, None, Some, Result, Ok, Err, refl, sym, ap, subst, ◌∙◌, arith}
+-- What is promised of a storm, and its summary.
+use Rattle.std.proofs.Common.{◌≡◌, ℕ, zero, suc, ◌+◌, Bool, true, List, map, Option, None, Some, Result, Ok, Err, refl, sym, ap, subst, ◌∙◌, arith, inl}
 use Rattle.std.specs.Prelude.{IfOk, slice_index}
 use Rattle.std.specs.List.{range_with_len}
 use Rattle.node_grid.specs.NodeSet.{ids_below, has_id}
@@ -9,10 +9,12 @@ use Rattle.protocol.specs.Cluster.{view}
 use Rattle.protocol.specs.Run.{System, members_in, run}
 use Rattle.node_steps.specs.Outcome.{Outcome}
 use Rattle.node_steps.specs.Stages.{outcome_of}
-use Rattle.cluster_periods.specs.Laws.{ClaimLaw}
-use Rattle.storm.specs.Laws.{storm_system, Weathers, StormLaw}
+use Rattle.scenario.specs.Laws.{AcceptedLaw}
+use Rattle.cluster_periods.specs.Laws.{ClaimLaw, PromiseLaw}
+use Rattle.storm.specs.Laws.{storm_system, Weathers, StormLaw, UnrefusedLaw}
+use Rattle.storm.specs.Parts.{storm_parts}
 use Rattle.storm_sum.specs.Summary.{how_many, agreed_by, counts_in, claim_at, state_at}
-use Rattle.storm_sum.specs.Laws.{SummaryLaw}
+use Rattle.storm_sum.specs.Laws.{storm_scenario, WithstandingLaw, SummaryLaw}
 
 all_counted : (f : ℕ → Bool) (a n : ℕ) → ((q : ℕ) → f q ≡ true) → count f (range_with_len a n) ≡ n
 all_counted f a zero h = refl
@@ -48,6 +50,13 @@ claimed_law storms claims seed =
       members = λ j low. subst (λ (a : Option AgreedView). has_id (members_in a) j ≡ true) (sym after) (last.spared_after j low).member;
       counts = λ j low. subst (λ (a : Option AgreedView). slice_index (counts_in a) j ≡ 0) (sym after) (last.spared_after j low).unpunished;
     }
+
+-- no rule refuses a storm, so it is a scenario, and what is promised of claimed periods holds of all of its periods
+pub withstanding_law : AcceptedLaw → UnrefusedLaw → StormLaw → ClaimLaw → PromiseLaw → WithstandingLaw
+withstanding_law accepted unrefused storms claims promises seed =
+    let is = accepted 8 (storm_parts seed) (inl refl) (unrefused seed) in
+    let w = storms seed in
+    record { weathers = w; promised = λ p. promises 8 (storm_scenario seed) p is ((claims (storm_system seed) (storm_scenario seed).clock p).claim.1 (w.periods p).claimed) }
 
 -- what is Ok is this, so what holds of this holds of it
 pub holds_of : {A E : Type 0} (P : A → Type 0) (x : A) (r : Result A E) → IfOk r (λ s. s ≡ x) → P x → IfOk r P

@@ -1,14 +1,29 @@
--- What the summary of each storm says.
+-- What is promised of the periods of each storm, and what its summary says.
 use Rattle.std.specs.Prelude.{ℕ, ◌≡◌, ◌<◌, ◌≤◌, true, slice_index}
 use Rattle.node_grid.specs.NodeSet.{has_id}
 use Rattle.scenario.specs.Given.{scenario_of}
+use Rattle.scenario.specs.Scenario.{ScenarioView}
+use Rattle.cluster_periods.specs.Laws.{Promises}
 use Rattle.run_text.specs.StormText.{StormView}
+use Rattle.storm.specs.Laws.{storm_system, Weathers}
 use Rattle.storm.specs.Parts.{storm_parts}
 use Rattle.storm_sum.specs.Summary.{summary_of}
 
+-- a number's storm
+abbrev pub storm_scenario : ℕ → ScenarioView 8
+storm_scenario seed = scenario_of 8 (storm_parts seed)
+
+-- each of its periods is claimed, and keeps all that is promised of a claimed period
+pub record Withstands (seed : ℕ) : Type 0 where
+  pub weathers : Weathers (storm_system seed)
+  pub promised : (p : ℕ) → Promises (storm_scenario seed) p
+
+abbrev pub WithstandingLaw : Type 0
+WithstandingLaw = (seed : ℕ) → Withstands seed
+
 -- the summary of a number's storm
 abbrev pub storm_summary : ℕ → StormView
-storm_summary seed = summary_of seed (scenario_of 8 (storm_parts seed))
+storm_summary seed = summary_of seed (storm_scenario seed)
 
 -- all of 1024 periods are claimed, of at most 448 lines and 64 restarts, and nodes 0 to 4 are members with count 0 in the end
 pub record IsStormSummary (s : StormView) : Type 0 where

@@ -108,7 +108,7 @@ returns-in-Some-Storm-clause-sink_faults g c =
 pub returns-in-Some-Storm-clause-write_fault : goal.returns-in-Some-Storm-clause-write_fault
 returns-in-Some-Storm-clause-write_fault g c =
     let calls : Calls (texts c.args.words.now) (Storm c.in-Some-Storm.seed) = subst (λ (command : Command). Calls (texts c.args.words.now) command) c.in-Some-Storm.field-0-is c.in-Some-Storm.ensures.found in
-    λ e. let a = storm_so c.in-Some-Storm.seed _ _ _ _ c.answer_storm.result WriteFault c.answer_storm.ensures e in (Storm c.in-Some-Storm.seed, [], storm_text (storm_summary c.in-Some-Storm.seed), calls, Keeps-refl _, (refl, a.0, a.1), a.2, a.3)
+    λ e. let a = storm_so c.in-Some-Storm.seed _ _ _ _ c.answer_storm.result WriteFault c.answer_storm.ensures e in (Storm c.in-Some-Storm.seed, [], storm_text (storm_summary c.in-Some-Storm.seed), calls, record { left = Keeps-refl _; given = refl }, (refl, a.0, a.1), a.2, a.3)
 
 pub returns-in-Some-Storm-clause-no_memory : goal.returns-in-Some-Storm-clause-no_memory
 returns-in-Some-Storm-clause-no_memory g c =
@@ -117,7 +117,7 @@ returns-in-Some-Storm-clause-no_memory g c =
 pub returns-in-Some-Storm-clause-done : goal.returns-in-Some-Storm-clause-done
 returns-in-Some-Storm-clause-done g c =
     let calls : Calls (texts c.args.words.now) (Storm c.in-Some-Storm.seed) = subst (λ (command : Command). Calls (texts c.args.words.now) command) c.in-Some-Storm.field-0-is c.in-Some-Storm.ensures.found in
-    λ e. let a = storm_so c.in-Some-Storm.seed _ _ _ _ c.answer_storm.result Done c.answer_storm.ensures e in (Storm c.in-Some-Storm.seed, [], storm_text (storm_summary c.in-Some-Storm.seed), calls, Keeps-refl _, (refl, a.0, a.1), a.2)
+    λ e. let a = storm_so c.in-Some-Storm.seed _ _ _ _ c.answer_storm.result Done c.answer_storm.ensures e in (Storm c.in-Some-Storm.seed, [], storm_text (storm_summary c.in-Some-Storm.seed), calls, record { left = Keeps-refl _; given = refl }, (refl, a.0, a.1), a.2)
 
 pub returns-in-Some-Storm-clause-decided : goal.returns-in-Some-Storm-clause-decided
 returns-in-Some-Storm-clause-decided g c =
