@@ -1,33 +1,16 @@
 //! Sources and sinks over the readers and writers of the standard library.
-ghost use Rattle.std.specs.Prelude.{◌≡◌, ◌≤◌, Ok, IfOk};
-ghost use Rattle.span_io.specs.Causes.{HasCause};
+ghost use Rattle.std.specs.Prelude.{◌≡◌};
 
+use crate::faults::{ReadFaults, WriteFaults};
 use crate::{Failed, Sink, Source};
-use std::io::{self, Read, Write};
-
-/// What a call is answered where the reader or writer inside answered this: its count, and a failure, which is counted,
-/// where that failed or the count is below `least`.
-fn answered(inside: io::Result<usize>, least: usize, faults: &mut u64) -> Result<usize, Failed>
-    ensures told { IfOk result (λ count. inside ≡ Ok count) }
-    ensures some { IfOk result (λ count. least ≤ count) }
-    ensures asked { IfOk inside (λ count. least ≤ count → result ≡ Ok count) }
-    ensures cause { HasCause faults.old faults.new result }
-{
-    match inside {
-        Ok(count) if count >= least => Ok(count),
-        _ => {
-            *faults = faults.saturating_add(1);
-            Err(Failed)
-        }
-    }
-}
+use std::io::{Read, Write};
 
 /// A source over any reader.
 #[derive(Drop)]
 pub struct StdSource<R: Read> {
     inner: R,
     given: u64,
-    faults: u64,
+    faults: ReadFaults,
 }
 
 impl<R: Read> StdSource<R> {
@@ -40,7 +23,7 @@ impl<R: Read> StdSource<R> {
         StdSource {
             inner,
             given: 0,
-            faults: 0,
+            faults: ReadFaults::none(),
         }
     }
 }
@@ -54,7 +37,7 @@ impl<R: Read> Source for StdSource<R> {
 
     fn read(&mut self, buf: &mut [u8]) -> Result<usize, Failed> {
         let inside = self.inner.read(buf);
-        let count = answered(inside, 0, &mut self.faults)?;
+        let count = self.faults.answer(inside)?;
         self.given = self.given.saturating_add(count as u64);
         Ok(count)
     }
@@ -64,7 +47,7 @@ impl<R: Read> Source for StdSource<R> {
 #[derive(Drop)]
 pub struct StdSink<W: Write> {
     inner: W,
-    faults: u64,
+    faults: WriteFaults,
 }
 
 impl<W: Write> StdSink<W> {
@@ -73,7 +56,10 @@ impl<W: Write> StdSink<W> {
         ensures written { ⟦<StdSink<W> as Sink>⟧.written result ≡ W.contents inner }
         ensures faults { ⟦<StdSink<W> as Sink>⟧.faults result ≡ 0 }
     {
-        StdSink { inner, faults: 0 }
+        StdSink {
+            inner,
+            faults: WriteFaults::none(),
+        }
     }
 }
 
@@ -84,6 +70,6 @@ impl<W: Write> Sink for StdSink<W> {
 
     fn write(&mut self, bytes: &[u8]) -> Result<usize, Failed> {
         let inside = self.inner.write(bytes);
-        answered(inside, 1, &mut self.faults)
+        self.faults.answer(inside)
     }
 }

@@ -11,6 +11,7 @@ ghost use Rattle.std.specs.Io.KnownBytes.{ReadConsumes, WriteAppends};
 ghost use Rattle.span_io.specs.Causes.{HasCause, CountsGiven, IsWithin};
 
 mod devices;
+mod faults;
 mod memory;
 mod reading;
 mod writing;
