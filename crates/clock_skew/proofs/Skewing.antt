@@ -14,7 +14,7 @@ use Rattle.mme_vote.specs.Members.{Received, if_test, good_of, MembersLaw}
 use Rattle.mme_vote.specs.Moved.{AtMostAbove, AreReadings, AreNear, MovedLaw}
 use Rattle.clock_skew.specs.Correction.{voted}
 use Rattle.clock_skew.specs.Skew.{Reads, AreRead, SkewLaw, DriftLaw}
-use Rattle.mme_vote.specs.MemberValues.{has_first, has_later, some_nonfaulty, some_value, All-values}
+use Rattle.mme_vote.specs.MemberValues.{has_first, has_later, some_nonfaulty, some_value, All-values, good_value}
 
 -- the clock that a reading at a is of: of an asymmetric member what the reading says, of another one what is shown
 abbrev clock_by : Class → ℤ → ℤ → ℤ → ℤ
@@ -98,13 +98,6 @@ readings n a f g ks h = record {
 }
 
 -- ---- the laws
-
-good_value : (c : Class) (v : Option ℤ) (x y : ℤ) → (c ≡ N → v ≡ Some y) → if_test (is_nonfaulty c) v ≡ Some x → (c ≡ N) × (y ≡ x)
-good_value N v x y h e = let f = h refl in (refl, cc)
-good_value J v x y h e = cc
-good_value B v x y h e = cc
-good_value S v x y h e = cc
-good_value A v x y h e = cc
 
 nonfaulty_read : (n : ℕ) (a b x : ℤ) (c : Class) (u w : Option ℤ) → AreRead n a b c x u w → c ≡ N → Reads n a x u × Reads n b x w
 nonfaulty_read n a b x c u w h e = subst (λ (d : Class). AreRead n a b d x u w) e h

@@ -9,19 +9,20 @@ use Rattle.node_grid.specs.Capacity.{IsCapacity}
 use Rattle.node_grid.specs.NodeSet.{ids_below, has_id}
 use Rattle.node_grid.specs.NodeSetLaws.{passes_where}
 use Rattle.clock_skew.specs.Clock.{ClockView, IsClock, number_at, drift_at, error_at, lie_at, IsUpTo}
+use Rattle.clock_skew.specs.Reading.{reading_at, IsOffset, AreSteady, start_of, read_by, moved}
 use Rattle.agreed_state.specs.declared.config.Inputs.{Inputs}
 use Rattle.agreed_state.specs.Agreed.{AgreedView}
 use Rattle.protocol.specs.Arrival.{is_good}
 use Rattle.protocol.specs.View.{Setting, Mode, Kept, Received, adopted_by, synced_by, through, joined, view_from}
 use Rattle.protocol.specs.Cluster.{Cluster, begins, view}
 use Rattle.protocol.specs.Run.{System, run, classes}
-use Rattle.protocol.specs.Clocks.{AreClocks, reading_at, readings_at, corrects, correction_at, corrected, offsets, offset_limit}
+use Rattle.protocol.specs.Clocks.{AreClocks, readings_at, corrects, correction_at, corrected, offsets, offset_limit}
 use Rattle.safety.specs.ClockLaws.{OffsetLaw}
 use Rattle.node_steps.specs.Outcome.{Outcome}
 use Rattle.node_steps.specs.Stages.{outcome_of}
 use Rattle.scenario.specs.Scenario.{ScenarioView, system_of, IsScenario}
 use Rattle.cluster_periods.specs.Record.{ClockShown, by_node, offsets_in, clock_in}
-use Rattle.cluster_record.specs.Clocking.{IsOffset, AreSteady, start_of, read_by, corrects_by, correction_by, AreOthers, moved, offsets_kept, offsets_before}
+use Rattle.cluster_record.specs.Clocking.{corrects_by, correction_by, AreOthers, offsets_kept, offsets_before}
 use Rattle.cluster_periods.specs.RecordLaws.{recorded}
 use Rattle.cluster_periods.proofs.AllSlots.{map_ids, all_ids}
 

@@ -10,7 +10,7 @@ use Rattle.mme_vote.specs.Vote.{vote_of}
 use Rattle.mme_vote.specs.VoteLaws.{vote_of_some}
 use Rattle.mme_vote.specs.Members.{Received, if_test, MembersLaw}
 use Rattle.copy_vote.specs.Group.{value_of, group_vote_of, HasNoValue, GroupLaw}
-use Rattle.mme_vote.specs.MemberValues.{has_first, has_later, some_nonfaulty, some_value, All-values}
+use Rattle.mme_vote.specs.MemberValues.{has_first, has_later, some_nonfaulty, some_value, All-values, good_value}
 
 -- ---- where there is no vote
 
@@ -33,13 +33,6 @@ vote_on_nothing group values lies h = ap (λ (xs : List ℤ). is_some (vote_of x
 
 -- ---- the law
 
-good_value : (c : Class) (v : Option ℤ) (x y : ℤ) → (c ≡ N → v ≡ Some y) → if_test (is_nonfaulty c) v ≡ Some x → (c ≡ N) × (y ≡ x)
-good_value N v x y h e = let f = h refl in (refl, cc)
-good_value J v x y h e = cc
-good_value B v x y h e = cc
-good_value S v x y h e = cc
-good_value A v x y h e = cc
-
 also : (c : Class) (v w : Option ℤ) → c ≡ N → Received c v w → v ≡ w
 also N v w e r = r.1
 also J v w e r = cc
@@ -48,20 +41,20 @@ also S v w e r = cc
 also A v w e r = cc
 
 pub group_law : MembersLaw → GroupLaw
-group_law law lies class_of own xs ys group received told within =
+group_law law lies class_of own u w group received told within =
     let s = some_nonfaulty class_of group lies within in
-    let first : value_of xs s.0 ≡ Some (own s.0) = told s.0 s.1 s.2 in
-    let second : value_of ys s.0 ≡ Some (own s.0) = sym (also (class_of s.0) (value_of xs s.0) (value_of ys s.0) s.2 (received s.0 s.1)) ∙ first in
-    let v = vote_of_some (filter_map (value_of xs) group) lies (some_value (value_of xs) group s.0 (own s.0) s.1 first) in
-    let w = vote_of_some (filter_map (value_of ys) group) lies (some_value (value_of ys) group s.0 (own s.0) s.1 second) in
+    let first : u s.0 ≡ Some (own s.0) = told s.0 s.1 s.2 in
+    let second : w s.0 ≡ Some (own s.0) = sym (also (class_of s.0) (u s.0) (w s.0) s.2 (received s.0 s.1)) ∙ first in
+    let v = vote_of_some (filter_map u group) lies (some_value u group s.0 (own s.0) s.1 first) in
+    let v' = vote_of_some (filter_map w group) lies (some_value w group s.0 (own s.0) s.1 second) in
     record {
       first = _;
       second = _;
       votes = v;
-      votes_too = w;
-      close = λ low high bounds. law lies class_of (value_of xs) (value_of ys) group received within low high _ _
-          (All-values (λ x. (low ≤ℤ x) × (x ≤ℤ high)) (λ k. if_test (is_nonfaulty (class_of k)) (value_of xs k)) group (λ k x on e.
-          let g = good_value (class_of k) (value_of xs k) x (own k) (told k on) e in
+      votes_too = v';
+      close = λ low high bounds. law lies class_of u w group received within low high _ _
+          (All-values (λ x. (low ≤ℤ x) × (x ≤ℤ high)) (λ k. if_test (is_nonfaulty (class_of k)) (u k)) group (λ k x on e.
+          let g = good_value (class_of k) (u k) x (own k) (told k on) e in
           subst (λ (y : ℤ). (low ≤ℤ y) × (y ≤ℤ high)) g.1 (bounds k on g.0)))
-          v w;
+          v v';
     }

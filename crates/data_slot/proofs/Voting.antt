@@ -1,13 +1,15 @@
 -- Votes and deviations by the values that were told are those of the protocol.
 use Rattle.std.proofs.Common.{not, ◌&&◌, ℕ, ◌≡◌, ◌≢◌, ◌<◌, ◌==◌, Bool, true, if◌then◌else◌, List, [], ◌∷◌, refl, sym, ap, ap₂, ◌∙◌, inl, inr, arith, eq-eqb, ne_eqb, Option, None, Some, ℤ}
 use Rattle.std.specs.List.{filter_map, cons_option}
-use Rattle.std.proofs.lemmas.Bool.{cases_eq, cond-false, or_left, or_right}
+use Rattle.std.specs.Prelude.{slice_index_or}
+use Rattle.std.proofs.lemmas.Bool.{both_ways, cases_eq, cases_lt, cond-false, or_left, or_right}
 use Rattle.node_grid.specs.NodeSet.{has_id, ids_where, IsIdSet}
-use Rattle.node_grid.specs.NodeSetLaws.{filter_range}
+use Rattle.node_grid.specs.NodeSetLaws.{filter_range, hasnt-filter}
 use Rattle.omh_paths.specs.MemberLaws.{member-lt}
 use Rattle.omh_paths.specs.declared.wrapped.Wrapped.{Wrapped}
 use Rattle.mme_vote.specs.Channel.{delta_of, is_judged}
 use Rattle.mme_vote.specs.Vote.{vote_of}
+use Rattle.copy_vote.specs.Group.{group_vote_of, value_of}
 use Rattle.agreed_state.specs.declared.config.Config.{Config}
 use Rattle.agreed_state.specs.Agreed.{AgreedView}
 use Rattle.error_detect.specs.Watching.{Watch}
@@ -17,7 +19,7 @@ use Rattle.protocol.specs.View.{Setting, channel, deviates, is_far, own_in, tole
 use Rattle.noting.specs.Findings.{has_of}
 use Rattle.data_slot.specs.Values.{only_values}
 use Rattle.data_slot.specs.Told.{value_told}
-use Rattle.data_slot.specs.Votes.{is_off, vote_due}
+use Rattle.data_slot.specs.Votes.{is_off, vote_among, vote_due}
 use Rattle.data_slot.specs.Values.{by_channel}
 use Rattle.data_slot.specs.VoteLaws.{by_alike, list_any_alike, voter_member}
 
@@ -28,6 +30,18 @@ pub record TellsValues (nodes me : ℕ) (full : Bool) (due : List ℕ) (own : Li
 filter_map_members : (f g : ℕ → Option ℤ) (ms : List ℕ) → ((q : ℕ) → has_id ms q ≡ true → f q ≡ g q) → filter_map f ms ≡ filter_map g ms
 filter_map_members f g [] h = refl
 filter_map_members f g (q ∷ ms) h = ap₂ cons_option (h q (or_left (q == q) (has_id ms q) (eq-eqb q q refl))) (filter_map_members f g ms (λ x on. h x (or_right (q == x) (has_id ms x) on)))
+
+-- the vote of a group over a list of the values of a channel that nodes told
+pub grouped : (values : List (Option ℤ)) (told : List (Option (List ℤ))) (f : ℕ → Bool) (n lies c : ℕ) → ((q : ℕ) → q < n → slice_index_or values q None ≡ value_told told q c)
+    → group_vote_of (ids_where f n) values lies ≡ vote_among told (ids_where f n) lies c
+grouped values told f n lies c is =
+    ap (λ (vs : List ℤ). vote_of vs lies) (filter_map_members (value_of values) (λ q. value_told told q c) (ids_where f n) (λ q on. is q (below q on)))
+  where
+    below : (q : ℕ) → has_id (ids_where f n) q ≡ true → q < n
+    below q on = elim (cases_lt q n) [
+      | inl low ↦ low
+      | inr high ↦ absurd (both_ways _ (hasnt-filter f n q high) on)
+    ]
 
 -- the votes
 pub votes_are : {N : ℕ} (config : Config N) (me : ℕ) (full : Bool) (a : AgreedView) (done : List (Wrapped ℕ)) (due : List ℕ) (own : List (Option ℤ)) (w : Watch) (told : List (Option (List ℤ))) → TellsValues config.nodes me full due own w told → IsIdSet config.nodes a.standing.members

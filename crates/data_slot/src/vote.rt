@@ -1,6 +1,7 @@
 //! The votes on the due channels, and who is off.
 
-ghost use Rattle.std.specs.Prelude.{◌≡◌, ◌<◌, ◌==◌, ◌&&◌, All, IsSome, None, false, length, not};
+ghost use Rattle.std.specs.Prelude.{◌≡◌, ℕ, ◌<◌, ◌==◌, ◌&&◌, All, IsSome, None, false, length};
+ghost use Rattle.std.specs.Prelude.{not, slice_index_or};
 ghost use Rattle.node_grid.specs.Capacity.{IsCapacity};
 ghost use Rattle.node_grid.specs.NodeSet.{IsIdSet, ids_where};
 ghost use Rattle.agreed_state.specs.Agreed.{IsAgreed};
@@ -12,6 +13,7 @@ ghost use Rattle.data_slot.specs.Values.{by_channel, only_values};
 ghost use Rattle.data_slot.specs.Votes.{is_off, vote_among, vote_due, vote_over};
 
 use agreed_state::{Agreed, Config};
+use copy_vote::group_vote;
 use error_detect::SlotWatch;
 use mme_vote::{Channel, deviates, vote_of_members};
 use node_grid::NodeSet;
@@ -113,6 +115,19 @@ fn value_told<const N: usize>(told: &[Option<[i64; 8]>; N], q: u8, c: u8) -> Opt
     }
 }
 
+/// The values of a channel that nodes told, by node.
+fn values_told<const N: usize>(told: &[Option<[i64; 8]>; N], c: u8) -> [Option<i64>; N]
+    requires capacity { IsCapacity N }
+    requires channel { c < 8 }
+    ensures { (q : ℕ) → q < N → slice_index_or result q None ≡ value_told told.now q c }
+{
+    let mut values = [None; N];
+    for q in 0..N as u8 {
+        values[q as usize] = value_told(told, q, c);
+    }
+    values
+}
+
 /// The vote on a channel, over the values that these members told.
 fn vote_among<const N: usize>(
     told: &[Option<[i64; 8]>; N],
@@ -152,7 +167,7 @@ fn vote_over<const N: usize>(
     match channel {
         Channel::Copy { task, lies, .. } => {
             let group = agreed.passed_after(config, claims, *task);
-            vote_among(told, &group, *lies, c)
+            group_vote(&group, &values_told(told, c), *lies)
         }
         Channel::State { .. } | Channel::Sensor { .. } => {
             vote_among(told, &agreed.members, config.m, c)

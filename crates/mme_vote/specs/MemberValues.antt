@@ -9,6 +9,7 @@ use Rattle.node_grid.specs.declared.class.Class.TheVariants.{N, J, B, S, A}
 use Rattle.node_grid.specs.Class.{is_nonfaulty, is_silent, is_symmetric, is_asymmetric, IsWithin}
 use Rattle.node_grid.specs.NodeSet.{has_id}
 use Rattle.node_grid.specs.Count.{bit, count}
+use Rattle.mme_vote.specs.Members.{if_test}
 
 pub has_first : (k : ℕ) (ks : List ℕ) → has_id (k ∷ ks) k ≡ true
 has_first k ks = or_left _ _ (eq-eqb k k refl)
@@ -70,3 +71,11 @@ All-cons_option P (Some v) xs h all = All-cons P v xs (h v refl) all
 pub All-values : (P : ℤ → Type 0) (f : ℕ → Option ℤ) (qs : List ℕ) → ((q : ℕ) (v : ℤ) → has_id qs q ≡ true → f q ≡ Some v → P v) → All P (filter_map f qs)
 All-values P f [] h = All-nil P
 All-values P f (q ∷ qs) h = All-cons_option P (f q) (filter_map f qs) (λ v e. h q v (has_first q qs) e) (All-values P f qs (λ x v on e. h x v (has_later x q qs on) e))
+
+-- a value that is taken of nonfaulty members alone is that member's own
+pub good_value : (c : Class) (v : Option ℤ) (x own : ℤ) → (c ≡ N → v ≡ Some own) → if_test (is_nonfaulty c) v ≡ Some x → (c ≡ N) × (own ≡ x)
+good_value N v x own h e = let f = h refl in (refl, cc)
+good_value J v x own h e = cc
+good_value B v x own h e = cc
+good_value S v x own h e = cc
+good_value A v x own h e = cc

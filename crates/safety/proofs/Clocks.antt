@@ -14,12 +14,13 @@ use Rattle.mme_vote.specs.Moved.{AreNear}
 use Rattle.clock_skew.specs.Clock.{ClockView, number_at, drift_at, error_at, lie_at}
 use Rattle.clock_skew.specs.Correction.{is_own, read_of, voted}
 use Rattle.clock_skew.specs.Skew.{Reads, ReadAlike, AreRead, SkewLaw, DriftLaw}
+use Rattle.clock_skew.specs.Reading.{reading_at}
 use Rattle.protocol.specs.Arrival.{is_good}
 use Rattle.protocol.specs.View.{synced_by, Mode, View, through}
 use Rattle.protocol.specs.Run.{members_in}
 use Rattle.protocol.specs.Cluster.{Cluster}
 use Rattle.protocol.specs.Safe.{Classing}
-use Rattle.protocol.specs.Clocks.{reading_at, readings_at, corrects, correction_at, corrected, offsets, AreClocks, ClocksNear}
+use Rattle.protocol.specs.Clocks.{readings_at, corrects, correction_at, corrected, offsets, AreClocks, ClocksNear}
 use Rattle.safety.specs.Given.{Started, IsHere}
 use Rattle.safety.specs.Views.{StartLaw, StepLaw}
 use Rattle.safety.specs.Runs.{ReceptionLaw}

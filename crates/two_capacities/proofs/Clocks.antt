@@ -6,6 +6,7 @@ use Rattle.std.proofs.lemmas.List.{length-map}
 use Rattle.node_grid.specs.NodeSet.{has_id}
 use Rattle.clock_skew.specs.Clock.{ClockView, number_at, row_at, drift_at, lie_at}
 use Rattle.clock_skew.specs.Correction.{is_own, voted, correction_of}
+use Rattle.clock_skew.specs.Reading.{reading_at}
 use Rattle.fault_classes.specs.Plan.{Plan}
 use Rattle.agreed_state.specs.declared.config.Config.{Config}
 use Rattle.agreed_state.specs.declared.config.Inputs.{Inputs}
@@ -13,7 +14,7 @@ use Rattle.protocol.specs.View.{View, Mode}
 use Rattle.protocol.specs.View.Mode.{Full, Joining, Cold}
 use Rattle.protocol.specs.Cluster.{view}
 use Rattle.protocol.specs.Run.{System, members_in, run}
-use Rattle.protocol.specs.Clocks.{reading_at, readings_at, corrects, correction_at, corrected, offsets}
+use Rattle.protocol.specs.Clocks.{readings_at, corrects, correction_at, corrected, offsets}
 use Rattle.two_capacities.specs.Wider.{wide_config, system_over, longer, wide_clock}
 use Rattle.two_capacities.proofs.Lists.{get_padded, tab_padded}
 use Rattle.two_capacities.proofs.Runs.{members_wide, believed_wide}

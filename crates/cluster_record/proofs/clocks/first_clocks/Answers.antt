@@ -7,7 +7,7 @@ use Rattle.protocol.specs.Run.{run, classes}
 use Rattle.protocol.specs.Clocks.{AreClocks}
 use Rattle.scenario.specs.Scenario.{ScenarioView, system_of}
 use Rattle.cluster_periods.specs.Record.{offsets_in}
-use Rattle.cluster_record.specs.Clocking.{start_of}
+use Rattle.clock_skew.specs.Reading.{start_of}
 use Rattle.cluster_record.proofs.Clocking.{starts_are}
 use Rattle.cluster_record.proofs.clocks.first_clocks.Goals as goal
 

@@ -12,7 +12,8 @@ use Rattle.node_steps.specs.Stages.{outcome_of}
 use Rattle.scenario.specs.Scenario.{ScenarioView, system_of}
 use Rattle.cluster_periods.specs.Record.{ClockShown, by_node, offsets_in, clock_in}
 use Rattle.cluster_record.specs.Shown.{clock_shown}
-use Rattle.cluster_record.specs.Clocking.{AreOthers, correction_by, moved}
+use Rattle.clock_skew.specs.Reading.{moved}
+use Rattle.cluster_record.specs.Clocking.{AreOthers, correction_by}
 use Rattle.cluster_record.proofs.Clocking.{AreAtHand, at_hand, others, corrections_are, moved_are}
 use Rattle.cluster_record.proofs.clocks.next_clocks.Goals as goal
 

@@ -1,4 +1,4 @@
-use Rattle.std.proofs.Common.{rules, ◌≡◌, ◌<◌, w64, ℕ, List, length, get_or, arith, ap, subst, sym, refl, ◌∙◌}
+use Rattle.std.proofs.Common.{◌≡◌, ◌<◌, w64, ℕ, List, length, get_or, arith, ap, subst, sym, refl, ◌∙◌}
 use Rattle.data_slot.specs.Votes.{is_off}
 use Rattle.std.proofs.lemmas.List.{take_all}
 use Rattle.mme_vote.specs.declared.channel.Channel.{Channel}

@@ -2,7 +2,9 @@ use Rattle.std.proofs.Common.{ℕ, List, length, subst, sym, ap, ◌∙◌, lit<
 use Rattle.node_grid.specs.Capacity.{IsCapacity}
 use Rattle.mme_vote.specs.declared.channel.Channel.{Channel}
 use Rattle.agreed_state.specs.Config.{IsChannel}
-use Rattle.data_slot.specs.Votes.{vote_among, vote_over}
+use Rattle.copy_vote.specs.Group.{group_vote_of}
+use Rattle.data_slot.specs.Votes.{vote_over}
+use Rattle.data_slot.proofs.Voting.{grouped}
 use Rattle.data_slot.proofs.vote.vote_over.Goals as goal
 
 pub passed_after-group-requires : goal.passed_after-group-requires
@@ -19,6 +21,18 @@ passed_after-group-requires g c =
       ),
     )
 
+pub group_vote-requires : goal.group_vote-requires
+group_vote-requires g c =
+    let cap : IsCapacity g.row.N = c.requires.capacity in
+    (lit< tt, (elim cap [ inl e ↦ rw e (lit< tt) | inr e ↦ rw e (lit< tt) ], cap))
+
+pub values_told-requires : goal.values_told-requires
+values_told-requires g c =
+    let cap : IsCapacity g.row.N = c.requires.capacity in (
+      elim cap [ inl e ↦ rw e (lit< tt) | inr e ↦ rw e (lit< tt) ],
+      (elim cap [ inl e ↦ rw e (lit< tt) | inr e ↦ rw e (lit< tt) ], (cap, c.requires.number)),
+    )
+
 pub vote_among-requires : goal.vote_among-requires
 vote_among-requires g c =
     let cap : IsCapacity g.row.N = c.requires.capacity in (
@@ -26,14 +40,9 @@ vote_among-requires g c =
       (lit< tt, (cap, c.requires.number)),
     )
 
-pub vote_among-requires-in-State : goal.vote_among-requires-in-State
-vote_among-requires-in-State g c =
-    let cap : IsCapacity g.row.N = c.requires.capacity in (
-      elim cap [ inl e ↦ rw e (lit< tt) | inr e ↦ rw e (lit< tt) ],
-      (lit< tt, (cap, c.requires.number)),
-    )
-
 pub returns-in-Copy : goal.returns-in-Copy
 returns-in-Copy g c =
-    c.vote_among.ensures ∙ ap (λ (group : List ℕ). vote_among c.args.told.now group c.in-Copy.lies c.args.c) c.passed_after-group.ensures
+    let n : ℕ = g.row.N in
+    c.group_vote.ensures.vote ∙ ap (λ (group : List ℕ). group_vote_of group c.values_told.result c.in-Copy.lies) c.passed_after-group.ensures
+    ∙ grouped c.values_told.result c.args.told.now _ n c.in-Copy.lies c.args.c c.values_told.ensures
     ∙ sym (ap (λ (ch : Channel g.row.N). vote_over c.args.config.now c.args.agreed.now c.args.claims.now c.args.told.now ch c.args.c) c.in-Copy.is)

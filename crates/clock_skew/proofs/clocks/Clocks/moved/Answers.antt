@@ -3,9 +3,9 @@ use Rattle.std.proofs.lemmas.Bool.{cond-true}
 use Rattle.std.specs.Prelude.{slice_index_or}
 use Rattle.clock_skew.specs.Clock.{drift_at}
 use Rattle.clock_skew.specs.Correction.{IsReading}
-use Rattle.cluster_record.specs.Clocking.{IsOffset}
-use Rattle.cluster_record.proofs.Sums.{number_is, zero_offset, zero_reading, zero_error, corrected_fits, drift_fits, drifted_is}
-use Rattle.cluster_record.proofs.clocks.Clocks.moved.Goals as goal
+use Rattle.clock_skew.specs.Reading.{IsOffset}
+use Rattle.clock_skew.proofs.Sums.{number_is, zero_offset, zero_reading, zero_error, corrected_fits, drift_fits, drifted_is}
+use Rattle.clock_skew.proofs.clocks.Clocks.moved.Goals as goal
 
 pub bounds-self-i : goal.bounds-self-i
 bounds-self-i g c = omega (arith, c.if-i-self.false, c.requires.steady.nodes, c.requires.steady.clock.nodes)

@@ -1,9 +1,9 @@
 use Rattle.std.proofs.Common.{rules, w64, inl, inr, lit<, arith}
 use mir.Val.{SFits}
 use Rattle.std.proofs.lemmas.List.{length-replicate}
-use Rattle.cluster_record.specs.Clocking.{moved}
-use Rattle.cluster_record.proofs.Written.{none_written, more_written, all_written}
-use Rattle.cluster_record.proofs.clocks.Clocks.all_moved.Goals as goal
+use Rattle.clock_skew.specs.Reading.{moved}
+use Rattle.clock_skew.proofs.Written.{none_written, more_written, all_written}
+use Rattle.clock_skew.proofs.clocks.Clocks.all_moved.Goals as goal
 
 pub loop-i-preserved : goal.loop-i-preserved
 loop-i-preserved g c =

@@ -7,7 +7,7 @@ use Rattle.std.proofs.lemmas.List.{get_or_past}
 use Rattle.std.proofs.lemmas.List.Elements.{All-get_or}
 use Rattle.clock_skew.specs.Clock.{IsUpTo, IsBound}
 use Rattle.clock_skew.specs.Correction.{IsReading}
-use Rattle.cluster_record.specs.Clocking.{IsOffset}
+use Rattle.clock_skew.specs.Reading.{IsOffset}
 
 -- what is written and read back
 abbrev stored : ℤ → ℤ

@@ -1,10 +1,10 @@
 use Rattle.std.proofs.Common.{inl, inr, lit<, arith}
 use Rattle.clock_skew.specs.Correction.{IsReading}
 use Rattle.std.proofs.lemmas.List.{length-replicate}
-use Rattle.cluster_record.specs.Clocking.{read_by}
-use Rattle.cluster_record.proofs.Sums.{reading_fits}
-use Rattle.cluster_record.proofs.Written.{none_written, more_written, all_written, all_hold}
-use Rattle.cluster_record.proofs.clocks.Clocks.readings.Goals as goal
+use Rattle.clock_skew.specs.Reading.{read_by}
+use Rattle.clock_skew.proofs.Sums.{reading_fits}
+use Rattle.clock_skew.proofs.Written.{none_written, more_written, all_written, all_hold}
+use Rattle.clock_skew.proofs.clocks.Clocks.readings.Goals as goal
 
 pub loop-j-preserved : goal.loop-j-preserved
 loop-j-preserved g c =
@@ -35,4 +35,10 @@ pub overflow_cast-j-end : goal.overflow_cast-j-end
 overflow_cast-j-end g c = elim c.requires.steady.capacity [ inl e ↦ omega (arith, e) | inr e ↦ omega (arith, e) ]
 
 pub reading-requires : goal.reading-requires
-reading-requires g c = (lit< tt, (c.requires.steady, c.requires.reader))
+reading-requires g c = (
+  lit< tt,
+  (
+    elim c.requires.steady.capacity [ inl e ↦ rw e (lit< tt) | inr e ↦ rw e (lit< tt) ],
+    (c.requires.steady, (c.requires.reader, (c.lies_to-lies.ensures.lies, c.lies_to-lies.ensures.range))),
+  ),
+)

@@ -1,8 +1,8 @@
 use Rattle.std.proofs.Common.{rules, w64}
 use mir.Val.{SFits}
-use Rattle.cluster_record.specs.Clocking.{start_of}
-use Rattle.cluster_record.proofs.Written.{more_written, all_written}
-use Rattle.cluster_record.proofs.clocks.starts.Goals as goal
+use Rattle.clock_skew.specs.Reading.{start_of}
+use Rattle.clock_skew.proofs.Written.{more_written, all_written}
+use Rattle.clock_skew.proofs.clocks.starts.Goals as goal
 
 pub loop-i-preserved : goal.loop-i-preserved
 loop-i-preserved g c =

@@ -1,0 +1,7 @@
+use Rattle.clock_skew.specs.Correction.{IsReading}
+use Rattle.cluster_record.specs.Clocking.{correction_by}
+use Rattle.clock_skew.proofs.Written.{AreWritten}
+use Rattle.cluster_record.proofs.clocks.corrections.Given as goal
+
+abbrev pub invariant-loop-i : goal.invariant-loop-i
+invariant-loop-i g l = AreWritten IsReading (correction_by g.row.N l.clocks.plan.now l.m l.clocks.offset.now l.clocks.period l.records) g.row.N l.i l.corrections
