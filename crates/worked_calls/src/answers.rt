@@ -1,0 +1,36 @@
+//! Answers of the calls as words.
+
+use node_grid::NodeSet;
+use omh_paths::{Path, Wrapped};
+use std::fmt::{self, Display, Formatter, Write};
+
+/// A wrapped value: the value, or `fault K`.
+#[derive(Clone, Copy)]
+pub struct Said(pub Wrapped<u8>);
+
+impl Display for Said {
+    fn fmt<W: Write>(&self, f: &mut Formatter<W>) -> fmt::Result {
+        match self.0 {
+            Wrapped::Plain(value) => write!(f, "plain {value}"),
+            Wrapped::Fault(count) => write!(f, "fault {count}"),
+        }
+    }
+}
+
+/// A set of nodes: its members, the least first.
+#[derive(Clone, Copy)]
+pub struct Nodes<const N: usize>(pub NodeSet<N>);
+
+impl<const N: usize> Display for Nodes<N> {
+    fn fmt<W: Write>(&self, f: &mut Formatter<W>) -> fmt::Result {
+        if self.0.is_empty() {
+            return f.write_str("nobody");
+        }
+        let mut before = "";
+        for id in self.0.iter() {
+            write!(f, "{before}{id}")?;
+            before = " ";
+        }
+        Ok(())
+    }
+}
