@@ -1,7 +1,7 @@
 //! Answers of the calls as words.
 
 use node_grid::NodeSet;
-use omh_paths::{Path, Wrapped};
+use omh_paths::Wrapped;
 use std::fmt::{self, Display, Formatter, Write};
 
 /// A wrapped value: the value, or `fault K`.
@@ -17,7 +17,7 @@ impl Display for Said {
     }
 }
 
-/// A set of nodes: its members, the least first.
+/// A set of nodes: `nodes` and its members, the least first, or `nobody`.
 #[derive(Clone, Copy)]
 pub struct Nodes<const N: usize>(pub NodeSet<N>);
 
@@ -26,10 +26,9 @@ impl<const N: usize> Display for Nodes<N> {
         if self.0.is_empty() {
             return f.write_str("nobody");
         }
-        let mut before = "";
+        f.write_str("nodes")?;
         for id in self.0.iter() {
-            write!(f, "{before}{id}")?;
-            before = " ";
+            write!(f, " {id}")?;
         }
         Ok(())
     }

@@ -4,12 +4,16 @@ use penalty::{Counts, Policy};
 use std::io;
 use worked_rows::{Several, row};
 
-/// Weight 5 of the first kind, and 9 of the eighth.
-fn policy() -> Policy {
+fn show(rt: &HostRuntime, asked: &str, counts: &Counts<8>) -> io::Result<()> {
+    row(rt, asked, Several(&counts.counts[..4]))?;
+    row(rt, "  streaks", Several(&counts.streaks[..4]))
+}
+
+pub fn print(rt: &HostRuntime) -> io::Result<()> {
     let mut weights = [0; 16];
     weights[0] = 5;
     weights[7] = 9;
-    Policy {
+    let policy = Policy {
         weights,
         exclude: 10,
         readmit: 8,
@@ -17,16 +21,7 @@ fn policy() -> Policy {
         streak: 2,
         cap: 20,
         retire: 0,
-    }
-}
-
-fn show(rt: &HostRuntime, asked: &str, counts: &Counts<8>) -> io::Result<()> {
-    row(rt, asked, Several(&counts.counts[..4]))?;
-    row(rt, "  streaks", Several(&counts.streaks[..4]))
-}
-
-pub fn print(rt: &HostRuntime) -> io::Result<()> {
-    let policy = policy();
+    };
     let mut counts: Counts<8> = Counts::zero();
     let mut charged = [0; 8];
     charged[1] = 129;

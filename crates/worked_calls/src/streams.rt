@@ -1,5 +1,7 @@
 //! Sources and sinks in memory and over readers and writers.
 
+ghost use Rattle.std.specs.Prelude.{◌≤◌};
+
 use span_io::{
     Failed, MemSink, MemSource, ReadError, Sink, Source, StdSink, StdSource, read_all, write_all,
 };
@@ -19,12 +21,9 @@ fn numbers(alloc: Global, list: &[u64]) -> Result<Vec<u64>, AllocError> {
 }
 
 /// Prints how many bytes a source gives, or why it doesn't.
-fn read<S: Source>(
-    rt: &HostRuntime,
-    asked: &str,
-    source: &mut S,
-    most: usize,
-) -> anyhow::Result<()> {
+fn read<S: Source>(rt: &HostRuntime, asked: &str, source: &mut S, most: usize) -> anyhow::Result<()>
+    requires { most ≤ 10000 }
+{
     match read_all(rt.alloc(), source, most) {
         Ok(bytes) => row(rt, asked, bytes.len())?,
         Err(error) => println!(rt; "{asked}: {error}")?,

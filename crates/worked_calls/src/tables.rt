@@ -1,59 +1,134 @@
-//! What one node heard of an item and settles: the plain table.
+//! What one node heard of an item and settles, in the plain table.
 
-ghost use Rattle.std.specs.Prelude.{◌≡◌};
+ghost use Rattle.std.specs.Prelude.{◌≡◌, ◌≢◌, ◌<◌, ◌≤◌, ◌+◌};
+ghost use Rattle.node_grid.specs.NodeSet.{without_id};
+ghost use Rattle.omh_paths.specs.declared.wrapped.Wrapped.TheVariants.{Fault};
 
 use crate::answers::Said;
 use node_grid::NodeSet;
 use omh::Table;
-use omh_paths::{Path, Wrapped};
+use omh_paths::{Wrapped, count_paths, unrank};
 use std::alloc::AllocError;
 use worked_rows::row;
 
-/// A table of four nodes with one relay round, of which all are members.
-fn begin(rt: &HostRuntime, me: u8, full: bool) -> anyhow::Result<Table<u8, 8>> {
-    let Ok(mut table) = Table::open(rt.alloc(), 4, 1) else {
+/// Puts what was heard for the path at this place among those of so many of the others, if there is one.
+fn put(table: &mut Table<u8, 8>, others: &NodeSet<8>, len: u8, place: usize, value: Wrapped<u8>)
+    requires some { 0 < len }
+    requires few { len ≤ 4 }
+    requires short { len ≤ table.old.rounds + 1 }
+    requires others { others.now ≡ without_id table.old.members table.old.me }
+    requires known { value ≢ Fault 255 }
+    ensures { table.new ≡ record table.old { heard = table.new.heard } }
+{
+    let count = others.len();
+    if place < count_paths(count, len) {
+        let path = unrank(others, len, place);
+        table.put(&path, value);
+    }
+}
+
+/// What the node passes on of the path at this place among those of so many of the others, if there is one.
+fn passed_on(
+    table: &Table<u8, 8>,
+    others: &NodeSet<8>,
+    len: u8,
+    place: usize,
+) -> Option<Wrapped<u8>>
+    requires some { 0 < len }
+    requires few { len ≤ 4 }
+    requires short { len ≤ table.now.rounds + 1 }
+    requires others { others.now ≡ without_id table.now.members table.now.me }
+{
+    let count = others.len();
+    if place < count_paths(count, len) {
+        let path = unrank(others, len, place);
+        return Some(table.relay(&path));
+    }
+    None
+}
+
+/// What comes from a node that relays what it heard.
+#[derive(Clone, Copy)]
+enum Relay {
+    /// This value.
+    Value(u8),
+    /// That it heard nothing.
+    Error,
+    /// Nothing comes.
+    Nothing,
+}
+
+impl Relay {
+    /// As what is heard for the path through that node.
+    fn heard(self) -> Wrapped<u8>
+        ensures { result ≢ Fault 255 }
+    {
+        match self {
+            Relay::Value(value) => Wrapped::Plain(value),
+            Relay::Error => Wrapped::Fault(1),
+            Relay::Nothing => Wrapped::Fault(0),
+        }
+    }
+}
+
+/// What a node of four with one relay round hears: of node 3 itself, and of it from each of the two other nodes.
+#[derive(Clone, Copy)]
+struct Hears {
+    me: u8,
+    full: bool,
+    told: u8,
+    relays: [Relay; 2],
+}
+
+/// What the node settles of node 3.
+fn settled(rt: &HostRuntime, asked: &str, hears: &Hears) -> anyhow::Result<()>
+    requires { hears.now.me < 3 }
+{
+    let members: NodeSet<8> = NodeSet::full(4);
+    let Ok(mut table) = Table::<u8, 8>::open(rt.alloc(), 4, 1) else {
         return Err(AllocError.into());
     };
-    table.start(&NodeSet::full(4), me, full, Wrapped::Plain(0));
-    Ok(table)
-}
-
-fn wrapped_errors(rt: &HostRuntime) -> anyhow::Result<()> {
-    let mut table = begin(rt, 0, true)?;
-    table.put(&Path::root(3), Wrapped::Plain(9));
-    table.put(&Path::root(3).then(1), Wrapped::Fault(1));
-    table.put(&Path::root(3).then(2), Wrapped::Fault(1));
-    row(
-        rt,
-        "heard 9 of node 3, and from 1 and 2 that nothing came",
-        Said(table.settle(3)),
-    )?;
-    Ok(())
-}
-
-fn own_values(rt: &HostRuntime) -> anyhow::Result<()> {
-    for full in [false, true] {
-        let mut table = begin(rt, 2, full)?;
-        table.put(&Path::root(3), Wrapped::Plain(1));
-        table.put(&Path::root(3).then(0), Wrapped::Plain(7));
-        let asked = if full {
-            "node 2, full, heard 1 of node 3, and from 0 that it said 7"
-        } else {
-            "node 2, joining, heard 1 of node 3, and from 0 that it said 7"
-        };
+    table.start(&members, hears.me, hears.full, Wrapped::Plain(0));
+    let others = members.without(hears.me);
+    if let Some(before) = passed_on(&table, &others, 1, 2) {
+        row(
+            rt,
+            "nothing was heard of node 3: of it is passed on",
+            Said(before),
+        )?;
+    }
+    put(&mut table, &others, 1, 2, Wrapped::Plain(hears.told));
+    put(&mut table, &others, 2, 4, hears.relays[0].heard());
+    put(&mut table, &others, 2, 5, hears.relays[1].heard());
+    if members.has(3) {
         row(rt, asked, Said(table.settle(3)))?;
     }
     Ok(())
 }
 
 pub fn print(rt: &HostRuntime) -> anyhow::Result<()> {
-    wrapped_errors(rt)?;
-    own_values(rt)?;
-    let table = begin(rt, 0, true)?;
-    row(
+    let wrapped = Hears {
+        me: 0,
+        full: true,
+        told: 9,
+        relays: [Relay::Error, Relay::Error],
+    };
+    settled(
         rt,
-        "nothing heard of node 3, relayed",
-        Said(table.relay(&Path::root(3))),
+        "node 0 heard 9 of node 3, and from 1 and 2 that nothing came: it settles",
+        &wrapped,
     )?;
-    Ok(())
+    let mut own = Hears {
+        me: 2,
+        full: false,
+        told: 1,
+        relays: [Relay::Value(7), Relay::Nothing],
+    };
+    settled(
+        rt,
+        "node 2, joining, heard 1 of node 3, and from 0 that it said 7",
+        &own,
+    )?;
+    own.full = true;
+    settled(rt, "the same, full", &own)
 }

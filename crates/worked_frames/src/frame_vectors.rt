@@ -1,5 +1,7 @@
 //! A frame of each kind, read and written again, cut, with a byte more, and damaged.
 
+ghost use Rattle.std.specs.Prelude.{◌<◌, ◌≤◌};
+
 use frames::{Body, Expect, Frame, decode, encode};
 use node_grid::NodeSet;
 use std::io;
