@@ -12,7 +12,7 @@ use Rattle.frames.specs.Spelling.{IsInRange}
 use Rattle.agreed_state.specs.Agreed.{AgreedView, IsAgreed}
 use Rattle.agreed_state.specs.Body.{body}
 use Rattle.slot_plan.specs.Slots.{slot_count}
-use Rattle.protocol.specs.Arrival.{state_in, values_in, Form, claim_form, row_form}
+use Rattle.protocol.specs.Arrival.{body_said, values_in, ItemForm, claim_form, row_form}
 use Rattle.protocol.specs.Arrival.Arrival.{Good}
 use Rattle.protocol.specs.Heard.{Rounds}
 use Rattle.protocol.specs.Talk.{arrives}
@@ -86,8 +86,8 @@ module _ (sys : System) (given : IsAccepted sys) (states : StateLaws sys.setting
   -- each state comes as it is said
   state_comes : 0 < slots → (j i : ℕ) → j < sys.setting.config.nodes → i < sys.setting.config.nodes → j ≢ i → ((run sys).received i p).sync j ≡ Good (body sys.setting.config a)
   state_comes within j i lj li ne =
-      ap (λ (o : Option AgreedView). arrives state_in (change_at sys p 0 j i) (expectation sys p 0 j [] 0) (expectation sys p 0 j [] 0) (state_content sys.setting o)) (calm.goes j lj)
-      ∙ arrives_clean grammar state_in (change_at sys p 0 j i) (expectation sys p 0 j [] 0) (expectation sys p 0 j [] 0) (State (body sys.setting.config a)) (body sys.setting.config a)
+      ap (λ (o : Option AgreedView). arrives body_said (change_at sys p 0 j i) (expectation sys p 0 j [] 0) (expectation sys p 0 j [] 0) (state_content sys.setting o)) (calm.goes j lj)
+      ∙ arrives_clean grammar body_said (change_at sys p 0 j i) (expectation sys p 0 j [] 0) (expectation sys p 0 j [] 0) (State (body sys.setting.config a)) (body sys.setting.config a)
       (calm.untouched 0 j i within lj li ne) refl (state_in_range sys given states p j a agreed) refl
 
   -- ---- items that are relayed
@@ -97,7 +97,7 @@ module _ (sys : System) (given : IsAccepted sys) (states : StateLaws sys.setting
   state_valid i = before_valid sys.setting given.capacity given.config i p (sys.inputs i p) (goes_in sys p i) (after_sync sys p (goes_in sys p) i) (goes_in sys p i).state (valid sys given states p i)
 
   -- the links of the slots of one item, from its first slot on
-  fits_from : {V : Type 0} (form : Form V) (first : ℕ) (expects : ℕ → ℕ → List ℕ → Expectation) (item : ℕ → V) → ((r : ℕ) → r ≤ sys.setting.config.m → first + r < slots)
+  fits_from : {V : Type 0} (form : ItemForm V) (first : ℕ) (expects : ℕ → ℕ → List ℕ → Expectation) (item : ℕ → V) → ((r : ℕ) → r ≤ sys.setting.config.m → first + r < slots)
       → TalkFits (record { form = form; change = λ r. change_at sys p (first + r); expect = expects; members = members_of sys p (goes_in sys p); full = full_at sys p (goes_in sys p); item = item }) sys.setting.config.m a.standing.members (class_in sys.setting.config.nodes)
   fits_from form first expects item within = record {
     changes = λ r j i. effect_fits sys.plan given.plan p (first + r) j i;

@@ -20,7 +20,7 @@ use Rattle.protocol.specs.Arrival.{Arrival, is_good, is_bad}
 use Rattle.protocol.specs.Arrival.Arrival.{Good}
 use Rattle.protocol.specs.Heard.{rounds_bad}
 use Rattle.protocol.specs.RowLaws.{mask-zero}
-use Rattle.protocol.specs.View.{Setting, Kept, Received, channel, channel_room, synced_by, own_in, value_of, value_in, value_from, value_at, voters, tolerated, vote_on, votes_on, is_far, deviates, other_body, by_kind, is_further, noted, row_by, empty_row}
+use Rattle.protocol.specs.View.{Setting, Kept, Received, channel, channel_room, synced_by, own_in, value_of, value_in, value_from, value_at, voters, lies_tolerated, vote_on, votes_on, is_far, deviates, other_body, by_kind, is_further, noted, row_by, empty_row}
 use Rattle.safety.proofs.Lists.{map_below}
 use Rattle.safety.proofs.Sync.{bytes_exact}
 use Rattle.calm_law.proofs.Items.{if_same}
@@ -119,7 +119,7 @@ module _ (s : Setting) (a : AgreedView) (said : ℕ → Said) (i : ℕ) (x : Rec
   vote_same : ((q : ℕ) → has_id a.standing.members q ≡ true → q < s.config.nodes) → (c : ℕ) → has_id (calm_due s a said) c ≡ true
       → vote_on s i true a (calm_claims s a said) (calm_due s a said) (said i).own x c ≡ calm_vote s a said c
   vote_same below c due =
-      ap (λ (xs : List ℤ). vote_of xs (tolerated s (channel s c)))
+      ap (λ (xs : List ℤ). vote_of xs (lies_tolerated s (channel s c)))
       (all_kept (value_from i true (calm_due s a said) (said i).own x c) (λ q. own_in (said q).own c) (voters s a (calm_claims s a said) (channel s c))
       (λ q on. value_of_each q c (below q (voters_are_members s a (calm_claims s a said) (channel s c) q on)) due))
 

@@ -9,7 +9,7 @@ use Rattle.mme_vote.specs.Vote.{vote_of}
 use Rattle.list_scheduler.specs.Schedule.{verdict}
 use Rattle.error_reports.specs.Charge.{accuses}
 use Rattle.agreed_state.specs.Agreed.{AgreedView, agreed_after}
-use Rattle.protocol.specs.View.{Setting, as_claim, channel, channel_room, due_channels, own_in, voters, tolerated, is_far, value_at, by_kind, row_by, empty_row, Mode, View}
+use Rattle.protocol.specs.View.{Setting, as_claim, channel, channel_room, due_channels, own_in, voters, lies_tolerated, is_far, value_at, by_kind, row_by, empty_row, Mode, View}
 
 -- what a node says in the period: its claim and its own values; and what it carried over from the period before
 pub record Said : Type 0 where
@@ -32,7 +32,7 @@ module _ (s : Setting) (a : AgreedView) (said : ℕ → Said) where
 
   -- a vote is one over the values of all who have a part in it
   abbrev pub calm_vote : ℕ → Option ℤ
-  calm_vote c = vote_of (map (λ q. own_in (said q).own c) (voters s a calm_claims (channel s c))) (tolerated s (channel s c))
+  calm_vote c = vote_of (map (λ q. own_in (said q).own c) (voters s a calm_claims (channel s c))) (lies_tolerated s (channel s c))
 
   -- the votes by channel, with none of those that aren't due
   abbrev pub calm_votes : List (Option ℤ)

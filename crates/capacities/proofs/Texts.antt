@@ -16,7 +16,7 @@ use Rattle.fault_classes.specs.Plan.{Plan}
 use Rattle.agreed_state.specs.Agreed.{AgreedView}
 use Rattle.node_steps.specs.Outcome.{Outcome}
 use Rattle.cluster_periods.specs.Record.{ClockShown, PeriodView}
-use Rattle.run_text.specs.Text.{joined, numbers_text, set_text, class_text, claim_text, row_text, done_item, rows_item, mode_text, run_text, runs_text, votes_text}
+use Rattle.run_text.specs.Text.{separated, numbers_text, set_text, class_text, claim_text, row_text, done_item, rows_item, mode_text, running_text, runs_text, votes_text}
 use Rattle.run_text.specs.NodeText.{left_text, state_text, settled_text, beliefs_text, node_text}
 use Rattle.run_text.specs.PeriodText.{head_text, recorded_text, nodes_text}
 use Rattle.run_text.specs.ClockText.{sound_numbers, range_of, spread_text, signed_text, clock_text}
@@ -29,7 +29,7 @@ use Rattle.capacities.proofs.Periods.{wide_outcome, wide_shown, wide_record, Has
 
 module _ (n k : ℕ) where
   runs_wide : (copies : CopyTable) → runs_text n (wide_copies k copies) ≡ runs_text n copies
-  runs_wide copies = ap (λ (f : ℕ → Option (ℕ × ℕ)). joined (codes ",") (map (λ q. run_text (f q)) (ids_below n))) (fun_ext (works_same (wide_copies k copies) copies (copies_wide k copies)))
+  runs_wide copies = ap (λ (f : ℕ → Option (ℕ × ℕ)). separated (codes ",") (map (λ q. running_text (f q)) (ids_below n))) (fun_ext (works_same (wide_copies k copies) copies (copies_wide k copies)))
 
   left_wide : (retire : ℕ) (left : List ℕ) → left_text n retire (wide n k left) ≡ left_text n retire left
   left_wide retire left = ap (λ xs. if retire == 0 then [] else codes " left " ++ numbers_text xs) (take_wide n k left)
@@ -58,8 +58,8 @@ module _ (n k : ℕ) where
   settled_wide : (r : Outcome) → settled_text n (wide_outcome n k r) ≡ settled_text n r
   settled_wide r =
       let told = λ (done rows : ℕ → List ℕ).
-      codes "\n  done " ++ joined (codes " ") (map done r.members)
-      ++ codes "\n  rows " ++ joined (codes " ") (map rows r.members)
+      codes "\n  done " ++ separated (codes " ") (map done r.members)
+      ++ codes "\n  rows " ++ separated (codes " ") (map rows r.members)
       ++ codes "\n  votes " ++ votes_text r.votes r.due ++ codes "\n" in
       ap (λ (f : ℕ → List ℕ). told f (rows_item n (wide_rows n k r.rows))) (fun_ext (done_wide r.done))
       ∙ ap (told (done_item r.done)) (fun_ext (rows_shown r.rows))

@@ -2,7 +2,7 @@
 use Rattle.std.proofs.Common.{◌≡◌, ◌<◌, ◌^◌, ℕ, ℤ, pos, negsuc, ◌≤ℤ◌, List, w64, sym, subst, arith}
 use Rattle.std.proofs.lemmas.Int.{ints, to_z-of_z}
 use mir.Val.{SFits, to_z, of_z}
-use Rattle.clock_skew.specs.Clock.{IsBound, IsUpTo, AreUpTo, number_at, row_at}
+use Rattle.clock_skew.specs.Clock.{IsBound, IsUpTo, AreUpTo, number_at, row_in_turn}
 
 bound_fits : (z : ℤ) → IsBound z → SFits w64 z
 bound_fits (pos n) h = record { sfits = omega (arith, ints, h.1) }
@@ -23,5 +23,5 @@ still_near limit z small h = subst (IsUpTo limit) (sym (number_read limit z smal
 
 -- a number of the row whose turn it is
 pub row_near : (limit : ℤ) (nodes i turn : ℕ) (rows held : List (List ℤ))
-    → rows ≡ held → AreUpTo nodes limit (row_at held turn) → i < nodes → IsUpTo limit (number_at (row_at rows turn) i)
-row_near limit nodes i turn rows held same all low = subst (λ (rs : List (List ℤ)). IsUpTo limit (number_at (row_at rs turn) i)) (sym same) (all i low)
+    → rows ≡ held → AreUpTo nodes limit (row_in_turn held turn) → i < nodes → IsUpTo limit (number_at (row_in_turn rows turn) i)
+row_near limit nodes i turn rows held same all low = subst (λ (rs : List (List ℤ)). IsUpTo limit (number_at (row_in_turn rs turn) i)) (sym same) (all i low)

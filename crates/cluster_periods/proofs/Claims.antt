@@ -5,7 +5,7 @@ use Rattle.std.proofs.lemmas.Bool.{cases_lt, and_parts, and_from, leb-true, ltb-
 use Rattle.fault_classes.specs.declared.budget.Budget.{Budget}
 use Rattle.fault_classes.specs.Budget.{IsBudget, Holds}
 use Rattle.protocol.specs.Run.{System, run, classes}
-use Rattle.protocol.specs.Safe.{Claim, members_at, Budget as BudgetOf}
+use Rattle.protocol.specs.Safe.{Claim, members_at, KeepsBound as BudgetOf}
 use Rattle.cluster_periods.specs.Record.{holds, budget_in, within_in, claimed_before}
 
 -- where the counts hold, the members are within the budget, and the other way round

@@ -14,7 +14,7 @@ use Rattle.agreed_state.specs.Config.{IsConfig}
 use Rattle.agreed_state.specs.Agreed.{AgreedView, IsAgreed}
 use Rattle.agreed_state.specs.AgreedLaws.{first-agreed}
 use Rattle.agreed_state.specs.Body.{state_len}
-use Rattle.protocol.specs.Arrival.{arrival, state_in, claim_in, claims_in, values_in, row_in, rows_in}
+use Rattle.protocol.specs.Arrival.{arrival, body_said, claim_in, claims_in, values_in, row_in, rows_in}
 use Rattle.protocol.specs.Heard.{paths_of, with_entries}
 use Rattle.protocol.specs.View.{Setting, Kept, nothing, Received, opened}
 use Rattle.protocol.specs.Cluster.{kept, begins, view}
@@ -87,7 +87,7 @@ module _ {N : ℕ} (sc : ScenarioView N) where
       told i =
           let d = delivery sys p i in
           record {
-            sync = record { each = λ j low ne. d.sync j ∙ ap (arrival state_in (expectation sys p 0 j [] 0)) (comes 0 i j low ne) };
+            sync = record { each = λ j low ne. d.sync j ∙ ap (arrival body_said (expectation sys p 0 j [] 0)) (comes 0 i j low ne) };
             first = λ a e. record {
               each = λ j low ne. d.claim j ∙ ap₂ (λ (ms : List ℕ) (y : List Delivery). arrival claim_in (expectation sys p 1 j ms 0) y) (members_are i a e) (comes 1 i j low ne);
             };

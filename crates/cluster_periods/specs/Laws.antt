@@ -8,7 +8,7 @@ use Rattle.agreed_state.specs.Agreed.{AgreedView}
 use Rattle.protocol.specs.View.{channel}
 use Rattle.protocol.specs.Cluster.{Cluster, view}
 use Rattle.protocol.specs.Run.{System, run, classes}
-use Rattle.protocol.specs.Safe.{Classing, Budget, Claim, members_at, CopiesClose, Safe}
+use Rattle.protocol.specs.Safe.{Classing, KeepsBound, Claim, members_at, CopiesClose, Safe}
 use Rattle.protocol.specs.Clocks.{ClocksNear}
 use Rattle.safety.specs.Convictions.{ConvictionsHold}
 use Rattle.safety.specs.Convergence.{ValuesConverge, StartsConverge, ClocksSettle, StartedClocks}
@@ -19,7 +19,7 @@ use Rattle.cluster_periods.specs.Record.{period_record}
 
 -- a record tells whether its period tolerates its faults, and whether each period up to it does
 pub record TellsClaims (sys : System) (clock : Option ClockView) (p : ℕ) : Type 0 where
-  pub within : (period_record sys clock p).within ≡ true ↔ Budget (run sys) (classes sys) p
+  pub within : (period_record sys clock p).within ≡ true ↔ KeepsBound (run sys) (classes sys) p
   pub claim : (period_record sys clock p).claim ≡ true ↔ Claim (run sys) (classes sys) p
 
 abbrev pub ClaimLaw : Type 0

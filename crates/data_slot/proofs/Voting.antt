@@ -15,7 +15,7 @@ use Rattle.agreed_state.specs.Agreed.{AgreedView}
 use Rattle.error_detect.specs.Watching.{Watch}
 use Rattle.protocol.specs.Arrival.{values_in}
 use Rattle.protocol.specs.Configured.{setting_of}
-use Rattle.protocol.specs.View.{Setting, channel, deviates, is_far, own_in, tolerated, value_at, value_from, value_in, vote_on, voters, votes_on}
+use Rattle.protocol.specs.View.{Setting, channel, deviates, is_far, own_in, lies_tolerated, value_at, value_from, value_in, vote_on, voters, votes_on}
 use Rattle.noting.specs.Findings.{has_of}
 use Rattle.data_slot.specs.Values.{only_values}
 use Rattle.data_slot.specs.Told.{value_told}
@@ -50,7 +50,7 @@ unfolding votes_on by_channel
 votes_are {N} config me full a done due own w told t ids =
     let s : Setting = setting_of config in
     by_alike due (vote_due config a done told) (λ c. vote_on s me full a done due own (only_values w) c)
-    (λ c low on. ap (λ (vs : List ℤ). vote_of vs (tolerated s (channel s c)))
+    (λ c low on. ap (λ (vs : List ℤ). vote_of vs (lies_tolerated s (channel s c)))
     (filter_map_members (λ q. value_told told q c) (λ q. value_from me full due own (only_values w) c q) (voters s a done (channel s c))
     (λ q voter. t.each q c (member-lt config.nodes a.standing.members q ids (voter_member s a done (channel s c) q voter)) on)))
 

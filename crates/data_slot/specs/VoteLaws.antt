@@ -16,7 +16,7 @@ use Rattle.list_scheduler.specs.Schedule.{copies_completed}
 use Rattle.agreed_state.specs.declared.config.Config.{Config}
 use Rattle.agreed_state.specs.Agreed.{AgreedView}
 use Rattle.protocol.specs.Configured.{setting_of}
-use Rattle.protocol.specs.View.{Setting, channel, channel_room, is_far, tolerated, value_at, voters}
+use Rattle.protocol.specs.View.{Setting, channel, channel_room, is_far, lies_tolerated, value_at, voters}
 use Rattle.data_slot.specs.Told.{value_told}
 use Rattle.data_slot.specs.Values.{by_channel}
 use Rattle.data_slot.specs.Votes.{is_off, vote_due}
@@ -56,11 +56,11 @@ pub record TellAll (nodes : ℕ) (due : List ℕ) (value : ℕ → ℕ → ℤ) 
 
 -- then all voters' values are voted on
 pub all_votes : {N : ℕ} (config : Config N) (a : AgreedView) (done : List (Wrapped ℕ)) (due : List ℕ) (value : ℕ → ℕ → ℤ) (told : List (Option (List ℤ))) → TellAll config.nodes due value told → IsIdSet config.nodes a.standing.members
-    → let s = setting_of config in by_channel due (vote_due config a done told) ≡ by_channel due (λ c. vote_of (map (λ q. value q c) (voters s a done (channel s c))) (tolerated s (channel s c)))
+    → let s = setting_of config in by_channel due (vote_due config a done told) ≡ by_channel due (λ c. vote_of (map (λ q. value q c) (voters s a done (channel s c))) (lies_tolerated s (channel s c)))
 all_votes {N} config a done due value told t ids =
     let s : Setting = setting_of config in
-    by_alike due (vote_due config a done told) (λ c. vote_of (map (λ q. value q c) (voters s a done (channel s c))) (tolerated s (channel s c)))
-    (λ c low on. ap (λ (vs : List ℤ). vote_of vs (tolerated s (channel s c)))
+    by_alike due (vote_due config a done told) (λ c. vote_of (map (λ q. value q c) (voters s a done (channel s c))) (lies_tolerated s (channel s c)))
+    (λ c low on. ap (λ (vs : List ℤ). vote_of vs (lies_tolerated s (channel s c)))
     (filter_map_every (λ q. value_told told q c) (λ q. value q c) (voters s a done (channel s c))
     (λ q voter. t.each q c (member-lt config.nodes a.standing.members q ids (voter_member s a done (channel s c) q voter)) on)))
 

@@ -8,7 +8,7 @@ use Rattle.mme_vote.specs.Vote.{vote_of}
 use Rattle.agreed_state.specs.declared.config.Config.{Config}
 use Rattle.agreed_state.specs.Agreed.{AgreedView}
 use Rattle.protocol.specs.Configured.{setting_of}
-use Rattle.protocol.specs.View.{channel, is_far, tolerated, value_at, voters}
+use Rattle.protocol.specs.View.{channel, is_far, lies_tolerated, value_at, voters}
 use Rattle.data_slot.specs.Told.{value_told}
 
 -- the vote on a channel over the values that these members told
@@ -17,7 +17,7 @@ vote_among told members m c = vote_of (filter_map (λ q. value_told told q c) me
 
 -- that on a channel, among those who vote on it
 abbrev pub vote_over : {n : ℕ} → Config n → AgreedView → List (Wrapped ℕ) → List (Option (List ℤ)) → Channel n → ℕ → Option ℤ
-vote_over config a done told ch c = vote_among told (voters (setting_of config) a done ch) (tolerated (setting_of config) ch) c
+vote_over config a done told ch c = vote_among told (voters (setting_of config) a done ch) (lies_tolerated (setting_of config) ch) c
 
 -- and that on a channel by its number
 abbrev pub vote_due : {n : ℕ} → Config n → AgreedView → List (Wrapped ℕ) → List (Option (List ℤ)) → ℕ → Option ℤ

@@ -5,7 +5,7 @@ ghost use Rattle.std.specs.Prelude.{slice_index_or, true, false};
 ghost use Rattle.node_grid.specs.Capacity.{IsCapacity};
 ghost use Rattle.node_grid.specs.Count.{Distinct};
 ghost use Rattle.node_grid.specs.NodeSet.{IsIdSet, has_id};
-ghost use Rattle.frames.specs.Reading.{values_in as values_of};
+ghost use Rattle.frames.specs.Reading.{content_values as values_of};
 ghost use Rattle.frames.specs.Seen.{content};
 ghost use Rattle.agreed_state.specs.Config.{IsConfig};
 ghost use Rattle.protocol.specs.Arrival.{arrived, values_in};

@@ -13,7 +13,7 @@ use Rattle.frames.specs.Seen.{number_of}
 use Rattle.frames.specs.FrameKinds.{cold_kind}
 use Rattle.frames.specs.Content.{Expectation, Content, State, Done0, DoneRelay, Data, Report0, ReportRelay, Cold, kind, kind_in, round_in, entries_due, IsClaim, IsRow, IsValue, IsEntry}
 use Rattle.frames.specs.Spelling.{claim_spelling, relayed_row_spelling, value_spelling, body_spelling, header_spelling, spelling, head_of, IsFrame}
-use Rattle.frames.specs.Reading.{cut, claim_in, claims_in, fits_claim, row_in, relayed_row_in, rows_in, value_in, values_in, said_in, reading}
+use Rattle.frames.specs.Reading.{pieces_of_width, content_claim, content_claims, fits_claim, content_row, relayed_row_in, content_rows, content_value, content_values, content_said, reading}
 use Rattle.frames.specs.Checks.{are_written, is_claim_entry, is_row_entry, is_value, are_masks, has_state, has_claim, has_claims, has_values, has_row, has_rows, IsSaid, IsBody}
 use Rattle.frames.specs.PieceLaws.{AreBytes, length-cut, length_spelt, test_spelt, restored, IsFormat, IsTest}
 use Rattle.frames.specs.EntryLaws.{claim_fits, claim_valid, claim_format, claim_test, value_format, value_test, row_valid, row_restored, row_long, row_passes, relayed_row_format, relayed_row_test, claims_written, rows_written}
@@ -26,52 +26,52 @@ times_over width n h =
 
 -- a body of n entries of one format
 entries_said : {V : Type 0} (width : ℕ) (spell : V → List ℕ) (read : List ℕ → V) (P : V → Type 0) (test : List ℕ → Bool) → 0 < width → IsTest width spell read P test
-    → (n : ℕ) (bytes : List ℕ) → AreBytes bytes → ((length bytes == width * n) && list_all test (cut width bytes)) ≡ true
-    → (length (map read (cut width bytes)) ≡ n) × All P (map read (cut width bytes)) × (bytes ≡ flat_map spell (map read (cut width bytes)))
+    → (n : ℕ) (bytes : List ℕ) → AreBytes bytes → ((length bytes == width * n) && list_all test (pieces_of_width width bytes)) ≡ true
+    → (length (map read (pieces_of_width width bytes)) ≡ n) × All P (map read (pieces_of_width width bytes)) × (bytes ≡ flat_map spell (map read (pieces_of_width width bytes)))
 entries_said width spell read P test wide t n bytes b h =
     let l : length bytes ≡ width * n = (Decides-eqb (length bytes) (width * n)).0 (and_parts _ _ h).0 in
     let r = restored width spell read P test wide t n bytes l b (and_parts _ _ h).1 in
-    (length-map (cut width bytes) read ∙ length-cut width bytes ∙ ap (λ x. x / width) l ∙ times_over width n wide, r.1, sym r.0)
+    (length-map (pieces_of_width width bytes) read ∙ length-cut width bytes ∙ ap (λ x. x / width) l ∙ times_over width n wide, r.1, sym r.0)
 
 entries_test : {V : Type 0} (width : ℕ) (spell : V → List ℕ) (read : List ℕ → V) (P : V → Type 0) (test : List ℕ → Bool) → IsFormat width spell read P → IsTest width spell read P test
-    → (n : ℕ) (bytes : List ℕ) (xs : List V) → length xs ≡ n → All P xs → bytes ≡ flat_map spell xs → ((length bytes == width * n) && list_all test (cut width bytes)) ≡ true
+    → (n : ℕ) (bytes : List ℕ) (xs : List V) → length xs ≡ n → All P xs → bytes ≡ flat_map spell xs → ((length bytes == width * n) && list_all test (pieces_of_width width bytes)) ≡ true
 entries_test width spell read P test f t n bytes xs l a s =
     let long : length bytes ≡ width * n = ap length s ∙ length_spelt width spell read P f xs a ∙ ap (λ x. width * x) l in
-    and_from (length bytes == width * n) (list_all test (cut width bytes)) (eq-eqb (length bytes) (width * n) long)
-    (ap (λ bs. list_all test (cut width bs)) s ∙ test_spelt width spell read P test f t xs a)
+    and_from (length bytes == width * n) (list_all test (pieces_of_width width bytes)) (eq-eqb (length bytes) (width * n) long)
+    (ap (λ bs. list_all test (pieces_of_width width bs)) s ∙ test_spelt width spell read P test f t xs a)
 
-pub claims_decided : (e : Expectation) (bytes : List ℕ) → AreBytes bytes → Decides (has_claims e bytes) (IsSaid e (DoneRelay (claims_in bytes)) bytes)
+pub claims_decided : (e : Expectation) (bytes : List ℕ) → AreBytes bytes → Decides (has_claims e bytes) (IsSaid e (DoneRelay (content_claims bytes)) bytes)
 claims_decided e bytes b = (
-  λ h. let x = entries_said 2 claim_spelling claim_in (IsEntry (IsClaim e.tasks) (round_in e.m e.slot)) (is_claim_entry e.tasks (round_in e.m e.slot)) (lit< tt) (claim_test e.tasks (round_in e.m e.slot)) (entries_due e) bytes b h in
+  λ h. let x = entries_said 2 claim_spelling content_claim (IsEntry (IsClaim e.tasks) (round_in e.m e.slot)) (is_claim_entry e.tasks (round_in e.m e.slot)) (lit< tt) (claim_test e.tasks (round_in e.m e.slot)) (entries_due e) bytes b h in
       record { sized = (x.0, x.1); spelt = x.2 },
-  λ (h : IsSaid e (DoneRelay (claims_in bytes)) bytes). entries_test 2 claim_spelling claim_in (IsEntry (IsClaim e.tasks) (round_in e.m e.slot)) (is_claim_entry e.tasks (round_in e.m e.slot)) (claim_format e.tasks (round_in e.m e.slot)) (claim_test e.tasks (round_in e.m e.slot)) (entries_due e) bytes (claims_in bytes) h.sized.0 h.sized.1 h.spelt,
+  λ (h : IsSaid e (DoneRelay (content_claims bytes)) bytes). entries_test 2 claim_spelling content_claim (IsEntry (IsClaim e.tasks) (round_in e.m e.slot)) (is_claim_entry e.tasks (round_in e.m e.slot)) (claim_format e.tasks (round_in e.m e.slot)) (claim_test e.tasks (round_in e.m e.slot)) (entries_due e) bytes (content_claims bytes) h.sized.0 h.sized.1 h.spelt,
 )
 
-pub values_decided : (e : Expectation) (bytes : List ℕ) → AreBytes bytes → Decides (has_values e bytes) (IsSaid e (Data (values_in bytes)) bytes)
+pub values_decided : (e : Expectation) (bytes : List ℕ) → AreBytes bytes → Decides (has_values e bytes) (IsSaid e (Data (content_values bytes)) bytes)
 values_decided e bytes b = (
-  λ h. let x = entries_said 8 value_spelling value_in IsValue is_value (lit< tt) value_test e.due bytes b h in record { sized = (x.0, x.1); spelt = x.2 },
-  λ (h : IsSaid e (Data (values_in bytes)) bytes). entries_test 8 value_spelling value_in IsValue is_value value_format value_test e.due bytes (values_in bytes) h.sized.0 h.sized.1 h.spelt,
+  λ h. let x = entries_said 8 value_spelling content_value IsValue is_value (lit< tt) value_test e.due bytes b h in record { sized = (x.0, x.1); spelt = x.2 },
+  λ (h : IsSaid e (Data (content_values bytes)) bytes). entries_test 8 value_spelling content_value IsValue is_value value_format value_test e.due bytes (content_values bytes) h.sized.0 h.sized.1 h.spelt,
 )
 
-pub rows_decided : (e : Expectation) (bytes : List ℕ) → e.nodes ≤ e.capacity → AreBytes bytes → Decides (has_rows e bytes) (IsSaid e (ReportRelay (rows_in e.capacity e.nodes bytes)) bytes)
+pub rows_decided : (e : Expectation) (bytes : List ℕ) → e.nodes ≤ e.capacity → AreBytes bytes → Decides (has_rows e bytes) (IsSaid e (ReportRelay (content_rows e.capacity e.nodes bytes)) bytes)
 rows_decided e bytes few b =
     let r : ℕ = round_in e.m e.slot in
     let format = relayed_row_format e.version e.capacity e.nodes r in
     let test = relayed_row_test e.version e.capacity e.nodes r few in (
       λ h. let x = entries_said (1 + 2 * e.nodes) (relayed_row_spelling e.nodes) (relayed_row_in e.capacity e.nodes) (IsEntry (IsRow e.version e.capacity e.nodes) r) (is_row_entry e.version r) (omega arith) test (entries_due e) bytes b h in
           record { sized = (x.0, x.1); spelt = x.2 },
-      λ (h : IsSaid e (ReportRelay (rows_in e.capacity e.nodes bytes)) bytes). entries_test (1 + 2 * e.nodes) (relayed_row_spelling e.nodes) (relayed_row_in e.capacity e.nodes) (IsEntry (IsRow e.version e.capacity e.nodes) r) (is_row_entry e.version r) format test (entries_due e) bytes (rows_in e.capacity e.nodes bytes) h.sized.0 h.sized.1 h.spelt,
+      λ (h : IsSaid e (ReportRelay (content_rows e.capacity e.nodes bytes)) bytes). entries_test (1 + 2 * e.nodes) (relayed_row_spelling e.nodes) (relayed_row_in e.capacity e.nodes) (IsEntry (IsRow e.version e.capacity e.nodes) r) (is_row_entry e.version r) format test (entries_due e) bytes (content_rows e.capacity e.nodes bytes) h.sized.0 h.sized.1 h.spelt,
     )
 
-pub row_decided : (e : Expectation) (bytes : List ℕ) → e.nodes ≤ e.capacity → AreBytes bytes → Decides (has_row e bytes) (IsSaid e (Report0 (row_in e.capacity e.nodes bytes)) bytes)
+pub row_decided : (e : Expectation) (bytes : List ℕ) → e.nodes ≤ e.capacity → AreBytes bytes → Decides (has_row e bytes) (IsSaid e (Report0 (content_row e.capacity e.nodes bytes)) bytes)
 row_decided e bytes few b = (
   λ h. let l : length bytes ≡ 2 * e.nodes = (Decides-eqb (length bytes) (2 * e.nodes)).0 (and_parts _ _ h).0 in
       let t : are_masks e.version bytes ≡ true = (and_parts _ _ h).1 in
       record { sized = row_valid e.version e.capacity e.nodes bytes few l b t; spelt = sym (row_restored e.capacity e.nodes bytes l b) },
-  λ (h : IsSaid e (Report0 (row_in e.capacity e.nodes bytes)) bytes).
+  λ (h : IsSaid e (Report0 (content_row e.capacity e.nodes bytes)) bytes).
       and_from (length bytes == 2 * e.nodes) (are_masks e.version bytes)
-      (eq-eqb (length bytes) (2 * e.nodes) (ap length h.spelt ∙ row_long e.version e.capacity e.nodes (row_in e.capacity e.nodes bytes) h.sized))
-      (ap (are_masks e.version) h.spelt ∙ row_passes e.version e.capacity e.nodes (row_in e.capacity e.nodes bytes) h.sized),
+      (eq-eqb (length bytes) (2 * e.nodes) (ap length h.spelt ∙ row_long e.version e.capacity e.nodes (content_row e.capacity e.nodes bytes) h.sized))
+      (ap (are_masks e.version) h.spelt ∙ row_passes e.version e.capacity e.nodes (content_row e.capacity e.nodes bytes) h.sized),
 )
 
 pub state_decided : (e : Expectation) (bytes : List ℕ) → Decides (has_state e bytes) (IsSaid e (State bytes) bytes)
@@ -99,9 +99,9 @@ cold_decided e bytes = (
 )
 
 -- where the candidate of a kind isn't what a body says, nothing is
-pub nothing_said : (e : Expectation) (k : ℕ) (bytes : List ℕ) → (IsSaid e (said_in e k bytes) bytes → ⊥) → (c : Content) → IsBody e k c bytes → ⊥
+pub nothing_said : (e : Expectation) (k : ℕ) (bytes : List ℕ) → (IsSaid e (content_said e k bytes) bytes → ⊥) → (c : Content) → IsBody e k c bytes → ⊥
 nothing_said e k bytes h c b =
-    let same : said_in e k bytes ≡ c = ap (λ n. said_in e n bytes) (sym b.is) ∙ ap (said_in e (kind c)) b.said.spelt ∙ said_spelt e c b.said.sized in
+    let same : content_said e k bytes ≡ c = ap (λ n. content_said e n bytes) (sym b.is) ∙ ap (content_said e (kind c)) b.said.spelt ∙ said_spelt e c b.said.sized in
     let P : Content → Type 0 = λ x. IsSaid e x bytes in
     h (subst P (sym same) b.said)
 
@@ -110,10 +110,10 @@ pub kind_told : (k num : ℕ) (p q : Kind) → k ≡ num → num ≡ number_of p
 kind_told k num p q a b e = a ∙ b ∙ ap number_of e
 
 -- where a test fails that decides of the kind that has its place, nothing is said
-pub nothing_told : (e : Expectation) (k num : ℕ) (p q : Kind) (bytes : List ℕ) (x : Content) (test : Bool) → k ≡ num → num ≡ number_of p → p ≡ q → said_in e (number_of q) bytes ≡ x
+pub nothing_told : (e : Expectation) (k num : ℕ) (p q : Kind) (bytes : List ℕ) (x : Content) (test : Bool) → k ≡ num → num ≡ number_of p → p ≡ q → content_said e (number_of q) bytes ≡ x
     → Decides test (IsSaid e x bytes) → test ≡ false → (c : Content) → IsBody e k c bytes → ⊥
 nothing_told e k num p q bytes x test a b is candidate decided fails c body =
-    let same : said_in e k bytes ≡ x = ap (λ i. said_in e i bytes) (kind_told k num p q a b is) ∙ candidate in
+    let same : content_said e k bytes ≡ x = ap (λ i. content_said e i bytes) (kind_told k num p q a b is) ∙ candidate in
     nothing_said e k bytes (λ said. not_from_Decides test decided fails (subst (λ y. IsSaid e y bytes) same said)) c body
 
 -- a body of the kind that has its place
@@ -152,22 +152,22 @@ whole_rows e bytes width w h =
     ap (λ x. x % width) (l ∙ ap (λ x. x * entries_due e) (sym w)) ∙ mul-mod_right width (entries_due e)
 
 -- what is said, by the number of its kind
-pub said_as : (e : Expectation) (k n : ℕ) (bytes : List ℕ) → k ≡ n → IsSaid e (said_in e k bytes) bytes → IsSaid e (said_in e n bytes) bytes
-said_as e k n bytes is said = subst (λ i. IsSaid e (said_in e i bytes) bytes) is said
+pub said_as : (e : Expectation) (k n : ℕ) (bytes : List ℕ) → k ≡ n → IsSaid e (content_said e k bytes) bytes → IsSaid e (content_said e n bytes) bytes
+said_as e k n bytes is said = subst (λ i. IsSaid e (content_said e i bytes) bytes) is said
 
 -- what holds of the bytes of a body that is said, by its kind
-pub claims_known : (e : Expectation) (bytes : List ℕ) → AreBytes bytes → IsSaid e (DoneRelay (claims_in bytes)) bytes → (length bytes % 2 ≡ 0) × (are_written 2 bytes ≡ true)
+pub claims_known : (e : Expectation) (bytes : List ℕ) → AreBytes bytes → IsSaid e (DoneRelay (content_claims bytes)) bytes → (length bytes % 2 ≡ 0) × (are_written 2 bytes ≡ true)
 claims_known e bytes b said =
     let h : has_claims e bytes ≡ true = (claims_decided e bytes b).1 said in
     (whole_claims e bytes h, claims_written e.tasks (round_in e.m e.slot) bytes (and_parts _ _ h).1)
 
-pub values_known : (e : Expectation) (bytes : List ℕ) → AreBytes bytes → IsSaid e (Data (values_in bytes)) bytes → length bytes % 8 ≡ 0
+pub values_known : (e : Expectation) (bytes : List ℕ) → AreBytes bytes → IsSaid e (Data (content_values bytes)) bytes → length bytes % 8 ≡ 0
 values_known e bytes b said = whole_values e bytes ((values_decided e bytes b).1 said)
 
-pub row_known : (e : Expectation) (bytes : List ℕ) → e.nodes ≤ e.capacity → AreBytes bytes → IsSaid e (Report0 (row_in e.capacity e.nodes bytes)) bytes → length bytes ≡ 2 * e.nodes
+pub row_known : (e : Expectation) (bytes : List ℕ) → e.nodes ≤ e.capacity → AreBytes bytes → IsSaid e (Report0 (content_row e.capacity e.nodes bytes)) bytes → length bytes ≡ 2 * e.nodes
 row_known e bytes few b said = whole_row e bytes ((row_decided e bytes few b).1 said)
 
-pub rows_known : (e : Expectation) (bytes : List ℕ) (width : ℕ) → width ≡ 1 + 2 * e.nodes → e.nodes ≤ e.capacity → AreBytes bytes → IsSaid e (ReportRelay (rows_in e.capacity e.nodes bytes)) bytes
+pub rows_known : (e : Expectation) (bytes : List ℕ) (width : ℕ) → width ≡ 1 + 2 * e.nodes → e.nodes ≤ e.capacity → AreBytes bytes → IsSaid e (ReportRelay (content_rows e.capacity e.nodes bytes)) bytes
     → (length bytes % width ≡ 0) × (are_written width bytes ≡ true)
 rows_known e bytes width w few b said =
     let h : has_rows e bytes ≡ true = (rows_decided e bytes few b).1 said in
@@ -215,9 +215,9 @@ pub record IsKnown (e : Expectation) (bytes : List ℕ) (k : ℕ) : Type 0 where
   pub kind_is : get_or (take 14 bytes) 3 0 ≡ k
   pub first : 1 ≤ k
   pub last : k ≤ 7
-  pub said : IsSaid e (said_in e k (drop 14 bytes)) (drop 14 bytes)
-  pub read : reading e bytes ≡ Some (said_in e k (drop 14 bytes))
-  pub framed : IsFrame e (said_in e k (drop 14 bytes)) bytes
+  pub said : IsSaid e (content_said e k (drop 14 bytes)) (drop 14 bytes)
+  pub read : reading e bytes ≡ Some (content_said e k (drop 14 bytes))
+  pub framed : IsFrame e (content_said e k (drop 14 bytes)) bytes
 
 kind_first : (c : Content) → 1 ≤ kind c
 kind_first (State bytes) = lit≤ tt
@@ -241,8 +241,8 @@ known_as : (e : Expectation) (bytes : List ℕ) (c : Content) → reading e byte
 known_as e bytes c r =
     let f : IsFrame e c bytes = (reads_exactly e c bytes).0 r in
     let k : get_or (take 14 bytes) 3 0 ≡ kind c = frame_kind e c bytes f in
-    let same : said_in e (get_or (take 14 bytes) 3 0) (drop 14 bytes) ≡ c =
-    ap (λ n. said_in e n (drop 14 bytes)) k ∙ ap (said_in e (kind c)) f.body ∙ said_spelt e c f.in_range.sized in
+    let same : content_said e (get_or (take 14 bytes) 3 0) (drop 14 bytes) ≡ c =
+    ap (λ n. content_said e n (drop 14 bytes)) k ∙ ap (content_said e (kind c)) f.body ∙ said_spelt e c f.in_range.sized in
     let P : Content → Type 0 = λ x. IsSaid e x (drop 14 bytes) in
     let Q : Content → Type 0 = λ x. IsFrame e x bytes in
     record {

@@ -15,7 +15,7 @@ use Rattle.omh_paths.specs.declared.wrapped.Wrapped.TheVariants.{Fault}
 use Rattle.omh_paths.specs.Paths.{path_count}
 use Rattle.frames.specs.Content.{Expectation, Content, State, Done0, DoneRelay, Data, Report0, ReportRelay, Cold, kind, kind_in, round_in, entries_due, IsClaim, IsRow, IsValue, IsEntry, IsSized}
 use Rattle.frames.specs.Spelling.{claim_spelling, relayed_row_spelling, value_spelling, body_spelling, spelling, head_of, IsInRange}
-use Rattle.frames.specs.Reading.{claim_in, relayed_row_in, value_in}
+use Rattle.frames.specs.Reading.{content_claim, relayed_row_in, content_value}
 use Rattle.frames.specs.Laws.{IsLaidOut}
 use Rattle.frames.specs.Bound.{most_entries, HasSizes, IsGreatest}
 use Rattle.frames.specs.PieceLaws.{length_spelt}
@@ -102,11 +102,11 @@ no_longer nodes m state_len due fewer e (State bytes) s h = omega (arith, h.size
 no_longer nodes m state_len due fewer e (Done0 task) s h = omega arith
 no_longer nodes m state_len due fewer e (DoneRelay xs) s h =
     let n : entries_due e ≤ most_entries nodes m = relay_entries e nodes m 3 fewer s.m_is s.members (placed_kind e (DoneRelay xs) h (lit< tt)) (inl refl) in
-    let l : length (flat_map claim_spelling xs) ≡ 2 * length xs = length_spelt 2 claim_spelling claim_in (IsEntry (IsClaim e.tasks) (round_in e.m e.slot)) (claim_format e.tasks (round_in e.m e.slot)) xs h.sized.1 in
+    let l : length (flat_map claim_spelling xs) ≡ 2 * length xs = length_spelt 2 claim_spelling content_claim (IsEntry (IsClaim e.tasks) (round_in e.m e.slot)) (claim_format e.tasks (round_in e.m e.slot)) xs h.sized.1 in
     let p : length xs * 2 ≤ most_entries nodes m * (1 + 2 * nodes) = mul-le (length xs) 2 (most_entries nodes m) (1 + 2 * nodes) (omega (arith, h.sized.0)) (omega arith) in
     omega arith
 no_longer nodes m state_len due fewer e (Data xs) s h =
-    let l : length (flat_map value_spelling xs) ≡ 8 * length xs = length_spelt 8 value_spelling value_in IsValue value_format xs h.sized.1 in
+    let l : length (flat_map value_spelling xs) ≡ 8 * length xs = length_spelt 8 value_spelling content_value IsValue value_format xs h.sized.1 in
     omega (arith, h.sized.0, s.few_due)
 no_longer nodes m state_len due fewer e (Report0 masks) s h = omega (arith, row_long e.version e.capacity e.nodes masks h.sized, s.nodes_is)
 no_longer nodes m state_len due fewer e (ReportRelay xs) s h =
@@ -162,7 +162,7 @@ values_reached nodes m state_len due h =
     reached_by nodes m state_len due (m + 2) (8 * due) (Data (replicate due (pos 0))) h
     (sym (rw (ne_eqb (m + 2) 0 (omega arith), ne_eqb (m + 2) 1 (omega arith), lt-leb (m + 2) (m + 1) (omega arith), eq-eqb (m + 2) (m + 2) refl) refl))
     (length-replicate due (pos 0), all)
-    (length_spelt 8 value_spelling value_in IsValue value_format (replicate due (pos 0)) all ∙ ap (λ x. 8 * x) (length-replicate due (pos 0)))
+    (length_spelt 8 value_spelling content_value IsValue value_format (replicate due (pos 0)) all ∙ ap (λ x. 8 * x) (length-replicate due (pos 0)))
 
 row_reached : (nodes m state_len due : ℕ) → IsLimited nodes m state_len due → IsReached nodes m state_len due (2 * nodes)
 row_reached nodes m state_len due h =

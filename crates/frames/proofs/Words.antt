@@ -9,7 +9,7 @@ use Rattle.std.proofs.lemmas.Nat.{and_block, and_mask, le-div}
 use Rattle.std.proofs.Math.Nat.{mul-add, mul-one}
 use Rattle.std.proofs.lemmas.List.{drop-drop, drop-take, take-take, drop_more}
 use Rattle.frames.specs.Checks.{are_masks, are_zero}
-use Rattle.frames.specs.Reading.{piece, cut}
+use Rattle.frames.specs.Reading.{piece, pieces_of_width}
 use Rattle.frames.specs.PieceLaws.{AreBytes, AreBytes-take, AreBytes-drop, get_or-piece, piece_within, each_passes, one_fails}
 use Rattle.frames.specs.EntryLaws.{large_mask}
 
@@ -155,7 +155,7 @@ same_pieces width bytes w h (suc k) l =
     ∙ same_pieces width bytes w h k (omega arith)
 
 -- so a test of the first is a test of all
-pub same_tested : (test : List ℕ → Bool) (width : ℕ) (bytes : List ℕ) → 1 ≤ width → width ≤ length bytes → take (length bytes - width) bytes ≡ drop width bytes → test (take width bytes) ≡ list_all test (cut width bytes)
+pub same_tested : (test : List ℕ → Bool) (width : ℕ) (bytes : List ℕ) → 1 ≤ width → width ≤ length bytes → take (length bytes - width) bytes ≡ drop width bytes → test (take width bytes) ≡ list_all test (pieces_of_width width bytes)
 same_tested test width bytes w l h =
     let start : width * 0 ≡ 0 = omega arith in
     let first : piece width bytes 0 ≡ take width bytes = ap (λ i. take width (drop i bytes)) start in

@@ -8,7 +8,7 @@ use Rattle.frames.specs.Content.{Expectation, Content, kind, kind_in, round_in, 
 use Rattle.frames.specs.declared.frame.Head.{Head}
 use Rattle.frames.specs.FrameKinds.{cold_kind}
 use Rattle.frames.specs.Spelling.{body_spelling}
-use Rattle.frames.specs.Reading.{cut, value_in, fits_claim, fits_value}
+use Rattle.frames.specs.Reading.{pieces_of_width, content_value, fits_claim, fits_value}
 
 -- bytes whose fields are those of a header
 abbrev pub has_fields : Head → ℕ → ℕ → List ℕ → Bool
@@ -27,7 +27,7 @@ abbrev pub is_mask : ℕ → List ℕ → Bool
 is_mask version bytes = nat_lt (from_be_bytes w16 bytes) (mask_bound version)
 
 abbrev pub are_masks : ℕ → List ℕ → Bool
-are_masks version bytes = list_all (is_mask version) (cut 2 bytes)
+are_masks version bytes = list_all (is_mask version) (pieces_of_width 2 bytes)
 
 abbrev pub are_zero : List ℕ → Bool
 are_zero bytes = list_all (λ b. b == 0) bytes
@@ -38,14 +38,14 @@ is_row_entry version r bytes = if slice_index bytes 0 == 0 then are_masks versio
 
 -- eight bytes that are a value in range
 abbrev pub is_value : List ℕ → Bool
-is_value bytes = fits_value (value_in bytes)
+is_value bytes = fits_value (content_value bytes)
 
 -- pieces of so many bytes that are entries as they are written: a plain value, or a tag with 0 in all bytes after it
 abbrev pub is_written : List ℕ → Bool
 is_written bytes = (slice_index bytes 0 == 0) || are_zero (drop 1 bytes)
 
 abbrev pub are_written : ℕ → List ℕ → Bool
-are_written width bytes = list_all is_written (cut width bytes)
+are_written width bytes = list_all is_written (pieces_of_width width bytes)
 
 -- tests on whole bodies
 abbrev pub has_state : Expectation → List ℕ → Bool
@@ -55,16 +55,16 @@ abbrev pub has_claim : Expectation → List ℕ → Bool
 has_claim e bytes = (length bytes == 1) && fits_claim e.tasks (slice_index bytes 0)
 
 abbrev pub has_claims : Expectation → List ℕ → Bool
-has_claims e bytes = (length bytes == 2 * entries_due e) && list_all (is_claim_entry e.tasks (round_in e.m e.slot)) (cut 2 bytes)
+has_claims e bytes = (length bytes == 2 * entries_due e) && list_all (is_claim_entry e.tasks (round_in e.m e.slot)) (pieces_of_width 2 bytes)
 
 abbrev pub has_values : Expectation → List ℕ → Bool
-has_values e bytes = (length bytes == 8 * e.due) && list_all is_value (cut 8 bytes)
+has_values e bytes = (length bytes == 8 * e.due) && list_all is_value (pieces_of_width 8 bytes)
 
 abbrev pub has_row : Expectation → List ℕ → Bool
 has_row e bytes = (length bytes == 2 * e.nodes) && are_masks e.version bytes
 
 abbrev pub has_rows : Expectation → List ℕ → Bool
-has_rows e bytes = (length bytes == (1 + 2 * e.nodes) * entries_due e) && list_all (is_row_entry e.version (round_in e.m e.slot)) (cut (1 + 2 * e.nodes) bytes)
+has_rows e bytes = (length bytes == (1 + 2 * e.nodes) * entries_due e) && list_all (is_row_entry e.version (round_in e.m e.slot)) (pieces_of_width (1 + 2 * e.nodes) bytes)
 
 -- the bytes are the spelling of a body of the right sizes
 pub record IsSaid (e : Expectation) (c : Content) (bytes : List ℕ) : Type 0 where

@@ -18,7 +18,7 @@ use Rattle.omh_paths.specs.declared.wrapped.Wrapped.{Wrapped}
 use Rattle.omh_paths.specs.declared.wrapped.Wrapped.TheVariants.{Plain, Fault}
 use Rattle.frames.specs.Content.{IsClaim, IsRow, IsValue, IsEntry}
 use Rattle.frames.specs.Spelling.{claim_spelling, row_spelling, relayed_row_spelling, value_spelling}
-use Rattle.frames.specs.Reading.{piece, cut, claim_in, claims_in, rows_in, values_in, row_in, relayed_row_in, value_in, fits_claim, fits_value}
+use Rattle.frames.specs.Reading.{piece, pieces_of_width, content_claim, content_claims, content_rows, content_values, content_row, relayed_row_in, content_value, fits_claim, fits_value}
 use Rattle.frames.specs.Checks.{is_written, are_written, is_claim_entry, is_mask, are_masks, are_zero, is_row_entry, is_value}
 use Rattle.frames.specs.PieceLaws.{get_or-piece, each_passes, one_fails, AreBytes, AreBytes-drop, IsFormat, IsTest, read_spelt, length_spelt, test_spelt, restored}
 
@@ -33,19 +33,19 @@ claim_fits tasks t h = grind (arith, nat_tests)
 pub claim_valid : (tasks t : ℕ) → fits_claim tasks t ≡ true → IsClaim tasks t
 claim_valid tasks t h = grind (arith, nat_tests)
 
-pub claim_format : (tasks r : ℕ) → IsFormat 2 claim_spelling claim_in (IsEntry (IsClaim tasks) r)
+pub claim_format : (tasks r : ℕ) → IsFormat 2 claim_spelling content_claim (IsEntry (IsClaim tasks) r)
 claim_format tasks r = record { wide = lit< tt; long = long; back = back }
   where
     long : (x : Wrapped ℕ) → IsEntry (IsClaim tasks) r x → length (claim_spelling x) ≡ 2
     long (Plain t) h = refl
     long (Fault k) h = refl
 
-    back : (x : Wrapped ℕ) → IsEntry (IsClaim tasks) r x → claim_in (claim_spelling x) ≡ x
+    back : (x : Wrapped ℕ) → IsEntry (IsClaim tasks) r x → content_claim (claim_spelling x) ≡ x
     back (Plain t) h = refl
     back (Fault zero) h = absurd (omega (arith, h.0))
     back (Fault (suc k)) h = rw (above_zero k) refl
 
-pub claim_test : (tasks r : ℕ) → IsTest 2 claim_spelling claim_in (IsEntry (IsClaim tasks) r) (is_claim_entry tasks r)
+pub claim_test : (tasks r : ℕ) → IsTest 2 claim_spelling content_claim (IsEntry (IsClaim tasks) r) (is_claim_entry tasks r)
 claim_test tasks r = record { passes = passes; valid = valid; restores = restores }
   where
     passes : (x : Wrapped ℕ) → IsEntry (IsClaim tasks) r x → is_claim_entry tasks r (claim_spelling x) ≡ true
@@ -53,7 +53,7 @@ claim_test tasks r = record { passes = passes; valid = valid; restores = restore
     passes (Fault zero) h = absurd (omega (arith, h.0))
     passes (Fault (suc k)) h = let e : nat_le (suc k) r ≡ true = le-leb (suc k) r h.1 in rw (above_zero k, e) refl
 
-    valid : (b : List ℕ) → length b ≡ 2 → AreBytes b → is_claim_entry tasks r b ≡ true → IsEntry (IsClaim tasks) r (claim_in b)
+    valid : (b : List ℕ) → length b ≡ 2 → AreBytes b → is_claim_entry tasks r b ≡ true → IsEntry (IsClaim tasks) r (content_claim b)
     valid (zero ∷ y ∷ []) l _ h = claim_valid tasks y h
     valid (suc k ∷ y ∷ []) l _ h =
         let t = rw (above_zero k) at h in
@@ -62,7 +62,7 @@ claim_test tasks r = record { passes = passes; valid = valid; restores = restore
     valid (x ∷ []) l _ h = absurd (omega arith)
     valid (x ∷ y ∷ z ∷ rest) l _ h = absurd (omega arith)
 
-    restores : (b : List ℕ) → length b ≡ 2 → AreBytes b → is_claim_entry tasks r b ≡ true → claim_spelling (claim_in b) ≡ b
+    restores : (b : List ℕ) → length b ≡ 2 → AreBytes b → is_claim_entry tasks r b ≡ true → claim_spelling (content_claim b) ≡ b
     restores (zero ∷ y ∷ []) l _ h = refl
     restores (suc k ∷ y ∷ []) l _ h =
         let t = rw (above_zero k) at h in
@@ -72,7 +72,7 @@ claim_test tasks r = record { passes = passes; valid = valid; restores = restore
     restores (x ∷ []) l _ h = absurd (omega arith)
     restores (x ∷ y ∷ z ∷ rest) l _ h = absurd (omega arith)
 
-pub claim_at : (bytes : List ℕ) (k : ℕ) → claim_in (piece 2 bytes k) ≡ (if get_or bytes (2 * k) 0 == 0 then Plain (get_or bytes (2 * k + 1) 0) else Fault (get_or bytes (2 * k) 0))
+pub claim_at : (bytes : List ℕ) (k : ℕ) → content_claim (piece 2 bytes k) ≡ (if get_or bytes (2 * k) 0 == 0 then Plain (get_or bytes (2 * k + 1) 0) else Fault (get_or bytes (2 * k) 0))
 claim_at bytes k =
     let a : get_or (piece 2 bytes k) 0 0 ≡ get_or bytes (2 * k) 0 = get_or-piece 2 bytes k 0 (lit< tt) ∙ ap (λ i. get_or bytes i 0) (add-zero (2 * k)) in
     let b : get_or (piece 2 bytes k) 1 0 ≡ get_or bytes (2 * k + 1) 0 = get_or-piece 2 bytes k 1 (lit< tt) in
@@ -167,22 +167,22 @@ unsigned_64 : (x : ℤ) → SFits w64 x → cast_unsigned w64 x < 2 ^ 64
 unsigned_64 (pos n) h = let e = h.sfits in omega arith
 unsigned_64 (negsuc n) h = omega arith
 
-value_back : (x : ℤ) → IsValue x → value_in (value_spelling x) ≡ x
+value_back : (x : ℤ) → IsValue x → content_value (value_spelling x) ≡ x
 value_back x h =
     let f : SFits w64 x = value_in_64 x h in
     ap (cast_signed w64) (from_be_bytes-to_be_bytes_8 (cast_unsigned w64 x) (unsigned_64 x f)) ∙ to_z-of_z w64 x f
 
-pub value_format : IsFormat 8 value_spelling value_in IsValue
+pub value_format : IsFormat 8 value_spelling content_value IsValue
 value_format = record { wide = lit< tt; long = λ x h. refl; back = value_back }
 
 from_64 : (b : List ℕ) → AreBytes b → from_be_bytes w64 b < 2 ^ 64
 from_64 b h = omega (arith, h 0, h 1, h 2, h 3, h 4, h 5, h 6, h 7)
 
-value_restored : (b : List ℕ) → length b ≡ 8 → AreBytes b → value_spelling (value_in b) ≡ b
-value_restored b l h = be_bytes_8 b (cast_unsigned w64 (value_in b)) l h (of_z-to_z w64 (from_be_bytes w64 b) (from_64 b h))
+value_restored : (b : List ℕ) → length b ≡ 8 → AreBytes b → value_spelling (content_value b) ≡ b
+value_restored b l h = be_bytes_8 b (cast_unsigned w64 (content_value b)) l h (of_z-to_z w64 (from_be_bytes w64 b) (from_64 b h))
 
-pub value_test : IsTest 8 value_spelling value_in IsValue is_value
-value_test = record { passes = passes; valid = λ b l h t. value_valid (value_in b) t; restores = λ b l h t. value_restored b l h }
+pub value_test : IsTest 8 value_spelling content_value IsValue is_value
+value_test = record { passes = passes; valid = λ b l h t. value_valid (content_value b) t; restores = λ b l h t. value_restored b l h }
   where
     passes : (x : ℤ) → IsValue x → is_value (value_spelling x) ≡ true
     passes x h = ap fits_value (value_back x h) ∙ value_fits x h
@@ -228,30 +228,30 @@ all_true [] = refl
 all_true (b ∷ bs) = all_true bs
 
 module _ (capacity nodes : ℕ) where
-  masks_read : (bytes : List ℕ) → length bytes ≡ 2 * nodes → length (map (from_be_bytes w16) (cut 2 bytes)) ≡ nodes
+  masks_read : (bytes : List ℕ) → length bytes ≡ 2 * nodes → length (map (from_be_bytes w16) (pieces_of_width 2 bytes)) ≡ nodes
   masks_read bytes l =
-      length-map (cut 2 bytes) (from_be_bytes w16) ∙ length-map-range_with_len (piece 2 bytes) 0 (length bytes / 2)
+      length-map (pieces_of_width 2 bytes) (from_be_bytes w16) ∙ length-map-range_with_len (piece 2 bytes) 0 (length bytes / 2)
       ∙ omega arith
 
   -- a row's bytes are told by the row, also where a mask is none of the version
-  pub row_restored : (bytes : List ℕ) → length bytes ≡ 2 * nodes → AreBytes bytes → row_spelling nodes (row_in capacity nodes bytes) ≡ bytes
+  pub row_restored : (bytes : List ℕ) → length bytes ≡ 2 * nodes → AreBytes bytes → row_spelling nodes (content_row capacity nodes bytes) ≡ bytes
   row_restored bytes l b =
-      let n : length (map (from_be_bytes w16) (cut 2 bytes)) ≡ nodes = masks_read bytes l in
-      let masks : List ℕ = map (from_be_bytes w16) (cut 2 bytes) in
+      let n : length (map (from_be_bytes w16) (pieces_of_width 2 bytes)) ≡ nodes = masks_read bytes l in
+      let masks : List ℕ = map (from_be_bytes w16) (pieces_of_width 2 bytes) in
       let e : take nodes (take nodes masks ++ replicate (capacity - nodes) 0) ≡ take nodes masks = take_at (take nodes masks) (replicate (capacity - nodes) 0) nodes (length-take-le nodes masks (omega arith)) in
       ap (flat_map (to_be_bytes w16)) (e ∙ take_all nodes masks (omega arith))
-      ∙ (restored 2 (to_be_bytes w16) (from_be_bytes w16) (λ _. Unit {0}) (λ _. true) (lit< tt) any_mask nodes bytes l b (all_true (cut 2 bytes))).0
+      ∙ (restored 2 (to_be_bytes w16) (from_be_bytes w16) (λ _. Unit {0}) (λ _. true) (lit< tt) any_mask nodes bytes l b (all_true (pieces_of_width 2 bytes))).0
 
   -- an entry by its place
   pub relayed_row_at : (bytes : List ℕ) (k at : ℕ) → (1 + 2 * nodes) * k ≡ at
       → relayed_row_in capacity nodes (piece (1 + 2 * nodes) bytes k)
-      ≡ (if get_or bytes at 0 == 0 then Plain (row_in capacity nodes (take (2 * nodes) (drop (at + 1) bytes))) else Fault (get_or bytes at 0))
+      ≡ (if get_or bytes at 0 == 0 then Plain (content_row capacity nodes (take (2 * nodes) (drop (at + 1) bytes))) else Fault (get_or bytes at 0))
   relayed_row_at bytes k at e =
       let a : get_or (piece (1 + 2 * nodes) bytes k) 0 0 ≡ get_or bytes at 0 = get_or-piece (1 + 2 * nodes) bytes k 0 (omega arith) ∙ ap (λ i. get_or bytes i 0) (omega arith) in
       let b : drop 1 (piece (1 + 2 * nodes) bytes k) ≡ take (2 * nodes) (drop (at + 1) bytes) =
       drop-take 1 (2 * nodes) (drop ((1 + 2 * nodes) * k) bytes) ∙ ap (take (2 * nodes)) (drop-drop 1 ((1 + 2 * nodes) * k) bytes ∙ ap (λ n. drop n bytes) (omega arith)) in
-      ap (λ t. if t == 0 then Plain (row_in capacity nodes (drop 1 (piece (1 + 2 * nodes) bytes k))) else Fault t) a
-      ∙ ap (λ bs. if get_or bytes at 0 == 0 then Plain (row_in capacity nodes bs) else Fault (get_or bytes at 0)) b
+      ap (λ t. if t == 0 then Plain (content_row capacity nodes (drop 1 (piece (1 + 2 * nodes) bytes k))) else Fault t) a
+      ∙ ap (λ bs. if get_or bytes at 0 == 0 then Plain (content_row capacity nodes bs) else Fault (get_or bytes at 0)) b
 
 module _ (version capacity nodes : ℕ) where
   shown : (masks : List ℕ) → IsRow version capacity nodes masks → All (λ mask. mask < mask_bound version) (take nodes masks)
@@ -262,7 +262,7 @@ module _ (version capacity nodes : ℕ) where
       length_spelt 2 (to_be_bytes w16) (from_be_bytes w16) (λ mask. mask < mask_bound version) (mask_format version) (take nodes masks) (shown masks h)
       ∙ ap (λ n. 2 * n) (length-take-le nodes masks (omega (arith, h.whole, h.room)))
 
-  pub row_back : (masks : List ℕ) → IsRow version capacity nodes masks → row_in capacity nodes (row_spelling nodes masks) ≡ masks
+  pub row_back : (masks : List ℕ) → IsRow version capacity nodes masks → content_row capacity nodes (row_spelling nodes masks) ≡ masks
   row_back masks h =
       ap (λ ms. take nodes ms ++ replicate (capacity - nodes) 0) (read_spelt 2 (to_be_bytes w16) (from_be_bytes w16) (λ mask. mask < mask_bound version) (mask_format version) (take nodes masks) (shown masks h))
       ∙ ap (λ ms. ms ++ replicate (capacity - nodes) 0) (take-take nodes nodes masks (omega arith))
@@ -272,17 +272,17 @@ module _ (version capacity nodes : ℕ) where
   pub row_passes : (masks : List ℕ) → IsRow version capacity nodes masks → are_masks version (row_spelling nodes masks) ≡ true
   row_passes masks h = test_spelt 2 (to_be_bytes w16) (from_be_bytes w16) (λ mask. mask < mask_bound version) (is_mask version) (mask_format version) (mask_test version) (take nodes masks) (shown masks h)
 
-  pub row_valid : (bytes : List ℕ) → nodes ≤ capacity → length bytes ≡ 2 * nodes → AreBytes bytes → are_masks version bytes ≡ true → IsRow version capacity nodes (row_in capacity nodes bytes)
+  pub row_valid : (bytes : List ℕ) → nodes ≤ capacity → length bytes ≡ 2 * nodes → AreBytes bytes → are_masks version bytes ≡ true → IsRow version capacity nodes (content_row capacity nodes bytes)
   row_valid bytes few l b t =
-      let n : length (map (from_be_bytes w16) (cut 2 bytes)) ≡ nodes = masks_read capacity nodes bytes l in
+      let n : length (map (from_be_bytes w16) (pieces_of_width 2 bytes)) ≡ nodes = masks_read capacity nodes bytes l in
       let zeros : List ℕ = replicate (capacity - nodes) 0 in
-      let front : List ℕ = take nodes (map (from_be_bytes w16) (cut 2 bytes)) in
-      let lf : length front ≡ nodes = length-take-le nodes (map (from_be_bytes w16) (cut 2 bytes)) (omega arith) in
-      let small : All (λ mask. mask < mask_bound version) (map (from_be_bytes w16) (cut 2 bytes)) = (restored 2 (to_be_bytes w16) (from_be_bytes w16) (λ mask. mask < mask_bound version) (is_mask version) (lit< tt) (mask_test version) nodes bytes l b t).1 in
+      let front : List ℕ = take nodes (map (from_be_bytes w16) (pieces_of_width 2 bytes)) in
+      let lf : length front ≡ nodes = length-take-le nodes (map (from_be_bytes w16) (pieces_of_width 2 bytes)) (omega arith) in
+      let small : All (λ mask. mask < mask_bound version) (map (from_be_bytes w16) (pieces_of_width 2 bytes)) = (restored 2 (to_be_bytes w16) (from_be_bytes w16) (λ mask. mask < mask_bound version) (is_mask version) (lit< tt) (mask_test version) nodes bytes l b t).1 in
       record {
         room = few;
         whole = length-append front zeros ∙ omega (arith, length-replicate {A = ℕ} (capacity - nodes) 0);
-        within = All-append (λ mask. mask < mask_bound version) front zeros (All-take (λ mask. mask < mask_bound version) nodes (map (from_be_bytes w16) (cut 2 bytes)) small) (All-replicate (λ mask. mask < mask_bound version) (capacity - nodes) 0 (zero_mask version));
+        within = All-append (λ mask. mask < mask_bound version) front zeros (All-take (λ mask. mask < mask_bound version) nodes (map (from_be_bytes w16) (pieces_of_width 2 bytes)) small) (All-replicate (λ mask. mask < mask_bound version) (capacity - nodes) 0 (zero_mask version));
         rest = drop_at front zeros nodes lf;
       }
 
@@ -335,7 +335,7 @@ tests_more p q width bytes h (k ∷ ks) t =
     let rest : list_all q (map (piece width bytes) ks) ≡ true = tests_more p q width bytes h ks (and_parts _ _ t).1 in
     rw (here, rest) refl
 
-any_claim : IsTest 2 claim_spelling claim_in (λ _. Unit {0}) is_written
+any_claim : IsTest 2 claim_spelling content_claim (λ _. Unit {0}) is_written
 any_claim = record { passes = passes; valid = λ b l h t. tt; restores = restores }
   where
     passes : (x : Wrapped ℕ) → Unit {0} → is_written (claim_spelling x) ≡ true
@@ -343,7 +343,7 @@ any_claim = record { passes = passes; valid = λ b l h t. tt; restores = restore
     passes (Fault zero) h = refl
     passes (Fault (suc k)) h = rw (above_zero k) refl
 
-    restores : (b : List ℕ) → length b ≡ 2 → AreBytes b → is_written b ≡ true → claim_spelling (claim_in b) ≡ b
+    restores : (b : List ℕ) → length b ≡ 2 → AreBytes b → is_written b ≡ true → claim_spelling (content_claim b) ≡ b
     restores (zero ∷ y ∷ []) l _ h = refl
     restores (suc k ∷ y ∷ []) l _ h =
         let t = rw (above_zero k) at h in
@@ -369,19 +369,19 @@ any_row capacity nodes = record { passes = passes; valid = λ b l h t. tt; resto
         let z : rest ≡ replicate (2 * nodes) 0 = all_zeros rest (2 * nodes) (omega arith) t in
         rw (above_zero k) (ap (λ s. suc k ∷ s) (sym z))
 
-any_value : IsTest 8 value_spelling value_in (λ _. Unit {0}) (λ _. true)
+any_value : IsTest 8 value_spelling content_value (λ _. Unit {0}) (λ _. true)
 any_value = record { passes = λ x h. refl; valid = λ b l h t. tt; restores = λ b l h t. value_restored b l h }
 
 -- the bytes of entries are told by what they say
-pub claims_spelt : (bytes : List ℕ) → length bytes % 2 ≡ 0 → AreBytes bytes → are_written 2 bytes ≡ true → flat_map claim_spelling (claims_in bytes) ≡ bytes
-claims_spelt bytes l b t = (restored 2 claim_spelling claim_in (λ _. Unit {0}) is_written (lit< tt) any_claim (length bytes / 2) bytes (whole_pieces 2 (length bytes) l) b t).0
+pub claims_spelt : (bytes : List ℕ) → length bytes % 2 ≡ 0 → AreBytes bytes → are_written 2 bytes ≡ true → flat_map claim_spelling (content_claims bytes) ≡ bytes
+claims_spelt bytes l b t = (restored 2 claim_spelling content_claim (λ _. Unit {0}) is_written (lit< tt) any_claim (length bytes / 2) bytes (whole_pieces 2 (length bytes) l) b t).0
 
-pub rows_spelt : (capacity nodes : ℕ) (bytes : List ℕ) → length bytes % (1 + 2 * nodes) ≡ 0 → AreBytes bytes → are_written (1 + 2 * nodes) bytes ≡ true → flat_map (relayed_row_spelling nodes) (rows_in capacity nodes bytes) ≡ bytes
+pub rows_spelt : (capacity nodes : ℕ) (bytes : List ℕ) → length bytes % (1 + 2 * nodes) ≡ 0 → AreBytes bytes → are_written (1 + 2 * nodes) bytes ≡ true → flat_map (relayed_row_spelling nodes) (content_rows capacity nodes bytes) ≡ bytes
 rows_spelt capacity nodes bytes l b t =
     (restored (1 + 2 * nodes) (relayed_row_spelling nodes) (relayed_row_in capacity nodes) (λ _. Unit {0}) is_written (omega arith) (any_row capacity nodes) (length bytes / (1 + 2 * nodes)) bytes (whole_pieces (1 + 2 * nodes) (length bytes) l) b t).0
 
-pub values_spelt : (bytes : List ℕ) → length bytes % 8 ≡ 0 → AreBytes bytes → flat_map value_spelling (values_in bytes) ≡ bytes
-values_spelt bytes l b = (restored 8 value_spelling value_in (λ _. Unit {0}) (λ _. true) (lit< tt) any_value (length bytes / 8) bytes (whole_pieces 8 (length bytes) l) b (all_true (cut 8 bytes))).0
+pub values_spelt : (bytes : List ℕ) → length bytes % 8 ≡ 0 → AreBytes bytes → flat_map value_spelling (content_values bytes) ≡ bytes
+values_spelt bytes l b = (restored 8 value_spelling content_value (λ _. Unit {0}) (λ _. true) (lit< tt) any_value (length bytes / 8) bytes (whole_pieces 8 (length bytes) l) b (all_true (pieces_of_width 8 bytes))).0
 
 -- what is in range is written
 claim_written : (tasks r : ℕ) (b : List ℕ) → length b ≤ 2 → is_claim_entry tasks r b ≡ true → is_written b ≡ true
@@ -401,16 +401,16 @@ row_written version r (suc k ∷ rest) h =
     let t = rw (above_zero k) at h in
     rw (above_zero k) (and_parts _ _ t).1
 
-pub claims_written : (tasks r : ℕ) (bytes : List ℕ) → list_all (is_claim_entry tasks r) (cut 2 bytes) ≡ true → are_written 2 bytes ≡ true
+pub claims_written : (tasks r : ℕ) (bytes : List ℕ) → list_all (is_claim_entry tasks r) (pieces_of_width 2 bytes) ≡ true → are_written 2 bytes ≡ true
 claims_written tasks r bytes h = tests_more (is_claim_entry tasks r) is_written 2 bytes (claim_written tasks r) (range_with_len 0 (length bytes / 2)) h
 
-pub rows_written : (version width r : ℕ) (bytes : List ℕ) → list_all (is_row_entry version r) (cut width bytes) ≡ true → are_written width bytes ≡ true
+pub rows_written : (version width r : ℕ) (bytes : List ℕ) → list_all (is_row_entry version r) (pieces_of_width width bytes) ≡ true → are_written width bytes ≡ true
 rows_written version width r bytes h = tests_more (is_row_entry version r) is_written width bytes (λ b l t. row_written version r b t) (range_with_len 0 (length bytes / width)) h
 
 -- so are spellings of entries in range
 pub claims_written_spelt : (tasks r : ℕ) (xs : List (Wrapped ℕ)) → All (IsEntry (IsClaim tasks) r) xs → are_written 2 (flat_map claim_spelling xs) ≡ true
 claims_written_spelt tasks r xs h =
-    claims_written tasks r (flat_map claim_spelling xs) (test_spelt 2 claim_spelling claim_in (IsEntry (IsClaim tasks) r) (is_claim_entry tasks r) (claim_format tasks r) (claim_test tasks r) xs h)
+    claims_written tasks r (flat_map claim_spelling xs) (test_spelt 2 claim_spelling content_claim (IsEntry (IsClaim tasks) r) (is_claim_entry tasks r) (claim_format tasks r) (claim_test tasks r) xs h)
 
 pub rows_written_spelt : (version capacity nodes r : ℕ) (xs : List (Wrapped (List ℕ))) → nodes ≤ capacity → All (IsEntry (IsRow version capacity nodes) r) xs → are_written (1 + 2 * nodes) (flat_map (relayed_row_spelling nodes) xs) ≡ true
 rows_written_spelt version capacity nodes r xs few h =

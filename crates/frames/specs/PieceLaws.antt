@@ -9,7 +9,7 @@ use Rattle.std.proofs.lemmas.List.{take_at, drop_at, drop-drop, length-append, t
 use Rattle.std.proofs.lemmas.List.Elements.{All-nil, All-cons, All-head, All-tail}
 use Rattle.std.proofs.lemmas.List.FromFn.{length-map-range_with_len, get_or-map-range_with_len}
 use Rattle.std.proofs.lemmas.List.Folds.{list_all_at}
-use Rattle.frames.specs.Reading.{piece, cut}
+use Rattle.frames.specs.Reading.{piece, pieces_of_width}
 
 shifted : {V : Type 0} (f g : ℕ → V) (a b n : ℕ) → ((k : ℕ) → f (a + k) ≡ g (b + k)) → map f (range_with_len a n) ≡ map g (range_with_len b n)
 shifted f g a b zero h = refl
@@ -33,14 +33,14 @@ quotient_more width n h =
     let e : (n + width * 1) / width ≡ n / width + 1 = add-mul-div_left n 1 h in
     ap (λ x. x / width) (omega (arith, mul-one width)) ∙ e ∙ omega arith
 
-pub cut-cons : (width : ℕ) (s rest : List ℕ) → 0 < width → length s ≡ width → cut width (s ++ rest) ≡ s ∷ cut width rest
+pub cut-cons : (width : ℕ) (s rest : List ℕ) → 0 < width → length s ≡ width → pieces_of_width width (s ++ rest) ≡ s ∷ pieces_of_width width rest
 cut-cons width s rest h l =
     let n : length (s ++ rest) / width ≡ suc (length rest / width) = ap (λ x. x / width) (length-append s rest ∙ ap (λ x. x + length rest) l) ∙ quotient_more width (length rest) h in
     ap (λ c. map (piece width (s ++ rest)) (range_with_len 0 c)) n
     ∙ ap (λ x. x ∷ map (piece width (s ++ rest)) (range_with_len 1 (length rest / width))) (first_piece width s rest l)
     ∙ ap (λ xs. s ∷ xs) (shifted (piece width (s ++ rest)) (piece width rest) 1 0 (length rest / width) (λ k. later_piece width k s rest l))
 
-pub cut-nil : (width : ℕ) → 0 < width → cut width [] ≡ []
+pub cut-nil : (width : ℕ) → 0 < width → pieces_of_width width [] ≡ []
 cut-nil width h =
     let e : 0 / width ≡ 0 = div-eq_of_lt h in
     ap (λ c. map (piece width []) (range_with_len 0 c)) e
@@ -70,7 +70,7 @@ pub record IsTest {V : Type 0} (width : ℕ) (spell : V → List ℕ) (read : Li
   pub valid : (b : List ℕ) → length b ≡ width → AreBytes b → test b ≡ true → P (read b)
   pub restores : (b : List ℕ) → length b ≡ width → AreBytes b → test b ≡ true → spell (read b) ≡ b
 
-pub cut_spelt : {V : Type 0} (width : ℕ) (spell : V → List ℕ) (read : List ℕ → V) (P : V → Type 0) → IsFormat width spell read P → (xs : List V) → All P xs → cut width (flat_map spell xs) ≡ map spell xs
+pub cut_spelt : {V : Type 0} (width : ℕ) (spell : V → List ℕ) (read : List ℕ → V) (P : V → Type 0) → IsFormat width spell read P → (xs : List V) → All P xs → pieces_of_width width (flat_map spell xs) ≡ map spell xs
 cut_spelt width spell read P f [] h = cut-nil width f.wide
 cut_spelt width spell read P f (x ∷ xs) h =
     cut-cons width (spell x) (flat_map spell xs) f.wide (f.long x (All-head P x xs h)) ∙ ap (λ ys. spell x ∷ ys) (cut_spelt width spell read P f xs (All-tail P x xs h))
@@ -83,7 +83,7 @@ read_each width spell read P f (x ∷ xs) h =
     rw (here, rest) refl
 
 -- what is spelt is read
-pub read_spelt : {V : Type 0} (width : ℕ) (spell : V → List ℕ) (read : List ℕ → V) (P : V → Type 0) → IsFormat width spell read P → (xs : List V) → All P xs → map read (cut width (flat_map spell xs)) ≡ xs
+pub read_spelt : {V : Type 0} (width : ℕ) (spell : V → List ℕ) (read : List ℕ → V) (P : V → Type 0) → IsFormat width spell read P → (xs : List V) → All P xs → map read (pieces_of_width width (flat_map spell xs)) ≡ xs
 read_spelt width spell read P f xs h = ap (map read) (cut_spelt width spell read P f xs h) ∙ read_each width spell read P f xs h
 
 pub length_spelt : {V : Type 0} (width : ℕ) (spell : V → List ℕ) (read : List ℕ → V) (P : V → Type 0) → IsFormat width spell read P → (xs : List V) → All P xs → length (flat_map spell xs) ≡ width * length xs
@@ -101,16 +101,16 @@ test_each width spell read P test t (x ∷ xs) h =
     rw (here, rest) refl
 
 -- what is spelt passes the test
-pub test_spelt : {V : Type 0} (width : ℕ) (spell : V → List ℕ) (read : List ℕ → V) (P : V → Type 0) (test : List ℕ → Bool) → IsFormat width spell read P → IsTest width spell read P test → (xs : List V) → All P xs → list_all test (cut width (flat_map spell xs)) ≡ true
+pub test_spelt : {V : Type 0} (width : ℕ) (spell : V → List ℕ) (read : List ℕ → V) (P : V → Type 0) (test : List ℕ → Bool) → IsFormat width spell read P → IsTest width spell read P test → (xs : List V) → All P xs → list_all test (pieces_of_width width (flat_map spell xs)) ≡ true
 test_spelt width spell read P test f t xs h = ap (list_all test) (cut_spelt width spell read P f xs h) ∙ test_each width spell read P test t xs h
 
 -- what passes the test is the spelling of values in range
 pub restored : {V : Type 0} (width : ℕ) (spell : V → List ℕ) (read : List ℕ → V) (P : V → Type 0) (test : List ℕ → Bool) → 0 < width → IsTest width spell read P test
-    → (n : ℕ) (bytes : List ℕ) → length bytes ≡ width * n → AreBytes bytes → list_all test (cut width bytes) ≡ true
-    → (flat_map spell (map read (cut width bytes)) ≡ bytes) × All P (map read (cut width bytes))
+    → (n : ℕ) (bytes : List ℕ) → length bytes ≡ width * n → AreBytes bytes → list_all test (pieces_of_width width bytes) ≡ true
+    → (flat_map spell (map read (pieces_of_width width bytes)) ≡ bytes) × All P (map read (pieces_of_width width bytes))
 restored width spell read P test wide t zero bytes l b h =
     let nil : bytes ≡ [] = nil_from_length bytes (omega arith) in
-    let c : cut width bytes ≡ [] = ap (cut width) nil ∙ cut-nil width wide in
+    let c : pieces_of_width width bytes ≡ [] = ap (pieces_of_width width) nil ∙ cut-nil width wide in
     (ap (λ ps. flat_map spell (map read ps)) c ∙ sym nil, subst (λ ps. All P (map read ps)) (sym c) (All-nil P))
 restored width spell read P test wide t (suc n) bytes l b h =
     let front : List ℕ = take width bytes in
@@ -119,28 +119,28 @@ restored width spell read P test wide t (suc n) bytes l b h =
     let m : width * suc n ≡ width + width * n = omega (arith, mul-add width 1 n, mul-one width) in
     let lf : length front ≡ width = length-take-le width bytes (omega arith) in
     let lb : length back ≡ width * n = omega (arith, length-drop width bytes) in
-    let c : cut width bytes ≡ front ∷ cut width back = ap (cut width) (sym whole) ∙ cut-cons width front back wide lf in
-    let both : (test front && list_all test (cut width back)) ≡ true = sym (ap (list_all test) c) ∙ h in
+    let c : pieces_of_width width bytes ≡ front ∷ pieces_of_width width back = ap (pieces_of_width width) (sym whole) ∙ cut-cons width front back wide lf in
+    let both : (test front && list_all test (pieces_of_width width back)) ≡ true = sym (ap (list_all test) c) ∙ h in
     let here : test front ≡ true = (and_parts _ _ both).0 in
     let bf : AreBytes front = AreBytes-take width bytes b in
     let rest = restored width spell read P test wide t n back lb (AreBytes-drop width bytes b) (and_parts _ _ both).1 in
     let e : spell (read front) ≡ front = t.restores front lf bf here in (
-      ap (λ ps. flat_map spell (map read ps)) c ∙ ap (λ s. s ++ flat_map spell (map read (cut width back))) e ∙ ap (λ s. front ++ s) rest.0 ∙ whole,
-      subst (λ ps. All P (map read ps)) (sym c) (All-cons P (read front) (map read (cut width back)) (t.valid front lf bf here) rest.1),
+      ap (λ ps. flat_map spell (map read ps)) c ∙ ap (λ s. s ++ flat_map spell (map read (pieces_of_width width back))) e ∙ ap (λ s. front ++ s) rest.0 ∙ whole,
+      subst (λ ps. All P (map read ps)) (sym c) (All-cons P (read front) (map read (pieces_of_width width back)) (t.valid front lf bf here) rest.1),
     )
 
 -- ---- one piece of many
 
-pub length-cut : (width : ℕ) (bytes : List ℕ) → length (cut width bytes) ≡ length bytes / width
+pub length-cut : (width : ℕ) (bytes : List ℕ) → length (pieces_of_width width bytes) ≡ length bytes / width
 length-cut width bytes = length-map-range_with_len (piece width bytes) 0 (length bytes / width)
 
-pub get_or-cut : (width : ℕ) (bytes : List ℕ) (k : ℕ) (d : List ℕ) → k < length bytes / width → get_or (cut width bytes) k d ≡ piece width bytes k
+pub get_or-cut : (width : ℕ) (bytes : List ℕ) (k : ℕ) (d : List ℕ) → k < length bytes / width → get_or (pieces_of_width width bytes) k d ≡ piece width bytes k
 get_or-cut width bytes k d h = get_or-map-range_with_len (piece width bytes) 0 (length bytes / width) k k d h (zero-add k)
 
 -- the k-th value that is read
-pub read_at : {V : Type 0} (width : ℕ) (read : List ℕ → V) (bytes : List ℕ) (k : ℕ) (d : V) → k < length bytes / width → get_or (map read (cut width bytes)) k d ≡ read (piece width bytes k)
+pub read_at : {V : Type 0} (width : ℕ) (read : List ℕ → V) (bytes : List ℕ) (k : ℕ) (d : V) → k < length bytes / width → get_or (map read (pieces_of_width width bytes)) k d ≡ read (piece width bytes k)
 read_at width read bytes k d h =
-    get_or-map read (cut width bytes) k [] d (omega (arith, length-cut width bytes)) ∙ ap read (get_or-cut width bytes k [] h)
+    get_or-map read (pieces_of_width width bytes) k [] d (omega (arith, length-cut width bytes)) ∙ ap read (get_or-cut width bytes k [] h)
 
 pub get_or-piece : (width : ℕ) (bytes : List ℕ) (k i : ℕ) → i < width → get_or (piece width bytes k) i 0 ≡ get_or bytes (width * k + i) 0
 get_or-piece width bytes k i h = get_or-take width (drop (width * k) bytes) i 0 h ∙ get_or-drop (width * k) bytes i 0
@@ -160,7 +160,7 @@ pub slice_is_piece : (width : ℕ) (bytes : List ℕ) (k : ℕ) → take (width 
 slice_is_piece width bytes k = ap (λ n. take n (drop (width * k) bytes)) (omega arith)
 
 -- a test of all pieces
-pub each_passes : (test : List ℕ → Bool) (width : ℕ) (bytes : List ℕ) → ((k : ℕ) → k < length bytes / width → test (piece width bytes k) ≡ true) → list_all test (cut width bytes) ≡ true
+pub each_passes : (test : List ℕ → Bool) (width : ℕ) (bytes : List ℕ) → ((k : ℕ) → k < length bytes / width → test (piece width bytes k) ≡ true) → list_all test (pieces_of_width width bytes) ≡ true
 each_passes test width bytes h = along 0 (length bytes / width) (λ k l. h k (omega arith))
   where
     along : (a n : ℕ) → ((k : ℕ) → k < a + n → test (piece width bytes k) ≡ true) → list_all test (map (piece width bytes) (range_with_len a n)) ≡ true
@@ -170,8 +170,8 @@ each_passes test width bytes h = along 0 (length bytes / width) (λ k l. h k (om
         let rest : list_all test (map (piece width bytes) (range_with_len (a + 1) n)) ≡ true = along (a + 1) n (λ k l. h k (omega arith)) in
         rw (here, rest) refl
 
-pub one_fails : (test : List ℕ → Bool) (width : ℕ) (bytes : List ℕ) (k : ℕ) → k < length bytes / width → test (piece width bytes k) ≡ false → list_all test (cut width bytes) ≡ false
-one_fails test width bytes k l h = list_all_at test (cut width bytes) k [] (omega (arith, length-cut width bytes)) (ap test (get_or-cut width bytes k [] l) ∙ h)
+pub one_fails : (test : List ℕ → Bool) (width : ℕ) (bytes : List ℕ) (k : ℕ) → k < length bytes / width → test (piece width bytes k) ≡ false → list_all test (pieces_of_width width bytes) ≡ false
+one_fails test width bytes k l h = list_all_at test (pieces_of_width width bytes) k [] (omega (arith, length-cut width bytes)) (ap test (get_or-cut width bytes k [] l) ∙ h)
 
 -- ---- writing
 
@@ -233,5 +233,5 @@ pieces_alike w n f (suc d) xs fits same =
     ∙ pieces_alike w n f d xs (omega arith) same
 
 pub read_alike : {V : Type 0} (width : ℕ) (read : List ℕ → V) (bytes : List ℕ) (k j : ℕ) (d : V) → k < length bytes / width → j < length bytes / width → piece width bytes k ≡ piece width bytes j
-    → get_or (map read (cut width bytes)) k d ≡ get_or (map read (cut width bytes)) j d
+    → get_or (map read (pieces_of_width width bytes)) k d ≡ get_or (map read (pieces_of_width width bytes)) j d
 read_alike width read bytes k j d a b e = read_at width read bytes k d a ∙ ap read e ∙ sym (read_at width read bytes j d b)

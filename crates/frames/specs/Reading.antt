@@ -16,40 +16,40 @@ abbrev pub piece : ℕ → List ℕ → ℕ → List ℕ
 piece width bytes k = take width (drop (width * k) bytes)
 
 -- the whole pieces of so many bytes each, one after the other
-abbrev pub cut : ℕ → List ℕ → List (List ℕ)
-cut width bytes = map (piece width bytes) (range_with_len 0 (length bytes / width))
+abbrev pub pieces_of_width : ℕ → List ℕ → List (List ℕ)
+pieces_of_width width bytes = map (piece width bytes) (range_with_len 0 (length bytes / width))
 
-abbrev pub claim_in : List ℕ → Wrapped ℕ
-claim_in bytes = if slice_index bytes 0 == 0 then Plain (slice_index bytes 1) else Fault (slice_index bytes 0)
+abbrev pub content_claim : List ℕ → Wrapped ℕ
+content_claim bytes = if slice_index bytes 0 == 0 then Plain (slice_index bytes 1) else Fault (slice_index bytes 0)
 
-abbrev pub claims_in : List ℕ → List (Wrapped ℕ)
-claims_in bytes = map claim_in (cut 2 bytes)
+abbrev pub content_claims : List ℕ → List (Wrapped ℕ)
+content_claims bytes = map content_claim (pieces_of_width 2 bytes)
 
 -- the masks of the nodes, and 0 for the rest of the capacity
-abbrev pub row_in : ℕ → ℕ → List ℕ → List ℕ
-row_in capacity nodes bytes = take nodes (map (from_be_bytes w16) (cut 2 bytes)) ++ replicate (capacity - nodes) 0
+abbrev pub content_row : ℕ → ℕ → List ℕ → List ℕ
+content_row capacity nodes bytes = take nodes (map (from_be_bytes w16) (pieces_of_width 2 bytes)) ++ replicate (capacity - nodes) 0
 
 abbrev pub relayed_row_in : ℕ → ℕ → List ℕ → Wrapped (List ℕ)
-relayed_row_in capacity nodes bytes = if slice_index bytes 0 == 0 then Plain (row_in capacity nodes (drop 1 bytes)) else Fault (slice_index bytes 0)
+relayed_row_in capacity nodes bytes = if slice_index bytes 0 == 0 then Plain (content_row capacity nodes (drop 1 bytes)) else Fault (slice_index bytes 0)
 
-abbrev pub rows_in : ℕ → ℕ → List ℕ → List (Wrapped (List ℕ))
-rows_in capacity nodes bytes = map (relayed_row_in capacity nodes) (cut (1 + 2 * nodes) bytes)
+abbrev pub content_rows : ℕ → ℕ → List ℕ → List (Wrapped (List ℕ))
+content_rows capacity nodes bytes = map (relayed_row_in capacity nodes) (pieces_of_width (1 + 2 * nodes) bytes)
 
-abbrev pub value_in : List ℕ → ℤ
-value_in bytes = cast_signed w64 (from_be_bytes w64 bytes)
+abbrev pub content_value : List ℕ → ℤ
+content_value bytes = cast_signed w64 (from_be_bytes w64 bytes)
 
-abbrev pub values_in : List ℕ → List ℤ
-values_in bytes = map value_in (cut 8 bytes)
+abbrev pub content_values : List ℕ → List ℤ
+content_values bytes = map content_value (pieces_of_width 8 bytes)
 
 -- what a body of a kind would say
-abbrev pub said_in : Expectation → ℕ → List ℕ → Content
-said_in e k body =
+abbrev pub content_said : Expectation → ℕ → List ℕ → Content
+content_said e k body =
     if k == state_kind then State body
     else (if k == claim_kind then Done0 (slice_index body 0)
-    else (if k == claim_relay_kind then DoneRelay (claims_in body)
-    else (if k == data_kind then Data (values_in body)
-    else (if k == row_kind then Report0 (row_in e.capacity e.nodes body)
-    else (if k == row_relay_kind then ReportRelay (rows_in e.capacity e.nodes body)
+    else (if k == claim_relay_kind then DoneRelay (content_claims body)
+    else (if k == data_kind then Data (content_values body)
+    else (if k == row_kind then Report0 (content_row e.capacity e.nodes body)
+    else (if k == row_relay_kind then ReportRelay (content_rows e.capacity e.nodes body)
     else Cold)))))
 
 abbrev pub fits_claim : ℕ → ℕ → Bool
@@ -88,4 +88,4 @@ confirmed e bytes c = answer_if (fits e c && (nat_lt (length bytes) (2 ^ 32 + 14
 
 -- what the bytes say; None where they are no frame
 unfoldable pub reading : Expectation → List ℕ → Option Content
-reading e bytes = confirmed e bytes (said_in e (slice_index bytes 3) (drop 14 bytes))
+reading e bytes = confirmed e bytes (content_said e (slice_index bytes 3) (drop 14 bytes))

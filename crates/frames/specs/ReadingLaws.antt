@@ -19,7 +19,7 @@ use Rattle.omh_paths.specs.declared.wrapped.Wrapped.TheVariants.{Plain, Fault}
 use Rattle.frames.specs.declared.frame.Head.{Head}
 use Rattle.frames.specs.Content.{Expectation, Content, State, Done0, DoneRelay, Data, Report0, ReportRelay, Cold, kind, kind_in, round_in, entries_due, IsClaim, IsRow, IsValue, IsEntry, IsSized}
 use Rattle.frames.specs.Spelling.{claim_spelling, relayed_row_spelling, value_spelling, body_spelling, header_spelling, spelling, head_of, IsInRange, IsFrame}
-use Rattle.frames.specs.Reading.{claim_in, relayed_row_in, value_in, said_in, fits_claim, fits_row, fits_value, fits_entry, fits_sizes, fits, answer_if, confirmed, reading}
+use Rattle.frames.specs.Reading.{content_claim, relayed_row_in, content_value, content_said, fits_claim, fits_row, fits_value, fits_entry, fits_sizes, fits, answer_if, confirmed, reading}
 use Rattle.frames.specs.Laws.{ReadsExactly, IsSpeltOnce, ReadsBack, ReadsInRange, HasNoFront, HasNoPrefix, ReadsCold, IsLaidOut, IsShort}
 use Rattle.frames.specs.PieceLaws.{read_spelt, length_spelt}
 use Rattle.frames.specs.EntryLaws.{claim_format, claim_fits, claim_valid, value_format, value_fits, value_valid, row_back, row_long, relayed_row_format}
@@ -130,11 +130,11 @@ fits_decided e c =
 
 -- ---- what is spelt is what is read off
 
-pub said_spelt : (e : Expectation) (c : Content) → IsSized e c → said_in e (kind c) (body_spelling e.nodes c) ≡ c
+pub said_spelt : (e : Expectation) (c : Content) → IsSized e c → content_said e (kind c) (body_spelling e.nodes c) ≡ c
 said_spelt e (State bytes) h = refl
 said_spelt e (Done0 task) h = refl
-said_spelt e (DoneRelay entries) h = ap DoneRelay (read_spelt 2 claim_spelling claim_in (IsEntry (IsClaim e.tasks) (round_in e.m e.slot)) (claim_format e.tasks (round_in e.m e.slot)) entries h.1)
-said_spelt e (Data numbers) h = ap Data (read_spelt 8 value_spelling value_in IsValue value_format numbers h.1)
+said_spelt e (DoneRelay entries) h = ap DoneRelay (read_spelt 2 claim_spelling content_claim (IsEntry (IsClaim e.tasks) (round_in e.m e.slot)) (claim_format e.tasks (round_in e.m e.slot)) entries h.1)
+said_spelt e (Data numbers) h = ap Data (read_spelt 8 value_spelling content_value IsValue value_format numbers h.1)
 said_spelt e (Report0 masks) h = ap Report0 (row_back e.version e.capacity e.nodes masks h)
 said_spelt e (ReportRelay entries) h =
     ap ReportRelay (read_spelt (1 + 2 * e.nodes) (relayed_row_spelling e.nodes) (relayed_row_in e.capacity e.nodes) (IsEntry (IsRow e.version e.capacity e.nodes) (round_in e.m e.slot)) (relayed_row_format e.version e.capacity e.nodes (round_in e.m e.slot)) entries h.1)
@@ -161,7 +161,7 @@ reads_back e c h =
 pub reads_only : (e : Expectation) (c : Content) (bytes : List ℕ) → reading e bytes ≡ Some c → IsInRange e c × (bytes ≡ spelling e.nodes (head_of e) c)
 unfolding reading
 reads_only e c bytes h =
-    let x : Content = said_in e (slice_index bytes 3) (drop 14 bytes) in
+    let x : Content = content_said e (slice_index bytes 3) (drop 14 bytes) in
     let t : Bool = nat_lt (length bytes) (2 ^ 32 + 14) && pointwise ◌==◌ (spelling e.nodes (head_of e) x) bytes in
     let told = answer_told (fits e x && t) x c h in
     let inside = (fits_decided e x).0 (and_parts (fits e x) t told.0).0 in
@@ -269,10 +269,10 @@ is_short e c h k z = record { placed = inl k; sized = z; short = short c k z }
     short (Done0 task) k z = lit< tt
     short (DoneRelay entries) k z =
         let n : entries_due e ≤ 4096 = few_entries e (DoneRelay entries) h k (lit< tt) in
-        let l = length_spelt 2 claim_spelling claim_in (IsEntry (IsClaim e.tasks) (round_in e.m e.slot)) (claim_format e.tasks (round_in e.m e.slot)) entries z.1 in
+        let l = length_spelt 2 claim_spelling content_claim (IsEntry (IsClaim e.tasks) (round_in e.m e.slot)) (claim_format e.tasks (round_in e.m e.slot)) entries z.1 in
         omega (arith, z.0)
     short (Data numbers) k z =
-        let l = length_spelt 8 value_spelling value_in IsValue value_format numbers z.1 in
+        let l = length_spelt 8 value_spelling content_value IsValue value_format numbers z.1 in
         omega (arith, z.0, h.due)
     short (Report0 masks) k z = omega (arith, row_long e.version e.capacity e.nodes masks z, h.nodes)
     short (ReportRelay entries) k z =

@@ -7,7 +7,7 @@ use Rattle.frames.specs.declared.kind.Kind.{Kind}
 use Rattle.frames.specs.declared.kind.Kind.TheVariants as kinds
 use Rattle.frames.specs.Content.{Expectation, Content, State, Done0, DoneRelay, Data, Report0, ReportRelay, Cold}
 use Rattle.frames.specs.FrameKinds.{state_kind, claim_kind, claim_relay_kind, data_kind, row_kind, row_relay_kind, cold_kind}
-use Rattle.frames.specs.Reading.{claims_in, rows_in, values_in}
+use Rattle.frames.specs.Reading.{content_claims, content_rows, content_values}
 
 -- what is expected, where a row has a mask for each of N nodes
 abbrev pub expected : {N : ℕ} → Expect N → Expectation
@@ -29,10 +29,10 @@ expected {N} e = record {
 abbrev pub content : {N : ℕ} → ℕ → Body N → Content
 content nodes (body.State bytes) = State bytes.now
 content nodes (body.Done0 task) = Done0 task
-content nodes (body.DoneRelay cells) = DoneRelay (claims_in cells.bytes.now)
-content nodes (body.Data values) = Data (values_in values.bytes.now)
+content nodes (body.DoneRelay cells) = DoneRelay (content_claims cells.bytes.now)
+content nodes (body.Data values) = Data (content_values values.bytes.now)
 content nodes (body.Report0 row) = Report0 row
-content {N} nodes (body.ReportRelay cells) = ReportRelay (rows_in N nodes cells.bytes.now)
+content {N} nodes (body.ReportRelay cells) = ReportRelay (content_rows N nodes cells.bytes.now)
 content nodes body.Cold = Cold
 
 -- entries have the width of the entries of their kind

@@ -7,7 +7,7 @@ ghost use Rattle.node_grid.specs.Capacity.{IsCapacity};
 ghost use Rattle.omh_paths.specs.declared.wrapped.Wrapped.TheVariants.{Fault};
 ghost use Rattle.frames.specs.Checks.{are_written};
 ghost use Rattle.frames.specs.PieceLaws.{AreBytes};
-ghost use Rattle.frames.specs.Reading.{piece, claims_in, row_in, rows_in};
+ghost use Rattle.frames.specs.Reading.{piece, content_claims, content_row, content_rows};
 ghost use Rattle.frames.specs.Spelling.{claim_spelling, row_spelling, relayed_row_spelling};
 ghost use Rattle.frames.specs.Writing.{pasted};
 
@@ -56,9 +56,9 @@ impl<'a> Cells<'a> {
 
     /// The bytes of all entries.
     pub(crate) fn bytes(&self) -> &[u8]
-        ensures claims { self.now.width ≡ 2 → flat_map claim_spelling (claims_in self.now.bytes.now) ≡ result.now }
+        ensures claims { self.now.width ≡ 2 → flat_map claim_spelling (content_claims self.now.bytes.now) ≡ result.now }
         ensures rows { (capacity nodes : ℕ) → self.now.width ≡ 1 + 2 * nodes →
-            flat_map (relayed_row_spelling nodes) (rows_in capacity nodes self.now.bytes.now) ≡ result.now }
+            flat_map (relayed_row_spelling nodes) (content_rows capacity nodes self.now.bytes.now) ≡ result.now }
     {
         self.bytes
     }
@@ -68,9 +68,9 @@ impl<'a> Cells<'a> {
         requires some { from < until }
         requires within { until ≤ length self.now.bytes.now / self.now.width }
         ensures claims { result ≡ true → self.now.width ≡ 2 → (k : ℕ) → from ≤ k → k < until →
-            slice_index_or (claims_in self.now.bytes.now) k (Fault 0) ≡ slice_index_or (claims_in self.now.bytes.now) from (Fault 0) }
+            slice_index_or (content_claims self.now.bytes.now) k (Fault 0) ≡ slice_index_or (content_claims self.now.bytes.now) from (Fault 0) }
         ensures rows { result ≡ true → (capacity nodes : ℕ) → self.now.width ≡ 1 + 2 * nodes → (k : ℕ) → from ≤ k → k < until →
-            slice_index_or (rows_in capacity nodes self.now.bytes.now) k (Fault 0) ≡ slice_index_or (rows_in capacity nodes self.now.bytes.now) from (Fault 0) }
+            slice_index_or (content_rows capacity nodes self.now.bytes.now) k (Fault 0) ≡ slice_index_or (content_rows capacity nodes self.now.bytes.now) from (Fault 0) }
     {
         are_alike(self.bytes, self.width, from, until)
     }
@@ -79,7 +79,7 @@ impl<'a> Cells<'a> {
     pub fn done_at(&self, k: usize) -> Wrapped<u8>
         requires wide { self.now.width ≡ 2 }
         requires within { k < length self.now.bytes.now / self.now.width }
-        ensures { result ≡ slice_index_or (claims_in self.now.bytes.now) k result }
+        ensures { result ≡ slice_index_or (content_claims self.now.bytes.now) k result }
     {
         match self.bytes[2 * k] {
             0 => Wrapped::Plain(self.bytes[2 * k + 1]),
@@ -93,7 +93,7 @@ impl<'a> Cells<'a> {
         requires nodes { nodes ≤ N }
         requires wide { self.now.width ≡ 1 + 2 * nodes }
         requires within { k < length self.now.bytes.now / self.now.width }
-        ensures { result ≡ slice_index_or (rows_in N nodes self.now.bytes.now) k result }
+        ensures { result ≡ slice_index_or (content_rows N nodes self.now.bytes.now) k result }
     {
         let at = k * self.width;
         match self.bytes[at] {
@@ -119,7 +119,7 @@ pub(crate) fn read_row<const N: usize>(bytes: &[u8], nodes: u8) -> Row<N>
     requires capacity { IsCapacity N }
     requires nodes { nodes ≤ N }
     requires whole { length bytes.now ≡ 2 * nodes }
-    ensures { result ≡ row_in N nodes bytes.now }
+    ensures { result ≡ content_row N nodes bytes.now }
 {
     let mut row = Row::zero();
     for j in 0..nodes as usize {

@@ -5,7 +5,7 @@ ghost use Rattle.std.specs.List.{list_all};
 ghost use Rattle.node_grid.specs.Capacity.{IsCapacity};
 ghost use Rattle.frames.specs.Content.{Content, entries_due, round_in};
 ghost use Rattle.frames.specs.Spelling.{IsFrame, head_of, header_spelling};
-ghost use Rattle.frames.specs.Reading.{reading, cut, fits_claim, fits_value};
+ghost use Rattle.frames.specs.Reading.{reading, pieces_of_width, fits_claim, fits_value};
 ghost use Rattle.frames.specs.Checks.{is_claim_entry, is_row_entry, is_value, are_masks, has_claim, has_claims, has_values, has_row, has_rows, IsBody};
 ghost use Rattle.frames.specs.Seen.{content, expected, HasWidth};
 
@@ -61,7 +61,7 @@ fn is_row_entry(version: u8, entry: &[u8], round: u8) -> bool
 
 /// Whether the bytes are entries of relayed claims.
 fn are_claims(body: &[u8], tasks: u8, round: u8) -> bool
-    ensures { result ≡ list_all (is_claim_entry tasks round) (cut 2 body.now) }
+    ensures { result ≡ list_all (is_claim_entry tasks round) (pieces_of_width 2 body.now) }
 {
     for k in 0..body.len() / 2 {
         if !is_claim_entry(&body[2 * k..2 * k + 2], tasks, round) {
@@ -74,7 +74,7 @@ fn are_claims(body: &[u8], tasks: u8, round: u8) -> bool
 /// Whether the bytes are entries of relayed rows, of so many bytes each: one by one.
 fn is_each_row(version: u8, body: &[u8], width: usize, round: u8) -> bool
     requires { 1 ≤ width }
-    ensures { result ≡ list_all (is_row_entry version round) (cut width body.now) }
+    ensures { result ≡ list_all (is_row_entry version round) (pieces_of_width width body.now) }
 {
     for k in 0..body.len() / width {
         if !is_row_entry(version, &body[width * k..width * k + width], round) {
@@ -98,7 +98,7 @@ fn is_repeated(body: &[u8], width: usize) -> bool
 /// In version 1 each mask is looked at; where all entries are the same, those of one are enough.
 fn are_rows(version: u8, body: &[u8], width: usize, round: u8) -> bool
     requires { 1 ≤ width }
-    ensures { result ≡ list_all (is_row_entry version round) (cut width body.now) }
+    ensures { result ≡ list_all (is_row_entry version round) (pieces_of_width width body.now) }
 {
     if version == 1 && width <= body.len() && is_repeated(body, width) {
         return is_row_entry(version, &body[..width], round);
@@ -108,7 +108,7 @@ fn are_rows(version: u8, body: &[u8], width: usize, round: u8) -> bool
 
 /// Whether the bytes are values in range.
 fn are_values(body: &[u8]) -> bool
-    ensures { result ≡ list_all is_value (cut 8 body.now) }
+    ensures { result ≡ list_all is_value (pieces_of_width 8 body.now) }
 {
     for k in 0..body.len() / 8 {
         if !is_value(read_value(body, k)) {

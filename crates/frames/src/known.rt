@@ -3,7 +3,7 @@
 ghost use Rattle.std.specs.Prelude.{◌≡◌, ◌<◌, ◌≤◌, IsSome, Some};
 ghost use Rattle.node_grid.specs.Capacity.{IsCapacity};
 ghost use Rattle.frames.specs.Spelling.{IsFrame, head_of};
-ghost use Rattle.frames.specs.Reading.{reading, said_in};
+ghost use Rattle.frames.specs.Reading.{reading, content_said};
 ghost use Rattle.frames.specs.Checks.{IsSaid};
 ghost use Rattle.frames.specs.Seen.{content, expected, HasWidth};
 
@@ -20,8 +20,8 @@ fn known_body<'a, const N: usize>(expect: &Expect<N>, kind: u8, bytes: &'a [u8])
     requires nodes { expect.now.nodes ≤ N }
     requires first { 1 ≤ kind }
     requires last { kind ≤ 7 }
-    requires said { IsSaid (expected expect.now) (said_in (expected expect.now) kind bytes.now) bytes.now }
-    ensures says { content expect.now.nodes result ≡ said_in (expected expect.now) kind bytes.now }
+    requires said { IsSaid (expected expect.now) (content_said (expected expect.now) kind bytes.now) bytes.now }
+    ensures says { content expect.now.nodes result ≡ content_said (expected expect.now) kind bytes.now }
     ensures widths { HasWidth expect.now.nodes result }
 {
     match Kind::numbered(kind) {

@@ -3,7 +3,7 @@
 ghost use Rattle.std.specs.Prelude.{◌≡◌, ◌+◌, ◌*◌, ◌/◌, ◌%◌, ◌<◌, ◌≤◌, ◌==◌, length, slice_index_or};
 ghost use Rattle.std.specs.List.{flat_map};
 ghost use Rattle.frames.specs.PieceLaws.{AreBytes};
-ghost use Rattle.frames.specs.Reading.{piece, value_in, values_in};
+ghost use Rattle.frames.specs.Reading.{piece, content_value, content_values};
 ghost use Rattle.frames.specs.Spelling.{value_spelling};
 ghost use Rattle.frames.specs.Writing.{pasted};
 
@@ -28,7 +28,7 @@ impl<'a> Values<'a> {
 
     /// The number of values.
     pub fn len(&self) -> usize
-        ensures { result ≡ length (values_in self.now.bytes.now) }
+        ensures { result ≡ length (content_values self.now.bytes.now) }
     {
         self.bytes.len() / 8
     }
@@ -42,15 +42,15 @@ impl<'a> Values<'a> {
 
     /// The bytes of all values.
     pub(crate) fn bytes(&self) -> &[u8]
-        ensures { flat_map value_spelling (values_in self.now.bytes.now) ≡ result.now }
+        ensures { flat_map value_spelling (content_values self.now.bytes.now) ≡ result.now }
     {
         self.bytes
     }
 
     /// Value `k`.
     pub fn at(&self, k: usize) -> i64
-        requires { k < length (values_in self.now.bytes.now) }
-        ensures { result ≡ slice_index_or (values_in self.now.bytes.now) k result }
+        requires { k < length (content_values self.now.bytes.now) }
+        ensures { result ≡ slice_index_or (content_values self.now.bytes.now) k result }
     {
         read_value(self.bytes, k)
     }
@@ -59,7 +59,7 @@ impl<'a> Values<'a> {
 /// Value `k` of these bytes.
 pub(crate) fn read_value(bytes: &[u8], k: usize) -> i64
     requires { 8 * k + 8 ≤ length bytes.now }
-    ensures { result ≡ value_in (piece 8 bytes.now k) }
+    ensures { result ≡ content_value (piece 8 bytes.now k) }
 {
     let at = 8 * k;
     i64::from_be_bytes([

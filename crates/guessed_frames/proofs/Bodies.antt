@@ -11,7 +11,7 @@ use Rattle.frames.specs.Content as content
 use Rattle.frames.specs.Content.{Expectation, Content, State, Done0, DoneRelay, Report0, ReportRelay, Cold, IsEntry, IsClaim, IsRow, kind, round_in}
 use Rattle.frames.specs.EntryLaws.{claim_format, relayed_row_format}
 use Rattle.frames.specs.PieceLaws.{length_spelt}
-use Rattle.frames.specs.Reading.{claim_in, claims_in, relayed_row_in, rows_in}
+use Rattle.frames.specs.Reading.{content_claim, content_claims, relayed_row_in, content_rows}
 use Rattle.frames.specs.Spelling.{claim_spelling, relayed_row_spelling, body_spelling, header_spelling, head_of}
 use Rattle.error_detect.specs.Guessing.{IsGuessable, said_by, body_without}
 use Rattle.error_detect.specs.Inside.{said_as}
@@ -34,32 +34,32 @@ round_few m Data is = omega arith
 round_few m (Rows r) is = is
 
 -- the bytes of a table have an entry for each path
-pub claims_whole : (e : Expectation) (bytes : List ℕ) → IsGuessable e (DoneRelay (claims_in bytes)) → bytes ≡ flat_map claim_spelling (claims_in bytes)
+pub claims_whole : (e : Expectation) (bytes : List ℕ) → IsGuessable e (DoneRelay (content_claims bytes)) → bytes ≡ flat_map claim_spelling (content_claims bytes)
     → 2 * length (paths_of_length e.members (round_in e.m e.slot)) ≡ length bytes
 claims_whole e bytes h spelt =
     let r : ℕ = round_in e.m e.slot in
-    let es = claims_in bytes in
-    let long : length bytes ≡ 2 * length es = ap length spelt ∙ length_spelt 2 claim_spelling claim_in (IsEntry (IsClaim e.tasks) r) (claim_format e.tasks r) es h.3 in
+    let es = content_claims bytes in
+    let long : length bytes ≡ 2 * length es = ap length spelt ∙ length_spelt 2 claim_spelling content_claim (IsEntry (IsClaim e.tasks) r) (claim_format e.tasks r) es h.3 in
     ap (λ (n : ℕ). 2 * n) (length-paths e.members r h.1 ∙ sym h.2) ∙ sym long
 
-pub rows_whole : (e : Expectation) (bytes : List ℕ) → IsGuessable e (ReportRelay (rows_in e.capacity e.nodes bytes)) → bytes ≡ flat_map (relayed_row_spelling e.nodes) (rows_in e.capacity e.nodes bytes)
+pub rows_whole : (e : Expectation) (bytes : List ℕ) → IsGuessable e (ReportRelay (content_rows e.capacity e.nodes bytes)) → bytes ≡ flat_map (relayed_row_spelling e.nodes) (content_rows e.capacity e.nodes bytes)
     → (1 + 2 * e.nodes) * length (paths_of_length e.members (round_in e.m e.slot)) ≡ length bytes
 rows_whole e bytes h spelt =
     let r : ℕ = round_in e.m e.slot in
     let w : ℕ = 1 + 2 * e.nodes in
-    let es = rows_in e.capacity e.nodes bytes in
+    let es = content_rows e.capacity e.nodes bytes in
     let long : length bytes ≡ w * length es =
     ap length spelt ∙ length_spelt w (relayed_row_spelling e.nodes) (relayed_row_in e.capacity e.nodes) (IsEntry (IsRow e.version e.capacity e.nodes) r) (relayed_row_format e.version e.capacity e.nodes r) es h.3 in
     ap (λ (n : ℕ). w * n) (length-paths e.members r h.1 ∙ sym h.2) ∙ sym long
 
 -- a sender's part of them is the body of its frame
-pub claims_body : (e : Expectation) (bytes body : List ℕ) (j : ℕ) → IsGuessable e (DoneRelay (claims_in bytes)) → bytes ≡ flat_map claim_spelling (claims_in bytes)
-    → body ≡ body_without e 2 j bytes → body ≡ body_spelling e.nodes (said_by e j (DoneRelay (claims_in bytes)))
-claims_body e bytes body j h spelt is = is ∙ ap (body_without e 2 j) spelt ∙ sym (claim_pieces e (claims_in bytes) j h)
+pub claims_body : (e : Expectation) (bytes body : List ℕ) (j : ℕ) → IsGuessable e (DoneRelay (content_claims bytes)) → bytes ≡ flat_map claim_spelling (content_claims bytes)
+    → body ≡ body_without e 2 j bytes → body ≡ body_spelling e.nodes (said_by e j (DoneRelay (content_claims bytes)))
+claims_body e bytes body j h spelt is = is ∙ ap (body_without e 2 j) spelt ∙ sym (claim_pieces e (content_claims bytes) j h)
 
-pub rows_body : (e : Expectation) (bytes body : List ℕ) (j : ℕ) → IsGuessable e (ReportRelay (rows_in e.capacity e.nodes bytes)) → bytes ≡ flat_map (relayed_row_spelling e.nodes) (rows_in e.capacity e.nodes bytes)
-    → body ≡ body_without e (1 + 2 * e.nodes) j bytes → body ≡ body_spelling e.nodes (said_by e j (ReportRelay (rows_in e.capacity e.nodes bytes)))
-rows_body e bytes body j h spelt is = is ∙ ap (body_without e (1 + 2 * e.nodes) j) spelt ∙ sym (row_pieces e (rows_in e.capacity e.nodes bytes) j h)
+pub rows_body : (e : Expectation) (bytes body : List ℕ) (j : ℕ) → IsGuessable e (ReportRelay (content_rows e.capacity e.nodes bytes)) → bytes ≡ flat_map (relayed_row_spelling e.nodes) (content_rows e.capacity e.nodes bytes)
+    → body ≡ body_without e (1 + 2 * e.nodes) j bytes → body ≡ body_spelling e.nodes (said_by e j (ReportRelay (content_rows e.capacity e.nodes bytes)))
+rows_body e bytes body j h spelt is = is ∙ ap (body_without e (1 + 2 * e.nodes) j) spelt ∙ sym (row_pieces e (content_rows e.capacity e.nodes bytes) j h)
 
 kind_said : (e : Expectation) (j : ℕ) (c : Content) → kind c ≡ kind (said_by e j c)
 kind_said e j (State bytes) = refl

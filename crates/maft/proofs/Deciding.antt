@@ -10,7 +10,7 @@ use Rattle.maft.specs.declared.status.Status.{Status}
 use Rattle.maft.specs.declared.status.Status.TheVariants.{Done, Usage, Unreadable, Refused, ReadFault, WriteFault, NoMemory, TooLong}
 use Rattle.maft.specs.declared.form.Reading.{Reading}
 use Rattle.maft.specs.declared.form.Reading.TheVariants.{Scenario, Log}
-use Rattle.maft.specs.Answers.{limit, capacity, IsRefused, IsUnreadable, IsAcceptedInput, HasTextOf, Decides, Answers}
+use Rattle.maft.specs.Answers.{input_limit, capacity, IsRefused, IsUnreadable, IsAcceptedInput, HasTextOf, Decides, Answers}
 
 -- bytes are text of one value alone
 same_value : (bytes : List ℕ) (d e : Data) → Reads bytes d → Reads bytes e → d ≡ e
@@ -49,7 +49,7 @@ no_memory reading bytes before now = record {
   accepted = λ h a n. inr refl;
 }
 
-pub too_long : (reading : Reading) (bytes : List ℕ) (before now : ℕ) → limit < length bytes → Decides reading bytes before now TooLong
+pub too_long : (reading : Reading) (bytes : List ℕ) (before now : ℕ) → input_limit < length bytes → Decides reading bytes before now TooLong
 too_long reading bytes before now long = record {
   too_long = λ h. inl refl;
   unreadable = λ h u. absurd (omega arith);
@@ -57,7 +57,7 @@ too_long reading bytes before now long = record {
   accepted = λ h a n. absurd (omega arith);
 }
 
-done : (reading : Reading) (bytes : List ℕ) (before now : ℕ) → length bytes ≤ limit → IsAcceptedInput reading bytes → Decides reading bytes before now Done
+done : (reading : Reading) (bytes : List ℕ) (before now : ℕ) → length bytes ≤ input_limit → IsAcceptedInput reading bytes → Decides reading bytes before now Done
 done reading bytes before now short a = record {
   too_long = λ h. absurd (omega arith);
   unreadable = λ h u. absurd (readable reading bytes a u);
@@ -65,7 +65,7 @@ done reading bytes before now short a = record {
   accepted = λ h a n. inl refl;
 }
 
-write_fault : (reading : Reading) (bytes : List ℕ) (before now : ℕ) → length bytes ≤ limit → IsAcceptedInput reading bytes → Rose before now → Decides reading bytes before now WriteFault
+write_fault : (reading : Reading) (bytes : List ℕ) (before now : ℕ) → length bytes ≤ input_limit → IsAcceptedInput reading bytes → Rose before now → Decides reading bytes before now WriteFault
 write_fault reading bytes before now short a rose = record {
   too_long = λ h. absurd (omega arith);
   unreadable = λ h u. absurd (readable reading bytes a u);
@@ -73,7 +73,7 @@ write_fault reading bytes before now short a rose = record {
   accepted = λ h a n. absurd (n rose);
 }
 
-refused : (reading : Reading) (bytes : List ℕ) (before now rule place : ℕ) → length bytes ≤ limit → IsRefused reading bytes rule place → Decides reading bytes before now Refused
+refused : (reading : Reading) (bytes : List ℕ) (before now rule place : ℕ) → length bytes ≤ input_limit → IsRefused reading bytes rule place → Decides reading bytes before now Refused
 refused reading bytes before now rule place short r = record {
   too_long = λ h. absurd (omega arith);
   unreadable = λ h u. absurd (u r.value r.reads);
@@ -81,7 +81,7 @@ refused reading bytes before now rule place short r = record {
   accepted = λ h a n. absurd (not_both reading bytes rule place a r);
 }
 
-unreadable : (reading : Reading) (bytes : List ℕ) (before now : ℕ) → length bytes ≤ limit → IsUnreadable bytes → Decides reading bytes before now Unreadable
+unreadable : (reading : Reading) (bytes : List ℕ) (before now : ℕ) → length bytes ≤ input_limit → IsUnreadable bytes → Decides reading bytes before now Unreadable
 unreadable reading bytes before now short u = record {
   too_long = λ h. absurd (omega arith);
   unreadable = λ h u. inl refl;
@@ -90,7 +90,7 @@ unreadable reading bytes before now short u = record {
 }
 
 -- the answer to the bytes of an input that is not too long
-pub answered : (reading : Reading) (bytes : List ℕ) (old new : Option (List ℕ)) (before now : ℕ) (status : Status) → length bytes ≤ limit → Answers reading bytes old new before now status → Decides reading bytes before now status
+pub answered : (reading : Reading) (bytes : List ℕ) (old new : Option (List ℕ)) (before now : ℕ) (status : Status) → length bytes ≤ input_limit → Answers reading bytes old new before now status → Decides reading bytes before now status
 answered reading bytes old new before now Done short a = done reading bytes before now short (input_of reading bytes a.0 a.1)
 answered reading bytes old new before now WriteFault short a = write_fault reading bytes before now short (input_of reading bytes a.0 a.1) a.3
 answered reading bytes old new before now Unreadable short a = unreadable reading bytes before now short a.0

@@ -8,7 +8,7 @@ use Rattle.maft.specs.declared.replay.ReplayError.{ReplayError}
 use Rattle.maft.specs.declared.replay.ReplayError.TheVariants.{WriteFault, NoMemory}
 use Rattle.maft.specs.Run.{run_text, IsSafeRun, IsRun}
 use Rattle.maft.specs.Alone.{log_text, IsLogRun}
-use Rattle.maft.specs.Answers.{capacity, status_of, IsAccepted, IsAcceptedLog, Answers}
+use Rattle.maft.specs.Answers.{capacity, status_of, IsAcceptedText, IsAcceptedLog, Answers}
 
 -- a run whose text is also that of another, which is safe
 pub run_of : {N M : ℕ} (form : Form) (a : ScenarioView N) (b : ScenarioView M) (old new : Option (List ℕ)) (before now : ℕ) (r : Result (Unit {0}) ReplayError)
@@ -23,7 +23,7 @@ run_of form a b old new before now r same safe h = record {
 
 -- how a run ends is what is answered of its bytes
 pub answered_run : (form : Form) (bytes : List ℕ) (sc : ScenarioView capacity) (old new : Option (List ℕ)) (before now : ℕ) (r : Result (Unit {0}) ReplayError)
-    → IsAccepted bytes sc → IsRun form sc old new before now r → Answers (Scenario form) bytes old new before now (status_of r)
+    → IsAcceptedText bytes sc → IsRun form sc old new before now r → Answers (Scenario form) bytes old new before now (status_of r)
 answered_run form bytes sc old new before now (Ok u) a h = (run_text form sc, (sc, a, refl, h.safe), h.written, h.faultless)
 answered_run form bytes sc old new before now (Err WriteFault) a h = (run_text form sc, (sc, a, refl, h.safe), (h.write_fault refl).0, (h.write_fault refl).1)
 answered_run form bytes sc old new before now (Err NoMemory) a h = h.no_memory refl

@@ -25,15 +25,15 @@ use Rattle.maft.specs.Run.{run_text, IsSafeRun}
 use Rattle.maft.specs.Alone.{log_text}
 
 -- how many bytes an input may have
-abbrev pub limit : ℕ
-limit = 4194304
+abbrev pub input_limit : ℕ
+input_limit = 4194304
 
 -- how many nodes a scenario that is read has room for
 abbrev pub capacity : ℕ
 capacity = 16
 
 -- the bytes are JSON text of an accepted scenario
-pub record IsAccepted (bytes : List ℕ) (sc : ScenarioView capacity) : Type 0 where
+pub record IsAcceptedText (bytes : List ℕ) (sc : ScenarioView capacity) : Type 0 where
   pub value : Data
   pub reads : Reads bytes value
   pub accepted : IsAcceptedValue value sc
@@ -46,7 +46,7 @@ pub record IsAcceptedLog (bytes : List ℕ) (id : ℕ) (log : RecordView capacit
 
 -- they are an accepted input of this kind
 abbrev pub IsAcceptedInput : Reading → List ℕ → Type 0
-IsAcceptedInput (Scenario form) bytes = (sc : ScenarioView capacity) × IsAccepted bytes sc
+IsAcceptedInput (Scenario form) bytes = (sc : ScenarioView capacity) × IsAcceptedText bytes sc
 IsAcceptedInput (Log id) bytes = (log : RecordView capacity) × IsAcceptedLog bytes id log
 
 -- what the rules say of a JSON value
@@ -62,7 +62,7 @@ pub record IsRefused (reading : Reading) (bytes : List ℕ) (rule place : ℕ) :
 
 -- the text of the bytes, and what holds of it: of a run, that each claimed period is safe
 abbrev pub HasTextOf : Reading → List ℕ → List ℕ → Type 0
-HasTextOf (Scenario form) bytes text = (sc : ScenarioView capacity) × IsAccepted bytes sc × (text ≡ run_text form sc) × IsSafeRun sc
+HasTextOf (Scenario form) bytes text = (sc : ScenarioView capacity) × IsAcceptedText bytes sc × (text ≡ run_text form sc) × IsSafeRun sc
 HasTextOf (Log id) bytes text = (log : RecordView capacity) × IsAcceptedLog bytes id log × (text ≡ log_text log)
 
 -- The text that is written where nothing fails. Of a storm, for which nothing is read, all periods are claimed, and keep what is promised
@@ -78,7 +78,7 @@ IsUnreadable bytes = (d : Data) → Reads bytes d → ⊥
 pub record IsWhole (old new : Option (List ℕ)) (bytes : List ℕ) : Type 0 where
   pub all : IfSome old (λ xs. bytes ≡ xs)
   pub end : IsAtEnd new
-  pub short : length bytes ≤ limit
+  pub short : length bytes ≤ input_limit
 
 -- nothing was read: the source gave no byte, and where it tells what is left, that is what was left
 pub record IsUnread (left_old left_new : Option (List ℕ)) (given_old given_new : ℕ) : Type 0 where
@@ -102,10 +102,10 @@ WritesSome old new before now text = (Appends old new text × (now ≡ before)) 
 
 -- what must be answered of these bytes, if not that there was no memory, where neither count of faults rose
 pub record Decides (reading : Reading) (bytes : List ℕ) (before now : ℕ) (status : Status) : Type 0 where
-  pub too_long : limit < length bytes → (status ≡ TooLong) ⊎ (status ≡ NoMemory)
-  pub unreadable : length bytes ≤ limit → IsUnreadable bytes → (status ≡ Unreadable) ⊎ (status ≡ NoMemory)
-  pub refused : length bytes ≤ limit → (rule place : ℕ) → IsRefused reading bytes rule place → (status ≡ Refused) ⊎ (status ≡ NoMemory)
-  pub accepted : length bytes ≤ limit → IsAcceptedInput reading bytes → ¬ Rose before now → (status ≡ Done) ⊎ (status ≡ NoMemory)
+  pub too_long : input_limit < length bytes → (status ≡ TooLong) ⊎ (status ≡ NoMemory)
+  pub unreadable : length bytes ≤ input_limit → IsUnreadable bytes → (status ≡ Unreadable) ⊎ (status ≡ NoMemory)
+  pub refused : length bytes ≤ input_limit → (rule place : ℕ) → IsRefused reading bytes rule place → (status ≡ Refused) ⊎ (status ≡ NoMemory)
+  pub accepted : length bytes ≤ input_limit → IsAcceptedInput reading bytes → ¬ Rose before now → (status ≡ Done) ⊎ (status ≡ NoMemory)
 
 -- the same of a command, by what was left in the source, and the counts of faults of source and sink
 abbrev pub IsDecided : Command → Option (List ℕ) → ℕ → ℕ → ℕ → ℕ → Status → Type 0
@@ -163,7 +163,7 @@ pub record IsStatusOf (words : List (List ℕ)) (old new : Devices) (status : St
   pub read_fault : status ≡ ReadFault → Rose old.source_faults new.source_faults × Keeps old.written new.written
   pub faults : (status ≡ ReadFault) ⊎ (new.source_faults ≡ old.source_faults)
   pub sink_faults : (status ≡ WriteFault) ⊎ ((status ≡ Refused) ⊎ (new.sink_faults ≡ old.sink_faults))
-  pub too_long : status ≡ TooLong → IfSome old.left (λ bytes. limit < length bytes) × GivenPast limit old.given new.given × Keeps old.written new.written
+  pub too_long : status ≡ TooLong → IfSome old.left (λ bytes. input_limit < length bytes) × GivenPast input_limit old.given new.given × Keeps old.written new.written
   pub unreadable : status ≡ Unreadable → (bytes : List ℕ) × IsWhole old.left new.left bytes × IsUnreadable bytes × Keeps old.written new.written
   pub refused : status ≡ Refused → (reading : Reading) × (bytes : List ℕ) × (rule : ℕ) × (place : ℕ) × Calls words (Read reading) × IsWhole old.left new.left bytes
       × IsRefused reading bytes rule place × WritesSome old.written new.written old.sink_faults new.sink_faults (refused_text rule place)

@@ -16,7 +16,7 @@ use Rattle.node_alone.specs.Laws.{IsOfRun}
 use Rattle.maft.specs.declared.form.Form.{Form}
 use Rattle.maft.specs.Run.{run_text, IsSafeRun}
 use Rattle.maft.specs.Alone.{log_text}
-use Rattle.maft.specs.Answers.{capacity, IsAccepted, IsAcceptedLog}
+use Rattle.maft.specs.Answers.{capacity, IsAcceptedText, IsAcceptedLog}
 
 -- each claimed period of a scenario keeps what is promised, and its line tells whether it is claimed
 abbrev pub SafeRunLaw : Type 0
@@ -24,7 +24,7 @@ SafeRunLaw = (capacity : ℕ) (sc : ScenarioView capacity) → IsScenario sc →
 
 -- so do those of bytes that are an accepted scenario
 abbrev pub AcceptedRunLaw : Type 0
-AcceptedRunLaw = (bytes : List ℕ) (sc : ScenarioView capacity) → IsAccepted bytes sc → IsSafeRun sc
+AcceptedRunLaw = (bytes : List ℕ) (sc : ScenarioView capacity) → IsAcceptedText bytes sc → IsSafeRun sc
 
 -- the node whose frames are delivered first changes no text
 abbrev pub OrderLaw : Type 0

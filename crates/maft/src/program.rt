@@ -16,7 +16,7 @@ ghost use Rattle.maft.specs.declared.status.Status.{Status as SpecStatus};
 ghost use Rattle.maft.specs.Status.{number_of};
 ghost use Rattle.maft.specs.Words.{texts, Calls};
 ghost use Rattle.maft.specs.Run.{IsRun};
-ghost use Rattle.maft.specs.Answers.{limit, capacity, status_of, AnswersValue, IsRefused, IsUnreadable, IsWhole, IsRead, IsUntouched, WritesSome, HasText, IsDecided, Answers, AnswersStorm, IsStatusOf};
+ghost use Rattle.maft.specs.Answers.{input_limit, capacity, status_of, AnswersValue, IsRefused, IsUnreadable, IsWhole, IsRead, IsUntouched, WritesSome, HasText, IsDecided, Answers, AnswersStorm, IsStatusOf};
 
 use crate::alone::write_log;
 use crate::form::command_of;
@@ -197,8 +197,8 @@ pub fn maft<S: Source, K: Sink>(
     // it took bytes after the fault, but where the line of a refusal was to be written.
     ensures faults { (result ≡ Status.ReadFault) ⊎ (S.faults source.new ≡ S.faults source.old) }
     ensures sink_faults { (result ≡ Status.WriteFault) ⊎ ((result ≡ Status.Refused) ⊎ (K.faults sink.new ≡ K.faults sink.old)) }
-    ensures too_long { result ≡ Status.TooLong → IfSome (S.left source.old) (λ bytes. limit < length bytes)
-        × GivenPast limit (S.given source.old) (S.given source.new) × Keeps (K.written sink.old) (K.written sink.new) }
+    ensures too_long { result ≡ Status.TooLong → IfSome (S.left source.old) (λ bytes. input_limit < length bytes)
+        × GivenPast input_limit (S.given source.old) (S.given source.new) × Keeps (K.written sink.old) (K.written sink.new) }
     ensures unreadable { result ≡ Status.Unreadable → (bytes : List ℕ) × IsWhole (S.left source.old) (S.left source.new) bytes
         × IsUnreadable bytes × Keeps (K.written sink.old) (K.written sink.new) }
     ensures refused { result ≡ Status.Refused → (reading : SpecReading) × (bytes : List ℕ) × (rule : ℕ) × (place : ℕ)

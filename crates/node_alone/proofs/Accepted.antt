@@ -8,7 +8,7 @@ use Rattle.node_grid.specs.Capacity.{IsCapacity}
 use Rattle.slot_plan.specs.Slots.{slot_count}
 use Rattle.agreed_state.specs.declared.config.Config.{Config}
 use Rattle.scenario.specs.Parts.{ScenarioParts}
-use Rattle.scenario_reading.specs.Keys.{parts_of}
+use Rattle.scenario_reading.specs.Keys.{parts_read}
 use Rattle.scenario.specs.Rules.{unless, at_place, refusal}
 use Rattle.scenario.specs.Scenario.{ScenarioView, IsScenario}
 use Rattle.scenario.specs.Given.{scenario_of}
@@ -21,7 +21,7 @@ use Rattle.scenario.specs.declared.error.ScenarioError.{ScenarioError}
 use Rattle.scenario.specs.declared.error.ScenarioError.TheVariants.{Unreadable, Refused, NoMemory}
 use Rattle.node_alone.specs.Log.{Entry, RecordView}
 use Rattle.node_alone.specs.Parts.{RecordParts, record_parts}
-use Rattle.node_alone.specs.Rules.{Limits, limits_of, entry_of, first_bad_entry, log_refusal, parts_refusal, refusal_on, record_refusal, IsAcceptedRecord}
+use Rattle.node_alone.specs.Rules.{Limits, limits_of, entry_of, first_bad_entry, log_refusal, parts_refusal, log_refusal_on, record_refusal, IsAcceptedRecord}
 use Rattle.node_alone.specs.Seen.{IsPlaced, Ascends, IsRecord}
 use Rattle.node_alone.proofs.Judged.{all_placed, all_ascend}
 
@@ -35,7 +35,7 @@ same_limits {N} sc id config slots periods e f h =
 module _ (N id : ℕ) (d : Data) where
   -- rule 15
   pub no_parts : record_parts d ≡ None → record_refusal N id d ≡ Some (15, 0)
-  no_parts h = ap (refusal_on N id) h
+  no_parts h = ap (log_refusal_on N id) h
 
   module _ (parts : RecordParts) (reads : Some parts ≡ record_parts d) where
     -- the scenario's own rules
@@ -45,14 +45,14 @@ module _ (N id : ℕ) (d : Data) where
 
     pub own_refused : (e : ScenarioError) → Tells (value_refusal N parts.scenario) e → Tells (record_refusal N id d) e
     own_refused Unreadable h = h
-    own_refused (Refused rule place) h = ap (refusal_on N id) (sym reads) ∙ own_rules (parts_of parts.scenario) rule place h
+    own_refused (Refused rule place) h = ap (log_refusal_on N id) (sym reads) ∙ own_rules (parts_read parts.scenario) rule place h
     own_refused NoMemory h = h
 
     module _ (s : ScenarioView N) (a : IsAcceptedValue parts.scenario s) where
       -- of an accepted scenario the later rules are left
       later_rules : record_refusal N id d ≡ log_refusal s id parts.frames
       later_rules =
-          ap (refusal_on N id) (sym reads) ∙ ap (parts_refusal N id parts.frames) a.reads ∙ ap (λ o. option_or o (log_refusal (scenario_of N a.parts) id parts.frames)) a.unrefused
+          ap (log_refusal_on N id) (sym reads) ∙ ap (parts_refusal N id parts.frames) a.reads ∙ ap (λ o. option_or o (log_refusal (scenario_of N a.parts) id parts.frames)) a.unrefused
           ∙ ap (λ (v : ScenarioView N). log_refusal v id parts.frames) (sym a.says)
 
       -- rule 16
@@ -95,7 +95,7 @@ record_is scenarios N id d r room h =
     let sc : ScenarioView N = scenario_of N h.scenario in
     let frames = h.parts.frames in
     let rules : option_or (refusal N h.scenario) (log_refusal sc id frames) ≡ None =
-    sym (ap (parts_refusal N id frames) h.reads_scenario) ∙ sym (ap (refusal_on N id) h.reads) ∙ h.unrefused in
+    sym (ap (parts_refusal N id frames) h.reads_scenario) ∙ sym (ap (log_refusal_on N id) h.reads) ∙ h.unrefused in
     let later = second_none (refusal N h.scenario) (log_refusal sc id frames) rules in
     let no_node = unless (nat_lt id sc.config.nodes) 16 0 in
     let bad_entry = at_place 17 (first_bad_entry (limits_of sc id) 0 0 0 frames) in

@@ -10,7 +10,7 @@ use Rattle.scenario.specs.Verdict.{Tells}
 use Rattle.scenario.specs.Numbers.{is_below, natural}
 use Rattle.node_alone.specs.Log.{Entry, is_before}
 use Rattle.node_alone.specs.Parts.{EntryParts}
-use Rattle.node_alone.specs.Rules.{Limits, is_placed, is_entry, entry_of, first_bad_entry}
+use Rattle.node_alone.specs.Rules.{Limits, is_entry_placed, is_entry, entry_of, first_bad_entry}
 use Rattle.node_alone.specs.Seen.{part_view, entry_view, IsPlaced, Ascends}
 use Rattle.node_alone.specs.declared.entry.Entry.{Entry as Kept}
 use Rattle.node_alone.specs.declared.reading.EntryPart.{EntryPart}
@@ -24,7 +24,7 @@ below n (negsuc k) h = absurd (true≢false (sym h))
 pub apart : (a b : ℕ) → not (a == b) ≡ true → a ≢ b
 apart a b h e = true≢false (sym (eq-eqb a b e) ∙ not-true (a == b) h)
 
-pub placed : (l : Limits) (e : EntryParts) → is_placed l e ≡ true → IsPlaced l.nodes l.slots l.periods l.id (entry_of e)
+pub placed : (l : Limits) (e : EntryParts) → is_entry_placed l e ≡ true → IsPlaced l.nodes l.slots l.periods l.id (entry_of e)
 placed l e h =
     let a = and_parts _ _ h in
     let b = and_parts _ _ a.1 in
@@ -47,7 +47,7 @@ pub all_placed : (l : Limits) (p t k : ℕ) (es : List EntryParts) → first_bad
 all_placed l p t k [] h = All-nil (IsPlaced l.nodes l.slots l.periods l.id)
 all_placed l p t k (e ∷ es) h =
     let w = first_good l p t k e es h in
-    All-cons (IsPlaced l.nodes l.slots l.periods l.id) (entry_of e) (map entry_of es) (placed l e (and_parts (is_placed l e) _ w.0).0) (all_placed l (entry_of e).period (entry_of e).slot (k + 1) es w.2)
+    All-cons (IsPlaced l.nodes l.slots l.periods l.id) (entry_of e) (map entry_of es) (placed l e (and_parts (is_entry_placed l e) _ w.0).0) (all_placed l (entry_of e).period (entry_of e).slot (k + 1) es w.2)
 
 -- none is of an earlier slot than the one before all
 none_early : (l : Limits) (p t k : ℕ) (es : List EntryParts) → first_bad_entry l p t k es ≡ None → All (λ e. is_before p t e ≡ false) (map entry_of es)

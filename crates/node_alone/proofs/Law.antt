@@ -10,7 +10,7 @@ use Rattle.fault_classes.specs.Plan.{restarts_at}
 use Rattle.agreed_state.specs.declared.config.Config.{Config}
 use Rattle.agreed_state.specs.declared.config.Inputs.{Inputs}
 use Rattle.agreed_state.specs.Agreed.{AgreedView}
-use Rattle.protocol.specs.Arrival.{arrival, state_in, claim_in, claims_in, values_in, row_in, rows_in}
+use Rattle.protocol.specs.Arrival.{arrival, body_said, claim_in, claims_in, values_in, row_in, rows_in}
 use Rattle.protocol.specs.Heard.{paths_of, with_entries}
 use Rattle.protocol.specs.View.{Kept, Received, opened}
 use Rattle.protocol.specs.Cluster.{kept, begins, view}
@@ -72,7 +72,7 @@ module _ {N : ℕ} (log : RecordView N) (is : IsScenario log.scenario) (of_run :
     told_by_run =
         let d = delivery sys p i in
         record {
-          sync = record { each = λ j low ne. d.sync j ∙ ap (arrival state_in (expectation sys p 0 j [] 0)) (comes 0 j (omega arith) low ne) };
+          sync = record { each = λ j low ne. d.sync j ∙ ap (arrival body_said (expectation sys p 0 j [] 0)) (comes 0 j (omega arith) low ne) };
           first = λ a e. record {
             each = λ j low ne. d.claim j ∙ ap₂ (λ (ms : List ℕ) (y : List Delivery). arrival claim_in (expectation sys p 1 j ms 0) y) (members_are a e) (comes 1 j (omega arith) low ne);
           };

@@ -22,7 +22,7 @@ use Rattle.node_steps.specs.Period.{expect_at, goes, Told}
 use Rattle.node_steps.specs.Sending.{IsServed}
 use Rattle.scenario.specs.Scenario.{inputs_of, system_of}
 use Rattle.node_alone.specs.Log.{RecordView, arrivals, entries_at}
-use Rattle.node_alone.specs.View.{after_sync, members, after_done, received, so_far, kept_alone, begins_alone}
+use Rattle.node_alone.specs.View.{logged_to_sync, members, logged_to_done, received, logged_view, kept_alone, begins_alone}
 
 -- ---- what is given of a period
 
@@ -56,15 +56,15 @@ module _ {N : ℕ} (log : RecordView N) where
     abbrev x : Received
     x = received log p k
 
-    goes_same : (o : Option AgreedView) → goes_with (setting_of config) log.id x o ≡ goes_with (setting_of config) log.id (after_sync log p k) o
+    goes_same : (o : Option AgreedView) → goes_with (setting_of config) log.id x o ≡ goes_with (setting_of config) log.id (logged_to_sync log p k) o
     goes_same (Some a) = refl
     goes_same None = refl
 
     members_are : (a : AgreedView) → goes config log.id p g k x ≡ Some a → members log p k ≡ a.standing.members
-    members_are a e = ap members_in (goes_before (setting_of config) log.id p g k (after_sync log p k) k.state ∙ sym (goes_same k.state) ∙ e)
+    members_are a e = ap members_in (goes_before (setting_of config) log.id p g k (logged_to_sync log p k) k.state ∙ sym (goes_same k.state) ∙ e)
 
-    due_are : (a : AgreedView) → goes config log.id p g k x ≡ Some a → (so_far log p k (after_done log p k)).due ≡ due_of config log.id p g k x a
-    due_are a e = sym (due_same (setting_of config) log.id p g k (after_done log p k) x.values x.report k.state).0 ∙ goes_due (setting_of config) log.id p g k x k.state a e
+    due_are : (a : AgreedView) → goes config log.id p g k x ≡ Some a → (logged_view log p k (logged_to_done log p k)).due ≡ due_of config log.id p g k x a
+    due_are a e = sym (due_same (setting_of config) log.id p g k (logged_to_done log p k) x.values x.report k.state).0 ∙ goes_due (setting_of config) log.id p g k x k.state a e
 
     pub told : Told config log.id p g k x (arrivals log.entries p)
     told = record {

@@ -4,7 +4,7 @@ use Rattle.node_grid.specs.Kinds.{missing}
 use Rattle.frames.specs.Content.{Content}
 use Rattle.fault_classes.specs.Plan.{restarts_at}
 use Rattle.protocol.specs.Steps.{after_steps}
-use Rattle.protocol.specs.Arrival.{Arrival, arrival, state_in, claim_in, claims_in, values_in, row_in, rows_in}
+use Rattle.protocol.specs.Arrival.{Arrival, arrival, body_said, claim_in, claims_in, values_in, row_in, rows_in}
 use Rattle.protocol.specs.Arrival.Arrival.{Bad}
 use Rattle.protocol.specs.Heard.{paths_of, with_entries}
 use Rattle.protocol.specs.View.{Setting, Kept, first_kept, Received, View, view_from, opened}
@@ -25,19 +25,19 @@ module _ {N : ℕ} (log : RecordView N) (p : ℕ) (k : Kept) where
   in_slot part slot members due j = arrival part (expectation (system_of log.scenario) p slot j members due) (entries_at log.entries p slot j)
 
   -- the period as far as it has these frames
-  abbrev pub so_far : Received → View
-  so_far x = view_from setting log.id p (inputs_of log.scenario log.id p) k x k.state
+  abbrev pub logged_view : Received → View
+  logged_view x = view_from setting log.id p (inputs_of log.scenario log.id p) k x k.state
 
   -- slot 0: the states
-  abbrev pub after_sync : Received
-  after_sync = record { sync = in_slot state_in 0 [] 0; done = silence; values = λ j. Bad missing; report = silence }
+  abbrev pub logged_to_sync : Received
+  logged_to_sync = record { sync = in_slot body_said 0 [] 0; done = silence; values = λ j. Bad missing; report = silence }
 
   abbrev pub members : List ℕ
-  members = members_in (so_far after_sync).before
+  members = members_in (logged_view logged_to_sync).before
 
   -- slots 1 to m + 1: the claims
-  abbrev pub after_done : Received
-  after_done = record after_sync {
+  abbrev pub logged_to_done : Received
+  logged_to_done = record logged_to_sync {
     done = record {
       first = in_slot claim_in 1 members 0;
       relay = λ r j. with_entries (paths_of members r j) (in_slot claims_in (1 + r) members 0 j);
@@ -45,12 +45,12 @@ module _ {N : ℕ} (log : RecordView N) (p : ℕ) (k : Kept) where
   }
 
   -- slot m + 2: the values of the due channels
-  abbrev pub after_values : Received
-  after_values = record after_done { values = in_slot values_in (rounds + 2) members (length (so_far after_done).due) }
+  abbrev pub logged_to_values : Received
+  logged_to_values = record logged_to_done { values = in_slot values_in (rounds + 2) members (length (logged_view logged_to_done).due) }
 
   -- slots m + 3 to 2m + 3: the rows
   abbrev pub received : Received
-  received = record after_values {
+  received = record logged_to_values {
     report = record {
       first = in_slot row_in (rounds + 3) members 0;
       relay = λ r j. with_entries (paths_of members r j) (in_slot rows_in (rounds + 3 + r) members 0 j);
@@ -58,7 +58,7 @@ module _ {N : ℕ} (log : RecordView N) (p : ℕ) (k : Kept) where
   }
 
   abbrev pub period_alone : View
-  period_alone = so_far received
+  period_alone = logged_view received
 
 -- what a node goes into a period with, which kept this: a restart of the node forgets all
 abbrev pub opened_alone : {N : ℕ} → RecordView N → ℕ → Kept → Kept

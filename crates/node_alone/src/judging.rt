@@ -2,11 +2,11 @@
 
 ghost use Rattle.std.specs.Prelude.{◌≡◌, ◌≤◌, ◌<◌, pos, None, Some, IfOk, IfErr, option_map, map, length, if◌then◌else◌};
 ghost use Rattle.slot_plan.specs.Ticks.{last_tick};
-ghost use Rattle.scenario.specs.Numbers.{is_within, is_below, natural};
+ghost use Rattle.scenario.specs.Numbers.{is_between, is_below, natural};
 ghost use Rattle.scenario.specs.Rules.{at_place};
 ghost use Rattle.scenario.specs.Verdict.{Tells};
 ghost use Rattle.node_alone.specs.Log.{is_before};
-ghost use Rattle.node_alone.specs.Rules.{is_placed, is_entry, entry_of, first_bad_entry};
+ghost use Rattle.node_alone.specs.Rules.{is_entry_placed, is_entry, entry_of, first_bad_entry};
 ghost use Rattle.node_alone.specs.Seen.{part_view, limits_view, entry_view};
 
 use crate::entry::Entry;
@@ -51,14 +51,14 @@ fn natural(number: i64) -> usize
 
 /// Whether the number is a tick of a slot.
 fn is_tick(number: i64) -> bool
-    ensures { result ≡ is_within (pos 0) (pos last_tick) number }
+    ensures { result ≡ is_between (pos 0) (pos last_tick) number }
 {
     0 <= number && number <= LAST_TICK as i64
 }
 
 /// Whether an entry's numbers are in range.
 fn is_placed(part: &EntryPart<'_>, nodes: u8, slots: u8, periods: u32, id: u8) -> bool
-    ensures { result ≡ is_placed (record { nodes = nodes; slots = slots; periods = periods; id = id }) (part_view part.now) }
+    ensures { result ≡ is_entry_placed (record { nodes = nodes; slots = slots; periods = periods; id = id }) (part_view part.now) }
 {
     is_below(part.period, periods as usize)
         && is_below(part.slot, slots as usize)

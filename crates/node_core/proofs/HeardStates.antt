@@ -17,7 +17,7 @@ use Rattle.error_detect.specs.Watching.{Watch, closed, findings, told_at}
 use Rattle.error_reports.specs.Notes.{Notes, also_noted}
 use Rattle.agreed_state.specs.Agreed.{AgreedView}
 use Rattle.agreed_state.specs.Body.{body}
-use Rattle.protocol.specs.Arrival.{arrived, is_bad, state_in}
+use Rattle.protocol.specs.Arrival.{arrived, is_bad, body_said}
 use Rattle.protocol.specs.Configured.{setting_of}
 use Rattle.protocol.specs.View.{content, adopted_by, other_body, own_claim}
 use Rattle.relaying.specs.Guessed.{unguessed}
@@ -72,23 +72,23 @@ module _ {N : ℕ} (n : Inside N) (inv : IsController n) (sound : IsSound (seen 
     unguessed = ap (λ (x : Watch). x.guess) shut' ∙ none_guessed n.watch.guess joins guessed;
   }
 
-  pub states_sized : (j : ℕ) → IfSome (content (arrived state_in None (told_at u j))) (λ b. length b ≤ 1152)
+  pub states_sized : (j : ℕ) → IfSome (content (arrived body_said None (told_at u j))) (λ b. length b ≤ 1152)
   states_sized j =
-      subst (λ (x : Watch). IfSome (content (arrived state_in None (told_at x j))) (λ b. length b ≤ 1152)) (sym shut')
+      subst (λ (x : Watch). IfSome (content (arrived body_said None (told_at x j))) (λ b. length b ≤ 1152)) (sym shut')
       (states_asked v (capacity-le N inv.place.capacity) inv.place.config_is slot j)
 
   pub good_are : (found : List Finding) → found ≡ findings N n.watch
-      → ids_where (λ j. not (j == n.phase.me) && is_good_at found j) n.config.now.nodes ≡ good_in n.config.now.nodes n.phase.me (has_of state_in w)
+      → ids_where (λ j. not (j == n.phase.me) && is_good_at found j) n.config.now.nodes ≡ good_in n.config.now.nodes n.phase.me (has_of body_said w)
   good_are found is =
       ap (λ (fs : List Finding). ids_where (λ j. not (j == n.phase.me) && is_good_at fs j) n.config.now.nodes) is
       ∙ good_found N n.config.now.nodes n.phase.me w (expected_in v v.phase.slot) inv.place.few inv.watch.nodes inv.watch.me_is slot.expects first
 
   -- the state with which it goes through the period
   abbrev pub goes_with : Watch → Option AgreedView
-  goes_with x = if n.phase.full then n.kept.state else adopted_by (setting_of n.config.now) n.phase.me (has_of state_in x)
+  goes_with x = if n.phase.full then n.kept.state else adopted_by (setting_of n.config.now) n.phase.me (has_of body_said x)
 
   -- it stays Cold
-  pub none_seen : (good : List ℕ) → good ≡ good_in n.config.now.nodes n.phase.me (has_of state_in w) → goes_with u ≡ None
+  pub none_seen : (good : List ℕ) → good ≡ good_in n.config.now.nodes n.phase.me (has_of body_said w) → goes_with u ≡ None
       → record v { phase = record v.phase { before = None }; found = record v.found { sync = good }; arrived = unguessed u } ≡ after_sync (shut v)
   none_seen good is goes =
       ap₂ (λ (g : List ℕ) (x : Watch). record v { phase = record v.phase { before = None }; found = record v.found { sync = g }; arrived = unguessed x }) is shut'
@@ -105,14 +105,14 @@ module _ {N : ℕ} (n : Inside N) (inv : IsController n) (sound : IsSound (seen 
       first = subst (λ o. IfSome o (λ e. e.slot ≡ 0)) (sym (ap (λ (x : Watch). x.expect) shut' ∙ slot.expects)) first;
       guessed = subst (λ o. IfSome o (λ c. c ≡ State own)) (sym (ap (λ (x : Watch). x.guess) shut'))
           (subst (λ (bytes : List ℕ). IfSome n.watch.guess (λ c. c ≡ State bytes)) (sym is)
-          (own_guessed n.watch.guess a (λ full. sym (cond-true n.phase.full n.kept.state (adopted_by (setting_of n.config.now) n.phase.me (has_of state_in u)) full) ∙ goes) guessed));
+          (own_guessed n.watch.guess a (λ full. sym (cond-true n.phase.full n.kept.state (adopted_by (setting_of n.config.now) n.phase.me (has_of body_said u)) full) ∙ goes) guessed));
     }
 
     -- what the frames bring against the others
     abbrev pub bad : List ℕ → Watch → ℕ → ℕ → Bool
-    bad own x j k = is_bad (has_of state_in x j) k || (other_body own (has_of state_in x j) && k == state)
+    bad own x j k = is_bad (has_of body_said x j) k || (other_body own (has_of body_said x j) && k == state)
 
-    pub own_seen : (good own : List ℕ) (x : Notes) (d : Hearing ℕ) → good ≡ good_in n.config.now.nodes n.phase.me (has_of state_in w) → own ≡ body n.config.now a
+    pub own_seen : (good own : List ℕ) (x : Notes) (d : Hearing ℕ) → good ≡ good_in n.config.now.nodes n.phase.me (has_of body_said w) → own ≡ body n.config.now a
         → x ≡ also_noted N n.found.notes (bad own u) → d ≡ started n.done a.standing.members n.phase.me n.phase.full (Plain (own_claim n.phase.me n.phase.inputs a))
         → record v { phase = record v.phase { before = Some a }; found = record v.found { sync = good; notes = x.row; late = x.carried }; done = d; arrived = unguessed u } ≡ after_sync (shut v)
     own_seen good own x d is_good is_own noted is_started =

@@ -19,7 +19,7 @@ use Rattle.error_detect.specs.Guessing.{said_by as guessed_by}
 use Rattle.error_detect.specs.Watching.{frame_in, guesses}
 use Rattle.agreed_state.specs.Agreed.{AgreedView}
 use Rattle.agreed_state.specs.Body.{body}
-use Rattle.protocol.specs.Arrival.{Form, claim_form, row_form, claims_in, rows_in}
+use Rattle.protocol.specs.Arrival.{ItemForm, claim_form, row_form, claims_in, rows_in}
 use Rattle.protocol.specs.Heard.{paths_of}
 use Rattle.protocol.specs.Run.{members_in}
 use Rattle.guessed_frames.specs.Common.{Common, IsGuessedIn, IsSharedBy}
@@ -48,7 +48,7 @@ off_path members me x r path is at = elim (cases_Bool (has_id path x)) [
 ]
 
 -- it is guessed to say what the node passes on
-own_echo : {V : Type 0} (form : Form V) (r me : ℕ) (e : Expectation) (c : Content) (h : Hearing V) → h.me ≡ me → Distinct h.members → has_id h.members me ≡ true
+own_echo : {V : Type 0} (form : ItemForm V) (r me : ℕ) (e : Expectation) (c : Content) (h : Hearing V) → h.me ≡ me → Distinct h.members → has_id h.members me ≡ true
     → IsEchoOf form r e c h → form.relay_in (guessed_by e me c) ≡ Some (relays h r)
 own_echo {V} form r me e c h is d on echo =
     let others : List ℕ = without_id h.members me in

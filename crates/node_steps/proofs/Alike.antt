@@ -22,7 +22,7 @@ use Rattle.mme_vote.specs.declared.channel.Channel.TheVariants.{State, Sensor, C
 use Rattle.omh_paths.specs.declared.wrapped.Wrapped.{Wrapped}
 use Rattle.list_scheduler.specs.Copies.{copy_at, is_passed}
 use Rattle.list_scheduler.specs.Schedule.{copies_completed}
-use Rattle.protocol.specs.View.{Setting, Received, content, adopted_by, value_from, value_in, vote_on, votes_on, row_by, channel_room, channel, voters, tolerated, synced_by}
+use Rattle.protocol.specs.View.{Setting, Received, content, adopted_by, value_from, value_in, vote_on, votes_on, row_by, channel_room, channel, voters, lies_tolerated, synced_by}
 use Rattle.noting.specs.Findings.{good_in}
 
 pub map_below : {X : Type 0} (f g : ℕ → X) (a n : ℕ) → ((c : ℕ) → c < a + n → f c ≡ g c) → map f (range_with_len a n) ≡ map g (range_with_len a n)
@@ -81,7 +81,7 @@ pub votes_alike : (s : Setting) (i : ℕ) (full : Bool) (a : AgreedView) (done :
 unfolding votes_on
 votes_alike s i full a done due own x y ids h =
     map_below (λ c. if has_id due c then vote_on s i full a done due own x c else None) (λ c. if has_id due c then vote_on s i full a done due own y c else None) 0 channel_room
-    (λ c l. ap (λ vs. if has_id due c then vote_of vs (tolerated s (channel s c)) else None) (filter_map_alike (value_from i full due own x c) (value_from i full due own y c) (voters s a done (channel s c)) (λ q on. one c q (voter_member s a done (channel s c) q on))))
+    (λ c l. ap (λ vs. if has_id due c then vote_of vs (lies_tolerated s (channel s c)) else None) (filter_map_alike (value_from i full due own x c) (value_from i full due own y c) (voters s a done (channel s c)) (λ q on. one c q (voter_member s a done (channel s c) q on))))
   where
     one : (c q : ℕ) → has_id a.standing.members q ≡ true → value_from i full due own x c q ≡ value_from i full due own y c q
     one c q on = elim (cases_eq q i) [

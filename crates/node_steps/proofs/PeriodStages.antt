@@ -11,7 +11,7 @@ use Rattle.error_detect.specs.Multiset.{Arriving, from_sender, all_delivered, Fi
 use Rattle.agreed_state.specs.declared.config.Config.{Config}
 use Rattle.agreed_state.specs.declared.config.Inputs.{Inputs}
 use Rattle.agreed_state.specs.Agreed.{AgreedView}
-use Rattle.protocol.specs.Arrival.{Arrival, arrival, claim_form, row_form, state_in, claim_in, claims_in, row_in, rows_in, values_in}
+use Rattle.protocol.specs.Arrival.{Arrival, arrival, claim_form, row_form, body_said, claim_in, claims_in, row_in, rows_in, values_in}
 use Rattle.protocol.specs.Heard.{paths_of, with_entries}
 use Rattle.node_grid.specs.Version.{kind_count}
 use Rattle.protocol.specs.View.{Kept, Received, Setting, row_by, through, view_from, cold_view, joined, adopted_by, empty_row, channel_room, due_channels, is_due, channel, goes_with}
@@ -175,9 +175,9 @@ module _ {N : ℕ} (config : Config N) (i p : ℕ) (g : Inputs) (k : Kept) (x : 
       (Stands.hearing 0 rows f (closed cw) (omega arith) (next_watch w e (ds 0) base) en em late)
     where
       has_first : (w : Watch) (j : ℕ) → IsWatch config i p g k x room w → j < config.nodes → j ≢ i
-          → has_of state_in (closed (all_delivered (opened w (expect_at config i p g k x 0 [] 0)) (ds 0))) j ≡ arrival state_in (of_sender j (expect_at config i p g k x 0 [] 0)) (from_sender j (ds 0))
+          → has_of body_said (closed (all_delivered (opened w (expect_at config i p g k x 0 [] 0)) (ds 0))) j ≡ arrival body_said (of_sender j (expect_at config i p g k x 0 [] 0)) (from_sender j (ds 0))
       has_first w j h low ne =
-          has_by_deliveries state_in law w (expect_at config i p g k x 0 [] 0) (ds 0) j
+          has_by_deliveries body_said law w (expect_at config i p g k x 0 [] 0) (ds 0) j
           (subst (λ (n : ℕ). HasRoom n (expect_at config i p g k x 0 [] 0)) (sym h.room_is) (rooms 0 [] 0 none (omega arith)))
           (let e = h.nodes in omega arith) (λ e. ne (e ∙ h.me)) (λ es. delivered_keeps (opened w (expect_at config i p g k x 0 [] 0)) es)
         where
@@ -247,9 +247,9 @@ few_dues config a done h =
 
 pub first_has : {N : ℕ} (config : Config N) (i p : ℕ) (g : Inputs) (k : Kept) (x : Received) (room : ℕ) (law : FindsEach) (ds : ℕ → List Arriving)
     (rooms : (t : ℕ) (ms : List ℕ) (due : ℕ) → IsIdSet config.nodes ms → due ≤ 8 → HasRoom room (expect_at config i p g k x t ms due)) (w : Watch) (j : ℕ) → IsWatch config i p g k x room w → j < config.nodes → j ≢ i
-    → has_of state_in (closed (all_delivered (opened w (expect_at config i p g k x 0 [] 0)) (ds 0))) j ≡ arrival state_in (of_sender j (expect_at config i p g k x 0 [] 0)) (from_sender j (ds 0))
+    → has_of body_said (closed (all_delivered (opened w (expect_at config i p g k x 0 [] 0)) (ds 0))) j ≡ arrival body_said (of_sender j (expect_at config i p g k x 0 [] 0)) (from_sender j (ds 0))
 first_has config i p g k x room law ds rooms w j h low ne =
-    has_by_deliveries state_in law w (expect_at config i p g k x 0 [] 0) (ds 0) j
+    has_by_deliveries body_said law w (expect_at config i p g k x 0 [] 0) (ds 0) j
     (subst (λ (n : ℕ). HasRoom n (expect_at config i p g k x 0 [] 0)) (sym h.room_is) (rooms 0 [] 0 (sym (filter_none (λ q. false) 0 config.nodes (λ q a b. refl))) (omega arith)))
     (let e = h.nodes in omega arith) (λ e. ne (e ∙ h.me)) (λ es. delivered_keeps (opened w (expect_at config i p g k x 0 [] 0)) es)
 
@@ -263,12 +263,12 @@ goes_by s i f x (Some b) h = refl
 
 -- the sync slot of a node that stays Cold
 pub stays_cold : {N : ℕ} (config : Config N) (i p : ℕ) (g : Inputs) (k : Kept) (x : Received) (d : Hearing ℕ) (rows : Hearing (List ℕ)) (f : Found) (w : Watch) (o : Outcome)
-    → Others config.nodes i (λ j. x.sync j ≡ has_of state_in (closed w) j) → goes config i p g k x ≡ None
+    → Others config.nodes i (λ j. x.sync j ≡ has_of body_said (closed w) j) → goes config i p g k x ≡ None
     → slot_taken (shut (stage config i p g k x 0 k.state d rows f w o)) ≡ stage config i p g k x 0 None d rows (found_cold config i p g k x f) (closed w) o
 stays_cold config i p g k x d rows f w o h e =
-    ap (synced (with_sync (stage config i p g k x 0 k.state d rows f (closed w) o))) (goes_by (setting_of config) i (has_of state_in (closed w)) x k.state h ∙ e)
+    ap (synced (with_sync (stage config i p g k x 0 k.state d rows f (closed w) o))) (goes_by (setting_of config) i (has_of body_said (closed w)) x k.state h ∙ e)
     ∙ ap (λ (sync : List ℕ). stage config i p g k x 0 None d rows (record f { sync = sync }) (closed w) o)
-    (synced_alike (setting_of config) i (has_of state_in (closed w)) x (record { each = λ j low ne. sym (h.each j low ne) }))
+    (synced_alike (setting_of config) i (has_of body_said (closed w)) x (record { each = λ j low ne. sym (h.each j low ne) }))
 
 pub fold_is_view : FindsEach → FoldIsView
 fold_is_view law N config i p g k x room ds q d rows f w o given = go (goes config i p g k x) refl where

@@ -19,7 +19,7 @@ use Rattle.agreed_state.specs.declared.config.Config.{Config}
 use Rattle.agreed_state.specs.declared.config.Inputs.{Inputs}
 use Rattle.agreed_state.specs.Agreed.{AgreedView, agreed_after}
 use Rattle.agreed_state.specs.Body.{body}
-use Rattle.protocol.specs.Arrival.{Arrival, Form, is_bad, claim_form, row_form, state_in, values_in}
+use Rattle.protocol.specs.Arrival.{Arrival, ItemForm, is_bad, claim_form, row_form, body_said, values_in}
 use Rattle.protocol.specs.Arrival.Arrival.{Bad, Good}
 use Rattle.protocol.specs.Heard.{Rounds, rounds_bad, with_entries, paths_of, heard}
 use Rattle.protocol.specs.View.{Setting, Kept, Received, own_claim, as_claim, claims_settled, due_channels, votes_on, deviates, other_body, row_by, empty_row, noted, View, is_far, is_further, channel, value_in, value_at, carried_by, through, adopted_by, synced_by, goes_with}
@@ -75,7 +75,7 @@ bad_entries ps (Bad k) b = refl
 bad_entries ps (Good xs) b = refl
 
 -- one frame more of an item
-closed_more : {V : Type 0} (form : Form V) (members : List ℕ) (me nodes r : ℕ) (w : Watch) (x : Rounds V) → IsRound form members me nodes r w x → (j : ℕ) → j < nodes → j ≢ me → (b : ℕ)
+closed_more : {V : Type 0} (form : ItemForm V) (members : List ℕ) (me nodes r : ℕ) (w : Watch) (x : Rounds V) → IsRound form members me nodes r w x → (j : ℕ) → j < nodes → j ≢ me → (b : ℕ)
     → (rounds_closed r x j b || bad_in form r w j b) ≡ rounds_closed (suc r) x j b
 closed_more form members me nodes zero w x h j low ne b = ap (λ y. is_bad y b) (sym (h.first refl j low ne)) ∙ sym (or_false (is_bad (x.first j) b))
 closed_more form members me nodes (suc r) w x h j low ne b =
@@ -354,25 +354,25 @@ module _ {N : ℕ} (config : Config N) (i p : ℕ) (g : Inputs) (k : Kept) (x : 
 
   -- ---- the sync slot
 
-  pub step_sync : (d : Hearing ℕ) (rows : Hearing (List ℕ)) (f : Found) (w : Watch) (o : Outcome) → Others config.nodes i (λ j. x.sync j ≡ has_of state_in (closed w) j) → d.nodes ≡ config.nodes → d.rounds ≡ config.m
+  pub step_sync : (d : Hearing ℕ) (rows : Hearing (List ℕ)) (f : Found) (w : Watch) (o : Outcome) → Others config.nodes i (λ j. x.sync j ≡ has_of body_said (closed w) j) → d.nodes ≡ config.nodes → d.rounds ≡ config.m
       → f.notes ≡ k.carried → goes_with s i x k.state ≡ Some a
       → slot_taken (shut (stage config i p g k x 0 k.state d rows f w o)) ≡ stage config i p g k x 0 (Some a) (done_table config i p g k x a 0) rows (found_done config i p g k x a 0 f) (closed w) o
   step_sync d rows f w o h en em carried goes =
       let cw : Watch = closed w in
       ap (synced (with_sync (stage config i p g k x 0 k.state d rows f cw o))) (goes_by k.state ∙ goes)
       ∙ ap (λ (sync : List ℕ). stage config i p g k x 0 (Some a) (started d a.standing.members i full (Plain (own_claim i g a))) rows
-      (record f { sync = sync; notes = row_by s i (λ j b. accuses f.notes j b || (is_bad (has_of state_in cw j) b || (other_body (body config a) (has_of state_in cw j) && b == state))) }) cw o)
-      (synced_alike s i (has_of state_in cw) x (record { each = λ j low ne. sym (h.each j low ne) }))
+      (record f { sync = sync; notes = row_by s i (λ j b. accuses f.notes j b || (is_bad (has_of body_said cw j) b || (other_body (body config a) (has_of body_said cw j) && b == state))) }) cw o)
+      (synced_alike s i (has_of body_said cw) x (record { each = λ j low ne. sym (h.each j low ne) }))
       ∙ ap₂ (λ (t : Hearing ℕ) (notes : List ℕ). stage config i p g k x 0 (Some a) t rows (record f { sync = synced_by s i x; notes = notes }) cw o)
       (fresh_table d config.nodes config.m a.standing.members i full (own_claim i g a) x.done ids en em)
-      (ap (λ (notes : List ℕ). row_by s i (λ j b. accuses notes j b || (is_bad (has_of state_in cw j) b || (other_body (body config a) (has_of state_in cw j) && b == state)))) carried
-      ∙ row_alike s i (λ j b. accuses k.carried j b || (is_bad (has_of state_in cw j) b || (other_body (body config a) (has_of state_in cw j) && b == state))) (notes_done config i p g k x a 0) (record {
+      (ap (λ (notes : List ℕ). row_by s i (λ j b. accuses notes j b || (is_bad (has_of body_said cw j) b || (other_body (body config a) (has_of body_said cw j) && b == state)))) carried
+      ∙ row_alike s i (λ j b. accuses k.carried j b || (is_bad (has_of body_said cw j) b || (other_body (body config a) (has_of body_said cw j) && b == state))) (notes_done config i p g k x a 0) (record {
         each = λ j low ne b within.
             ap (λ (y : Arrival (List ℕ)). accuses k.carried j b || (is_bad y b || (other_body (body config a) y && b == state))) (sym (h.each j low ne)) ∙ sym (or_false (notes_sync config i p g k x a j b));
       }))
     where
-      goes_by : (o : Option AgreedView) → (if is_some o then o else adopted_by s i (has_of state_in (closed w))) ≡ goes_with s i x o
-      goes_by None = adopted_alike s i (has_of state_in (closed w)) x.sync (record { each = λ j low ne. sym (h.each j low ne) })
+      goes_by : (o : Option AgreedView) → (if is_some o then o else adopted_by s i (has_of body_said (closed w))) ≡ goes_with s i x o
+      goes_by None = adopted_alike s i (has_of body_said (closed w)) x.sync (record { each = λ j low ne. sym (h.each j low ne) })
       goes_by (Some b) = refl
 
 -- ---- the next slot is open

@@ -18,7 +18,7 @@ use Rattle.equivocation.specs.ConvictionLaws.{unrelayed, convicts_alike}
 use Rattle.frames.specs.Content.{Content}
 use Rattle.error_detect.specs.Finding.{kind_of}
 use Rattle.error_detect.specs.Watching.{Watch, told_at, finding_at}
-use Rattle.protocol.specs.Arrival.{Form, arrived, said}
+use Rattle.protocol.specs.Arrival.{ItemForm, arrived, said}
 use Rattle.protocol.specs.Heard.{Rounds, paths_of, with_entries, entry, heard}
 use Rattle.protocol.specs.FurtherKinds.{convicts_member}
 use Rattle.protocol.specs.Settled.{plain, settled_items, ear_of as ear_by}
@@ -42,7 +42,7 @@ entry_any part ps None o p h = refl
 entry_any part ps (Some n) o p h = ap (λ u. entry (with_entries ps (arrived part None u)) p) (h.none n refl)
 
 -- what a slot says of a path is what is heard for it
-says_heard : {V : Type 0} (form : Form V) (members : List ℕ) (me rounds nodes r : ℕ) (w : Watch) (x : Rounds V) (p : List ℕ) (c : Split p) → IsIdSet nodes members → ((j : ℕ) → Agrees (kind_of (finding_at w j)) (told_at w j))
+says_heard : {V : Type 0} (form : ItemForm V) (members : List ℕ) (me rounds nodes r : ℕ) (w : Watch) (x : Rounds V) (p : List ℕ) (c : Split p) → IsIdSet nodes members → ((j : ℕ) → Agrees (kind_of (finding_at w j)) (told_at w j))
     → IsRound form members me nodes r w x → IsHeardPath members me rounds p → length p ≡ suc r → heard (slot_rounds form members w) p ≡ heard x p
 says_heard {V} form members me rounds nodes r w x p c ids agree round real long =
     let q : ℕ = c.last in
@@ -74,7 +74,7 @@ upto_next r x p h = ap (λ (b : Bool). if b then heard x p else Fault 0) (test (
   test a r h = grind (arith, nat_tests)
 
 -- a round more
-pub round_more : {V : Type 0} (form : Form V) (members : List ℕ) (me m nodes r : ℕ) (full : Bool) (own : V) (w : Watch) (x : Rounds V) → IsIdSet nodes members → ((j : ℕ) → Agrees (kind_of (finding_at w j)) (told_at w j))
+pub round_more : {V : Type 0} (form : ItemForm V) (members : List ℕ) (me m nodes r : ℕ) (full : Bool) (own : V) (w : Watch) (x : Rounds V) → IsIdSet nodes members → ((j : ℕ) → Agrees (kind_of (finding_at w j)) (told_at w j))
     → IsRound form members me nodes r w x → after_round form nodes w r (table_at nodes m members me full own r x) ≡ table_at nodes m members me full own (suc r) x
 round_more {V} form members me m nodes r full own w x ids agree round =
     ap (λ (es : List (Entry V)). record { nodes = nodes; rounds = m; members = members; me = me; full = full; own = Plain own; heard = es })

@@ -4,7 +4,7 @@ use Rattle.omh_paths.specs.declared.wrapped.Wrapped.{Wrapped}
 use Rattle.omh_paths.specs.declared.wrapped.Wrapped.TheVariants.{Plain, Fault}
 use Rattle.omh.specs.Heard.{Hearing, entry, heard_paths}
 use Rattle.error_detect.specs.Watching.{Watch}
-use Rattle.protocol.specs.Arrival.{Form}
+use Rattle.protocol.specs.Arrival.{ItemForm}
 use Rattle.protocol.specs.Heard.{Rounds, heard, paths_of, with_entries}
 use Rattle.noting.specs.Findings.{has_of}
 
@@ -25,6 +25,6 @@ table_at nodes m members me full own n x = record {
 }
 
 -- what the closed slot of round r says of an item is what a node has of it in the rounds
-pub record IsRound {V : Type 0} (form : Form V) (members : List ℕ) (me nodes r : ℕ) (w : Watch) (x : Rounds V) : Type 0 where
+pub record IsRound {V : Type 0} (form : ItemForm V) (members : List ℕ) (me nodes r : ℕ) (w : Watch) (x : Rounds V) : Type 0 where
   pub first : r ≡ 0 → (j : ℕ) → j < nodes → j ≢ me → x.first j ≡ has_of form.item_in w j
   pub relay : 0 < r → (j : ℕ) → j < nodes → j ≢ me → x.relay r j ≡ with_entries (paths_of members r j) (has_of form.relay_in w j)

@@ -11,7 +11,7 @@ use Rattle.omh.specs.Heard.{Hearing, heard_in, heard_paths, nothing_heard, entry
 use Rattle.frames.specs.Content.{Content, Expectation, IsEntry, IsClaim, IsRow, IsSized, round_in}
 use Rattle.frames.specs.Content.Content.{State, Done0, DoneRelay, Data, Report0, ReportRelay, Cold}
 use Rattle.error_detect.specs.Watching.{Watch, of_sender, told_at}
-use Rattle.protocol.specs.Arrival.{Form, arrived, read_as, claim_form, row_form}
+use Rattle.protocol.specs.Arrival.{ItemForm, arrived, read_as, claim_form, row_form}
 use Rattle.protocol.specs.Arrival.Arrival.{Good}
 use Rattle.protocol.specs.Heard.{paths_of, heard, heard_back}
 use Rattle.protocol.specs.View.{content}
@@ -23,7 +23,7 @@ use Rattle.node_steps.specs.ToldInRange.{told_in_range}
 
 -- ---- what a content says of an item is in range
 
-pub record Speaks {V : Type 0} (form : Form V) (P : V → Type 0) (e : Expectation) : Type 0 where
+pub record Speaks {V : Type 0} (form : ItemForm V) (P : V → Type 0) (e : Expectation) : Type 0 where
   pub item : (c : Content) (v : V) → form.item_in c ≡ Some v → IsSized e c → P v
   pub relay : (c : Content) (xs : List (Wrapped V)) → form.relay_in c ≡ Some xs → IsSized e c → All (IsEntry P (round_in e.m e.slot)) xs
 
@@ -83,7 +83,7 @@ good_is {C} part (Some c) v h = (c, (refl, inner (part c) h)) where
   inner (Some y) g = ap content g
 
 -- what the slot of round r says of a path of that round
-spoken : {V : Type 0} (form : Form V) (P : V → Type 0) (w : Watch) (e : Expectation) (members : List ℕ) (me r nodes : ℕ) → w.expect ≡ Some e → ((j : ℕ) → Speaks form P (of_sender j e)) → round_in e.m e.slot ≡ r → Distinct members
+spoken : {V : Type 0} (form : ItemForm V) (P : V → Type 0) (w : Watch) (e : Expectation) (members : List ℕ) (me r nodes : ℕ) → w.expect ≡ Some e → ((j : ℕ) → Speaks form P (of_sender j e)) → round_in e.m e.slot ≡ r → Distinct members
     → (p : List ℕ) → has_path (all_told members me r nodes) p ≡ true → HeardIn P (length p - 1) (heard (slot_rounds form members w) p)
 spoken {V} form P w e members me r nodes is speaks round d p on =
     let n : length p ≡ r + 1 = length_all members me r nodes p d on ∙ omega arith in
@@ -101,7 +101,7 @@ spoken {V} form P w e members me r nodes is speaks round d p on =
         (λ xs g. let k = good_is form.relay_in (told_at w q) xs g in subst (λ (n : ℕ). All (IsEntry P n) xs) round ((speaks q).relay k.0 xs k.1.1 (told_in_range w e q k.0 is k.1.0).sized))
 
 -- a table stays in range over a round
-pub round_ranged : {V : Type 0} (form : Form V) (P : V → Type 0) (w : Watch) (e : Expectation) (nodes r : ℕ) (h : Hearing V) → w.expect ≡ Some e → ((j : ℕ) → Speaks form P (of_sender j e)) → round_in e.m e.slot ≡ r → Distinct h.members
+pub round_ranged : {V : Type 0} (form : ItemForm V) (P : V → Type 0) (w : Watch) (e : Expectation) (nodes r : ℕ) (h : Hearing V) → w.expect ≡ Some e → ((j : ℕ) → Speaks form P (of_sender j e)) → round_in e.m e.slot ≡ r → Distinct h.members
     → IsRanged P h.heard → IsRanged P (after_round form nodes w r h).heard
 round_ranged form P w e nodes r h is speaks round d ranged =
     ranged_told P (all_told h.members h.me r nodes) (heard (slot_rounds form h.members w)) h.heard ranged (spoken form P w e h.members h.me r nodes is speaks round d)

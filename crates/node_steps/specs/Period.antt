@@ -9,7 +9,7 @@ use Rattle.agreed_state.specs.declared.config.Config.{Config}
 use Rattle.agreed_state.specs.declared.config.Inputs.{Inputs}
 use Rattle.agreed_state.specs.Agreed.{AgreedView}
 use Rattle.agreed_state.specs.Body.{state_len}
-use Rattle.protocol.specs.Arrival.{arrival, state_in, claim_in, claims_in, values_in, row_in, rows_in}
+use Rattle.protocol.specs.Arrival.{arrival, body_said, claim_in, claims_in, values_in, row_in, rows_in}
 use Rattle.protocol.specs.Heard.{paths_of, with_entries}
 use Rattle.protocol.specs.Steps.{after_steps}
 use Rattle.protocol.specs.View.{Kept, Received, View, row_by, view_from, goes_with}
@@ -53,7 +53,7 @@ module _ {N : ℕ} (config : Config N) (i p : ℕ) (g : Inputs) (k : Kept) (x : 
 
   -- x is what the deliveries of the slots say, by what the node expects
   pub record Told (ds : ℕ → List Arriving) : Type 0 where
-    pub sync : OthersTell config.nodes i (λ j. x.sync j ≡ arrival state_in (of_sender j (expect_at 0 [] 0)) (from_sender j (ds 0)))
+    pub sync : OthersTell config.nodes i (λ j. x.sync j ≡ arrival body_said (of_sender j (expect_at 0 [] 0)) (from_sender j (ds 0)))
     pub first : (a : AgreedView) → goes ≡ Some a → OthersTell config.nodes i (λ j. x.done.first j ≡ arrival claim_in (of_sender j (expect_at 1 a.standing.members 0)) (from_sender j (ds 1)))
     pub relay : (a : AgreedView) → goes ≡ Some a → (r : ℕ) → 0 < r → r ≤ config.m
         → OthersTell config.nodes i (λ j. x.done.relay r j ≡ with_entries (paths_of a.standing.members r j) (arrival claims_in (of_sender j (expect_at (suc r) a.standing.members 0)) (from_sender j (ds (suc r)))))

@@ -15,7 +15,7 @@ use Rattle.agreed_state.specs.ConfigLaws.{few_rounds}
 use Rattle.agreed_state.specs.Config.{IsConfig}
 use Rattle.agreed_state.specs.Agreed.{AgreedView, IsAgreed}
 use Rattle.agreed_state.specs.ReadLaws.{state_len-short}
-use Rattle.protocol.specs.Arrival.{arrived, state_in, claims_in, rows_in}
+use Rattle.protocol.specs.Arrival.{arrived, body_said, claims_in, rows_in}
 use Rattle.protocol.specs.View.{content}
 use Rattle.protocol.specs.Run.{members_in}
 use Rattle.relay_rules.specs.Hearing.{Brings}
@@ -74,7 +74,7 @@ rows_asked {N} v a ok s late goes j on =
 pub few_members : {N : ℕ} (v : NodeView N) (a : AgreedView) → HasSizes v → v.phase.before ≡ Some a → length a.standing.members ≤ v.config.nodes
 few_members v a h goes = length-ids v.config.nodes a.standing.members (goes_agreed v a h goes).standing.set
 
-pub states_asked : {N : ℕ} (v : NodeView N) → N ≤ 16 → IsConfig N v.config → IsInSlot v → (j : ℕ) → IfSome (content (arrived state_in None (told_at (closed v.arrived) j))) (λ b. length b ≤ 1152)
+pub states_asked : {N : ℕ} (v : NodeView N) → N ≤ 16 → IsConfig N v.config → IsInSlot v → (j : ℕ) → IfSome (content (arrived body_said None (told_at (closed v.arrived) j))) (λ b. length b ≤ 1152)
 states_asked {N} v small ok s = states_sized (closed v.arrived) (expected_in v v.phase.slot) 1152 s.expects (let l = state_len-short N v.config small ok in omega arith)
 
 pub no_ids : (n : ℕ) → IsIdSet n []

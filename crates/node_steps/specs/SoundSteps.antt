@@ -18,9 +18,9 @@ use Rattle.agreed_state.specs.declared.config.Inputs.{Inputs}
 use Rattle.agreed_state.specs.Config.{IsConfig}
 use Rattle.agreed_state.specs.Agreed.{AgreedView, IsAgreed}
 use Rattle.agreed_state.specs.AgreedLaws.{agreed-after}
-use Rattle.agreed_state.specs.Adoption.{adopted, read_of, given}
+use Rattle.agreed_state.specs.Adoption.{adopted, state_read, given}
 use Rattle.agreed_state.specs.ReadLaws.{read_agreed}
-use Rattle.protocol.specs.Arrival.{Arrival, state_in, claim_form, row_form, is_bad, values_in}
+use Rattle.protocol.specs.Arrival.{Arrival, body_said, claim_form, row_form, is_bad, values_in}
 use Rattle.protocol.specs.View.{adopted_by, bodies_for, deviates, empty_row, channel_room}
 use Rattle.node_steps.specs.Parts.{Found, NodeView}
 use Rattle.protocol.specs.Configured.{setting_of}
@@ -45,7 +45,7 @@ if_some P (Some x) h = h x refl
 pub adopted_agreed : {N : ℕ} (config : Config N) (i : ℕ) (sync : ℕ → Arrival (List ℕ)) → N ≤ 16 → IsConfig N config → IfSome (adopted_by (setting_of config) i sync) (λ a. IsAgreed N config a)
 unfolding adopted_by adopted
 adopted_agreed {N} config i sync small ok = if_some (λ a. IsAgreed N config a) _ (λ a e. go a (majority same_nodes (map given (bodies_for (setting_of config) i sync))) e) where
-  go : (a : AgreedView) (w : Wrapped (List ℕ)) → read_of N config w ≡ Some a → IsAgreed N config a
+  go : (a : AgreedView) (w : Wrapped (List ℕ)) → state_read N config w ≡ Some a → IsAgreed N config a
   go a (Plain b) h = read_agreed N config b a small ok h
   go a (Fault k) h = absurd (cc)
 
@@ -209,14 +209,14 @@ later_taken {N} v (Some a) ok h s some goes = elim (cases_Bool (nat_le v.phase.s
 pub slot_is_taken : {N : ℕ} (v : NodeView N) → N ≤ 16 → IsConfig N v.config → IsSound v → v.phase.is_open ≡ true → IsTaken (slot_taken (shut v))
 slot_is_taken {N} v small ok h open' = elim (cases_eq v.phase.slot 0) [
   | inl e ↦ subst (IsTaken {N = N}) (sym (cond-true (v.phase.slot == 0) (after_sync (shut v)) (taken (shut v) v.phase.before) (eq-eqb _ _ e)))
-      (sync_taken v (if v.phase.full then v.kept.state else adopted_by (setting_of v.config) v.phase.me (has_of state_in (shut v).arrived)) ok h.sizes e (state v.phase.full))
+      (sync_taken v (if v.phase.full then v.kept.state else adopted_by (setting_of v.config) v.phase.me (has_of body_said (shut v).arrived)) ok h.sizes e (state v.phase.full))
   | inr ne ↦ subst (IsTaken {N = N}) (sym (cond-false (v.phase.slot == 0) (after_sync (shut v)) (taken (shut v) v.phase.before) (ne_eqb _ _ ne)))
       (later_taken v v.phase.before ok h.sizes (h.in_slot open') (omega arith) refl)
 ]
   where
-    state : (b : Bool) → IfSome (if b then v.kept.state else adopted_by (setting_of v.config) v.phase.me (has_of state_in (shut v).arrived)) (λ a. IsAgreed N v.config a)
+    state : (b : Bool) → IfSome (if b then v.kept.state else adopted_by (setting_of v.config) v.phase.me (has_of body_said (shut v).arrived)) (λ a. IsAgreed N v.config a)
     state true = h.sizes.kept.state
-    state false = adopted_agreed v.config v.phase.me (has_of state_in (shut v).arrived) small ok
+    state false = adopted_agreed v.config v.phase.me (has_of body_said (shut v).arrived) small ok
 
 end_sound : {N : ℕ} (w : NodeView N) (o : Option AgreedView) → IsConfig N w.config → HasSizes w → w.phase.before ≡ o → IsSound (period_over (finished w o))
 end_sound w None ok h goes = record {

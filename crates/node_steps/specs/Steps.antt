@@ -15,7 +15,7 @@ use Rattle.agreed_state.specs.declared.config.Inputs.{Inputs}
 use Rattle.agreed_state.specs.Agreed.{AgreedView, agreed_after}
 use Rattle.agreed_state.specs.Body.{body}
 use Rattle.agreed_state.specs.Expecting.{expectation}
-use Rattle.protocol.specs.Arrival.{is_bad, state_in, values_in, claim_form, row_form}
+use Rattle.protocol.specs.Arrival.{is_bad, body_said, values_in, claim_form, row_form}
 use Rattle.protocol.specs.FurtherKinds.{convicts_member}
 use Rattle.protocol.specs.View.{nothing, adopted_by, own_claim, as_claim, due_channels, own_values, own_in, votes_on, deviates, other_body, row_by, empty_row, channel_room, cold_view}
 use Rattle.protocol.specs.View.Mode.{Full, Joining, Cold}
@@ -53,17 +53,17 @@ started h members me full own = record h { members = members; me = me; full = fu
 abbrev pub synced : {N : ℕ} → NodeView N → Option AgreedView → NodeView N
 synced v None = record v { phase = record v.phase { before = None } }
 synced v (Some a) =
-    let w = with_notes v (λ j k. is_bad (has_of state_in v.arrived j) k || (other_body (body v.config a) (has_of state_in v.arrived j) && k == state)) in
+    let w = with_notes v (λ j k. is_bad (has_of body_said v.arrived j) k || (other_body (body v.config a) (has_of body_said v.arrived j) && k == state)) in
     record w {
       phase = record v.phase { before = Some a };
       done = started v.done a.standing.members v.phase.me v.phase.full (Plain (own_claim v.phase.me v.phase.inputs a));
     }
 
 abbrev pub with_sync : {N : ℕ} → NodeView N → NodeView N
-with_sync v = record v { found = record v.found { sync = good_in v.config.nodes v.phase.me (has_of state_in v.arrived) } }
+with_sync v = record v { found = record v.found { sync = good_in v.config.nodes v.phase.me (has_of body_said v.arrived) } }
 
 abbrev pub after_sync : {N : ℕ} → NodeView N → NodeView N
-after_sync v = synced (with_sync v) (if v.phase.full then v.kept.state else adopted_by (setting_of v.config) v.phase.me (has_of state_in v.arrived))
+after_sync v = synced (with_sync v) (if v.phase.full then v.kept.state else adopted_by (setting_of v.config) v.phase.me (has_of body_said v.arrived))
 
 -- whether node j is convicted by what was heard of an item
 abbrev pub by_conviction : {V : Type 0} → (V → V → Bool) → Hearing V → ℕ → ℕ → Bool

@@ -15,7 +15,7 @@ use Rattle.frames.specs.ReadingLaws.{reads_only}
 use Rattle.slot_plan.specs.Ticks.{is_in_window}
 use Rattle.error_detect.specs.Finding.{told_of}
 use Rattle.error_detect.specs.Watching.{Arrival, Watch, of_sender, told_at, told_by, told_in, nothing, one, too_long, several}
-use Rattle.protocol.specs.Arrival.{arrived, state_in, claims_in, rows_in}
+use Rattle.protocol.specs.Arrival.{arrived, body_said, claims_in, rows_in}
 use Rattle.protocol.specs.View.{content}
 use Rattle.relay_rules.specs.Hearing.{AreEntries, Brings}
 
@@ -81,9 +81,9 @@ rows_brought w e is few j on = go (told_at w j) (λ c t. told_in_range w e j c i
   go (Some Cold) h = tt
 
 -- a state has the length of a state
-pub states_sized : (w : Watch) (e : Expectation) (n : ℕ) → w.expect ≡ Some e → e.state_len ≤ n → (j : ℕ) → IfSome (content (arrived state_in None (told_at w j))) (λ b. length b ≤ n)
+pub states_sized : (w : Watch) (e : Expectation) (n : ℕ) → w.expect ≡ Some e → e.state_len ≤ n → (j : ℕ) → IfSome (content (arrived body_said None (told_at w j))) (λ b. length b ≤ n)
 states_sized w e n is few j = go (told_at w j) (λ c t. told_in_range w e j c is t) where
-  go : (o : Option Content) → ((c : Content) → o ≡ Some c → IsInRange (of_sender j e) c) → IfSome (content (arrived state_in None o)) (λ b. length b ≤ n)
+  go : (o : Option Content) → ((c : Content) → o ≡ Some c → IsInRange (of_sender j e) c) → IfSome (content (arrived body_said None o)) (λ b. length b ≤ n)
   go None h = tt
   go (Some (State b)) h = let l = (h (State b) refl).sized in omega arith
   go (Some (Done0 t)) h = tt

@@ -7,14 +7,14 @@ use Rattle.error_detect.specs.declared.finding.Finding.TheVariants.{Good}
 use Rattle.error_detect.specs.Finding.{kind_of}
 use Rattle.error_detect.specs.Watching.{Watch, finding_at, told_at}
 use Rattle.error_reports.specs.Notes.{is_kind}
-use Rattle.protocol.specs.Arrival.{Arrival, Form, arrived, is_bad, is_good}
+use Rattle.protocol.specs.Arrival.{Arrival, ItemForm, arrived, is_bad, is_good}
 
 -- what a node has of a sender's frame in the slot that was closed
 abbrev pub has_of : {C : Type 0} → (Content → Option C) → Watch → ℕ → Arrival C
 has_of part w j = arrived part (kind_of (finding_at w j)) (told_at w j)
 
 -- whether the finding of a sender's frame of round r has this kind of error
-abbrev pub bad_in : {V : Type 0} → Form V → ℕ → Watch → ℕ → ℕ → Bool
+abbrev pub bad_in : {V : Type 0} → ItemForm V → ℕ → Watch → ℕ → ℕ → Bool
 bad_in form r w j k = if r == 0 then is_bad (has_of form.item_in w j) k else is_bad (has_of form.relay_in w j) k
 
 -- the other nodes whose frames in the slot were good, by what each one's frame says

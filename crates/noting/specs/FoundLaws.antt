@@ -20,7 +20,7 @@ use Rattle.error_detect.specs.GoodLaws.{good_fits}
 use Rattle.error_reports.specs.Charge.{accuses}
 use Rattle.error_reports.specs.Notes.{Notes, noted_besides, is_kind, of_each, also_noted, also_carried}
 use Rattle.error_reports.specs.NoteLaws.{SayTheSame, noted_alike, carried_alike}
-use Rattle.protocol.specs.Arrival.{Arrival, Form, arrived, read_as, is_bad, is_good, state_in, claim_in, claims_in, values_in, row_in, rows_in, claim_form, row_form}
+use Rattle.protocol.specs.Arrival.{Arrival, ItemForm, arrived, read_as, is_bad, is_good, body_said, claim_in, claims_in, values_in, row_in, rows_in, claim_form, row_form}
 use Rattle.protocol.specs.Arrival.Arrival.{Bad, Good}
 use Rattle.protocol.specs.View.{Setting, other_body, row_by}
 use Rattle.noting.specs.Findings.{has_of, bad_in, good_in, found_bad}
@@ -32,7 +32,7 @@ abbrev pub IsPartOf : {C : Type 0} → (Content → Option C) → ℕ → Type 0
 IsPartOf part n = (c : Content) → is_good (read_as (part c)) ≡ (kind c == n)
 
 -- each content has one part
-parts : (c : Content) → (is_good (read_as (state_in c)) ≡ (kind c == state_kind)) × (is_good (read_as (claim_in c)) ≡ (kind c == claim_kind))
+parts : (c : Content) → (is_good (read_as (body_said c)) ≡ (kind c == state_kind)) × (is_good (read_as (claim_in c)) ≡ (kind c == claim_kind))
     × (is_good (read_as (claims_in c)) ≡ (kind c == claim_relay_kind)) × (is_good (read_as (values_in c)) ≡ (kind c == data_kind))
     × (is_good (read_as (row_in c)) ≡ (kind c == row_kind)) × (is_good (read_as (rows_in c)) ≡ (kind c == row_relay_kind))
 parts (State x) = (refl, refl, refl, refl, refl, refl)
@@ -101,7 +101,7 @@ part_found part capacity n w e is of = λ j k low used other within.
     ap (λ (f : Finding). is_kind (kind_of f) k) (found_at capacity w j low)
     ∙ (in_slot part w e j is.expects of (let z = is.nodes_are in omega arith) (λ q. other (q ∙ is.me_is))).1 k
 
-round_found : {V : Type 0} (form : Form V) (own relay capacity : ℕ) (n : Notes) (w : Watch) (e : Expectation) (r : ℕ) → IsWatched n w e → IsPartOf form.item_in own → IsPartOf form.relay_in relay
+round_found : {V : Type 0} (form : ItemForm V) (own relay capacity : ℕ) (n : Notes) (w : Watch) (e : Expectation) (r : ℕ) → IsWatched n w e → IsPartOf form.item_in own → IsPartOf form.relay_in relay
     → kind_in e.m e.slot ≡ (if r == 0 then own else relay) → SayTheSame capacity n (found_bad (findings capacity w)) (bad_in form r w)
 round_found form own relay capacity n w e r is of_own of_relay slot = go (r == 0) slot where
   go : (b : Bool) → kind_in e.m e.slot ≡ (if b then own else relay)
@@ -134,8 +134,8 @@ values_found capacity n w e off far is slot are =
     (part_found values_in capacity n w e is (of_kind values_in data_kind (kind_in e.m e.slot) (λ c. (parts c).3) (values_kind e.m e.slot slot)) j k low used other within) (are j used other))
 
 -- in the sync slot
-pub states_found : (capacity : ℕ) (n : Notes) (w : Watch) (e : Expectation) → IsWatched n w e → e.slot ≡ 0 → SayTheSame capacity n (found_bad (findings capacity w)) (λ j k. is_bad (has_of state_in w j) k)
-states_found capacity n w e is slot = part_found state_in capacity n w e is (of_kind state_in state_kind (kind_in e.m e.slot) (λ c. (parts c).0) (sync_kind e.m e.slot slot))
+pub states_found : (capacity : ℕ) (n : Notes) (w : Watch) (e : Expectation) → IsWatched n w e → e.slot ≡ 0 → SayTheSame capacity n (found_bad (findings capacity w)) (λ j k. is_bad (has_of body_said w j) k)
+states_found capacity n w e is slot = part_found body_said capacity n w e is (of_kind body_said state_kind (kind_in e.m e.slot) (λ c. (parts c).0) (sync_kind e.m e.slot slot))
 
 pub good_by : (f : Finding) → found_as.is_good f ≡ is_none (kind_of f)
 good_by finding.Good = refl
@@ -146,22 +146,22 @@ good_by finding.Cold = refl
 
 -- whose frames of the sync slot were found Good
 pub good_found : (capacity nodes me : ℕ) (w : Watch) (e : Expectation) → nodes ≤ capacity → w.nodes ≡ nodes → w.me ≡ me → w.expect ≡ Some e → e.slot ≡ 0
-    → ids_where (λ j. not (j == me) && is_good_at (findings capacity w) j) nodes ≡ good_in nodes me (has_of state_in w)
+    → ids_where (λ j. not (j == me) && is_good_at (findings capacity w) j) nodes ≡ good_in nodes me (has_of body_said w)
 good_found capacity nodes me w e few nodes_are me_is expects slot =
-    filter_range (λ j. not (j == me) && is_good_at (findings capacity w) j) (λ j. not (j == me) && is_good (has_of state_in w j)) 0 nodes
+    filter_range (λ j. not (j == me) && is_good_at (findings capacity w) j) (λ j. not (j == me) && is_good (has_of body_said w j)) 0 nodes
     (λ j l u. elim (cases_eq j me) [
       | inl same ↦ rw (eq-eqb j me same) refl
       | inr other ↦
           ap (λ (b : Bool). not (j == me) && b)
           (ap (λ (f : Finding). found_as.is_good f) (found_at capacity w j (omega arith)) ∙ good_by (finding_at w j)
-          ∙ sym (in_slot state_in w e j expects (of_kind state_in state_kind (kind_in e.m e.slot) (λ c. (parts c).0) (sync_kind e.m e.slot slot)) (omega arith) (λ q. other (q ∙ me_is))).0)
+          ∙ sym (in_slot body_said w e j expects (of_kind body_said state_kind (kind_in e.m e.slot) (λ c. (parts c).0) (sync_kind e.m e.slot slot)) (omega arith) (λ q. other (q ∙ me_is))).0)
     ])
 
 -- a state that is another one, by what was told alone
-pub other_told : (own : List ℕ) (w : Watch) (e : Expectation) (j : ℕ) → w.expect ≡ Some e → j < w.nodes → j ≢ w.me → other_body own (arrived state_in None (told_at w j)) ≡ other_body own (has_of state_in w j)
+pub other_told : (own : List ℕ) (w : Watch) (e : Expectation) (j : ℕ) → w.expect ≡ Some e → j < w.nodes → j ≢ w.me → other_body own (arrived body_said None (told_at w j)) ≡ other_body own (has_of body_said w j)
 other_told own w e j expects low other = go (kind_of (finding_at w j)) (told_at w j) (good_fits w e j expects low other) where
-  go : (error : Option ℕ) (o : Option Content) → IsToldWith (of_sender j e) error o → other_body own (arrived state_in None o) ≡ other_body own (arrived state_in error o)
-  go (Some x) o told = ap (λ (p : Option Content). other_body own (arrived state_in None p)) told
+  go : (error : Option ℕ) (o : Option Content) → IsToldWith (of_sender j e) error o → other_body own (arrived body_said None o) ≡ other_body own (arrived body_said error o)
+  go (Some x) o told = ap (λ (p : Option Content). other_body own (arrived body_said None p)) told
   go None o told = refl
 
 -- ---- notes by a set of nodes, and as a row

@@ -5,7 +5,7 @@ ghost use Rattle.node_grid.specs.Capacity.{IsCapacity};
 ghost use Rattle.node_grid.specs.Kinds.{state};
 ghost use Rattle.error_detect.specs.Watching.{findings, told_at};
 ghost use Rattle.error_reports.specs.Notes.{also_noted};
-ghost use Rattle.protocol.specs.Arrival.{arrived, is_bad, state_in};
+ghost use Rattle.protocol.specs.Arrival.{arrived, is_bad, body_said};
 ghost use Rattle.protocol.specs.View.{other_body};
 ghost use Rattle.noting.specs.Findings.{has_of, IsSyncOf};
 
@@ -21,7 +21,7 @@ fn tells_other<const N: usize>(watch: &SlotWatch<N>, own: &[u8], node: u8) -> bo
     requires sync { IsSyncOf own.now watch.now.nodes watch.now.me watch.now }
     requires node { node < watch.now.nodes }
     requires other { node ≢ watch.now.me }
-    ensures { result ≡ other_body own.now (arrived state_in None (told_at watch.now node)) }
+    ensures { result ≡ other_body own.now (arrived body_said None (told_at watch.now node)) }
 {
     let Some(Some(frame)) = watch.told(node) else {
         return false;
@@ -46,8 +46,8 @@ pub fn note_states<const N: usize>(
     requires sync { IsSyncOf own.now notes.old.nodes notes.old.me watch.now }
     requires found { found.now ≡ findings N watch.now }
     ensures { notes.new ≡ also_noted N notes.old
-        (λ j k. is_bad (has_of state_in watch.now j) k ||
-        (other_body own.now (has_of state_in watch.now j) && k == state)) }
+        (λ j k. is_bad (has_of body_said watch.now j) k ||
+        (other_body own.now (has_of body_said watch.now j) && k == state)) }
 {
     note_found(notes, found);
     notes.note_each(
@@ -57,7 +57,7 @@ pub fn note_states<const N: usize>(
             requires node { j < watch.now.nodes }
             requires other { j ≢ watch.now.me }
             ensures { result ≡ (if other_body own.entry.now
-                (arrived state_in None (told_at watch.entry.now j)) then Some state else None) }
+                (arrived body_said None (told_at watch.entry.now j)) then Some state else None) }
         { tells_other(watch, own, j).then_some(STATE) },
     );
 }

@@ -9,7 +9,7 @@ use Rattle.omh.specs.Heard.{Entry, Hearing, heard_paths}
 use Rattle.omh.specs.Written.{IsSmall, last_node, with_frame, as_written}
 use Rattle.error_detect.specs.Watching.{Watch, told_at}
 use Rattle.node_grid.specs.Kinds.{malformed}
-use Rattle.protocol.specs.Arrival.{Arrival, Form, arrived}
+use Rattle.protocol.specs.Arrival.{Arrival, ItemForm, arrived}
 use Rattle.protocol.specs.Arrival.Arrival.{Bad, Good}
 use Rattle.protocol.specs.Heard.{Rounds, paths_of, with_entries, heard}
 
@@ -21,7 +21,7 @@ abbrev pub told_to : {V : Type 0} → List (List ℕ) → (List ℕ → Wrapped 
 told_to ps f e = record { path = e.path; value = if has_path ps e.path then f e.path else e.value }
 
 -- what one slot alone says, as a slot of round 0 and as a relay slot of each round
-abbrev pub slot_rounds : {V : Type 0} → Form V → List ℕ → Watch → Rounds V
+abbrev pub slot_rounds : {V : Type 0} → ItemForm V → List ℕ → Watch → Rounds V
 slot_rounds form members w = record {
   first = λ j. arrived form.item_in None (told_at w j);
   relay = λ r j. with_entries (paths_of members r j) (arrived form.relay_in None (told_at w j));
@@ -85,18 +85,18 @@ abbrev pub IsByPath : {V : Type 0} → Hearing V → Type 0
 IsByPath h = map (λ e. e.path) h.heard ≡ heard_paths h.members h.me h.rounds
 
 -- what was heard after a round, by what the frames of one slot say
-abbrev pub after_round : {V : Type 0} → Form V → ℕ → Watch → ℕ → Hearing V → Hearing V
+abbrev pub after_round : {V : Type 0} → ItemForm V → ℕ → Watch → ℕ → Hearing V → Hearing V
 after_round form nodes w r h = record h { heard = map (told_to (all_told h.members h.me r nodes) (heard (slot_rounds form h.members w))) h.heard }
 
 -- what was heard after those frames of a round that these nodes sent
-abbrev pub told_by : {V : Type 0} → Form V → ℕ → Watch → ℕ → List ℕ → Hearing V → Hearing V
+abbrev pub told_by : {V : Type 0} → ItemForm V → ℕ → Watch → ℕ → List ℕ → Hearing V → Hearing V
 told_by form nodes w r senders h =
     record h { heard = map (told_to (filter (λ p. has_id senders (last_node p)) (all_told h.members h.me r nodes)) (heard (slot_rounds form h.members w))) h.heard }
 
 -- what the relay frame of node q in a slot brings of items
-abbrev pub brought : {V : Type 0} → Form V → Watch → ℕ → Arrival (List (Wrapped V))
+abbrev pub brought : {V : Type 0} → ItemForm V → Watch → ℕ → Arrival (List (Wrapped V))
 brought form w q = arrived form.relay_in None (told_at w q)
 
 -- what was heard after it alone
-abbrev pub told_from : {V : Type 0} → Form V → Watch → ℕ → ℕ → Hearing V → Hearing V
+abbrev pub told_from : {V : Type 0} → ItemForm V → Watch → ℕ → ℕ → Hearing V → Hearing V
 told_from form w r q h = record h { heard = map (told_to (paths_from h.members h.me r q) (heard (slot_rounds form h.members w))) h.heard }

@@ -12,7 +12,7 @@ use Rattle.omh.specs.Heard.{Hearing, heard_in}
 use Rattle.frames.specs.Content.{Expectation, Content, round_in}
 use Rattle.frames.specs.Spelling.{body_spelling}
 use Rattle.error_detect.specs.Guessing.{pieces_without, IsGuessable}
-use Rattle.protocol.specs.Arrival.{Form}
+use Rattle.protocol.specs.Arrival.{ItemForm}
 use Rattle.protocol.specs.TalkLaws.{paths_of_member}
 use Rattle.relaying.specs.Guessed.{IsEchoOf, IsCutOut, CutsOut}
 use Rattle.relay_rules.specs.Relaying.{relays}
@@ -23,7 +23,7 @@ alike f g [] h = refl
 alike f g (p ∷ ps) h = ap₂ ◌∷◌ (h 0 (omega arith)) (alike f g ps (λ k low. h (suc k) (omega (arith, low))))
 
 -- of the paths of the others an echo says what the node passes on
-own_echo : {V : Type 0} (form : Form V) (r : ℕ) (e : Expectation) (c : Content) (h : Hearing V) → Distinct h.members → has_id h.members h.me ≡ true → (k : IsEchoOf form r e c h)
+own_echo : {V : Type 0} (form : ItemForm V) (r : ℕ) (e : Expectation) (c : Content) (h : Hearing V) → Distinct h.members → has_id h.members h.me ≡ true → (k : IsEchoOf form r e c h)
     → map k.of (paths_of_length (without_id h.members h.me) r) ≡ relays h r
 own_echo {V} form r e c h d on k =
     alike k.of g (paths_of_length s r) (λ i low.
@@ -47,7 +47,7 @@ own_echo {V} form r e c h d on k =
     ]
 
 -- the bytes of the guess have an entry for each path, and those of the others' are what the node passes on
-pub cut_out : {V : Type 0} (capacity kind r : ℕ) (in_range : Expectation → V → Type 0) (form : Form V) (width : ℕ → ℕ) (spell : ℕ → Wrapped V → List ℕ) (h : Hearing V) (e : Expectation) (c : Content) (bytes : List ℕ)
+pub cut_out : {V : Type 0} (capacity kind r : ℕ) (in_range : Expectation → V → Type 0) (form : ItemForm V) (width : ℕ → ℕ) (spell : ℕ → Wrapped V → List ℕ) (h : Hearing V) (e : Expectation) (c : Content) (bytes : List ℕ)
     → CutsOut form width spell → IsRoundOf capacity kind in_range r h e → Distinct h.members → has_id h.members h.me ≡ true → IsGuessable e c → IsEchoOf form r e c h → bytes ≡ body_spelling h.nodes c
     → (width h.nodes * length (paths_of_length h.members r) ≡ length bytes) × (pieces_without (width h.nodes) h.me (paths_of_length h.members r) bytes ≡ flat_map (spell h.nodes) (relays h r))
 cut_out {V} capacity kind r in_range form width spell h e c bytes cuts slot d on can k spelt =

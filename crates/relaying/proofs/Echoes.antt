@@ -7,12 +7,12 @@ use Rattle.omh_paths.specs.Paths.{paths_of_length}
 use Rattle.omh.specs.Heard.{Hearing}
 use Rattle.frames.specs.Content.{Expectation, Content, round_in}
 use Rattle.error_detect.specs.Watching.{Watch, guessing}
-use Rattle.protocol.specs.Arrival.{Form}
+use Rattle.protocol.specs.Arrival.{ItemForm}
 use Rattle.relaying.specs.Guessed.{PassesOn, IsEchoOf, IsEchoed, unguessed}
 use Rattle.relaying.specs.Table.{own_told, passed, table}
 use Rattle.relaying.proofs.Tables.{passed_off}
 
-pub table_echoed : {V : Type 0} (form : Form V) (e : Expectation) (h : Hearing V) (r : ℕ) → PassesOn form → e.members ≡ h.members → round_in e.m e.slot ≡ suc r
+pub table_echoed : {V : Type 0} (form : ItemForm V) (e : Expectation) (h : Hearing V) (r : ℕ) → PassesOn form → e.members ≡ h.members → round_in e.m e.slot ≡ suc r
     → IsEchoOf form (suc r) e (form.relay (table h (suc r))) h
 table_echoed {V} form e h r passes members round =
     subst (λ (s : List ℕ). IsEchoOf form (suc r) e (form.relay (map of (paths_of_length s (suc r)))) h) members
@@ -25,12 +25,12 @@ table_echoed {V} form e h r passes members round =
     of : List ℕ → Wrapped V
     of = passed (own_told h) h (suc r)
 
-echoed : {V : Type 0} (form : Form V) (e : Expectation) (h : Hearing V) (r : ℕ) → 0 < r → PassesOn form → e.members ≡ h.members → round_in e.m e.slot ≡ r → IsEchoOf form r e (form.relay (table h r)) h
+echoed : {V : Type 0} (form : ItemForm V) (e : Expectation) (h : Hearing V) (r : ℕ) → 0 < r → PassesOn form → e.members ≡ h.members → round_in e.m e.slot ≡ r → IsEchoOf form r e (form.relay (table h r)) h
 echoed form e h zero some passes members round = absurd (omega (arith, some))
 echoed form e h (suc r) some passes members round = table_echoed form e h r passes members round
 
 -- a watch of which that was guessed, where there was room
-pub guessed_or_not : {V : Type 0} (form : Form V) (h : Hearing V) (r : ℕ) (old new : Watch) (said : Content) (b : Bool) → (b ≡ true → new ≡ guessing old said) → (b ≡ false → new ≡ old)
+pub guessed_or_not : {V : Type 0} (form : ItemForm V) (h : Hearing V) (r : ℕ) (old new : Watch) (said : Content) (b : Bool) → (b ≡ true → new ≡ guessing old said) → (b ≡ false → new ≡ old)
     → said ≡ form.relay (table h r) → (new.guess ≡ old.guess) ⊎ (new.guess ≡ Some (form.relay (table h r)))
 guessed_or_not form h r old new said b put none is = elim (cases_Bool b) [
   | inl y ↦ inr (ap (λ (w : Watch). w.guess) (put y) ∙ ap Some is)
@@ -40,7 +40,7 @@ guessed_or_not form h r old new said b put none is = elim (cases_Bool b) [
 pub guess_kept : (old new : Watch) (said : Content) (b : Bool) → (b ≡ true → new ≡ guessing old said) → (b ≡ false → new ≡ old) → unguessed new ≡ unguessed old
 guess_kept old new said b put none = elim (cases_Bool b) [ inl y ↦ ap unguessed (put y) | inr n ↦ ap unguessed (none n) ]
 
-pub guess_echoed : {V : Type 0} (form : Form V) (e : Expectation) (h : Hearing V) (r : ℕ) (old new : Watch) → 0 < r → PassesOn form → e.members ≡ h.members → round_in e.m e.slot ≡ r
+pub guess_echoed : {V : Type 0} (form : ItemForm V) (e : Expectation) (h : Hearing V) (r : ℕ) (old new : Watch) → 0 < r → PassesOn form → e.members ≡ h.members → round_in e.m e.slot ≡ r
     → old.expect ≡ Some e → unguessed new ≡ unguessed old → (new.guess ≡ old.guess) ⊎ (new.guess ≡ Some (form.relay (table h r))) → old.guess ≡ None → IsEchoed form r new h
 guess_echoed {V} form e h r old new some passes members round expected kept (inl same) none e' c eo go = absurd (let f : ◌≡◌ {A = Option Content} (Some c) None = sym go ∙ same ∙ none in cc)
 guess_echoed {V} form e h r old new some passes members round expected kept (inr is) none e' c eo go =

@@ -18,7 +18,7 @@ use Rattle.omh.specs.HeardLaws.{IsHeardPath, all_heard_paths}
 use Rattle.heard.specs.Keep.{IsSmall, last_node}
 use Rattle.heard.specs.Seen.{with_frame}
 use Rattle.error_detect.specs.Watching.{Watch, told_at}
-use Rattle.protocol.specs.Arrival.{Arrival, Form, arrived, said}
+use Rattle.protocol.specs.Arrival.{Arrival, ItemForm, arrived, said}
 use Rattle.protocol.specs.Arrival.Arrival.{Bad, Good}
 use Rattle.protocol.specs.Heard.{with_entries, entry, heard, paths_of}
 use Rattle.relay_rules.specs.Hearing.{has_path, told_to, slot_rounds, pushed, paths_from, frame_says}
@@ -101,7 +101,7 @@ entry_says (Good xs) members r q front long low =
     let t : take r (front ++ q ∷ []) ≡ front = ap (λ (n : ℕ). take n (front ++ q ∷ [])) (sym long) ∙ take-front front (q ∷ []) in
     ap (λ (p : List ℕ). slice_index_or xs (place_in ps p) (Fault 0)) t ∙ sym (looked_up-place ps xs front low)
 
-pub says_heard : {V : Type 0} (form : Form V) (members : List ℕ) (w : Watch) (me rounds r q : ℕ) (p : List ℕ) → Distinct members → IsHeardPath members me rounds p → has_id members q ≡ true → 0 < r → length p ≡ r + 1 → last_node p ≡ q
+pub says_heard : {V : Type 0} (form : ItemForm V) (members : List ℕ) (w : Watch) (me rounds r q : ℕ) (p : List ℕ) → Distinct members → IsHeardPath members me rounds p → has_id members q ≡ true → 0 < r → length p ≡ r + 1 → last_node p ≡ q
     → frame_says members q r (arrived form.relay_in None (told_at w q)) p ≡ heard (slot_rounds form members w) p
 says_heard {V} form members w me rounds r q p d real on some long end =
     let b : Behind members r q p = behind members me rounds r q p d real long end in
@@ -124,7 +124,7 @@ where_all P Q [] a h = tt
 where_all P Q (x ∷ xs) a h = (h x a.0, where_all P Q xs a.1 h)
 
 -- a frame's entries, told by path, are what the slot says
-pub frame_told : {V : Type 0} (form : Form V) (w : Watch) (r q : ℕ) (h : Hearing V) → Distinct h.members → has_id h.members q ≡ true → 0 < r
+pub frame_told : {V : Type 0} (form : ItemForm V) (w : Watch) (r q : ℕ) (h : Hearing V) → Distinct h.members → has_id h.members q ≡ true → 0 < r
     → map (λ (e : Entry V). e.path) h.heard ≡ heard_paths h.members h.me h.rounds
     → ◌≡◌ {A = Hearing V} (record h { heard = map (with_frame r q (frame_says h.members q r (arrived form.relay_in None (told_at w q)))) h.heard }) (told (paths_from h.members h.me r q) (heard (slot_rounds form h.members w)) h)
 frame_told {V} form w r q h d on some paths =

@@ -20,7 +20,7 @@ use Rattle.heard.specs.Seen.{with_frame, as_written, SaysEcho}
 use Rattle.frames.specs.Content.{Expectation, Content}
 use Rattle.error_detect.specs.Guessing.{said_by, is_guessed_of}
 use Rattle.error_detect.specs.Watching.{Watch, told_at, guesses, guesses_at, said_in, said_at}
-use Rattle.protocol.specs.Arrival.{Form, arrived, read_as, said}
+use Rattle.protocol.specs.Arrival.{ItemForm, arrived, read_as, said}
 use Rattle.protocol.specs.Arrival.Arrival.{Good}
 use Rattle.relay_rules.specs.Hearing.{has_path, told_to, all_told, with_told, IsByPath, Brings, AreEntries, brought}
 use Rattle.relaying.specs.Guessed.{IsEchoOf, IsEchoed, BringsEcho, AreSmall}
@@ -30,7 +30,7 @@ use Rattle.relay_rules.specs.HearingLaws.{length_all}
 use Rattle.relaying.proofs.Entries.{Behind, behind, each_entry, where_all}
 
 -- what was told by a guessed frame
-pub brings_echo : {V : Type 0} (form : Form V) (r q : ℕ) (w : Watch) (h : Hearing V) → Distinct h.members → has_id h.members q ≡ true
+pub brings_echo : {V : Type 0} (form : ItemForm V) (r q : ℕ) (w : Watch) (h : Hearing V) → Distinct h.members → has_id h.members q ≡ true
     → IsEchoed form r w h → guesses_at w q ≡ true → told_at w q ≡ said_at w q → BringsEcho form r q w h
 brings_echo {V} form r q w h d on echo g same = by_case w.expect refl w.guess refl g same where
   by_case : (o : Option Expectation) → w.expect ≡ o → (c : Option Content) → w.guess ≡ c → guesses o c q ≡ true → told_at w q ≡ said_in o c q → BringsEcho form r q w h
@@ -64,7 +64,7 @@ untold {V} ps f p (e ∷ es) none =
     ]
 
 -- what a round's frames tell leaves what the node passes on in it
-pub still_echoed : {V : Type 0} (form : Form V) (r n : ℕ) (w : Watch) (f : List ℕ → Wrapped V) (h : Hearing V) → Distinct h.members → IsEchoed form r w h → IsEchoed form r w (told (all_told h.members h.me r n) f h)
+pub still_echoed : {V : Type 0} (form : ItemForm V) (r n : ℕ) (w : Watch) (f : List ℕ → Wrapped V) (h : Hearing V) → Distinct h.members → IsEchoed form r w h → IsEchoed form r w (told (all_told h.members h.me r n) f h)
 still_echoed {V} form r n w f h d echo e c eo ec =
     let k : IsEchoOf form r e c h = echo e c eo ec in
     record {
@@ -126,7 +126,7 @@ same_echo {V} h r q xs ys d paths lx ex ly ey =
         ]
 
 -- what is passed on in such a frame is small
-pub echo_small : {V : Type 0} (form : Form V) (r q count : ℕ) (w : Watch) (h : Hearing V) → Distinct h.members → has_id h.members q ≡ true → BringsEcho form r q w h → Brings count (brought form w q) → AreSmall r (without_id h.members q) h
+pub echo_small : {V : Type 0} (form : ItemForm V) (r q count : ℕ) (w : Watch) (h : Hearing V) → Distinct h.members → has_id h.members q ≡ true → BringsEcho form r q w h → Brings count (brought form w q) → AreSmall r (without_id h.members q) h
 echo_small form r q count w h d on b brings k low off =
     let e : AreEntries count b.values = subst (Brings count) b.are brings in
     let below : k < length b.values = subst (λ (n : ℕ). k < n) (ap (λ (n : ℕ). path_count n r) (length-without h.members q d on) ∙ sym b.long) low in
@@ -137,7 +137,7 @@ if_none None e h = h
 if_none (Some a) e h = absurd (cc)
 
 -- no item is told by a guess
-pub guess_first : {V : Type 0} (form : Form V) (w : Watch) (q : ℕ) → ((e : Expectation) (j : ℕ) (c : Content) → is_guessed_of e j c ≡ true → form.item_in (said_by e j c) ≡ None)
+pub guess_first : {V : Type 0} (form : ItemForm V) (w : Watch) (q : ℕ) → ((e : Expectation) (j : ℕ) (c : Content) → is_guessed_of e j c ≡ true → form.item_in (said_by e j c) ≡ None)
     → guesses_at w q ≡ true → told_at w q ≡ said_at w q → Fault 0 ≡ said (arrived form.item_in None (told_at w q))
 guess_first {V} form w q unguessed g same = by_case w.expect w.guess g same where
   by_case : (o : Option Expectation) (c : Option Content) → guesses o c q ≡ true → told_at w q ≡ said_in o c q → Fault 0 ≡ said (arrived form.item_in None (told_at w q))

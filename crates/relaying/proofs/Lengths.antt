@@ -2,7 +2,7 @@
 use Rattle.std.proofs.Common.{ℕ, ◌≡◌, ◌≤◌, arith, ◌/◌, List, [], ◌∷◌, ◌++◌, length, take, refl, ap, ◌∙◌}
 use Rattle.std.proofs.lemmas.List.{length-map}
 use Rattle.omh_paths.specs.declared.wrapped.Wrapped.{Wrapped}
-use Rattle.frames.specs.Reading.{cut}
+use Rattle.frames.specs.Reading.{pieces_of_width}
 use Rattle.frames.specs.PieceLaws.{length-cut}
 use Rattle.relaying.specs.Items.{entries_in}
 use Rattle.protocol.specs.Arrival.{Arrival}
@@ -10,7 +10,7 @@ use Rattle.protocol.specs.Arrival.Arrival.{Bad, Good}
 use Rattle.relay_rules.specs.Hearing.{Brings, FitsIn}
 
 pub entries_length : {V : Type 0} (read : List ℕ → Wrapped V) (width : ℕ) (bytes : List ℕ) → length (entries_in read width bytes) ≡ length bytes / width
-entries_length read width bytes = length-map (cut width bytes) read ∙ length-cut width bytes
+entries_length read width bytes = length-map (pieces_of_width width bytes) read ∙ length-cut width bytes
 
 pub take-front : (xs old : List ℕ) → take (length xs) (xs ++ old) ≡ xs
 take-front [] old = refl

@@ -18,7 +18,7 @@ use Rattle.heard.specs.Keep.{IsSmall}
 use Rattle.frames.specs.Content.{Expectation, IsEntry, kind_in, round_in}
 use Rattle.frames.specs.PieceLaws.{IsFormat, read_spelt, take-pasted}
 use Rattle.frames.specs.Writing.{pasted}
-use Rattle.frames.specs.Reading.{cut}
+use Rattle.frames.specs.Reading.{pieces_of_width}
 use Rattle.relay_rules.specs.Ranged.{HeardIn, IsRanged}
 use Rattle.relaying.specs.Round.{IsRoundOf}
 use Rattle.relaying.specs.Table.{own_told, passed, passed_of, CanWrite}
@@ -90,9 +90,9 @@ module _ {V : Type 0} (capacity kind r : ℕ) (in_range : Expectation → V → 
       subst (λ (n : ℕ). All (λ w. length (spell n w) ≡ width n) (passed_of h s r)) k.nodes_are
       (λ i d low. (format e r).long (get_or (passed_of h s r) i d) (entries_ranged i d low))
 
-  pub entries_back : map (read h.nodes) (cut (width h.nodes) (flat_map (spell h.nodes) (passed_of h s r))) ≡ passed_of h s r
+  pub entries_back : map (read h.nodes) (pieces_of_width (width h.nodes) (flat_map (spell h.nodes) (passed_of h s r))) ≡ passed_of h s r
   entries_back =
-      ap (λ (n : ℕ). map (read n) (cut (width n) (flat_map (spell n) (passed_of h s r)))) (sym k.nodes_are)
+      ap (λ (n : ℕ). map (read n) (pieces_of_width (width n) (flat_map (spell n) (passed_of h s r)))) (sym k.nodes_are)
       ∙ read_spelt (width e.nodes) (spell e.nodes) (read e.nodes) (IsEntry (in_range e) r) (format e r) (passed_of h s r) entries_ranged
 
   pub entries_long : length (flat_map (spell h.nodes) (passed_of h s r)) ≡ width h.nodes * path_count (length s) r
@@ -110,8 +110,8 @@ module _ {V : Type 0} (capacity kind r : ℕ) (in_range : Expectation → V → 
   }
 
   -- they are read from their bytes
-  pub entries_read : (bytes : List ℕ) → bytes ≡ flat_map (spell h.nodes) (passed_of h s r) → map (read h.nodes) (cut (width h.nodes) bytes) ≡ passed_of h s r
-  entries_read bytes is = ap (λ (xs : List ℕ). map (read h.nodes) (cut (width h.nodes) xs)) is ∙ entries_back
+  pub entries_read : (bytes : List ℕ) → bytes ≡ flat_map (spell h.nodes) (passed_of h s r) → map (read h.nodes) (pieces_of_width (width h.nodes) bytes) ≡ passed_of h s r
+  entries_read bytes is = ap (λ (xs : List ℕ). map (read h.nodes) (pieces_of_width (width h.nodes) xs)) is ∙ entries_back
 
   -- and the table of the round is one that can be guessed, as this is for each item
   pub can_guess : {G : Type 0} → (e.capacity ≡ capacity → kind ≡ kind_in e.m e.slot → Distinct e.members → length (passed_of h s r) ≡ path_count (length e.members) (round_in e.m e.slot)

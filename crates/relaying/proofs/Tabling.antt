@@ -18,11 +18,11 @@ use Rattle.omh_paths.specs.PathLists.{length-paths, path_at-place, place-path_at
 use Rattle.omh.specs.Heard.{Hearing, heard_in}
 use Rattle.frames.specs.Content.{Expectation, Content, IsEntry, kind_in, round_in}
 use Rattle.frames.specs.PieceLaws.{IsFormat, read_spelt}
-use Rattle.frames.specs.Reading.{cut}
+use Rattle.frames.specs.Reading.{pieces_of_width}
 use Rattle.frames.specs.Writing.{pasted}
 use Rattle.error_detect.specs.Guessing.{said_by}
 use Rattle.error_detect.specs.Watching.{Watch, guessing}
-use Rattle.protocol.specs.Arrival.{Form}
+use Rattle.protocol.specs.Arrival.{ItemForm}
 use Rattle.relaying.specs.Guessed.{PassesOn, IsEchoOf, IsEchoed}
 use Rattle.relaying.specs.Round.{IsRoundOf}
 use Rattle.relaying.specs.Table.{own_told, passed_of}
@@ -136,10 +136,10 @@ module _ {V : Type 0} (capacity kind r : ℕ) (in_range : Expectation → V → 
         ap₂ (λ (m : ℕ) (s : List ℕ). take m s) size is ∙ take-append_seam (flat_map (spell h.nodes) es) rest
 
     -- it's read from its bytes
-    pub guess_read : (bytes : List ℕ) → bytes ≡ flat_map (spell h.nodes) es → map (read h.nodes) (cut (width h.nodes) bytes) ≡ es
+    pub guess_read : (bytes : List ℕ) → bytes ≡ flat_map (spell h.nodes) es → map (read h.nodes) (pieces_of_width (width h.nodes) bytes) ≡ es
     guess_read bytes is =
-        ap (λ (xs : List ℕ). map (read h.nodes) (cut (width h.nodes) xs)) is
-        ∙ ap (λ (n : ℕ). map (read n) (cut (width n) (flat_map (spell n) es))) (sym k.nodes_are)
+        ap (λ (xs : List ℕ). map (read h.nodes) (pieces_of_width (width h.nodes) xs)) is
+        ∙ ap (λ (n : ℕ). map (read n) (pieces_of_width (width n) (flat_map (spell n) es))) (sym k.nodes_are)
         ∙ read_spelt (width e.nodes) (spell e.nodes) (read e.nodes) (IsEntry (in_range e) r) (format e r) es t.range
 
     -- and can be guessed, as this is for each item
@@ -187,7 +187,7 @@ module _ {V : Type 0} (capacity kind r : ℕ) (in_range : Expectation → V → 
           | inr high ↦ get_or-eq_default es (wrapped (heard_in h.heard p)) (let l = t.long in omega arith)
         ]
 
-    pub guess_echo : (form : Form V) → PassesOn form → IsEchoOf form r e (form.relay es) h
+    pub guess_echo : (form : ItemForm V) → PassesOn form → IsEchoOf form r e (form.relay es) h
     unfolding ps
     guess_echo form passes = record {
       of = of;
@@ -200,7 +200,7 @@ module _ {V : Type 0} (capacity kind r : ℕ) (in_range : Expectation → V → 
     }
 
 -- a watch of which that was guessed
-pub put_guess : {V : Type 0} (form : Form V) (e : Expectation) (h : Hearing V) (r : ℕ) (old new : Watch) (said : Content) → new ≡ guessing old said → old.expect ≡ Some e → IsEchoOf form r e said h → IsEchoed form r new h
+pub put_guess : {V : Type 0} (form : ItemForm V) (e : Expectation) (h : Hearing V) (r : ℕ) (old new : Watch) (said : Content) → new ≡ guessing old said → old.expect ≡ Some e → IsEchoOf form r e said h → IsEchoed form r new h
 put_guess {V} form e h r old new said is expected echo e' c eo go =
     let d : ◌≡◌ {A = Option Expectation} (Some e) (Some e') = sym expected ∙ sym (ap (λ (w : Watch). w.expect) is) ∙ eo in
     let f : ◌≡◌ {A = Option Content} (Some said) (Some c) = sym (ap (λ (w : Watch). w.guess) is) ∙ go in
@@ -209,5 +209,5 @@ put_guess {V} form e h r old new said is expected echo e' c eo go =
     subst (λ (x : Expectation). IsEchoOf form r x c h) same (subst (λ (x : Content). IsEchoOf form r e x h) that echo)
 
 -- what isn't there is an echo
-pub none_echoed : {V : Type 0} (form : Form V) (h : Hearing V) (r : ℕ) (w : Watch) → w.guess ≡ None → IsEchoed form r w h
+pub none_echoed : {V : Type 0} (form : ItemForm V) (h : Hearing V) (r : ℕ) (w : Watch) → w.guess ≡ None → IsEchoed form r w h
 none_echoed form h r w none e c eo go = absurd (let f : ◌≡◌ {A = Option Content} (Some c) None = sym go ∙ none in cc)

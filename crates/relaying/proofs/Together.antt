@@ -19,7 +19,7 @@ use Rattle.heard.specs.Keep.{last_node}
 use Rattle.heard.specs.Places.{on-at}
 use Rattle.heard.specs.Seen.{with_frames, with_echoes}
 use Rattle.error_detect.specs.Watching.{Watch, IsAsGuessed}
-use Rattle.protocol.specs.Arrival.{Arrival, Form}
+use Rattle.protocol.specs.Arrival.{Arrival, ItemForm}
 use Rattle.protocol.specs.Heard.{heard}
 use Rattle.relay_rules.specs.Hearing.{has_path, told_to, slot_rounds, paths_from, paths_told, all_told, frame_says, told_by, IsByPath}
 use Rattle.relay_rules.specs.HearingLaws.{has_path-append, kept_listed, listed_kept, length_all, told_all, told_is}
@@ -99,7 +99,7 @@ pub none_taken : {V : Type 0} (senders : List ℕ) (ps : List (List ℕ)) (f : L
 none_taken senders ps f h none = told_nothing f h ∙ told_alike [] (ending_in senders ps) f h (λ p. sym (ends_in senders ps p ∙ ap (λ (s : List ℕ). has_id s (last_node p) && has_path ps p) none))
 
 -- what was taken leaves what the node passes on in the round
-echoed_still : {V : Type 0} (form : Form V) (r n : ℕ) (w : Watch) (senders : List ℕ) (f : List ℕ → Wrapped V) (h : Hearing V) → Distinct h.members → IsEchoed form r w h → IsEchoed form r w (told (ending_in senders (all_told h.members h.me r n)) f h)
+echoed_still : {V : Type 0} (form : ItemForm V) (r n : ℕ) (w : Watch) (senders : List ℕ) (f : List ℕ → Wrapped V) (h : Hearing V) → Distinct h.members → IsEchoed form r w h → IsEchoed form r w (told (ending_in senders (all_told h.members h.me r n)) f h)
 echoed_still {V} form r n w senders f h d echo e c eo ec =
     let k : IsEchoOf form r e c h = echo e c eo ec in
     record {
@@ -116,7 +116,7 @@ echoed_still {V} form r n w senders f h d echo e c eo ec =
 
 -- ---- and then the others, one by one
 
-module _ {V : Type 0} (form : Form V) (w : Watch) (r n : ℕ) (senders : List ℕ) (was start : Hearing V) (d : Distinct was.members) (e : start ≡ told_by form n w r senders was) where
+module _ {V : Type 0} (form : ItemForm V) (w : Watch) (r n : ℕ) (senders : List ℕ) (was start : Hearing V) (d : Distinct was.members) (e : start ≡ told_by form n w r senders was) where
   -- what was heard once the nodes below q were heard
   abbrev pub heard_below : Hearing V → ℕ → Hearing V
   heard_below h q = told (all_told h.members h.me r q) (heard (slot_rounds form h.members w)) h
@@ -143,7 +143,7 @@ fewer_ids capacity n s ids fits low =
     ∙ ids_where-within (has_id s) capacity n fits
 
 -- what a guessed frame says of a path that ends in its sender
-guessed_heard : {V : Type 0} (form : Form V) (w : Watch) (r q : ℕ) (h : Hearing V) (path : List ℕ) → Distinct h.members → IsHeardPath h.members h.me h.rounds path → 0 < r → length path ≡ r + 1 → last_node path ≡ q
+guessed_heard : {V : Type 0} (form : ItemForm V) (w : Watch) (r q : ℕ) (h : Hearing V) (path : List ℕ) → Distinct h.members → IsHeardPath h.members h.me h.rounds path → 0 < r → length path ≡ r + 1 → last_node path ≡ q
     → IsEchoed form r w h → IsAsGuessed w q → wrapped (heard_in h.heard (take r path)) ≡ heard (slot_rounds form h.members w) path
 guessed_heard {V} form w r q h path d real some long last echo same =
     let on : has_id h.members q ≡ true = ap (has_id h.members) (sym last) ∙ real.within (last_node path) (on-at path (length path - 1) (omega arith)) in
@@ -157,7 +157,7 @@ guessed_heard {V} form w r q h path d real some long last echo same =
     ∙ says_heard form h.members w h.me h.rounds r q path d real on some long last
 
 -- what was heard after the guessed frames is what their slot says
-pub echoes_told : {V : Type 0} (form : Form V) (w : Watch) (r : ℕ) (senders : List ℕ) (h : Hearing V) → IsIdSet h.nodes h.members → 0 < r → IsByPath h → IsEchoed form r w h → ((q : ℕ) → has_id senders q ≡ true → IsAsGuessed w q)
+pub echoes_told : {V : Type 0} (form : ItemForm V) (w : Watch) (r : ℕ) (senders : List ℕ) (h : Hearing V) → IsIdSet h.nodes h.members → 0 < r → IsByPath h → IsEchoed form r w h → ((q : ℕ) → has_id senders q ≡ true → IsAsGuessed w q)
     → with_echoes senders r h ≡ told_by form h.nodes w r senders h
 echoes_told {V} form w r senders h ids some paths echo guessed =
     let d : Distinct h.members = Distinct-ids h.nodes h.members ids in

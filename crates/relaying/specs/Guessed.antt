@@ -13,19 +13,19 @@ use Rattle.frames.specs.Content.{Expectation, Content, round_in}
 use Rattle.frames.specs.Spelling.{body_spelling}
 use Rattle.error_detect.specs.Guessing.{said_by, body_without, IsGuessable}
 use Rattle.error_detect.specs.Watching.{Watch}
-use Rattle.protocol.specs.Arrival.{Form}
+use Rattle.protocol.specs.Arrival.{ItemForm}
 use Rattle.protocol.specs.Arrival.Arrival.{Good}
 use Rattle.relay_rules.specs.Hearing.{brought}
 
 -- a guess of the frames of relay round r: of each sender's an entry for each path of the others, which of a path without the
 -- node itself is what the node passes on of it
-pub record IsEchoOf {V : Type 0} (form : Form V) (r : ℕ) (e : Expectation) (c : Content) (h : Hearing V) : Type 0 where
+pub record IsEchoOf {V : Type 0} (form : ItemForm V) (r : ℕ) (e : Expectation) (c : Content) (h : Hearing V) : Type 0 where
   pub of : List ℕ → Wrapped V
   pub said : (q : ℕ) → form.relay_in (said_by e q c) ≡ Some (map of (paths_of_length (without_id h.members q) r))
   pub passed_on : (p : List ℕ) → has_id p h.me ≡ false → length p ≡ r → of p ≡ wrapped (heard_in h.heard p)
 
 -- of a guess that has an entry for each path of the members, each sender passes on those of the paths that it isn't on
-abbrev pub PassesOn : {V : Type 0} → Form V → Type 0
+abbrev pub PassesOn : {V : Type 0} → ItemForm V → Type 0
 PassesOn {V} form =
     (e : Expectation) (j : ℕ) (of : List ℕ → Wrapped V) → let r = round_in e.m e.slot in
     form.relay_in (said_by e j (form.relay (map of (paths_of_length e.members r)))) ≡ Some (map of (paths_of_length (without_id e.members j) r))
@@ -36,7 +36,7 @@ pub record IsCutOut {V : Type 0} (width : ℕ) (spell : Wrapped V → List ℕ) 
   pub bytes : body_without e width j (body_spelling e.nodes c) ≡ flat_map spell es
   pub whole : width * length (paths_of_length e.members (round_in e.m e.slot)) ≡ length (body_spelling e.nodes c)
 
-abbrev pub CutsOut : {V : Type 0} → Form V → (ℕ → ℕ) → (ℕ → Wrapped V → List ℕ) → Type 0
+abbrev pub CutsOut : {V : Type 0} → ItemForm V → (ℕ → ℕ) → (ℕ → Wrapped V → List ℕ) → Type 0
 CutsOut {V} form width spell =
     (e : Expectation) (j : ℕ) (c : Content) (es : List (Wrapped V)) → IsGuessable e c → form.relay_in (said_by e j c) ≡ Some es → IsCutOut (width e.nodes) (spell e.nodes) e j c es
 
@@ -45,11 +45,11 @@ abbrev pub unguessed : Watch → Watch
 unguessed w = record w { guess = None }
 
 -- what is guessed in a slot, if anything, is that
-abbrev pub IsEchoed : {V : Type 0} → Form V → ℕ → Watch → Hearing V → Type 0
+abbrev pub IsEchoed : {V : Type 0} → ItemForm V → ℕ → Watch → Hearing V → Type 0
 IsEchoed form r w h = (e : Expectation) (c : Content) → w.expect ≡ Some e → w.guess ≡ Some c → IsEchoOf form r e c h
 
 -- what a sender's frame brings is what the node itself passes on
-pub record BringsEcho {V : Type 0} (form : Form V) (r q : ℕ) (w : Watch) (h : Hearing V) : Type 0 where
+pub record BringsEcho {V : Type 0} (form : ItemForm V) (r q : ℕ) (w : Watch) (h : Hearing V) : Type 0 where
   pub values : List (Wrapped V)
   pub are : brought form w q ≡ Good values
   pub long : length values ≡ path_count (length h.members - 1) r

@@ -14,7 +14,7 @@ use Rattle.frames.specs.PieceLaws.{length_spelt}
 use Rattle.frames.specs.Spelling.{claim_spelling, relayed_row_spelling}
 use Rattle.error_detect.specs.Guessing.{said_by, is_guessed_of, IsGuessable, entries_without}
 use Rattle.frames.specs.FrameKinds.{claim_relay_kind, row_relay_kind}
-use Rattle.frames.specs.Reading.{claim_in, relayed_row_in}
+use Rattle.frames.specs.Reading.{content_claim, relayed_row_in}
 use Rattle.frames.specs.Seen.{content, HasWidth}
 use Rattle.error_detect.proofs.Guesses.{entries_by_path}
 use Rattle.error_detect.proofs.Pieces.{claim_pieces, row_pieces}
@@ -22,7 +22,7 @@ use Rattle.protocol.specs.Arrival.{claim_form, row_form}
 use Rattle.relaying.specs.Guessed.{PassesOn, CutsOut}
 use Rattle.relaying.specs.Items.{cells_in, width_in, told_entries, first_in}
 
-pub claims_told : {N : ℕ} (nodes : ℕ) (b : Body N) → told_entries (kind (content nodes b) == claim_relay_kind) claim_in 2 (cells_in b) ≡ claim_form.relay_in (content nodes b)
+pub claims_told : {N : ℕ} (nodes : ℕ) (b : Body N) → told_entries (kind (content nodes b) == claim_relay_kind) content_claim 2 (cells_in b) ≡ claim_form.relay_in (content nodes b)
 claims_told nodes (body.State bytes) = refl
 claims_told nodes (body.Done0 task) = refl
 claims_told nodes (body.DoneRelay cells) = refl
@@ -125,7 +125,7 @@ claims_cut_out e j (DoneRelay entries) es h is =
     let same : entries_without j (paths_of_length e.members r) entries ≡ es = cc in
     record {
       bytes = sym (claim_pieces e entries j h) ∙ ap (flat_map claim_spelling) same;
-      whole = ap (λ (n : ℕ). 2 * n) (length-paths e.members r h.1 ∙ sym h.2) ∙ sym (length_spelt 2 claim_spelling claim_in (IsEntry (IsClaim e.tasks) r) (claim_format e.tasks r) entries h.3);
+      whole = ap (λ (n : ℕ). 2 * n) (length-paths e.members r h.1 ∙ sym h.2) ∙ sym (length_spelt 2 claim_spelling content_claim (IsEntry (IsClaim e.tasks) r) (claim_format e.tasks r) entries h.3);
     }
 claims_cut_out e j (Data numbers) es h is = absurd (cc)
 claims_cut_out e j (Report0 masks) es h is = absurd (cc)

@@ -2,14 +2,14 @@
 use Rattle.std.specs.Prelude.{◌≡◌, ◌<◌, ◌≤◌, ℕ, List, map, slice_index_or}
 use Rattle.omh_paths.specs.declared.wrapped.Wrapped.{Wrapped}
 use Rattle.omh_paths.specs.declared.wrapped.Wrapped.TheVariants.{Fault}
-use Rattle.frames.specs.Reading.{cut}
+use Rattle.frames.specs.Reading.{pieces_of_width}
 use Rattle.std.specs.Prelude.{Option, Some, None, Bool, if◌then◌else◌, option_map}
 use Rattle.frames.specs.declared.frame.Body.{Body}
 use Rattle.frames.specs.declared.frame.Body.TheVariants as body
 
 -- the entries of so many bytes each
 abbrev pub entries_in : {V : Type 0} → (List ℕ → Wrapped V) → ℕ → List ℕ → List (Wrapped V)
-entries_in read width bytes = map read (cut width bytes)
+entries_in read width bytes = map read (pieces_of_width width bytes)
 
 -- the bytes of the entries of a relay frame, and the width of one
 abbrev pub cells_in : {N : ℕ} → Body N → Option (List ℕ)

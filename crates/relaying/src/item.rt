@@ -10,7 +10,7 @@ ghost use Rattle.node_grid.specs.Capacity.{IsCapacity};
 ghost use Rattle.omh_paths.specs.declared.wrapped.Wrapped.{Wrapped};
 ghost use Rattle.omh_paths.specs.declared.wrapped.Wrapped.TheVariants.{Fault};
 ghost use Rattle.omh_paths.specs.Paths.{path_count};
-ghost use Rattle.frames.specs.Reading.{claim_in, relayed_row_in};
+ghost use Rattle.frames.specs.Reading.{content_claim, relayed_row_in};
 ghost use Rattle.frames.specs.Spelling.{claim_spelling, relayed_row_spelling, body_spelling};
 ghost use Rattle.frames.specs.Writing.{pasted};
 ghost use Rattle.frames.specs.PieceLaws.{IsFormat};
@@ -22,7 +22,7 @@ ghost use Rattle.error_detect.specs.Inside.{said_as};
 ghost use Rattle.error_detect.specs.declared.guess.Form.{Form as GuessForm};
 ghost use Rattle.error_detect.specs.declared.guess.Form.TheVariants.{Claims, Rows};
 ghost use Rattle.frames.specs.Seen.{content, expected, HasWidth};
-ghost use Rattle.protocol.specs.Arrival.{Form, claim_form, row_form, arrived, said};
+ghost use Rattle.protocol.specs.Arrival.{ItemForm, claim_form, row_form, arrived, said};
 ghost use Rattle.frames.specs.Content.{kind as kind_of};
 ghost use Rattle.frames.specs.FrameKinds.{claim_relay_kind, row_relay_kind};
 ghost use Rattle.frames.specs.declared.frame.Body.{Body};
@@ -47,7 +47,7 @@ use omh_paths::Wrapped;
 /// An item that each node tells of itself, and passes on of the others.
 pub trait Item<const N: usize>: Value {
     /// How it is told.
-    ghost form: { Form Self };
+    ghost form: { ItemForm Self };
 
     /// The bytes of an entry of a relay frame, among so many nodes.
     ghost width: { ℕ → ℕ };
@@ -203,7 +203,7 @@ impl<const N: usize> Item<N> for u8 {
 
     ghost width = { λ nodes. 2 };
 
-    ghost read = { λ nodes. claim_in };
+    ghost read = { λ nodes. content_claim };
 
     ghost spelling = { λ nodes. claim_spelling };
 

@@ -8,7 +8,7 @@ use Rattle.std.proofs.lemmas.Bool.{eqb-true}
 use Rattle.std.proofs.lemmas.Bool.Decides.{Decides-int_eq}
 use Rattle.omh_paths.specs.declared.wrapped.Wrapped.{Wrapped}
 use Rattle.node_steps.specs.Outcome.{Outcome}
-use Rattle.run_text.specs.Text.{joined, done_item, rows_item, votes_text}
+use Rattle.run_text.specs.Text.{separated, done_item, rows_item, votes_text}
 use Rattle.run_text.specs.NodeText.{settled_text}
 use Rattle.run_print.specs.Common.{AreSettledAlike}
 use Rattle.omh_paths.specs.declared.wrapped.Wrapped.TheVariants.{Plain, Fault}
@@ -56,8 +56,8 @@ numbers_same xs ys h = same_text xs ys (sym h)
 
 text_of : ℕ → List ℕ → List (Option (List ℕ)) → List (Wrapped ℕ) → List ℕ → List (Option ℤ) → List ℕ
 text_of nodes members rows done due votes =
-    codes "\n  done " ++ joined (codes " ") (map (done_item done) members)
-    ++ codes "\n  rows " ++ joined (codes " ") (map (rows_item nodes rows) members)
+    codes "\n  done " ++ separated (codes " ") (map (done_item done) members)
+    ++ codes "\n  rows " ++ separated (codes " ") (map (rows_item nodes rows) members)
     ++ codes "\n  votes " ++ votes_text votes due ++ codes "\n"
 
 -- nodes that settled and voted the same have one text

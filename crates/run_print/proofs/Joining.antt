@@ -6,9 +6,9 @@ use Rattle.std.proofs.KnownBytes.{Appends-nil}
 use Rattle.std.specs.Io.KnownBytes.{Appends}
 use Rattle.run_print.specs.Printing.{Gathers, Printed, PrintedIf, Prints, Finishes, WritesText}
 use Rattle.run_print.specs.declared.printer.Printer.{Printer}
-use Rattle.run_text.specs.Text.{joined, separator_at}
+use Rattle.run_text.specs.Text.{separated, separator_at}
 
-pub joined-push : (separator : List ℕ) (xs : List (List ℕ)) (x : List ℕ) → joined separator (xs ++ x ∷ []) ≡ joined separator xs ++ (separator_at separator (length xs) ++ x)
+pub joined-push : (separator : List ℕ) (xs : List (List ℕ)) (x : List ℕ) → separated separator (xs ++ x ∷ []) ≡ separated separator xs ++ (separator_at separator (length xs) ++ x)
 joined-push separator [] x = append-nil x
 joined-push separator (y ∷ ys) x =
     let f : List ℕ → List ℕ = λ z. separator ++ z in
@@ -34,8 +34,8 @@ module _ {S : Type 0} {room : ℕ} {written : S → Option (List ℕ)} {faults :
 
   -- the text of a further item, behind a separator
   pub further : {a b c d : Printer room} {r s t u : S} (separator : List ℕ) (items : List (List ℕ)) (item : List ℕ)
-      → Prints written faults a r b s (joined separator items) → Prints written faults b s c t (separator_at separator (length items)) → Prints written faults c t d u item
-      → Prints written faults a r d u (joined separator (items ++ item ∷ []))
+      → Prints written faults a r b s (separated separator items) → Prints written faults b s c t (separator_at separator (length items)) → Prints written faults c t d u item
+      → Prints written faults a r d u (separated separator (items ++ item ∷ []))
   further {a} {b} {c} {d} {r} {s} {t} {u} separator items item before between last =
       subst (λ text. Prints written faults a r d u text) (sym (joined-push separator items item)) (then before (then between last))
 

@@ -10,7 +10,7 @@ use Rattle.std.proofs.lemmas.Grind.{flat_map-append, replicate_next}
 use Rattle.std.proofs.lemmas.List.FromFn.{map-range_with_len_more, length-map-range_with_len}
 use Rattle.hex.specs.Hex.{encode_with, encode_lower, lower_digits}
 use Rattle.node_grid.specs.NodeSet.{ids_below}
-use Rattle.run_text.specs.Text.{joined, separator_at, vote_item, votes_text}
+use Rattle.run_text.specs.Text.{separated, separator_at, vote_item, votes_text}
 use Rattle.slot_plan.specs.Ticks.{on_time}
 use Rattle.fault_classes.specs.Change.{Change}
 use Rattle.fault_classes.specs.Line.{effect_at}
@@ -33,10 +33,10 @@ pub flat_next : (f : ℕ → List ℕ) (n : ℕ) → flat_map f (ids_below (n + 
 flat_next f n = ap (flat_map f) (below_next n) ∙ flat_map-append f (ids_below n) (n ∷ []) ∙ ap (λ xs. flat_map f (ids_below n) ++ xs) (append-nil (f n))
 
 -- the joined text of one more number
-pub joined_next : (separator : List ℕ) (f : ℕ → List ℕ) (n : ℕ) → joined separator (map f (ids_below (n + 1))) ≡ joined separator (map f (ids_below n)) ++ (separator_at separator n ++ f n)
+pub joined_next : (separator : List ℕ) (f : ℕ → List ℕ) (n : ℕ) → separated separator (map f (ids_below (n + 1))) ≡ separated separator (map f (ids_below n)) ++ (separator_at separator n ++ f n)
 joined_next separator f n =
-    ap (joined separator) (map-range_with_len_more f 0 n n (omega arith)) ∙ joined-push separator (map f (ids_below n)) (f n)
-    ∙ ap (λ k. joined separator (map f (ids_below n)) ++ (separator_at separator k ++ f n)) (length-map-range_with_len f 0 n)
+    ap (separated separator) (map-range_with_len_more f 0 n n (omega arith)) ∙ joined-push separator (map f (ids_below n)) (f n)
+    ∙ ap (λ k. separated separator (map f (ids_below n)) ++ (separator_at separator k ++ f n)) (length-map-range_with_len f 0 n)
 
 -- the text of one more copy
 pub copy_next : {X : Type 0} (f : X → List ℕ) (x : X) (n : ℕ) → flat_map f (replicate (n + 1) x) ≡ flat_map f (replicate n x) ++ f x
@@ -52,7 +52,7 @@ pub piece_next : (bytes : List ℕ) (n k : ℕ) → encode_lower (take (n + k) b
 piece_next bytes n k = ap encode_lower (take-add n k bytes) ∙ encode-append lower_digits (take n bytes) (take k (drop n bytes))
 
 -- where a channel is due, the votes are told one by one
-pub some_votes : (votes : List (Option ℤ)) (due : List ℕ) → 0 < length due → votes_text votes due ≡ joined (codes " ") (map (vote_item votes) due)
+pub some_votes : (votes : List (Option ℤ)) (due : List ℕ) → 0 < length due → votes_text votes due ≡ separated (codes " ") (map (vote_item votes) due)
 some_votes votes [] h = absurd (omega (arith, h))
 some_votes votes (c ∷ cs) h = refl
 

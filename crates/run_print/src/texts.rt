@@ -6,7 +6,7 @@ ghost use Rattle.list_scheduler.specs.Copies.{works};
 ghost use Rattle.node_core.specs.Modes.{mode_of};
 ghost use Rattle.run_print.specs.Printing.{Prints};
 ghost use Rattle.run_text.specs.ClockText.{signed_text};
-ghost use Rattle.run_text.specs.Text.{joined, numbers_text, set_text, separator_at, yes_no, mode_text, run_text, runs_text, vote_text, vote_item, votes_text, claim_text, row_text, done_item, rows_item};
+ghost use Rattle.run_text.specs.Text.{separated, numbers_text, set_text, separator_at, yes_no, mode_text, running_text, runs_text, vote_text, vote_item, votes_text, claim_text, row_text, done_item, rows_item};
 
 use crate::printer::Printer;
 use list_scheduler::Copies;
@@ -126,7 +126,7 @@ impl<const ROOM: usize> Printer<ROOM> {
 
     /// Prints the task that a node runs.
     fn run<K: Sink>(&mut self, sink: &mut K, run: Option<(u8, u16)>)
-        ensures { Prints K.written K.faults self.old sink.old self.new sink.new (run_text run) }
+        ensures { Prints K.written K.faults self.old sink.old self.new sink.new (running_text run) }
     {
         match run {
             Some((task, _)) => self.number(sink, task as u64),
@@ -216,7 +216,7 @@ impl<const ROOM: usize> Printer<ROOM> {
         done: &[Wrapped<u8>; N],
         members: &NodeSet<N>,
     )
-        ensures { Prints K.written K.faults self.old sink.old self.new sink.new (joined (codes " ") (map (done_item done.now) members.now)) }
+        ensures { Prints K.written K.faults self.old sink.old self.new sink.new (separated (codes " ") (map (done_item done.now) members.now)) }
     {
         let mut printed: usize = 0;
         for member in members.iter() {
@@ -256,7 +256,7 @@ impl<const ROOM: usize> Printer<ROOM> {
     )
         requires capacity { IsCapacity N }
         requires nodes { nodes ≤ N }
-        ensures { Prints K.written K.faults self.old sink.old self.new sink.new (joined (codes " ") (map (rows_item nodes rows.now) members.now)) }
+        ensures { Prints K.written K.faults self.old sink.old self.new sink.new (separated (codes " ") (map (rows_item nodes rows.now) members.now)) }
     {
         let mut printed: usize = 0;
         for member in members.iter() {

@@ -7,7 +7,7 @@ use Rattle.node_grid.specs.declared.class.Class.{Class}
 use Rattle.node_grid.specs.Class.{is_sound}
 use Rattle.mme_vote.specs.Vote.{distance}
 use Rattle.cluster_periods.specs.Record.{ClockShown, PeriodView}
-use Rattle.run_text.specs.Text.{joined}
+use Rattle.run_text.specs.Text.{separated}
 
 -- the numbers of the sound nodes
 abbrev pub sound_numbers : List Class → List ℤ → List ℤ
@@ -31,7 +31,7 @@ spread_text (Some r) = decimal (distance r.1 r.0)
 
 -- numbers with signs, joined by commas
 abbrev pub signed_text : List ℤ → List ℕ
-signed_text xs = joined (codes ",") (map signed_decimal xs)
+signed_text xs = separated (codes ",") (map signed_decimal xs)
 
 -- the line of clocks: how far those of sound nodes are apart, and the offset of each node in use
 abbrev pub clock_line : ℕ → List Class → List ℤ → List ℕ

@@ -2,7 +2,7 @@
 use Rattle.std.specs.Prelude.{ℕ, ◌==◌, List, [], ◌++◌, map, take, Option, None, Some, codes, decimal, if◌then◌else◌}
 use Rattle.agreed_state.specs.Agreed.{AgreedView}
 use Rattle.node_steps.specs.Outcome.{Outcome}
-use Rattle.run_text.specs.Text.{joined, numbers_text, set_text, mode_text, runs_text, votes_text, done_item, rows_item}
+use Rattle.run_text.specs.Text.{separated, numbers_text, set_text, mode_text, runs_text, votes_text, done_item, rows_item}
 
 -- how often each node left, where nodes retire
 abbrev pub left_text : ℕ → ℕ → List ℕ → List ℕ
@@ -24,8 +24,8 @@ state_text nodes retire a =
 -- the settled claims, the settled rows, and the votes
 abbrev pub settled_text : ℕ → Outcome → List ℕ
 settled_text nodes r =
-    codes "\n  done " ++ joined (codes " ") (map (done_item r.done) r.members)
-    ++ codes "\n  rows " ++ joined (codes " ") (map (rows_item nodes r.rows) r.members)
+    codes "\n  done " ++ separated (codes " ") (map (done_item r.done) r.members)
+    ++ codes "\n  rows " ++ separated (codes " ") (map (rows_item nodes r.rows) r.members)
     ++ codes "\n  votes " ++ votes_text r.votes r.due ++ codes "\n"
 
 -- what a node believes after a period; a node without an agreed state is cold

@@ -13,13 +13,13 @@ use Rattle.list_scheduler.specs.Copies.{CopyTable, works}
 use Rattle.protocol.specs.View.{Mode, Full, Joining, Cold}
 
 -- texts one after the other, with a separator between them
-abbrev pub joined : List ℕ → List (List ℕ) → List ℕ
-joined separator [] = []
-joined separator (x ∷ xs) = x ++ flat_map (λ y. separator ++ y) xs
+abbrev pub separated : List ℕ → List (List ℕ) → List ℕ
+separated separator [] = []
+separated separator (x ∷ xs) = x ++ flat_map (λ y. separator ++ y) xs
 
 -- numbers, joined by commas
 abbrev pub numbers_text : List ℕ → List ℕ
-numbers_text xs = joined (codes ",") (map decimal xs)
+numbers_text xs = separated (codes ",") (map decimal xs)
 
 -- a set of nodes; an empty one is `-`
 abbrev pub set_text : List ℕ → List ℕ
@@ -62,13 +62,13 @@ mode_text Joining = codes "joining"
 mode_text Cold = codes "cold"
 
 -- the task that a node runs, and since how long; a node that runs none is `-`
-abbrev pub run_text : Option (ℕ × ℕ) → List ℕ
-run_text None = codes "-"
-run_text (Some w) = decimal w.0
+abbrev pub running_text : Option (ℕ × ℕ) → List ℕ
+running_text None = codes "-"
+running_text (Some w) = decimal w.0
 
 -- what each node in use runs
 abbrev pub runs_text : ℕ → CopyTable → List ℕ
-runs_text nodes copies = joined (codes ",") (map (λ q. run_text (works copies q)) (ids_below nodes))
+runs_text nodes copies = separated (codes ",") (map (λ q. running_text (works copies q)) (ids_below nodes))
 
 -- a vote; none is `-`
 abbrev pub vote_text : Option ℤ → List ℕ
@@ -82,7 +82,7 @@ vote_item votes c = decimal c ++ codes "=" ++ vote_text (slice_index_or votes c 
 -- the votes on the due channels; where no channel is due it is `-`
 abbrev pub votes_text : List (Option ℤ) → List ℕ → List ℕ
 votes_text votes [] = codes "-"
-votes_text votes (c ∷ cs) = joined (codes " ") (map (vote_item votes) (c ∷ cs))
+votes_text votes (c ∷ cs) = separated (codes " ") (map (vote_item votes) (c ∷ cs))
 
 -- the separator before the item at place k
 abbrev pub separator_at : List ℕ → ℕ → List ℕ

@@ -11,7 +11,7 @@ use Rattle.frames.specs.Content.{IsClaim, IsRow}
 use Rattle.fault_classes.specs.Change.{Change}
 use Rattle.fault_classes.specs.Change.Change.{Drop, Cut, Twice, Time, Set, Raw}
 use Rattle.error_reports.specs.Charge.{accuses}
-use Rattle.protocol.specs.Arrival.{Arrival, is_bad, state_in, values_in}
+use Rattle.protocol.specs.Arrival.{Arrival, is_bad, body_said, values_in}
 use Rattle.protocol.specs.Arrival.Arrival.{Bad}
 use Rattle.protocol.specs.Heard.{Rounds, rounds_bad}
 use Rattle.protocol.specs.View.{Kept}
@@ -70,7 +70,7 @@ module _ (sys : System) (given : IsAccepted sys) (states : StateLaws sys.setting
 
   sync_bad : Marred 0 → ((run sys).received i p).sync j ≡ Bad kind
   sync_bad m =
-      arrives_bad grammar state_in (change_at sys p 0 j i) (expectation sys p 0 j [] 0) (expectation sys p 0 j [] 0) (state_said sys p (goes_in sys p) j) kind
+      arrives_bad grammar body_said (change_at sys p 0 j i) (expectation sys p 0 j [] 0) (expectation sys p 0 j [] 0) (state_said sys p (goes_in sys p) j) kind
       (state_range sys given states p j) (effect_fits sys.plan given.plan p 0 j i) m
 
   done_bad : (r : ℕ) → r ≤ sys.setting.config.m → Marred (1 + r) → rounds_bad sys.setting.config.m ((run sys).received i p).done j kind ≡ true
@@ -162,7 +162,7 @@ module _ (sys : System) (given : IsAccepted sys) (all : IsGiven (run sys) (class
           not_nonfaulty = λ n. let both : None ≡ Some h.start.state = sym says.stateless ∙ h.start.equal j n in cc;
           accused = λ i n apart.
               let cold_there : ((run sys).received i p).sync j ≡ Bad cold =
-              arrives_cold grammar state_in (change_at sys p 0 j i) (expectation sys p 0 j [] 0) (expectation sys p 0 j [] 0) (state_said sys p (goes_in sys p) j)
+              arrives_cold grammar body_said (change_at sys p 0 j i) (expectation sys p 0 j [] 0) (expectation sys p 0 j [] 0) (state_said sys p (goes_in sys p) j)
               (says.untouched i (in_use i n) apart) refl (ap (state_content sys.setting) stateless) in
               row_with (run sys) (classes sys) p h i j kind n low (λ e. apart (sym e)) listed
               (or_left _ _ (bad_is (((run sys).received i p).sync j) kind (cold_there ∙ ap Bad (sym is))));

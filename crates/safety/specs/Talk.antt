@@ -8,7 +8,7 @@ use Rattle.omh_paths.specs.Paths.{IsPath}
 use Rattle.omh.specs.Omh.{Hears}
 use Rattle.slot_plan.specs.Slots.{slot_count, slot_number}
 use Rattle.slot_plan.specs.declared.slot.Slot.TheVariants.{Data, Claims, Rows}
-use Rattle.protocol.specs.Arrival.{is_good, arrival, state_in, claim_in, claims_in, values_in, row_in, rows_in}
+use Rattle.protocol.specs.Arrival.{is_good, arrival, body_said, claim_in, claims_in, values_in, row_in, rows_in}
 use Rattle.protocol.specs.Arrival.Arrival.{Good}
 use Rattle.protocol.specs.Heard.{Rounds, paths_of, with_entries, entry, heard}
 use Rattle.protocol.specs.Cluster.{begins, view}
@@ -31,7 +31,7 @@ pub record Told {V : Type 0} (rounds : ℕ) (members : List ℕ) (class_of : ℕ
 
 -- what node i has of the frames of a period is what it reads of the deliveries of the frames that are sent, by what it expects
 pub record Delivers (sys : System) (p i : ℕ) : Type 0 where
-  pub sync : (j : ℕ) → ((run sys).received i p).sync j ≡ arrival state_in (expectation sys p 0 j [] 0) (deliveries sys p 0 j i)
+  pub sync : (j : ℕ) → ((run sys).received i p).sync j ≡ arrival body_said (expectation sys p 0 j [] 0) (deliveries sys p 0 j i)
   pub claim : (j : ℕ) → ((run sys).received i p).done.first j ≡ arrival claim_in (expectation sys p 1 j (members_in (view (run sys) i p).before) 0) (deliveries sys p 1 j i)
   pub claims : (r j : ℕ) → 0 < r → r ≤ sys.setting.config.m → ((run sys).received i p).done.relay r j
       ≡ with_entries (paths_of (members_in (view (run sys) i p).before) r j) (arrival claims_in (expectation sys p (slot_number sys.setting.config.m (Claims r)) j (members_in (view (run sys) i p).before) 0) (deliveries sys p (slot_number sys.setting.config.m (Claims r)) j i))

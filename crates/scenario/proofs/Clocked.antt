@@ -9,15 +9,15 @@ use Rattle.std.proofs.lemmas.Nat.{mod_below}
 use Rattle.node_grid.specs.declared.class.Class.{Class}
 use Rattle.node_grid.specs.declared.class.Class.TheVariants.{S}
 use Rattle.node_grid.specs.NodeSet.{has_id}
-use Rattle.clock_skew.specs.Clock.{ClockView, LieView, clock_of, number_at, row_at, AreUpTo, AreNear, IsLie, IsClock}
+use Rattle.clock_skew.specs.Clock.{ClockView, LieView, clock_of, number_at, row_in_turn, AreUpTo, AreNear, IsLie, IsClock}
 use Rattle.fault_classes.specs.Plan.{Plan, class_of}
 use Rattle.protocol.specs.Run.{run, classes}
 use Rattle.protocol.specs.Clocks.{IsFair, AreClocks}
 use Rattle.scenario.specs.Parts.{LieParts, ClockParts, ScenarioParts}
 use Rattle.scenario.specs.Parts.Numbers.{all}
-use Rattle.scenario.specs.Numbers.{is_within, natural}
+use Rattle.scenario.specs.Numbers.{is_between, natural}
 use Rattle.scenario.specs.Line.{is_addressed, lie_in}
-use Rattle.scenario.specs.Given.{padded, clock_in, plan_in, scenario_of}
+use Rattle.scenario.specs.Given.{padded, clock_given, plan_in, scenario_of}
 use Rattle.scenario.specs.Rules.{unless, at_place, first_bad, are_rows, are_up_to, is_drift, is_clock, hears, is_to_all, may_tell, may_tell_in, is_fair, is_lie, fits_lie, clock_refused, clock_refusal, HasRanges}
 use Rattle.scenario.specs.Scenario.{system_of}
 use Rattle.scenario.proofs.Ranges.{within, passes, all_are}
@@ -32,11 +32,11 @@ up_to : (capacity nodes : ℕ) (most : ℤ) (row : List ℤ) → are_up_to nodes
 up_to capacity nodes most row h = λ i low.
     let p = and_parts _ _ h in
     let long = eqb-true (length row) nodes p.0 in
-    let bounds = within (neg_ℤ most) most (number_at row i) (passes (is_within (neg_ℤ most) most) row i (pos 0) p.1 (omega arith)) in
+    let bounds = within (neg_ℤ most) most (number_at row i) (passes (is_between (neg_ℤ most) most) row i (pos 0) p.1 (omega arith)) in
     rw (padded_number capacity row i) bounds
 
 -- each row that has a turn passes what all rows pass
-in_turn : (is : List ℤ → Bool) (rows : List (List ℤ)) (k : ℕ) → are_rows is rows ≡ true → is (row_at rows k) ≡ true
+in_turn : (is : List ℤ → Bool) (rows : List (List ℤ)) (k : ℕ) → are_rows is rows ≡ true → is (row_in_turn rows k) ≡ true
 in_turn is rows k h =
     let p = and_parts _ _ h in
     let some = leb-true 1 (length rows) (and_parts _ _ p.0).0 in
@@ -48,15 +48,15 @@ some_rows is rows h = leb-true 1 (length rows) (and_parts _ _ (and_parts _ _ h).
 few_rows : (is : List ℤ → Bool) (rows : List (List ℤ)) → are_rows is rows ≡ true → length rows ≤ 1024
 few_rows is rows h = leb-true (length rows) 1024 (and_parts _ _ (and_parts _ _ h).0).1
 
-turns_up_to : (capacity nodes : ℕ) (most : ℤ) (rows : List (List ℤ)) (k : ℕ) → 1 ≤ length rows → are_up_to nodes most (row_at rows k) ≡ true → AreUpTo nodes most (row_at (map (padded capacity) rows) k)
-turns_up_to capacity nodes most rows k some h = subst (λ (row : List ℤ). AreUpTo nodes most row) (sym (padded_row capacity rows k some)) (up_to capacity nodes most (row_at rows k) h)
+turns_up_to : (capacity nodes : ℕ) (most : ℤ) (rows : List (List ℤ)) (k : ℕ) → 1 ≤ length rows → are_up_to nodes most (row_in_turn rows k) ≡ true → AreUpTo nodes most (row_in_turn (map (padded capacity) rows) k)
+turns_up_to capacity nodes most rows k some h = subst (λ (row : List ℤ). AreUpTo nodes most row) (sym (padded_row capacity rows k some)) (up_to capacity nodes most (row_in_turn rows k) h)
 
-turns_near : (capacity nodes : ℕ) (d : ℤ) (rows : List (List ℤ)) (k : ℕ) → 1 ≤ length rows → is_drift nodes d (row_at rows k) ≡ true → AreNear nodes d (row_at (map (padded capacity) rows) k)
+turns_near : (capacity nodes : ℕ) (d : ℤ) (rows : List (List ℤ)) (k : ℕ) → 1 ≤ length rows → is_drift nodes d (row_in_turn rows k) ≡ true → AreNear nodes d (row_in_turn (map (padded capacity) rows) k)
 turns_near capacity nodes d rows k some h = λ i j low low_too.
     let p = and_parts _ _ h in
-    let long = eqb-true (length (row_at rows k)) nodes (and_parts _ _ p.0).0 in
-    let near = close_row d (row_at rows k) i j p.1 (omega arith) (omega arith) in
-    rw (padded_row capacity rows k some, padded_number capacity (row_at rows k) i, padded_number capacity (row_at rows k) j) near
+    let long = eqb-true (length (row_in_turn rows k)) nodes (and_parts _ _ p.0).0 in
+    let near = close_row d (row_in_turn rows k) i j p.1 (omega arith) (omega arith) in
+    rw (padded_row capacity rows k some, padded_number capacity (row_in_turn rows k) i, padded_number capacity (row_in_turn rows k) j) near
 
 -- ---- lies
 
@@ -104,7 +104,7 @@ few_lies plan ls h = elim (cases_lt 4096 (length ls)) [
 -- ---- the clocks
 
 pub clock_is : (capacity nodes : ℕ) (plan : Plan) (c : ClockParts) → nodes ≡ plan.nodes → 2 < nodes → nodes ≤ capacity → is_clock nodes c ≡ true → first_bad (fits_lie plan) 0 c.lies ≡ None
-    → IsClock capacity (clock_in capacity nodes c)
+    → IsClock capacity (clock_given capacity nodes c)
 clock_is capacity nodes plan c same some room h lies =
     let p = and_parts _ _ h in
     let q = and_parts _ _ p.0 in
@@ -140,7 +140,7 @@ clock_is capacity nodes plan c same some room h lies =
 
 -- clocks that are put together from what the parts say
 pub same_clock : (capacity nodes : ℕ) (c : ClockParts) (start : List ℤ) (drifts errors : List (List ℤ)) (lies : List LieView) → start ≡ padded capacity c.start → drifts ≡ map (padded capacity) c.drifts
-    → errors ≡ map (padded capacity) c.errors → lies ≡ map (lie_in nodes) c.lies → clock_of nodes c.epsilon c.drift start drifts errors lies ≡ clock_in capacity nodes c
+    → errors ≡ map (padded capacity) c.errors → lies ≡ map (lie_in nodes) c.lies → clock_of nodes c.epsilon c.drift start drifts errors lies ≡ clock_given capacity nodes c
 same_clock capacity nodes c start drifts errors lies a b d e =
     ap (λ (x : List ℤ). clock_of nodes c.epsilon c.drift x drifts errors lies) a
     ∙ ap (λ (x : List (List ℤ)). clock_of nodes c.epsilon c.drift (padded capacity c.start) x errors lies) b
@@ -184,7 +184,7 @@ unrefused nodes plan c h =
 
 module _ (capacity : ℕ) (p : ScenarioParts) (r : HasRanges capacity p) where
   these_are : (c : ClockParts) → clock_refused (natural p.nodes) (plan_in p) (Some c) ≡ None
-      → AreClocks (run (system_of (scenario_of capacity p))) (classes (system_of (scenario_of capacity p))) (clock_in capacity (natural p.nodes) c)
+      → AreClocks (run (system_of (scenario_of capacity p))) (classes (system_of (scenario_of capacity p))) (clock_given capacity (natural p.nodes) c)
   these_are c h =
       let u = unrefused (natural p.nodes) (plan_in p) c h in
       record {
@@ -193,11 +193,11 @@ module _ (capacity : ℕ) (p : ScenarioParts) (r : HasRanges capacity p) where
         fair = fair_are (plan_in p) c.lies u.lies;
       }
 
-  any_are : (o : Option ClockParts) (c : ClockView) → clock_refused (natural p.nodes) (plan_in p) o ≡ None → option_map (clock_in capacity (natural p.nodes)) o ≡ Some c
+  any_are : (o : Option ClockParts) (c : ClockView) → clock_refused (natural p.nodes) (plan_in p) o ≡ None → option_map (clock_given capacity (natural p.nodes)) o ≡ Some c
       → AreClocks (run (system_of (scenario_of capacity p))) (classes (system_of (scenario_of capacity p))) c
   any_are None c h e = cc
   any_are (Some x) c h e =
-      let same : clock_in capacity (natural p.nodes) x ≡ c = cc in
+      let same : clock_given capacity (natural p.nodes) x ≡ c = cc in
       subst (λ (v : ClockView). AreClocks (run (system_of (scenario_of capacity p))) (classes (system_of (scenario_of capacity p))) v) same (these_are x h)
 
   pub clocks_are : clock_refusal p ≡ None → (c : ClockView) → (scenario_of capacity p).clock ≡ Some c

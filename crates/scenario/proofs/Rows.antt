@@ -7,9 +7,9 @@ use Rattle.std.proofs.lemmas.List.{length-map, get_or_append_left, get_or_past}
 use Rattle.std.proofs.lemmas.List as list
 use Rattle.std.proofs.lemmas.Nat.{mod_below}
 use Rattle.mme_vote.specs.Vote.{distance}
-use Rattle.clock_skew.specs.Clock.{number_at, row_at}
+use Rattle.clock_skew.specs.Clock.{number_at, row_in_turn}
 use Rattle.scenario.specs.Given.{padded}
-use Rattle.scenario.specs.Scenario.{reading_at}
+use Rattle.scenario.specs.Scenario.{reading_given}
 use Rattle.scenario.specs.Rules.{is_near, are_close}
 use Rattle.scenario.proofs.Ranges.{not_less, passes}
 
@@ -35,7 +35,7 @@ padded_number capacity row i = elim (cases_lt i (length row)) [
   | inr past ↦ zeros_behind row (capacity - length row) i past ∙ sym (get_or_past row i (pos 0) past)
 ]
 
-pub padded_row : (capacity : ℕ) (rows : List (List ℤ)) (k : ℕ) → 1 ≤ length rows → row_at (map (padded capacity) rows) k ≡ padded capacity (row_at rows k)
+pub padded_row : (capacity : ℕ) (rows : List (List ℤ)) (k : ℕ) → 1 ≤ length rows → row_in_turn (map (padded capacity) rows) k ≡ padded capacity (row_in_turn rows k)
 padded_row capacity rows k some =
     let long = length-map rows (padded capacity) in
     ap (λ n. slice_index_or (map (padded capacity) rows) (k % n) []) long ∙ list.get_or-map (padded capacity) rows (k % length rows) [] [] (mod_below k (length rows) (omega arith))
@@ -46,7 +46,7 @@ pub some_of : (n : ℕ) → (n == 0) ≡ false → 0 < n
 some_of zero h = let none : true ≡ false = h in cc
 some_of (suc n) h = omega arith
 
-pub no_reading : {X : Type 0} (v : X → List ℤ) (i p : ℕ) (rows : List X) → (length rows == 0) ≡ true → pos 0 ≡ reading_at i p (map v rows)
+pub no_reading : {X : Type 0} (v : X → List ℤ) (i p : ℕ) (rows : List X) → (length rows == 0) ≡ true → pos 0 ≡ reading_given i p (map v rows)
 no_reading v i p [] h = refl
 no_reading v i p (row ∷ rows) h = let none : length (row ∷ rows) ≡ 0 = eqb-true (length (row ∷ rows)) 0 h in absurd (omega arith)
 
@@ -58,11 +58,11 @@ module _ {X : Type 0} (v : X → List ℤ) (rows : List X) (i p : ℕ) (row : X)
       ∙ list.get_or-map v rows (p % length rows) row [] (mod_below p (length rows) (some_of (length rows) some))
       ∙ ap v (sym is)
 
-  pub reading_is : slice_index_or (v row) i (pos 0) ≡ reading_at i p (map v rows)
+  pub reading_is : slice_index_or (v row) i (pos 0) ≡ reading_given i p (map v rows)
   reading_is = sym (ap (λ ys. slice_index_or ys i (pos 0)) turn_is)
 
-  pub no_number : (ys : List ℤ) → ys ≡ v row → length ys ≤ i → pos 0 ≡ reading_at i p (map v rows)
+  pub no_number : (ys : List ℤ) → ys ≡ v row → length ys ≤ i → pos 0 ≡ reading_given i p (map v rows)
   no_number ys same past = sym (get_or_past ys i (pos 0) past) ∙ ap (λ zs. slice_index_or zs i (pos 0)) same ∙ reading_is
 
-  pub number_there : (ys : List ℤ) (number : ℤ) → ys ≡ v row → number ≡ slice_index_or ys i (pos 0) → number ≡ reading_at i p (map v rows)
+  pub number_there : (ys : List ℤ) (number : ℤ) → ys ≡ v row → number ≡ slice_index_or ys i (pos 0) → number ≡ reading_given i p (map v rows)
   number_there ys number same is_there = is_there ∙ ap (λ zs. slice_index_or zs i (pos 0)) same ∙ reading_is

@@ -4,7 +4,7 @@ ghost use Rattle.node_grid.specs.Capacity.{IsCapacity};
 ghost use Rattle.clock_skew.specs.Clock.{lie_of};
 ghost use Rattle.scenario.specs.Numbers.{natural};
 ghost use Rattle.scenario.specs.Line.{lie_in};
-ghost use Rattle.scenario.specs.Given.{padded, clock_in};
+ghost use Rattle.scenario.specs.Given.{padded, clock_given};
 ghost use Rattle.scenario.specs.Rules.{at_place, first_bad, are_rows, are_up_to, is_bound, is_drift, is_clock, hears, is_to_all, may_tell, is_fair, is_said, is_lie, fits_lie, clock_refused};
 ghost use Rattle.scenario.specs.Seen.{lie_view, clock_view};
 ghost use Rattle.scenario.specs.Verdict.{Tells};
@@ -262,7 +262,7 @@ fn clocks<const N: usize>(
     requires nodes { nodes ≡ plan.now.nodes }
     requires periods { periods ≡ plan.now.periods }
     requires few_periods { periods ≤ 1024 }
-    ensures clock { IfOk result (λ c. c ≡ clock_in N nodes (clock_view part.now)) }
+    ensures clock { IfOk result (λ c. c ≡ clock_given N nodes (clock_view part.now)) }
     ensures unrefused { IfOk result (λ c. clock_refused nodes plan.now (Some (clock_view part.now)) ≡ None) }
     ensures refused { IfErr result (Tells (clock_refused nodes plan.now (Some (clock_view part.now)))) }
 {
@@ -304,7 +304,7 @@ pub(crate) fn clock<const N: usize>(
     requires periods { bounds.periods ≡ plan.now.periods }
     requires few_periods { bounds.periods ≤ 1024 }
     ensures clock { IfOk result (λ o.
-        o ≡ option_map (clock_in N bounds.nodes) (option_map clock_view part.now)) }
+        o ≡ option_map (clock_given N bounds.nodes) (option_map clock_view part.now)) }
     ensures unrefused { IfOk result (λ o.
         clock_refused bounds.nodes plan.now (option_map clock_view part.now) ≡ None) }
     ensures refused { IfErr result (Tells

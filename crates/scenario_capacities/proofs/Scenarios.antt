@@ -19,9 +19,9 @@ use Rattle.protocol.specs.Accepted.{IsAccepted}
 use Rattle.protocol.specs.Clocks.{AreClocks}
 use Rattle.scenario.specs.Parts.{ChannelParts, TaskParts, ClockParts, ScenarioParts}
 use Rattle.scenario.specs.Parts.ChannelParts.{state, sensor, copy}
-use Rattle.scenario.specs.Numbers.{is_within, is_below, natural, is_ascending, are_below}
-use Rattle.scenario.specs.Given.{padded, task_of, channel_of, rows_of, config_of, plan_in, time_of, times_of, clock_in, scenario_of}
-use Rattle.scenario.specs.Scenario.{reading_at, inputs_of, system_of, IsScenario}
+use Rattle.scenario.specs.Numbers.{is_between, is_below, natural, is_rising, are_all_below}
+use Rattle.scenario.specs.Given.{padded, task_of, channel_of, rows_of, config_of, plan_in, time_of, times_of, clock_given, scenario_of}
+use Rattle.scenario.specs.Scenario.{reading_given, inputs_of, system_of, IsScenario}
 use Rattle.scenario.specs.Rules.{unless, at_place, first_bad, version_of, is_of_version, has_nodes, has_rounds, is_policy, is_channel, fits_channel, closes, is_task, fits_task, sizes_refusal, lengths_refusal, numbers_refusal, channels_refusal, tasks_refusal, cycles_refusal, plan_refusal, are_rows, are_up_to, is_drift, is_clock, clock_refused, clock_refusal, early_refusal, refusal}
 use Rattle.two_capacities.specs.Wider.{wide_channel, wide_config, system_over, longer, wide_clock}
 use Rattle.two_capacities.proofs.Lists.{get_padded, get_mapped, tab_padded}
@@ -61,7 +61,7 @@ module _ (c : ℕ) (p : ScenarioParts) (h : refusal c p ≡ None) where
 
   pub nodes_fit : has_nodes c p ≡ true
   nodes_fit =
-      let version = unless (is_within (pos 1) (pos 2) p.version) 2 1 in
+      let version = unless (is_between (pos 1) (pos 2) p.version) 2 1 in
       let nodes = unless (has_nodes c p) 2 0 in
       let rounds = unless (has_rounds p) 3 0 in
       holds (has_nodes c p) 2 0 (first_none nodes rounds (second_none version (option_or nodes rounds) (second_none (unless (is_of_version p) 1 0) (option_or version (option_or nodes rounds)) sizes)))
@@ -79,7 +79,7 @@ module _ (c : ℕ) (p : ScenarioParts) (h : refusal c p ≡ None) where
 
 -- ---- how many nodes there are
 
-few_within : (c most : ℕ) (z : ℤ) → is_within (pos 3) (pos (min c most)) z ≡ true → natural z ≤ c
+few_within : (c most : ℕ) (z : ℤ) → is_between (pos 3) (pos (min c most)) z ≡ true → natural z ≤ c
 few_within c most (pos n) h = least (min c most) n c (and_parts (not (nat_lt n 3)) (not (nat_lt (min c most) n)) h).1 (omega arith) where
   least : (a n c : ℕ) → not (nat_lt a n) ≡ true → a ≤ c → n ≤ c
   least a n c h l = grind arith
@@ -88,7 +88,7 @@ few_within c most (negsuc n) h = cc
 pub few_nodes : (c : ℕ) (p : ScenarioParts) → has_nodes c p ≡ true → natural p.nodes ≤ c
 few_nodes c p h = few_within c (most_nodes (version_of p)) p.nodes h
 
-within_same : (c k most : ℕ) (z : ℤ) → natural z ≤ c → is_within (pos 3) (pos (min (c + k) most)) z ≡ is_within (pos 3) (pos (min c most)) z
+within_same : (c k most : ℕ) (z : ℤ) → natural z ≤ c → is_between (pos 3) (pos (min (c + k) most)) z ≡ is_between (pos 3) (pos (min c most)) z
 within_same c k most (pos n) h = ap (λ b. not (nat_lt n 3) && not b) (same c k most n h) where
   same : (c k most n : ℕ) → n ≤ c → nat_lt (min (c + k) most) n ≡ nat_lt (min c most) n
   same c k most n h = grind arith
@@ -97,7 +97,7 @@ within_same c k most (negsuc n) h = refl
 -- the same rule refuses, at the same place, where there is room for all nodes
 pub refusal_same : (c k : ℕ) (p : ScenarioParts) → natural p.nodes ≤ c → refusal (c + k) p ≡ refusal c p
 refusal_same c k p h =
-    ap (λ b. option_or (option_or (option_or (option_or (unless (is_of_version p) 1 0) (option_or (unless (is_within (pos 1) (pos 2) p.version) 2 1) (option_or (unless b 2 0) (unless (has_rounds p) 3 0))))
+    ap (λ b. option_or (option_or (option_or (option_or (unless (is_of_version p) 1 0) (option_or (unless (is_between (pos 1) (pos 2) p.version) 2 1) (option_or (unless b 2 0) (unless (has_rounds p) 3 0))))
     (option_or (lengths_refusal p) (unless (is_policy (version_of p) p.policy) 5 0))) (option_or (channels_refusal p) (tasks_refusal p))) (option_or (cycles_refusal p) (option_or (plan_refusal p) (clock_refusal p))))
     (within_same c k (most_nodes (version_of p)) p.nodes h)
 
@@ -148,8 +148,8 @@ time_same : (c k nodes tasks : ℕ) (t : TaskParts) (i : ℕ) → nodes ≤ c �
 time_same c k nodes tasks t i few h =
     let a = (and_parts _ _ h).0 in
     let b = (and_parts _ _ a).0 in
-    let d : are_below nodes t.nodes ≡ true = (and_parts _ _ b).1 in
-    let all : list_all (is_below nodes) t.nodes ≡ true = (and_parts (is_ascending t.nodes) (list_all (is_below nodes) t.nodes) d).1 in
+    let d : are_all_below nodes t.nodes ≡ true = (and_parts _ _ b).1 in
+    let all : list_all (is_below nodes) t.nodes ≡ true = (and_parts (is_rising t.nodes) (list_all (is_below nodes) t.nodes) d).1 in
     ap (λ xs. get_or xs i 0) (tab_padded (time_of t.nodes t.run) (time_of t.nodes t.run) 0 c k (λ j l. refl) (λ j l. no_time c nodes t.nodes t.run j few l all))
     ∙ get_padded (times_of c t) k 0 i
 
@@ -177,14 +177,14 @@ module _ (c k nodes : ℕ) (few : nodes ≤ c) where
       ap (λ x. x ∷ map (padded (c + k)) rows) (is row parts.0)
       ∙ ap (λ xs. longer k (padded c row) ∷ xs) (rows_longer test is rows parts.1)
 
-  clock_longer : (o : Option ClockParts) (plan : Plan) → clock_refused nodes plan o ≡ None → option_map (clock_in (c + k) nodes) o ≡ option_map (wide_clock k) (option_map (clock_in c nodes) o)
+  clock_longer : (o : Option ClockParts) (plan : Plan) → clock_refused nodes plan o ≡ None → option_map (clock_given (c + k) nodes) o ≡ option_map (wide_clock k) (option_map (clock_given c nodes) o)
   clock_longer None plan h = refl
   clock_longer (Some o) plan h =
       let a : is_clock nodes o ≡ true = holds (is_clock nodes o) 18 0 (first_none (unless (is_clock nodes o) 18 0) _ h) in
       let errors = and_parts _ (are_rows (are_up_to nodes o.epsilon) o.errors) a in
       let drifts = and_parts _ (are_rows (is_drift nodes o.drift) o.drifts) errors.0 in
       let start = and_parts _ (are_up_to nodes (pos (2 ^ 40)) o.start) drifts.0 in
-      let told = λ (s : List ℤ) (d e : List (List ℤ)). let v : ClockView = record (clock_in c nodes o) { start = s; drifts = d; errors = e } in Some v in
+      let told = λ (s : List ℤ) (d e : List (List ℤ)). let v : ClockView = record (clock_given c nodes o) { start = s; drifts = d; errors = e } in Some v in
       ap (λ s. told s (map (padded (c + k)) o.drifts) (map (padded (c + k)) o.errors)) (row_longer (pos (2 ^ 40)) o.start start.1)
       ∙ ap (λ d. told (longer k (padded c o.start)) d (map (padded (c + k)) o.errors))
       (rows_longer (is_drift nodes o.drift) (λ row is. row_longer (pos (2 ^ 20)) row (and_parts (are_up_to nodes (pos (2 ^ 20)) row) _ is).0) o.drifts (and_parts _ (list_all (is_drift nodes o.drift) o.drifts) drifts.1).1)
@@ -204,7 +204,7 @@ module _ (c k : ℕ) (p : ScenarioParts) (h : refusal c p ≡ None) where
 
   inputs_same : inputs_of (scenario_of (c + k) p) ≡ inputs_of (scenario_of c p)
   inputs_same = fun_ext (λ i. fun_ext (λ q.
-      let readings : List ℤ = map (reading_at i q) (scenario_of c p).readings ++ replicate (8 - length (scenario_of c p).readings) (pos 0) in
+      let readings : List ℤ = map (reading_given i q) (scenario_of c p).readings ++ replicate (8 - length (scenario_of c p).readings) (pos 0) in
       ap (λ xs. let x : Inputs = record { run = xs ++ replicate (32 - length (map (times_of (c + k)) p.tasks)) 0; reading = readings } in x)
       (times_same c k (natural p.nodes) (length p.tasks) 0 p.tasks i few (tasks_fit c p h))
       ∙ ap (λ n. let x : Inputs = record { run = map (λ row. get_or row i 0) (map (times_of c) p.tasks) ++ replicate (32 - n) 0; reading = readings } in x)

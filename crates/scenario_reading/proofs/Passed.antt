@@ -2,7 +2,7 @@
 use Rattle.std.proofs.Common.{◌≡◌, ℕ, Option, None, Some, Result, Ok, Err, IfOk, IfErr, IsErrAnd, ap, sym, ◌∙◌, subst}
 use Rattle.serde_json.specs.Data.{Data}
 use Rattle.scenario.specs.Parts.{ScenarioParts}
-use Rattle.scenario_reading.specs.Keys.{parts_of}
+use Rattle.scenario_reading.specs.Keys.{parts_read}
 use Rattle.scenario.specs.Rules.{refusal}
 use Rattle.scenario.specs.Given.{scenario_of}
 use Rattle.scenario.specs.Scenario.{ScenarioView}
@@ -15,11 +15,11 @@ pub passed_error : {S T E : Type 0} (before : Result S E) (r : Result T E) (x y 
 passed_error before r x y was same is = was ∙ ap Err (sym (subst (λ s. IsErrAnd s (λ z. z ≡ x)) is same))
 
 pub accepted_value : {T : Type 0} (capacity : ℕ) (d : Data) (p : ScenarioParts) (see : T → ScenarioView capacity) (r : Result T ScenarioError)
-    → parts_of d ≡ Some p → IfOk r (λ s. refusal capacity p ≡ None) → IfOk r (λ s. see s ≡ scenario_of capacity p)
+    → parts_read d ≡ Some p → IfOk r (λ s. refusal capacity p ≡ None) → IfOk r (λ s. see s ≡ scenario_of capacity p)
     → IfOk r (λ s. IsAcceptedValue {capacity = capacity} d (see s))
 accepted_value capacity d p see (Ok s) read unrefused says = record { parts = p; reads = read; unrefused = unrefused; says = says }
 accepted_value capacity d p see (Err e) read unrefused says = tt
 
 pub refused_value : {T : Type 0} (capacity : ℕ) (d : Data) (p : ScenarioParts) (r : Result T ScenarioError)
-    → parts_of d ≡ Some p → IfErr r (Tells (refusal capacity p)) → IfErr r (Tells (value_refusal capacity d))
+    → parts_read d ≡ Some p → IfErr r (Tells (refusal capacity p)) → IfErr r (Tells (value_refusal capacity d))
 refused_value capacity d p r read h = subst (λ (o : Option (ℕ × ℕ)). IfErr r (Tells o)) (sym (ap (refusal_on capacity) read)) h

@@ -8,7 +8,7 @@ ghost use Rattle.serde_json.specs.View.{view};
 ghost use Rattle.json_parts.specs.Part.{Gives};
 ghost use Rattle.scenario.specs.Parts.{Numbers as NumbersAre, EffectParts, FaultParts, RestartParts, PolicyParts, ChannelParts, TaskParts, LieParts, ClockParts};
 ghost use Rattle.json_parts.specs.Reading.{object_of, has_keys};
-ghost use Rattle.scenario_reading.specs.Keys.{policy_names, policy_fields, policy_at, state_names, state_fields, sensor_names, sensor_fields, copy_names, copy_fields, channel_at, task_at, numbers_at, set_names, set_fields, effect_by, effect_at, fault_at, restart_at, lie_at, clock_at, scenario_names, size_fields, policy_in, channels_in, tasks_in, faults_in, restarts_in, clock_in, other_fields, scenario_fields, parts_in, parts_of};
+ghost use Rattle.scenario_reading.specs.Keys.{policy_names, policy_fields, policy_at, state_names, state_fields, sensor_names, sensor_fields, copy_names, copy_fields, channel_at, task_key, numbers_at, set_names, set_fields, effect_by, effect_key, fault_at, restart_at, lie_key, clock_at, scenario_names, size_fields, policy_in, channels_in, tasks_in, faults_in, restarts_in, clock_key, other_fields, scenario_fields, parts_in, parts_read};
 ghost use Rattle.scenario.specs.Seen.{numbers_view, effect_view, fault_view, restart_view, policy_view, channel_view, task_view, lie_view, clock_view, parts_view};
 ghost use Rattle.scenario_reading.specs.Sizes.{sizes_view};
 
@@ -198,7 +198,7 @@ impl<'v> Form<'v> for TaskForm {
 
     ghost seen = { λ part. task_view part };
 
-    ghost reads = { λ _ d. task_at d };
+    ghost reads = { λ _ d. task_key d };
 
     fn read(&self, alloc: Global, value: &'v Value) -> Result<TaskPart, PartError> {
         if !has_keys(value, &["after", "nodes", "need", "min", "max", "run"]) {
@@ -274,7 +274,7 @@ impl<'v> Form<'v> for EffectForm {
 
     ghost seen = { λ part. effect_view part };
 
-    ghost reads = { λ _ d. effect_at d };
+    ghost reads = { λ _ d. effect_key d };
 
     fn read(&self, alloc: Global, value: &'v Value) -> Result<EffectPart, PartError> {
         match value.as_str() {
@@ -363,7 +363,7 @@ impl<'v> Form<'v> for LieForm {
 
     ghost seen = { λ part. lie_view part };
 
-    ghost reads = { λ _ d. lie_at d };
+    ghost reads = { λ _ d. lie_key d };
 
     fn read(&self, alloc: Global, value: &'v Value) -> Result<LiePart, PartError> {
         if !has_keys(value, &["from", "to", "periods", "by"]) {
@@ -410,7 +410,7 @@ impl<'v> Form<'v> for ClockForm {
 
 #[tactic(auto, unfolding(crate::specs::Keys::clock_in))]
 fn clock(alloc: Global, value: &Value) -> Result<Option<ClockPart>, PartError>
-    ensures { Gives (option_map clock_view) (clock_in (view value.now)) result }
+    ensures { Gives (option_map clock_view) (clock_key (view value.now)) result }
 {
     optional(alloc, &ClockForm, value, "clock")
 }
@@ -502,7 +502,7 @@ fn parts_in(alloc: Global, value: &Value, version: i64) -> Result<Parts, PartErr
 /// # Errors
 /// `NoPart` exactly where it holds none; `NoMemory`.
 pub(crate) fn parts(alloc: Global, value: &Value) -> Result<Parts, PartError>
-    ensures { Gives parts_view (parts_of (view value.now)) result }
+    ensures { Gives parts_view (parts_read (view value.now)) result }
 {
     let version = number_or(value, "version", 1)?;
     parts_in(alloc, value, version)

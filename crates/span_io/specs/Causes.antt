@@ -16,8 +16,8 @@ abbrev pub CountsGiven : {E : Type 0} → ℕ → ℕ → Result ℕ E → Type 
 CountsGiven before now r = MatchResult r (λ k. now ≡ min (before + k) (2 ^ 64 - 1)) (λ _. now ≡ before)
 
 -- from 1 to n
-abbrev pub IsWithin : ℕ → ℕ → Type 0
-IsWithin n k = (1 ≤ k) × (k ≤ n)
+abbrev pub IsOneTo : ℕ → ℕ → Type 0
+IsOneTo n k = (1 ≤ k) × (k ≤ n)
 
 -- known bytes grow by a prefix of bs
 abbrev pub AppendsPrefix : Option (List ℕ) → Option (List ℕ) → List ℕ → Type 0

@@ -8,7 +8,7 @@
 ghost use Rattle.std.specs.Prelude.{ℕ, ◌<◌, List, length, Option, IfOk};
 ghost use Rattle.std.specs.Io.{ReadsAtMost};
 ghost use Rattle.std.specs.Io.KnownBytes.{ReadConsumes, WriteAppends};
-ghost use Rattle.span_io.specs.Causes.{HasCause, CountsGiven, IsWithin};
+ghost use Rattle.span_io.specs.Causes.{HasCause, CountsGiven, IsOneTo};
 
 mod devices;
 mod faults;
@@ -61,7 +61,7 @@ pub trait Sink {
     /// `Failed` comes only where the count of faults rose, and an `Ok` leaves it. Nothing was written then.
     fn write(&mut self, bytes: &[u8]) -> Result<usize, Failed>
         requires { 0 < length bytes.now }
-        ensures bound { IfOk result (IsWithin (length bytes.now)) }
+        ensures bound { IfOk result (IsOneTo (length bytes.now)) }
         ensures bytes { WriteAppends (written self.old) (written self.new) result bytes.now }
         ensures cause { HasCause (faults self.old) (faults self.new) result };
 }

@@ -2,7 +2,7 @@
 ghost use Rattle.std.specs.Prelude.{◌≡◌, ◌+◌, ◌-◌, ◌^◌, ◌<◌, ◌≤◌, ◌↔◌, [], length, take, min, Some, IfOk, IsErr, Contains, ◌⊎◌};
 ghost use Rattle.std.specs.Io.{ReadsAtMost};
 ghost use Rattle.std.specs.Io.KnownBytes.{ReadConsumes, WriteAppends};
-ghost use Rattle.span_io.specs.Causes.{HasCause, CountsGiven, IsWithin};
+ghost use Rattle.span_io.specs.Causes.{HasCause, CountsGiven, IsOneTo};
 ghost use Rattle.span_io.specs.Memory.{SourceState, SinkState};
 
 use crate::{Failed, Sink, Source};
@@ -181,7 +181,7 @@ impl Sink for MemSink {
 
     fn write(&mut self, bytes: &[u8]) -> Result<usize, Failed>
         requires { 0 < length bytes.now }
-        ensures bound { IfOk result (IsWithin (length bytes.now)) }
+        ensures bound { IfOk result (IsOneTo (length bytes.now)) }
         ensures bytes { WriteAppends (Some self.old.written) (Some self.new.written) result bytes.now }
         ensures cause { HasCause self.old.faults self.new.faults result }
 

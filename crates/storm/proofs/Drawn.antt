@@ -13,7 +13,7 @@ use Rattle.fault_classes.specs.Line.{Line, shares}
 use Rattle.fault_classes.specs.Rules.{are_below, is_change}
 use Rattle.storm.specs.Draws.{Drawing, draw}
 use Rattle.storm.specs.declared.spell.Spell.{Spell}
-use Rattle.storm.specs.Storm.{line_in, others, false_value, told_by, told, told_row, each, lines_by, spell_of, block, blocks}
+use Rattle.storm.specs.Storm.{line_in, others, false_value, told_by, lies_drawn, told_row, each_drawn, lines_by, spell_of, block, blocks}
 use Rattle.storm.proofs.Shape.{IsSpell, ascends, WritesBytes, IsLineOf, apart, AreLinesOf, IsBlock, AreBlocks}
 
 pub draw_below : (k : ℕ) (g : Lcg) → 0 < k → (draw k g).0 < k
@@ -92,10 +92,10 @@ toward_more s j js here rest out (inr h) r = rw h.1 (record {
 })
 
 each_toward : (s : Spell) (to : ℕ → Drawing (List Line)) (js : List ℕ) (g : Lcg) → Distinct js
-    → ((j : ℕ) (x : Lcg) → has_id js j ≡ true → IsToward s j (to j x).0) → AreToward s js (each to js g).0
+    → ((j : ℕ) (x : Lcg) → has_id js j ≡ true → IsToward s j (to j x).0) → AreToward s js (each_drawn to js g).0
 each_toward s to [] g d h = record { lines = tt; toward = tt; disjoint = refl; few = omega arith }
 each_toward s to (j ∷ js) g d h =
-    toward_more s j js (to j g).0 (each to js (to j g).1).0 d.0 (h j g (or_left (j == j) _ (eq-eqb j j refl)))
+    toward_more s j js (to j g).0 (each_drawn to js (to j g).1).0 d.0 (h j g (or_left (j == j) _ (eq-eqb j j refl)))
     (each_toward s to js (to j g).1 d.1 (λ i x on. h i x (or_right (j == i) _ on)))
 
 single_set : (j : ℕ) → j < 8 → IsIdSet 8 (j ∷ [])
@@ -170,10 +170,10 @@ abbrev lying : Spell → Drawing (List Line)
 lying s x = (line_in s (others s) (4 ∷ []) (false_value (draw 1000 x).0) ∷ [], (draw 1000 x).1)
 
 abbrev mixed : Spell → Drawing (List Line)
-mixed s = each (told s) (others s)
+mixed s = each_drawn (lies_drawn s) (others s)
 
 abbrev misreporting : Spell → Drawing (List Line)
-misreporting s = each (told_row s) (others s)
+misreporting s = each_drawn (told_row s) (others s)
 
 lines_are : (s : Spell) (case : ℕ) (g : Lcg) → 5 ≤ s.node → s.node ≤ 7 → AreLinesOf s (lines_by s case g).0
 lines_are s case g low high =
@@ -183,7 +183,7 @@ lines_are s case g low high =
       | false ↦ elim (case == 1) as (λ b. AreLinesOf s (cond {A = Drawing (List Line)} b (lying s) (cond (case == 2) (mixed s) (misreporting s)) g).0) [
         | true ↦ to_others s (4 ∷ []) (false_value (draw 1000 g).0) low high refl (false_value_is (draw 1000 g).0) refl refl (false_value_bytes (draw 1000 g).0)
         | false ↦ elim (case == 2) as (λ b. AreLinesOf s (cond {A = Drawing (List Line)} b (mixed s) (misreporting s) g).0) [
-          | true ↦ all_of s (others s) _ r.few (each_toward s (told s) (others s) g r.apart
+          | true ↦ all_of s (others s) _ r.few (each_toward s (lies_drawn s) (others s) g r.apart
               (λ j x on. told_toward s j (draw 3 x).0 (draw 3 x).1 (below_in (others s) j r.below on) (not_other (others s) j s.node r.others on)))
           | false ↦ all_of s (others s) _ r.few (each_toward s (told_row s) (others s) g r.apart
               (λ j x on. row_toward s j x (below_in (others s) j r.below on) (not_other (others s) j s.node r.others on)))

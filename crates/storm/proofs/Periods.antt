@@ -7,13 +7,13 @@ use Rattle.node_grid.specs.Class.{is_nonfaulty, is_sound, IsWithin}
 use Rattle.omh_paths.specs.MemberLaws.{Distinct-ids, member-lt}
 use Rattle.protocol.specs.Run.{System, members_in, run, classes}
 use Rattle.protocol.specs.Accepted.{IsAccepted}
-use Rattle.protocol.specs.Safe.{reference, members_from, members_at, Budget, Safe}
+use Rattle.protocol.specs.Safe.{reference, members_from, members_at, KeepsBound, Safe}
 use Rattle.safety.specs.Given.{IsGiven, IsSparing, Started}
 use Rattle.safety.specs.Views.{StartLaw, StepLaw}
 use Rattle.safety.specs.Runs.{ReceptionLaw}
 use Rattle.safety.specs.Convictions.{SparedLaw}
 use Rattle.storm.specs.Draws.{generator_of}
-use Rattle.storm.specs.Storm.{Block, blocks, storm, restart_of}
+use Rattle.storm.specs.Storm.{Block, blocks, storm, restart_drawn}
 use Rattle.storm.specs.Laws.{HasOneFaulty, IsWeathered, Weathers, StormLaw}
 use Rattle.storm.proofs.Off.{is_off}
 use Rattle.storm.proofs.Shape.{AreBlocks}
@@ -59,7 +59,7 @@ module _ (bs : List Block) (are : AreBlocks 0 bs) where
   members_are p start =
       sym (ap (members_from (run (system_by bs)) p) (first_node p) ∙ ap members_in (start.equal 0 (low_nodes p 0 (omega arith))))
 
-  budget : (p : ℕ) → Started (run (system_by bs)) (classes (system_by bs)) p → Budget (run (system_by bs)) (classes (system_by bs)) p
+  budget : (p : ℕ) → Started (run (system_by bs)) (classes (system_by bs)) p → KeepsBound (run (system_by bs)) (classes (system_by bs)) p
   budget p start =
       subst (λ (qs : List ℕ). IsWithin (classes (system_by bs) p) qs 2) (members_are p start)
       (within (classes (system_by bs) p) (is_off bs p) start.state.standing.members start.valid.standing.set (Distinct-ids 8 start.state.standing.members start.valid.standing.set)
@@ -123,7 +123,7 @@ storm_by reception start step spared bs long are =
     record {
       accepted = given;
       few_lines = (let few = few_lines 0 bs are in omega arith);
-      restarts = length-map bs restart_of ∙ long;
+      restarts = length-map bs restart_drawn ∙ long;
       periods = weathered bs are (what_is_given reception (system_by bs) given) start step spared;
     }
 

@@ -10,7 +10,7 @@ use Rattle.slot_plan.specs.Slots.{slot_count}
 use Rattle.fault_classes.specs.Plan.{Plan}
 use Rattle.fault_classes.specs.Rules.{is_line, first_bad_line, first_overlap, is_restart, comes_after, first_bad_restart, refusal_of}
 use Rattle.storm.specs.declared.spell.Spell.{Spell}
-use Rattle.storm.specs.Storm.{Block, lines_of, restart_of, restarts_of}
+use Rattle.storm.specs.Storm.{Block, lines_of, restart_drawn, restarts_of}
 use Rattle.storm.proofs.Off.{plan_by}
 use Rattle.storm.proofs.Shape.{IsSpell, IsLineOf, apart, AreBlocks}
 
@@ -119,9 +119,9 @@ restarts_in_order k place before [] few are early = refl
 restarts_in_order k place before (b ∷ bs) few are early =
     let first = are.0.spell.first in let high = are.0.spell.high in
     let at : b.spell.first + 9 ≡ 16 * k + 10 = omega arith in
-    let good : is_restart 8 1024 (restart_of b) ≡ true = and_from _ _ (lt-ltb b.spell.node 8 (omega arith)) (and_from _ _ (le-leb 1 (b.spell.first + 9) (omega arith)) (le-leb (b.spell.first + 9) 1023 (omega arith))) in
-    let next : comes_after before (restart_of b) ≡ true = after_earlier before (restart_of b) (subst (λ (p : ℕ). IsEarlier p before) (sym at) early) in
-    rw (good, next) (restarts_in_order (k + 1) (place + 1) (Some (restart_of b)) bs (omega arith) are.1 (omega arith))
+    let good : is_restart 8 1024 (restart_drawn b) ≡ true = and_from _ _ (lt-ltb b.spell.node 8 (omega arith)) (and_from _ _ (le-leb 1 (b.spell.first + 9) (omega arith)) (le-leb (b.spell.first + 9) 1023 (omega arith))) in
+    let next : comes_after before (restart_drawn b) ≡ true = after_earlier before (restart_drawn b) (subst (λ (p : ℕ). IsEarlier p before) (sym at) early) in
+    rw (good, next) (restarts_in_order (k + 1) (place + 1) (Some (restart_drawn b)) bs (omega arith) are.1 (omega arith))
 
 -- ---- at most 7 lines a block
 

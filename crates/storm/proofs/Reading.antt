@@ -15,8 +15,8 @@ use Rattle.fault_classes.specs.Rules as plan
 use Rattle.hex.specs.Hex.{encode_lower, IsBytes}
 use Rattle.hex.specs.declared.error.FromHexError.{FromHexError}
 use Rattle.hex.proofs.HexLemmas.{decode_of-encode_lower}
-use Rattle.scenario.specs.Numbers.{is_within, is_below, is_ascending, is_empty, are_some_below, has_number, means, meant}
-use Rattle.scenario.specs.Line.{bytes_of, decoded, change_at, is_span, others_of, is_placed, line_with, line_at}
+use Rattle.scenario.specs.Numbers.{is_between, is_below, is_rising, is_empty, are_some_below, has_number, means, meant}
+use Rattle.scenario.specs.Line.{bytes_of, decoded, change_of_effect, is_span, others_of, is_placed, line_with, line_at}
 use Rattle.storm.specs.Storm.{Block, lines_of}
 use Rattle.storm.specs.Parts.{numbers_of, effect_of, fault_of}
 use Rattle.storm.proofs.Shape.{IsLineOf, ascends, WritesBytes, AreBlocks}
@@ -40,7 +40,7 @@ has_same : (xs : List ℕ) (k : ℕ) → has_number (map pos xs) k ≡ has_id xs
 has_same [] k = refl
 has_same (x ∷ xs) k = ap₂ (λ (a b : Bool). a || b) (same_number x k) (has_same xs k)
 
-ascends_same : (xs : List ℕ) → ascends xs ≡ true → is_ascending (map pos xs) ≡ true
+ascends_same : (xs : List ℕ) → ascends xs ≡ true → is_rising (map pos xs) ≡ true
 ascends_same [] h = refl
 ascends_same (x ∷ []) h = refl
 ascends_same (x ∷ y ∷ ys) h = let p = and_parts (nat_lt x y) _ h in and_from _ _ p.0 (ascends_same (y ∷ ys) p.1)
@@ -82,11 +82,11 @@ bytes_at (b ∷ bs) h (suc i) = bytes_at bs h.1 i
 decoded_back : (least : ℕ) (bs : List ℕ) → AllByRecursion (λ b. b < 256) bs → (nat_le least (length bs) && nat_le (length bs) 4096) ≡ true → decoded least (encode_lower bs) ≡ Some bs
 decoded_back least bs h size = ap (λ (r : Result (List ℕ) FromHexError). bytes_of least (result_ok r)) (decode_of-encode_lower bs (bytes_at bs h)) ∙ rw size refl
 
-change_back : (c : Change) → plan.is_change c ≡ true → WritesBytes c → change_at (effect_of c) ≡ Some c
+change_back : (c : Change) → plan.is_change c ≡ true → WritesBytes c → change_of_effect (effect_of c) ≡ Some c
 change_back Drop h w = refl
 change_back (Set at bytes) h w =
     let p = and_parts (nat_le at 4095) _ h in
-    let there : is_within (pos 0) (pos 4095) (pos at) ≡ true = and_from _ _ (not_above 0 at (omega arith)) (not_above at 4095 (leb-true at 4095 p.0)) in
+    let there : is_between (pos 0) (pos 4095) (pos at) ≡ true = and_from _ _ (not_above 0 at (omega arith)) (not_above at 4095 (leb-true at 4095 p.0)) in
     rw there (ap (option_map (Set at)) (decoded_back 1 bytes w p.1))
 change_back (Cut k) h w = absurd w
 change_back Twice h w = absurd w

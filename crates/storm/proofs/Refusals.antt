@@ -10,7 +10,7 @@ use Rattle.fault_classes.specs.Rules as plan
 use Rattle.fault_classes.specs.Rules.{first_overlap}
 use Rattle.scenario.specs.Line.{line_at, restart_of}
 use Rattle.scenario.specs.Given as given
-use Rattle.scenario.specs.Rules.{first_bad, is_line, is_restart, first_bad_restart, early_refusal, cycles_refusal, plan_refusal, clock_refusal, refusal}
+use Rattle.scenario.specs.Rules.{first_bad, is_fault_part, is_restart_part, first_refused_restart, early_refusal, cycles_refusal, plan_refusal, clock_refusal, refusal}
 use Rattle.storm.specs.Draws.{generator_of}
 use Rattle.storm.specs.Storm.{Block, blocks, storm, lines_of, restarts_of}
 use Rattle.storm.specs.Parts.{fault_of, restart_parts, parts_of}
@@ -20,13 +20,13 @@ use Rattle.storm.proofs.Drawn.{blocks_are, length-blocks}
 use Rattle.storm.proofs.Planned.{IsEarlier, no_overlap, none_before, all_apart, restarts_in_order, few_lines}
 use Rattle.storm.proofs.Reading.{IsSpelt, line_back, lines_back, all_spelt}
 
-no_bad_fault : (k : ℕ) (ls : List Line) → AllByRecursion IsSpelt ls → first_bad (is_line 8 8 1024) k (map fault_of ls) ≡ None
+no_bad_fault : (k : ℕ) (ls : List Line) → AllByRecursion IsSpelt ls → first_bad (is_fault_part 8 8 1024) k (map fault_of ls) ≡ None
 no_bad_fault k [] h = refl
 no_bad_fault k (l ∷ ls) h =
     let here : is_some (line_at 8 8 1024 (fault_of l)) ≡ true = ap (λ (o : Option Line). is_some o) (line_back l h.0) in
     rw here (no_bad_fault (k + 1) ls h.1)
 
-no_bad_restart : (before : Option Restart) (k : ℕ) (rs : List Restart) → plan.first_bad_restart 8 1024 before k rs ≡ None → first_bad_restart 8 1024 before k (map restart_parts rs) ≡ None
+no_bad_restart : (before : Option Restart) (k : ℕ) (rs : List Restart) → plan.first_bad_restart 8 1024 before k rs ≡ None → first_refused_restart 8 1024 before k (map restart_parts rs) ≡ None
 no_bad_restart before k [] h = refl
 no_bad_restart before k (r ∷ rs) h = elim (cases_Bool (plan.is_restart 8 1024 r && plan.comes_after before r)) [
   | inl on ↦
@@ -34,7 +34,7 @@ no_bad_restart before k (r ∷ rs) h = elim (cases_Bool (plan.is_restart 8 1024 
       let q = and_parts (nat_lt r.node 8) _ p.0 in
       let span = and_parts (nat_le 1 r.period) (nat_le r.period 1023) q.1 in
       let low : nat_lt r.period 1024 ≡ true = lt-ltb _ _ (let l = leb-true _ _ span.1 in omega arith) in
-      let here : is_restart 8 1024 before (restart_parts r) ≡ true = and_from _ _ q.0 (and_from _ _ low on) in
+      let here : is_restart_part 8 1024 before (restart_parts r) ≡ true = and_from _ _ q.0 (and_from _ _ low on) in
       let step : plan.first_bad_restart 8 1024 before k (r ∷ rs) ≡ plan.first_bad_restart 8 1024 (Some r) (k + 1) rs = rw on refl in
       rw here (no_bad_restart (Some r) (k + 1) rs (sym step ∙ h))
   | inr off ↦
@@ -59,9 +59,9 @@ plan_stands : (bs : List Block) → length bs ≡ 64 → AreBlocks 0 bs → plan
 unfolding IsEarlier
 plan_stands bs long are =
     let few = few_lines 0 bs are in
-    let faults : first_bad (is_line 8 8 1024) 0 (map fault_of (lines_of bs)) ≡ None = no_bad_fault 0 (lines_of bs) (all_spelt 0 bs (omega arith) are) in
+    let faults : first_bad (is_fault_part 8 8 1024) 0 (map fault_of (lines_of bs)) ≡ None = no_bad_fault 0 (lines_of bs) (all_spelt 0 bs (omega arith) are) in
     let overlaps : first_overlap [] (given.lines_of (parts_of bs)) ≡ None = ap (first_overlap []) (lines_are bs long are) ∙ no_overlap [] (lines_of bs) (none_before (lines_of bs)) (all_apart 0 bs are) in
-    let restarts : first_bad_restart 8 1024 None 0 (map restart_parts (restarts_of bs)) ≡ None =
+    let restarts : first_refused_restart 8 1024 None 0 (map restart_parts (restarts_of bs)) ≡ None =
     no_bad_restart None 0 (restarts_of bs) (restarts_in_order 0 0 None bs (omega arith) are tt) in
     let size : nat_le (length (map fault_of (lines_of bs))) 4096 ≡ true = le-leb (length (map fault_of (lines_of bs))) 4096 (omega (arith, length-map (lines_of bs) fault_of)) in
     rw (faults, overlaps, restarts, size) refl

@@ -14,7 +14,7 @@ use Rattle.scenario.specs.Parts.{FaultParts, RestartParts}
 use Rattle.scenario.specs.Seen.{fault_view, restart_view}
 use Rattle.storm.specs.declared.spell.Spell.{Spell}
 use Rattle.storm.specs.Draws.{Drawing, draw, generator_of}
-use Rattle.storm.specs.Storm.{line_in, others, false_value, told_by, told, each, lines_by, block, blocks, storm, lines_of, restart_of, restarts_of}
+use Rattle.storm.specs.Storm.{line_in, others, false_value, told_by, lies_drawn, each_drawn, lines_by, block, blocks, storm, lines_of, restart_drawn, restarts_of}
 use Rattle.storm.specs.Parts.{fault_of, restart_parts}
 use Rattle.storm.specs.Adding.{Adds, AddsBlock}
 
@@ -74,7 +74,7 @@ adds_drawn before after x l k v g h d pushed is drawn e =
     subst (λ (y : Lcg). Adds before after g y d) (sym r.1) (adds_one before after x (l (draw k g).0) g (draw k g).1 d pushed line e)
 
 -- the way is drawn first
-pub adds_told : (before after : List FaultPart) (s : Spell) (j way : ℕ) (g h x : Lcg) → (way, h) ≡ draw 3 g → Adds before after h x (told_by s j way) → Adds before after g x (told s j)
+pub adds_told : (before after : List FaultPart) (s : Spell) (j way : ℕ) (g h x : Lcg) → (way, h) ≡ draw 3 g → Adds before after h x (told_by s j way) → Adds before after g x (lies_drawn s j)
 adds_told before after s j way g h x drawn a =
     let r = drawn_is 3 way g h drawn in
     record {
@@ -86,15 +86,15 @@ adds_told before after s j way g h x drawn a =
 
 -- the lines so far and those to come are all the lines
 pub record GoesOn (before now : List FaultPart) (g h : Lcg) (to : ℕ → Drawing (List Line)) (node i : ℕ) : Type 0 where
-  pub faults : map fault_view now ++ map fault_of (each to (left node i) h).0 ≡ map fault_view before ++ map fault_of (each to (left node 0) g).0
-  pub rest : (each to (left node i) h).1 ≡ (each to (left node 0) g).1
+  pub faults : map fault_view now ++ map fault_of (each_drawn to (left node i) h).0 ≡ map fault_view before ++ map fault_of (each_drawn to (left node 0) g).0
+  pub rest : (each_drawn to (left node i) h).1 ≡ (each_drawn to (left node 0) g).1
 
 pub goes_past : (before now : List FaultPart) (g h : Lcg) (to : ℕ → Drawing (List Line)) (node i : ℕ) → i < 8 → i ≡ node → GoesOn before now g h to node i → GoesOn before now g h to node (i + 1)
 goes_past before now g h to node i low e o =
     let same = left_itself node i low e in
     record {
-      faults = ap (λ (js : List ℕ). map fault_view now ++ map fault_of (each to js h).0) (sym same) ∙ o.faults;
-      rest = ap (λ (js : List ℕ). (each to js h).1) (sym same) ∙ o.rest;
+      faults = ap (λ (js : List ℕ). map fault_view now ++ map fault_of (each_drawn to js h).0) (sym same) ∙ o.faults;
+      rest = ap (λ (js : List ℕ). (each_drawn to js h).1) (sym same) ∙ o.rest;
     }
 
 pub goes_more : (before now after : List FaultPart) (g h k : Lcg) (to : ℕ → Drawing (List Line)) (node i : ℕ) → i < 8 → i ≢ node
@@ -103,21 +103,21 @@ goes_more before now after g h k to node i low ne o a =
     let same = left_other node i low ne in
     record {
       faults =
-          ap₂ (λ (xs : List FaultParts) (x : Lcg). xs ++ map fault_of (each to (left node (i + 1)) x).0) a.faults a.rest
-          ∙ append_assoc (map fault_view now) (map fault_of (to i h).0) (map fault_of (each to (left node (i + 1)) (to i h).1).0)
-          ∙ ap (λ (ys : List FaultParts). map fault_view now ++ ys) (sym (map-append fault_of (to i h).0 (each to (left node (i + 1)) (to i h).1).0))
-          ∙ ap (λ (js : List ℕ). map fault_view now ++ map fault_of (each to js h).0) (sym same) ∙ o.faults;
-      rest = ap (λ (x : Lcg). (each to (left node (i + 1)) x).1) a.rest ∙ ap (λ (js : List ℕ). (each to js h).1) (sym same) ∙ o.rest;
+          ap₂ (λ (xs : List FaultParts) (x : Lcg). xs ++ map fault_of (each_drawn to (left node (i + 1)) x).0) a.faults a.rest
+          ∙ append_assoc (map fault_view now) (map fault_of (to i h).0) (map fault_of (each_drawn to (left node (i + 1)) (to i h).1).0)
+          ∙ ap (λ (ys : List FaultParts). map fault_view now ++ ys) (sym (map-append fault_of (to i h).0 (each_drawn to (left node (i + 1)) (to i h).1).0))
+          ∙ ap (λ (js : List ℕ). map fault_view now ++ map fault_of (each_drawn to js h).0) (sym same) ∙ o.faults;
+      rest = ap (λ (x : Lcg). (each_drawn to (left node (i + 1)) x).1) a.rest ∙ ap (λ (js : List ℕ). (each_drawn to js h).1) (sym same) ∙ o.rest;
     }
 
 pub goes_at : (before now at : List FaultPart) (g h x : Lcg) (to : ℕ → Drawing (List Line)) (node i : ℕ) → at ≡ now → x ≡ h → GoesOn before now g h to node i → GoesOn before at g x to node i
 goes_at before now at g h x to node i e f o = record {
-  faults = ap₂ (λ (xs : List FaultPart) (y : Lcg). map fault_view xs ++ map fault_of (each to (left node i) y).0) e f ∙ o.faults;
-  rest = ap (λ (y : Lcg). (each to (left node i) y).1) f ∙ o.rest;
+  faults = ap₂ (λ (xs : List FaultPart) (y : Lcg). map fault_view xs ++ map fault_of (each_drawn to (left node i) y).0) e f ∙ o.faults;
+  rest = ap (λ (y : Lcg). (each_drawn to (left node i) y).1) f ∙ o.rest;
 }
 
 -- past the last receiver
-pub goes_all : (before now : List FaultPart) (g h : Lcg) (to : ℕ → Drawing (List Line)) (node i : ℕ) → i ≡ 8 → GoesOn before now g h to node i → Adds before now g h (each to (left node 0))
+pub goes_all : (before now : List FaultPart) (g h : Lcg) (to : ℕ → Drawing (List Line)) (node i : ℕ) → i ≡ 8 → GoesOn before now g h to node i → Adds before now g h (each_drawn to (left node 0))
 goes_all before now g h to node i e o =
     let last : GoesOn before now g h to node 8 = subst (λ (n : ℕ). GoesOn before now g h to node n) e o in
     record { faults = sym (append-nil (map fault_view now)) ∙ last.faults; rest = last.rest }
@@ -154,7 +154,7 @@ storms_more faults after restarts restarts_after g h seed k low s a = record {
       ∙ ap (λ (n : ℕ). map fault_view faults ++ map fault_of (lines_of (blocks n k g).0)) (sym (more_blocks k low)) ∙ s.all_faults;
   all_restarts =
       ap₂ (λ (xs : List RestartParts) (x : Lcg). xs ++ map restart_parts (restarts_of (blocks (64 - (k + 1)) (k + 1) x).0)) a.restarts a.rest
-      ∙ append_assoc (map restart_view restarts) (restart_parts (restart_of (block k g).0) ∷ []) (map restart_parts (restarts_of (blocks (64 - (k + 1)) (k + 1) (block k g).1).0))
+      ∙ append_assoc (map restart_view restarts) (restart_parts (restart_drawn (block k g).0) ∷ []) (map restart_parts (restarts_of (blocks (64 - (k + 1)) (k + 1) (block k g).1).0))
       ∙ ap (λ (n : ℕ). map restart_view restarts ++ map restart_parts (restarts_of (blocks n k g).0)) (sym (more_blocks k low)) ∙ s.all_restarts;
 }
 

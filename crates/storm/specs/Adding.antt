@@ -3,7 +3,7 @@ use Rattle.std.specs.Prelude.{◌≡◌, List, ◌++◌, ◌∷◌, [], map}
 use Rattle.rand_pcg.specs.Lcg.{Lcg}
 use Rattle.fault_classes.specs.Line.{Line}
 use Rattle.storm.specs.Draws.{Drawing}
-use Rattle.storm.specs.Storm.{Block, restart_of}
+use Rattle.storm.specs.Storm.{Block, restart_drawn}
 use Rattle.scenario.specs.declared.parts.FaultPart.{FaultPart}
 use Rattle.scenario.specs.declared.parts.RestartPart.{RestartPart}
 use Rattle.storm.specs.Parts.{fault_of, restart_parts}
@@ -17,5 +17,5 @@ pub record Adds (before after : List FaultPart) (g h : Lcg) (drawing : Drawing (
 -- the lines and the restart of a drawn block were added
 pub record AddsBlock (before after : List FaultPart) (restarts_before restarts_after : List RestartPart) (g h : Lcg) (drawing : Drawing Block) : Type 0 where
   pub faults : map fault_view after ≡ map fault_view before ++ map fault_of (drawing g).0.lines
-  pub restarts : map restart_view restarts_after ≡ map restart_view restarts_before ++ restart_parts (restart_of (drawing g).0) ∷ []
+  pub restarts : map restart_view restarts_after ≡ map restart_view restarts_before ++ restart_parts (restart_drawn (drawing g).0) ∷ []
   pub rest : h ≡ (drawing g).1

@@ -30,8 +30,8 @@ told_by s j way =
       v ← draw 1000
       pure (line_in s (j ∷ []) (4 ∷ []) (false_value v) ∷ [])))
 
-abbrev pub told : Spell → ℕ → Drawing (List Line)
-told s j = draw 3 >>= told_by s j
+abbrev pub lies_drawn : Spell → ℕ → Drawing (List Line)
+lies_drawn s j = draw 3 >>= told_by s j
 
 -- what one receiver is told in slot 5: a row with a byte of its own
 abbrev pub told_row : Spell → ℕ → Drawing (List Line)
@@ -40,11 +40,11 @@ told_row s j = do
   pure (line_in s (j ∷ []) (5 ∷ []) (Set 15 (v ∷ [])) ∷ [])
 
 -- the lines to each of these receivers in turn
-abbrev pub each : (ℕ → Drawing (List Line)) → List ℕ → Drawing (List Line)
-each to [] = pure []
-each to (j ∷ js) = do
+abbrev pub each_drawn : (ℕ → Drawing (List Line)) → List ℕ → Drawing (List Line)
+each_drawn to [] = pure []
+each_drawn to (j ∷ js) = do
   here ← to j
-  rest ← each to js
+  rest ← each_drawn to js
   pure (here ++ rest)
 
 -- the lines of a spell by its case: silent; lying to all alike; telling each another thing; or telling each another row
@@ -54,8 +54,8 @@ lines_by s case =
     else (if case == 1 then (do
       v ← draw 1000
       pure (line_in s (others s) (4 ∷ []) (false_value v) ∷ []))
-    else (if case == 2 then each (told s) (others s)
-    else each (told_row s) (others s)))
+    else (if case == 2 then each_drawn (lies_drawn s) (others s)
+    else each_drawn (told_row s) (others s)))
 
 pub record Block : Type 0 where
   pub spell : Spell
@@ -92,8 +92,8 @@ abbrev pub lines_of : List Block → List Line
 lines_of = flat_map (λ b. b.lines)
 
 -- its node restarts in period 16k + 10
-abbrev pub restart_of : Block → Restart
-restart_of b = record { node = b.spell.node; period = b.spell.first + 9 }
+abbrev pub restart_drawn : Block → Restart
+restart_drawn b = record { node = b.spell.node; period = b.spell.first + 9 }
 
 abbrev pub restarts_of : List Block → List Restart
-restarts_of = map restart_of
+restarts_of = map restart_drawn

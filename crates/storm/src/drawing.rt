@@ -1,7 +1,7 @@
 //! The fault lines and the restarts of a storm, drawn block by block.
 ghost use Rattle.std.specs.Prelude.{◌≡◌, ◌<◌, ◌≤◌, map, IfOk, OnOk};
 ghost use Rattle.scenario.specs.Seen.{fault_view, restart_view};
-ghost use Rattle.storm.specs.Storm.{told_by, told, told_row, each, others, lines_by, block, storm, lines_of, restarts_of};
+ghost use Rattle.storm.specs.Storm.{told_by, lies_drawn, told_row, each_drawn, others, lines_by, block, storm, lines_of, restarts_of};
 ghost use Rattle.storm.specs.Parts.{fault_of, restart_parts};
 ghost use Rattle.storm.specs.Adding.{Adds, AddsBlock};
 
@@ -105,7 +105,7 @@ fn push_mixed(
     alloc: Global,
     spell: Spell,
 ) -> Result<(), AllocError>
-    ensures { OnOk result (Adds faults.old.items faults.new.items generator.old generator.new (each (told spell) (others spell))) }
+    ensures { OnOk result (Adds faults.old.items faults.new.items generator.old generator.new (each_drawn (lies_drawn spell) (others spell))) }
 {
     for receiver in 0..8 {
         if receiver != spell.node {
@@ -147,7 +147,7 @@ fn push_rows(
     alloc: Global,
     spell: Spell,
 ) -> Result<(), AllocError>
-    ensures { OnOk result (Adds faults.old.items faults.new.items generator.old generator.new (each (told_row spell) (others spell))) }
+    ensures { OnOk result (Adds faults.old.items faults.new.items generator.old generator.new (each_drawn (told_row spell) (others spell))) }
 {
     for receiver in 0..8 {
         if receiver != spell.node {

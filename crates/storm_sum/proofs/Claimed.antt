@@ -13,7 +13,7 @@ use Rattle.scenario.specs.Laws.{AcceptedLaw}
 use Rattle.cluster_periods.specs.Laws.{ClaimLaw, PromiseLaw}
 use Rattle.storm.specs.Laws.{storm_system, Weathers, StormLaw, UnrefusedLaw}
 use Rattle.storm.specs.Parts.{storm_parts}
-use Rattle.storm_sum.specs.Summary.{how_many, agreed_by, counts_in, claim_at, state_at}
+use Rattle.storm_sum.specs.Summary.{how_many, agreed_by, counts_in, is_claimed_at, state_at}
 use Rattle.storm_sum.specs.Laws.{storm_scenario, WithstandingLaw, SummaryLaw}
 
 all_counted : (f : ℕ → Bool) (a n : ℕ) → ((q : ℕ) → f q ≡ true) → count f (range_with_len a n) ≡ n
@@ -24,8 +24,8 @@ every_period : (f : ℕ → Bool) (n : ℕ) → ((q : ℕ) → f q ≡ true) →
 unfolding how_many
 every_period f n h = all_counted f 0 n h
 
-claimed_at : ClaimLaw → (sys : System) → Weathers sys → (p : ℕ) → claim_at sys p ≡ true
-unfolding claim_at
+claimed_at : ClaimLaw → (sys : System) → Weathers sys → (p : ℕ) → is_claimed_at sys p ≡ true
+unfolding is_claimed_at
 claimed_at claims sys w p = (claims sys None p).claim.1 (w.periods p).claimed
 
 -- what node 0 of 8 records
@@ -43,7 +43,7 @@ claimed_law storms claims seed =
     let after = ends seed w 1023 in
     record {
       periods = refl;
-      claimed = every_period (claim_at (storm_system seed)) 1024 (claimed_at claims (storm_system seed) w);
+      claimed = every_period (is_claimed_at (storm_system seed)) 1024 (claimed_at claims (storm_system seed) w);
       lines = w.few_lines;
       restarts = w.restarts;
       nodes = refl;

@@ -10,7 +10,7 @@ use Rattle.cluster_periods.specs.Record.{PeriodView, without_frames, Shows, peri
 use Rattle.cluster_periods.specs.RecordLaws.{shows_rest}
 use Rattle.cluster_record.proofs.Members.{reference_low}
 use Rattle.storm_sum.specs.declared.sums.Sums.{Sums}
-use Rattle.storm_sum.specs.Summary.{how_many, total, state_after, excluded, readmitted, counts_in, claim_at, excluded_at, readmitted_at, state_at, summary_of}
+use Rattle.storm_sum.specs.Summary.{how_many, total, state_after, excluded, readmitted, counts_in, is_claimed_at, excluded_at, readmitted_at, state_at, summary_of}
 use Rattle.storm_sum.specs.Summing.{AreSums}
 use Rattle.storm_sum.proofs.Totals.{how_many_more, how_many_none, total_more, total_none}
 
@@ -26,7 +26,7 @@ pub record Adds (old new : Sums) (shown : PeriodView) : Type 0 where
 
 pub sums_first : (sys : System) (s : Sums) → s.claimed ≡ 0 → s.excluded ≡ 0 → s.readmitted ≡ 0 → AreSums sys 0 s
 sums_first sys s a b d = record {
-  claimed = a ∙ sym (how_many_none (claim_at sys));
+  claimed = a ∙ sym (how_many_none (is_claimed_at sys));
   excluded = b ∙ sym (total_none (excluded_at sys));
   readmitted = d ∙ sym (total_none (readmitted_at sys));
   few_claimed = omega arith;
@@ -40,14 +40,14 @@ same_period : (p q : ℕ) → p + 1 ≡ suc q → p ≡ q
 same_period p q e = omega arith
 
 pub sums_more : (sys : System) (clock : Option ClockView) (p : ℕ) (frames : Bool) (old new : Sums) (shown : PeriodView) → Shows frames shown (period_record sys clock p) → Adds old new shown → AreSums sys p old → AreSums sys (p + 1) new
-unfolding claim_at excluded_at readmitted_at state_at
+unfolding is_claimed_at excluded_at readmitted_at state_at
 sums_more sys clock p frames old new shown shows a s =
     let is : without_frames shown ≡ without_frames (period_record sys clock p) = shows_rest frames shown (period_record sys clock p) shows in
-    let here : bit shown.claim ≡ bit (claim_at sys p) = ap (λ (r : PeriodView). bit r.claim) is in
+    let here : bit shown.claim ≡ bit (is_claimed_at sys p) = ap (λ (r : PeriodView). bit r.claim) is in
     let gone : excluded shown ≡ excluded_at sys p = ap excluded is in
     let back : readmitted shown ≡ readmitted_at sys p = ap readmitted is in
     let few = bit_le shown.claim in
-    let more = how_many_more (claim_at sys) p in
+    let more = how_many_more (is_claimed_at sys) p in
     let more_gone = total_more (excluded_at sys) p in
     let more_back = total_more (readmitted_at sys) p in
     let a_claimed = a.claimed in let a_excluded = a.excluded in let a_readmitted = a.readmitted in
@@ -92,16 +92,16 @@ pub summed_up : (seed : ℕ) (sc : ScenarioView 8) (p : ℕ) (s : Sums) → p �
 summed_up seed sc p s e some sums =
     let sys = system_of sc in
     let last : p ≡ suc (sc.periods - 1) = omega arith in
-    let claimed : s.claimed ≡ how_many (claim_at sys) sc.periods = sums.claimed ∙ ap (how_many (claim_at sys)) e in
+    let claimed : s.claimed ≡ how_many (is_claimed_at sys) sc.periods = sums.claimed ∙ ap (how_many (is_claimed_at sys)) e in
     let gone : s.excluded ≡ total (excluded_at sys) sc.periods = sums.excluded ∙ ap (total (excluded_at sys)) e in
     let back : s.readmitted ≡ total (readmitted_at sys) sc.periods = sums.readmitted ∙ ap (total (readmitted_at sys)) e in
     let members = sums.members (sc.periods - 1) last in
     let counts = sums.counts (sc.periods - 1) last in
     ap (λ (n : ℕ). summary_with seed sc n s.excluded s.readmitted s.members s.counts.counts) claimed
-    ∙ ap (λ (n : ℕ). summary_with seed sc (how_many (claim_at sys) sc.periods) n s.readmitted s.members s.counts.counts) gone
-    ∙ ap (λ (n : ℕ). summary_with seed sc (how_many (claim_at sys) sc.periods) (total (excluded_at sys) sc.periods) n s.members s.counts.counts) back
-    ∙ ap (λ (xs : List ℕ). summary_with seed sc (how_many (claim_at sys) sc.periods) (total (excluded_at sys) sc.periods) (total (readmitted_at sys) sc.periods) xs s.counts.counts) members
-    ∙ ap (λ (xs : List ℕ). summary_with seed sc (how_many (claim_at sys) sc.periods) (total (excluded_at sys) sc.periods) (total (readmitted_at sys) sc.periods) (members_in (state_at sys (sc.periods - 1))) xs) counts
+    ∙ ap (λ (n : ℕ). summary_with seed sc (how_many (is_claimed_at sys) sc.periods) n s.readmitted s.members s.counts.counts) gone
+    ∙ ap (λ (n : ℕ). summary_with seed sc (how_many (is_claimed_at sys) sc.periods) (total (excluded_at sys) sc.periods) n s.members s.counts.counts) back
+    ∙ ap (λ (xs : List ℕ). summary_with seed sc (how_many (is_claimed_at sys) sc.periods) (total (excluded_at sys) sc.periods) (total (readmitted_at sys) sc.periods) xs s.counts.counts) members
+    ∙ ap (λ (xs : List ℕ). summary_with seed sc (how_many (is_claimed_at sys) sc.periods) (total (excluded_at sys) sc.periods) (total (readmitted_at sys) sc.periods) (members_in (state_at sys (sc.periods - 1))) xs) counts
 
 abbrev told : ℕ → ℕ → ℕ → ℕ → ℕ → Sums → StormView
 told seed periods lines restarts nodes s = record {

@@ -52,8 +52,8 @@ counts_in (Some a) = a.standing.counts
 
 -- ---- of a run. Clocks change nothing of it
 
-unfoldable pub claim_at : System → ℕ → Bool
-claim_at sys p = (period_record sys None p).claim
+unfoldable pub is_claimed_at : System → ℕ → Bool
+is_claimed_at sys p = (period_record sys None p).claim
 
 unfoldable pub excluded_at : System → ℕ → ℕ
 excluded_at sys p = excluded (period_record sys None p)
@@ -69,7 +69,7 @@ abbrev pub summary_of : ℕ → ScenarioView 8 → StormView
 summary_of seed sc = record {
   seed = seed;
   periods = sc.periods;
-  claimed = how_many (claim_at (system_of sc)) sc.periods;
+  claimed = how_many (is_claimed_at (system_of sc)) sc.periods;
   lines = length sc.plan.lines;
   restarts = length sc.plan.restarts;
   excluded = total (excluded_at (system_of sc)) sc.periods;

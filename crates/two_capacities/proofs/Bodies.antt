@@ -21,8 +21,8 @@ use Rattle.list_scheduler.specs.Copies.{CopyTable, copy_at, table}
 use Rattle.membership.specs.Members.{Standing}
 use Rattle.agreed_state.specs.declared.config.Config.{Config}
 use Rattle.agreed_state.specs.Agreed.{AgreedView}
-use Rattle.agreed_state.specs.Body.{copy_word, copy_words, left_room, words, body, state_len, words_of, words_at, copy_in, copy_of, state_in, is_copy, is_running, is_counted, is_told, is_state, read_body}
-use Rattle.agreed_state.specs.Adoption.{given, read_of, adopted}
+use Rattle.agreed_state.specs.Body.{copy_word, copy_words, left_room, words, body, state_len, numbers_in, words_at, copy_in, copy_of, state_in, is_copy, is_running, is_counted, is_left_told, is_state, read_body}
+use Rattle.agreed_state.specs.Adoption.{given, state_read, adopted}
 use Rattle.agreed_state.specs.Ranges.{passes_of}
 use Rattle.two_capacities.specs.Wider.{wide, wide_copies, wide_config, wide_agreed}
 use Rattle.two_capacities.proofs.Lists.{get_wide, take_wide, tab_wide}
@@ -128,11 +128,11 @@ module _ (c k : ℕ) (g : Config c) where
     still_state a =
         ap (λ (left : ℕ → ℕ). start && list_all (λ q. nat_lt (left q) 65536) ids && list_all (is_counted g.policy (wide g.nodes k a.standing.counts) (wide g.nodes k a.standing.streaks)) ids && tasks (copy_at (wide_copies k a.copies)) && runs (copy_at (wide_copies k a.copies)))
         (fun_ext (get_wide g.nodes k a.standing.left))
-        ∙ ap (λ (count : ℕ → ℕ). start && list_all (is_told a.standing.left) ids && list_all (λ q. nat_le (count q) g.policy.cap && nat_lt (get_or (wide g.nodes k a.standing.streaks) q 0) g.policy.streak) ids && tasks (copy_at (wide_copies k a.copies)) && runs (copy_at (wide_copies k a.copies)))
+        ∙ ap (λ (count : ℕ → ℕ). start && list_all (is_left_told a.standing.left) ids && list_all (λ q. nat_le (count q) g.policy.cap && nat_lt (get_or (wide g.nodes k a.standing.streaks) q 0) g.policy.streak) ids && tasks (copy_at (wide_copies k a.copies)) && runs (copy_at (wide_copies k a.copies)))
         (fun_ext (get_wide g.nodes k a.standing.counts))
-        ∙ ap (λ (streak : ℕ → ℕ). start && list_all (is_told a.standing.left) ids && list_all (λ q. nat_le (get_or a.standing.counts q 0) g.policy.cap && nat_lt (streak q) g.policy.streak) ids && tasks (copy_at (wide_copies k a.copies)) && runs (copy_at (wide_copies k a.copies)))
+        ∙ ap (λ (streak : ℕ → ℕ). start && list_all (is_left_told a.standing.left) ids && list_all (λ q. nat_le (get_or a.standing.counts q 0) g.policy.cap && nat_lt (streak q) g.policy.streak) ids && tasks (copy_at (wide_copies k a.copies)) && runs (copy_at (wide_copies k a.copies)))
         (fun_ext (get_wide g.nodes k a.standing.streaks))
-        ∙ ap (λ (f : ℕ → ℕ → CopyState). start && list_all (is_told a.standing.left) ids && list_all (is_counted g.policy a.standing.counts a.standing.streaks) ids && tasks f && runs f) (copies_wide k a.copies)
+        ∙ ap (λ (f : ℕ → ℕ → CopyState). start && list_all (is_left_told a.standing.left) ids && list_all (is_counted g.policy a.standing.counts a.standing.streaks) ids && tasks f && runs f) (copies_wide k a.copies)
       where
         start : Bool
         start = nat_lt 0 (length a.standing.members) && list_all (λ q. nat_lt q g.nodes) a.standing.members
@@ -149,9 +149,9 @@ module _ (c k : ℕ) (g : Config c) where
     pub read_wide : (bytes : List ℕ) → read_body (c + k) (wide_config k g) bytes ≡ option_map (wide_agreed g.nodes k) (read_body c g bytes)
     unfolding read_body
     read_wide bytes =
-        ap (λ a. if length bytes == state_len g && is_state (wide_config k g) a then Some a else None) (state_wide (words_of bytes))
-        ∙ ap (λ b. if length bytes == state_len g && b then Some (wide_agreed g.nodes k (state_in c g (words_of bytes))) else None) (still_state (state_in c g (words_of bytes)))
-        ∙ either (length bytes == state_len g && is_state g (state_in c g (words_of bytes))) (state_in c g (words_of bytes))
+        ap (λ a. if length bytes == state_len g && is_state (wide_config k g) a then Some a else None) (state_wide (numbers_in bytes))
+        ∙ ap (λ b. if length bytes == state_len g && b then Some (wide_agreed g.nodes k (state_in c g (numbers_in bytes))) else None) (still_state (state_in c g (numbers_in bytes)))
+        ∙ either (length bytes == state_len g && is_state g (state_in c g (numbers_in bytes))) (state_in c g (numbers_in bytes))
       where
         either : (b : Bool) (a : AgreedView) → (if b then Some (wide_agreed g.nodes k a) else None) ≡ option_map (wide_agreed g.nodes k) (if b then Some a else None)
         either true a = refl
@@ -173,7 +173,7 @@ module _ (c k : ℕ) (g : Config c) where
 
     pub read_below : (bytes : List ℕ) → IsBelowIf c (read_body c g bytes)
     unfolding read_body
-    read_below bytes = either (state_in c g (words_of bytes)) (length bytes == state_len g) (state_narrow (words_of bytes)) where
+    read_below bytes = either (state_in c g (numbers_in bytes)) (length bytes == state_len g) (state_narrow (numbers_in bytes)) where
       either : (a : AgreedView) (b : Bool) → IsNarrow c a.copies → IsBelowIf c (if b && is_state g a then Some a else None)
       either a b narrow = elim (cases_Bool (b && is_state g a)) [
         | inl e ↦ subst (IsBelowIf c) (sym (cond-true (b && is_state g a) (Some a) None e)) (record { members = state_below a (and_parts b (is_state g a) e).1; copies = narrow })
@@ -182,11 +182,11 @@ module _ (c k : ℕ) (g : Config c) where
 
     -- ---- adoption
 
-    of_read : (w : Wrapped (List ℕ)) → read_of (c + k) (wide_config k g) w ≡ option_map (wide_agreed g.nodes k) (read_of c g w)
+    of_read : (w : Wrapped (List ℕ)) → state_read (c + k) (wide_config k g) w ≡ option_map (wide_agreed g.nodes k) (state_read c g w)
     of_read (Plain bytes) = read_wide bytes
     of_read (Fault j) = refl
 
-    of_read_below : (w : Wrapped (List ℕ)) → IsBelowIf c (read_of c g w)
+    of_read_below : (w : Wrapped (List ℕ)) → IsBelowIf c (state_read c g w)
     of_read_below (Plain bytes) = read_below bytes
     of_read_below (Fault j) = tt
 
@@ -197,7 +197,7 @@ module _ (c k : ℕ) (g : Config c) where
     pub adopted_wide : (bodies : List (Option (List ℕ))) → adopted (c + k) (wide_config k g) (bodies ++ replicate k None) ≡ option_map (wide_agreed g.nodes k) (adopted c g bodies)
     unfolding adopted
     adopted_wide bodies =
-        ap (read_of (c + k) (wide_config k g)) (ap (majority same_nodes) (map-append given bodies (replicate k None) ∙ ap (λ xs. map given bodies ++ xs) (none_given k)) ∙ more_errors (map given bodies) k)
+        ap (state_read (c + k) (wide_config k g)) (ap (majority same_nodes) (map-append given bodies (replicate k None) ∙ ap (λ xs. map given bodies ++ xs) (none_given k)) ∙ more_errors (map given bodies) k)
         ∙ of_read (majority same_nodes (map given bodies))
       where
         none_given : (j : ℕ) → map given (replicate j None) ≡ replicate j (Fault 0)

@@ -4,7 +4,7 @@ use Rattle.std.proofs.Math.Path.{fun_ext}
 use Rattle.std.specs.Prelude.{if◌then◌else◌, nat_lt, ℤ, pos, ◌+ℤ◌, ◌-ℤ◌, ◌%◌}
 use Rattle.std.proofs.lemmas.List.{length-map}
 use Rattle.node_grid.specs.NodeSet.{has_id}
-use Rattle.clock_skew.specs.Clock.{ClockView, number_at, row_at, drift_at, lie_at}
+use Rattle.clock_skew.specs.Clock.{ClockView, number_at, row_in_turn, drift_at, lie_at}
 use Rattle.clock_skew.specs.Correction.{is_own, voted, correction_of}
 use Rattle.clock_skew.specs.Reading.{reading_at}
 use Rattle.fault_classes.specs.Plan.{Plan}
@@ -30,7 +30,7 @@ module _ (k : ℕ) where
   at_wide (row ∷ rows) zero i = number_wide row i
   at_wide (row ∷ rows) (suc j) i = at_wide rows j i
 
-  pub row_wide : (rows : List (List ℤ)) (t i : ℕ) → number_at (row_at (map (longer k) rows) t) i ≡ number_at (row_at rows t) i
+  pub row_wide : (rows : List (List ℤ)) (t i : ℕ) → number_at (row_in_turn (map (longer k) rows) t) i ≡ number_at (row_in_turn rows t) i
   row_wide rows t i = ap (λ n. number_at (get_or (map (longer k) rows) (t % n) []) i) (length-map rows (longer k)) ∙ at_wide rows (t % length rows) i
 
   reading_wide : (c : ClockView) (offset : ℕ → ℤ) (p i j : ℕ) → reading_at (wide_clock k c) offset p i j ≡ reading_at c offset p i j

@@ -8,7 +8,7 @@ use Rattle.fault_classes.specs.Plan.{Plan, restarts_at}
 use Rattle.agreed_state.specs.declared.config.Config.{Config}
 use Rattle.agreed_state.specs.declared.config.Inputs.{Inputs}
 use Rattle.agreed_state.specs.Agreed.{AgreedView}
-use Rattle.protocol.specs.Arrival.{Arrival, state_in, values_in, claim_form, row_form}
+use Rattle.protocol.specs.Arrival.{Arrival, body_said, values_in, claim_form, row_form}
 use Rattle.protocol.specs.Heard.{Rounds}
 use Rattle.protocol.specs.Talk.{Talk, arrives, frame_by, item_said, relay_said, rounds_upto}
 use Rattle.protocol.specs.View.{Kept, Received, own_in, View, opened}
@@ -84,8 +84,8 @@ module _ {c : ℕ} (k : ℕ) (g : Config c) (few : g.nodes ≤ c) (few_graph : g
 
     sync_wide : (i j : ℕ) → (after_sync large p wider_kept i).sync j ≡ (after_sync small p y i).sync j
     sync_wide i j =
-        ap (arrives state_in (change_at small p 0 j i) (expectation large p 0 j [] 0) (expectation large p 0 j [] 0)) (said_wide j)
-        ∙ arrives_wide k (expectation small p 0 j [] 0) few same_item state_in state_in (state_part g.nodes k) (change_at small p 0 j i) (expectation small p 0 j [] 0) (state_said small p y j) refl
+        ap (arrives body_said (change_at small p 0 j i) (expectation large p 0 j [] 0) (expectation large p 0 j [] 0)) (said_wide j)
+        ∙ arrives_wide k (expectation small p 0 j [] 0) few same_item body_said body_said (state_part g.nodes k) (change_at small p 0 j i) (expectation small p 0 j [] 0) (state_said small p y j) refl
         ∙ arrival_still ((after_sync small p y i).sync j)
 
     after_sync_wide : (i : ℕ) → after_sync large p wider_kept i ≡ wide_received g.nodes k (after_sync small p y i)

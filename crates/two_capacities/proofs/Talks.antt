@@ -10,7 +10,7 @@ use Rattle.frames.specs.Content.{Content, State, Done0, DoneRelay, Data, Report0
 use Rattle.fault_classes.specs.Plan.{Plan}
 use Rattle.agreed_state.specs.declared.config.Config.{Config}
 use Rattle.agreed_state.specs.declared.config.Inputs.{Inputs}
-use Rattle.protocol.specs.Arrival.{Arrival, Form, claim_form, row_form, state_in, claim_in, claims_in, values_in, row_in, rows_in}
+use Rattle.protocol.specs.Arrival.{Arrival, ItemForm, claim_form, row_form, body_said, claim_in, claims_in, values_in, row_in, rows_in}
 use Rattle.protocol.specs.Arrival.Arrival.{Bad, Good}
 use Rattle.protocol.specs.Heard.{Rounds, paths_of, with_entries, heard}
 use Rattle.protocol.specs.Talk.{arrives, Talk, item_said, told_first, relay_said, told_relay, rounds_upto}
@@ -55,7 +55,7 @@ module _ {V : Type 0} where
 -- ---- the parts of contents
 
 module _ (n k : ℕ) where
-  pub state_part : (c : Content) → state_in (wide_content n k c) ≡ option_map same_item (state_in c)
+  pub state_part : (c : Content) → body_said (wide_content n k c) ≡ option_map same_item (body_said c)
   state_part (State bytes) = refl
   state_part (Done0 task) = refl
   state_part (DoneRelay entries) = refl
@@ -110,7 +110,7 @@ module _ (n k : ℕ) where
   rows_part Cold = refl
 
 -- how a changed item is told in frames with further places
-pub record Tells {V W : Type 0} (n k : ℕ) (f : V → W) (form : Form V) (form' : Form W) : Type 0 where
+pub record Tells {V W : Type 0} (n k : ℕ) (f : V → W) (form : ItemForm V) (form' : ItemForm W) : Type 0 where
   pub item : (v : V) → form'.item (f v) ≡ wide_content n k (form.item v)
   pub item_in : (c : Content) → form'.item_in (wide_content n k c) ≡ option_map f (form.item_in c)
   pub relay : (ws : List (Wrapped V)) → form'.relay (map (each_wrapped f) ws) ≡ wide_content n k (form.relay ws)
@@ -125,7 +125,7 @@ rows_told n k = record { item = λ v. refl; item_in = row_part n k; relay = λ w
 -- ---- the rounds
 
 -- the talk of the slots from `base` on
-abbrev pub talk_of : {V : Type 0} → System → ℕ → Form V → ℕ → (ℕ → List ℕ) → (ℕ → Bool) → (ℕ → V) → Talk V
+abbrev pub talk_of : {V : Type 0} → System → ℕ → ItemForm V → ℕ → (ℕ → List ℕ) → (ℕ → Bool) → (ℕ → V) → Talk V
 talk_of sys p form base members full item = record {
   form = form;
   change = λ r. change_at sys p (base + r);
@@ -135,7 +135,7 @@ talk_of sys p form base members full item = record {
   item = item;
 }
 
-module _ {V W : Type 0} {c : ℕ} (k : ℕ) (g : Config c) (few : g.nodes ≤ c) (plan : Plan) (inputs : ℕ → ℕ → Inputs) (p : ℕ) (f : V → W) (form : Form V) (form' : Form W) (told : Tells g.nodes k f form form')
+module _ {V W : Type 0} {c : ℕ} (k : ℕ) (g : Config c) (few : g.nodes ≤ c) (plan : Plan) (inputs : ℕ → ℕ → Inputs) (p : ℕ) (f : V → W) (form : ItemForm V) (form' : ItemForm W) (told : Tells g.nodes k f form form')
     (base : ℕ) (members : ℕ → List ℕ) (full : ℕ → Bool) (item : ℕ → V) where
   abbrev before : Talk V
   before = talk_of (system_over g plan inputs) p form base members full item

@@ -32,7 +32,7 @@ use Rattle.protocol.specs.Arrival.{Arrival, is_bad}
 use Rattle.protocol.specs.Heard.{rounds_bad}
 use Rattle.protocol.specs.Settled.{ear_of, plain, settled_items}
 use Rattle.omh.specs.Omh.{settled_from}
-use Rattle.protocol.specs.View.{Setting, channel_room, Kept, nothing, first_kept, Received, content, bodies_for, adopted_by, synced_by, claim_at, own_claim, as_claim, claims_settled, channel, no_channel, is_due, due_channels, own_from, own_value, own_values, value_from, voters, tolerated, votes_on, is_far, value_in, value_at, deviates, other_body, by_kind, is_further, noted, row_by, empty_row, carried_by, View, through, cold_view, joined, view_from, opened}
+use Rattle.protocol.specs.View.{Setting, channel_room, Kept, nothing, first_kept, Received, content, bodies_for, adopted_by, synced_by, claim_at, own_claim, as_claim, claims_settled, channel, no_channel, is_due, due_channels, own_from, own_value, own_values, value_from, voters, lies_tolerated, votes_on, is_far, value_in, value_at, deviates, other_body, by_kind, is_further, noted, row_by, empty_row, carried_by, View, through, cold_view, joined, view_from, opened}
 use Rattle.protocol.specs.View.Mode.{Full, Joining}
 use Rattle.protocol.specs.FurtherKinds.{convicts_member}
 use Rattle.two_capacities.specs.Wider.{wide, wide_copies, wide_rows, wide_standing, wide_channel, wide_config, wide_agreed, setting_of, wide_claims, wide_kept, wide_view}
@@ -203,12 +203,12 @@ module _ (c k : ℕ) (g : Config c) (few : g.nodes ≤ c) (few_graph : g.graph.n
     votes_wide i full due own x =
         ap (λ (f : ℕ → Option ℤ). map (λ j. if has_id due j then f j else None) (ids_below channel_room))
         (fun_ext (λ j.
-        ap (λ (ch : Channel (c + k)). vote_of (filter_map (value_from i full due own x j) (voters (setting_of (wide_config k g)) (wide_agreed g.nodes k a) (wide_claims k done) ch)) (tolerated (setting_of (wide_config k g)) ch)) (channel_wide j)
+        ap (λ (ch : Channel (c + k)). vote_of (filter_map (value_from i full due own x j) (voters (setting_of (wide_config k g)) (wide_agreed g.nodes k a) (wide_claims k done) ch)) (lies_tolerated (setting_of (wide_config k g)) ch)) (channel_wide j)
         ∙ by j (channel (setting_of g) j)))
       where
         by : (j : ℕ) (ch : Channel c)
-            → vote_of (filter_map (value_from i full due own x j) (voters (setting_of (wide_config k g)) (wide_agreed g.nodes k a) (wide_claims k done) (wide_channel k ch))) (tolerated (setting_of (wide_config k g)) (wide_channel k ch))
-            ≡ vote_of (filter_map (value_from i full due own x j) (voters (setting_of g) a done ch)) (tolerated (setting_of g) ch)
+            → vote_of (filter_map (value_from i full due own x j) (voters (setting_of (wide_config k g)) (wide_agreed g.nodes k a) (wide_claims k done) (wide_channel k ch))) (lies_tolerated (setting_of (wide_config k g)) (wide_channel k ch))
+            ≡ vote_of (filter_map (value_from i full due own x j) (voters (setting_of g) a done ch)) (lies_tolerated (setting_of g) ch)
         by j (State delta start step) = refl
         by j (Sensor delta task) = refl
         by j (Copy delta t lies) = ap (λ ms. vote_of (filter_map (value_from i full due own x j) ms) lies) (passed_wide t)

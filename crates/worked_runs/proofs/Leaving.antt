@@ -2,7 +2,7 @@
 use Rattle.std.proofs.Common.{zero, suc, ◌≡◌, [], ◌∷◌, map, Some, None, refl, arith}
 use Rattle.node_grid.specs.declared.class.Class.TheVariants.{J, B, S}
 use Rattle.protocol.specs.Run.{run, classes}
-use Rattle.protocol.specs.Safe.{Budget, Claim}
+use Rattle.protocol.specs.Safe.{KeepsBound, Claim}
 use Rattle.worked_runs.specs.Systems.{silent_on_end, seen_alike}
 use Rattle.worked_runs.specs.Shown.{class_in, members_after, counts_after, rows_in}
 use Rattle.worked_runs.proofs.Opened.{opened}
@@ -19,15 +19,15 @@ pub silent_on_end-members : map (λ p. members_after silent_on_end p 0) (0 ∷ 1
 unfolding opened
 silent_on_end-members = refl
 
-silent_on_end-within_0 : Budget (run silent_on_end) (classes silent_on_end) 0
+silent_on_end-within_0 : KeepsBound (run silent_on_end) (classes silent_on_end) 0
 unfolding opened
 silent_on_end-within_0 = record { enough = omega arith; few = omega arith }
 
-silent_on_end-within_1 : Budget (run silent_on_end) (classes silent_on_end) 1
+silent_on_end-within_1 : KeepsBound (run silent_on_end) (classes silent_on_end) 1
 unfolding opened
 silent_on_end-within_1 = record { enough = omega arith; few = omega arith }
 
-silent_on_end-within_2 : Budget (run silent_on_end) (classes silent_on_end) 2
+silent_on_end-within_2 : KeepsBound (run silent_on_end) (classes silent_on_end) 2
 unfolding opened
 silent_on_end-within_2 = record { enough = omega arith; few = omega arith }
 

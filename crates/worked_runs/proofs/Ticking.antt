@@ -8,12 +8,12 @@ use Rattle.node_grid.specs.declared.class.Class.TheVariants.{S, A}
 use Rattle.node_grid.specs.Class.{is_sound}
 use Rattle.node_grid.specs.NodeSet.{has_id}
 use Rattle.mme_vote.specs.Vote.{distance}
-use Rattle.clock_skew.specs.Clock.{LieView, number_at, row_at, IsUpTo, AreUpTo, AreNear, IsLie}
+use Rattle.clock_skew.specs.Clock.{LieView, number_at, row_in_turn, IsUpTo, AreUpTo, AreNear, IsLie}
 use Rattle.penalty.specs.Policy.{IsPolicy}
 use Rattle.frames.specs.Content.{IsValue}
 use Rattle.protocol.specs.Run.{run, classes}
 use Rattle.protocol.specs.Accepted.{IsAccepted}
-use Rattle.protocol.specs.Safe.{Budget, members_at}
+use Rattle.protocol.specs.Safe.{KeepsBound, members_at}
 use Rattle.protocol.specs.Clocks.{IsFair, AreClocks, ClocksNear}
 use Rattle.safety.specs.ClockLaws.{RunClockLaw}
 use Rattle.worked_runs.specs.Systems.{policy_2, no_state_of_3, lie_of_3, two_faced_clock}
@@ -69,7 +69,7 @@ accepted = record {
 mod_one : (p : ℕ) → p % 1 ≡ 0
 mod_one p = omega arith
 
-one_row : (row : List ℤ) (p : ℕ) → row_at (row ∷ []) p ≡ row
+one_row : (row : List ℤ) (p : ℕ) → row_in_turn (row ∷ []) p ≡ row
 one_row row p = ap (λ (k : ℕ). slice_index_or (row ∷ []) k []) (mod_one p)
 
 zero_up_to : (limit : ℤ) → pos 0 ≤ℤ limit → IsUpTo limit (pos 0)
@@ -137,11 +137,11 @@ are_clocks = record {
   fair = All-cons (IsFair (classes no_state_of_3) 4) ahead (behind ∷ []) (fair 1 (pos 1000)) (All-cons (IsFair (classes no_state_of_3) 4) behind [] (fair 2 (neg_ℤ (pos 1000))) (All-nil (IsFair (classes no_state_of_3) 4)));
 }
 
-within : Budget (run no_state_of_3) (classes no_state_of_3) 0
+within : KeepsBound (run no_state_of_3) (classes no_state_of_3) 0
 unfolding opened
 within = record { enough = omega arith; few = omega arith }
 
 pub near : RunClockLaw → (i j : ℕ) → is_sound (classes no_state_of_3 0 i) ≡ true → is_sound (classes no_state_of_3 0 j) ≡ true
     → ClocksNear (run no_state_of_3) (classes no_state_of_3) two_faced_clock 0 (members_at (run no_state_of_3) (classes no_state_of_3) 0) i j
 near law i j si sj =
-    law no_state_of_3 accepted refl two_faced_clock are_clocks 0 (λ q h. let e : 0 ≡ q = omega arith in subst (λ (x : ℕ). Budget (run no_state_of_3) (classes no_state_of_3) x) e within) i j si sj
+    law no_state_of_3 accepted refl two_faced_clock are_clocks 0 (λ q h. let e : 0 ≡ q = omega arith in subst (λ (x : ℕ). KeepsBound (run no_state_of_3) (classes no_state_of_3) x) e within) i j si sj

@@ -5,7 +5,7 @@ ghost use Rattle.node_grid.specs.Capacity.{IsCapacity};
 ghost use Rattle.error_detect.specs.Watching.{told_at};
 ghost use Rattle.agreed_state.specs.Agreed.{IsAgreed};
 ghost use Rattle.agreed_state.specs.Config.{IsConfig};
-ghost use Rattle.protocol.specs.Arrival.{arrived, state_in};
+ghost use Rattle.protocol.specs.Arrival.{arrived, body_said};
 ghost use Rattle.protocol.specs.Configured.{setting_of};
 ghost use Rattle.protocol.specs.View.{adopted_by, content};
 ghost use Rattle.noting.specs.Findings.{has_of};
@@ -35,9 +35,9 @@ fn state_of_period<const N: usize>(
     requires watching { phase.now.full ≡ false →
         IsHeardBy watch.now config.now.nodes phase.now.me }
     requires sized { (j : _) →
-        IfSome (content (arrived state_in None (told_at watch.now j))) (λ b. length b ≤ 1152) }
+        IfSome (content (arrived body_said None (told_at watch.now j))) (λ b. length b ≤ 1152) }
     ensures state { result ≡ (if phase.now.full then kept.now
-        else adopted_by (setting_of config.now) phase.now.me (has_of state_in watch.now)) }
+        else adopted_by (setting_of config.now) phase.now.me (has_of body_said watch.now)) }
     ensures agreed { IfSome result (λ a. IsAgreed N config.now a) }
 {
     if phase.full {

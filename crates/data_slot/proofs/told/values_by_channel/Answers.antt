@@ -4,7 +4,7 @@ use mir.Val.{SFits}
 use Rattle.std.proofs.lemmas.Int.{to_z-of_z}
 use Rattle.std.proofs.lemmas.List.{take_all}
 use Rattle.node_grid.specs.NodeSet.{has_id}
-use Rattle.frames.specs.Reading.{values_in}
+use Rattle.frames.specs.Reading.{content_values}
 use Rattle.protocol.specs.View.{value_of}
 use Rattle.data_slot.proofs.ByChannel.{has_more, value_of_at}
 use Rattle.data_slot.proofs.told.values_by_channel.Goals as goal
@@ -15,7 +15,7 @@ loop-k-init c = record { wide = refl; each = λ x on. cc }
 pub loop-k-preserved : goal.loop-k-preserved
 loop-k-preserved c =
     let due : List ℕ = c.args.due.now in
-    let xs : List ℤ = values_in c.args.values.now.bytes.now in
+    let xs : List ℤ = content_values c.args.values.now.bytes.now in
     let k : ℕ = c.loop-k.k in
     let f : SFits w64 c.value_or_zero.result = search rules in
     has_more due (value_of due xs) c.loop-k.told k _ c.loop-k-test.true c.requires.low

@@ -1,7 +1,7 @@
 use Rattle.std.proofs.Common.{◌≡◌, ◌<◌, ◌+◌, ◌-◌, ◌*◌, ◌/◌, ℕ, List, get_or, length, take, drop, sym, ap, ◌∙◌, arith, map, set, length-drop, replicate, ◌++◌, ◌≤◌, refl, lit<, inl, inr}
 use Rattle.std.proofs.lemmas.List.{length-map, length-take-le}
 use Rattle.std.specs.Int.{w16, from_be_bytes}
-use Rattle.frames.specs.Reading.{cut, piece}
+use Rattle.frames.specs.Reading.{pieces_of_width, piece}
 use Rattle.frames.specs.PieceLaws.{length-cut, read_at}
 use Rattle.frames.specs.EntryLaws.{row_in_more}
 use Rattle.frames.proofs.cells.read_row.Goals as goal
@@ -20,8 +20,8 @@ two_long j n bytes h e =
 
 pub loop-j-preserved : goal.loop-j-preserved
 loop-j-preserved g c =
-    let masks : List ℕ = map (from_be_bytes w16) (cut 2 c.args.bytes.now) in
-    let n : length masks ≡ length c.args.bytes.now / 2 = length-map (cut 2 c.args.bytes.now) (from_be_bytes w16) ∙ length-cut 2 c.args.bytes.now in
+    let masks : List ℕ = map (from_be_bytes w16) (pieces_of_width 2 c.args.bytes.now) in
+    let n : length masks ≡ length c.args.bytes.now / 2 = length-map (pieces_of_width 2 c.args.bytes.now) (from_be_bytes w16) ∙ length-cut 2 c.args.bytes.now in
     let l : c.loop-j.j < length c.args.bytes.now / 2 = omega (arith, c.requires.whole) in
     let two : 2 * c.loop-j.j + 2 - 2 * c.loop-j.j ≡ 2 = omega arith in
     let mask : c.copy_from_slice.new.self ≡ piece 2 c.args.bytes.now c.loop-j.j = c.copy_from_slice.ensures.after ∙ ap (λ (n : ℕ). take n (drop (2 * c.loop-j.j) c.args.bytes.now)) two in
@@ -58,7 +58,7 @@ overflow_mul-j-in-loop-j g c = omega (arith, c.loop-j-test.true, c.ranges.nodes.
 
 pub returns : goal.returns
 returns g c =
-    let masks : List ℕ = map (from_be_bytes w16) (cut 2 c.args.bytes.now) in
+    let masks : List ℕ = map (from_be_bytes w16) (pieces_of_width 2 c.args.bytes.now) in
     let all : c.loop-j.j ≡ c.args.nodes = omega (arith, c.loop-j-test.false, c.loop-j.auto.j-end) in
     c.loop-j.invariant ∙ ap (λ n. take n masks ++ replicate (g.row.N - n) 0) all
 

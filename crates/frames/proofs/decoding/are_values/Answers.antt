@@ -4,7 +4,7 @@ use Rattle.std.specs.Prelude.{ℤ}
 use Rattle.std.proofs.lemmas.Int.{to_z-of_z}
 use borrow.Author.Count.{below_more}
 use Rattle.frames.specs.Checks.{is_value}
-use Rattle.frames.specs.Reading.{piece, value_in, fits_value}
+use Rattle.frames.specs.Reading.{piece, content_value, fits_value}
 use Rattle.frames.specs.PieceLaws.{each_passes, one_fails}
 use Rattle.frames.proofs.decoding.are_values.Goals as goal
 
@@ -12,7 +12,7 @@ pub returns : goal.returns
 returns c = sym (each_passes (is_value) 8 c.args.body.now (λ k l. c.loop-k.invariant k (omega arith)))
 
 -- what is found of a value is found of its bytes
-found : (bytes : List ℕ) (k : ℕ) (value : ℤ) (b : Bool) → value ≡ value_in (piece 8 bytes k) → SFits w64 value → b ≡ fits_value (to_z w64 (of_z w64 value)) → is_value (piece 8 bytes k) ≡ b
+found : (bytes : List ℕ) (k : ℕ) (value : ℤ) (b : Bool) → value ≡ content_value (piece 8 bytes k) → SFits w64 value → b ≡ fits_value (to_z w64 (of_z w64 value)) → is_value (piece 8 bytes k) ≡ b
 found bytes k value b e f h = ap fits_value (sym e) ∙ ap fits_value (sym (to_z-of_z w64 value f)) ∙ sym h
 
 pub returns-then-not-is_value : goal.returns-then-not-is_value

@@ -1,7 +1,7 @@
 use Rattle.std.proofs.Common.{◌≡◌, ℕ, ◌+◌, ◌*◌, true, length, get_or, sym, ◌∙◌, arith, subst, refl, lit<, lit≤, inl, inr}
 use Rattle.std.proofs.lemmas.Bool.{and_parts, eqb-true, ne_eqb}
 use Rattle.frames.specs.Content.{Expectation, State, Done0, DoneRelay, Data, Report0, ReportRelay, round_in}
-use Rattle.frames.specs.Reading.{claims_in, values_in, row_in, rows_in}
+use Rattle.frames.specs.Reading.{content_claims, content_values, content_row, content_rows}
 use Rattle.frames.specs.Checks.{are_written, has_state, has_claim, has_claims, has_values, has_row, has_rows, IsBody}
 use Rattle.frames.specs.Seen.{expected}
 use Rattle.frames.specs.PieceLaws.{AreBytes}
@@ -32,8 +32,8 @@ pub returns-then-has_claims-clause-some : goal.returns-then-has_claims-clause-so
 returns-then-has_claims-clause-some g c =
     let e : Expectation = expected c.args.expect.now in
     let bytes : AreBytes c.args.bytes.now = λ i. (c.type_inv.bytes i).fits in
-    subst (λ x. IsBody e c.args.kind (DoneRelay (claims_in x)) c.args.bytes.now) (sym c.over.ensures.bytes)
-    (body_told e c.args.kind c.number-2.result c.in_slot-placed.result _ (DoneRelay (claims_in c.args.bytes.now)) c.args.bytes.now
+    subst (λ x. IsBody e c.args.kind (DoneRelay (content_claims x)) c.args.bytes.now) (sym c.over.ensures.bytes)
+    (body_told e c.args.kind c.number-2.result c.in_slot-placed.result _ (DoneRelay (content_claims c.args.bytes.now)) c.args.bytes.now
     c.if-kind-number-2.false c.number-2.ensures c.in_slot-placed.ensures c.in-DoneRelay.is refl
     ((claims_decided e c.args.bytes.now bytes).0 (sym c.has_claims.ensures ∙ c.if-has_claims.true)))
 
@@ -41,7 +41,7 @@ pub returns-else-has_claims-clause-none : goal.returns-else-has_claims-clause-no
 returns-else-has_claims-clause-none g c =
     let e : Expectation = expected c.args.expect.now in
     let bytes : AreBytes c.args.bytes.now = λ i. (c.type_inv.bytes i).fits in
-    nothing_told e c.args.kind c.number-2.result c.in_slot-placed.result _ c.args.bytes.now (DoneRelay (claims_in c.args.bytes.now)) (has_claims e c.args.bytes.now)
+    nothing_told e c.args.kind c.number-2.result c.in_slot-placed.result _ c.args.bytes.now (DoneRelay (content_claims c.args.bytes.now)) (has_claims e c.args.bytes.now)
     c.if-kind-number-2.false c.number-2.ensures c.in-DoneRelay.is refl
     (claims_decided e c.args.bytes.now bytes) (sym c.has_claims.ensures ∙ c.if-has_claims.false)
 
@@ -49,8 +49,8 @@ pub returns-then-has_values-clause-some : goal.returns-then-has_values-clause-so
 returns-then-has_values-clause-some g c =
     let e : Expectation = expected c.args.expect.now in
     let bytes : AreBytes c.args.bytes.now = λ i. (c.type_inv.bytes i).fits in
-    subst (λ x. IsBody e c.args.kind (Data (values_in x)) c.args.bytes.now) (sym c.over-then-has_values.ensures)
-    (body_told e c.args.kind c.number-2.result c.in_slot-placed.result _ (Data (values_in c.args.bytes.now)) c.args.bytes.now
+    subst (λ x. IsBody e c.args.kind (Data (content_values x)) c.args.bytes.now) (sym c.over-then-has_values.ensures)
+    (body_told e c.args.kind c.number-2.result c.in_slot-placed.result _ (Data (content_values c.args.bytes.now)) c.args.bytes.now
     c.if-kind-number-2.false c.number-2.ensures c.in_slot-placed.ensures c.in-Data.is refl
     ((values_decided e c.args.bytes.now bytes).0 (sym c.has_values.ensures ∙ c.if-has_values.true)))
 
@@ -58,7 +58,7 @@ pub returns-else-has_values-clause-none : goal.returns-else-has_values-clause-no
 returns-else-has_values-clause-none g c =
     let e : Expectation = expected c.args.expect.now in
     let bytes : AreBytes c.args.bytes.now = λ i. (c.type_inv.bytes i).fits in
-    nothing_told e c.args.kind c.number-2.result c.in_slot-placed.result _ c.args.bytes.now (Data (values_in c.args.bytes.now)) (has_values e c.args.bytes.now)
+    nothing_told e c.args.kind c.number-2.result c.in_slot-placed.result _ c.args.bytes.now (Data (content_values c.args.bytes.now)) (has_values e c.args.bytes.now)
     c.if-kind-number-2.false c.number-2.ensures c.in-Data.is refl
     (values_decided e c.args.bytes.now bytes) (sym c.has_values.ensures ∙ c.if-has_values.false)
 
@@ -67,7 +67,7 @@ returns-then-has_row-clause-some g c =
     let e : Expectation = expected c.args.expect.now in
     let bytes : AreBytes c.args.bytes.now = λ i. (c.type_inv.bytes i).fits in
     subst (λ x. IsBody e c.args.kind (Report0 x) c.args.bytes.now) (sym c.read_row.ensures)
-    (body_told e c.args.kind c.number-2.result c.in_slot-placed.result _ (Report0 (row_in e.capacity e.nodes c.args.bytes.now)) c.args.bytes.now
+    (body_told e c.args.kind c.number-2.result c.in_slot-placed.result _ (Report0 (content_row e.capacity e.nodes c.args.bytes.now)) c.args.bytes.now
     c.if-kind-number-2.false c.number-2.ensures c.in_slot-placed.ensures c.in-Report0.is refl
     ((row_decided e c.args.bytes.now c.requires.nodes bytes).0 (sym c.has_row.ensures ∙ c.if-has_row.true)))
 
@@ -75,7 +75,7 @@ pub returns-else-has_row-clause-none : goal.returns-else-has_row-clause-none
 returns-else-has_row-clause-none g c =
     let e : Expectation = expected c.args.expect.now in
     let bytes : AreBytes c.args.bytes.now = λ i. (c.type_inv.bytes i).fits in
-    nothing_told e c.args.kind c.number-2.result c.in_slot-placed.result _ c.args.bytes.now (Report0 (row_in e.capacity e.nodes c.args.bytes.now)) (has_row e c.args.bytes.now)
+    nothing_told e c.args.kind c.number-2.result c.in_slot-placed.result _ c.args.bytes.now (Report0 (content_row e.capacity e.nodes c.args.bytes.now)) (has_row e c.args.bytes.now)
     c.if-kind-number-2.false c.number-2.ensures c.in-Report0.is refl
     (row_decided e c.args.bytes.now c.requires.nodes bytes) (sym c.has_row.ensures ∙ c.if-has_row.false)
 
@@ -83,8 +83,8 @@ pub returns-then-has_rows-clause-some : goal.returns-then-has_rows-clause-some
 returns-then-has_rows-clause-some g c =
     let e : Expectation = expected c.args.expect.now in
     let bytes : AreBytes c.args.bytes.now = λ i. (c.type_inv.bytes i).fits in
-    subst (λ x. IsBody e c.args.kind (ReportRelay (rows_in e.capacity e.nodes x)) c.args.bytes.now) (sym c.over-then-has_rows.ensures.bytes)
-    (body_told e c.args.kind c.number-2.result c.in_slot-placed.result _ (ReportRelay (rows_in e.capacity e.nodes c.args.bytes.now)) c.args.bytes.now
+    subst (λ x. IsBody e c.args.kind (ReportRelay (content_rows e.capacity e.nodes x)) c.args.bytes.now) (sym c.over-then-has_rows.ensures.bytes)
+    (body_told e c.args.kind c.number-2.result c.in_slot-placed.result _ (ReportRelay (content_rows e.capacity e.nodes c.args.bytes.now)) c.args.bytes.now
     c.if-kind-number-2.false c.number-2.ensures c.in_slot-placed.ensures c.in-ReportRelay.is refl
     ((rows_decided e c.args.bytes.now c.requires.nodes bytes).0 (sym c.has_rows.ensures ∙ c.if-has_rows.true)))
 
@@ -92,7 +92,7 @@ pub returns-else-has_rows-clause-none : goal.returns-else-has_rows-clause-none
 returns-else-has_rows-clause-none g c =
     let e : Expectation = expected c.args.expect.now in
     let bytes : AreBytes c.args.bytes.now = λ i. (c.type_inv.bytes i).fits in
-    nothing_told e c.args.kind c.number-2.result c.in_slot-placed.result _ c.args.bytes.now (ReportRelay (rows_in e.capacity e.nodes c.args.bytes.now)) (has_rows e c.args.bytes.now)
+    nothing_told e c.args.kind c.number-2.result c.in_slot-placed.result _ c.args.bytes.now (ReportRelay (content_rows e.capacity e.nodes c.args.bytes.now)) (has_rows e c.args.bytes.now)
     c.if-kind-number-2.false c.number-2.ensures c.in-ReportRelay.is refl
     (rows_decided e c.args.bytes.now c.requires.nodes bytes) (sym c.has_rows.ensures ∙ c.if-has_rows.false)
 

@@ -6,7 +6,7 @@ use Rattle.frames.specs.declared.frame.Body.{Body}
 use Rattle.frames.specs.declared.frame.Body.TheVariants.{DoneRelay, Report0, ReportRelay}
 use Rattle.frames.specs.declared.cells.Cells.{Cells}
 use Rattle.frames.specs.Spelling.{claim_spelling, relayed_row_spelling, body_spelling}
-use Rattle.frames.specs.Reading.{claims_in, rows_in}
+use Rattle.frames.specs.Reading.{content_claims, content_rows}
 use Rattle.frames.specs.Writing.{pasted}
 use Rattle.frames.specs.Seen.{content, HasWidth}
 use Rattle.frames.specs.EntryLaws.{length-masks}
@@ -17,12 +17,12 @@ spelt : {N : ℕ} (nodes : ℕ) (b c : Body N) → b ≡ c → body_spelling nod
 spelt nodes b c e = sym (ap (λ x. body_spelling nodes (content nodes x)) e)
 
 claims_spelt : {N : ℕ} (nodes : ℕ) (b : Body N) (cells : Cells) (xs : List ℕ) → b ≡ DoneRelay cells → HasWidth nodes b
-    → (cells.width ≡ 2 → flat_map claim_spelling (claims_in cells.bytes.now) ≡ xs)
+    → (cells.width ≡ 2 → flat_map claim_spelling (content_claims cells.bytes.now) ≡ xs)
     → xs ≡ body_spelling nodes (content nodes b)
 claims_spelt nodes b cells xs e w f = sym (f (subst (λ x. HasWidth nodes x) e w)) ∙ spelt nodes b (DoneRelay cells) e
 
 rows_spelt : {N : ℕ} (nodes : ℕ) (b : Body N) (cells : Cells) (xs : List ℕ) → b ≡ ReportRelay cells → HasWidth nodes b
-    → (cells.width ≡ 1 + 2 * nodes → flat_map (relayed_row_spelling nodes) (rows_in N nodes cells.bytes.now) ≡ xs)
+    → (cells.width ≡ 1 + 2 * nodes → flat_map (relayed_row_spelling nodes) (content_rows N nodes cells.bytes.now) ≡ xs)
     → xs ≡ body_spelling nodes (content nodes b)
 rows_spelt nodes b cells xs e w f = sym (f (subst (λ x. HasWidth nodes x) e w)) ∙ spelt nodes b (ReportRelay cells) e
 

@@ -2,7 +2,7 @@ use Rattle.std.proofs.Common.{◌≤◌, ℕ, List, take, get_or, sym, ap, ◌�
 use Rattle.std.specs.Prelude.{Some}
 use Rattle.frames.specs.Content.{Expectation, Content}
 use Rattle.frames.specs.Spelling.{IsFrame}
-use Rattle.frames.specs.Reading.{said_in}
+use Rattle.frames.specs.Reading.{content_said}
 use Rattle.frames.specs.Checks.{IsSaid}
 use Rattle.frames.specs.Seen.{expected}
 use Rattle.frames.proofs.Bodies.{known}
@@ -18,7 +18,7 @@ known_body-requires g c =
     let k = known e bytes c.requires.known in
     let P : List ℕ → Type 0 = λ f. 1 ≤ get_or f 3 0 in
     let Q : List ℕ → Type 0 = λ f. get_or f 3 0 ≤ 7 in
-    let R : List ℕ → List ℕ → Type 0 = λ f b. IsSaid e (said_in e (get_or f 3 0) b) b in
+    let R : List ℕ → List ℕ → Type 0 = λ f b. IsSaid e (content_said e (get_or f 3 0) b) b in
     let said : R c.split_at.result.0.now c.split_at.result.1.now =
     subst (λ f. R f c.split_at.result.1.now) (sym c.split_at.ensures.front) (subst (R (take 14 bytes)) (sym c.split_at.ensures.back) k.said) in
     let first : P c.split_at.result.0.now = subst P (sym c.split_at.ensures.front) k.first in
@@ -30,12 +30,12 @@ returns-clause-frame g c =
     let e : Expectation = expected c.args.expect.now in
     let bytes : List ℕ = c.args.bytes.now in
     let P : Content → Type 0 = λ x. IsFrame e x bytes in
-    let same = c.known_body.ensures.says ∙ ap (λ f. said_in e (get_or f 3 0) c.split_at.result.1.now) c.split_at.ensures.front ∙ ap (said_in e (get_or (take 14 bytes) 3 0)) c.split_at.ensures.back in
+    let same = c.known_body.ensures.says ∙ ap (λ f. content_said e (get_or f 3 0) c.split_at.result.1.now) c.split_at.ensures.front ∙ ap (content_said e (get_or (take 14 bytes) 3 0)) c.split_at.ensures.back in
     subst P (sym same) (known e bytes c.requires.known).framed
 
 pub returns-clause-reading : goal.returns-clause-reading
 returns-clause-reading g c =
     let e : Expectation = expected c.args.expect.now in
     let bytes : List ℕ = c.args.bytes.now in
-    let same = c.known_body.ensures.says ∙ ap (λ f. said_in e (get_or f 3 0) c.split_at.result.1.now) c.split_at.ensures.front ∙ ap (said_in e (get_or (take 14 bytes) 3 0)) c.split_at.ensures.back in
+    let same = c.known_body.ensures.says ∙ ap (λ f. content_said e (get_or f 3 0) c.split_at.result.1.now) c.split_at.ensures.front ∙ ap (content_said e (get_or (take 14 bytes) 3 0)) c.split_at.ensures.back in
     ap Some same ∙ sym (known e bytes c.requires.known).read

@@ -1,6 +1,6 @@
 use Rattle.std.proofs.Common.{◌≡◌, ℕ, ◌<◌, List, length, get_or, sym, ap, ◌∙◌, arith, lit<, lit≤, inl, inr}
 use Rattle.frames.specs.Content.{Expectation, Done0, DoneRelay, Data, Report0, ReportRelay}
-use Rattle.frames.specs.Reading.{said_in, claims_in, values_in, rows_in}
+use Rattle.frames.specs.Reading.{content_said, content_claims, content_values, content_rows}
 use Rattle.frames.specs.Checks.{IsSaid}
 use Rattle.frames.specs.Seen.{expected, number_of}
 use Rattle.frames.specs.PieceLaws.{AreBytes}
@@ -10,8 +10,8 @@ use Rattle.frames.proofs.known.known_body.Goals as goal
 one_long : (e : Expectation) (bytes : List ℕ) → IsSaid e (Done0 (get_or bytes 0 0)) bytes → 0 < length bytes
 one_long e bytes said = let l : length bytes ≡ 1 = ap length said.spelt in omega (arith, l)
 
-said_by : (e : Expectation) (k n : ℕ) (bytes : List ℕ) → k ≡ n → said_in e n bytes ≡ said_in e k bytes
-said_by e k n bytes is = ap (λ i. said_in e i bytes) (sym is)
+said_by : (e : Expectation) (k n : ℕ) (bytes : List ℕ) → k ≡ n → content_said e n bytes ≡ content_said e k bytes
+said_by e k n bytes is = ap (λ i. content_said e i bytes) (sym is)
 
 pub over-requires-clause-whole : goal.over-requires-clause-whole
 over-requires-clause-whole g c =
@@ -92,7 +92,7 @@ returns-in-Done0-clause-widths g c = tt
 pub returns-in-DoneRelay-clause-says : goal.returns-in-DoneRelay-clause-says
 returns-in-DoneRelay-clause-says g c =
     let e : Expectation = expected c.args.expect.now in
-    ap (λ x. DoneRelay (claims_in x)) c.over.ensures.bytes ∙ said_by e c.args.kind 3 c.args.bytes.now (sym c.numbered.ensures ∙ ap number_of c.in-DoneRelay.is)
+    ap (λ x. DoneRelay (content_claims x)) c.over.ensures.bytes ∙ said_by e c.args.kind 3 c.args.bytes.now (sym c.numbered.ensures ∙ ap number_of c.in-DoneRelay.is)
 
 pub returns-in-DoneRelay-clause-widths : goal.returns-in-DoneRelay-clause-widths
 returns-in-DoneRelay-clause-widths g c = c.over.ensures.width
@@ -100,7 +100,7 @@ returns-in-DoneRelay-clause-widths g c = c.over.ensures.width
 pub returns-in-Data-clause-says : goal.returns-in-Data-clause-says
 returns-in-Data-clause-says g c =
     let e : Expectation = expected c.args.expect.now in
-    ap (λ x. Data (values_in x)) c.over-in-Data.ensures ∙ said_by e c.args.kind 4 c.args.bytes.now (sym c.numbered.ensures ∙ ap number_of c.in-Data.is)
+    ap (λ x. Data (content_values x)) c.over-in-Data.ensures ∙ said_by e c.args.kind 4 c.args.bytes.now (sym c.numbered.ensures ∙ ap number_of c.in-Data.is)
 
 pub returns-in-Data-clause-widths : goal.returns-in-Data-clause-widths
 returns-in-Data-clause-widths g c = tt
@@ -116,7 +116,7 @@ returns-in-Report0-clause-widths g c = tt
 pub returns-in-ReportRelay-clause-says : goal.returns-in-ReportRelay-clause-says
 returns-in-ReportRelay-clause-says g c =
     let e : Expectation = expected c.args.expect.now in
-    ap (λ x. ReportRelay (rows_in e.capacity e.nodes x)) c.over-in-ReportRelay.ensures.bytes ∙ said_by e c.args.kind 6 c.args.bytes.now (sym c.numbered.ensures ∙ ap number_of c.in-ReportRelay.is)
+    ap (λ x. ReportRelay (content_rows e.capacity e.nodes x)) c.over-in-ReportRelay.ensures.bytes ∙ said_by e c.args.kind 6 c.args.bytes.now (sym c.numbered.ensures ∙ ap number_of c.in-ReportRelay.is)
 
 pub returns-in-ReportRelay-clause-widths : goal.returns-in-ReportRelay-clause-widths
 returns-in-ReportRelay-clause-widths g c = c.over-in-ReportRelay.ensures.width ∙ c.row_width.ensures

@@ -4,7 +4,7 @@ use Rattle.std.specs.Option.{option_or}
 use Rattle.std.proofs.lemmas.Bool.{and_parts}
 use Rattle.clock_skew.specs.Clock.{ClockView, LieView, IsClock, clock_of, lie_of}
 use Rattle.scenario.specs.Line.{lie_in}
-use Rattle.scenario.specs.Given.{padded, clock_in}
+use Rattle.scenario.specs.Given.{padded, clock_given}
 use Rattle.scenario.specs.Rules.{unless, at_place, first_bad, are_up_to, is_drift, is_clock, fits_lie}
 use Rattle.scenario.specs.Parts.{ClockParts}
 use Rattle.scenario.specs.Verdict.{Tells}
@@ -32,7 +32,7 @@ rows_of rs = map (λ (row : Vec ℤ Global). row.items) rs
 seen_clock : (capacity nodes : ℕ) (part : ClockPart) (starts : List ℤ) (of_drifts of_errors : List (Vec ℤ Global)) (of_lies : List LiePart) (start : List ℤ) (drifts errors : List (List ℤ)) (lies : List LieView)
     → starts ≡ part.start.items → of_drifts ≡ part.drifts.items → of_errors ≡ part.errors.items → of_lies ≡ part.lies.items → start ≡ padded capacity starts
     → drifts ≡ map (padded capacity) (rows_of of_drifts) → errors ≡ map (padded capacity) (rows_of of_errors) → lies ≡ map (lie_in nodes) (map lie_view of_lies)
-    → clock_of nodes part.epsilon part.drift start drifts errors lies ≡ clock_in capacity nodes (clock_view part)
+    → clock_of nodes part.epsilon part.drift start drifts errors lies ≡ clock_given capacity nodes (clock_view part)
 seen_clock capacity nodes part starts of_drifts of_errors of_lies start drifts errors lies a b d e s r x l =
     same_clock capacity nodes (clock_view part) start drifts errors lies (s ∙ ap (padded capacity) a) (r ∙ ap (λ rs. map (padded capacity) (rows_of rs)) b)
     (x ∙ ap (λ rs. map (padded capacity) (rows_of rs)) d) (l ∙ ap (λ ls. map (lie_in nodes) (map lie_view ls)) e)

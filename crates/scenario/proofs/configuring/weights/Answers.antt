@@ -2,7 +2,7 @@ use Rattle.std.proofs.Common.{◌≡◌, ◌-◌, ◌++◌, length, replicate, a
 use Rattle.std.specs.Prelude.{FitsSigned, slice_index_or}
 use Rattle.std.proofs.lemmas.List.{take_all, length-map}
 use Rattle.std.proofs.lemmas.List as list
-use Rattle.scenario.specs.Numbers.{natural, is_within}
+use Rattle.scenario.specs.Numbers.{natural, is_between}
 use Rattle.scenario.proofs.Ranges.{naturals, passes}
 use Rattle.scenario.proofs.Filled.{filled_next}
 use Rattle.scenario.proofs.configuring.weights.Goals as goal
@@ -27,7 +27,7 @@ overflow_cast-weights c =
     let weight = slice_index_or c.args.given.now c.loop-kind.kind (pos 0) in
     let fits : FitsSigned w64 weight = search rules in
     let e = simp to_z-of_z at c.natural.ensures in
-    let small = naturals 0 1000 weight (passes (is_within (pos 0) (pos 1000)) c.args.given.now c.loop-kind.kind (pos 0) c.requires.small c.loop-kind-test.true) in
+    let small = naturals 0 1000 weight (passes (is_between (pos 0) (pos 1000)) c.args.given.now c.loop-kind.kind (pos 0) c.requires.small c.loop-kind-test.true) in
     omega (arith, e, small.high)
 
 pub loop-kind-preserved : goal.loop-kind-preserved

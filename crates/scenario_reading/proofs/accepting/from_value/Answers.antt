@@ -2,7 +2,7 @@ use Rattle.std.proofs.Common.{◌≡◌, None, Err, ap, subst, lit<, inl, inr}
 use Rattle.serde_json.specs.View.{view}
 use Rattle.json_parts.specs.Part.{Gives}
 use Rattle.json_parts.specs.declared.error.PartError.{PartError}
-use Rattle.scenario_reading.specs.Keys.{parts_of}
+use Rattle.scenario_reading.specs.Keys.{parts_read}
 use Rattle.scenario.specs.Seen.{parts_view}
 use Rattle.scenario_reading.specs.Verdict.{refusal_on}
 use Rattle.scenario.specs.declared.scenario.Scenario.{Scenario}
@@ -28,8 +28,8 @@ returns-in-Err-NoPart-clause-system g c = tt
 
 pub returns-in-Err-NoPart-clause-refused : goal.returns-in-Err-NoPart-clause-refused
 returns-in-Err-NoPart-clause-refused g c =
-    let none : parts_of (view c.args.value.now) ≡ None =
-    subst (λ (e : PartError). Gives parts_view (parts_of (view c.args.value.now)) (Err e)) c.in-Err-NoPart.field-0-is c.in-Err-NoPart.ensures in
+    let none : parts_read (view c.args.value.now) ≡ None =
+    subst (λ (e : PartError). Gives parts_view (parts_read (view c.args.value.now)) (Err e)) c.in-Err-NoPart.field-0-is c.in-Err-NoPart.ensures in
     ap (refusal_on g.row.N) none
 
 pub returns-in-Err-NoMemory-clause-accepted : goal.returns-in-Err-NoMemory-clause-accepted

@@ -1,7 +1,7 @@
 use Rattle.std.proofs.Common.{◌+◌, ℤ, List, length, ap, subst, w64, ◌∙◌, arith}
 use Rattle.std.proofs.lemmas.Int.{ints}
 use mir.Val.{to_z, of_z}
-use Rattle.clock_skew.specs.Clock.{ClockView, IsUpTo, number_at, row_at, error_at}
+use Rattle.clock_skew.specs.Clock.{ClockView, IsUpTo, number_at, row_in_turn, error_at}
 use Rattle.clock_skew.proofs.Fitting.{number_read, still_near, row_near}
 use Rattle.clock_skew.proofs.plan.ClockPlan.error.Goals as goal
 
@@ -27,14 +27,14 @@ pub returns-clause-error : goal.returns-clause-error
 returns-clause-error g c =
     let near = row_near c.self.inside.epsilon c.self.inside.nodes c.args.i (c.args.period + c.args.j) c.as_slice-rows.result.now c.self.inside.errors.items
     c.as_slice-rows.ensures.value (c.self.invariant.errors (c.args.period + c.args.j)) (omega (arith, c.requires.reader, ap (λ (v : ClockView). v.nodes) c.self.view_is)) in
-    number_read c.self.inside.epsilon (number_at (row_at c.as_slice-rows.result.now (c.args.period + c.args.j)) c.args.i) (omega (arith, ints, c.self.invariant.epsilon.1)) near
-    ∙ ap (λ (rows : List (List ℤ)). number_at (row_at rows (c.args.period + c.args.j)) c.args.i) c.as_slice-rows.ensures.value
+    number_read c.self.inside.epsilon (number_at (row_in_turn c.as_slice-rows.result.now (c.args.period + c.args.j)) c.args.i) (omega (arith, ints, c.self.invariant.epsilon.1)) near
+    ∙ ap (λ (rows : List (List ℤ)). number_at (row_in_turn rows (c.args.period + c.args.j)) c.args.i) c.as_slice-rows.ensures.value
     ∙ ap (λ (v : ClockView). error_at v c.args.i c.args.j c.args.period) c.self.view_is
 
 pub returns-clause-range : goal.returns-clause-range
 returns-clause-range g c =
     let near = row_near c.self.inside.epsilon c.self.inside.nodes c.args.i (c.args.period + c.args.j) c.as_slice-rows.result.now c.self.inside.errors.items
     c.as_slice-rows.ensures.value (c.self.invariant.errors (c.args.period + c.args.j)) (omega (arith, c.requires.reader, ap (λ (v : ClockView). v.nodes) c.self.view_is)) in
-    subst (λ (limit : ℤ). IsUpTo limit (to_z w64 (of_z w64 (number_at (row_at c.as_slice-rows.result.now (c.args.period + c.args.j)) c.args.i))))
+    subst (λ (limit : ℤ). IsUpTo limit (to_z w64 (of_z w64 (number_at (row_in_turn c.as_slice-rows.result.now (c.args.period + c.args.j)) c.args.i))))
     (ap (λ (v : ClockView). v.epsilon) c.self.view_is)
-    (still_near c.self.inside.epsilon (number_at (row_at c.as_slice-rows.result.now (c.args.period + c.args.j)) c.args.i) (omega (arith, ints, c.self.invariant.epsilon.1)) near)
+    (still_near c.self.inside.epsilon (number_at (row_in_turn c.as_slice-rows.result.now (c.args.period + c.args.j)) c.args.i) (omega (arith, ints, c.self.invariant.epsilon.1)) near)

@@ -1,7 +1,7 @@
 use Rattle.std.proofs.Common.{◌≡◌, ◌/◌, ◌<◌, ◌≤◌, ◌+◌, ◌*◌, ℕ, List, length, subst, arith}
 use Rattle.std.proofs.lemmas.Nat.{mul-le, div-add-mod'}
 use Rattle.omh_paths.specs.declared.wrapped.Wrapped.TheVariants.{Fault}
-use Rattle.frames.specs.Reading.{piece, claim_in, relayed_row_in}
+use Rattle.frames.specs.Reading.{piece, content_claim, relayed_row_in}
 use Rattle.frames.specs.PieceLaws.{read_alike}
 use Rattle.frames.proofs.cells.Cells.are_alike.Goals as goal
 
@@ -14,7 +14,7 @@ returns-clause-claims c e wide k above below =
     let P : ℕ → Type 0 = λ w. k < length bytes / w in
     let Q : ℕ → Type 0 = λ w. c.args.from < length bytes / w in
     let S : ℕ → Type 0 = λ w. piece w bytes k ≡ piece w bytes c.args.from in
-    read_alike 2 claim_in bytes k c.args.from (Fault 0) (subst P wide (omega (arith, c.requires.within))) (subst Q wide (omega (arith, c.requires.within, c.requires.some)))
+    read_alike 2 content_claim bytes k c.args.from (Fault 0) (subst P wide (omega (arith, c.requires.within))) (subst Q wide (omega (arith, c.requires.within, c.requires.some)))
     (subst S wide (c.are_alike.ensures e k above below))
 
 pub returns-clause-rows : goal.returns-clause-rows

@@ -4,14 +4,14 @@ use Rattle.std.proofs.lemmas.List.{length-take-le}
 use Rattle.std.proofs.Math.Nat.{mul_comm}
 use Rattle.omh_paths.specs.declared.wrapped.Wrapped.{Wrapped}
 use Rattle.omh_paths.specs.declared.wrapped.Wrapped.TheVariants.{Plain, Fault}
-use Rattle.frames.specs.Reading.{row_in, relayed_row_in, rows_in}
+use Rattle.frames.specs.Reading.{content_row, relayed_row_in, content_rows}
 use Rattle.frames.specs.PieceLaws.{read_at, piece_within}
 use Rattle.frames.specs.EntryLaws.{relayed_row_at}
 use Rattle.frames.proofs.cells.Cells.row_at.Goals as goal
 
 -- the entry at a place, by its tag
 entry : (capacity nodes width k : ℕ) (bytes : List ℕ) (d : Wrapped (List ℕ)) → width ≡ 1 + 2 * nodes → k < length bytes / width
-    → get_or (rows_in capacity nodes bytes) k d ≡ (if get_or bytes (k * width) 0 == 0 then Plain (row_in capacity nodes (take (2 * nodes) (drop (k * width + 1) bytes))) else Fault (get_or bytes (k * width) 0))
+    → get_or (content_rows capacity nodes bytes) k d ≡ (if get_or bytes (k * width) 0 == 0 then Plain (content_row capacity nodes (take (2 * nodes) (drop (k * width + 1) bytes))) else Fault (get_or bytes (k * width) 0))
 entry capacity nodes width k bytes d e h =
     let P : ℕ → Type 0 = λ w. k < length bytes / w in
     let at : (1 + 2 * nodes) * k ≡ k * width = mul_comm (1 + 2 * nodes) k ∙ ap (λ w. k * w) (sym e) in
@@ -59,9 +59,9 @@ returns-in-0 g c =
     let at : ℕ = c.args.k * c.args.self.now.width in
     let zero : get_or bytes at 0 ≡ 0 = c.in-0.is in
     let size : at + c.args.self.now.width - (at + 1) ≡ 2 * c.args.nodes = omega (arith, c.requires.wide) in
-    ap Plain (c.read_row.ensures ∙ ap (λ n. row_in g.row.N c.args.nodes (take n (drop (at + 1) bytes))) size)
+    ap Plain (c.read_row.ensures ∙ ap (λ n. content_row g.row.N c.args.nodes (take n (drop (at + 1) bytes))) size)
     ∙ sym (entry g.row.N c.args.nodes c.args.self.now.width c.args.k bytes _ c.requires.wide c.requires.within
-    ∙ ap (λ t. if t == 0 then Plain (row_in g.row.N c.args.nodes (take (2 * c.args.nodes) (drop (at + 1) bytes))) else Fault t) zero)
+    ∙ ap (λ t. if t == 0 then Plain (content_row g.row.N c.args.nodes (take (2 * c.args.nodes) (drop (at + 1) bytes))) else Fault t) zero)
 
 pub returns-in_default : goal.returns-in_default
 returns-in_default g c =
@@ -69,7 +69,7 @@ returns-in_default g c =
     let at : ℕ = c.args.k * c.args.self.now.width in
     let some : (get_or bytes at 0 == 0) ≡ false = grind arith in
     sym (entry g.row.N c.args.nodes c.args.self.now.width c.args.k bytes _ c.requires.wide c.requires.within
-    ∙ ap (λ b. if b then Plain (row_in g.row.N c.args.nodes (take (2 * c.args.nodes) (drop (at + 1) bytes))) else Fault (get_or bytes at 0)) some)
+    ∙ ap (λ b. if b then Plain (content_row g.row.N c.args.nodes (take (2 * c.args.nodes) (drop (at + 1) bytes))) else Fault (get_or bytes at 0)) some)
 
 pub slice_bounds-read_row-end : goal.slice_bounds-read_row-end
 slice_bounds-read_row-end g c = inside c.args.nodes c.args.self.now.width c.args.k (length c.args.self.now.bytes.now) c.requires.wide c.requires.within

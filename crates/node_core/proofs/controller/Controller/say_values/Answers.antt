@@ -6,7 +6,7 @@ use Rattle.node_grid.specs.NodeSet.{IsIdSet}
 use Rattle.node_grid.specs.NodeSetLaws.{All-ids, length-ids}
 use Rattle.frames.specs.Content.{IsValue}
 use Rattle.frames.specs.Content.Content.{Data}
-use Rattle.frames.specs.Reading.{values_in}
+use Rattle.frames.specs.Reading.{content_values}
 use Rattle.frames.specs.Spelling.{value_spelling}
 use Rattle.protocol.specs.View.{own_in}
 use Rattle.node_steps.specs.Parts.{NodeView}
@@ -52,7 +52,7 @@ write-requires g c =
     let few : length due ≤ 8 = (let l = length-ids channels due set in omega (arith, l, most)) in
     let fit : (k : ℕ) → IsValue (own_in n.found.own k) = subst (λ (w : NodeView g.row.N). (k : ℕ) → IsValue (own_in w.found.own k)) (sym is) c.requires.ready.sound.sizes.found.values in
     let bytes = c.over-values.ensures ∙ ap (take (8 * length due)) c.put_values.ensures in
-    let said : values_in c.over-values.result.bytes.now ≡ map (own_in n.found.own) due = ap values_in bytes ∙ values_kept n.found.own due _ fit (omega (arith, few)) in
+    let said : content_values c.over-values.result.bytes.now ≡ map (own_in n.found.own) due = ap content_values bytes ∙ values_kept n.found.own due _ fit (omega (arith, few)) in
     let says =
     says_values v c.args.agreed.now c.requires.own c.requires.slot
     ∙ ap (λ (ds : List ℕ). Data (map (own_in v.found.own) ds)) (sym same)

@@ -1,7 +1,7 @@
 use Rattle.std.proofs.Common.{◌≡◌, ◌∷◌, [], ◌++◌, List, ℕ, length, map, arith, ap, sym, ◌∙◌, append_assoc, length-append, append-nil, subst}
 use Rattle.std.specs.Prelude.{codes}
 use Rattle.std.proofs.lemmas.List.{map-append, length-map}
-use Rattle.run_text.specs.Text.{joined, done_item}
+use Rattle.run_text.specs.Text.{separated, done_item}
 use Rattle.run_print.specs.Printing.{Prints}
 use Rattle.run_print.proofs.Joining.{further}
 use Rattle.run_print.proofs.printer.Printer.done.Goals as goal
@@ -25,5 +25,5 @@ pub returns : goal.returns
 returns g c =
     let ys = c.loop-member.yielded in
     let all : ys ≡ c.args.members.now = sym (c.loop-member.invariant.split ∙ ap (λ (xs : List ℕ). ys ++ xs) c.in-None.ensures.steps.0 ∙ append-nil ys) in
-    subst (λ (xs : List ℕ). Prints g.K.Sink.written g.K.Sink.faults c.args.self.now c.args.sink.now c.loop-member.self c.loop-member.sink (joined (codes " ") (map (done_item c.args.done.now) xs)))
+    subst (λ (xs : List ℕ). Prints g.K.Sink.written g.K.Sink.faults c.args.self.now c.args.sink.now c.loop-member.self c.loop-member.sink (separated (codes " ") (map (done_item c.args.done.now) xs)))
     all c.loop-member.invariant.prints

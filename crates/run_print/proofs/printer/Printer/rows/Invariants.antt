@@ -1,7 +1,7 @@
 use Rattle.std.proofs.Common.{◌≡◌, ◌++◌, ◌≤◌, length, map}
 use Rattle.std.specs.Prelude.{codes}
 use Rattle.run_print.specs.Printing.{Prints}
-use Rattle.run_text.specs.Text.{joined, rows_item}
+use Rattle.run_text.specs.Text.{separated, rows_item}
 use Rattle.run_print.proofs.printer.Printer.rows.Given as goal
 
 abbrev pub invariant-loop-member : goal.invariant-loop-member
@@ -12,5 +12,5 @@ invariant-loop-member g l = record {
   few : length l.members ≤ 16;
   place : l.printed ≡ length l.yielded;
   prints : Prints g.K.Sink.written g.K.Sink.faults l.initial.self l.initial.sink l.self l.sink
-      (joined (codes " ") (map (rows_item l.nodes l.rows) l.yielded));
+      (separated (codes " ") (map (rows_item l.nodes l.rows) l.yielded));
 }

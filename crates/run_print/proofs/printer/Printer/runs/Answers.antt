@@ -5,12 +5,12 @@ use Rattle.run_print.proofs.Joining.{then, nothing}
 use Rattle.run_print.proofs.Lists.{joined_next}
 use Rattle.std.specs.Prelude.{codes}
 use Rattle.list_scheduler.specs.Copies.{works}
-use Rattle.run_text.specs.Text.{joined, run_text}
+use Rattle.run_text.specs.Text.{separated, running_text}
 use Rattle.run_print.proofs.printer.Printer.runs.Goals as goal
 
 pub loop-node-preserved : goal.loop-node-preserved
 loop-node-preserved g c =
-    rw (joined_next (codes ",") (λ q. run_text (works c.args.copies.now q)) c.loop-node.node)
+    rw (joined_next (codes ",") (λ q. running_text (works c.args.copies.now q)) c.loop-node.node)
     (then c.loop-node.invariant (then c.separator.ensures (rw (sym c.running.ensures) c.run.ensures)))
 
 pub separator-requires : goal.separator-requires
@@ -33,4 +33,4 @@ pub returns : goal.returns
 returns g c =
     let last : c.loop-node.node ≡ c.args.nodes = omega (arith, c.loop-node-test.false, c.loop-node.auto.node-end) in
     subst (λ (n : ℕ). Prints g.K.Sink.written g.K.Sink.faults c.args.self.now c.args.sink.now c.loop-node.self c.loop-node.sink
-    (joined (codes ",") (map (λ q. run_text (works c.args.copies.now q)) (ids_below n)))) last c.loop-node.invariant
+    (separated (codes ",") (map (λ q. running_text (works c.args.copies.now q)) (ids_below n)))) last c.loop-node.invariant

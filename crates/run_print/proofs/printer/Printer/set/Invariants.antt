@@ -1,7 +1,7 @@
 use Rattle.std.proofs.Common.{◌≡◌, ◌++◌, ◌≤◌, length, map}
 use Rattle.std.specs.Prelude.{codes, decimal}
 use Rattle.run_print.specs.Printing.{Prints}
-use Rattle.run_text.specs.Text.{joined}
+use Rattle.run_text.specs.Text.{separated}
 use Rattle.run_print.proofs.printer.Printer.set.Given as goal
 
 abbrev pub invariant-loop-node : goal.invariant-loop-node
@@ -12,5 +12,5 @@ invariant-loop-node g l = record {
   few : length l.set ≤ 16;
   place : l.printed ≡ length l.yielded;
   prints : Prints g.K.Sink.written g.K.Sink.faults l.initial.self l.initial.sink l.self l.sink
-      (joined (codes ",") (map decimal l.yielded));
+      (separated (codes ",") (map decimal l.yielded));
 }

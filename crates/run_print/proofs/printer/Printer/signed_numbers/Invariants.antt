@@ -2,10 +2,10 @@ use Rattle.std.specs.Fmt.{signed_decimal}
 use Rattle.std.proofs.Common.{take, map}
 use Rattle.std.specs.Prelude.{codes}
 use Rattle.run_print.specs.Printing.{Prints}
-use Rattle.run_text.specs.Text.{joined}
+use Rattle.run_text.specs.Text.{separated}
 use Rattle.run_print.proofs.printer.Printer.signed_numbers.Given as goal
 
 abbrev pub invariant-loop-k : goal.invariant-loop-k
 invariant-loop-k g l =
     Prints g.K.Sink.written g.K.Sink.faults l.initial.self l.initial.sink l.self l.sink
-    (joined (codes ",") (map signed_decimal (take l.k l.numbers)))
+    (separated (codes ",") (map signed_decimal (take l.k l.numbers)))
