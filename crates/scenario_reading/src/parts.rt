@@ -408,7 +408,7 @@ impl<'v> Form<'v> for ClockForm {
     }
 }
 
-#[tactic(auto, unfolding(crate::specs::Keys::clock_in))]
+#[tactic(auto, unfolding(crate::specs::Keys::clock_key))]
 fn clock(alloc: Global, value: &Value) -> Result<Option<ClockPart>, PartError>
     ensures { Gives (option_map clock_view) (clock_key (view value.now)) result }
 {
