@@ -3,7 +3,8 @@
     tools/summary SCENARIO.json [SCENARIO.json ..]     runs the program on it
     ./maft replay < SCENARIO.json | tools/summary      reads a text; give --m M, or --scenario FILE, for the margin
 
---json writes all of it as an object, --csv a row for each period, with a column for the name where there are several files. The text is that of `replay`, `replay trace`, `check` or `node I`.
+--json writes all of it as an object, --csv a row for each period, with a column for the name where there are several files.
+The text is that of `replay`, `replay trace`, `check` or `node I`.
 """
 from __future__ import annotations
 
