@@ -12,6 +12,7 @@ import random
 from collections.abc import Callable, Iterable, Iterator
 from typing import Optional, Tuple
 
+from maft_tools import plan
 from maft_tools import text as texts
 from maft_tools.plan import VALUE_LIMIT, Json
 
@@ -133,36 +134,48 @@ def clocks(run: Run) -> Iterator[str]:
             yield f"clocks: offsets {after} after period {period}"
 
 
-def shown(run: Run) -> dict[tuple[int, int, int], int]:
-    """The kinds that must be noted by what befell a frame of slot 0: by period, sender and receiver."""
-    found = {}
+def kind_of(effect: Json | str) -> int:
+    """The kind that is noted of a frame by what befell it; 0 where it may look well."""
+    name = effect if isinstance(effect, str) else next(iter(effect))
+    return {"drop": MISSING, "twice": MALFORMED, "cut": MALFORMED, "time": TIMING}.get(name, 0)
+
+
+def shown(run: Run) -> tuple[dict[tuple[int, int, int], int], set[tuple[int, int, int]]]:
+    """The kinds to be noted by what befell frames, by period, sender and receiver, and who was told what in slot 0.
+
+    What befalls a frame of the rows or of their relays is noted a period later.
+    """
+    kinds: dict[tuple[int, int, int], int] = {}
+    told = set()
     for line in run.scenario.get("faults", []):
-        kind = {"drop": MISSING, "twice": MALFORMED, "cut": MALFORMED, "time": TIMING}.get(
-            line["effect"] if isinstance(line["effect"], str) else next(iter(line["effect"])), 0)
-        if line["slots"] == "all" or 0 in line["slots"]:
-            to = [it for it in run.nodes if it != line["from"]] if line["to"] == "all" else line["to"]
-            for period in range(line["periods"][0], line["periods"][1] + 1):
-                found.update({(period, line["from"], it): kind for it in to})
-    return found
+        to = [it for it in run.nodes if it != line["from"]] if line["to"] == "all" else line["to"]
+        slots = range(plan.slots(run.m)) if line["slots"] == "all" else line["slots"]
+        for period in range(line["periods"][0], line["periods"][1] + 1):
+            told |= {(period, line["from"], it) for it in to if 0 in slots}
+            for noted_in in {period + (it >= plan.report_slot(run.m)) for it in slots}:
+                for at in [(noted_in, line["from"], it) for it in to]:
+                    kinds[at] = kinds.get(at, 0) | kind_of(line["effect"])
+    return kinds, told
 
 
 def noted_places(run: Run) -> Iterator[tuple[int, int, int, int]]:
-    """Periods, tellers, nodes and kinds: the nonfaulty member must give the node the kind."""
-    lines = shown(run)
+    """Periods, tellers, nodes and masks: the nonfaulty member must give the node these kinds."""
+    kinds, told = shown(run)
     for period in run.numbers:
         cold = {it.id for it in run.periods[period].nodes if it.mode != "full"}
         for node in run.nodes:
             for teller in run.tellers(period, node):
-                kind = lines.get((period, node, teller), COLD if node in cold else 0)
-                if kind:
-                    yield period, teller, node, kind
+                at = (period, node, teller)
+                mask = kinds.get(at, 0) | (COLD if node in cold and at not in told else 0)
+                if mask:
+                    yield period, teller, node, mask
 
 
 def noted(run: Run) -> Iterator[str]:
-    """Each nonfaulty member notes a frame of slot 0 that is lost, cut, doubled or late, or that says Cold."""
-    for period, teller, node, kind in noted_places(run):
-        if not run.row(period, teller)[node] & kind:
-            yield f"noted: node {teller} doesn't note {kind} of node {node} in period {period}"
+    """Each nonfaulty member notes a frame that is lost, cut, doubled or late, and a node that says Cold."""
+    for period, teller, node, mask in noted_places(run):
+        if mask & ~run.row(period, teller)[node]:
+            yield f"noted: node {teller} doesn't note all of {mask} of node {node} in period {period}"
 
 
 def well_places(run: Run) -> Iterator[Place]:
@@ -373,8 +386,9 @@ def _break_noted(run: Run, text: str, draw: random.Random) -> str | None:
     places = list(noted_places(run))
     if not places:
         return None
-    period, teller, node, kind = draw.choice(places)
-    return Draft(text, period).item(2, teller, _mask(node, lambda mask: mask & ~kind)).text()
+    period, teller, node, kinds = draw.choice(places)
+    lost = draw.choice([bit for bit in (MISSING, MALFORMED, TIMING, COLD) if kinds & bit])
+    return Draft(text, period).item(2, teller, _mask(node, lambda mask: mask & ~lost)).text()
 
 
 def _break_well(run: Run, text: str, draw: random.Random) -> str | None:

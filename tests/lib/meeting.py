@@ -53,11 +53,12 @@ def pulled(epsilon: int, drift: int, distance: int, periods: int) -> Json:
 # by what node 4 of `accused` is accused of a kind by all others in each period from FIRST on
 FIRST = 2
 WAYS = {
-    "missing": [["node 4 is silent {}"], ["node 4 is silent {} in slot 0"]],
+    "missing": [["node 4 is silent {}"], ["node 4 is silent {} in slot 0"], ["node 4 is silent {} in slot 2"],
+                ["node 4 is silent {} in slot 5"]],
     "malformed": [["node 4 is cut by 4 bytes {}"], ["node 4 speaks twice {}"],
                   ["node 4 is cut by 1 bytes {} in slot 0"],
                   ["node 4 speaks twice to nodes 0, 1 {}", "node 4 is cut by 4096 bytes to nodes 2, 3 {}"]],
-    "timing": [["node 4 is late {}"], ["node 4 is late at tick 3 {} in slot 0"]],
+    "timing": [["node 4 is late {}"], ["node 4 is late at tick 3 {} in slot 0"], ["node 4 is late {} in slot 4"]],
     "cold": [["node 4 restarts"]],
     "state": [["node 4 sends bytes 0007 at 16 {} in slot 0"]],
     "claim": [["node 4 claims task 1 {}"]],
@@ -66,6 +67,11 @@ WAYS = {
     "equivocate": [["node 4 claims task 0 to node 0 {}", "node 4 claims task 1 to node 1 {}",
                     "node 4 claims task 2 to node 2 {}", "node 4 claims nothing to node 3 {}"]],
 }
+
+
+def noted_from(way: list[str]) -> int:
+    """The first period in which all accuse node 4 of `accused`: faults of slots 4 and 5 are noted a period later."""
+    return FIRST + way[0].endswith(("slot 4", "slot 5"))
 
 
 def accused(kind: str, way: list[str], periods: int, **more: Any) -> Json:

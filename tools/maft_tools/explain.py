@@ -135,6 +135,8 @@ class Teller:
             record = records.get(node)
             if record is None or self.sizes is None:
                 raise WordsError(f"period {it.period.number} has no lines of node {node}, or no frames to it; is it a trace, or its own log?")
+            if record.counts and len(record.counts) != self.sizes.nodes:
+                raise WordsError(f"the text is of {len(record.counts)} nodes, and the scenario of {self.sizes.nodes}")
             story = Story(self, it, record)
             if is_told:
                 yield from story.lines()

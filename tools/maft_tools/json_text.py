@@ -7,12 +7,11 @@ from __future__ import annotations
 
 import json
 import math
-import pathlib
 import re
 import sys
 from typing import Any
 
-from .plan import WordsError
+from .plan import INPUT_LIMIT, WordsError
 
 DEEPEST = 127
 _SPACE = re.compile(r"[ \t\n\r]*")
@@ -263,11 +262,17 @@ def _is_shallow(value: Any) -> bool:
 
 
 def bytes_of(path: str) -> bytes:
-    """What a file has, or standard input for `-`; raises WordsError where it can't be read."""
+    """What a file has, or standard input for `-`, but no more than a byte more than the program reads.
+
+    Raises WordsError where it can't be read.
+    """
     if path == "-" and sys.stdin is None:
         raise WordsError("standard input is closed")
     try:
-        return sys.stdin.buffer.read() if path == "-" else pathlib.Path(path).read_bytes()
+        if path == "-":
+            return sys.stdin.buffer.read(INPUT_LIMIT + 1)
+        with open(path, "rb") as file:
+            return file.read(INPUT_LIMIT + 1)
     except (OSError, ValueError) as error:
         why = error.strerror if isinstance(error, OSError) and error.strerror else error
         raise WordsError(f"{printable(path)}: {why}") from None

@@ -11,7 +11,7 @@ from collections.abc import Iterable
 from . import program, text
 from .plan import KINDS, Json
 
-# whom all others accuse of a kind, in each period in which that befalls its frames of slot 0 to all of them
+# whom all others accuse of a kind, where that befalls its frames of one slot to all of them in each period
 FAULTS = {
     "missing": "a silent node",
     "malformed": "one whose frames are cut or doubled",

@@ -1,6 +1,7 @@
 """Finds the program and runs it."""
 from __future__ import annotations
 
+import contextlib
 import json
 import os
 import pathlib
@@ -10,7 +11,7 @@ import sys
 from collections.abc import Iterator
 
 from . import check, json_text, log
-from .plan import Json, WordsError
+from .plan import INPUT_LIMIT, Json, WordsError
 
 TOP = pathlib.Path(__file__).resolve().parents[2]
 STATUSES = {
@@ -74,8 +75,11 @@ def run_well(program: str, words: list[str], scenario: Json | str | bytes) -> st
 
 def load_object(path: str) -> Json:
     """The object in a file, a scenario's or a log's, or in standard input for `-`."""
+    data = json_text.bytes_of(path)
+    if len(data) > INPUT_LIMIT:
+        raise WordsError(f"{json_text.printable(path)} is longer than {INPUT_LIMIT} bytes, which is what the program reads at most")
     try:
-        scenario = json_text.read(json_text.bytes_of(path))
+        scenario = json_text.read(data)
     except json_text.BrokenJson as error:
         raise WordsError(f"{json_text.printable(path)} is no JSON text: {error}") from None
     if not isinstance(scenario, dict):
@@ -95,14 +99,25 @@ def load(path: str) -> Json:
     return scenario
 
 
+def byte_lines(path: str) -> Iterator[bytes]:
+    """The lines of a file, one at a time, or of standard input for `-`.
+
+    Raises WordsError where a line is longer than any that the program prints.
+    """
+    if path == "-" and sys.stdin is None:
+        raise WordsError("standard input is closed")
+    with contextlib.ExitStack() as stack:
+        file = sys.stdin.buffer if path == "-" else stack.enter_context(open(path, "rb"))
+        while True:
+            line = file.readline(INPUT_LIMIT)
+            if not line:
+                return
+            if len(line) == INPUT_LIMIT:
+                raise WordsError(f"{json_text.printable(path)} has a line of {INPUT_LIMIT} bytes or more, which is no text of maft")
+            yield line
+
+
 def text_lines(path: str) -> Iterator[str]:
     """The lines of the file of a text, or of standard input for `-`. A byte that isn't UTF-8 stands as one that no text has."""
-    if path == "-":
-        if sys.stdin is None:
-            raise WordsError("standard input is closed")
-        for line in sys.stdin.buffer:
-            yield line.decode(errors="replace")
-        return
-    with open(path, "rb") as file:
-        for line in file:
-            yield line.decode(errors="replace")
+    for line in byte_lines(path):
+        yield line.decode(errors="replace")

@@ -4,6 +4,7 @@ from __future__ import annotations
 import contextlib
 import copy
 import dataclasses
+import re
 import json
 import subprocess
 import tempfile
@@ -15,6 +16,9 @@ from .plan import Json, WordsError
 
 # what arrived of one frame: ticks, and the bytes in hexadecimal
 Arrived = list[tuple[int, bytes]]
+
+
+_FRAME = re.compile(rb"frame ([0-9]{1,9}) ([0-9]{1,9}) ([0-9]{1,9}) ([0-9]{1,9}) ([0-9]{1,9}) (-|(?:[0-9a-f]{2})+)")
 
 
 @dataclasses.dataclass
@@ -72,12 +76,12 @@ def _period_of(lines: list[bytes]) -> text.Period:
 
 def _take(line: bytes, wanted: Wanted, frames: dict[tuple[int, int, int], Arrived], known: dict[bytes, bytes]) -> int:
     """Keeps a frame's line if it is asked for; answers its slot."""
-    words = line.split()
-    if len(words) != 7:
+    found = _FRAME.fullmatch(line.rstrip(b"\r\n"))
+    if found is None:
         raise WordsError(f"this isn't a frame's line: {line[:80]!r}")
-    period, slot, sender, receiver, tick = map(int, words[1:6])
+    period, slot, sender, receiver, tick = map(int, found.groups()[:5])
     if wanted.takes(period, slot, receiver):
-        data = b"" if words[6] == b"-" else words[6]
+        data = b"" if found[6] == b"-" else found[6]
         frames.setdefault((slot, sender, receiver), []).append((tick, known.setdefault(data, data)))
     return slot
 

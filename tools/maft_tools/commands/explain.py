@@ -10,9 +10,7 @@ what the node notes, which items settle otherwise than they were said to it, who
 from __future__ import annotations
 
 import argparse
-import contextlib
 import re
-import sys
 from collections.abc import Iterable, Iterator
 
 from .. import check, explain, json_text, program, trace
@@ -38,6 +36,8 @@ def slices_of(given: argparse.Namespace, wanted: trace.Wanted) -> tuple[Json, It
         value = program.load_object(given.input)
         maft = program.find(given.program)
         if not check.is_log(value):
+            if check.findings(value):
+                program.run_well(maft, ["check"], value)
             return value, trace.of_scenario(maft, value, wanted)
         node = owner(value) if given.node is None else min(given.node)
         wanted.nodes = given.node = {node}
@@ -46,13 +46,7 @@ def slices_of(given: argparse.Namespace, wanted: trace.Wanted) -> tuple[Json, It
     scenario = program.load(given.scenario) if given.scenario else {}
     if scenario and check.findings(scenario):
         raise WordsError(f"the scenario {json_text.printable(given.scenario)} isn't that of the text: {check.told(check.findings(scenario))}")
-    return scenario, trace.slices(_lines(given.input), wanted)
-
-
-def _lines(path: str) -> Iterator[bytes]:
-    """The lines of a file, one at a time, or of standard input for `-`."""
-    with contextlib.ExitStack() as stack:
-        yield from sys.stdin.buffer if path == "-" else stack.enter_context(open(path, "rb"))
+    return scenario, trace.slices(program.byte_lines(given.input), wanted)
 
 
 def told(given: argparse.Namespace, asked: explain.Asked) -> Iterator[str]:

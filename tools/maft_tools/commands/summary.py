@@ -3,17 +3,20 @@
     tools/summary SCENARIO.json [SCENARIO.json ..]     runs the program on it
     ./maft replay < SCENARIO.json | tools/summary      reads a text; give --m M, or --scenario FILE, for the margin
 
---json writes all of it as an object, --csv a row for each period. The text is that of `replay`, `replay trace`, `check` or `node I`.
+--json writes all of it as an object, --csv a row for each period, with a column for the name where there are several files.
+The text is that of `replay`, `replay trace`, `check` or `node I`.
 """
 from __future__ import annotations
 
 import argparse
+import csv
 import dataclasses
+import io
 import json
 import sys
-from collections.abc import Iterable
+from collections.abc import Iterable, Iterator
 
-from .. import json_text, program, summary, text
+from .. import json_text, program, summary, tables, text
 from ..plan import Json, WordsError
 from . import parser
 
@@ -52,6 +55,17 @@ def show(name: str, given: argparse.Namespace) -> str:
     return (f"{json_text.printable(name)}\n" if len(given.files) > 1 else "") + summary.page(run)
 
 
+def table(names: list[str], given: argparse.Namespace) -> Iterator[str]:
+    """The rows of several files as one table, whose first column has the name."""
+    for at, name in enumerate(names):
+        head, *rows = show(name, given).splitlines(keepends=True)
+        out = io.StringIO()
+        csv.writer(out, lineterminator="").writerow([tables.cell(name)])
+        if at == 0:
+            yield "name," + head
+        yield from (f"{out.getvalue()},{row}" for row in rows)
+
+
 def main() -> int:
     """The command."""
     options = parser("summary", __doc__ or "")
@@ -63,6 +77,9 @@ def main() -> int:
     how.add_argument("--json", action="store_true")
     how.add_argument("--csv", action="store_true")
     given = options.parse_args()
+    if given.csv and len(given.files) > 1:
+        sys.stdout.writelines(table(given.files, given))
+        return 0
     for name in given.files:
         sys.stdout.write(show(name, given))
     return 0
