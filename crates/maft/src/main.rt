@@ -16,11 +16,11 @@
 //! | the words are `replay`, `replay trace` or `check`, and the answer is Done | `Calls` in specs/Words |
 //! | the bytes are all bytes of the source, where it tells them | `IsRead` and `IsWhole` in specs/Answers |
 //! | the text that was written is that of a scenario, whose claimed periods keep what is promised | `HasText` in specs/Answers, `IsSafeRun` in specs/Run, `Promises` in cluster_periods/specs/Laws |
-//! | accepted scenario: the bytes are JSON text of parts that no rule refuses | `IsAccepted` in specs/Answers; in scenario_reading/specs `Reads` of Reading, `parts_of` of Keys; in scenario/specs `refusal` of Rules |
+//! | accepted scenario: the bytes are JSON text of parts that no rule refuses | `IsAcceptedText` in specs/Answers; in scenario_reading/specs `Reads` of Reading, `parts_read` of Keys; in scenario/specs `refusal` of Rules |
 //! | what the scenario says | `scenario_of` in scenario/specs/Given, `system_of` in scenario/specs/Scenario |
 //! | its run: what all nodes send, hear, settle and keep | `run` in protocol/specs/Run, `view` in protocol/specs/Cluster and View |
 //! | classes of nodes; sound, nonfaulty | `class_of` in fault_classes/specs/Plan |
-//! | members; n, a, s, b; every period up to which | `members_at`, `Budget` and `Claim` in protocol/specs/Safe |
+//! | members; n, a, s, b; every period up to which | `members_at`, `KeepsBound` and `Claim` in protocol/specs/Safe |
 //! | equal counts, memberships and schedules | `Equal` in protocol/specs/Safe |
 //! | neither penalised nor excluded | `Unpunished` there |
 //! | raises its count | `FullyCharged` there; of a nonfaulty member it needs a relay round |
