@@ -1,8 +1,10 @@
 //! Worked rows of calls of the values and rules: a line for each, what was asked and what was answered.
 //!
-//! The stored output was worked out from the rules by hand.
+//! The stored output was worked out from the rules by hand. Where a rule has a plain body beside the one that runs, both are
+//! called on drawn inputs, and a line says how often they answered alike.
 #![tactic(auto)]
 
+mod alike;
 mod answers;
 mod convictions;
 mod counts;
@@ -25,5 +27,7 @@ fn main(rt: HostRuntime) -> anyhow::Result<()> {
     counts::print(&rt)?;
     reports::print(&rt)?;
     graphs::print(&rt)?;
-    streams::print(&rt)
+    streams::print(&rt)?;
+    alike::print(&rt)?;
+    Ok(())
 }
