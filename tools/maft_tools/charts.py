@@ -101,6 +101,11 @@ def cumulated(counts: Mapping[int, int], whole: int, last: int) -> list[tuple[fl
     return points
 
 
+def _some(title: str, count: int) -> str:
+    """The title, which says so where not all of so many cases are drawn."""
+    return title + (f"; the first {LINES} of {count} cases" if count > LINES else "")
+
+
 def leaving_chart(tallies: Sequence[Tally]) -> Curves | None:
     """Which share of the members that fell ill left, while ill, within how many periods: by case, or of a single case
     by class."""
@@ -111,19 +116,20 @@ def leaving_chart(tallies: Sequence[Tally]) -> Curves | None:
     for tally in tallies if len(tallies) > 1 else ():
         leaving: Counter[int] = sum((it.to_leave for it in tally.classes.values()), Counter())
         groups.append((case_words(tally), leaving, sum(it.members for it in tally.classes.values())))
-    groups = [it for it in groups if it[2]][:LINES]
+    groups = [it for it in groups if it[2]]
     if not groups:
         return None
-    last = max(max(it[1], default=0) for it in groups) + 1
-    lines = [Line(name, cumulated(leaving, whole, last), steps=True, colour=at) for at,
-        (name, leaving, whole) in enumerate(groups)]
-    return Curves("leaving", "Members that fell ill and left while ill", "periods from onset",
-        "share of illnesses of members", lines, is_share=True)
+    last = max(max(it[1], default=0) for it in groups[:LINES]) + 1
+    lines = [Line(name, cumulated(leaving, whole, last), steps=True, colour=at)
+        for at, (name, leaving, whole) in enumerate(groups[:LINES])]
+    title = _some("Members that fell ill and left while ill", len(groups))
+    return Curves("leaving", title, "periods from onset", "share of illnesses of members", lines, is_share=True)
 
 
 def margin_chart(tallies: Sequence[Tally]) -> Curves | None:
     """Which share of the runs had a least margin of at least so much, by case."""
-    known = [it for it in tallies if it.margins][:LINES]
+    all_of = [it for it in tallies if it.margins]
+    known = all_of[:LINES]
     if not known:
         return None
     least, most = min(min(it.margins) for it in known), max(max(it.margins) for it in known)
@@ -132,15 +138,16 @@ def margin_chart(tallies: Sequence[Tally]) -> Curves | None:
         points = [(float(gap), sum(count for margin, count in it.margins.items() if margin >= gap) / it.good)
             for gap in range(least, most + 2)]
         lines.append(Line(case_words(it), points, steps=False, colour=at))
-    return Curves("margin", "Least margin n - (2a + 2s + b + m) of a run; kept from 1 on", "margin of at least",
-        "share of runs", lines, is_share=True)
+    title = _some("Least margin n - (2a + 2s + b + m) of a run; kept from 1 on", len(all_of))
+    return Curves("margin", title, "margin of at least", "share of runs", lines, is_share=True)
 
 
 def skew_chart(tallies: Sequence[Tally]) -> Curves | None:
     """The greatest skew of sound clocks by period, and dashed what the theorem bounds it by, where the cluster's clock
     is known."""
-    lines = []
-    for at, it in enumerate([it for it in tallies if it.skews][:LINES]):
+    lines: list[Line] = []
+    known = [it for it in tallies if it.skews]
+    for at, it in enumerate(known[:LINES]):
         lines.append(Line(case_words(it), [(float(period), float(skew)) for period, skew in sorted(it.skews.items())],
             colour=at))
         if it.case.cluster.base is not None or it.case.cluster.options.clock is not None:
@@ -149,8 +156,8 @@ def skew_chart(tallies: Sequence[Tally]) -> Curves | None:
             lines.append(Line(f"bound of {case_words(it)}", points, dashed=True, colour=at))
     if not lines:
         return None
-    return Curves("skew", "Greatest skew of sound clocks in claimed periods, and the theorem's bound", "period",
-        "skew", lines)
+    title = _some("Greatest skew of sound clocks in claimed periods, and the theorem's bound", len(known))
+    return Curves("skew", title, "period", "skew", lines)
 
 
 def charts(tallies: Sequence[Tally]) -> list[Chart]:

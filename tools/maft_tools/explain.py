@@ -276,11 +276,12 @@ class Story:
     def _slot_lines(self, slot: int) -> Iterator[str]:
         name = SLOT_NAMES[self.sizes.kind_of(slot)]
         length = self.sizes.round_of(slot)
-        yield f"  slot {slot}, {name}" + (f", round {length}" if length else "")
         by_words: dict[str, list[int]] = {}
         for other in self.others:
             if self.teller.asked.senders is None or other in self.teller.asked.senders:
                 by_words.setdefault(self._frame_words(slot, other), []).append(other)
+        if by_words:
+            yield f"  slot {slot}, {name}" + (f", round {length}" if length else "")
         for words, senders in by_words.items():
             first, *more = words.split("\n")
             yield f"    from {spanned(senders)}: {first}"
