@@ -58,12 +58,11 @@ def cut(scenario: Json, trace: Iterable[str], node: int) -> str:
     return text
 
 
-def owner(log: Json) -> int | None:
-    """Whose log this is, by who never sends; None where that isn't one node alone, or the object isn't in order."""
+def silent(log: Json) -> list[int] | None:
+    """Which nodes never send in a log: its owner, and who is silent throughout. None where the log isn't in order."""
     scenario, frames = log.get("scenario"), log.get("frames")
     nodes = scenario.get("nodes") if isinstance(scenario, dict) else None
     if type(nodes) is not int or not 0 < nodes <= 16 or not isinstance(frames, list):
         return None
     heard = {it[2] for it in frames if isinstance(it, list) and len(it) == 5 and type(it[2]) is int}
-    silent = [it for it in range(nodes) if it not in heard]
-    return silent[0] if len(silent) == 1 else None
+    return [it for it in range(nodes) if it not in heard]

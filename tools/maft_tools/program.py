@@ -91,11 +91,11 @@ def load(path: str) -> Json:
     """The scenario in a file, or in standard input for `-`; raises WordsError for a log, with what sums that up."""
     scenario = load_object(path)
     if check.is_log(scenario):
-        node = log.owner(scenario)
-        which = "I" if node is None else node
+        found = log.silent(scenario)
+        node = str(found[0]) if found is not None and len(found) == 1 else "I"
         raise WordsError(
-            f"{json_text.printable(path)} is the log of {'one node' if node is None else f'node {node}'}, and no scenario; it is summed up by: "
-            f"./maft node {which} < {shlex.quote(json_text.printable(path))} | tools/summary")
+            f"{json_text.printable(path)} is the log of {'one node' if node == 'I' else f'node {node}'}, and no scenario; it is summed up by: "
+            f"./maft node {node} < {shlex.quote(json_text.printable(path))} | tools/summary")
     return scenario
 
 

@@ -8,22 +8,20 @@ who never sends, where that is one node alone. The status is 0 where all are acc
 """
 from __future__ import annotations
 
-from .. import check, json_text, program
+from .. import check, json_text, log, program
 from ..plan import Json, WordsError
 from . import parser, say
 
 
-def owner(log: Json) -> int:
+def owner(value: Json) -> int:
     """Whose log this is, by who never sends; raises WordsError where that isn't one node alone."""
-    scenario, frames = log.get("scenario"), log.get("frames")
-    nodes = scenario.get("nodes") if isinstance(scenario, dict) else None
-    if not check.is_whole(nodes) or not 0 < nodes <= 16 or not isinstance(frames, list):
+    found = log.silent(value)
+    if found is None:
+        # the program says what isn't in order
         return 0
-    heard = {it[2] for it in frames if isinstance(it, list) and len(it) == 5 and check.is_whole(it[2])}
-    silent = [it for it in range(nodes) if it not in heard]
-    if len(silent) != 1:
+    if len(found) != 1:
         raise WordsError("the file is a log, and its frames don't tell whose; say --node I")
-    return silent[0]
+    return found[0]
 
 
 def words_for(data: bytes, node: int | None) -> list[str]:
