@@ -3,12 +3,13 @@
 #
 #   tests/hostile.sh [PROGRAM [CASE..]]
 #
-# A CASE is a folder of tests/cases; without one there are those at the end of this file, sixteen nodes and a storm.
+# A CASE is a folder of tests/cases, or the word `pieces`; without one there are those at the end of this file, sixteen nodes, a storm and
+# the pieces.
 # Of each run below each request for memory is refused in turn, each read and each write fails in turn, and each of them moves one
 # byte alone in turn. It does so by a small library that stands before the C library's calls (tests/lib/fail.c); where no C compiler is
 # there, this says so and ends well; FAIL_LIBRARY names one that is compiled already. Refused memory must end with 7 and nothing written; what is asked for before the words are known
 # may also end with 1 and nothing written, or change nothing. A failed read must end with 5 and nothing written, a failed write with 6 and a prefix of the text, and a short
-# read or write with 0 and the whole text, which is a stored one. The last line is 'N passed, M failed'.
+# read or write with 0 and the whole text, which is a stored one. At last one case goes in pieces and into each room that is too small. The last line is 'N passed, M failed'.
 . "${BASH_SOURCE[0]%/*}/lib/head.sh"
 take_program "$@"
 if [ -n "${FAIL_LIBRARY-}" ]; then cp "$FAIL_LIBRARY" "$work/fail.so" || exit 2; else
@@ -17,10 +18,10 @@ if [ -n "${FAIL_LIBRARY-}" ]; then cp "$FAIL_LIBRARY" "$work/fail.so" || exit 2;
 fi
 cases=$top/tests/cases
 
-# the program with the library before it; the first word is one setting of the library
+# the program with the library before it; the first word has settings of the library, with a space between two
 run() {
-    local input=$2
-    export "${1?}"
+    local input=$2 setting
+    for setting in $1; do export "${setting?}"; done
     shift 2
     LD_PRELOAD=$work/fail.so exec "$program" "$@" <"$input" >"$work/out" 2>"$work/noise"
 }
@@ -77,6 +78,36 @@ torment() {
     echo "$what: $memory requests for memory, $reads reads, $writes writes; $((passed - before)) runs ended well"
 }
 
+# one run that must end with this status and the first so many bytes of the text in $work/whole: settings, status, bytes, input, words
+ends() {
+    local settings=$1 wanted=$2 bytes=$3 status
+    shift 3
+    (run "$settings" "$@") 2>/dev/null
+    status=$?
+    if [ "$status" = "$wanted" ] && [ "$(stat -c %s "$work/out")" = "$bytes" ] && cmp -s -n "$bytes" "$work/out" "$work/whole"; then pass
+    else refuse "$settings, ${*:2}: status $status, $(stat -c %s "$work/out") bytes"; fi
+}
+
+# the smallest scenario in pieces of seven bytes, of which each fails in turn, also the one that finds the end; into room for each number
+# of bytes below the text's, ten at a time, and for just the text; a refusal into room for three bytes; a storm, which reads nothing; and
+# no words, where neither is asked
+pieces() {
+    local small=$cases/smallest cycle=$cases/three_tasks_in_a_cycle before=$passed size k
+    cp "$small/stdout" "$work/whole"
+    size=$(stat -c %s "$small/stdin")
+    for ((k = 1; k <= (size + 6) / 7 + 1; k++)); do ends "READ_PIECE=7 FAIL_READ=$k" 5 0 "$small/stdin" replay; done
+    size=$(stat -c %s "$work/whole")
+    for ((k = 0; k < size; k++)); do ends "WRITE_PIECE=10 WRITE_ROOM=$k" 6 "$k" "$small/stdin" replay; done
+    ends "WRITE_PIECE=10 WRITE_ROOM=$size" 0 "$size" "$small/stdin" replay
+    ends "WRITE_PIECE=100 FAIL_WRITE=3" 6 200 "$small/stdin" replay
+    cp "$cycle/stdout" "$work/whole"
+    ends "WRITE_ROOM=3" 4 3 "$cycle/stdin" replay
+    cp "$cases/storm_7/stdout" "$work/whole"
+    ends "FAIL_READ=1" 0 "$(stat -c %s "$work/whole")" /dev/null storm 7
+    ends "FAIL_READ=1 FAIL_WRITE=1" 2 0 "$small/stdin"
+    echo "in pieces and into small rooms: $((passed - before)) runs ended well"
+}
+
 # a stored case under its own name
 stored() {
     local words
@@ -84,6 +115,7 @@ stored() {
     torment "${1//_/ }" "$cases/$1/stdout" "$cases/$1/stdin" "${words[@]}"
 }
 
+if [ "${2-}" = pieces ]; then pieces; finish; fi
 if [ $# -gt 1 ]; then
     for what in "${@:2}"; do stored "$what"; done
     finish
@@ -93,4 +125,5 @@ for what in smallest a_bit_of_everything log_of_a_joining_node copies_voted_in_t
 done
 torment "sixteen nodes" "$top/scenarios/sixteen_nodes.txt" "$top/scenarios/sixteen_nodes.json" replay
 torment "a storm" "$cases/storm_7/stdout" /dev/null storm 7
+pieces
 finish

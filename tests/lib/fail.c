@@ -1,7 +1,9 @@
 /* Stands before the C library's calls, by LD_PRELOAD, and lets one of them fail.
  *
  * FAIL_MEMORY=K refuses the K-th request for memory, FAIL_READ=K and FAIL_WRITE=K let the K-th read or write fail, and SHORT_READ=K and
- * SHORT_WRITE=K let it move one byte alone. CALLS=FILE writes how many requests, reads and writes there were when the program ends.
+ * SHORT_WRITE=K let it move one byte alone. READ_PIECE=N and WRITE_PIECE=N let each move N bytes at most, and WRITE_ROOM=N is how many
+ * bytes are written in all: what goes beyond fails. CALLS=FILE writes how many requests, reads and writes there were when the program
+ * ends.
  */
 #define _GNU_SOURCE
 #include <dlfcn.h>
@@ -22,6 +24,24 @@ static long calls[3];
 static int is_due(int kind, const char *name) {
     const char *wanted = getenv(name);
     return wanted && calls[kind] == atol(wanted);
+}
+
+/* how many bytes a call may move, of so many: 1 where it is to be short, else as many as a piece has */
+static size_t piece(int kind, const char *is_short, const char *in_pieces, size_t size) {
+    const char *most = getenv(in_pieces);
+    if (is_due(kind, is_short) && size > 1) return 1;
+    return most && size > (size_t)atol(most) ? (size_t)atol(most) : size;
+}
+
+/* how many bytes there is room for, of so many */
+static size_t room(size_t size) {
+    static size_t written;
+    const char *all = getenv("WRITE_ROOM");
+    if (!all) return size;
+    size_t left = (size_t)atol(all) - written;
+    size_t taken = size < left ? size : left;
+    written += taken;
+    return taken;
 }
 
 static int is_refused(void) {
@@ -61,7 +81,7 @@ ssize_t read(int file, void *to, size_t size) {
         errno = EIO;
         return -1;
     }
-    return real(file, to, is_due(READ, "SHORT_READ") && size > 1 ? 1 : size);
+    return real(file, to, piece(READ, "SHORT_READ", "READ_PIECE", size));
 }
 
 ssize_t write(int file, const void *from, size_t size) {
@@ -71,7 +91,12 @@ ssize_t write(int file, const void *from, size_t size) {
         errno = EIO;
         return -1;
     }
-    return real(file, from, is_due(WRITE, "SHORT_WRITE") && size > 1 ? 1 : size);
+    size_t taken = room(piece(WRITE, "SHORT_WRITE", "WRITE_PIECE", size));
+    if (size > 0 && taken == 0) {
+        errno = ENOSPC;
+        return -1;
+    }
+    return real(file, from, taken);
 }
 
 __attribute__((destructor)) static void tell(void) {
