@@ -18,7 +18,7 @@ from .plan import Json, WordsError
 Arrived = list[tuple[int, bytes]]
 
 
-_FRAME = re.compile(rb"frame ([0-9]{1,9}) ([0-9]{1,9}) ([0-9]{1,9}) ([0-9]{1,9}) ([0-9]{1,9}) (-|(?:[0-9a-f]{2})+)")
+_FRAME = re.compile(rb"frame ([0-9]{1,9}) ([0-9]{1,9}) ([0-9]{1,9}) ([0-9]{1,9}) ([0-9]{1,9}) (-|[0-9a-f]+)")
 
 
 @dataclasses.dataclass
@@ -77,7 +77,7 @@ def _period_of(lines: list[bytes]) -> text.Period:
 def _take(line: bytes, wanted: Wanted, frames: dict[tuple[int, int, int], Arrived], known: dict[bytes, bytes]) -> int:
     """Keeps a frame's line if it is asked for; answers its slot."""
     found = _FRAME.fullmatch(line.rstrip(b"\r\n"))
-    if found is None:
+    if found is None or len(found[6]) % 2 and found[6] != b"-":
         raise WordsError(f"this isn't a frame's line: {line[:80]!r}")
     period, slot, sender, receiver, tick = map(int, found.groups()[:5])
     if wanted.takes(period, slot, receiver):
