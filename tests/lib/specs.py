@@ -1,7 +1,8 @@
-"""The definitions of crates/*/specs and what names what: which of them a contract reaches, and which crates a crate's files name.
+"""The definitions of crates/*/specs: which of them a contract reaches, and which crates a crate's files name.
 
-A reading of the sources by their lines and words, without the toolchain. A definition is an item of a specs/*.antt file, or a public type of
-an .rt file, which clauses see. What it names is found by the lines that bring names in; a name that a file doesn't bring in is its own.
+A reading of the sources by their lines and words, without the toolchain. A definition is an item of a specs/*.antt
+file, or a public type of an .rt file, which clauses see. What it names is found by the lines that bring names in; a
+name that a file doesn't bring in is its own.
 """
 from __future__ import annotations
 
@@ -11,9 +12,11 @@ import re
 from typing import Dict, Iterable, Iterator, List, Optional, Sequence, Set, Tuple
 
 WORD = r"[^\s(){},;.λ:\[\]=]+"
-HEAD = re.compile(rf"^\s*(?:(?:abbrev|unfoldable)(?: pub)?\s+(?P<short>{WORD})\s*:|(?:pub )?(?P<shape>record|data)\s+(?P<long>{WORD})(?=[\s:]))")
+HEAD = re.compile(rf"^\s*(?:(?:abbrev|unfoldable)(?: pub)?\s+(?P<short>{WORD})\s*:"
+                  rf"|(?:pub )?(?P<shape>record|data)\s+(?P<long>{WORD})(?=[\s:]))")
 LEMMA = re.compile(rf"^\s*pub\s+(?P<name>{WORD})\s+:\s")
-IMPORT = re.compile(r"^\s*(?:pub\s+|ghost\s+)?use\s+Rattle\.(?P<path>[\w.\-]+?)(?:\.\{(?P<names>[^}]*)\})?(?:\s+as\s+(?P<alias>\w+))?\s*;?\s*$", re.M)
+IMPORT = re.compile(r"^\s*(?:pub\s+|ghost\s+)?use\s+Rattle\.(?P<path>[\w.\-]+?)(?:\.\{(?P<names>[^}]*)\})?"
+                    r"(?:\s+as\s+(?P<alias>\w+))?\s*;?\s*$", re.M)
 TOKEN = re.compile(r"[^\s(){},;\[\]→×⊎λ]+")
 TYPE = re.compile(r"^pub(?:\([a-z]+\))?\s+(?:struct|enum|trait|type)\s+(\w+)")
 SKIPPED = re.compile(r"^(?:pub )?use |^pub mod |^infix|^unfolding |^syntax |^\s*module ")
@@ -144,7 +147,8 @@ class Specs:
             if it.file != path.stem:
                 continue
             it.names |= set(self._named(it.lines, own, brought)) - {it}
-            words = {word for line in it.lines if "ghost" not in line for word in re.findall(r"\w+", line.split("//")[0])}
+            words = {word for line in it.lines if "ghost" not in line
+                     for word in re.findall(r"\w+", line.split("//")[0])}
             it.names |= {plain[word] for word in words & plain.keys()} - {it}
 
     @staticmethod
@@ -226,8 +230,10 @@ class Specs:
 
 def clauses_of(source: str) -> Iterator[str]:
     """The text of each clause and ghost item of a source."""
-    kept = "\n".join(line for line in source.split("\n") if not line.strip().startswith("//") and "ghost use" not in line)
-    for found in re.finditer(r"\b(?:requires|ensures|invariant|decreases)\*?(?:\s+\w+)?\s*\{|\bghost\s+\w+\s*[=:]\s*\{", kept):
+    kept = "\n".join(line for line in source.split("\n") if not line.strip().startswith("//")
+                     and "ghost use" not in line)
+    for found in re.finditer(r"\b(?:requires|ensures|invariant|decreases)\*?(?:\s+\w+)?\s*\{|\bghost\s+\w+\s*[=:]\s*\{",
+                             kept):
         at, depth = found.end(), 1
         while at < len(kept) and depth:
             depth += {"{": 1, "}": -1}.get(kept[at], 0)

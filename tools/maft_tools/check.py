@@ -1,8 +1,8 @@
-"""Says in words why the program refuses a scenario or a log: which key or entry, what stands there, and what was expected.
+"""Says in words why the program refuses a scenario or a log: the key or entry, what stands there, what must.
 
-The program alone decides: this module is asked once it has refused. `findings` goes through the rules in their order, as docs/FORMATS.md
-has them, and tells what fails at the first place of the first rule that fails; `explain` sets that beside the program's own answer, and
-where the two differ, it says so.
+The program alone decides: this module is asked once it has refused. `findings` goes through the rules in their order,
+as docs/FORMATS.md has them, and tells what fails at the first place of the first rule that fails; `explain` sets that
+beside the program's own answer, and where the two differ, it says so.
 """
 from __future__ import annotations
 
@@ -35,17 +35,21 @@ class Disagreement(WordsError):
 # ---- rule 1: keys and types
 
 # of each object its keys, each with what it must be; a key with ? may be left out, one with 2 is unknown in version 1
-SCENARIO = {"version?": "whole", "nodes": "whole", "m": "whole", "periods": "whole", "policy": "policy", "frame?": "whole", "order?": "whole",
-            "channels?": "channels", "tasks?": "tasks", "faults?": "faults", "restarts?": "restarts", "clock?2": "clock"}
+SCENARIO = {"version?": "whole", "nodes": "whole", "m": "whole", "periods": "whole", "policy": "policy",
+            "frame?": "whole", "order?": "whole",
+            "channels?": "channels", "tasks?": "tasks", "faults?": "faults", "restarts?": "restarts",
+            "clock?2": "clock"}
 OBJECTS: dict[str, dict[str, str]] = {
-    "policy": {"weights": "list", "exclude": "whole", "readmit": "whole", "credit": "whole", "streak": "whole", "cap": "whole", "retire?2": "whole"},
+    "policy": {"weights": "list", "exclude": "whole", "readmit": "whole", "credit": "whole", "streak": "whole",
+               "cap": "whole", "retire?2": "whole"},
     "state": {"kind": "text", "delta": "whole", "start": "list", "step": "whole"},
     "sensor": {"kind": "text", "delta": "whole", "readings": "rows", "task?": "whole"},
     "copy": {"kind": "text", "delta": "whole", "task": "whole", "lies": "whole", "readings": "rows"},
     "tasks": {"after": "list", "nodes": "list", "need": "whole", "min": "whole", "max": "whole", "run": "list"},
     "faults": {"from": "whole", "to": "numbers", "periods": "list", "slots": "numbers", "effect": "effect"},
     "restarts": {"node": "whole", "period": "whole"},
-    "clock": {"epsilon": "whole", "drift": "whole", "start": "list", "drifts": "rows", "errors": "rows", "lies": "lies"},
+    "clock": {"epsilon": "whole", "drift": "whole", "start": "list", "drifts": "rows", "errors": "rows",
+              "lies": "lies"},
     "lies": {"from": "whole", "to": "numbers", "periods": "list", "by": "whole"},
     "set": {"at": "whole", "hex": "text"},
 }
@@ -140,9 +144,11 @@ def _numbers(value: Any, path: str, version: int) -> Iterator[str]:
 def _effect(value: Any, path: str, version: int) -> Iterator[str]:
     if isinstance(value, str):
         if value not in ("drop", "twice"):
-            yield f"{path} is {shown(value)}, and must be \"drop\", \"twice\", or an object with one of {', '.join(EFFECTS)}"
+            yield (f"{path} is {shown(value)}, and must be \"drop\", \"twice\", or an object with one of "
+                   f"{', '.join(EFFECTS)}")
     elif not isinstance(value, dict) or len(value) != 1 or next(iter(value)) not in EFFECTS:
-        keys = f"has the keys {', '.join(shown(it)[1:-1] for it in value) or '-'}" if isinstance(value, dict) else f"is {shown(value)}"
+        keys = (f"has the keys {', '.join(shown(it)[1:-1] for it in value) or '-'}" if isinstance(value, dict)
+                else f"is {shown(value)}")
         yield f"{path} {keys}, and must be \"drop\", \"twice\", or an object with just one of {', '.join(EFFECTS)}"
     else:
         key, inner = next(iter(value.items()))
@@ -155,7 +161,8 @@ def _channel(value: Any, path: str, version: int) -> Iterator[str]:
     elif "kind" not in value:
         yield f"{path} has no key kind"
     elif value["kind"] not in ("state", "sensor", "copy"):
-        yield f"{path}.kind is {shown(value['kind'])}, and must be \"state\", \"sensor\"" + (" or \"copy\"" if version != 1 else "")
+        yield (f"{path}.kind is {shown(value['kind'])}, and must be \"state\", \"sensor\""
+               + (" or \"copy\"" if version != 1 else ""))
     elif value["kind"] == "copy" and version == 1:
         yield f"{path}.kind is \"copy\", which version 1 hasn't; it takes \"version\": 2 at the top"
     else:
@@ -288,7 +295,8 @@ def _spread(path: str, row: list[int], nodes: Iterable[int], bound: int, name: s
         low, high = min(there, key=lambda it: row[it]), max(there, key=lambda it: row[it])
         apart = row[high] - row[low]
         if apart > bound:
-            yield f"{path}[{low}] is {row[low]} and {path}[{high}] is {row[high]}: they are {apart} apart, and {name} is {bound}"
+            yield (f"{path}[{low}] is {row[low]} and {path}[{high}] is {row[high]}: they are {apart} apart, and {name} "
+                   f"is {bound}")
 
 
 def distances(s: Json) -> Iterator[Finding]:
@@ -298,7 +306,8 @@ def distances(s: Json) -> Iterator[Finding]:
         nodes: Iterable[int] = range(s["nodes"])
         if channel["kind"] == "copy":
             nodes = sorted({it for it in tasks[channel["task"]]["nodes"] if 0 <= it < s["nodes"]})
-        rows = [("start", channel["start"])] if channel["kind"] == "state" else [(f"readings[{k}]", it) for k, it in enumerate(channel["readings"])]
+        rows = ([("start", channel["start"])] if channel["kind"] == "state"
+                else [(f"readings[{k}]", it) for k, it in enumerate(channel["readings"])])
         for name, row in rows:
             for words in _spread(f"channels[{at}].{name}", row, nodes, channel["delta"], "delta"):
                 yield Finding(7, at, words)
@@ -314,7 +323,8 @@ def _ascending(path: str, values: list[int], limit: int, what: str) -> Iterator[
             break
     for value in values:
         if not 0 <= value < limit:
-            yield f"{path} has {value}, and {what} are numbered from 0 to {limit - 1}" if limit else f"{path} has {value}, and there are no {what}"
+            yield (f"{path} has {value}, and {what} are numbered from 0 to {limit - 1}" if limit
+                   else f"{path} has {value}, and there are no {what}")
             break
 
 
@@ -327,7 +337,8 @@ def _one_task(s: Json, at: int, task: Json) -> Iterator[str]:
         yield f"{path}.nodes is empty, and must have the nodes that may run a copy"
     yield from _ascending(f"{path}.nodes", task["nodes"], s["nodes"], "nodes")
     if not 1 <= task["need"] <= len(task["nodes"]):
-        yield f"{path}.need is {task['need']}, and must be from 1 to the number of its nodes, which is {len(task['nodes'])}"
+        yield (f"{path}.need is {task['need']}, and must be from 1 to the number of its nodes, which is "
+               f"{len(task['nodes'])}")
     yield from within(f"{path}.max", task["max"], 1, 1024)
     if not 1 <= task["min"] <= task["max"]:
         yield f"{path}.min is {task['min']}, and must be from 1 to max, which is {task['max']}"
@@ -463,7 +474,8 @@ def overlaps(s: Json) -> Iterator[Finding]:
     faults = s.get("faults", [])
     for at, line in enumerate(faults):
         bits = _span_bits(line)
-        for link in ((line["from"], to, slot) for to in receivers(line, s["nodes"]) for slot in slots_of(line, _slots(s))):
+        for link in ((line["from"], to, slot) for to in receivers(line, s["nodes"])
+                     for slot in slots_of(line, _slots(s))):
             both = taken.get(link, 0) & bits
             if both:
                 yield Finding(11, at, _overlap(s, at, link, (both & -both).bit_length() - 1))
@@ -477,7 +489,8 @@ def _overlap(s: Json, at: int, link: tuple[int, int, int], period: int) -> str:
     for before, line in enumerate(s["faults"][:at]):
         is_there = line["from"] == sender and to in receivers(line, s["nodes"]) and slot in slots_of(line, _slots(s))
         if is_there and line["periods"][0] <= period <= line["periods"][1]:
-            return f"faults[{at}] and faults[{before}] both touch the link from {sender} to {to} in period {period}, slot {slot}"
+            return (f"faults[{at}] and faults[{before}] both touch the link from {sender} to {to} in period {period}, "
+                    f"slot {slot}")
     raise AssertionError("a line before it has the link")
 
 
@@ -489,10 +502,12 @@ def restarts(s: Json) -> Iterator[Finding]:
         if not 0 <= it["node"] < s["nodes"]:
             yield Finding(12, at, f"{path}.node is {it['node']}, and nodes are numbered from 0 to {s['nodes'] - 1}")
         if not 1 <= it["period"] < s["periods"]:
-            until = f"must be from 1 to {s['periods'] - 1}" if s["periods"] > 1 else "a scenario of one period has no restart"
+            until = (f"must be from 1 to {s['periods'] - 1}" if s["periods"] > 1
+                     else "a scenario of one period has no restart")
             yield Finding(12, at, f"{path}.period is {it['period']}, and {until}")
         if before is not None and (before["period"], before["node"]) >= (it["period"], it["node"]):
-            yield Finding(12, at, f"{path} is node {it['node']} in period {it['period']}, and comes behind node {before['node']} in period "
+            yield Finding(12, at, f"{path} is node {it['node']} in period {it['period']}, and comes behind node "
+                                  f"{before['node']} in period "
                           f"{before['period']}: restarts ascend by period, then node, and none stands twice")
         before = it
 
@@ -511,7 +526,8 @@ def clock(s: Json) -> Iterator[Finding]:
         return
     c, nodes = s["clock"], s["nodes"]
     said = [*within("clock.epsilon", c["epsilon"], 0, STEP), *within("clock.drift", c["drift"], 0, STEP),
-            *_row("clock.start", c["start"], nodes, -CLOCK, CLOCK), *_rows("clock.drifts", c["drifts"], nodes, -STEP, STEP)]
+            *_row("clock.start", c["start"], nodes, -CLOCK, CLOCK),
+            *_rows("clock.drifts", c["drifts"], nodes, -STEP, STEP)]
     for at, row in enumerate(c["drifts"]):
         if c["drift"] >= 0:
             said += _spread(f"clock.drifts[{at}]", row, range(len(row)), c["drift"], "drift")
@@ -557,7 +573,8 @@ class Classes:
     def _joins(self, period: int, node: int, good: set[int]) -> bool:
         if (period, node) not in self.restarts or self._touching(period, node):
             return False
-        others = [it for it in self.nodes if it != node and it not in good and not _is_manifest(self._effect(period, 0, it, node))]
+        others = [it for it in self.nodes if it != node and it not in good
+                  and not _is_manifest(self._effect(period, 0, it, node))]
         return len(others) < len(good)
 
     def sound_in(self, period: int) -> set[int]:
@@ -570,8 +587,9 @@ class Classes:
         return self.sound[period]
 
     def is_symmetric(self, period: int, node: int) -> bool:
-        """Whether an unsound node is symmetric: not benign, and in each slot the same befalls its frames to all others."""
-        table = [[self._effect(period, slot, node, to) for to in self.nodes if to != node] for slot in range(_slots(self.s))]
+        """Whether an unsound node is symmetric: not benign, and in each slot all others get the same of it."""
+        table = [[self._effect(period, slot, node, to) for to in self.nodes if to != node]
+                 for slot in range(_slots(self.s))]
         if all(_is_manifest(it) for row in table for it in row):
             return False
         return all(it == row[0] for row in table for it in row)
@@ -587,7 +605,8 @@ def _same(effect: Any) -> Any:
 
 
 def _is_manifest(effect: Any) -> bool:
-    return effect is not None and (effect[0] if isinstance(effect, tuple) else effect) in ("drop", "twice", "cut", "time")
+    return (effect is not None
+            and (effect[0] if isinstance(effect, tuple) else effect) in ("drop", "twice", "cut", "time"))
 
 
 def _one_lie(s: Json, classes: Classes, at: int, lie: Json) -> Iterator[str]:
@@ -601,10 +620,12 @@ def _one_lie(s: Json, classes: Classes, at: int, lie: Json) -> Iterator[str]:
     to_all = len(receivers(lie, s["nodes"])) == s["nodes"] - 1
     for period in range(lie["periods"][0], lie["periods"][1] + 1):
         if lie["from"] in classes.sound_in(period):
-            yield f"{path} is a lie of node {lie['from']} in period {period}, in which it is sound: a fault line must make it faulty"
+            yield (f"{path} is a lie of node {lie['from']} in period {period}, in which it is sound: a fault line must "
+                   "make it faulty")
             return
         if not to_all and classes.is_symmetric(period, lie["from"]):
-            yield f"{path} is told to some alone in period {period}, in which node {lie['from']} is symmetric: to must be every other node"
+            yield (f"{path} is told to some alone in period {period}, in which node {lie['from']} is symmetric: to "
+                   "must be every other node")
             return
 
 
@@ -638,25 +659,30 @@ def log_types(log: Any) -> Iterator[Finding]:
         yield Finding(15, 0, f"frames is {shown(frames)}, and must be a list")
         return
     for at, entry in enumerate(frames):
-        if not isinstance(entry, list) or len(entry) != 5 or not all(map(is_whole, entry[:4])) or not isinstance(entry[4], str):
-            yield Finding(15, 0, f"frames[{at}] is {shown(entry)}, and must be a list of four whole numbers and a text: period, slot, from, tick, hex")
+        if (not isinstance(entry, list) or len(entry) != 5 or not all(map(is_whole, entry[:4]))
+                or not isinstance(entry[4], str)):
+            yield Finding(15, 0, f"frames[{at}] is {shown(entry)}, and must be a list of four whole numbers and a "
+                                 "text: period, slot, from, tick, hex")
 
 
 def log_entries(log: Json, node: int) -> Iterator[Finding]:
     """Rules 16 and 17."""
     s = log["scenario"]
     if not 0 <= node < s["nodes"]:
-        yield Finding(16, 0, f"the log is said to be node {node}'s, and the scenario's nodes are numbered from 0 to {s['nodes'] - 1}")
+        yield Finding(16, 0, f"the log is said to be node {node}'s, and the scenario's nodes are numbered from 0 to "
+                             f"{s['nodes'] - 1}")
     before = (0, 0)
     for at, (period, slot, sender, tick, text) in enumerate(log["frames"]):
         path = f"frames[{at}]"
-        said = [*within(f"{path}'s period", period, 0, s["periods"] - 1), *within(f"{path}'s slot", slot, 0, _slots(s) - 1),
+        said = [*within(f"{path}'s period", period, 0, s["periods"] - 1),
+                *within(f"{path}'s slot", slot, 0, _slots(s) - 1),
                 *within(f"{path}'s sender", sender, 0, s["nodes"] - 1), *within(f"{path}'s tick", tick, 0, 30)]
         if sender == node:
             said.append(f"{path} is from node {sender} to itself, whose log this is")
         said += _digits(path, text)
         if (period, slot) < before:
-            said.append(f"{path} is of period {period} and slot {slot}, and comes behind one of period {before[0]} and slot {before[1]}")
+            said.append(f"{path} is of period {period} and slot {slot}, and comes behind one of period {before[0]} and "
+                        f"slot {before[1]}")
         before = (period, slot)
         yield from (Finding(17, at, it) for it in said)
 
@@ -709,7 +735,8 @@ def told(found: list[Finding], most: int = 8) -> str:
 def explain(data: bytes, words: list[str], status: int, answer: str) -> str:
     """Why the program ended a run on an input with a status 3 or 4, in words.
 
-    `answer` is what it wrote. Raises Disagreement where the input is found to be well, or refused by another rule or at another place.
+    `answer` is what it wrote. Raises Disagreement where the input is found to be well, or refused by another rule or at
+    another place.
     """
     try:
         value = read(data)
@@ -721,5 +748,6 @@ def explain(data: bytes, words: list[str], status: int, answer: str) -> str:
     says = "that it is no JSON text" if status == 3 else f"'{answer}'"
     finds = f"'refused {found[0].rule} {found[0].place}' ({told(found)})" if found else "nothing wrong"
     if status == 3 or not found or answer != f"refused {found[0].rule} {found[0].place}":
-        raise Disagreement(f"the program says {says}, and this tool finds {finds}: one of the two is wrong; the program decides")
+        raise Disagreement(f"the program says {says}, and this tool finds {finds}: one of the two is wrong; the "
+                           "program decides")
     return f"{answer}: {told(found)}"

@@ -1,7 +1,8 @@
 """Says in words what a node was delivered in a period, what it expected, and what it makes of it.
 
-`Teller` goes through the slices of a trace or a log (module `trace`) and gives the lines. Frames are read by the rules of the formats, and
-items are settled by those of the protocol; what comes out is compared with what the program printed, and where they differ, that is said.
+`Teller` goes through the slices of a trace or a log (module `trace`) and gives the lines. Frames are read by the rules
+of the formats, and items are settled by those of the protocol; what comes out is compared with what the program
+printed, and where they differ, that is said.
 """
 from __future__ import annotations
 
@@ -9,7 +10,8 @@ import dataclasses
 from collections.abc import Iterable, Iterator
 
 from . import plan, text
-from .frames import NO_CLAIM, Cold, Content, Expectation, Malformed, Sizes, State, fault, masks, paths, read, row_of, shown_path
+from .frames import NO_CLAIM, Cold, Content, Expectation, Malformed, Sizes, State
+from .frames import fault, masks, paths, read, row_of, shown_path
 from .hearing import Heard
 from .plan import Json, WordsError, kind_names
 from .trace import Arrived, Slice
@@ -20,12 +22,13 @@ EQUIVOCATE = 8
 # the kinds that a node notes by its frames alone
 FROM_FRAMES = (MISSING, MALFORMED, TIMING, COLD, STATE, EQUIVOCATE)
 APART = "the text says otherwise, so frames and text don't belong together"
-SLOT_NAMES = {1: "states", 2: "claims", 3: "relays of claims", 4: "values", 5: "accusations", 6: "relays of accusations"}
+SLOT_NAMES = {1: "states", 2: "claims", 3: "relays of claims", 4: "values", 5: "accusations",
+              6: "relays of accusations"}
 
 
 @dataclasses.dataclass
 class Asked:
-    """Which part of each period is told: slots and senders, None for all; and how many differing entries of a frame at most."""
+    """Which part of each period is told: slots and senders, None for all; and at most how many entries of a frame."""
 
     slots: set[int] | None = None
     senders: set[int] | None = None
@@ -34,7 +37,7 @@ class Asked:
 
 @dataclasses.dataclass
 class Got:
-    """What a node has of one frame: its finding as a kind of error or None for good, what it says, and why it is bad."""
+    """What a node has of one frame: its finding, a kind of error or None for good; what it says; why it is bad."""
 
     finding: int | None
     content: Content | None
@@ -79,7 +82,8 @@ def value_in_words(value: int, is_claim: bool, nodes: int) -> str:
     """A value of an item: plain, or an error that was wrapped."""
     if value >= 0:
         return claim_in_words(value) if is_claim else row_in_words(value, nodes)
-    return "nothing came" if value == fault(0) else f"an error, wrapped {'once' if value == fault(1) else f'{-1 - value} times'}"
+    return ("nothing came" if value == fault(0)
+            else f"an error, wrapped {'once' if value == fault(1) else f'{-1 - value} times'}")
 
 
 def finding_of(arrived: Arrived | None, want: Expectation) -> Got:
@@ -95,7 +99,8 @@ def finding_of(arrived: Arrived | None, want: Expectation) -> Got:
         content = read(bytes.fromhex(data.decode()), want)
     except Malformed as error:
         return Got(MALFORMED, None, str(error))
-    return Got(COLD, content, "it says that it has no agreed state") if isinstance(content, Cold) else Got(None, content)
+    return (Got(COLD, content, "it says that it has no agreed state") if isinstance(content, Cold)
+            else Got(None, content))
 
 
 def sizes_of(scenario: Json) -> Sizes:
@@ -104,11 +109,13 @@ def sizes_of(scenario: Json) -> Sizes:
 
 
 def sizes_in(it: Slice) -> Sizes:
-    """The sizes that a traced period shows by itself: its last slot, its nodes, and a State frame's version and length."""
+    """The sizes that a traced period shows by itself: its last slot, its nodes, a State frame's version and length."""
     nodes = max(len(node.counts) for node in it.period.nodes) if it.period.nodes else 0
-    states = [data for (slot, _, _), arrived in it.frames.items() if slot == 0 for _, data in arrived if data[:4] == b"4d46" and data[6:8] == b"01"]
+    states = [data for (slot, _, _), arrived in it.frames.items() if slot == 0 for _, data in arrived
+              if data[:4] == b"4d46" and data[6:8] == b"01"]
     if not nodes or not states or it.slots < 4 or it.slots % 2:
-        raise WordsError("the text doesn't tell how many nodes, slots and tasks there are; give the scenario with --scenario")
+        raise WordsError("the text doesn't tell how many nodes, slots and tasks there are; give the scenario with "
+                         "--scenario")
     body = bytes.fromhex(max(states, key=states.count).decode())
     version, rest = body[2], len(body) - plan.HEADER - 2 - 4 * nodes
     tasks = (rest - (2 * nodes if version == 2 else 0)) // (2 * nodes)
@@ -116,7 +123,7 @@ def sizes_in(it: Slice) -> Sizes:
 
 
 class Teller:
-    """Goes through the periods in their order and tells of each node that is asked for. `scenario` is {} where it isn't known."""
+    """Goes through the periods in order and tells of each node asked for. `scenario` is {} where it isn't known."""
 
     def __init__(self, scenario: Json, asked: Asked) -> None:
         self.scenario, self.asked = scenario, asked
@@ -134,7 +141,8 @@ class Teller:
         for node in nodes if it.frames or is_told else ():
             record = records.get(node)
             if record is None or self.sizes is None:
-                raise WordsError(f"period {it.period.number} has no lines of node {node}, or no frames to it; is it a trace, or its own log?")
+                raise WordsError(f"period {it.period.number} has no lines of node {node}, or no frames to it; is it a "
+                                 "trace, or its own log?")
             if record.counts and len(record.counts) != self.sizes.nodes:
                 raise WordsError(f"the text is of {len(record.counts)} nodes, and the scenario of {self.sizes.nodes}")
             story = Story(self, it, record)
@@ -188,7 +196,10 @@ class Story:
         return found
 
     def _own_state(self) -> State | None:
-        """The state that the node goes through the period with; its copies are those that a frame of an equal state has, if there is one."""
+        """The state that the node goes through the period with.
+
+        Its copies are those that a frame of an equal state has, if there is one.
+        """
         bodies = sorted(self._bodies().items(), key=lambda it: -len(it[1]))
         if self.record.is_cold:
             return None
@@ -203,7 +214,8 @@ class Story:
         left = tuple(before.left) if self.sizes.version == 2 else ()
         row = self.record.rows.get(self.node)
         for state, sayers in bodies:
-            same = (state.members, state.counts, state.streaks) == (tuple(before.members), tuple(before.counts), tuple(before.streaks))
+            held = (tuple(before.members), tuple(before.counts), tuple(before.streaks))
+            same = (state.members, state.counts, state.streaks) == held
             is_own = row is None or not any(row[it] >> STATE & 1 for it in sayers)
             if same and (state.left == left or not before.left) and is_own:
                 return state
@@ -316,9 +328,11 @@ class Story:
             said.append(f"members {spanned(state.members)}, where the node has {spanned(self.state.members)}")
         for name in ("counts", "streaks", "left"):
             theirs, own = getattr(state, name), getattr(self.state, name)
-            said += [f"{name} of node {at} {a}, where the node has {b}" for at, (a, b) in enumerate(zip(theirs, own)) if a != b]
+            said += [f"{name} of node {at} {a}, where the node has {b}" for at, (a, b) in enumerate(zip(theirs, own))
+                     if a != b]
         for task, (theirs, own) in enumerate(zip(state.copies, self.state.copies)):
-            said += [f"task {task} on node {at} {_copy(a)}, where the node has {_copy(b)}" for at, (a, b) in enumerate(zip(theirs, own)) if a != b]
+            said += [f"task {task} on node {at} {_copy(a)}, where the node has {_copy(b)}"
+                     for at, (a, b) in enumerate(zip(theirs, own)) if a != b]
         if not self.state.copies and self.sizes.tasks:
             said.append("and which copies the node has isn't known")
         return f"another state: {'; '.join(said) or 'of other copies of tasks'}: state"
@@ -343,7 +357,8 @@ class Story:
         differing = heard.differing(other, length)
         if not differing:
             return f"{entries}, each as the path's last node said here"
-        lines = [f"{entries}, of which {len(differing)} differ{'s' if len(differing) == 1 else ''} from what the path's last node said here"]
+        lines = [f"{entries}, of which {len(differing)} differ{'s' if len(differing) == 1 else ''} from what the "
+                 "path's last node said here"]
         groups: dict[tuple[int, int, int], list[tuple[int, ...]]] = {}
         for path, entry, here in differing:
             groups.setdefault((path[-1], entry, here), []).append(path)
@@ -356,7 +371,8 @@ class Story:
     def _entry_words(self, group: tuple[int, int, int], of: list[tuple[int, ...]], is_claim: bool) -> str:
         """Entries in which a node tells the same of the same last node, who said something else here."""
         last, entry, here = group
-        where = f"path {shown_path(of[0])}" if len(of) == 1 else f"{len(of)} paths that end with {last}, the first {shown_path(of[0])}"
+        where = (f"path {shown_path(of[0])}" if len(of) == 1
+                 else f"{len(of)} paths that end with {last}, the first {shown_path(of[0])}")
         words = [value_in_words(it, is_claim, self.sizes.nodes) for it in (entry, here)]
         if here == fault(1) and last != self.node:
             return f"{where}: {words[0]}; here nothing came of node {last}, or an error"
@@ -385,13 +401,16 @@ class Story:
         for other in self.others:
             reasons = noted.get(other, {})
             mask = row[other] if row is not None else sum(1 << it for it in reasons)
-            words = [f"{plan.KINDS[bit]}{' (' + ', '.join(reasons[bit]) + ')' if bit in reasons else ''}" for bit in range(len(plan.KINDS)) if mask >> bit & 1]
+            words = [f"{plan.KINDS[bit]}{' (' + ', '.join(reasons[bit]) + ')' if bit in reasons else ''}"
+                     for bit in range(len(plan.KINDS)) if mask >> bit & 1]
             if words:
                 yield f"  it accuses node {other} of {', '.join(words)}"
             by_frames = {*reasons, *(() if row is None else self._seen(other))}
-            wrong = [plan.KINDS[it] for it in FROM_FRAMES if (it in by_frames) != bool(mask >> it & 1)] if self.record.mode == "full" else []
+            wrong = ([plan.KINDS[it] for it in FROM_FRAMES if (it in by_frames) != bool(mask >> it & 1)]
+                     if self.record.mode == "full" else [])
             if wrong:
-                yield f"  by its frames it {'would' if wrong[0] in map(plan.KINDS.__getitem__, by_frames) else 'would not'} accuse node {other} of {wrong[0]}: {APART}"
+                would = "would" if wrong[0] in map(plan.KINDS.__getitem__, by_frames) else "would not"
+                yield f"  by its frames it {would} accuse node {other} of {wrong[0]}: {APART}"
 
     def _seen(self, other: int) -> list[int]:
         """The kind state, where the other's frame in slot 0 says another state than this node's own."""
@@ -406,10 +425,12 @@ class Story:
                 continue
             here, settled = heard.told.get((other,), fault(0)), heard.settled((other,))
             if settled != here or settled < 0:
-                end = "as an error" if settled < 0 else f"otherwise than it was said here: {value_in_words(settled, is_claim, self.sizes.nodes)}"
+                end = ("as an error" if settled < 0
+                       else f"otherwise than it was said here: {value_in_words(settled, is_claim, self.sizes.nodes)}")
                 yield f"  the {what} of node {other} settles {end}"
                 yield from self._places(heard, (other,), is_claim, "    ")
-            if self._printed(other, is_claim) != settled and not (settled < 0 and self._printed(other, is_claim) is None):
+            if (self._printed(other, is_claim) != settled
+                    and not (settled < 0 and self._printed(other, is_claim) is None)):
                 yield f"  the text has another {what} of node {other} than the frames come to: {APART}"
 
     def _printed(self, other: int, is_claim: bool) -> int | None:
@@ -421,9 +442,13 @@ class Story:
         return None if row is None else row_of(list(row))
 
     def _places(self, heard: Heard, path: tuple[int, ...], is_claim: bool, margin: str) -> Iterator[str]:
-        """The values at the places of a majority, and of each place that settles otherwise than its node said, its own places."""
+        """The values at the places of a majority.
+
+        Of each place that settles otherwise than its node said, its own places follow.
+        """
         if len(path) == heard.m + 1:
-            yield f"{margin}node {path[-1]} said here: {value_in_words(heard.told.get(path, fault(0)), is_claim, self.sizes.nodes)}"
+            yield (f"{margin}node {path[-1]} said here: "
+                   f"{value_in_words(heard.told.get(path, fault(0)), is_claim, self.sizes.nodes)}")
             return
         places = heard.places(path)
         there = sum(it != fault(0) for it in places.values())
@@ -436,7 +461,8 @@ class Story:
         for node in places:
             inner = (*path, node)
             if node != self.node and len(inner) <= heard.m and heard.settled(inner) != heard.told.get(inner, fault(0)):
-                yield f"{margin}what node {node} said of path {shown_path(path)} settles otherwise than it was said here"
+                yield (f"{margin}what node {node} said of path {shown_path(path)} "
+                       "settles otherwise than it was said here")
                 yield from self._places(heard, inner, is_claim, margin + "  ")
 
     def _convictions(self) -> Iterator[str]:
@@ -447,8 +473,9 @@ class Story:
             for other in self.others:
                 it = heard.conviction(other)
                 if it:
-                    yield (f"  it convicts node {other} over its {over}{when}: the relays of {nodes_in_words(it.relays)} say otherwise than "
-                           f"node {other} said here ({len(it.relays)} of {it.voices} voices, and {it.tolerated} are tolerated)")
+                    yield (f"  it convicts node {other} over its {over}{when}: the relays of "
+                           f"{nodes_in_words(it.relays)} say otherwise than node {other} said here "
+                           f"({len(it.relays)} of {it.voices} voices, and {it.tolerated} are tolerated)")
 
     def _charges(self) -> Iterator[str]:
         """Which settled rows accuse whom of what, and whether that is a charge."""
@@ -461,14 +488,17 @@ class Story:
                 if accusers:
                     is_charge = charged.get(node, 0) >> bit & 1
                     verdict = "charged" if is_charge else "not charged, as this isn't more than half"
-                    yield f"  node {node}, {kind_names(1 << bit)[0]}: {verdict}; by the row{'' if len(accusers) == 1 else 's'} of {spanned(accusers)}, {len(accusers)} of {len(voters)}"
+                    rows = f"row{'' if len(accusers) == 1 else 's'} of {spanned(accusers)}"
+                    yield (f"  node {node}, {kind_names(1 << bit)[0]}: {verdict}; by the {rows}, "
+                           f"{len(accusers)} of {len(voters)}")
 
     def _after(self) -> Iterator[str]:
         left = [it for it in self.members if it not in self.record.members]
         joined = [it for it in self.record.members if it not in self.members]
         moved = [f"{nodes_in_words(left)} left"] * bool(left) + [f"{nodes_in_words(joined)} joined"] * bool(joined)
         if moved:
-            yield f"  after the period {' and '.join(moved)}: members {spanned(self.record.members)}; counts {', '.join(map(str, self.record.counts))}"
+            yield (f"  after the period {' and '.join(moved)}: members {spanned(self.record.members)}; counts "
+                   f"{', '.join(map(str, self.record.counts))}")
 
 
 def _copy(value: int) -> str:

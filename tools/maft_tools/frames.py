@@ -1,7 +1,7 @@
 """Reads frames, as docs/FORMATS.md has them: bytes become a content, or a sentence of what is wrong with them.
 
-A value of a relay entry is a number: a plain value v (of a claim its byte, of a row its masks as one number) is v itself, and an error that
-was wrapped k times is -1 - k.
+A value of a relay entry is a number: a plain value v (of a claim its byte, of a row its masks as one number) is v
+itself, and an error that was wrapped k times is -1 - k.
 """
 from __future__ import annotations
 
@@ -61,7 +61,7 @@ class Expectation:
 
 @dataclasses.dataclass(frozen=True)
 class State:
-    """The body of a State frame: members as a list, a count and a streak for each node, how often each left, and copies by task."""
+    """The body of a State frame: the members; a count, a streak and how often it left by node; copies by task."""
 
     members: Path
     counts: Path
@@ -126,8 +126,9 @@ def _header(data: bytes, want: Expectation) -> int:
     """The kind; raises Malformed where the header isn't as expected."""
     if len(data) < HEADER:
         raise Malformed(f"it has {len(data)} bytes, and a header has {HEADER}")
-    for at, size, name, value in ((0, 2, "magic", 0x4d46), (2, 1, "version", want.sizes.version), (4, 4, "period", want.period),
-                                  (8, 1, "sender", want.sender), (9, 1, "slot", want.slot)):
+    fields = ((0, 2, "magic", 0x4d46), (2, 1, "version", want.sizes.version), (4, 4, "period", want.period),
+              (8, 1, "sender", want.sender), (9, 1, "slot", want.slot))
+    for at, size, name, value in fields:
         said = _number(data, at, size)
         if said != value:
             shown = (f"{said:04x}", f"{value:04x}") if name == "magic" else (said, value)
@@ -178,7 +179,8 @@ def state(body: bytes, sizes: Sizes) -> State:
     mask = _number(body, 0, 2)
     counts, streaks = take(), take()
     left = take() if sizes.version == 2 else ()
-    return State(tuple(it for it in range(16) if mask >> it & 1), counts, streaks, left, tuple(take() for _ in range(sizes.tasks)))
+    return State(tuple(it for it in range(16) if mask >> it & 1), counts, streaks, left,
+                 tuple(take() for _ in range(sizes.tasks)))
 
 
 def _claim(byte: int, sizes: Sizes) -> int:
@@ -198,7 +200,8 @@ def _values(body: bytes) -> Path:
 def _row(body: bytes, sizes: Sizes, where: str) -> int:
     if sizes.version == 1 and any(body[::2]):
         at = next(it for it in range(0, len(body), 2) if body[it])
-        raise Malformed(f"{where}its mask for node {at // 2} is {_number(body, at, 2)}, and version 1 has masks up to 255")
+        raise Malformed(f"{where}its mask for node {at // 2} is {_number(body, at, 2)}, "
+                        "and version 1 has masks up to 255")
     return int.from_bytes(body, "big")
 
 
@@ -219,7 +222,8 @@ def _entries(body: bytes, want: Expectation) -> Path:
             except Malformed as error:
                 raise Malformed(str(error) if not is_claim else where + str(error)) from None
         elif tag > length or any(value):
-            raise Malformed(f"the entry of path {shown_path(path)} has the tag {tag}" + (f", and a tag is at most {length}" if tag > length else " and a value beside it"))
+            raise Malformed(f"the entry of path {shown_path(path)} has the tag {tag}"
+                            + (f", and a tag is at most {length}" if tag > length else " and a value beside it"))
         else:
             found.append(fault(tag))
     return tuple(found)

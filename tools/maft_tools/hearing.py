@@ -1,4 +1,4 @@
-"""What one node makes of the relayed items of a period: what it heard by path, what it should have heard, and how it settles.
+"""What one node makes of the relayed items of a period: what it heard by path, what it should have, how it settles.
 
 The rules stand in docs/PROTOCOL.md, sections 3 and 4. A value is a number as in the module `frames`.
 """
@@ -12,7 +12,7 @@ from .frames import Path, fault, paths, unwrapped, wrapped
 
 @dataclasses.dataclass
 class Heard:
-    """Claims or rows as a node heard them. `own` is what it said itself, None where it said nothing or that isn't known."""
+    """Claims or rows as a node heard them. `own` is what it said itself, None where that is nothing or isn't known."""
 
     node: int
     members: Path
@@ -41,7 +41,10 @@ class Heard:
         return None if before is None else wrapped(before)
 
     def differing(self, sender: int, length: int) -> list[tuple[Path, int, int]]:
-        """The entries of a member's relay frame that differ from what the path's last node said here: path, entry, and that wrapped."""
+        """The entries of a member's relay frame that differ from what the path's last node said here.
+
+        Each is the path, the entry, and that wrapped.
+        """
         found = []
         for path in paths(self.members, sender, length):
             entry, here = self.told[(*path, sender)], self.of(path)

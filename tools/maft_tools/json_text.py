@@ -1,7 +1,8 @@
 """Reads JSON text as the program does, and says where a text that it can't read breaks.
 
-The program takes less than Python's own reader: at most 127 nested brackets, no byte order mark, no lone surrogate, no NaN or Infinity,
-and no number beyond the greatest float. A number with a fraction or an exponent, and -0, is a float to it, which no key takes.
+The program takes less than Python's own reader: at most 127 nested brackets, no byte order mark, no lone surrogate, no
+NaN or Infinity, and no number beyond the greatest float. A number with a fraction or an exponent, and -0, is a float to
+it, which no key takes.
 """
 from __future__ import annotations
 
@@ -104,7 +105,8 @@ class _Reader:
         if word in _WORDS:
             self.at += len(word)
             return _WORDS[word]
-        raise self.fail(f"a value is expected (an object, a list, a text in double quotes or a number), and {self.stands()}")
+        raise self.fail("a value is expected (an object, a list, a text in double quotes or a number), and "
+                        f"{self.stands()}")
 
     def nested(self, read: Any) -> Any:
         self.depth += 1
@@ -171,7 +173,8 @@ class _Reader:
             if not mark:
                 raise self.fail("this text in double quotes is never closed", began)
             if mark != "\\":
-                raise self.fail(f"a text has the control character {json.dumps(mark)}, which must be written as an escape")
+                raise self.fail(f"a text has the control character {json.dumps(mark)}, "
+                                "which must be written as an escape")
             parts.append(self.escape())
 
     def escape(self) -> str:
@@ -254,7 +257,8 @@ def _is_shallow(value: Any) -> bool:
     """Whether its brackets are nested no deeper than the program reads."""
     level = [value]
     for _ in range(DEEPEST):
-        level = [it for outer in level if isinstance(outer, (dict, list)) for it in (outer.values() if isinstance(outer, dict) else outer)
+        level = [it for outer in level if isinstance(outer, (dict, list))
+                 for it in (outer.values() if isinstance(outer, dict) else outer)
                  if isinstance(it, (dict, list))]
         if not level:
             return True

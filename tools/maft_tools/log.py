@@ -14,9 +14,10 @@ _FRAME = re.compile(f"frame {_NUMBER} {_NUMBER} {_NUMBER} {_NUMBER} {_NUMBER} (-
 
 
 def entries(trace: Iterable[str], node: int) -> list[Entry]:
-    """What the frame lines of a trace say that a node was delivered: period, slot, sender, tick and bytes, by period and slot.
+    """What the frame lines of a trace say that a node was delivered, by period and slot.
 
-    Raises WordsError where a line isn't a frame's, or there is more than the program reads.
+    Each is the period, slot, sender, tick and bytes. Raises WordsError where a line isn't a frame's, or there is more
+    than the program reads.
     """
     found: list[Entry] = []
     length = 0
@@ -38,17 +39,20 @@ def entries(trace: Iterable[str], node: int) -> list[Entry]:
 
 def too_long(node: int, length: str) -> WordsError:
     """The error where a log has so many bytes."""
-    return WordsError(f"node {node}'s log has {length} bytes, and the program reads at most {INPUT_LIMIT}: take fewer periods")
+    return WordsError(f"node {node}'s log has {length} bytes, and the program reads at most {INPUT_LIMIT}: "
+                      "take fewer periods")
 
 
 def cut(scenario: Json, trace: Iterable[str], node: int) -> str:
     """A node's log, as JSON text.
 
-    Raises WordsError where the scenario has no such node, the trace no frame for it, or the log is longer than the program reads.
+    Raises WordsError where the scenario has no such node, the trace no frame for it, or the log is longer than the
+    program reads.
     """
     nodes = scenario.get("nodes")
     if type(nodes) is not int or not 0 <= node < nodes:
-        raise WordsError(f"node {node} isn't one of the scenario's nodes, of which it says that there are {printable(str(nodes), 40)}")
+        raise WordsError(f"node {node} isn't one of the scenario's nodes, of which it says that there are "
+                         f"{printable(str(nodes), 40)}")
     log = entries(trace, node)
     if not log:
         raise WordsError(f"no frame to node {node} is in the trace; is it the text of 'replay trace'?")

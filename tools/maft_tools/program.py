@@ -77,7 +77,8 @@ def load_object(path: str) -> Json:
     """The object in a file, a scenario's or a log's, or in standard input for `-`."""
     data = json_text.bytes_of(path)
     if len(data) > INPUT_LIMIT:
-        raise WordsError(f"{json_text.printable(path)} is longer than {INPUT_LIMIT} bytes, which is what the program reads at most")
+        raise WordsError(f"{json_text.printable(path)} is longer than {INPUT_LIMIT} bytes, which is what the program "
+                         "reads at most")
     try:
         scenario = json_text.read(data)
     except json_text.BrokenJson as error:
@@ -94,7 +95,8 @@ def load(path: str) -> Json:
         found = log.silent(scenario)
         node = str(found[0]) if found is not None and len(found) == 1 else "I"
         raise WordsError(
-            f"{json_text.printable(path)} is the log of {'one node' if node == 'I' else f'node {node}'}, and no scenario; it is summed up by: "
+            f"{json_text.printable(path)} is the log of {'one node' if node == 'I' else f'node {node}'}, and no "
+            "scenario; it is summed up by: "
             f"./maft node {node} < {shlex.quote(json_text.printable(path))} | tools/summary")
     return scenario
 
@@ -113,11 +115,15 @@ def byte_lines(path: str) -> Iterator[bytes]:
             if not line:
                 return
             if len(line) == INPUT_LIMIT:
-                raise WordsError(f"{json_text.printable(path)} has a line of {INPUT_LIMIT} bytes or more, which is no text of maft")
+                raise WordsError(f"{json_text.printable(path)} has a line of {INPUT_LIMIT} bytes or more, which is no "
+                                 "text of maft")
             yield line
 
 
 def text_lines(path: str) -> Iterator[str]:
-    """The lines of the file of a text, or of standard input for `-`. A byte that isn't UTF-8 stands as one that no text has."""
+    """The lines of the file of a text, or of standard input for `-`.
+
+    A byte that isn't UTF-8 stands as one that no text has.
+    """
     for line in byte_lines(path):
         yield line.decode(errors="replace")

@@ -1,8 +1,9 @@
 """Scenarios as objects, and faults in words made to their lines.
 
-A statement is a sentence such as 'node 4 tells 999 on channel 0 to nodes 0 and 1 in periods 1 to 2'. `Scenario.add` reads it, and
-the methods below do the same from a program. Slots, offsets and bytes are worked out here; the rules are left to the program, but
-for those that a statement can break: a node or period that there isn't, and a link that has a line already.
+A statement is a sentence such as 'node 4 tells 999 on channel 0 to nodes 0 and 1 in periods 1 to 2'. `Scenario.add`
+reads it, and the methods below do the same from a program. Slots, offsets and bytes are worked out here; the rules are
+left to the program, but for those that a statement can break: a node or period that there isn't, and a link that has a
+line already.
 """
 from __future__ import annotations
 
@@ -31,14 +32,17 @@ clock of node I lies by B [to nodes ..] in periods P to Q
 node I restarts in period P
 policy exclude is N      (or readmit, credit, streak, cap, retire); policy weight of deviate is N
 clock drift is N      (or epsilon); clock start is N, N, ..; clock drifts are N, N, ..; N, N, ..      (or errors)
-readings of channel C are N, N, ..; N, N, ..      (or: start of channel C is N, N, ..; delta of channel C is N; step of channel C is N)
-Several nodes: nodes I, J and K are silent .. Several periods: in periods 2, 7 and 12 to 14, or every 5 periods from 2 to 40"""
+readings of channel C are N, N, ..; N, N, ..      (or: start of channel C is N, N, ..; \
+delta of channel C is N; step of channel C is N)
+Several nodes: nodes I, J and K are silent .. Several periods: in periods 2, 7 and 12 to 14, \
+or every 5 periods from 2 to 40"""
 
 
 class Scenario:
     """A scenario that statements are added to. `data` is the object that the program reads.
 
-    `due` answers which channels are due in a period, and is asked only where a channel of a task stands before the one told of.
+    `due` answers which channels are due in a period, and is asked only where a channel of a task stands before the one
+    told of.
     """
 
     def __init__(self, data: Json, due: Callable[[Json, int], list[int]] | None = None) -> None:
@@ -80,18 +84,21 @@ class Scenario:
         first, last = (choose(it) for choose, it in zip((max, min), zip(line["periods"], other["periods"])))
         return (min(to), min(slots), first) if to and slots and first <= last else None
 
-    def fault(self, sender: int, effect: Effect, periods: Span, to: Iterable[int] | None = None, slots: Iterable[int] | None = None) -> None:
+    def fault(self, sender: int, effect: Effect, periods: Span, to: Iterable[int] | None = None,
+              slots: Iterable[int] | None = None) -> None:
         """Adds a fault line; raises WordsError where a line has one of its links, periods and slots already."""
         in_slots: str | list[int] = "all" if slots is None else sorted(set(slots))
         if isinstance(in_slots, list) and not all(0 <= it < plan.slots(self.m) for it in in_slots):
             raise WordsError(f"slots are numbered from 0 to {plan.slots(self.m) - 1}")
-        line = {"from": self._node(sender), "to": self._to(sender, to), "periods": self._span(periods), "slots": in_slots, "effect": effect}
+        line = {"from": self._node(sender), "to": self._to(sender, to), "periods": self._span(periods),
+                "slots": in_slots, "effect": effect}
         lines = self.data.setdefault("faults", [])
         for at, other in enumerate(lines):
             shared = self._shared(line, other) if other["from"] == sender else None
             if shared:
                 node, slot, period = shared
-                raise WordsError(f"line {at} of faults has the link from {sender} to {node} in period {period} and slot {slot} already")
+                raise WordsError(f"line {at} of faults has the link from {sender} to {node} in period {period} and "
+                                 f"slot {slot} already")
         lines.append(line)
 
     def _places(self, channel: int, periods: Span) -> list[tuple[Span, int]]:
@@ -102,7 +109,8 @@ class Scenario:
         if all(plan.is_always_due(it) for it in channels[: channel + 1]):
             return [(periods, channel)]
         if self.due is None:
-            raise WordsError(f"channel {channel} or one before it is due in some periods alone; the program is needed to say in which")
+            raise WordsError(f"channel {channel} or one before it is due in some periods alone; the program is needed "
+                             "to say in which")
         spans: list[tuple[Span, int]] = []
         for period in range(periods[0], periods[1] + 1):
             due = self.due(self.data, period)
@@ -121,37 +129,45 @@ class Scenario:
         """Another value of a channel than the node's own, to some nodes or to all."""
         self._span(periods)
         for span, place in self._places(channel, periods):
-            self.fault(node, {"set": {"at": plan.value_at(place), "hex": plan.value_hex(value)}}, span, to, [plan.data_slot(self.m)])
+            self.fault(node, {"set": {"at": plan.value_at(place), "hex": plan.value_hex(value)}}, span, to,
+                       [plan.data_slot(self.m)])
 
-    def silent(self, node: int, periods: Span, to: Iterable[int] | None = None, slots: Iterable[int] | None = None) -> None:
+    def silent(self, node: int, periods: Span, to: Iterable[int] | None = None,
+               slots: Iterable[int] | None = None) -> None:
         """Frames that never arrive."""
         self.fault(node, "drop", periods, to, slots)
 
-    def late(self, node: int, periods: Span, to: Iterable[int] | None = None, slots: Iterable[int] | None = None, tick: int = 25) -> None:
+    def late(self, node: int, periods: Span, to: Iterable[int] | None = None, slots: Iterable[int] | None = None,
+             tick: int = 25) -> None:
         """Frames at a tick outside the window."""
         if not (0 <= tick < 10 or 20 < tick <= 30):
             raise WordsError(f"a frame at tick {tick} isn't late: outside the window are ticks 0 to 9 and 21 to 30")
         self.fault(node, {"time": tick}, periods, to, slots)
 
-    def cut(self, node: int, count: int, periods: Span, to: Iterable[int] | None = None, slots: Iterable[int] | None = None) -> None:
+    def cut(self, node: int, count: int, periods: Span, to: Iterable[int] | None = None,
+            slots: Iterable[int] | None = None) -> None:
         """Frames without their last bytes."""
         self.fault(node, {"cut": count}, periods, to, slots)
 
-    def twice(self, node: int, periods: Span, to: Iterable[int] | None = None, slots: Iterable[int] | None = None) -> None:
+    def twice(self, node: int, periods: Span, to: Iterable[int] | None = None,
+              slots: Iterable[int] | None = None) -> None:
         """Frames that arrive two times."""
         self.fault(node, "twice", periods, to, slots)
 
-    def accuses(self, node: int, accused: int, kinds: list[str], periods: Span, to: Iterable[int] | None = None) -> None:
+    def accuses(self, node: int, accused: int, kinds: list[str], periods: Span,
+                to: Iterable[int] | None = None) -> None:
         """A row of accusations that gives a node these kinds."""
         mask = plan.kind_mask(kinds, self.version)
-        self.fault(node, {"set": {"at": plan.mask_at(self._node(accused)), "hex": f"{mask:04x}"}}, periods, to, [plan.report_slot(self.m)])
+        self.fault(node, {"set": {"at": plan.mask_at(self._node(accused)), "hex": f"{mask:04x}"}}, periods, to,
+                   [plan.report_slot(self.m)])
 
     def claims(self, node: int, task: int | None, periods: Span, to: Iterable[int] | None = None) -> None:
         """A claim that the node's copy of a task is done, or none."""
         count = len(self.data.get("tasks", []))
         if task is not None and not 0 <= task < count:
             raise WordsError(f"there is no task {task}; the scenario has {count}")
-        self.fault(node, {"set": {"at": plan.HEADER, "hex": f"{255 if task is None else task:02x}"}}, periods, to, [plan.CLAIM_SLOT])
+        self.fault(node, {"set": {"at": plan.HEADER, "hex": f"{255 if task is None else task:02x}"}}, periods, to,
+                   [plan.CLAIM_SLOT])
 
     def sends(self, node: int, at: int, text: str, slot: int, periods: Span, to: Iterable[int] | None = None) -> None:
         """Other bytes from an offset on."""
@@ -161,7 +177,8 @@ class Scenario:
         """A clock that is read wrongly by others; the node must be faulty in these periods."""
         if "clock" not in self.data:
             raise WordsError("the scenario has no clock")
-        self.data["clock"].setdefault("lies", []).append({"from": self._node(node), "to": self._to(node, to), "periods": self._span(periods), "by": by})
+        lie = {"from": self._node(node), "to": self._to(node, to), "periods": self._span(periods), "by": by}
+        self.data["clock"].setdefault("lies", []).append(lie)
 
     def restart(self, node: int, period: int) -> None:
         """A node that forgets all at the start of a period."""
@@ -186,7 +203,8 @@ class Scenario:
         if self.version == 1:
             raise WordsError("version 1 has no clock; it takes \"version\": 2")
         start, drifts, errors = ([0] * self.nodes for _ in range(3))
-        clock = self.data.setdefault("clock", {"epsilon": 0, "drift": 0, "start": start, "drifts": [drifts], "errors": [errors], "lies": []})
+        still = {"epsilon": 0, "drift": 0, "start": start, "drifts": [drifts], "errors": [errors], "lies": []}
+        clock = self.data.setdefault("clock", still)
         clock[key] = value
 
     def set_channel(self, channel: int, key: str, value: Any) -> None:
@@ -238,15 +256,17 @@ class Scenario:
 
 
 # the plural of each verb, and its singular
-_VERBS = {"are": "is", "tell": "tells", "accuse": "accuses", "claim": "claims", "send": "sends", "restart": "restarts", "speak": "speaks", "lie": "lies"}
+_VERBS = {"are": "is", "tell": "tells", "accuse": "accuses", "claim": "claims", "send": "sends", "restart": "restarts",
+          "speak": "speaks", "lie": "lies"}
 _LIST = r"(?:\d+|,|and| )+"
 _SOME = r"\d+(?: to \d+)?"
 
 
 class _Statement:
-    """A statement taken apart: what happens, by which nodes where there are several, to whom, in which periods and slots.
+    """A statement taken apart: what happens, by which nodes where there are several, to whom, and when.
 
-    `what` is a sentence of one node; `spans` are the spans of periods, each in its turn `periods` while the statement is added.
+    `what` is a sentence of one node; `spans` are the spans of periods, each in its turn `periods` while the statement
+    is added.
     """
 
     def __init__(self, statement: str) -> None:
@@ -260,7 +280,8 @@ class _Statement:
         self.slots = None if slots is None else _numbers(slots)
         self.to = None if to is None or to == "all" else _numbers(to)
         if (periods is None) == (every is None):
-            raise WordsError(f"'{json_text.printable(statement)}' doesn't say in which period, as in 'in periods 1 to 2'")
+            raise WordsError(f"'{json_text.printable(statement)}' doesn't say in which period, "
+                             "as in 'in periods 1 to 2'")
         self.spans = _spans(periods) if every is None else _repeated(*_numbers(every))
         self.periods: Span = self.spans[0]
         self.nodes, self.what = self._singular(" ".join(rest.replace(",", " ").split()))
@@ -329,13 +350,17 @@ def _restart(s: Scenario, w: _Statement, node: str) -> None:
 
 
 _FORMS: list[tuple[str, Callable[..., Any]]] = [
-    (r"node (\d+) tells (-?\d+) on channel (\d+)", lambda s, w, n, v, c: s.tells(int(n), int(v), int(c), w.periods, w.to)),
+    (r"node (\d+) tells (-?\d+) on channel (\d+)",
+     lambda s, w, n, v, c: s.tells(int(n), int(v), int(c), w.periods, w.to)),
     (r"node (\d+) is silent", lambda s, w, n: s.silent(int(n), w.periods, w.to, w.slots)),
-    (r"node (\d+) is late(?: at tick (\d+))?", lambda s, w, n, t: s.late(int(n), w.periods, w.to, w.slots, 25 if t is None else int(t))),
+    (r"node (\d+) is late(?: at tick (\d+))?",
+     lambda s, w, n, t: s.late(int(n), w.periods, w.to, w.slots, 25 if t is None else int(t))),
     (r"node (\d+) is cut by (\d+)(?: bytes?)?", lambda s, w, n, k: s.cut(int(n), int(k), w.periods, w.to, w.slots)),
     (r"node (\d+) speaks twice", lambda s, w, n: s.twice(int(n), w.periods, w.to, w.slots)),
-    (r"node (\d+) accuses node (\d+) of ([a-z ]+)", lambda s, w, n, j, k: s.accuses(int(n), int(j), _kinds(k), w.periods, w.to)),
-    (r"node (\d+) claims (?:task (\d+)|nothing)", lambda s, w, n, t: s.claims(int(n), None if t is None else int(t), w.periods, w.to)),
+    (r"node (\d+) accuses node (\d+) of ([a-z ]+)",
+     lambda s, w, n, j, k: s.accuses(int(n), int(j), _kinds(k), w.periods, w.to)),
+    (r"node (\d+) claims (?:task (\d+)|nothing)",
+     lambda s, w, n, t: s.claims(int(n), None if t is None else int(t), w.periods, w.to)),
     (r"node (\d+) sends bytes ([0-9a-fA-F]+) at (\d+)", _sends),
     (r"clock of node (\d+) lies by (-?\d+)", lambda s, w, n, b: s.clock_lies(int(n), int(b), w.periods, w.to)),
     (r"node (\d+) restarts", _restart),
@@ -351,9 +376,11 @@ _SETTINGS: list[tuple[str, Callable[..., Any]]] = [
     (r"clock (epsilon|drift) is (-?\d+)", lambda s, key, value: s.set_clock(key, int(value))),
     (rf"clock (start) is {_ROW}", lambda s, key, row: s.set_clock(key, _numbers(row))),
     (rf"clock (drifts|errors) are {_ROWS}", lambda s, key, rows: s.set_clock(key, _rows(rows))),
-    (rf"readings of channel (\d+) are {_ROWS}", lambda s, channel, rows: s.set_channel(int(channel), "readings", _rows(rows))),
+    (rf"readings of channel (\d+) are {_ROWS}",
+     lambda s, channel, rows: s.set_channel(int(channel), "readings", _rows(rows))),
     (rf"start of channel (\d+) is {_ROW}", lambda s, channel, row: s.set_channel(int(channel), "start", _numbers(row))),
-    (r"(delta|step) of channel (\d+) is (-?\d+)", lambda s, key, channel, value: s.set_channel(int(channel), key, int(value))),
+    (r"(delta|step) of channel (\d+) is (-?\d+)",
+     lambda s, key, channel, value: s.set_channel(int(channel), key, int(value))),
 ]
 
 

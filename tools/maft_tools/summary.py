@@ -63,7 +63,10 @@ class Summary:
 
 
 def margin(period: Period, m: int | None) -> int | None:
-    """How many more benign members the period would tolerate, and one: n - (2a + 2s + b + m), which must be at least 1."""
+    """How many more benign members the period would tolerate, and one.
+
+        That is n - (2a + 2s + b + m), which must be at least 1.
+        """
     if m is None or not period.members:
         return None
     return period.n - (2 * period.a + 2 * period.s + period.b + m)
@@ -75,7 +78,8 @@ def loss_of(period: Period, m: int | None) -> Loss:
         return Loss(period.number, ["reference"], "no nonfaulty node has an agreed state, so there are no members")
     bound = f"n {period.n}, 2a {2 * period.a}, 2s {2 * period.s}, b {period.b}, m {'unknown' if m is None else m}"
     if m is not None and period.a > m:
-        return Loss(period.number, ["a > m"], f"{period.a} asymmetric members, and {m} relay rounds stand against {m} ({bound})")
+        return Loss(period.number, ["a > m"],
+                    f"{period.a} asymmetric members, and {m} relay rounds stand against {m} ({bound})")
     weights = {"a": 2 * period.a, "s": 2 * period.s, "b": period.b}
     most = max(weights.values())
     terms = [name for name, weight in weights.items() if weight == most and weight]
@@ -126,7 +130,8 @@ def node_count(text: Text) -> int:
         for node in period.nodes:
             if node.counts:
                 return len(node.counts)
-    return max((max([*period.members, *(it.id for it in period.nodes)], default=-1) + 1 for period in text.periods), default=0)
+    return max((max([*period.members, *(it.id for it in period.nodes)], default=-1) + 1 for period in text.periods),
+               default=0)
 
 
 def _classes(periods: list[Period], node: int) -> list[tuple[str, int, int]]:
@@ -159,7 +164,8 @@ def _stories(text: Text, count: int, retire: int) -> list[Story]:
     stories = []
     for node in range(count):
         cold = [period.number for period in periods for it in period.nodes if it.id == node and it.is_cold]
-        story = Story(node, _classes(periods, node), charged[node], left[node], joined[node], cold, top[node], node in last)
+        story = Story(node, _classes(periods, node), charged[node], left[node], joined[node], cold, top[node],
+                      node in last)
         story.is_retired = bool(retire and times and times[node] >= retire)
         stories.append(story)
     return stories
@@ -281,11 +287,15 @@ def _of_accusations(run: Summary) -> list[str]:
         for node, kinds in sorted(rows.items()):
             facts.append(f"node {node} of " + ", ".join(f"{kind} in {spans(it)}" for kind, it in kinds.items()))
         said.append((teller, facts))
-    return [f"{_named(nodes)} accuse{'s' if len(nodes) == 1 else ''} {'; '.join(facts)}" for nodes, facts in _grouped(said)]
+    return [f"{_named(nodes)} accuse{'s' if len(nodes) == 1 else ''} {'; '.join(facts)}"
+            for nodes, facts in _grouped(said)]
 
 
 def _of_votes(run: Summary) -> list[str]:
-    """Of each channel, in how many periods it was voted, and how far the votes of sound nodes lay apart; a log has one node's alone."""
+    """Of each channel, in how many periods it was voted, and how far the votes of sound nodes lay apart.
+
+    A log has one node's votes alone.
+    """
     lines = []
     for spread in run.spreads:
         where = f" (period {spread.at})" if spread.greatest else ""
@@ -302,7 +312,8 @@ def _over_time(values: list[int | None]) -> str:
             out[-1] = (value, out[-1][1], at)
         else:
             out.append((value, at, at))
-    return ", ".join(f"{'none' if value is None else value} in {spans(range(first, last + 1))}" for value, first, last in out)
+    return ", ".join(f"{'none' if value is None else value} in {spans(range(first, last + 1))}"
+                     for value, first, last in out)
 
 
 def page(run: Summary) -> str:
@@ -313,7 +324,8 @@ def page(run: Summary) -> str:
     elif run.loss is None:
         lines.append(f"{run.periods} periods, all claimed: what is promised holds in each")
     else:
-        lines.append(f"{run.periods} periods, {run.claimed} claimed; the claim is lost in period {run.loss.period}: {run.loss.words}")
+        lines.append(f"{run.periods} periods, {run.claimed} claimed; the claim is lost in period {run.loss.period}: "
+                     f"{run.loss.words}")
     if run.command != "node":
         known = [it for it in run.margins if it is not None]
         if run.m is None:
@@ -332,10 +344,12 @@ def table(text: Text, run: Summary) -> str:
     """A row for each period, as CSV."""
     out = io.StringIO()
     writer = csv.writer(out, lineterminator="\n")
-    writer.writerow(["period", "n", "a", "s", "b", "margin", "budget", "claim", "charged", "left", "joined", "cold", "vote_spread", "skew"])
+    writer.writerow(["period", "n", "a", "s", "b", "margin", "budget", "claim", "charged", "left", "joined", "cold",
+                     "vote_spread", "skew"])
     yes = {True: "yes", False: "no", None: ""}
     for at, period in enumerate(text.periods):
-        charged = " ".join(f"{it.node}:{'+'.join(it.charged[period.number])}" for it in run.stories if period.number in it.charged)
+        charged = " ".join(f"{it.node}:{'+'.join(it.charged[period.number])}" for it in run.stories
+                           if period.number in it.charged)
         moved = []
         for which in ("left", "joined", "cold"):
             moved.append(" ".join(str(it.node) for it in run.stories if period.number in getattr(it, which)))
@@ -343,5 +357,6 @@ def table(text: Text, run: Summary) -> str:
         skew = "" if period.skew is None else period.skew
         counted = [""] * 4 if period.budget is None else [str(it) for it in (period.n, period.a, period.s, period.b)]
         gap = "" if run.margins[at] is None else run.margins[at]
-        writer.writerow([period.number, *counted, gap, yes[period.budget], yes[period.claim], charged, *moved, spread, skew])
+        writer.writerow([period.number, *counted, gap, yes[period.budget], yes[period.claim], charged, *moved, spread,
+                         skew])
     return out.getvalue()

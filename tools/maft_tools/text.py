@@ -97,7 +97,8 @@ _SIGNED = f"-?{_NUMBER}"
 _LIST = f"{_NUMBER}(?:,{_NUMBER})*"
 _SET = f"-|{_LIST}"
 _PERIOD = re.compile(
-    f"period ({_NUMBER})(?: members ({_SET}) n ({_NUMBER}) a ({_NUMBER}) s ({_NUMBER}) b ({_NUMBER}) budget (yes|no) claim (yes|no))?")
+    f"period ({_NUMBER})(?: members ({_SET}) n ({_NUMBER}) a ({_NUMBER}) s ({_NUMBER}) b ({_NUMBER}) budget (yes|no) "
+    "claim (yes|no))?")
 _ID = re.compile("[0-9]{1,2}")
 _NODE = re.compile(
     f"node ({_NUMBER}) ([NJBSA-]) (full|joining) members ({_SET}) counts ({_LIST}) streaks ({_LIST})"
@@ -147,7 +148,7 @@ class _Reader:
     def __init__(self, reference_only: bool, is_part: bool = False) -> None:
         self.reference_only, self.is_part = reference_only, is_part
         self.periods: list[Period] = []
-        # how many nodes the lists are of, and the numbers of the nodes that each period must tell of, once they are known
+        # how many nodes the lists are of, and the nodes that each period must tell of, once they are known
         self.count = 0
         self.told: list[int] | None = None
         # of the period that is read: its nodes, the node whose lines come, and which lines these are
@@ -200,7 +201,8 @@ class _Reader:
         self.close()
         period = Period(int(number))
         if members is not None:
-            period = Period(int(number), numbers(members), int(n), int(a), int(s), int(b), budget == "yes", claim == "yes")
+            period = Period(int(number), numbers(members), int(n), int(a), int(s), int(b), budget == "yes",
+                            claim == "yes")
             self.check_period(period)
         if self.periods and (period.budget is None) != (self.periods[0].budget is None):
             raise self.fail("one node's log and a cluster's text are mixed")
@@ -213,7 +215,8 @@ class _Reader:
             raise self.fail("n, a, s and b don't count these members")
         before = not self.periods or self.periods[-1].claim is True
         if period.claim != (period.budget is True and before) and (period.claim or not self.is_part):
-            raise self.fail("a period is claimed where its budget and those before it are kept, and this one says otherwise")
+            raise self.fail("a period is claimed where its budget and those before it are kept, and this one says "
+                            "otherwise")
 
     def check_nodes(self, nodes: list[int]) -> None:
         """Numbers of nodes, in ascending order."""
@@ -257,7 +260,8 @@ class _Reader:
             raise self.strange(line)
         number, letter, mode, members, counts, streaks, run, left = found.groups()
         tasks = [None if it == "-" else int(it) for it in run.split(",")]
-        node = Node(int(number), letter, mode, numbers(members), numbers(counts), numbers(streaks), tasks, numbers(left or "-"))
+        node = Node(int(number), letter, mode, numbers(members), numbers(counts), numbers(streaks), tasks,
+                    numbers(left or "-"))
         self.check_length(node.counts, node.streaks, node.run)
         if left:
             self.check_length(node.left)
@@ -309,7 +313,8 @@ class _Reader:
         if found is None:
             raise self.strange(line)
         if int(found.group(1)) != len(self.periods) or not self.periods:
-            raise self.fail(f"the text has {len(self.periods)} periods, and says '{printable(line, 30)}': it is cut short")
+            raise self.fail(f"the text has {len(self.periods)} periods, and says '{printable(line, 30)}': "
+                            "it is cut short")
         self.close()
         if self.clocks not in (0, len(self.periods)):
             raise self.fail("the line of clocks is missing in some periods")
@@ -322,7 +327,8 @@ class _Reader:
         if self.told is None:
             self.told = self.ids
             is_log = self.periods[0].budget is None
-            if is_log and len(self.ids) != 1 or not is_log and self.ids and self.ids != list(range(self.count or len(self.ids))):
+            if (is_log and len(self.ids) != 1 or not is_log and self.ids
+                    and self.ids != list(range(self.count or len(self.ids)))):
                 raise self.fail("the lines of a node are missing before this one")
         if self.ids != self.told:
             raise self.fail("the lines of a node are missing before this one, or too many")

@@ -65,7 +65,8 @@ def cut_behind(scenario: Json, last: int) -> Json:
 
 
 def _cut_spans(lines: list[Json], last: int) -> list[Json]:
-    return [{**it, "periods": [it["periods"][0], min(last, it["periods"][1])]} for it in lines if it["periods"][0] <= last]
+    return [{**it, "periods": [it["periods"][0], min(last, it["periods"][1])]} for it in lines
+            if it["periods"][0] <= last]
 
 
 def _period_of(lines: list[bytes]) -> text.Period:
@@ -109,7 +110,7 @@ def slices(lines: Iterable[bytes], wanted: Wanted) -> Iterator[Slice]:
 
 
 def of_scenario(maft: str, scenario: Json, wanted: Wanted) -> Iterator[Slice]:
-    """The periods of a scenario's trace, as the program writes them; it is cut behind the last period that is asked for."""
+    """The periods of a scenario's trace, as the program writes them, up to the last period that is asked for."""
     asked = scenario if wanted.last is None or check.findings(scenario) else cut_behind(scenario, wanted.last)
     with tempfile.TemporaryFile() as given:
         given.write(program.input_of(asked))

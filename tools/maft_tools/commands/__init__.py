@@ -1,4 +1,4 @@
-"""The commands of tools/, each a module with `main`, and what they have in common: how they end, and the option --version."""
+"""The commands of tools/, each a module with `main`, and what they share: how they end, and the option --version."""
 from __future__ import annotations
 
 import argparse
@@ -24,7 +24,7 @@ def say(name: str, words: str) -> None:
 
 
 def end(name: str, main: Callable[[], int]) -> None:
-    """Runs a command and ends with its status; whatever stops it is said in a sentence: 1, or 130 where the user stopped it."""
+    """Runs a command and ends with its status; whatever stops it is said in a sentence: 1, or 130 by the user."""
     status = 1
     try:
         if sys.stdout is None:

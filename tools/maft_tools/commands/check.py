@@ -3,8 +3,8 @@
     tools/check SCENARIO.json ..
     tools/check --node I LOG.json
 
-A file is - for standard input. The program decides; the words say what stands there and what was expected. Of a log the node is found by
-who never sends, where that is one node alone. The status is 0 where all are accepted, else 1.
+A file is - for standard input. The program decides; the words say what stands there and what was expected. Of a log the
+node is found by who never sends, where that is one node alone. The status is 0 where all are accepted, else 1.
 """
 from __future__ import annotations
 

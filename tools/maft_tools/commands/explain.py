@@ -1,11 +1,13 @@
-"""Why a frame counted: what nodes were delivered, what they expected, what is different, and what they make of it, in words.
+"""Why a frame counted: what nodes were delivered, what they expected, what is different, and what they
+make of it, in words.
 
     tools/explain SCENARIO.json --period 2 --node 0         runs the program for the trace
     ./maft replay trace < SCENARIO.json | tools/explain - --scenario SCENARIO.json
     tools/explain LOG.json                                  a node's log, as tools/log cuts it
 
-Periods, slots and nodes are numbers and spans: 3, or 2-5, or 0,2-5. Without them all are told. With --slot no more is told than frames; else
-what the node notes, which items settle otherwise than they were said to it, whom it convicts, and which rows charge whom.
+Periods, slots and nodes are numbers and spans: 3, or 2-5, or 0,2-5. Without them all are told. With --slot no more is
+told than frames; else what the node notes, which items settle otherwise than they were said to it, whom it convicts,
+and which rows charge whom.
 """
 from __future__ import annotations
 
@@ -45,7 +47,8 @@ def slices_of(given: argparse.Namespace, wanted: trace.Wanted) -> tuple[Json, It
         return value["scenario"], trace.of_log(maft, value, node, wanted)
     scenario = program.load(given.scenario) if given.scenario else {}
     if scenario and check.findings(scenario):
-        raise WordsError(f"the scenario {json_text.printable(given.scenario)} isn't that of the text: {check.told(check.findings(scenario))}")
+        raise WordsError(f"the scenario {json_text.printable(given.scenario)} isn't that of the text: "
+                         f"{check.told(check.findings(scenario))}")
     return scenario, trace.slices(program.byte_lines(given.input), wanted)
 
 
@@ -70,7 +73,8 @@ def _fits(given: argparse.Namespace, scenario: Json) -> None:
     """Raises WordsError where a period, slot or node is asked for that the scenario hasn't."""
     if not scenario or check.findings(scenario):
         return
-    limits = {"period": scenario["periods"], "node": scenario["nodes"], "from": scenario["nodes"], "slot": 2 * scenario["m"] + 4}
+    limits = {"period": scenario["periods"], "node": scenario["nodes"], "from": scenario["nodes"],
+              "slot": 2 * scenario["m"] + 4}
     for name, limit in limits.items():
         asked = getattr(given, "sender" if name == "from" else name)
         if asked and max(asked) >= limit:
@@ -80,13 +84,15 @@ def _fits(given: argparse.Namespace, scenario: Json) -> None:
 def main() -> int:
     """The command."""
     options = parser("explain", __doc__ or "")
-    options.add_argument("input", help="a scenario or a log, which end with .json, or a trace; - for a trace on standard input")
+    options.add_argument("input",
+                         help="a scenario or a log, which end with .json, or a trace; - for a trace on standard input")
     options.add_argument("--period", type=spans, help="which periods")
     options.add_argument("--slot", type=spans, help="frames of these slots alone")
     options.add_argument("--node", type=spans, help="which receivers; of a log, whose it is")
     options.add_argument("--from", type=spans, dest="sender", help="frames of these senders alone")
     options.add_argument("--scenario", help="the scenario of the trace")
-    options.add_argument("--most", type=int, default=6, help="how many differing entries of a frame are told, by default 6")
+    options.add_argument("--most", type=int, default=6,
+                         help="how many differing entries of a frame are told, by default 6")
     options.add_argument("--program", help="the program; by default the one that ./maft answers with")
     given = options.parse_args()
     for line in told(given, explain.Asked(given.slot, given.sender, max(0, given.most))):

@@ -18,7 +18,8 @@ def main() -> int:
     options = parser("log", __doc__ or "")
     options.add_argument("node", type=int)
     options.add_argument("scenario")
-    options.add_argument("trace", nargs="?", help="the text of 'replay trace', - for standard input; without it the program is run")
+    options.add_argument("trace", nargs="?",
+                         help="the text of 'replay trace', - for standard input; without it the program is run")
     options.add_argument("--program", help="the program; by default the one that ./maft answers with")
     given = options.parse_args()
     scenario = program.load(given.scenario)

@@ -1,10 +1,11 @@
 """Adds faults in words to a scenario, and writes it to standard output.
 
-    tools/scenario SCENARIO.json 'node 4 tells 999 on channel 0 to nodes 0 and 1, in periods 1 to 2' 'node 4 restarts in period 4'
+    tools/scenario SCENARIO.json 'node 4 tells 999 on channel 0 to nodes 0 and 1, in periods 1 to 2' \
+'node 4 restarts in period 4'
     tools/scenario SCENARIO.json --statements FILE
 
-The scenario is - for standard input. A file has a statement a line; what stands behind # is passed over. A statement is of one of these
-forms; `to` and `in slots` may be left out, for all:
+The scenario is - for standard input. A file has a statement a line; what stands behind # is passed over. A statement is
+of one of these forms; `to` and `in slots` may be left out, for all:
 
 """
 from __future__ import annotations
@@ -30,7 +31,8 @@ def main() -> int:
     options = parser("scenario", (__doc__ or "") + forms)
     options.add_argument("scenario")
     options.add_argument("statements", nargs="*", metavar="statement")
-    options.add_argument("--statements", dest="file", metavar="FILE", help="a file of statements, one a line, which come before the others")
+    options.add_argument("--statements", dest="file", metavar="FILE",
+                         help="a file of statements, one a line, which come before the others")
     options.add_argument("--program", help="the program, which is asked where a channel isn't due in every period")
     given = options.parse_intermixed_args()
     found = []

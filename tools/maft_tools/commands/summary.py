@@ -3,8 +3,8 @@
     tools/summary SCENARIO.json [SCENARIO.json ..]     runs the program on it
     ./maft replay < SCENARIO.json | tools/summary      reads a text; give --m M, or --scenario FILE, for the margin
 
---json writes all of it as an object, --csv a row for each period, with a column for the name where there are several files.
-The text is that of `replay`, `replay trace`, `check` or `node I`.
+--json writes all of it as an object, --csv a row for each period, with a column for the name where there are several
+files. The text is that of `replay`, `replay trace`, `check` or `node I`.
 """
 from __future__ import annotations
 
@@ -27,7 +27,8 @@ def lines_of(name: str, given: argparse.Namespace) -> tuple[Iterable[str], Json]
     """The lines of the text, and the scenario where it is known."""
     if name.endswith(".json"):
         scenario = program.load(name)
-        return program.run_well(program.find(given.program), ["replay"], json_text.bytes_of(name)).splitlines(), scenario
+        said = program.run_well(program.find(given.program), ["replay"], json_text.bytes_of(name))
+        return said.splitlines(), scenario
     return program.text_lines(name), program.load(given.scenario) if given.scenario else {}
 
 
@@ -69,7 +70,8 @@ def table(names: list[str], given: argparse.Namespace) -> Iterator[str]:
 def main() -> int:
     """The command."""
     options = parser("summary", __doc__ or "")
-    options.add_argument("files", nargs="*", default=["-"], help="a scenario, or a text; - or nothing for a text on standard input")
+    options.add_argument("files", nargs="*", default=["-"],
+                         help="a scenario, or a text; - or nothing for a text on standard input")
     options.add_argument("--m", type=int, help="how many relay rounds the text's cluster has")
     options.add_argument("--scenario", help="the scenario of the text")
     options.add_argument("--program", help="the program; by default the one that ./maft answers with")
