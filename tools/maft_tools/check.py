@@ -36,9 +36,8 @@ class Disagreement(WordsError):
 
 # of each object its keys, each with what it must be; a key with ? may be left out, one with 2 is unknown in version 1
 SCENARIO = {"version?": "whole", "nodes": "whole", "m": "whole", "periods": "whole", "policy": "policy",
-            "frame?": "whole", "order?": "whole",
-            "channels?": "channels", "tasks?": "tasks", "faults?": "faults", "restarts?": "restarts",
-            "clock?2": "clock"}
+            "frame?": "whole", "order?": "whole", "channels?": "channels", "tasks?": "tasks", "faults?": "faults",
+            "restarts?": "restarts", "clock?2": "clock"}
 OBJECTS: dict[str, dict[str, str]] = {
     "policy": {"weights": "list", "exclude": "whole", "readmit": "whole", "credit": "whole", "streak": "whole",
                "cap": "whole", "retire?2": "whole"},
@@ -506,8 +505,8 @@ def restarts(s: Json) -> Iterator[Finding]:
                      else "a scenario of one period has no restart")
             yield Finding(12, at, f"{path}.period is {it['period']}, and {until}")
         if before is not None and (before["period"], before["node"]) >= (it["period"], it["node"]):
-            yield Finding(12, at, f"{path} is node {it['node']} in period {it['period']}, and comes behind node "
-                                  f"{before['node']} in period "
+            yield Finding(12, at, f"{path} is node {it['node']} in period {it['period']}, "
+                                  f"and comes behind node {before['node']} in period "
                           f"{before['period']}: restarts ascend by period, then node, and none stands twice")
         before = it
 
