@@ -13,11 +13,11 @@ _NUMBER = "([0-9]{1,9})"
 _FRAME = re.compile(f"frame {_NUMBER} {_NUMBER} {_NUMBER} {_NUMBER} {_NUMBER} (-|[0-9a-f]+)")
 
 
-def entries(trace: Iterable[str], node: int) -> list[Entry]:
+def entries(trace: Iterable[str], node: int, most: int = INPUT_LIMIT) -> list[Entry]:
     """What the frame lines of a trace say that a node was delivered, by period and slot.
 
-    Each is the period, slot, sender, tick and bytes. Raises WordsError where a line isn't a frame's, or there is more
-    than the program reads.
+    Each is the period, slot, sender, tick and bytes. Raises WordsError where a line isn't a frame's, or the frames have
+    more than so many digits: by default than the program reads.
     """
     found: list[Entry] = []
     length = 0
@@ -31,7 +31,7 @@ def entries(trace: Iterable[str], node: int) -> list[Entry]:
         if receiver == node:
             found.append((period, slot, sender, tick, "" if words[6] == "-" else words[6]))
             length += len(words[6])
-        if length > INPUT_LIMIT:
+        if length > most:
             raise too_long(node, f"more than {length}")
     found.sort(key=lambda it: it[:2])
     return found
