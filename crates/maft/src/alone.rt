@@ -49,7 +49,7 @@ fn write_run<const N: usize, K: Sink>(
     'periods: for period in 0..periods {
         write_next(log, alone, period, sink)?;
     }
-    write_end(periods, sink)
+    write_end(periods as u64, sink)
 }
 
 /// Replays a node's log, and writes what the node believed in each period.

@@ -113,7 +113,7 @@ fn answer_value<K: Sink>(alloc: Global, form: Form, value: &Value, sink: &mut K)
     match from_value::<CAPACITY>(alloc, value) {
         Ok(scenario) => ended(write_form(alloc, &scenario, form, sink)),
         Err(ScenarioError::Refused { rule, place }) => {
-            let _ = write_refused(rule, place, sink);
+            let _ = write_refused(rule, place as u64, sink);
             Status::Refused
         }
         Err(ScenarioError::NoMemory) => Status::NoMemory,
@@ -144,7 +144,7 @@ fn answer_log<K: Sink>(alloc: Global, id: u8, bytes: &[u8], sink: &mut K) -> Sta
         Ok(log) => log,
         Err(ScenarioError::Unreadable) => return Status::Unreadable,
         Err(ScenarioError::Refused { rule, place }) => {
-            let _ = write_refused(rule, place, sink);
+            let _ = write_refused(rule, place as u64, sink);
             return Status::Refused;
         }
         Err(ScenarioError::NoMemory) => return Status::NoMemory,

@@ -62,7 +62,7 @@ fn write_run<const N: usize, K: Sink>(
     'periods: for _ in 0..periods {
         write_next(scenario, cluster, form, sink)?;
     }
-    write_end(periods, sink)
+    write_end(periods as u64, sink)
 }
 
 /// What a run is answered whose text was written so.

@@ -200,11 +200,11 @@ pub fn write_period<const N: usize, K: Sink>(
 ///
 /// # Errors
 /// `WriteFault` comes only where the sink's count of faults rose. A prefix of the line was written then.
-pub fn write_end<K: Sink>(periods: u32, sink: &mut K) -> Result<(), WriteFault>
+pub fn write_end<K: Sink>(periods: u64, sink: &mut K) -> Result<(), WriteFault>
     ensures { WritesText K.written K.faults sink.old sink.new (end_text periods) result }
 {
     let mut printer = Printer::<SMALL>::new();
-    printer.labelled(sink, b"end ", periods as u64);
+    printer.labelled(sink, b"end ", periods);
     printer.byte(sink, b'\n');
     printer.finish(sink)
 }
@@ -213,12 +213,12 @@ pub fn write_end<K: Sink>(periods: u32, sink: &mut K) -> Result<(), WriteFault>
 ///
 /// # Errors
 /// `WriteFault` comes only where the sink's count of faults rose. A prefix of the line was written then.
-pub fn write_refused<K: Sink>(rule: u8, place: u32, sink: &mut K) -> Result<(), WriteFault>
+pub fn write_refused<K: Sink>(rule: u8, place: u64, sink: &mut K) -> Result<(), WriteFault>
     ensures { WritesText K.written K.faults sink.old sink.new (refused_text rule place) result }
 {
     let mut printer = Printer::<SMALL>::new();
     printer.labelled(sink, b"refused ", rule as u64);
-    printer.labelled(sink, b" ", place as u64);
+    printer.labelled(sink, b" ", place);
     printer.byte(sink, b'\n');
     printer.finish(sink)
 }

@@ -17,10 +17,9 @@ pub inputs-requires : goal.inputs-requires
 inputs-requires g c =
     let is = c.scenario.ensures.scenario in
     let nodes : c.scenario.result.now.config.nodes ≡ c.args.input.now.scenario.config.nodes = ap (λ (s : ScenarioView g.row.N). s.config.nodes) is in
-    let periods : c.scenario.result.now.periods ≡ c.args.input.now.scenario.periods = ap (λ (s : ScenarioView g.row.N). s.periods) is in
     let id = c.id.ensures.id in
     let low = c.id.ensures.log.id in
-    (elim c.requires.capacity [ inl e ↦ rw e (lit< tt) | inr e ↦ rw e (lit< tt) ], (omega (arith, nodes, id, low), omega (arith, periods, c.requires.period)))
+    (elim c.requires.capacity [ inl e ↦ rw e (lit< tt) | inr e ↦ rw e (lit< tt) ], omega (arith, nodes, id, low))
 
 pub begin-requires : goal.begin-requires
 begin-requires g c =

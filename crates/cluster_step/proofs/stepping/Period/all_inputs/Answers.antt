@@ -14,7 +14,7 @@ loop-node-init g c = (length-replicate g.row.N _, λ k d low. absurd (omega (ari
 pub inputs-requires : goal.inputs-requires
 inputs-requires g c =
     let nodes : c.config.result.now.nodes ≡ c.args.self.now.scenario.now.config.nodes = ap (λ (y : Config g.row.N). y.nodes) c.config.ensures.config in
-    (elim c.requires [ inl e ↦ rw e (lit< tt) | inr e ↦ rw e (lit< tt) ], (omega (arith, nodes, c.loop-node-test.true), c.args.self.now.in_run))
+    (elim c.requires [ inl e ↦ rw e (lit< tt) | inr e ↦ rw e (lit< tt) ], omega (arith, nodes, c.loop-node-test.true))
 
 pub bounds-inputs-node : goal.bounds-inputs-node
 bounds-inputs-node g c =

@@ -29,7 +29,7 @@ plan-requires g c = elim c.requires.capacity [ inl e ↦ rw e (lit< tt, lit< tt)
 pub inputs-requires : goal.inputs-requires
 inputs-requires g c =
     let me : c.me-me.result < c.args.self.now.scenario.now.config.nodes = omega (arith, c.me-me.ensures, c.requires.resting.me, c.plan.ensures.scenario.system.plan_nodes) in
-    (elim c.requires.capacity [ inl e ↦ rw e (lit< tt) | inr e ↦ rw e (lit< tt) ], (me, c.args.self.now.in_run))
+    (elim c.requires.capacity [ inl e ↦ rw e (lit< tt) | inr e ↦ rw e (lit< tt) ], me)
 
 pub begin-requires : goal.begin-requires
 begin-requires g c =
