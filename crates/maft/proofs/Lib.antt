@@ -1,9 +1,0 @@
-pub mod Deciding
-pub mod Printed
-pub mod Rest
-pub mod Words
-pub mod Rooms
-pub mod Logs
-pub mod Gathering
-pub mod Few
-pub mod Ending

@@ -1,5 +1,0 @@
-use Rattle.maft.proofs.Logs.{node_of_replay}
-use Rattle.maft.proofs.laws.alone_text.Goals as goal
-
-pub returns : goal.returns
-returns c capacity log is of_run low = node_of_replay log low (λ p l. (c.alone.ensures capacity log is of_run p l).outcome)

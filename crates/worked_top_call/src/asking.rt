@@ -1,0 +1,51 @@
+//! A call of the top call, and what it left.
+
+ghost use Rattle.std.specs.Prelude.{◌≤◌};
+
+use span_io::{MemSink, MemSource};
+use std::alloc::Global;
+use top_call::run;
+
+/// A source in pieces of so many bytes, of which some calls fail, and a sink of so much room, which
+/// takes so many bytes at a time, and of which some calls fail.
+#[derive(Clone, Copy)]
+pub struct Devices<'d> {
+    pub source_piece: usize,
+    pub source_fails: &'d [u64],
+    pub room: usize,
+    pub sink_piece: usize,
+    pub sink_fails: &'d [u64],
+}
+
+/// The number of the status, and what was written.
+#[derive(Drop)]
+pub struct Answer {
+    pub status: u8,
+    pub written: Vec<u8>,
+}
+
+/// Calls the program with these words and this input.
+pub fn ask(
+    alloc: Global,
+    words: &[&str],
+    input: &str,
+    devices: Devices<'_>,
+) -> anyhow::Result<Answer>
+    requires source { 1 ≤ devices.source_piece }
+    requires sink { 1 ≤ devices.sink_piece }
+{
+    let mut owned = Vec::new(alloc);
+    for word in words {
+        owned.push(word.to_string(alloc)?)?;
+    }
+    let bytes = Vec::from_slice(alloc, input.as_bytes())?;
+    let fails = Vec::from_slice(alloc, devices.source_fails)?;
+    let mut source = MemSource::new(bytes, devices.source_piece, fails);
+    let fails = Vec::from_slice(alloc, devices.sink_fails)?;
+    let Ok(mut sink) = MemSink::new(alloc, devices.room, devices.sink_piece, fails) else {
+        anyhow::bail!("there is no memory for the sink");
+    };
+    let status = run(alloc, owned.as_slice(), &mut source, &mut sink);
+    let written = Vec::from_slice(alloc, sink.written())?;
+    Ok(Answer { status, written })
+}

@@ -1,0 +1,15 @@
+//! The top call over sources and sinks in memory: a line for each row, what was asked and what was
+//! answered.
+//!
+//! The stored output was worked out from the rules by hand. Standard input is the scenario of the
+//! last rows.
+#![tactic(auto)]
+
+mod asking;
+mod capacities;
+mod devices;
+
+fn main(rt: HostRuntime) -> anyhow::Result<()> {
+    devices::print(&rt)?;
+    capacities::print(&rt)
+}
