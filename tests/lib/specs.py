@@ -21,6 +21,9 @@ TOKEN = re.compile(r"[^\s(){},;\[\]→×⊎λ]+")
 TYPE = re.compile(r"^pub(?:\([a-z]+\))?\s+(?:struct|enum|trait|type)\s+(\w+)")
 SKIPPED = re.compile(r"^(?:pub )?use |^pub mod |^infix|^unfolding |^syntax |^\s*module ")
 
+# the function that each program is about, the headline's first
+TOP_CALLS = ("maft", "control")
+
 Path = Tuple[str, ...]
 
 
@@ -211,13 +214,17 @@ class Specs:
                 left.extend(it.names)
         return seen
 
-    def top_call(self) -> Set[Definition]:
-        """What the contract of the top call reaches."""
-        for path, source in self._sources.items():
-            if re.search(r"^pub fn maft\b", source, re.M):
+    def top_call(self, function: str = TOP_CALLS[0]) -> Set[Definition]:
+        """What the contract of a top call reaches: nothing, where there is no such call."""
+        for source in self._sources.values():
+            if re.search(rf"^pub fn {function}\b", source, re.M):
                 ends = {self.types[key] for key in (("span_io", "Source"), ("span_io", "Sink")) if key in self.types}
-                return self.reach(self.of_contract(source, "maft") | ends)
+                return self.reach(self.of_contract(source, function) | ends)
         return set()
+
+    def top_calls(self) -> Set[Definition]:
+        """What the contracts of all top calls reach."""
+        return set().union(*(self.top_call(function) for function in TOP_CALLS))
 
     def cited(self) -> Set[Definition]:
         """What the contracts of public functions cite."""
