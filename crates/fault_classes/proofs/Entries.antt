@@ -3,15 +3,15 @@ use Rattle.std.proofs.Common.{◌≡◌, ◌≢◌, ℕ, suc, ◌+◌, ◌*◌, 
 use Rattle.std.specs.Prelude.{◌==◌, nat_lt, slice_index}
 use Rattle.std.specs.List.{list_all, list_any, position_or_len, find}
 use Rattle.std.specs.Option.{option_map}
-use Rattle.std.proofs.Math.Nat.{mul_comm}
 use Rattle.std.proofs.lemmas.Bool.{cases_Bool, cases_eq, and_parts, and_from, or_cases, or_left, or_right, or_parts, both_ways, le-leb, ne_eqb, false_from_ne_true, true_from_ne_false}
 use Rattle.std.proofs.lemmas.List.{length_push}
 use Rattle.std.proofs.lemmas.List.Folds.{position_or_len_push, list_all_at}
-use Rattle.std.proofs.lemmas.Nat.{div-mul-add, mod-mul-add, mul-add-lt}
+use Rattle.std.proofs.lemmas.Nat.{div-mul-add, mod-mul-add}
 use Rattle.node_grid.specs.NodeSet.{has_id}
 use Rattle.fault_classes.specs.Line.{Line, touches, shares, effect_at}
 use Rattle.fault_classes.specs.Rules.{is_line}
-use Rattle.fault_classes.specs.Cells.{mark_of, entry_of, cell_at, touches_cell, IsTable, IsMarked, IsTaken}
+use Rattle.fault_classes.specs.declared.blocks.Blocks.{Blocks}
+use Rattle.fault_classes.specs.Cells.{mark_of, entry_of, cell_at, place_at, touches_cell, IsTable, IsMarked, IsTaken}
 use Rattle.fault_classes.proofs.Ranges.{line_facts}
 
 -- ---- places of a cell
@@ -190,9 +190,9 @@ meet a b ra rb h =
 
 -- ---- the table with one line more
 
-pub table_push : (nodes slots periods : ℕ) (xs : List Line) (l : Line) (k : ℕ) (old new : List ℕ) → IsTable nodes slots periods xs old → length xs ≡ k
-    → IsMarked (λ c. touches_cell nodes slots c l) (mark_of k) old new → IsTable nodes slots periods (xs ++ l ∷ []) new
-table_push nodes slots periods xs l k old new t many m = record {
+pub table_push : (nodes slots : ℕ) (blocks : Blocks) (xs : List Line) (l : Line) (k : ℕ) (old new : List ℕ) → IsTable nodes slots blocks xs old → length xs ≡ k
+    → IsMarked (place_at nodes slots blocks.numbers.items) (λ c. touches_cell nodes slots c l) (mark_of k) old new → IsTable nodes slots blocks (xs ++ l ∷ []) new
+table_push nodes slots blocks xs l k old new t many m = record {
   whole = m.whole ∙ t.whole;
   entries = λ c. m.cells c ∙ ap (λ v. cond (touches_cell nodes slots c l) (mark_of k) v) (t.entries c)
       ∙ sym (entry_push (touches_cell nodes slots c) xs l k many (λ e. sym (t.entries c) ∙ m.free c e));
@@ -213,10 +213,10 @@ all_taken ok xs zero h = refl
 all_taken ok [] (suc k) h = refl
 all_taken ok (x ∷ xs) (suc k) h = let p = and_parts (ok x) (list_all ok xs) h in and_from _ _ p.0 (all_taken ok xs k p.1)
 
-pub apart_if_marked : (nodes slots periods : ℕ) (xs : List Line) (l : Line) (m : ℕ) (old new : List ℕ) → IsTable nodes slots periods xs old
-    → IsMarked (λ c. touches_cell nodes slots c l) m old new → is_line nodes slots periods l ≡ true → list_all (is_line nodes slots periods) xs ≡ true
+pub apart_if_marked : (nodes slots periods : ℕ) (blocks : Blocks) (xs : List Line) (l : Line) (m : ℕ) (old new : List ℕ) → IsTable nodes slots blocks xs old
+    → IsMarked (place_at nodes slots blocks.numbers.items) (λ c. touches_cell nodes slots c l) m old new → is_line nodes slots periods l ≡ true → list_all (is_line nodes slots periods) xs ≡ true
     → list_any (shares l) xs ≡ false
-apart_if_marked nodes slots periods xs l m old new t marked ok all = false_from_ne_true (list_any (shares l) xs) (λ some.
+apart_if_marked nodes slots periods blocks xs l m old new t marked ok all = false_from_ne_true (list_any (shares l) xs) (λ some.
     let w = witness (shares l) (is_line nodes slots periods) xs some all in
     let a = line_facts nodes slots periods l ok in
     let b = line_facts nodes slots periods w.0 w.2 in
@@ -224,13 +224,13 @@ apart_if_marked nodes slots periods xs l m old new t marked ok all = false_from_
     let c : ℕ = cell_at nodes slots at.period at.slot l.from at.to in
     let digits : (x : Line) → touches_cell nodes slots c x ≡ touches at.period at.slot l.from at.to x =
     cell_digits nodes slots at.period at.slot l.from at.to (a.in_slots at.slot at.chosen) a.from (a.to at.to at.receives) in
-    let free : slice_index old c ≡ 0 = marked.free c (digits l ∙ at.one) in
+    let free : slice_index old (place_at nodes slots blocks.numbers.items c) ≡ 0 = marked.free c (digits l ∙ at.one) in
     let none : list_any (touches_cell nodes slots c) xs ≡ false = none_from_zero (touches_cell nodes slots c) xs (sym (t.entries c) ∙ free) in
     both_ways (list_any (touches_cell nodes slots c) xs) none (w.3 (touches_cell nodes slots c) (digits w.0 ∙ at.two)))
 
-pub overlaps_if_taken : (nodes slots periods : ℕ) (xs : List Line) (l : Line) (old : List ℕ) → IsTable nodes slots periods xs old
-    → IsTaken (λ c. touches_cell nodes slots c l) old → list_any (shares l) xs ≡ true
-overlaps_if_taken nodes slots periods xs l old t taken =
+pub overlaps_if_taken : (nodes slots : ℕ) (blocks : Blocks) (xs : List Line) (l : Line) (old : List ℕ) → IsTable nodes slots blocks xs old
+    → IsTaken (place_at nodes slots blocks.numbers.items) (λ c. touches_cell nodes slots c l) old → list_any (shares l) xs ≡ true
+overlaps_if_taken nodes slots blocks xs l old t taken =
     let c = taken.0 in
     let some : list_any (touches_cell nodes slots c) xs ≡ true = some_from_entry (touches_cell nodes slots c) xs (λ z. taken.2 (t.entries c ∙ z)) in
     any_more (touches_cell nodes slots c) (shares l) xs (λ x h. share_at _ _ _ _ l x taken.1 h) some
@@ -238,16 +238,12 @@ overlaps_if_taken nodes slots periods xs l old t taken =
 pub all_here : {X : Type 0} (ok : X → Bool) (xs : List X) (k : ℕ) (d : X) → k < length xs → list_all ok xs ≡ true → ok (get_or xs k d) ≡ true
 all_here ok xs k d h all = true_from_ne_false (ok (get_or xs k d)) (λ fails. both_ways (list_all ok xs) (list_all_at ok xs k d h fails) all)
 
--- ---- look-ups
+pub any_here : {X : Type 0} (test : X → Bool) (xs : List X) (k : ℕ) (d : X) → k < length xs → test (get_or xs k d) ≡ true → list_any test xs ≡ true
+any_here test [] k d h on = absurd (omega arith)
+any_here test (x ∷ xs) zero d h on = or_left (test x) (list_any test xs) on
+any_here test (x ∷ xs) (suc k) d h on = or_right (test x) (list_any test xs) (any_here test xs k d (omega arith) on)
 
-pub cell_below : (nodes slots periods p s i j : ℕ) → p < periods → s < slots → i < nodes → j < nodes → cell_at nodes slots p s i j < periods * nodes * slots * nodes
-cell_below nodes slots periods p s i j hp hs hi hj =
-    let a : p * nodes + i < nodes * periods = mul-add-lt p nodes i periods hp hi in
-    let b : (p * nodes + i) * slots + s < slots * (nodes * periods) = mul-add-lt (p * nodes + i) slots s (nodes * periods) a hs in
-    let d : ((p * nodes + i) * slots + s) * nodes + j < nodes * (slots * (nodes * periods)) = mul-add-lt ((p * nodes + i) * slots + s) nodes j (slots * (nodes * periods)) b hj in
-    let e : nodes * (slots * (nodes * periods)) ≡ periods * nodes * slots * nodes =
-    mul_comm nodes (slots * (nodes * periods)) ∙ ap (λ x. x * nodes) (mul_comm slots (nodes * periods) ∙ ap (λ x. x * slots) (mul_comm nodes periods)) in
-    omega (arith, d, e)
+-- ---- look-ups
 
 pub find_none : (test : Line → Bool) (xs : List Line) → list_any test xs ≡ false → find test xs ≡ None
 find_none test [] h = refl

@@ -1,6 +1,7 @@
 mod Rows
 pub mod Marking
 pub mod Touching
+pub mod Placing
 pub mod Ranges
 pub mod Entries
 pub mod Slots

@@ -3,7 +3,7 @@ use Rattle.std.proofs.Common.{◌≡◌, ◌≢◌, ℕ, ◌+◌, ◌*◌, ◌/�
 use Rattle.std.specs.Prelude.{◌==◌, nat_lt, slice_index}
 use Rattle.std.proofs.lemmas.Bool.{cases_Bool, cases_eq, or_cases, ne_eqb, both_ways}
 use Rattle.std.proofs.lemmas.Nat.{div-mul-add, mod-mul-add, mod_below, div-add-mod'}
-use Rattle.fault_classes.specs.Cells.{IsMarked, IsTaken}
+use Rattle.fault_classes.specs.Cells.{IsMarked, IsTaken, itself}
 
 cond_true : (b : Bool) (x y : ℕ) → b ≡ true → cond b x y ≡ x
 cond_true b x y h = rw h refl
@@ -11,29 +11,30 @@ cond_true b x y h = rw h refl
 cond_false : (b : Bool) (x y : ℕ) → b ≡ false → cond b x y ≡ y
 cond_false b x y h = rw h refl
 
-pub marked_none : (test : ℕ → Bool) (m : ℕ) (xs : List ℕ) → ((c : ℕ) → test c ≡ false) → IsMarked test m xs xs
-marked_none test m xs none = record {
+pub marked_none : {at : ℕ → ℕ} (test : ℕ → Bool) (m : ℕ) (xs : List ℕ) → ((c : ℕ) → test c ≡ false) → IsMarked at test m xs xs
+marked_none {at} test m xs none = record {
   whole = refl;
-  cells = λ c. sym (cond_false (test c) m (slice_index xs c) (none c));
+  cells = λ c. sym (cond_false (test c) m (slice_index xs (at c)) (none c));
   free = λ c h. absurd (both_ways (test c) (none c) h);
 }
 
-pub marked_same : (test other : ℕ → Bool) (m : ℕ) (xs ys : List ℕ) → IsMarked test m xs ys → ((c : ℕ) → other c ≡ test c) → IsMarked other m xs ys
-marked_same test other m xs ys h same = record {
+pub marked_same : {at : ℕ → ℕ} (test other : ℕ → Bool) (m : ℕ) (xs ys : List ℕ) → IsMarked at test m xs ys → ((c : ℕ) → other c ≡ test c) → IsMarked at other m xs ys
+marked_same {at} test other m xs ys h same = record {
   whole = h.whole;
-  cells = λ c. h.cells c ∙ ap (λ b. cond b m (slice_index xs c)) (sym (same c));
+  cells = λ c. h.cells c ∙ ap (λ b. cond b m (slice_index xs (at c))) (sym (same c));
   free = λ c t. h.free c (sym (same c) ∙ t);
 }
 
-pub marked_more : (first next both : ℕ → Bool) (m : ℕ) (xs ys zs : List ℕ) → IsMarked first m xs ys → IsMarked next m ys zs → ((c : ℕ) → both c ≡ (first c || next c)) → IsMarked both m xs zs
-marked_more first next both m xs ys zs f n parts = record {
+pub marked_more : {at : ℕ → ℕ} (first next both : ℕ → Bool) (m : ℕ) (xs ys zs : List ℕ) → IsMarked at first m xs ys → IsMarked at next m ys zs → ((c : ℕ) → both c ≡ (first c || next c))
+    → IsMarked at both m xs zs
+marked_more {at} first next both m xs ys zs f n parts = record {
   whole = n.whole ∙ f.whole;
-  cells = λ c. n.cells c ∙ ap (λ v. cond (next c) m v) (f.cells c) ∙ joined (first c) (next c) (slice_index xs c) ∙ ap (λ b. cond b m (slice_index xs c)) (sym (parts c));
+  cells = λ c. n.cells c ∙ ap (λ v. cond (next c) m v) (f.cells c) ∙ joined (first c) (next c) (slice_index xs (at c)) ∙ ap (λ b. cond b m (slice_index xs (at c))) (sym (parts c));
   free = λ c t. elim (cases_Bool (first c)) [
     | inl y ↦ f.free c y
     | inr off ↦
         let later : next c ≡ true = elim (or_cases (first c) (next c) (sym (parts c) ∙ t)) [ inl y ↦ absurd (both_ways (first c) off y) | inr y ↦ y ] in
-        sym (f.cells c ∙ cond_false (first c) m (slice_index xs c) off) ∙ n.free c later
+        sym (f.cells c ∙ cond_false (first c) m (slice_index xs (at c)) off) ∙ n.free c later
   ];
 }
   where
@@ -43,7 +44,7 @@ marked_more first next both m xs ys zs f n parts = record {
     joined false true v = refl
     joined false false v = refl
 
-pub marked_cell : (x m : ℕ) (xs : List ℕ) → x < length xs → slice_index xs x ≡ 0 → IsMarked (λ c. c == x) m xs (set xs x m)
+pub marked_cell : (x m : ℕ) (xs : List ℕ) → x < length xs → slice_index xs x ≡ 0 → IsMarked itself (λ c. c == x) m xs (set xs x m)
 marked_cell x m xs within free = record {
   whole = length-set xs x m;
   cells = λ c. elim (cases_eq c x) [
@@ -53,14 +54,14 @@ marked_cell x m xs within free = record {
   free = λ c t. ap (λ k. get_or xs k 0) (eqb-true c x t) ∙ free;
 }
 
-pub taken_cell : (x : ℕ) (xs : List ℕ) → slice_index xs x ≢ 0 → IsTaken (λ c. c == x) xs
+pub taken_cell : (x : ℕ) (xs : List ℕ) → slice_index xs x ≢ 0 → IsTaken itself (λ c. c == x) xs
 taken_cell x xs ne = (x, eq-eqb x x refl, ne)
 
 -- a place that isn't free after some marks wasn't free before, where it has none of them
-pub taken_later : (first next whole : ℕ → Bool) (m : ℕ) (xs ys : List ℕ) → IsMarked first m xs ys → IsTaken next ys
-    → ((c : ℕ) → next c ≡ true → first c ≡ false) → ((c : ℕ) → next c ≡ true → whole c ≡ true) → IsTaken whole xs
-taken_later first next whole m xs ys f t apart part =
-    (t.0, part t.0 t.1, λ zero_before. t.2 (f.cells t.0 ∙ cond_false (first t.0) m (slice_index xs t.0) (apart t.0 t.1) ∙ zero_before))
+pub taken_later : {at : ℕ → ℕ} (first next whole : ℕ → Bool) (m : ℕ) (xs ys : List ℕ) → IsMarked at first m xs ys → IsTaken at next ys
+    → ((c : ℕ) → next c ≡ true → first c ≡ false) → ((c : ℕ) → next c ≡ true → whole c ≡ true) → IsTaken at whole xs
+taken_later {at} first next whole m xs ys f t apart part =
+    (t.0, part t.0 t.1, λ zero_before. t.2 (f.cells t.0 ∙ cond_false (first t.0) m (slice_index xs (at t.0)) (apart t.0 t.1) ∙ zero_before))
 
 -- ---- the digits of a place: so many times w, and what is left
 

@@ -13,7 +13,8 @@ use Rattle.fault_classes.specs.Change.{is_untouched}
 use Rattle.fault_classes.specs.Line.{Line, touches, effect_at}
 use Rattle.fault_classes.specs.Plan.{Plan, is_clean}
 use Rattle.fault_classes.specs.Rules.{is_line}
-use Rattle.fault_classes.specs.Index.{touches_sender, IsSent, IsTouched}
+use Rattle.fault_classes.specs.Cells.{touches_sender}
+use Rattle.fault_classes.specs.Touches.{IsSent, IsTouched}
 use Rattle.fault_classes.proofs.Entries.{touch_parts, touch_from, any_more, find_none, witness}
 use Rattle.fault_classes.proofs.Loops.{all_ids, other_fails}
 use Rattle.fault_classes.proofs.Ranges.{line_facts}

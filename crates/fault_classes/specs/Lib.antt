@@ -3,7 +3,9 @@ pub mod ChangeLaws
 pub mod Line
 pub mod Plan
 pub mod Rules
+pub mod Blocks
 pub mod Cells
+pub mod Touches
 pub mod Index
 pub mod Standing
 pub mod ClassLaws

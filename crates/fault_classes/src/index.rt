@@ -1,17 +1,17 @@
 ghost use Rattle.std.specs.Prelude.{◌≡◌, ℕ, ◌^◌, ◌<◌, ◌≤◌, ◌⊎◌, true, not, None, Some, IfOk, MatchResult, IsTrue, map, length, option_map};
-ghost use Rattle.std.specs.List.{list_all};
 ghost use Rattle.fault_classes.specs.Change.{change_of};
 ghost use Rattle.fault_classes.specs.Line.{line_of, effect_at, touches};
 ghost use Rattle.slot_plan.specs.Slots.{slot_count};
 ghost use Rattle.fault_classes.specs.Plan.{plan_of, restarts_at, is_clean};
-ghost use Rattle.fault_classes.specs.Rules.{is_line, refusal_of, first_bad_restart};
+ghost use Rattle.fault_classes.specs.Rules.{refusal_of, first_bad_restart};
 ghost use Rattle.fault_classes.specs.Cells.{IsShape, entry_of};
-ghost use Rattle.fault_classes.specs.Index.{IsRestarting, IsSent, IsTouched, AreAccepted, IsRefusedBy};
+ghost use Rattle.fault_classes.specs.Index.{IsRestarting, AreAccepted, IsRefusedBy};
 ghost use Rattle.node_grid.specs.Capacity.{IsCapacity};
 ghost use Rattle.node_grid.specs.NodeSet.{ids_where};
 
-use crate::cells::{Shape, cells_of};
+use crate::cells::Shape;
 use crate::rules::{first_bad_line, first_bad_restart};
+use crate::touches::{Touches, touches_of};
 use crate::{Effect, FaultLine, PlanError, Restart};
 use node_grid::NodeSet;
 use slot_plan::slot_count;
@@ -28,9 +28,8 @@ pub struct PlanIndex<const N: usize> {
     rounds: u8,
     lines: Vec<FaultLine<N>>,
     restarts: Vec<Restart>,
-    cells: Vec<u16>,
     restarting: Vec<NodeSet<N>>,
-    touched: Vec<NodeSet<N>>,
+    touches: Touches<N>,
 }
 
 // Clauses see the plan.
@@ -44,34 +43,34 @@ impl<const N: usize> Model for PlanIndex<N> {
 
     ghost view = { λ x. plan_of x.shape.nodes x.rounds x.shape.periods (map line_of x.lines.items) x.restarts.items };
 
-    ghost invariant = { λ x. IsIndex N (plan_of x.shape.nodes x.rounds x.shape.periods (map line_of x.lines.items) x.restarts.items) x.shape.slots x.cells.items x.restarting.items x.touched.items };
+    ghost invariant = { λ x. IsIndex N (plan_of x.shape.nodes x.rounds x.shape.periods (map line_of x.lines.items) x.restarts.items) x.shape.slots x.restarting.items x.touches };
 }
 
-/// The cells of these lines, where no rule refuses them and these restarts.
-fn accepted_cells<const N: usize>(
+/// Which line touches each frame, where no rule refuses these lines and restarts.
+fn accepted_touches<const N: usize>(
     alloc: Global,
     shape: &Shape,
     lines: &[FaultLine<N>],
     restarts: &[Restart],
-) -> Result<Vec<u16>, PlanError>
+) -> Result<Touches<N>, PlanError>
     requires shape { IsShape N shape.now.nodes shape.now.slots shape.now.periods }
     requires few_lines { length lines.now < 2 ^ 32 }
     requires few_restarts { length restarts.now < 2 ^ 32 }
     ensures { MatchResult result
-        (λ v. AreAccepted shape.now.nodes shape.now.slots shape.now.periods (map line_of lines.now) restarts.now v.items)
+        (λ v. AreAccepted shape.now.nodes shape.now.slots shape.now.periods (map line_of lines.now) restarts.now v)
         (λ e. IsRefusedBy shape.now.nodes shape.now.slots shape.now.periods (map line_of lines.now) restarts.now e) }
 {
     if let Some(place) = first_bad_line(lines, shape) {
         return Err(PlanError::Range(place));
     }
-    let cells = cells_of(alloc, shape, lines)?;
+    let touches = touches_of(alloc, shape, lines)?;
     if let Some(place) = first_bad_restart(restarts, shape.nodes, shape.periods) {
         return Err(PlanError::Restart(place));
     }
     if lines.len() > MOST_LINES {
         return Err(PlanError::TooMany);
     }
-    Ok(cells)
+    Ok(touches)
 }
 
 /// For each period the set of the nodes that restart at it.
@@ -90,38 +89,6 @@ fn restarting_sets<const N: usize>(
     for restart in restarts {
         let set = &mut sets[restart.period as usize];
         set.put(restart.node);
-    }
-    Ok(sets)
-}
-
-/// Puts the line's sender into the set of each of the line's periods.
-fn put_sender<const N: usize>(sets: &mut [NodeSet<N>], line: &FaultLine<N>)
-    requires capacity { IsCapacity N }
-    requires sender { line.now.from < N }
-    requires order { line.now.first ≤ line.now.last }
-    requires last { line.now.last < length sets.old }
-    requires few { length sets.old < 2 ^ 32 }
-    ensures { IsSent N (line_of line.now) sets.old sets.new }
-{
-    for period in line.first..line.last + 1 {
-        let set = &mut sets[period as usize];
-        set.put(line.from);
-    }
-}
-
-/// For each period the set of the nodes a frame of which some line touches.
-fn touched_sets<const N: usize>(
-    alloc: Global,
-    lines: &[FaultLine<N>],
-    shape: &Shape,
-) -> Result<Vec<NodeSet<N>>, AllocError>
-    requires shape { IsShape N shape.now.nodes shape.now.slots shape.now.periods }
-    requires lines { list_all (is_line shape.now.nodes shape.now.slots shape.now.periods) (map line_of lines.now) ≡ true }
-    ensures { IfOk result (λ v. IsTouched N shape.now.periods (map line_of lines.now) v.items) }
-{
-    let mut sets = vec![in alloc; NodeSet::empty(); shape.periods as usize]?;
-    for line in lines {
-        put_sender(sets.as_mut_slice(), line);
     }
     Ok(sets)
 }
@@ -146,11 +113,8 @@ impl<const N: usize> PlanIndex<N> {
             slots: slot_count(m),
             periods,
         };
-        let cells = accepted_cells(alloc, &shape, lines.as_slice(), restarts.as_slice())?;
+        let touches = accepted_touches(alloc, &shape, lines.as_slice(), restarts.as_slice())?;
         let Ok(restarting) = restarting_sets(alloc, restarts.as_slice(), nodes, periods) else {
-            return Err(PlanError::NoMemory);
-        };
-        let Ok(touched) = touched_sets(alloc, lines.as_slice(), &shape) else {
             return Err(PlanError::NoMemory);
         };
         Ok(PlanIndex {
@@ -158,9 +122,8 @@ impl<const N: usize> PlanIndex<N> {
             rounds: m,
             lines,
             restarts,
-            cells,
             restarting,
-            touched,
+            touches,
         })
     }
 
@@ -203,9 +166,9 @@ impl<const N: usize> PlanIndex<N> {
         ensures { result ≡ entry_of (touches period slot from to) self.now.lines }
     {
         let nodes = self.shape.nodes as usize;
-        let block = period as usize * nodes + from as usize;
-        let row = block * self.shape.slots as usize + slot as usize;
-        self.cells[row * nodes + to as usize]
+        let block = self.touches.blocks.numbers[period as usize * nodes + from as usize];
+        let row = block as usize * self.shape.slots as usize + slot as usize;
+        self.touches.cells[row * nodes + to as usize]
     }
 
     /// Whether one line touches a node's frames to two others in a slot, or none does.
@@ -251,6 +214,6 @@ impl<const N: usize> PlanIndex<N> {
         requires { period < self.now.periods }
         ensures { result ≡ ids_where (λ i. not (is_clean self.now period i)) N }
     {
-        self.touched[period as usize]
+        self.touches.senders[period as usize]
     }
 }

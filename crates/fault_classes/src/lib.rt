@@ -5,6 +5,7 @@
 //! Park (1988).
 #![tactic(auto)]
 
+mod blocks;
 mod budget;
 mod cells;
 mod effect;
@@ -15,6 +16,7 @@ mod line;
 mod plan;
 mod rules;
 mod standing;
+mod touches;
 
 pub use budget::Budget;
 pub use effect::Effect;

@@ -6,6 +6,6 @@ use Rattle.fault_classes.proofs.cells.cells_of.Given as goal
 
 abbrev pub invariant-loop-place : goal.invariant-loop-place
 invariant-loop-place g l = record {
-  table : IsTable l.shape.nodes l.shape.slots l.shape.periods (take l.place (map line_of l.lines)) l.cells.items;
+  table : IsTable l.shape.nodes l.shape.slots l.blocks (take l.place (map line_of l.lines)) l.cells.items;
   apart : first_overlap [] (map line_of l.lines) ≡ first_overlap (take l.place (map line_of l.lines)) (drop l.place (map line_of l.lines));
 }

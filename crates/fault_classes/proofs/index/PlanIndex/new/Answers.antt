@@ -4,12 +4,13 @@ use Rattle.slot_plan.specs.Slots.{slot_count}
 use Rattle.fault_classes.specs.declared.line.FaultLine.{FaultLine}
 use Rattle.fault_classes.specs.declared.line.Restart.{Restart}
 use Rattle.fault_classes.specs.Line.{line_of}
-use Rattle.fault_classes.specs.Cells.{IsShape, IsTable}
+use Rattle.fault_classes.specs.Cells.{IsShape}
 use Rattle.fault_classes.specs.Rules.{first_bad_line}
-use Rattle.fault_classes.proofs.Refusals.{all_good, by_none}
+use Rattle.fault_classes.proofs.Refusals.{by_none}
 use Rattle.fault_classes.specs.Rules.{first_overlap, first_bad_restart, refusal_of}
 use Rattle.fault_classes.specs.Plan.{plan_of}
-use Rattle.fault_classes.specs.Index.{IsRestarting, IsTouched}
+use Rattle.fault_classes.specs.Index.{IsRestarting}
+use Rattle.fault_classes.specs.Touches.{AreTouches}
 use Rattle.fault_classes.proofs.Ranges.{few_items}
 use Rattle.fault_classes.proofs.index.PlanIndex.new.Given as given
 use Rattle.fault_classes.proofs.index.PlanIndex.new.Goals as goal
@@ -17,42 +18,35 @@ use Rattle.fault_classes.proofs.index.PlanIndex.new.Goals as goal
 rounds_few : (m : ℕ) → 2 * m + 4 ≤ 10 → m ≤ 3
 rounds_few m h = omega arith
 
-lines_few : (g : given.Over) (c : goal.In-Ok-touched_sets g) → length (map (line_of {n = g.row.N}) c.args.lines.items) ≤ 4096
-lines_few g c = omega (arith, c.in_ok-cells.ensures.4, ap (λ (xs : List (FaultLine g.row.N)). length (map line_of xs)) c.as_slice.ensures.value)
+lines_few : (g : given.Over) (c : goal.In-Ok g) → length (map (line_of {n = g.row.N}) c.args.lines.items) ≤ 4096
+lines_few g c = omega (arith, c.in_ok-touches.ensures.4, ap (λ (xs : List (FaultLine g.row.N)). length (map line_of xs)) c.as_slice.ensures.value)
 
-accepted : (g : given.Over) (c : goal.In-Ok-touched_sets g) → refusal_of (plan_of c.args.nodes c.args.m c.args.periods (map (line_of {n = g.row.N}) c.args.lines.items) c.args.restarts.items) ≡ None
+accepted : (g : given.Over) (c : goal.In-Ok g) → refusal_of (plan_of c.args.nodes c.args.m c.args.periods (map (line_of {n = g.row.N}) c.args.lines.items) c.args.restarts.items) ≡ None
 accepted g c =
     let a = c.args in
     let lines : List (FaultLine g.row.N) = a.lines.items in
     let in_range : first_bad_line a.nodes (slot_count a.m) a.periods 0 (map line_of lines) ≡ None =
-    ap₂ (λ s (xs : List (FaultLine g.row.N)). first_bad_line a.nodes s a.periods 0 (map line_of xs)) (sym c.slot_count.ensures) (sym c.as_slice.ensures.value) ∙ c.in_ok-cells.ensures.1 in
-    let apart : first_overlap [] (map line_of lines) ≡ None = ap (λ (xs : List (FaultLine g.row.N)). first_overlap [] (map line_of xs)) (sym c.as_slice.ensures.value) ∙ c.in_ok-cells.ensures.2 in
+    ap₂ (λ s (xs : List (FaultLine g.row.N)). first_bad_line a.nodes s a.periods 0 (map line_of xs)) (sym c.slot_count.ensures) (sym c.as_slice.ensures.value) ∙ c.in_ok-touches.ensures.1 in
+    let apart : first_overlap [] (map line_of lines) ≡ None = ap (λ (xs : List (FaultLine g.row.N)). first_overlap [] (map line_of xs)) (sym c.as_slice.ensures.value) ∙ c.in_ok-touches.ensures.2 in
     let in_order : first_bad_restart a.nodes a.periods None 0 a.restarts.items ≡ None =
-    ap (first_bad_restart a.nodes a.periods None 0) (sym c.as_slice-2.ensures.value) ∙ c.in_ok-cells.ensures.3 in
+    ap (first_bad_restart a.nodes a.periods None 0) (sym c.as_slice-2.ensures.value) ∙ c.in_ok-touches.ensures.3 in
     by_none (plan_of a.nodes a.m a.periods (map line_of lines) a.restarts.items) in_range apart in_order (lines_few g c)
 
-pub accepted_cells-requires : goal.accepted_cells-requires
-accepted_cells-requires g c =
+pub accepted_touches-requires : goal.accepted_touches-requires
+accepted_touches-requires g c =
     let P : ℕ → Type 0 = λ k. IsShape g.row.N c.args.nodes k c.args.periods in (
       lit< tt,
       (
-        subst P (sym c.slot_count.ensures) c.requires.shape,
+        lit< tt,
         (
-          few_items c.as_slice.result.now c.args.lines.items (2 ^ 32) c.as_slice.ensures.value c.requires.few_lines,
-          few_items c.as_slice-2.result.now c.args.restarts.items (2 ^ 32) c.as_slice-2.ensures.value c.requires.few_restarts,
+          subst P (sym c.slot_count.ensures) c.requires.shape,
+          (
+            few_items c.as_slice.result.now c.args.lines.items (2 ^ 32) c.as_slice.ensures.value c.requires.few_lines,
+            few_items c.as_slice-2.result.now c.args.restarts.items (2 ^ 32) c.as_slice-2.ensures.value c.requires.few_restarts,
+          ),
         ),
       ),
     )
-
-pub touched_sets-requires : goal.touched_sets-requires
-touched_sets-requires g c =
-    let n = c.args.nodes in
-    let s = c.slot_count.result in
-    let t = c.args.periods in
-    let same : map (line_of {n = g.row.N}) c.as_slice.result.now ≡ map line_of c.as_slice-4.result.now = ap (map line_of) (c.as_slice.ensures.value ∙ sym c.as_slice-4.ensures.value) in
-    let good : first_bad_line n s t 0 (map (line_of {n = g.row.N}) c.as_slice-4.result.now) ≡ None = ap (first_bad_line n s t 0) (sym same) ∙ c.in_ok-cells.ensures.1 in
-    let P : ℕ → Type 0 = λ k. IsShape g.row.N n k t in
-    (lit< tt, (lit< tt, (subst P (sym c.slot_count.ensures) c.requires.shape, all_good n s t 0 (map line_of c.as_slice-4.result.now) good)))
 
 pub slot_count-requires : goal.slot_count-requires
 slot_count-requires g c = rounds_few c.args.m c.requires.shape.few_slots
@@ -62,7 +56,7 @@ restarting_sets-requires g c = (
   lit< tt,
   (
     c.requires.shape.capacity,
-    (c.requires.shape.few_nodes, ap (first_bad_restart c.args.nodes c.args.periods None 0) (c.as_slice-3.ensures.value ∙ sym c.as_slice-2.ensures.value) ∙ c.in_ok-cells.ensures.3),
+    (c.requires.shape.few_nodes, ap (first_bad_restart c.args.nodes c.args.periods None 0) (c.as_slice-3.ensures.value ∙ sym c.as_slice-2.ensures.value) ∙ c.in_ok-touches.ensures.3),
   ),
 )
 
@@ -76,18 +70,17 @@ invariant_of-result g c =
       accepted = accepted g c;
       few = lines_few g c;
       few_restarts = c.requires.few_restarts;
-      table = subst (λ (xs : List (FaultLine g.row.N)). IsTable a.nodes c.slot_count.result a.periods (map line_of xs) c.in_ok-cells.cells.items) c.as_slice.ensures.value c.in_ok-cells.ensures.0;
       restarting = subst (λ (xs : List Restart). IsRestarting g.row.N a.periods xs c.in-Ok.restarting.items) c.as_slice-3.ensures.value c.in-Ok.ensures;
-      touched = subst (λ (xs : List (FaultLine g.row.N)). IsTouched g.row.N a.periods (map line_of xs) c.in-Ok-touched_sets.touched.items) c.as_slice-4.ensures.value c.in-Ok-touched_sets.ensures;
+      touched = subst (λ (xs : List (FaultLine g.row.N)). AreTouches a.nodes c.slot_count.result a.periods (map line_of xs) c.in_ok-touches.touches) c.as_slice.ensures.value c.in_ok-touches.ensures.0;
     }
 
-pub returns-in_err-cells : goal.returns-in_err-cells
-returns-in_err-cells g c =
+pub returns-in_err-touches : goal.returns-in_err-touches
+returns-in_err-touches g c =
     let n = c.args.nodes in
     let s = c.slot_count.result in
     let t = c.args.periods in
     let p = err_from_is_err_and c.from_residual.result c.from_residual.ensures.1 in
-    rw (p.1, p.2) (elim c.in_err-cells.ensures [
+    rw (p.1, p.2) (elim c.in_err-touches.ensures [
       | inl none ↦ inl none
       | inr told ↦
           inr (ap₂ (λ (xs : List (FaultLine g.row.N)) rs. refusal_of (plan_of n c.args.m t (map line_of xs) rs)) (sym c.as_slice.ensures.value) (sym c.as_slice-2.ensures.value)
@@ -96,9 +89,6 @@ returns-in_err-cells g c =
 
 pub returns-in_default : goal.returns-in_default
 returns-in_default g c = inl refl
-
-pub returns-in_default-touched_sets : goal.returns-in_default-touched_sets
-returns-in_default-touched_sets g c = inl refl
 
 pub returns : goal.returns
 returns g c = (refl, accepted g c)

@@ -1,41 +1,55 @@
-use Rattle.std.proofs.Common.{◌≡◌, ℕ, ◌+◌, ◌*◌, ◌^◌, ◌<◌, ◌≤◌, map, length, ap, ◌∙◌, Fits, w64, arith}
+use Rattle.std.proofs.Common.{◌≡◌, ℕ, ◌+◌, ◌*◌, ◌^◌, ◌<◌, ◌≤◌, Bool, List, map, length, sym, ap, ◌∙◌, Fits, w64, arith}
 use Rattle.std.specs.Prelude.{slice_index}
 use Rattle.std.proofs.lemmas.List.{get_or_read}
-use Rattle.fault_classes.specs.Line.{touches, line_of}
+use Rattle.std.proofs.lemmas.Nat.{mul-add-lt}
+use Rattle.std.proofs.Math.Nat.{mul_comm, mul-le-mul}
+use Rattle.fault_classes.specs.declared.blocks.Blocks.{Blocks}
+use Rattle.fault_classes.specs.Line.{Line, touches, line_of}
 use Rattle.slot_plan.specs.Slots.{slot_count}
 use Rattle.fault_classes.specs.Plan.{Plan}
-use Rattle.fault_classes.specs.Cells.{IsShape, cell_at, entry_of, touches_cell}
-use Rattle.fault_classes.proofs.Entries.{cell_below, cell_digits, same_entry}
-use Rattle.fault_classes.proofs.Ranges.{few_nodes, block_small, row_fits, whole_small}
+use Rattle.fault_classes.specs.Blocks.{AreBlocks}
+use Rattle.fault_classes.specs.Cells.{IsShape, IsTable, cell_at, place_at, entry_of, touches_cell}
+use Rattle.fault_classes.proofs.Entries.{cell_digits, same_entry}
+use Rattle.fault_classes.proofs.Placing.{place_of_cell, cell_within, table_small}
+use Rattle.fault_classes.proofs.Ranges.{few_nodes, row_fits}
 use Rattle.fault_classes.proofs.index.PlanIndex.number.Goals as goal
 
-record Sizes (nodes slots p s i j : ℕ) : Type 0 where
-  block : p * nodes + i < 2 ^ 20
-  row : Fits w64 ((p * nodes + i) * slots) × Fits w64 ((p * nodes + i) * slots + s)
-  cell : Fits w64 (((p * nodes + i) * slots + s) * nodes + j)
+-- where a frame's block and cell lie, and that the sizes fit
+record Sizes (nodes slots : ℕ) (blocks : Blocks) (cells : List ℕ) (p s i j : ℕ) : Type 0 where
+  pair : p * nodes + i < length blocks.numbers.items
+  few : p * nodes + i < 16384
+  row : (b : ℕ) → b ≡ slice_index blocks.numbers.items (p * nodes + i) → Fits w64 (b * slots) × Fits w64 (b * slots + s)
+  cell : (b : ℕ) → b ≡ slice_index blocks.numbers.items (p * nodes + i) → (b * slots + s) * nodes + j < length cells
+  small : length cells < 2 ^ 32
 
--- the places of a frame's block, row and cell, where the shape is that of the plan
-sizes : (n nodes slots periods a b d p s i j : ℕ) → IsShape n nodes slots periods → nodes ≡ a → slots ≡ b → periods ≡ d → p < d → s < b → i < a → j < a → Sizes nodes slots p s i j
-sizes n nodes slots periods a b d p s i j h en es ep hp hs hi hj =
+sizes : (n nodes slots periods a b d p s i j : ℕ) (blocks : Blocks) (wanted : ℕ → Bool) (lines : List Line) (cells : List ℕ) → IsShape n nodes slots periods → AreBlocks wanted nodes periods blocks
+    → IsTable nodes slots blocks lines cells → nodes ≡ a → slots ≡ b → periods ≡ d → p < d → s < b → i < a → j < a → Sizes nodes slots blocks cells p s i j
+sizes n nodes slots periods a b d p s i j blocks wanted lines cells h laid table en es ep hp hs hi hj =
     let few : nodes ≤ 16 = few_nodes n nodes slots periods h in
-    let block : p * nodes + i < 2 ^ 20 = block_small p nodes i periods (omega arith) (omega arith) few h.few_periods in
+    let low : p * nodes + i < nodes * periods = mul-add-lt p nodes i periods (omega arith) (omega arith) in
+    let wide : nodes * periods ≡ periods * nodes = mul_comm nodes periods in
+    let small = table_small blocks.last nodes slots periods laid.numbered.few few h.few_slots h.few_periods in
+    let all : periods * nodes ≤ 16384 = mul-le-mul {n₁ = periods} {m₁ = nodes} {n₂ = 1024} {m₂ = 16} h.few_periods few in
+    let within : slice_index blocks.numbers.items (p * nodes + i) ≤ blocks.last = laid.numbered.within (p * nodes + i) in
     record {
-      block = block;
-      row = row_fits (p * nodes + i) slots s block h.few_slots (omega arith);
-      cell = omega (arith, cell_below nodes slots periods p s i j (omega arith) (omega arith) (omega arith) (omega arith), whole_small nodes slots periods few h.few_slots h.few_periods);
+      pair = omega (arith, low, wide, laid.long);
+      few = omega (arith, low, wide, all);
+      row = λ k e. row_fits k slots s (omega (arith, e, within, small.0)) h.few_slots (omega arith);
+      cell = λ k e. let c = cell_within k blocks.last nodes slots s j (omega (arith, e, within)) (omega arith) (omega arith) in omega (arith, c, table.whole);
+      small = omega (arith, table.whole, small.2);
     }
 
 pub index-requires : goal.index-requires
 index-requires g c =
     let x = c.self.inside in
-    let nodes : x.shape.nodes ≡ c.args.self.now.nodes = ap (λ (p : Plan). p.nodes) c.self.view_is in
-    let periods : x.shape.periods ≡ c.args.self.now.periods = ap (λ (p : Plan). p.periods) c.self.view_is in
-    let slots : x.shape.slots ≡ slot_count c.args.self.now.rounds = c.self.invariant.all_slots ∙ ap (λ (p : Plan). slot_count p.rounds) c.self.view_is in
-    let long : length x.cells.items ≡ x.shape.periods * x.shape.nodes * x.shape.slots * x.shape.nodes = c.self.invariant.table.whole in
-    let below : cell_at x.shape.nodes x.shape.slots c.args.period c.args.slot c.args.from c.args.to < x.shape.periods * x.shape.nodes * x.shape.slots * x.shape.nodes =
-    cell_below x.shape.nodes x.shape.slots x.shape.periods c.args.period c.args.slot c.args.from c.args.to (omega arith) (omega arith) (omega arith) (omega arith)
+    let b = x.touches.blocks.numbers.items in
+    let t = c.self.invariant.touched in
+    let z = sizes g.row.N x.shape.nodes x.shape.slots x.shape.periods _ _ _ c.args.period c.args.slot c.args.from c.args.to x.touches.blocks _ (map line_of x.lines.items) x.touches.cells.items c.self.invariant.shape t.blocks t.table
+    (ap (λ (q : Plan). q.nodes) c.self.view_is) (c.self.invariant.all_slots ∙ ap (λ (q : Plan). slot_count q.rounds) c.self.view_is) (ap (λ (q : Plan). q.periods) c.self.view_is)
+    c.requires.period c.requires.slot c.requires.from c.requires.to
     in
-    omega (arith, below, long, x.cells.ok)
+    let block : c.index-block.result.now ≡ slice_index b (c.args.period * x.shape.nodes + c.args.from) = get_or_read b (c.args.period * x.shape.nodes + c.args.from) c.index-block.result.now z.pair c.index-block.ensures 0 in
+    omega (arith, z.cell c.index-block.result.now block, x.touches.cells.ok)
 
 pub returns : goal.returns
 returns g c =
@@ -46,50 +60,21 @@ returns g c =
     let j = c.args.to in
     let n = x.shape.nodes in
     let k = x.shape.slots in
+    let b = x.touches.blocks.numbers.items in
+    let cells = x.touches.cells.items in
+    let t = c.self.invariant.touched in
     let nodes : n ≡ c.args.self.now.nodes = ap (λ (p : Plan). p.nodes) c.self.view_is in
-    let periods : x.shape.periods ≡ c.args.self.now.periods = ap (λ (p : Plan). p.periods) c.self.view_is in
     let slots : k ≡ slot_count c.args.self.now.rounds = c.self.invariant.all_slots ∙ ap (λ (p : Plan). slot_count p.rounds) c.self.view_is in
     let lines : map line_of x.lines.items ≡ c.args.self.now.lines = ap (λ (p : Plan). p.lines) c.self.view_is in
     let hs : s < k = omega arith in
     let hi : i < n = omega arith in
     let hj : j < n = omega arith in
-    let within : cell_at n k p s i j < length x.cells.items = omega (arith, cell_below n k x.shape.periods p s i j (omega arith) hs hi hj, c.self.invariant.table.whole) in
-    let read : c.index.result.now ≡ slice_index x.cells.items (cell_at n k p s i j) = get_or_read x.cells.items (cell_at n k p s i j) c.index.result.now within c.index.ensures 0 in
+    let z = sizes g.row.N n k x.shape.periods _ _ _ p s i j x.touches.blocks _ (map line_of x.lines.items) cells c.self.invariant.shape t.blocks t.table
+    nodes slots (ap (λ (q : Plan). q.periods) c.self.view_is) c.requires.period c.requires.slot c.requires.from c.requires.to
+    in
+    let r = c.index-block.result.now in
+    let block : r ≡ slice_index b (p * n + i) = get_or_read b (p * n + i) r z.pair c.index-block.ensures 0 in
+    let read : c.index.result.now ≡ slice_index cells ((r * k + s) * n + j) = get_or_read cells ((r * k + s) * n + j) c.index.result.now (z.cell r block) c.index.ensures 0 in
+    let place : (r * k + s) * n + j ≡ place_at n k b (cell_at n k p s i j) = ap (λ d. (d * k + s) * n + j) block ∙ sym (place_of_cell n k b p s i j hs hj) in
     let same : entry_of (touches_cell n k (cell_at n k p s i j)) (map line_of x.lines.items) ≡ entry_of (touches p s i j) (map line_of x.lines.items) = same_entry (touches_cell n k (cell_at n k p s i j)) (touches p s i j) (map line_of x.lines.items) (cell_digits n k p s i j hs hi hj) in
-    read ∙ c.self.invariant.table.entries (cell_at n k p s i j) ∙ same ∙ ap (entry_of (touches p s i j)) lines
-
-pub overflow_mul-block : goal.overflow_mul-block
-overflow_mul-block g c =
-    let z = sizes g.row.N _ _ _ _ _ _ c.args.period c.args.slot c.args.from c.args.to c.self.invariant.shape (ap (λ (q : Plan). q.nodes) c.self.view_is)
-    (c.self.invariant.all_slots ∙ ap (λ (q : Plan). slot_count q.rounds) c.self.view_is) (ap (λ (q : Plan). q.periods) c.self.view_is) c.requires.period c.requires.slot c.requires.from c.requires.to in
-    omega (arith, z.block)
-
-pub overflow_add-block : goal.overflow_add-block
-overflow_add-block g c =
-    let z = sizes g.row.N _ _ _ _ _ _ c.args.period c.args.slot c.args.from c.args.to c.self.invariant.shape (ap (λ (q : Plan). q.nodes) c.self.view_is)
-    (c.self.invariant.all_slots ∙ ap (λ (q : Plan). slot_count q.rounds) c.self.view_is) (ap (λ (q : Plan). q.periods) c.self.view_is) c.requires.period c.requires.slot c.requires.from c.requires.to in
-    omega (arith, z.block)
-
-pub overflow_mul-row : goal.overflow_mul-row
-overflow_mul-row g c =
-    let z = sizes g.row.N _ _ _ _ _ _ c.args.period c.args.slot c.args.from c.args.to c.self.invariant.shape (ap (λ (q : Plan). q.nodes) c.self.view_is)
-    (c.self.invariant.all_slots ∙ ap (λ (q : Plan). slot_count q.rounds) c.self.view_is) (ap (λ (q : Plan). q.periods) c.self.view_is) c.requires.period c.requires.slot c.requires.from c.requires.to in
-    z.row.0
-
-pub overflow_add-row : goal.overflow_add-row
-overflow_add-row g c =
-    let z = sizes g.row.N _ _ _ _ _ _ c.args.period c.args.slot c.args.from c.args.to c.self.invariant.shape (ap (λ (q : Plan). q.nodes) c.self.view_is)
-    (c.self.invariant.all_slots ∙ ap (λ (q : Plan). slot_count q.rounds) c.self.view_is) (ap (λ (q : Plan). q.periods) c.self.view_is) c.requires.period c.requires.slot c.requires.from c.requires.to in
-    z.row.1
-
-pub overflow_mul-row-2 : goal.overflow_mul-row-2
-overflow_mul-row-2 g c =
-    let z = sizes g.row.N _ _ _ _ _ _ c.args.period c.args.slot c.args.from c.args.to c.self.invariant.shape (ap (λ (q : Plan). q.nodes) c.self.view_is)
-    (c.self.invariant.all_slots ∙ ap (λ (q : Plan). slot_count q.rounds) c.self.view_is) (ap (λ (q : Plan). q.periods) c.self.view_is) c.requires.period c.requires.slot c.requires.from c.requires.to in
-    omega (arith, z.cell)
-
-pub overflow_add-row-2 : goal.overflow_add-row-2
-overflow_add-row-2 g c =
-    let z = sizes g.row.N _ _ _ _ _ _ c.args.period c.args.slot c.args.from c.args.to c.self.invariant.shape (ap (λ (q : Plan). q.nodes) c.self.view_is)
-    (c.self.invariant.all_slots ∙ ap (λ (q : Plan). slot_count q.rounds) c.self.view_is) (ap (λ (q : Plan). q.periods) c.self.view_is) c.requires.period c.requires.slot c.requires.from c.requires.to in
-    z.cell
+    read ∙ ap (slice_index cells) place ∙ t.table.entries (cell_at n k p s i j) ∙ same ∙ ap (entry_of (touches p s i j)) lines

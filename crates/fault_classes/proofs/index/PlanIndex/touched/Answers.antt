@@ -16,7 +16,7 @@ returns g c =
     let inside : Plan = plan_of x.shape.nodes x.rounds x.shape.periods (map line_of x.lines.items) x.restarts.items in
     let set = c.index.result.now in
     let periods : x.shape.periods ≡ plan.periods = ap (λ (q : Plan). q.periods) c.self.view_is in
-    let within : p < length x.touched.items = omega (arith, c.self.invariant.touched.long) in
-    let read : set ≡ get_or x.touched.items p [] = get_or_read x.touched.items p set within c.index.ensures [] in
-    let members = c.self.invariant.touched.members p (omega arith) in
+    let within : p < length x.touches.senders.items = omega (arith, c.self.invariant.touched.senders.long) in
+    let read : set ≡ get_or x.touches.senders.items p [] = get_or_read x.touches.senders.items p set within c.index.ensures [] in
+    let members = c.self.invariant.touched.senders.members p (omega arith) in
     read ∙ members ∙ filter_range _ _ 0 g.row.N (λ k low up. soiled_is inside p k (lines_good inside c.self.invariant.accepted)) ∙ ap (λ (q : Plan). ids_where (λ i. not (is_clean q p i)) g.row.N) c.self.view_is

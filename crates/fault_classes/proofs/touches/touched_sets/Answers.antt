@@ -5,12 +5,12 @@ use Rattle.node_grid.specs.CapacityLaws.{capacity-le}
 use Rattle.node_grid.specs.NodeSetLaws.{filter_none}
 use Rattle.fault_classes.specs.Line.{Line, line_of}
 use Rattle.fault_classes.specs.Rules.{is_line}
-use Rattle.fault_classes.specs.Index.{IsTouched}
+use Rattle.fault_classes.specs.Touches.{IsTouched}
 use Rattle.fault_classes.proofs.Entries.{all_here}
 use Rattle.fault_classes.proofs.Places.{line_at, front_at, none_there, long_as}
 use Rattle.fault_classes.proofs.Ranges.{line_facts}
 use Rattle.fault_classes.proofs.Sending.{touched_push}
-use Rattle.fault_classes.proofs.index.touched_sets.Goals as goal
+use Rattle.fault_classes.proofs.touches.touched_sets.Goals as goal
 
 written : (new old : List (List ℕ)) (n : ℕ) → length new ≡ length old → length old ≡ n → take n (new ++ drop (length new) old) ≡ new
 written new old n a b = take-append-le n new (drop (length new) old) (omega arith) ∙ take_all n new (omega arith)

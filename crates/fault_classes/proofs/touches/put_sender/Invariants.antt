@@ -1,7 +1,7 @@
 use Rattle.std.proofs.Common.{◌≡◌, ℕ, ◌&&◌, nat_le, nat_lt, [], slice_index_or}
 use Rattle.std.specs.Prelude.{if◌then◌else◌}
 use Rattle.node_grid.specs.NodeSet.{with_id}
-use Rattle.fault_classes.proofs.index.put_sender.Given as goal
+use Rattle.fault_classes.proofs.touches.put_sender.Given as goal
 
 abbrev pub invariant-loop-period : goal.invariant-loop-period
 invariant-loop-period g l =

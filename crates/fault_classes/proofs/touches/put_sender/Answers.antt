@@ -2,7 +2,7 @@ use Rattle.std.proofs.Common.{◌≡◌, ◌<◌, [], length, get_or, sym, ap, �
 use Rattle.std.proofs.lemmas.List.{get_or_read}
 use Rattle.node_grid.specs.NodeSet.{with_id}
 use Rattle.fault_classes.proofs.Sending.{sent_none, sent_all, sent_more}
-use Rattle.fault_classes.proofs.index.put_sender.Goals as goal
+use Rattle.fault_classes.proofs.touches.put_sender.Goals as goal
 
 pub loop-period-init : goal.loop-period-init
 loop-period-init g c = λ p. sent_none g.row.N c.args.sets.now c.args.line.now.from c.args.line.now.first p
