@@ -6,4 +6,4 @@ pub returns-clause-periods : goal.returns-clause-periods
 returns-clause-periods g c = ap (λ (s : ScenarioView g.row.N). s.periods) c.self.view_is
 
 pub returns-clause-scenario : goal.returns-clause-scenario
-returns-clause-scenario g c = subst (λ (s : ScenarioView g.row.N). IsScenario s) c.self.view_is c.self.invariant
+returns-clause-scenario g c = subst (λ (s : ScenarioView g.row.N). IsScenario s) c.self.view_is c.self.invariant.scenario
