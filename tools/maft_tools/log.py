@@ -56,7 +56,12 @@ def cut(scenario: Json, trace: Iterable[str], node: int) -> str:
     log = entries(trace, node)
     if not log:
         raise WordsError(f"no frame to node {node} is in the trace; is it the text of 'replay trace'?")
-    text = json.dumps({"scenario": scenario, "frames": log}, separators=(",", ":"))
+    return whole(scenario, log, node)
+
+
+def whole(scenario: Json, frames: list[Entry], node: int) -> str:
+    """The log of a node that was delivered these frames, as JSON text; raises WordsError where it is too long."""
+    text = json.dumps({"scenario": scenario, "frames": frames}, separators=(",", ":"))
     if len(text) > INPUT_LIMIT:
         raise too_long(node, str(len(text)))
     return text

@@ -14,6 +14,8 @@ HEADER = 14
 VALUE_LIMIT = 2 ** 42
 INPUT_LIMIT = 4194304
 RESTED_TICK = 15
+# the window in which a frame is in time, and the last tick that there is
+FIRST_IN_TIME, LAST_IN_TIME, LAST_TICK = 10, 20, 30
 
 
 class WordsError(Exception):

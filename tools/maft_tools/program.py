@@ -25,7 +25,16 @@ STATUSES = {
 
 def find(given: str | None) -> str:
     """The program's path: the one given, or that of the variable PROGRAM, or what the launcher answers with."""
-    named = given or os.environ.get("PROGRAM")
+    return _find(given, "PROGRAM", "--program", ["which"])
+
+
+def find_controller(given: str | None) -> str:
+    """The same of the program controller, whose variable is CONTROLLER."""
+    return _find(given, "CONTROLLER", "--controller", ["which", "controller"])
+
+
+def _find(given: str | None, variable: str, option: str, words: list[str]) -> str:
+    named = given or os.environ.get(variable)
     if named:
         if not os.path.isfile(named) or not os.access(named, os.X_OK):
             raise WordsError(f"there is no program {json_text.printable(named)}")
@@ -33,8 +42,9 @@ def find(given: str | None) -> str:
         return os.path.abspath(named)
     launcher = TOP / "maft"
     if not launcher.exists():
-        raise WordsError(f"the launcher {launcher} isn't there: give the program by --program or the variable PROGRAM")
-    done = subprocess.run([str(launcher), "which"], stdin=subprocess.DEVNULL, stdout=subprocess.PIPE)
+        raise WordsError(f"the launcher {launcher} isn't there: give the program by {option} or the variable "
+                         f"{variable}")
+    done = subprocess.run([str(launcher), *words], stdin=subprocess.DEVNULL, stdout=subprocess.PIPE)
     if done.returncode:
         raise WordsError("the launcher has no program; see what it says above")
     return os.fsdecode(done.stdout).removesuffix("\n")
