@@ -26,7 +26,7 @@ VARIABLE = "MAFT_AGENT_TOKEN"
 LEAST_TOKEN = 16
 LONGEST_REQUEST = 200
 PATIENCE_SECONDS = 10.0
-KILLED = b"killed\n"
+KILLED, GONE = b"killed\n", b"agent: no such controller runs\n"
 _REQUEST = re.compile(rb"(?:node ([0-9]|1[0-5])|(kill)) ([0-9a-f]{16})\.([0-9a-f]{64})\n")
 
 

@@ -99,11 +99,11 @@ def check_accepted(start: Start, scenario: Json) -> None:
     wire.tell(data + b"\n")
     wire.end_input()
     try:
-        line = wire.line().decode(errors="replace")
+        line = wire.answer(b"end 0", b"refused ").decode(errors="replace")
         if line != "end 0":
             raise WordsError(f"the scenario is {check.explain(data, ['check'], 4, line)}")
     finally:
-        wire.kill()
+        wire.close()
 
 
 class Cluster:
@@ -166,7 +166,7 @@ class Cluster:
         for node, wire in enumerate(self.wires):
             if wire is not None:
                 self.wires[node] = None
-                wire.kill()
+                wire.close()
 
     def _begin(self, period: int) -> None:
         """Begins a period at all nodes that live, and starts those anew that come back."""

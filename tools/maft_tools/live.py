@@ -9,7 +9,7 @@ from .cluster import Cluster, Kill, check_kill
 from .history import told_to_nodes
 from .json_text import printable
 from .plan import Json, WordsError
-from .scenario import Scenario
+from .scenario import Scenario, is_setting
 
 FORMS = """(an empty line, or: go)       the next period is run; go N: the next N
 kill NODE@PERIOD.SLOT [back PERIOD]; kill NODE: before the next period's first frame
@@ -89,7 +89,8 @@ class Live:
     def _add(self, statement: str) -> None:
         """A statement's faults and restarts, of periods that are still to come."""
         before = copy.deepcopy(self.scenario.data)
-        said = statement if re.search(r"\bperiods?\b", statement) else f"{statement} in period {self.next}"
+        has_period = is_setting(statement) or re.search(r"\bperiods?\b", statement)
+        said = statement.strip() if has_period else f"{statement.strip()} in period {self.next}"
         try:
             self.scenario.add(said)
             self._check_later(before)

@@ -231,7 +231,7 @@ class Scenario:
     def _add(self, statement: str) -> None:
         if any(_settle(self, pattern, act, statement) for pattern, act in _SETTINGS):
             return
-        if re.match(r"(policy|clock (?!of)|readings|start|delta|step)\b", statement.strip()):
+        if is_setting(statement):
             raise WordsError(f"'{json_text.printable(statement)}' is of none of these forms:\n{FORMS}")
         said = _Statement(statement)
         for pattern, act in _FORMS:
@@ -382,6 +382,11 @@ _SETTINGS: list[tuple[str, Callable[..., Any]]] = [
     (r"(delta|step) of channel (\d+) is (-?\d+)",
      lambda s, key, channel, value: s.set_channel(int(channel), key, int(value))),
 ]
+
+
+def is_setting(statement: str) -> bool:
+    """Whether a statement would set a number or a row, by its first word."""
+    return re.match(r"(policy|clock (?!of)|readings|start|delta|step)\b", statement.strip()) is not None
 
 
 def statements_in(text: str) -> list[str]:

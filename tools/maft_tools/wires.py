@@ -20,6 +20,7 @@ from .plan import WordsError
 
 PATIENCE_SECONDS = 20.0
 STATUSES = {
+    0: "its input was not over",
     2: "its words are no number of a node",
     3: "the scenario is no JSON text",
     4: "it refused what it was told",
@@ -64,11 +65,11 @@ class Wire:
             self._receive()
         return self._ready.popleft()
 
-    def answer(self, head: bytes) -> bytes:
-        """The next line, which must begin so; raises WordsError where another comes."""
+    def answer(self, *heads: bytes) -> bytes:
+        """The next line, which must begin with one of these; raises WordsError where another comes."""
         line = self.line()
-        if not line.startswith(head):
-            raise WordsError(f"{self.name} {self._strange(line, head)}")
+        if not line.startswith(heads):
+            raise WordsError(f"{self.name} {self._strange(line, heads[0])}")
         return line
 
     def _receive(self) -> None:
@@ -82,7 +83,7 @@ class Wire:
             except OSError:
                 got = b""
             if not got:
-                raise WordsError(f"{self.name} {self._ended(b''.join(parts))}")
+                raise WordsError(f"{self.name} {self._ended()}")
             parts.append(got)
         *lines, self._rest = b"".join(parts).split(b"\n")
         self._ready.extend(lines)
@@ -90,15 +91,15 @@ class Wire:
     def _strange(self, line: bytes, head: bytes) -> str:
         said = printable(line.decode(errors="replace"), 80)
         words = said.split(" ")
+        if words[0] == "agent:":
+            return f"wasn't started; the agent says: {said[7:]}"
         if words[0] == "refused" and len(words) == 3 and words[1].isdecimal():
             why = RULES.get(int(words[1]), "the scenario breaks this rule")
             return f"refused line {words[2]} of what it was told: {why} ({said})"
         return f"answered '{said}', where '{head.decode().strip()} ..' was expected"
 
-    def _ended(self, rest: bytes) -> str:
+    def _ended(self) -> str:
         """How it ended, behind its name."""
-        if rest.startswith(b"agent: "):
-            return f"wasn't started; the agent says: {printable(rest[7:].decode(errors='replace').strip())}"
         status = self._life.status()
         if status is None:
             return "ended before its answer"
@@ -107,8 +108,14 @@ class Wire:
         return f"ended with status {status}: {STATUSES.get(status, 'which is none of its own')}"
 
     def kill(self) -> None:
-        """Ends it at once, whatever it does."""
+        """Ends it at once, whatever it does; raises WordsError where that can't be."""
         self._life.kill()
+        self._channel.close()
+
+    def close(self) -> None:
+        """Leaves it, and ends it as far as that can be."""
+        with contextlib.suppress(WordsError):
+            self._life.kill()
         self._channel.close()
 
     def end_input(self) -> None:
@@ -176,7 +183,7 @@ def by_agents(addresses: list[str], token: str) -> Start:
             with _connect(address) as other:
                 other.sendall(agent.request("kill", name, token))
                 said = other.recv(200)
-            if said != agent.KILLED:
+            if said not in (agent.KILLED, agent.GONE):
                 raise WordsError(f"the agent at {printable(address)} did not kill node {node}: "
                                  f"{printable(said.decode(errors='replace').strip())}")
 
