@@ -25,7 +25,7 @@ from .plan import WordsError
 VARIABLE = "MAFT_AGENT_TOKEN"
 LEAST_TOKEN = 16
 LONGEST_REQUEST = 200
-PATIENCE_SECONDS = 10.0
+PATIENCE_SECONDS, LOOK_SECONDS = 10.0, 0.5
 KILLED, GONE = b"killed\n", b"agent: no such controller runs\n"
 _REQUEST = re.compile(rb"(?:node ([0-9]|1[0-5])|(kill)) ([0-9a-f]{16})\.([0-9a-f]{64})\n")
 
@@ -81,6 +81,7 @@ class Agent:
         # the controllers that run, by name, and all names that there ever were
         self.running: dict[str, subprocess.Popen[bytes]] = {}
         self.names: set[str] = set()
+        self.is_over = False
 
     def serve(self, connection: socket.socket) -> None:
         """Does what a connection asks for, to its end."""
@@ -119,14 +120,16 @@ class Agent:
         connection.setsockopt(socket.IPPROTO_TCP, socket.TCP_NODELAY, 1)
         connection.setsockopt(socket.SOL_SOCKET, socket.SO_KEEPALIVE, 1)
         try:
-            process = subprocess.Popen([self.controller, node], stdin=connection, stdout=connection,
-                                       start_new_session=True)
+            # while it begins, nobody may look who runs
+            with self.lock:
+                if self.is_over:
+                    return
+                process = self.running[name] = subprocess.Popen([self.controller, node], stdin=connection,
+                                                                stdout=connection, start_new_session=True)
         except OSError as error:
             self.say(f"node {node}: the controller can't be run: {error.strerror}")
             connection.sendall(b"agent: the controller can't be run\n")
             return
-        with self.lock:
-            self.running[name] = process
         self.say(f"node {node} began")
         status = process.wait()
         with self.lock:
@@ -141,8 +144,11 @@ class Agent:
             process.wait()
 
     def end(self) -> None:
-        """Kills all that still run."""
-        for name in list(self.running):
+        """Kills all that still run; none begins any more."""
+        with self.lock:
+            self.is_over = True
+            names = list(self.running)
+        for name in names:
             self._kill(name)
 
 
@@ -158,9 +164,14 @@ def listen(address: str) -> socket.socket:
 
 def run(server: socket.socket, agent: Agent) -> None:
     """Serves connections, each by a thread of its own, until it is stopped; then nothing runs any more."""
+    # the system may hand a signal to any thread, so the main one looks every now and then
+    server.settimeout(LOOK_SECONDS)
     try:
         while True:
-            connection, _ = server.accept()
+            try:
+                connection, _ = server.accept()
+            except socket.timeout:
+                continue
             threading.Thread(target=agent.serve, args=(connection,), daemon=True).start()
     finally:
         agent.end()

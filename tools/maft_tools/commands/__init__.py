@@ -20,7 +20,9 @@ def parser(name: str, words: str) -> argparse.ArgumentParser:
 
 def say(name: str, words: str) -> None:
     """A sentence on standard error; control characters in it, as names of files may have them, are shown as escapes."""
-    print(f"{name}: " + "\n".join(printable(line, 4000) for line in words.split("\n")), file=sys.stderr)
+    told = "\n".join(printable(line, 4000) for line in words.split("\n"))
+    # in one piece, since others may say something at the same time
+    print(f"{name}: {told}\n", end="", file=sys.stderr)
 
 
 def end(name: str, main: Callable[[], int]) -> None:
