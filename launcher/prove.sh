@@ -1,4 +1,4 @@
-# Proves every crate that the program stands on, several side by side, and builds the program. Part of `maft`; `./maft prove` runs it.
+# Proves every crate that the programs stand on, several side by side, and builds them. Part of `maft`; `./maft prove` runs it.
 # It needs bash 5.1 or newer, whose `wait -n -p` tells which of several processes ended.
 # shellcheck shell=bash
 # shellcheck disable=SC2154
@@ -19,7 +19,10 @@ find_kit() {
     done
 }
 
-# Notes how many lines of code a crate has, and how many there are from it up to the program, by the longest way. The time of a proof
+# whether a crate is one of the programs that are to be built
+is_root() { case " ${roots[*]} " in *" $1 "*) ;; *) return 1 ;; esac; }
+
+# Notes how many lines of code a crate has, and how many there are from it up to a program, by the longest way. The time of a proof
 # goes by them: its definitions and written answers cost little, and each crate takes as long as sixty lines before its first function.
 measure_way() {
     local other above=0
@@ -117,13 +120,13 @@ choose_jobs() {
 say_words() {
     local word
     words=(build --crate-name "$1")
-    if [ "$1" = maft ]; then words+=(src/main.rt); else words+=(src/lib.rt); fi
+    if is_root "$1"; then words+=(src/main.rt); else words+=(src/lib.rt); fi
     for word in std ${rows[$1]#*:}; do
         if [ -n "${rows[$word]+noted}" ]; then words+=(--extern "$word=$libraries/$word.rlib"); else words+=(--extern "$word=$kit/rlibs/$word.rlib"); fi
     done
     words+=(-L "dependency=$kit/rlibs" -L "dependency=$libraries" --antt-project "$kit/rattle/logic/antt-project.json" --logic-built "$kit/logic_built"
         --links "$1=" --jobs "$jobs")
-    if [ "$1" = maft ]; then words+=(--toolchain "$kit/toolchain" --backend llvm -o "$room/maft.o"); else words+=(--statements -o "$libraries/$1.rlib"); fi
+    if is_root "$1"; then words+=(--toolchain "$kit/toolchain" --backend llvm -o "$room/$1.o"); else words+=(--statements -o "$libraries/$1.rlib"); fi
 }
 
 # the prover, from the crate's folder
@@ -148,7 +151,7 @@ end_crate() {
     proved[$1]=1
     say "$1"
     name_sources "$1"
-    if [ "$1" != maft ] && [ "$(list_dates "${sources[@]}")" = "${dates_of[$1]}" ]; then printf '%s\n' "${sum[$1]}" >"$libraries/$1.sum"; fi
+    if ! is_root "$1" && [ "$(list_dates "${sources[@]}")" = "${dates_of[$1]}" ]; then printf '%s\n' "${sum[$1]}" >"$libraries/$1.sum"; fi
 }
 
 # takes over the crates whose libraries an earlier run built of the same files
@@ -156,7 +159,7 @@ take_kept() {
     local crate
     for crate in "${!rows[@]}"; do
         sign "$crate"
-        if [ "$crate" != maft ] && [ -d "$libraries/$crate.rlib" ] && [ "$(cat "$libraries/$crate.sum" 2>/dev/null)" = "${sum[$crate]}" ]; then
+        if ! is_root "$crate" && [ -d "$libraries/$crate.rlib" ] && [ "$(cat "$libraries/$crate.sum" 2>/dev/null)" = "${sum[$crate]}" ]; then
             begun[$crate]=1
             proved[$crate]=1
         fi
@@ -183,25 +186,32 @@ prove_crates() {
     [ "${#proved[@]}" = "${#rows[@]}" ]
 }
 
-# links the program that the prover built
+# links a program that the prover built
 link() {
-    "$kit/bin/rattle-link" --target x86_64-unknown-linux-gnu --toolchain "$kit/toolchain" -o "$room/maft" "$room/maft.o" "$kit/c/libos_c.a" "$kit/c/liblibc_c.a"
+    "$kit/bin/rattle-link" --target x86_64-unknown-linux-gnu --toolchain "$kit/toolchain" -o "$room/$1" "$room/$1.o" "$kit/c/libos_c.a" "$kit/c/liblibc_c.a"
 }
 
-# Proves every crate that the program stands on, and builds it: each over the statements of the crates below it, by the toolchain's
-# prover. A line for each crate comes here. The libraries are kept, so that a run after this one proves what has changed alone.
+link_all() {
+    local root
+    for root in "${roots[@]}"; do link "$root" || return 1; done
+}
+
+# Proves every crate that the programs in `roots` stand on, and builds them: each over the statements of the crates below it, by the
+# toolchain's prover. A line for each crate comes here. The libraries are kept, so that a run after this one proves what has changed
+# alone.
 prove() {
     local -A size=() way=() begun=() proved=() sum=() dates_of=()
-    local crate kit lanes
+    local crate kit lanes root
     [ $((BASH_VERSINFO[0] * 100 + BASH_VERSINFO[1])) -ge 501 ] || give_up "proving needs bash 5.1 or newer, and this is bash $BASH_VERSION"
-    say "$why: every crate that the program stands on is proved, and it is built; from nothing this takes $takes"
+    say "$why: all crates of ${roots[*]} are proved, and each program is built; from nothing this takes $takes"
     find_kit
-    make_room "$top/$kept"
+    for root in "${roots[@]}"; do check_free "$built/$root"; done
+    make_room "${roots[@]}"
     mkdir -p "$libraries" 2>/dev/null || give_up_writing
     for crate in "${!rows[@]}"; do measure_way "$crate"; done
     count_lanes
     take_kept
-    { prove_crates && link >>"$log" 2>&1; } || give_up "the proof or the build failed; $log has the toolchain's words$(tell_disk 1048576)"
-    keep "$room/maft" "$kept" "$built/maft"
+    { prove_crates && link_all >>"$log" 2>&1; } || give_up "the proof or the build failed; $log has the toolchain's words$(tell_disk 1048576)"
+    for root in "${roots[@]}"; do keep "$room/$root" ".maft/$root" "$built/$root" "$root"; done
     end_build
 }

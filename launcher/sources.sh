@@ -1,4 +1,4 @@
-# Which sources the program is built of, and whether a build is of those that are here. Part of `maft`, which reads it.
+# Which sources a program is built of, and whether a build is of those that are here. Part of `maft`, which reads it.
 #
 # Of each build there are notes: NAME.sums has a row of the crates, one of the toolchain, and a sum of the program and of each source;
 # NAME.dates has their dates and sizes at a time when they had these sums. A call looks at the dates first, and makes the sums where a
@@ -17,8 +17,11 @@ read_crates() {
         case $line in *"#"*) line=${line%%"#"*}; line=${line%"${line##*[! ]}"} ;; esac
         case $line in *:*) row_of[${line%%[ :]*}]=$line ;; esac
     done <"$top/crates.txt"
-    take_crate "$1"
+    for line; do take_crate "$line"; done
 }
+
+# the crates whose rows are noted, in the order of their names
+name_crates() { mapfile -t crates < <(printf '%s\n' "${!rows[@]}" | LC_ALL=C sort); }
 
 take_crate() {
     local word
@@ -46,14 +49,13 @@ list_sums() {
     (cd "$top" && find -L "$@" -type f -exec sha256sum {} + | LC_ALL=C sort) 2>/dev/null
 }
 
-# Notes what the sources of the program are when its build begins.
+# Notes what the sources of these programs are when their build begins.
 note_start() {
     local crates
-    read_crates maft
-    mapfile -t crates < <(printf '%s\n' "${!rows[@]}" | LC_ALL=C sort)
+    read_crates "$@"
+    name_crates
     name_sources "${crates[@]}"
     version=$(rt version 2>/dev/null)
-    crates_row="crates ${crates[*]}"
     dates_at_start=$(list_dates "${sources[@]}")
     sums_at_start=$(list_sums "${sources[@]}")
 }
@@ -63,10 +65,20 @@ is_as_at_start() {
     [ "$(list_dates "${sources[@]}")" = "$dates_at_start" ] && [ "$(list_sums "${sources[@]}")" = "$sums_at_start" ]
 }
 
-# Writes the sums of a program and of its sources, of which both are known to be those of its build.
+# of the sums that were noted those of these crates, and of their rows
+choose_sums() {
+    local folders
+    folders=$(printf '|crates/%s/' "$@")
+    grep -E "^[0-9a-f]{64}  (crates\\.txt\$$folders)" <<<"$sums_at_start"
+}
+
+# Writes the sums of a program (a path from the top) and of what its crate stands on, of which both are known to be those of its build.
 write_sums() {
-    local notes=$2.sums
-    { printf '%s\n' "$crates_row" "toolchain $version" && { list_sums "$1"; printf '%s\n' "$sums_at_start"; } | LC_ALL=C sort; } >"$notes.new" &&
+    local notes=$2.sums crates
+    local -A rows=() row_of=()
+    read_crates "$3"
+    name_crates
+    { printf '%s\n' "crates ${crates[*]}" "toolchain $version" && { list_sums "$1"; choose_sums "${crates[@]}"; } | LC_ALL=C sort; } >"$notes.new" &&
         mv -fT "$notes.new" "$notes"
 }
 

@@ -10,10 +10,12 @@ list_forms() {
   replay trace    the same, with each frame:         ./maft replay trace < scenarios/silent.json
   storm SEED      runs a large drawn scenario:       ./maft storm 7
   node I          replays the log of node I alone:   ./maft node 0 < tests/cases/log_without_frames/stdin
+of another program, which is a node that is told one event a line (docs/LIVE.md):
+  controller I    runs the controller of node I:     tools/cluster scenarios/silent.json
 and of the launcher's own:
-  prove           proves the program and builds it:  ./maft prove
+  prove           proves the programs, builds them:  ./maft prove
   test            runs the tests of what is built:   ./maft test
-  which           prints the program that answers:   ./maft which
+  which           prints the program that answers:   ./maft which; ./maft which controller
   help            prints this, as --help does:       ./maft help
   --version       says what is built of which sources, and whether it is proved
   -- WORDS        hands WORDS to the program, whatever they are
@@ -29,18 +31,23 @@ HELP
     printf '%s\n' "README.md has a first answer, and docs/FORMATS.md the words, statuses, scenarios and texts."
 }
 
-# which program would answer, and of which sources; nothing is built for it
+# which programs would answer, and of which sources; nothing is built for it
 print_version() {
+    local it
+    for it in "${programs[@]}"; do turn_to "$it"; print_one_version; done
+}
+
+print_one_version() {
     local sums notes sources
     local -A rows=() row_of=()
-    read_crates maft
+    read_crates "$name"
     name_sources "${!rows[@]}"
     sums=$(list_sums "${sources[@]}" | sha256sum)
-    printf 'maft, sources %s\n' "${sums:0:16}"
+    printf '%s, sources %s\n' "$name" "${sums:0:16}"
     if take_proved; then printf '%s: proved' "$program"
     elif take_trial; then printf '%s: a trial build, not proved' "$program"
     else printf '%s\n' "$why"; return; fi
-    case $program in "$top/$kept") notes=$built/maft ;; "$top/$gate") notes=$built/gate ;; *) notes=$built/trial ;; esac
+    case $program in "$top/$kept") notes=$built/$name ;; "$top/$gate") notes=$built/$gate_notes ;; *) notes=$built/$trial_notes ;; esac
     if [ -f "$notes.sums" ]; then printf ', by %s\n' "$(sed -n '2s/^toolchain //p' "$notes.sums")"; else printf '\n'; fi
 }
 
