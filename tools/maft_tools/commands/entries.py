@@ -3,6 +3,8 @@ from __future__ import annotations
 
 from . import campaign as _campaign
 from . import check as _check
+from . import cluster as _cluster
+from . import cluster_agent as _cluster_agent
 from . import end
 from . import explain as _explain
 from . import log as _log
@@ -19,6 +21,16 @@ def campaign() -> None:
 def check() -> None:
     """maft-check."""
     end("maft-check", _check.main)
+
+
+def cluster() -> None:
+    """maft-cluster."""
+    end("maft-cluster", _cluster.main)
+
+
+def cluster_agent() -> None:
+    """maft-cluster-agent."""
+    end("maft-cluster-agent", _cluster_agent.main)
 
 
 def explain() -> None:
