@@ -7,13 +7,15 @@ from typing import NamedTuple, Optional
 
 from . import check, links, plan
 from .history import History, told_to_nodes
+from .json_text import printable
 from .plan import LAST_TICK, RESTED_TICK, Json, WordsError
 from .program import input_of
 from .trace import Arrived
 from .wires import Start, Wire
 
-# what a line of an event may have, but for the words before the bytes
+# how many bytes of a frame surely fit a line of an event
 MOST_ARRIVED = 131_000
+_DIGITS = b"0123456789abcdef"
 
 
 class Frame(NamedTuple):
@@ -106,6 +108,25 @@ def check_accepted(start: Start, scenario: Json) -> None:
         wire.close()
 
 
+def check_arrived(made: object) -> None:
+    """Raises WordsError where a network answers something else than what arrives of a frame."""
+    if not isinstance(made, (list, tuple)):
+        raise WordsError(f"the network answers {shown_type(made)} for a frame, and must answer None or a list")
+    for it in made:
+        if not (isinstance(it, (list, tuple)) and len(it) == 2 and type(it[0]) is int
+                and isinstance(it[1], (bytes, bytearray))):
+            raise WordsError(f"the network answers a list with {shown_type(it)}, and must answer pairs of a tick and "
+                             "bytes")
+        if not 0 <= it[0] <= LAST_TICK or len(it[1]) > MOST_ARRIVED:
+            raise WordsError(f"the network has a frame arrive at tick {it[0]} with {len(it[1])} bytes; ticks are from "
+                             f"0 to {LAST_TICK}, and it may have at most {MOST_ARRIVED} bytes")
+
+
+def shown_type(value: object) -> str:
+    """A value in words, by its type."""
+    return f"an object of type {type(value).__name__}"
+
+
 class Cluster:
     """The controllers of a scenario's nodes. Without a history nothing is noted, which is quicker.
 
@@ -184,8 +205,7 @@ class Cluster:
 
     def _said(self, period: int, slot: int) -> list[bytes]:
         """What each node says in a slot, nothing of one that is dead."""
-        head = b"say %d " % slot
-        said = [b"" if wire is None else wire.answer(head)[len(head):] for wire in self.wires]
+        said = [b"" if wire is None else self._frame(wire, b"say %d " % slot) for wire in self.wires]
         for kill in self.kills:
             wire = self.wires[kill.node]
             if (kill.period, kill.slot) == (period, slot) and wire is not None:
@@ -196,6 +216,14 @@ class Cluster:
                 if not digits:
                     self.history.note_silence(period, slot, node)
         return said
+
+    @staticmethod
+    def _frame(wire: Wire, head: bytes) -> bytes:
+        """The digits of the frame that a node says."""
+        digits = wire.answer(head)[len(head):]
+        if not digits or len(digits) % 2 or digits.translate(None, _DIGITS):
+            raise WordsError(f"{wire.name} says no frame in digits: '{printable(digits.decode(errors='replace'), 60)}'")
+        return digits
 
     def _befallen(self, period: int, slot: int, said: list[bytes]) -> dict[int, dict[int, Arrived]]:
         """What else than the frame arrives, by receiver and sender: by the fault lines, and by the network."""
@@ -219,11 +247,8 @@ class Cluster:
         made = self.network(Frame(*link, bytes.fromhex(digits.decode())))
         if made is None:
             return None
+        check_arrived(made)
         arrived = [(tick, bytes(data).hex().encode()) for tick, data in made]
-        for tick, came in arrived:
-            if type(tick) is not int or not 0 <= tick <= LAST_TICK or len(came) > 2 * MOST_ARRIVED:
-                raise WordsError(f"the network has a frame arrive at tick {tick} with {len(came) // 2} bytes; ticks are "
-                                 f"from 0 to {LAST_TICK}, and it may have at most {MOST_ARRIVED}")
         effect = links.effect_of(digits, arrived) if self.history else None
         if self.history and effect is not None:
             self.history.note(link, effect)

@@ -104,8 +104,8 @@ class Live:
         """Raises WordsError where a statement changed more than what is still to befall the nodes."""
         after = self.scenario.data
         if told_to_nodes(before) != told_to_nodes(after):
-            raise WordsError("the nodes run with their policy, channels and clocks already; a statement can add faults, "
-                             "restarts and lies alone")
+            raise WordsError("the nodes run with their policy, channels and clocks already; a statement can add "
+                             "faults, restarts and lies alone")
         for line in after.get("faults", [])[len(before.get("faults", [])):]:
             self._not_before(line["periods"][0])
         for line in [it for it in after.get("restarts", []) if it not in before.get("restarts", [])]:
