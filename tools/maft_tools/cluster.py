@@ -163,7 +163,7 @@ class Cluster:
         finally:
             self.close()
 
-    def take(self, scenario: Json) -> None:
+    def set_scenario(self, scenario: Json) -> None:
         """From the next period on the faults, restarts and lies are those of this scenario, which else is the same."""
         self.scenario = scenario
         if self.clocks:

@@ -57,7 +57,7 @@ class Live:
         return 0
 
     def _kill(self, words: list[str]) -> None:
-        if not (len(words) == 1 or len(words) == 3 and words[1] == "back" and words[2].isdecimal()):
+        if not (len(words) == 1 or len(words) == 3 and words[1] == "back" and re.fullmatch("[0-9]{1,9}", words[2])):
             raise WordsError("kill is followed by NODE or NODE@PERIOD.SLOT, and maybe by back PERIOD")
         kill = kill_of(words[0] if "@" in words[0] else f"{words[0]}@{self.next}.0")
         back = int(words[2]) if len(words) == 3 else None
@@ -98,7 +98,7 @@ class Live:
         except WordsError:
             self.scenario.data = before
             raise
-        self.cluster.take(self.scenario.data)
+        self.cluster.set_scenario(self.scenario.data)
 
     def _check_later(self, before: Json) -> None:
         """Raises WordsError where a statement changed more than what is still to befall the nodes."""

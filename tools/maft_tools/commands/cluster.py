@@ -203,6 +203,7 @@ class Run:
         if (given.was or given.logs) and self.periods > MOST_PERIODS:
             raise WordsError(f"a run of {self.periods} periods is no scenario, which has at most {MOST_PERIODS}, so "
                              "neither --as nor --logs can be written")
+        self._try_files()
         nodes = self.scenario.nodes
         self.history = History(nodes, bool(given.logs)) if given.was or given.logs else None
         self.cluster = Cluster(self.scenario.data, self.start, network_of(given.network), self.history)
@@ -210,6 +211,14 @@ class Run:
         for kill in given.kills:
             self.live.add_kill(kill)
         self.printer = Printer(given)
+
+    def _try_files(self) -> None:
+        """What is to be written at the end can be."""
+        if self.given.was:
+            with open(self.given.was, "a"):
+                pass
+        if self.given.logs:
+            os.makedirs(self.given.logs, exist_ok=True)
 
     def _period(self) -> None:
         number = self.live.next
@@ -225,11 +234,11 @@ class Run:
             if sys.stdin.isatty():
                 sys.stderr.write(f"period {self.live.next} is next: ")
                 sys.stderr.flush()
-            line = sys.stdin.readline()
+            line = sys.stdin.buffer.readline()
             if not line:
                 return None
             try:
-                count = self.live.take(line)
+                count = self.live.take(line.decode(errors="replace"))
             except WordsError as error:
                 say(NAME, str(error))
                 continue
@@ -259,7 +268,6 @@ class Run:
             pathlib.Path(self.given.was).write_text(Scenario(was).dumps(), encoding="utf-8")
         if self.given.logs:
             folder = pathlib.Path(self.given.logs)
-            folder.mkdir(parents=True, exist_ok=True)
             for node in range(self.scenario.nodes):
                 (folder / f"node{node}.json").write_text(history.log_of(was, node) + "\n", encoding="utf-8")
 
