@@ -45,7 +45,7 @@ class KillAction(argparse.Action):
                  option: str | None = None) -> None:
         kills = list(given.kills)
         try:
-            if option == "--kill":
+            if self.option_strings == ["--kill"]:
                 kills.append(live.kill_of(value))
             elif not kills or kills[-1].back is not None:
                 raise WordsError("--back belongs to the --kill before it")
