@@ -37,6 +37,9 @@ RULES = {
 }
 
 
+_NAMES = {int(it): it.name for it in signal.Signals}
+
+
 @dataclasses.dataclass(frozen=True)
 class Life:
     """How a controller is killed (SIGKILL), and what is known of its end: its status, negative for a signal, if any."""
@@ -104,8 +107,17 @@ class Wire:
         if status is None:
             return "ended before its answer"
         if status < 0:
-            return f"was ended by {signal.Signals(-status).name}"
+            return f"was ended by {_NAMES.get(-status, f'signal {-status}')}"
         return f"ended with status {status}: {STATUSES.get(status, 'which is none of its own')}"
+
+    def _is_over(self) -> bool:
+        """Whether it says no more; where it lives on, it is waited for."""
+        try:
+            return not self._ready and not self._rest and not self._channel.recv(1)
+        except socket.timeout:
+            return False
+        except OSError:
+            return True
 
     def kill(self) -> None:
         """Ends it at once, whatever it does; raises WordsError where that can't be."""
@@ -127,6 +139,8 @@ class Wire:
         """Its last line, which must begin so, once no more comes; raises WordsError for another, or another status."""
         self.end_input()
         line = self.answer(head)
+        if not self._is_over():
+            raise WordsError(f"{self.name} says more behind its last line")
         status = self._life.status()
         self._channel.close()
         if status:
