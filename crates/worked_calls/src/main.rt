@@ -1,10 +1,8 @@
 //! Worked rows of calls of the values and rules: a line for each, what was asked and what was answered.
 //!
-//! The stored output was worked out from the rules by hand. Where a rule has a plain body beside the one that runs, both are
-//! called on drawn inputs, and a line says how often they answered alike.
+//! The stored output was worked out from the rules by hand.
 #![tactic(auto)]
 
-mod alike;
 mod answers;
 mod convictions;
 mod counts;
@@ -28,6 +26,5 @@ fn main(rt: HostRuntime) -> anyhow::Result<()> {
     reports::print(&rt)?;
     graphs::print(&rt)?;
     streams::print(&rt)?;
-    alike::print(&rt)?;
     Ok(())
 }

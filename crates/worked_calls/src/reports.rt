@@ -6,20 +6,20 @@ use node_grid::{Matrix, NodeSet, Row};
 use std::io;
 use worked_rows::{Several, row, rows};
 
-/// The row that accuses node 3 alone.
-fn accusing(mask: u16) -> Row<8> {
-    let mut row = Row::zero();
-    row.masks[3] = mask;
-    row
+/// Rows of the first nodes that accuse node 3 alone, of these kinds.
+fn rows_on_three(masks: &[u16]) -> Matrix<8> {
+    let mut settled = Matrix::empty();
+    let mut row: Row<8> = Row::zero();
+    for (id, mask) in masks.iter().enumerate().take(8) {
+        row.masks[3] = *mask;
+        settled.set(id as u8, row);
+    }
+    settled
 }
 
 fn by_more_than_half(rt: &HostRuntime) -> io::Result<()> {
     let members: NodeSet<8> = NodeSet::full(4);
-    let mut settled: Matrix<8> = Matrix::empty();
-    settled.set(0, accusing(5));
-    settled.set(1, accusing(1));
-    settled.set(2, accusing(0));
-    settled.set(3, accusing(255));
+    let settled = rows_on_three(&[5, 1, 0, 255]);
     rows(
         rt,
         &[
@@ -34,16 +34,12 @@ fn by_more_than_half(rt: &HostRuntime) -> io::Result<()> {
 
 fn all_at_once(rt: &HostRuntime) -> io::Result<()> {
     let members: NodeSet<8> = NodeSet::full(4);
-    let mut settled: Matrix<8> = Matrix::empty();
     row(
         rt,
         "no rows charge",
-        Several(&charged_all(&settled, &members, 4)),
+        Several(&charged_all(&rows_on_three(&[]), &members, 4)),
     )?;
-    settled.set(0, accusing(3));
-    settled.set(1, accusing(1));
-    settled.set(2, accusing(2));
-    settled.set(3, accusing(255));
+    let settled = rows_on_three(&[3, 1, 2, 255]);
     row(
         rt,
         "rows 3 1 2 255 of node 3 charge",

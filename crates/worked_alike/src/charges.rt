@@ -1,5 +1,6 @@
-//! A plain program and a fast one of the same rule, on drawn inputs: how often they answer alike.
+//! Who is charged and what is noted: a node by itself, and all at once.
 
+use crate::draws::Draws;
 use error_reports::{RowBuilder, charged, charged_all};
 use node_grid::{Matrix, NodeSet, Row};
 use std::io;
@@ -8,54 +9,25 @@ use worked_rows::row;
 /// How many inputs are drawn of each kind.
 const DRAWN: u32 = 400;
 
-/// A sequence of numbers, the same each time.
-#[derive(Drop)]
-struct Draws {
-    state: u32,
+/// A row in which each kind of each node is drawn with one half.
+fn row_of(draws: &mut Draws) -> Row<16> {
+    let mut row = Row::zero();
+    for id in 0..16usize {
+        row.masks[id] = draws.next();
+    }
+    row
 }
 
-impl Draws {
-    /// The next number below 2^16.
-    fn next(&mut self) -> u16 {
-        self.state = self
-            .state
-            .wrapping_mul(1_664_525)
-            .wrapping_add(1_013_904_223);
-        (self.state >> 16) as u16
-    }
-
-    /// A set of some of sixteen nodes.
-    fn nodes(&mut self) -> NodeSet<16> {
-        let bits = self.next();
-        let mut set = NodeSet::empty();
-        for id in 0..16u8 {
-            if bits >> id & 1 == 1 {
-                set.put(id);
-            }
+/// Rows of some nodes.
+fn rows_of(draws: &mut Draws) -> Matrix<16> {
+    let there = draws.nodes();
+    let mut rows = Matrix::empty();
+    for id in 0..16u8 {
+        if there.has(id) {
+            rows.set(id, row_of(draws));
         }
-        set
     }
-
-    /// A row in which each kind of each node is drawn with one half.
-    fn row(&mut self) -> Row<16> {
-        let mut row = Row::zero();
-        for id in 0..16usize {
-            row.masks[id] = self.next();
-        }
-        row
-    }
-
-    /// Rows of some nodes.
-    fn rows(&mut self) -> Matrix<16> {
-        let there = self.nodes();
-        let mut rows = Matrix::empty();
-        for id in 0..16u8 {
-            if there.has(id) {
-                rows.set(id, self.row());
-            }
-        }
-        rows
-    }
+    rows
 }
 
 /// Whether each node of sixteen is charged alike by itself and with all others at once.
@@ -89,10 +61,10 @@ fn are_noted_alike(accused: &NodeSet<16>, kind: u8) -> bool {
 }
 
 pub fn print(rt: &HostRuntime) -> io::Result<()> {
-    let mut draws = Draws { state: 7 };
+    let mut draws = Draws::new(7);
     let (mut charges, mut notes) = (0u32, 0u32);
     for _ in 0..DRAWN {
-        let rows = draws.rows();
+        let rows = rows_of(&mut draws);
         let members = draws.nodes();
         if are_charged_alike(&rows, &members) {
             charges = charges.saturating_add(1);

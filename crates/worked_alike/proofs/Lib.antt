@@ -1,0 +1,4 @@
+mod Kept
+mod Paths
+mod Standing
+mod Told

@@ -1,0 +1,124 @@
+//! What a node is told by lies of clocks: a look-up that goes through all of them once, and a plain
+//! one.
+
+ghost use Rattle.std.specs.Prelude.{◌≡◌, ◌<◌, ◌≤◌, All, IfOk, IfSome, length};
+ghost use Rattle.clock_skew.specs.Clock.{IsLie, lie_of};
+
+use crate::draws::Draws;
+use clock_skew::{ClockPlan, Lie};
+use node_grid::NodeSet;
+use std::alloc::{AllocError, Global};
+use worked_rows::row;
+
+/// How many plans are drawn.
+const DRAWN: u32 = 200;
+
+/// How many periods are looked at.
+const PERIODS: u16 = 8;
+
+/// The nodes of each plan.
+const NODES: u8 = 12;
+
+/// A drawn lie of one node to some others; none where that would be to nobody.
+fn drawn_lie(draws: &mut Draws) -> Option<Lie<16>>
+    ensures { IfSome result (λ lie. IsLie 12 (lie_of lie)) }
+{
+    let from = draws.below(NODES as u16) as u8;
+    let to = NodeSet::full(NODES).minus(&draws.nodes()).without(from);
+    if to.is_empty() {
+        return None;
+    }
+    let first = draws.below(PERIODS) as u32;
+    let last = first + draws.below(PERIODS) as u32;
+    let by = draws.next() as i64;
+    Some(Lie {
+        from,
+        to,
+        first,
+        last,
+        by,
+    })
+}
+
+/// Up to so many drawn lies.
+fn drawn_lies(alloc: Global, draws: &mut Draws, most: u16) -> Result<Vec<Lie<16>>, AllocError>
+    ensures { IfOk result (λ lies. (length lies.items ≤ most) × (All (λ lie. IsLie 12 (lie_of lie)) lies.items)) }
+{
+    let mut lies = Vec::new(alloc);
+    for _ in 0..most {
+        let Some(lie) = drawn_lie(draws) else {
+            continue;
+        };
+        lies.push(lie)?;
+    }
+    Ok(lies)
+}
+
+/// A plan in which all clocks stand still, are read without an error, and nodes lie so.
+fn plan_of(alloc: Global, lies: Vec<Lie<16>>) -> Result<ClockPlan<16>, AllocError>
+    requires few { length lies.items ≤ 4096 }
+    requires lies { All (λ lie. IsLie 12 (lie_of lie)) lies.items }
+    ensures { IfOk result (λ plan. plan.nodes ≡ 12) }
+{
+    let drifts = Vec::from_slice(alloc, &[[0; 16]])?;
+    let errors = Vec::from_slice(alloc, &[[0; 16]])?;
+    Ok(ClockPlan::new(NODES, 0, 0, [0; 16], drifts, errors, lies))
+}
+
+/// By how much node `j` lies to node `i` in a period: by the first lie in the list that is told.
+fn first_told(lies: &[Lie<16>], j: u8, i: u8, period: u32) -> i64 {
+    for lie in lies {
+        let is_now = lie.first <= period && period <= lie.last;
+        if lie.from == j && lie.to.has(i) && is_now {
+            return lie.by;
+        }
+    }
+    0
+}
+
+/// Whether a node is told the same by both in a period.
+fn is_told_alike(plan: &ClockPlan<16>, lies: &[Lie<16>], i: u8, period: u32) -> bool
+    requires { i < plan.now.nodes }
+{
+    let told = plan.lies_to(i, period);
+    for j in 0..16u8 {
+        if told[j as usize] != first_told(lies, j, i, period) {
+            return false;
+        }
+    }
+    true
+}
+
+/// Whether each node is told the same by both in each period.
+fn are_told_alike(plan: &ClockPlan<16>, lies: &[Lie<16>]) -> bool
+    requires { plan.now.nodes ≡ 12 }
+{
+    for period in 0..2 * PERIODS as u32 {
+        for i in 0..NODES {
+            if !is_told_alike(plan, lies, i, period) {
+                return false;
+            }
+        }
+    }
+    true
+}
+
+pub fn print(rt: &HostRuntime) -> anyhow::Result<()> {
+    let mut draws = Draws::new(13);
+    let mut alike = 0u32;
+    for _ in 0..DRAWN {
+        let count = draws.below(24);
+        let lies = drawn_lies(rt.alloc(), &mut draws, count)?;
+        let plan = plan_of(rt.alloc(), Vec::from_slice(rt.alloc(), lies.as_slice())?)?;
+        if are_told_alike(&plan, lies.as_slice()) {
+            alike = alike.saturating_add(1);
+        }
+    }
+    row(rt, "plans of lies drawn", DRAWN)?;
+    row(
+        rt,
+        "  of which tell each node the same at once and by a walk for each liar",
+        alike,
+    )?;
+    Ok(())
+}

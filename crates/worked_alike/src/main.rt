@@ -1,0 +1,13 @@
+//! A plain program and a fast one of the same rule on drawn inputs: how often they answer alike.
+#![tactic(auto)]
+
+mod charges;
+mod draws;
+mod lies;
+mod tables;
+
+fn main(rt: HostRuntime) -> anyhow::Result<()> {
+    charges::print(&rt)?;
+    tables::print(&rt)?;
+    lies::print(&rt)
+}
