@@ -1,0 +1,5 @@
+use Rattle.odd_relays.proofs.Laying.{next_on}
+use Rattle.odd_relays.proofs.item.Item.find_alike.Goals as goal
+
+pub returns-then-is_alike-clause-node : goal.returns-then-is_alike-clause-node
+returns-then-is_alike-clause-node g c = next_on c.args.nodes.now c.loop-j.yielded c.next.new.self c.loop-j.j-iterator c.in-Some.j c.loop-j.invariant.split c.in-Some.ensures.steps

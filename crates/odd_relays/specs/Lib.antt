@@ -1,0 +1,10 @@
+pub mod Telling
+pub mod Chains
+pub mod Direct
+pub mod Laws
+pub mod ItemLaws
+pub use Rattle.node_grid.specs.Count
+pub use Rattle.omh_paths.specs.Wrapped
+pub use Rattle.omh_paths.specs.Paths
+pub use Rattle.omh.specs.Omh
+pub use Rattle.equivocation.specs.Conviction

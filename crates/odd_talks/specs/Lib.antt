@@ -1,0 +1,3 @@
+pub mod Law
+pub use Rattle.protocol.specs.Run
+pub use Rattle.odd_relays.specs.Chains
