@@ -43,6 +43,7 @@ pub struct Phase<const N: usize> {
 }
 
 /// One member's item in a phase: what each node was told of it, and whose relays of it are odd.
+#[derive(Drop)]
 pub struct Item<'a, V, S, const N: usize> {
     /// Who tells and relays it.
     pub phase: Phase<N>,

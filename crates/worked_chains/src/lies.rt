@@ -1,0 +1,92 @@
+//! What drawn odd members pass on.
+
+ghost use Rattle.std.specs.Prelude.{ℕ, ◌≡◌, ◌≢◌, ◌+◌, ◌*◌, ◌<◌, ◌≤◌, ◌%◌, length, true, List, drop, take};
+ghost use Rattle.omh_paths.specs.declared.wrapped.Wrapped.TheVariants.{Fault};
+ghost use Rattle.worked_chains.specs.Lies.{mixed, value_of, account_of, lie_of};
+
+use odd_relays::Relays;
+use omh_paths::{Path, Wrapped};
+
+/// What odd members pass on of an item: a value that follows from a seed, the receiver and the path.
+#[derive(Clone, Copy)]
+pub struct Lies {
+    /// What the values follow from.
+    pub seed: u8,
+    /// How many nodes the paths of the last round have.
+    pub last: u8,
+    /// Whether there are three groups of receivers, each of which is told the same in the last round.
+    pub by_thirds: bool,
+}
+
+/// A number made of another one and of a node.
+fn mix(k: u32, q: u8) -> u32
+    requires { k ≤ 8216 }
+    ensures mixed { result ≡ (7 * k + q) % 251 }
+    ensures small { result ≤ 250 }
+{
+    (7 * k + q as u32) % 251
+}
+
+/// The value of a number.
+pub fn value_of(k: u32) -> Wrapped<u8>
+    ensures value { result ≡ value_of k }
+    ensures known { result ≢ Fault 255 }
+{
+    let rest = (k % 5) as u8;
+    if rest < 2 {
+        Wrapped::Fault(rest)
+    } else {
+        Wrapped::Plain(rest)
+    }
+}
+
+impl Lies {
+    /// Which of its accounts a receiver is given of a path of so many nodes.
+    fn account(&self, to: u8, len: u8) -> u8
+        ensures { result ≡ account_of self.now to len }
+    {
+        if self.by_thirds && len == self.last {
+            to % 3
+        } else {
+            to
+        }
+    }
+
+    /// What a receiver is told for these nodes of a path.
+    pub fn told(&self, to: u8, nodes: &[u8]) -> Wrapped<u8>
+        requires { length nodes.now ≤ 4 }
+        ensures told { result ≡ lie_of self.now to nodes.now }
+        ensures known { result ≢ Fault 255 }
+    {
+        let account = self.account(to, nodes.len() as u8);
+        let mut k = (self.seed as u32 + 31 * account as u32) % 251;
+        for q in nodes {
+            k = mix(k, *q);
+        }
+        value_of(k)
+    }
+}
+
+/// The nodes of a path.
+fn nodes_of(path: &Path) -> [u8; 4]
+    ensures { take (length path.now) result ≡ path.now }
+{
+    let mut nodes = [0; 4];
+    for k in 0..path.len() {
+        nodes[k as usize] = path.at(k);
+    }
+    nodes
+}
+
+impl Relays<u8> for Lies {
+    ghost says = { lie_of };
+
+    fn said(&self, to: u8, path: &Path) -> Wrapped<u8> {
+        let nodes = nodes_of(path);
+        self.told(to, &nodes[..path.len() as usize])
+    }
+
+    fn is_alike(&self, i: u8, j: u8, len: u8) -> bool {
+        i == j || (self.by_thirds && len == self.last && i % 3 == j % 3)
+    }
+}

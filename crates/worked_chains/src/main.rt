@@ -1,0 +1,186 @@
+//! Items of drawn phases, settled by paths of odd members and by all paths: how often both answer
+//! alike.
+#![tactic(auto)]
+
+mod draws;
+mod lies;
+mod plain;
+
+ghost use Rattle.std.specs.Prelude.{◌≡◌, ℕ, length, true};
+ghost use Rattle.node_grid.specs.NodeSet.{has_id};
+ghost use Rattle.odd_relays.specs.Telling.{telling, IsTelling, HasFewOdd};
+ghost use Rattle.worked_chains.specs.Lies.{lie_of};
+
+use draws::{Drawn, Draws};
+use lies::Lies;
+use node_grid::NodeSet;
+use odd_relays::{Item, Phase};
+use omh_paths::Wrapped;
+use worked_rows::rows;
+
+/// How many phases are drawn.
+const DRAWN: u32 = 600;
+
+/// How many items were drawn, and of how many which calls answered like the plain program.
+#[derive(Clone, Copy)]
+struct Counts {
+    items: u32,
+    bounds: u32,
+    few: u32,
+    at_once: u32,
+    one_by_one: u32,
+    convicted: u32,
+}
+
+/// One more, where this is so.
+fn count_if(count: u32, is_so: bool) -> u32 {
+    count.saturating_add(is_so as u32)
+}
+
+/// Whether each of these nodes but the commander has the value that it should.
+fn are_settled(drawn: &Drawn, awake: &NodeSet<16>, all: &[Wrapped<u8>]) -> bool
+    requires { length all.now ≡ 16 }
+{
+    for i in awake.iter() {
+        if i != drawn.commander && all[i as usize] != plain::settled(drawn, i) {
+            return false;
+        }
+    }
+    true
+}
+
+/// What each of these nodes settles for the item, one by one.
+fn settle_each(
+    item: &Item<u8, Lies, 16>,
+    awake: &NodeSet<16>,
+    work: &mut [Wrapped<u8>],
+    all: &mut [Wrapped<u8>],
+)
+    requires item { IsTelling 16 (telling lie_of item.now) }
+    requires few { HasFewOdd (telling lie_of item.now) }
+    requires room { length work.old ≡ 64 }
+    requires places { length all.old ≡ 16 }
+    ensures room { length work.new ≡ 64 }
+    ensures places { length all.new ≡ 16 }
+{
+    for i in awake.iter() {
+        if i != item.commander {
+            let value = item.settle(i, work);
+            all[i as usize] = value;
+        }
+    }
+}
+
+/// Whether each of these nodes convicts the commander where it should.
+fn are_convicting(
+    item: &Item<u8, Lies, 16>,
+    drawn: &Drawn,
+    awake: &NodeSet<16>,
+    work: &mut [Wrapped<u8>],
+) -> bool
+    requires item { IsTelling 16 (telling lie_of item.now) }
+    requires room { length work.old ≡ 64 }
+    ensures room { length work.new ≡ 64 }
+{
+    for i in awake.iter() {
+        if i != item.commander && item.convicts(i, work) != plain::convicts(drawn, i) {
+            return false;
+        }
+    }
+    true
+}
+
+/// Settles an item by both programs, at once and one by one, where few members are odd.
+fn count_settled(
+    counts: &mut Counts,
+    item: &Item<u8, Lies, 16>,
+    drawn: &Drawn,
+    awake: &NodeSet<16>,
+    work: &mut [Wrapped<u8>],
+)
+    requires item { IsTelling 16 (telling lie_of item.now) }
+    requires few { HasFewOdd (telling lie_of item.now) }
+    requires full { (q : ℕ) → has_id item.now.phase.full q ≡ true → has_id awake.now q ≡ true }
+    requires room { length work.old ≡ 64 }
+    ensures room { length work.new ≡ 64 }
+{
+    let mut all = [Wrapped::Fault(0); 16];
+    item.settle_all(awake, work, &mut all);
+    counts.at_once = count_if(counts.at_once, are_settled(drawn, awake, &all));
+    settle_each(item, awake, work, &mut all);
+    counts.one_by_one = count_if(counts.one_by_one, are_settled(drawn, awake, &all));
+}
+
+/// Settles an item by both programs where few members are odd, and convicts by both.
+fn count_item(counts: &mut Counts, drawn: &Drawn, awake: &NodeSet<16>, work: &mut [Wrapped<u8>])
+    requires full { (q : ℕ) → has_id drawn.now.full q ≡ true → has_id awake.now q ≡ true }
+    requires room { length work.old ≡ 64 }
+    ensures room { length work.new ≡ 64 }
+{
+    let item = Item {
+        phase: Phase {
+            rounds: drawn.rounds,
+            members: drawn.members,
+            full: drawn.full,
+        },
+        commander: drawn.commander,
+        odd: drawn.odd,
+        told: &drawn.told,
+        relays: &drawn.lies,
+    };
+    let has_few = item.has_few_odd();
+    counts.items = count_if(counts.items, true);
+    counts.bounds = count_if(counts.bounds, has_few == plain::has_few_odd(drawn));
+    counts.few = count_if(counts.few, has_few);
+    if has_few {
+        count_settled(counts, &item, drawn, awake, work);
+    }
+    let convicting = are_convicting(&item, drawn, awake, work);
+    counts.convicted = count_if(counts.convicted, convicting);
+}
+
+/// Draws a phase, and counts the item of each of its members.
+fn count_phase(counts: &mut Counts, draws: &mut Draws, work: &mut [Wrapped<u8>])
+    requires room { length work.old ≡ 64 }
+    ensures room { length work.new ≡ 64 }
+{
+    let nodes = draws.nodes();
+    for commander in nodes.members.iter() {
+        let drawn = draws.item(&nodes, commander);
+        count_item(counts, &drawn, &nodes.awake, work);
+    }
+}
+
+fn main(rt: HostRuntime) -> anyhow::Result<()> {
+    let mut draws = Draws::new(7);
+    let mut counts = Counts {
+        items: 0,
+        bounds: 0,
+        few: 0,
+        at_once: 0,
+        one_by_one: 0,
+        convicted: 0,
+    };
+    let mut work = [Wrapped::Fault(0); 64];
+    for _ in 0..DRAWN {
+        count_phase(&mut counts, &mut draws, &mut work);
+    }
+    rows(
+        &rt,
+        &[
+            ("items drawn", counts.items),
+            ("  of which the bound is as it should be", counts.bounds),
+            ("  of which few members are odd", counts.few),
+            (
+                "    of which all nodes settle as by all paths, at once",
+                counts.at_once,
+            ),
+            ("    and one by one", counts.one_by_one),
+            (
+                "  of which the commander is convicted as by all relays",
+                counts.convicted,
+            ),
+        ],
+    )?;
+    Ok(())
+}
