@@ -101,6 +101,18 @@ apart nodes c i off on e = both_ways _ off (ap (has_id nodes) e ∙ on)
 pub low_of : (n : ℕ) (nodes ys rest left : List ℕ) (q : ℕ) → IsIdSet n nodes → nodes ≡ ys ++ left → left ≡ q ∷ rest → q < n
 low_of n nodes ys rest left q ids split steps = member-lt n nodes q ids (next_on nodes ys rest left q split steps)
 
+-- what was gone through stands in front of the rest
+pub has_front : (ys zs : List ℕ) (k : ℕ) → has_id ys k ≡ true → has_id (ys ++ zs) k ≡ true
+has_front [] zs k h = absurd (cc)
+has_front (y ∷ ys) zs k h = elim (or_cases (y == k) (has_id ys k) h) [
+  | inl here ↦ or_left (y == k) (has_id (ys ++ zs) k) here
+  | inr later ↦ or_right (y == k) (has_id (ys ++ zs) k) (has_front ys zs k later)
+]
+
+-- those that were gone through too
+pub through : (n : ℕ) (nodes ys left : List ℕ) (k : ℕ) → IsIdSet n nodes → nodes ≡ ys ++ left → has_id ys k ≡ true → k < n
+through n nodes ys left k ids split on = member-lt n nodes k ids (ap (λ (xs : List ℕ). has_id xs k) split ∙ has_front ys left k on)
+
 -- no other than one
 pub only_one : (odd : List ℕ) (c : ℕ) → without_id odd c ≡ [] → (q : ℕ) → has_id odd q ≡ true → q ≡ c
 only_one odd c none q on = elim (cases_eq q c) [
@@ -125,14 +137,6 @@ none_of (x ∷ xs) i h = absurd (cc)
 pub first_on : (xs : List ℕ) (q : ℕ) → slice_get xs 0 ≡ Some q → has_id xs q ≡ true
 first_on [] q h = absurd (cc)
 first_on (x ∷ xs) q h = let e : x ≡ q = cc in or_left (x == q) (has_id xs q) (eq-eqb x q e)
-
--- what was gone through stands in front of the rest
-pub has_front : (ys zs : List ℕ) (k : ℕ) → has_id ys k ≡ true → has_id (ys ++ zs) k ≡ true
-has_front [] zs k h = absurd (cc)
-has_front (y ∷ ys) zs k h = elim (or_cases (y == k) (has_id ys k) h) [
-  | inl here ↦ or_left (y == k) (has_id (ys ++ zs) k) here
-  | inr later ↦ or_right (y == k) (has_id (ys ++ zs) k) (has_front ys zs k later)
-]
 
 -- nodes that were gone through are none of the others
 pub off_done : (nodes done ys left : List ℕ) (c : ℕ) → nodes ≡ ys ++ left → ((k : ℕ) → has_id done k ≡ true → has_id ys k ≡ true) → has_id nodes c ≡ false → has_id done c ≡ false

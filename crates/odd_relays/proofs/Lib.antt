@@ -2,5 +2,8 @@ pub mod ChainLaws
 pub mod Sparing
 pub mod Tellings
 pub mod Laying
+pub mod Places
+pub mod Columns
+pub mod Leading
 pub mod Direct
 pub mod ItemLaws

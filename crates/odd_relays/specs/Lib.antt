@@ -1,6 +1,7 @@
 pub mod Telling
 pub mod Chains
 pub mod Direct
+pub mod Work
 pub mod Laws
 pub mod ItemLaws
 pub use Rattle.node_grid.specs.Count

@@ -1,17 +1,16 @@
-//! One member's item, as it is told and relayed: what one node settles of it.
+//! One member's item, as it is told and relayed.
 
-ghost use Rattle.std.specs.Prelude.{◌≡◌, ◌≢◌, ℕ, ◌+◌, ◌-◌, ◌*◌, ◌<◌, ◌≤◌, List, All, length, take, true, IsTrue, ◌↔◌};
+ghost use Rattle.std.specs.Prelude.{◌≡◌, ◌≢◌, ℕ, ◌<◌, ◌≤◌, List, length, true, IsTrue, ◌↔◌};
 ghost use Rattle.node_grid.specs.Capacity.{IsCapacity};
-ghost use Rattle.node_grid.specs.NodeSet.{has_id};
 ghost use Rattle.omh_paths.specs.declared.wrapped.Wrapped.{Wrapped};
 ghost use Rattle.omh_paths.specs.declared.wrapped.Wrapped.TheVariants.{Fault};
 ghost use Rattle.omh_paths.specs.Wrapped.{IsExact};
 ghost use Rattle.omh.specs.Omh.{ear, own_term};
-ghost use Rattle.odd_relays.specs.Chains.{chain_within};
 ghost use Rattle.odd_relays.specs.Direct.{direct_heard, direct_world};
-ghost use Rattle.odd_relays.specs.Telling.{telling, IsTelling, HasFewOdd, settled_item, convicts_commander};
+ghost use Rattle.odd_relays.specs.Telling.{telling, IsTelling, HasFewOdd, convicts_commander};
 
-use crate::values::{convict_by, set_value, settled_from_terms, value_at};
+use crate::chains::WORK;
+use crate::values::{convict_by, set_value, value_at};
 use node_grid::NodeSet;
 use omh::outside;
 use omh_paths::{Path, Wrapped};
@@ -25,10 +24,11 @@ pub trait Relays<V: Copy + Eq> {
         ensures is { result ≡ says self.now to path.now }
         ensures known { result ≢ Fault 255 };
 
-    /// Whether they pass on the same to two nodes of all paths of so many nodes. It may say false of
-    /// any two.
+    /// Whether they pass on the same to two nodes of all paths of so many nodes. It may say false
+    /// of any two.
     fn is_alike(&self, i: u8, j: u8, len: u8) -> bool
-        ensures { result ≡ true → (path : List ℕ) → length path ≡ len → says self.now i path ≡ says self.now j path };
+        ensures { result ≡ true → (path : List ℕ) → length path ≡ len →
+            says self.now i path ≡ says self.now j path };
 }
 
 /// Who tells and relays items.
@@ -49,8 +49,8 @@ pub struct Item<'a, V, S, const N: usize> {
     pub phase: Phase<N>,
     /// The member whose item it is.
     pub commander: u8,
-    /// The members whose relays of it may say anything. The commander relays nothing of its own item,
-    /// so it need not be among them.
+    /// The members whose relays of it may say anything. The commander relays nothing of its own
+    /// item, so it need not be among them.
     pub odd: NodeSet<N>,
     /// What each node was told of it, by node.
     pub told: &'a [Wrapped<V>],
@@ -59,8 +59,8 @@ pub struct Item<'a, V, S, const N: usize> {
 }
 
 impl<'a, V: Copy + Eq, S: Relays<V>, const N: usize> Item<'a, V, S, N> {
-    /// Whether the odd members are few enough: n > 2o + z + m, where of n members o are odd and z of
-    /// the others aren't Full.
+    /// Whether the odd members are few enough: n > 2o + z + m, where of n members o are odd and z
+    /// of the others aren't Full.
     pub fn has_few_odd(&self) -> bool
         requires capacity { IsCapacity N }
         requires rounds { self.now.phase.rounds ≤ 3 }
@@ -74,7 +74,7 @@ impl<'a, V: Copy + Eq, S: Relays<V>, const N: usize> Item<'a, V, S, N> {
     }
 
     /// What node `i` heard for a path of odd members behind the commander.
-    fn heard(&self, i: u8, path: &Path) -> Wrapped<V>
+    pub(crate) fn heard(&self, i: u8, path: &Path) -> Wrapped<V>
         requires item { IsTelling N (telling S.says self.now) }
         requires node { i < N }
         ensures heard { result ≡ direct_heard (telling S.says self.now) i path.now }
@@ -88,7 +88,7 @@ impl<'a, V: Copy + Eq, S: Relays<V>, const N: usize> Item<'a, V, S, N> {
     }
 
     /// What a member that isn't odd passes on for such a path, and puts into its own majority.
-    fn passed(&self, q: u8, path: &Path) -> Wrapped<V>
+    pub(crate) fn passed(&self, q: u8, path: &Path) -> Wrapped<V>
         requires item { IsTelling N (telling S.says self.now) }
         requires node { q < N }
         ensures { result ≡ own_term (ear (direct_world (telling S.says self.now)) q) path.now }
@@ -100,64 +100,18 @@ impl<'a, V: Copy + Eq, S: Relays<V>, const N: usize> Item<'a, V, S, N> {
         }
     }
 
-    /// What node `i` settles for such a path. The terms of each majority are laid on `work`, from this
-    /// place on.
-    fn settle_chain(&self, i: u8, path: &Path, work: &mut [Wrapped<V>], from: usize) -> Wrapped<V>
-        requires exact { IsExact V.eq }
-        requires item { IsTelling N (telling S.says self.now) }
-        requires node { i < N }
-        requires nodes { (q : ℕ) → has_id path.now q ≡ true → q < N }
-        requires short { length path.now ≤ self.now.phase.rounds + 1 }
-        requires room { from + 16 * (self.now.phase.rounds + 1 - length path.now) ≤ length work.old }
-        requires small { length work.old ≤ 64 }
-        ensures settled { result ≡ chain_within V.eq (direct_world (telling S.says self.now)) self.now.odd i (self.now.phase.rounds + 1 - length path.now) path.now }
-        ensures kept { take from work.new ≡ take from work.old }
-        ensures room { length work.new ≡ length work.old }
-    {
-        if path.len() > self.phase.rounds {
-            return self.heard(i, path);
-        }
-        let mut end = from;
-        for q in outside(&self.phase.members, path).iter() {
-            let term = if self.odd.has(q) && q != i {
-                self.settle_chain(i, &path.then(q), work, end)
-            } else {
-                self.passed(q, path)
-            };
-            set_value(work, end, term);
-            end += 1;
-        }
-        settled_from_terms(work, from, end)
-    }
-
-    /// What node `i`, another one than the commander, settles for the item.
+    /// Whether node `i`, another one than the commander, convicts it. A commander that told all
+    /// alike is convicted by nobody where few members are odd, and need not be asked for.
     ///
-    /// What odd members pass on is asked for on paths of odd members alone. `work` has 64 places, and
-    /// is left with no meaning.
-    pub fn settle(&self, i: u8, work: &mut [Wrapped<V>]) -> Wrapped<V>
-        requires exact { IsExact V.eq }
-        requires item { IsTelling N (telling S.says self.now) }
-        requires few { HasFewOdd (telling S.says self.now) }
-        requires node { i < N }
-        requires other { self.now.commander ≢ i }
-        requires room { length work.old ≡ 64 }
-        ensures settled { result ≡ settled_item V.eq (telling S.says self.now) i }
-        ensures room { length work.new ≡ 64 }
-    {
-        let _ = self.phase.members.len();
-        self.settle_chain(i, &Path::root(self.commander), work, 0)
-    }
-
-    /// Whether node `i`, another one than the commander, convicts it. A commander that told all alike
-    /// is convicted by nobody where few members are odd, and need not be asked for.
+    /// `work` has `WORK` places, and is left with no meaning.
     pub fn convicts(&self, i: u8, work: &mut [Wrapped<V>]) -> bool
         requires exact { IsExact V.eq }
         requires item { IsTelling N (telling S.says self.now) }
         requires node { i < N }
         requires other { self.now.commander ≢ i }
-        requires room { length work.old ≡ 64 }
+        requires room { length work.old ≡ WORK }
         ensures convicts { result ≡ convicts_commander V.eq (telling S.says self.now) i }
-        ensures room { length work.new ≡ 64 }
+        ensures room { length work.new ≡ WORK }
     {
         let members = &self.phase.members;
         let _ = members.len();

@@ -20,8 +20,8 @@ pub fn told<V: Copy + Eq>()
     ensures spared { SparedLaw V.eq }
 {}
 
-/// The laws speak of something: whatever is told, and whatever odd members pass on, there is a world
-/// of it.
+/// The laws speak of something: whatever is told, and whatever odd members pass on, there is a
+/// world of it.
 pub fn tellings<V: Copy + Eq>()
     ensures { EachTellingIsPassedOn V }
 {}

@@ -1,12 +1,13 @@
 //! Values of an item, by node or one behind another.
 
-ghost use Rattle.std.specs.Prelude.{◌≡◌, ◌≢◌, ℕ, ◌-◌, ◌<◌, ◌≤◌, length, take, drop, slice_set, slice_index_or, true};
+ghost use Rattle.std.specs.Prelude.{◌≡◌, ◌≢◌, ℕ, ◌+◌, ◌-◌, ◌*◌, ◌<◌, ◌≤◌, length, take, drop, slice_set, slice_index_or, true};
 ghost use Rattle.node_grid.specs.Capacity.{IsCapacity};
 ghost use Rattle.node_grid.specs.NodeSet.{has_id};
 ghost use Rattle.omh_paths.specs.declared.wrapped.Wrapped.TheVariants.{Fault};
 ghost use Rattle.omh_paths.specs.Wrapped.{unwrapped, IsExact};
 ghost use Rattle.omh_paths.specs.Majority.{majority};
 ghost use Rattle.equivocation.specs.Conviction.{is_convicted};
+ghost use Rattle.odd_relays.specs.Work.{KeepsOthers, KeepsBelow};
 
 use equivocation::convict;
 use node_grid::NodeSet;
@@ -36,11 +37,34 @@ pub(crate) fn fill<V: Copy + Eq, const N: usize>(
 )
     requires capacity { IsCapacity N }
     requires places { length values.old ≡ N }
-    ensures laid { (i : ℕ) → has_id nodes.now i ≡ true → slice_index_or values.new i (Fault 0) ≡ value }
+    ensures laid { (i : ℕ) → has_id nodes.now i ≡ true →
+        slice_index_or values.new i (Fault 0) ≡ value }
     ensures places { length values.new ≡ N }
 {
     for i in nodes.iter() {
         set_value(values, i as usize, value);
+    }
+}
+
+/// Lays for each of these nodes the value of its leader, which is told by node.
+pub(crate) fn copy_led<V: Copy + Eq, const N: usize>(
+    all: &mut [Wrapped<V>],
+    values: &[Wrapped<V>],
+    nodes: &NodeSet<N>,
+    leader_of: &[u8],
+)
+    requires capacity { IsCapacity N }
+    requires places { length all.old ≡ N }
+    requires leaders { length leader_of.now ≡ N }
+    requires values { (i : ℕ) → has_id nodes.now i ≡ true →
+        slice_index_or leader_of.now i 0 < length values.now }
+    ensures laid { (i : ℕ) → has_id nodes.now i ≡ true → slice_index_or all.new i (Fault 0) ≡
+        slice_index_or values.now (slice_index_or leader_of.now i 0) (Fault 0) }
+    ensures places { length all.new ≡ N }
+{
+    for i in nodes.iter() {
+        let value = value_at(values, leader_of[i as usize]);
+        set_value(all, i as usize, value);
     }
 }
 
@@ -49,7 +73,8 @@ fn is_same<V: Copy + Eq>(values: &[Wrapped<V>], i: u8, j: u8) -> bool
     requires exact { IsExact V.eq }
     requires first { i < length values.now }
     requires second { j < length values.now }
-    ensures { result ≡ true → slice_index_or values.now i (Fault 0) ≡ slice_index_or values.now j (Fault 0) }
+    ensures { result ≡ true →
+        slice_index_or values.now i (Fault 0) ≡ slice_index_or values.now j (Fault 0) }
 {
     values[i as usize] == values[j as usize]
 }
@@ -75,12 +100,87 @@ pub(crate) fn are_alike<V: Copy + Eq, const N: usize>(
     true
 }
 
-/// What is settled from the terms at these places.
-pub(crate) fn settled_from_terms<V: Copy + Eq>(
-    terms: &[Wrapped<V>],
+/// Lays one value as the term of each of these nodes at this place of its sixteen: node `i` has it
+/// at `at + 16 * i`.
+pub(crate) fn fill_terms<V: Copy + Eq, const N: usize>(
+    work: &mut [Wrapped<V>],
+    nodes: &NodeSet<N>,
+    at: usize,
+    value: Wrapped<V>,
+)
+    requires capacity { IsCapacity N }
+    requires room { at + 240 < length work.old }
+    requires small { length work.old ≤ 4096 }
+    ensures laid { (i : ℕ) → has_id nodes.now i ≡ true →
+        slice_index_or work.new (at + 16 * i) (Fault 0) ≡ value }
+    ensures kept { KeepsOthers nodes.now at work.old work.new }
+    ensures room { length work.new ≡ length work.old }
+{
+    for i in nodes.iter() {
+        set_value(work, at + 16 * i as usize, value);
+    }
+}
+
+/// Lays values, which begin at `from` and lie by node, as such terms.
+pub(crate) fn copy_terms<V: Copy + Eq, const N: usize>(
+    work: &mut [Wrapped<V>],
+    nodes: &NodeSet<N>,
     from: usize,
-    end: usize,
-) -> Wrapped<V>
+    at: usize,
+)
+    requires capacity { IsCapacity N }
+    requires behind { at + 240 < from }
+    requires room { from + 16 ≤ length work.old }
+    requires small { length work.old ≤ 4096 }
+    ensures laid { (i : ℕ) → has_id nodes.now i ≡ true →
+        slice_index_or work.new (at + 16 * i) (Fault 0) ≡
+        slice_index_or work.old (from + i) (Fault 0) }
+    ensures kept { KeepsOthers nodes.now at work.old work.new }
+    ensures room { length work.new ≡ length work.old }
+{
+    for i in nodes.iter() {
+        let value = value_from(work, from, i);
+        set_value(work, at + 16 * i as usize, value);
+    }
+}
+
+/// What each of these nodes settles from the first so many of its sixteen terms, which lie behind
+/// sixteen values by node that begin at `from`: it is laid among these.
+pub(crate) fn settle_terms<V: Copy + Eq, const N: usize>(
+    work: &mut [Wrapped<V>],
+    nodes: &NodeSet<N>,
+    from: usize,
+    count: usize,
+)
+    requires exact { IsExact V.eq }
+    requires capacity { IsCapacity N }
+    requires few { count ≤ 16 }
+    requires room { from + 272 ≤ length work.old }
+    requires small { length work.old ≤ 4096 }
+    ensures settled { (i : ℕ) → has_id nodes.now i ≡ true →
+        slice_index_or work.new (from + i) (Fault 0) ≡
+        unwrapped (majority V.eq (take count (drop (from + 16 + 16 * i) work.old))) }
+    ensures kept { KeepsBelow from work.old work.new }
+    ensures room { length work.new ≡ length work.old }
+{
+    for i in nodes.iter() {
+        let first = from + 16 + 16 * i as usize;
+        let settled = settled_from_terms(work, first, first + count);
+        set_value(work, from + i as usize, settled);
+    }
+}
+
+/// The value of a node among those that begin at `from`.
+fn value_from<V: Copy + Eq>(values: &[Wrapped<V>], from: usize, i: u8) -> Wrapped<V>
+    requires room { from + i < length values.now }
+    requires small { length values.now ≤ 4096 }
+    ensures { result ≡ slice_index_or values.now (from + i) (Fault 0) }
+{
+    values[from + i as usize]
+}
+
+/// What is settled from the terms at these places.
+fn settled_from_terms<V: Copy + Eq>(terms: &[Wrapped<V>], from: usize, end: usize) -> Wrapped<V>
     requires exact { IsExact V.eq }
     requires ordered { from ≤ end }
     requires within { end ≤ length terms.now }

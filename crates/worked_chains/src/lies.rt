@@ -7,14 +7,16 @@ ghost use Rattle.worked_chains.specs.Lies.{mixed, value_of, account_of, lie_of};
 use odd_relays::Relays;
 use omh_paths::{Path, Wrapped};
 
-/// What odd members pass on of an item: a value that follows from a seed, the receiver and the path.
+/// What odd members pass on of an item: a value that follows from a seed, the receiver and the
+/// path.
 #[derive(Clone, Copy)]
 pub struct Lies {
     /// What the values follow from.
     pub seed: u8,
     /// How many nodes the paths of the last round have.
     pub last: u8,
-    /// Whether there are three groups of receivers, each of which is told the same in the last round.
+    /// Whether there are three groups of receivers, each of which is told the same in the last
+    /// round.
     pub by_thirds: bool,
 }
 

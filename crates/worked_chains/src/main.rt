@@ -14,7 +14,7 @@ ghost use Rattle.worked_chains.specs.Lies.{lie_of};
 use draws::{Drawn, Draws};
 use lies::Lies;
 use node_grid::NodeSet;
-use odd_relays::{Item, Phase};
+use odd_relays::{Item, Phase, WORK};
 use omh_paths::Wrapped;
 use worked_rows::rows;
 
@@ -58,9 +58,9 @@ fn settle_each(
 )
     requires item { IsTelling 16 (telling lie_of item.now) }
     requires few { HasFewOdd (telling lie_of item.now) }
-    requires room { length work.old ≡ 64 }
+    requires room { length work.old ≡ WORK }
     requires places { length all.old ≡ 16 }
-    ensures room { length work.new ≡ 64 }
+    ensures room { length work.new ≡ WORK }
     ensures places { length all.new ≡ 16 }
 {
     for i in awake.iter() {
@@ -79,8 +79,8 @@ fn are_convicting(
     work: &mut [Wrapped<u8>],
 ) -> bool
     requires item { IsTelling 16 (telling lie_of item.now) }
-    requires room { length work.old ≡ 64 }
-    ensures room { length work.new ≡ 64 }
+    requires room { length work.old ≡ WORK }
+    ensures room { length work.new ≡ WORK }
 {
     for i in awake.iter() {
         if i != item.commander && item.convicts(i, work) != plain::convicts(drawn, i) {
@@ -101,8 +101,8 @@ fn count_settled(
     requires item { IsTelling 16 (telling lie_of item.now) }
     requires few { HasFewOdd (telling lie_of item.now) }
     requires full { (q : ℕ) → has_id item.now.phase.full q ≡ true → has_id awake.now q ≡ true }
-    requires room { length work.old ≡ 64 }
-    ensures room { length work.new ≡ 64 }
+    requires room { length work.old ≡ WORK }
+    ensures room { length work.new ≡ WORK }
 {
     let mut all = [Wrapped::Fault(0); 16];
     item.settle_all(awake, work, &mut all);
@@ -114,8 +114,8 @@ fn count_settled(
 /// Settles an item by both programs where few members are odd, and convicts by both.
 fn count_item(counts: &mut Counts, drawn: &Drawn, awake: &NodeSet<16>, work: &mut [Wrapped<u8>])
     requires full { (q : ℕ) → has_id drawn.now.full q ≡ true → has_id awake.now q ≡ true }
-    requires room { length work.old ≡ 64 }
-    ensures room { length work.new ≡ 64 }
+    requires room { length work.old ≡ WORK }
+    ensures room { length work.new ≡ WORK }
 {
     let item = Item {
         phase: Phase {
@@ -141,8 +141,8 @@ fn count_item(counts: &mut Counts, drawn: &Drawn, awake: &NodeSet<16>, work: &mu
 
 /// Draws a phase, and counts the item of each of its members.
 fn count_phase(counts: &mut Counts, draws: &mut Draws, work: &mut [Wrapped<u8>])
-    requires room { length work.old ≡ 64 }
-    ensures room { length work.new ≡ 64 }
+    requires room { length work.old ≡ WORK }
+    ensures room { length work.new ≡ WORK }
 {
     let nodes = draws.nodes();
     for commander in nodes.members.iter() {
@@ -161,7 +161,7 @@ fn main(rt: HostRuntime) -> anyhow::Result<()> {
         one_by_one: 0,
         convicted: 0,
     };
-    let mut work = [Wrapped::Fault(0); 64];
+    let mut work = [Wrapped::Fault(0); WORK];
     for _ in 0..DRAWN {
         count_phase(&mut counts, &mut draws, &mut work);
     }

@@ -6,5 +6,5 @@ invariant-loop-i l = record {
   can : (goal.iterator-loop-i).can_next l.i-iterator;
   ends : (goal.iterator-loop-i).is_finite l.i-iterator;
   split : l.awake ≡ l.yielded ++ l.i-iterator;
-  room : length l.work ≡ 64;
+  room : length l.work ≡ 832;
 }

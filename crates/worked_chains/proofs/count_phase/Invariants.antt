@@ -6,5 +6,5 @@ invariant-loop-commander l = record {
   can : (goal.iterator-loop-commander).can_next l.commander-iterator;
   ends : (goal.iterator-loop-commander).is_finite l.commander-iterator;
   split : l.nodes.members ≡ l.yielded ++ l.commander-iterator;
-  room : length l.work ≡ 64;
+  room : length l.work ≡ 832;
 }

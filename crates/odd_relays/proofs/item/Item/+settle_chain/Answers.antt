@@ -1,32 +1,26 @@
-use Rattle.std.proofs.Common.{rules, ◌≡◌, ◌<◌, ◌≤◌, ◌+◌, ◌-◌, suc, ◌==◌, ◌&&◌, Bool, true, false, not, length, take, map, List, [], ◌∷◌, ◌++◌, ℕ, sym, ap, ◌∙◌, inl, inr, arith, eq-eqb, eqb-true, ne_eqb}
-use Rattle.std.proofs.lemmas.Bool.{or_cases}
-use Rattle.std.specs.Prelude.{◌⊎◌}
-use Rattle.std.proofs.lemmas.List.{length_push, length-set}
+use Rattle.std.proofs.Common.{rules, ◌≡◌, ◌≢◌, ◌<◌, ◌≤◌, ◌+◌, ◌-◌, ◌*◌, suc, ◌==◌, ◌&&◌, Bool, true, false, not, length, take, drop, map, List, [], ◌∷◌, ◌++◌, ℕ, slice_index_or, sym, ap, ◌∙◌, inl, inr, arith, eq-eqb, eqb-true, ne_eqb}
+use Rattle.std.proofs.lemmas.Bool.{or_cases, cases_eq}
+use Rattle.std.proofs.lemmas.List.{length_push}
 use Rattle.node_grid.specs.Capacity.{IsCapacity}
-use Rattle.node_grid.specs.NodeSet.{has_id, IsIdSet}
+use Rattle.node_grid.specs.NodeSet.{has_id, without_id, IsIdSet}
 use Rattle.node_grid.specs.CapacityLaws.{capacity-le}
 use Rattle.node_grid.specs.ListLaws.{has_push}
+use Rattle.omh_paths.specs.declared.wrapped.Wrapped.TheVariants.{Fault}
 use Rattle.omh_paths.specs.Paths.{outside}
+use Rattle.omh_paths.specs.PathLists.{has-without, has-without-left}
 use Rattle.omh_paths.specs.Majority.{majority as majority_of}
 use Rattle.omh_paths.specs.Wrapped.{unwrapped}
 use Rattle.omh_paths.specs.MemberLaws.{member-lt}
+use Rattle.omh.specs.Omh.{ear, own_term}
 use Rattle.odd_relays.specs.Chains.{chain_within}
 use Rattle.odd_relays.specs.Telling.{telling}
 use Rattle.odd_relays.specs.Direct.{direct_world}
 use Rattle.odd_relays.proofs.ChainLaws.{chain_term, chain_now, chain_later, chain_base, chain_odd}
-use Rattle.odd_relays.proofs.Laying.{laid_more, laid_behind, laid_before, next_on, next_outside, next_short, split_more, split_all}
+use Rattle.odd_relays.proofs.Laying.{next_on, next_outside, next_short, split_more, split_all}
+use Rattle.odd_relays.proofs.Places.{row_is, row_more}
+use Rattle.odd_relays.proofs.Columns.{filled_row, filled_here, filled_below, final_row, final_copied, final_own, final_below}
 use Rattle.odd_relays.proofs.item.Item.+settle_chain.Goals as goal
-use Rattle.odd_relays.proofs.item.Item.+settle_chain.Goals.{then-has+then-q-i, else-has, else-has-via-then-has+else-q-i, else-has-via-else-has}
-
-pub returns-then-len-self-clause-settled : goal.returns-then-len-self-clause-settled
-returns-then-len-self-clause-settled g k c =
-    let p = c.args.path.now in
-    let w = direct_world (telling g.S.Relays.says c.args.self.now) in
-    let e : c.args.self.now.phase.rounds + 1 - length p ≡ 0 = omega (arith, c.if-len-self.true, c.len.ensures.count) in
-    c.heard.ensures.heard ∙ sym (chain_now g.V.PartialEq.eq w c.args.self.now.odd c.args.i p) ∙ sym (ap (λ (r : ℕ). chain_within g.V.PartialEq.eq w c.args.self.now.odd c.args.i r p) e)
-
-pub then-requires-clause-off : goal.then-requires-clause-off
-then-requires-clause-off g k c = (next_outside c.args.self.now.phase.members c.args.path.now c.loop-q.yielded c.next.new.self c.loop-q.q-iterator c.in-Some.q c.loop-q.invariant.split c.in-Some.ensures.steps).1
+use Rattle.odd_relays.proofs.item.Item.+settle_chain.Goals.{then-has, else-has}
 
 -- a path within the nodes, and one node more
 low_push : (n : ℕ) (path longer : List ℕ) (q : ℕ) → ((x : ℕ) → has_id path x ≡ true → x < n) → q < n → longer ≡ path ++ q ∷ [] → (x : ℕ) → has_id longer x ≡ true → x < n
@@ -45,21 +39,45 @@ next_few n all s path ys rest left q capacity few is split steps =
     let k = capacity-le n capacity in
     omega arith
 
-not_self : (o : Bool) (q i : ℕ) → o ≡ true → (q ≡ i → ⊥) → (o && not (q == i)) ≡ true
+not_self : (o : Bool) (q i : ℕ) → o ≡ true → q ≢ i → (o && not (q == i)) ≡ true
 not_self o q i h ne = ap (λ (b : Bool). b && not (q == i)) h ∙ ap not (ne_eqb q i ne)
 
-self_or_regular : (o : Bool) (q i : ℕ) → (o ≡ true × q ≡ i) ⊎ (o ≡ false) → (o && not (q == i)) ≡ false
-self_or_regular o q i (inl h) = ap (λ (b : Bool). b && not (q == i)) h.0 ∙ ap not (eq-eqb q i h.1)
-self_or_regular o q i (inr h) = ap (λ (b : Bool). b && not (q == i)) h
+self : (o : Bool) (q i : ℕ) → o ≡ true → q ≡ i → (o && not (q == i)) ≡ false
+self o q i h e = ap (λ (b : Bool). b && not (q == i)) h ∙ ap not (eq-eqb q i e)
 
-pub settle_chain-term-requires : goal.settle_chain-term-requires
-settle_chain-term-requires g k c κs within =
+regular : (o : Bool) (q i : ℕ) → o ≡ false → (o && not (q == i)) ≡ false
+regular o q i h = ap (λ (b : Bool). b && not (q == i)) h
+
+on_others : (all others : List ℕ) (q i : ℕ) → others ≡ without_id all q → has_id all i ≡ true → q ≢ i → has_id others i ≡ true
+on_others all others q i is on ne = ap (λ (s : List ℕ). has_id s i) is ∙ has-without all q i (λ e. ne (sym e)) on
+
+off_others : (all others : List ℕ) (q i : ℕ) → others ≡ without_id all q → has_id others i ≡ true → i ≢ q
+off_others all others q i is on = (has-without-left all q i (ap (λ (s : List ℕ). has_id s i) (sym is) ∙ on)).0
+
+pub returns-then-len-self-clause-settled : goal.returns-then-len-self-clause-settled
+returns-then-len-self-clause-settled g k c =
+    let p = c.args.path.now in
+    let t = telling g.S.Relays.says c.args.self.now in
+    let w = direct_world t in
+    let e : t.rounds + 1 - length p ≡ 0 = omega (arith, c.if-len-self.true, c.len-2.ensures.count) in
+    λ i on. c.lay_heard.ensures.laid i on ∙ sym (chain_now g.V.PartialEq.eq w t.odd i p) ∙ sym (ap (λ (r : ℕ). chain_within g.V.PartialEq.eq w t.odd i r p) e)
+
+pub passed-own-requires : goal.passed-own-requires
+passed-own-requires g k c =
+    let low = next_low g.row.N c.outside.result c.args.self.now.phase.members c.args.path.now c.loop-q.yielded c.next.new.self c.loop-q.q-iterator c.in-Some.q c.iter-q-items.ensures.ids c.outside.ensures c.loop-q.invariant.split c.in-Some.ensures.steps in
+    (omega arith, (c.requires.item, low))
+
+pub then-requires-clause-off : goal.then-requires-clause-off
+then-requires-clause-off g k c = (next_outside c.args.self.now.phase.members c.args.path.now c.loop-q.yielded c.next.new.self c.loop-q.q-iterator c.in-Some.q c.loop-q.invariant.split c.in-Some.ensures.steps).1
+
+pub settle_chain-requires : goal.settle_chain-requires
+settle_chain-requires g k c κs within =
     let p = c.args.path.now in
     let q = c.in-Some.q in
     let low = next_low g.row.N c.outside.result c.args.self.now.phase.members p c.loop-q.yielded c.next.new.self c.loop-q.q-iterator q c.iter-q-items.ensures.ids c.outside.ensures c.loop-q.invariant.split c.in-Some.ensures.steps in
-    let few = next_few g.row.N c.outside.result c.args.self.now.phase.members p c.loop-q.yielded c.next.new.self c.loop-q.q-iterator q c.requires.item.capacity_ok c.iter-q-items.ensures.few c.outside.ensures c.loop-q.invariant.split c.in-Some.ensures.steps in
-    let deep : length p ≤ c.args.self.now.phase.rounds = omega (arith, c.if-len-self.false, c.len.ensures.count) in
-    let l : length c.then.result ≡ length p + 1 = ap length c.then.ensures ∙ length_push p q in (
+    let deep : length p ≤ c.args.self.now.phase.rounds = omega (arith, c.if-len-self.false, c.len-2.ensures.count) in
+    let l : length c.then.result ≡ length p + 1 = ap length c.then.ensures ∙ length_push p q in
+    let long = c.fill_terms.ensures.room in (
       omega (arith, c.decreases, l, deep),
       (
         search rules,
@@ -70,14 +88,14 @@ settle_chain-term-requires g k c κs within =
             (
               omega arith,
               (
-                c.requires.exact,
+                omega arith,
                 (
-                  c.requires.item,
+                  c.requires.exact,
                   (
-                    c.requires.node,
+                    c.requires.item,
                     (
                       low_push g.row.N p c.then.result q c.requires.nodes low c.then.ensures,
-                      (omega (arith, l, deep), (omega (arith, l, deep, few, c.loop-q.invariant.end, c.loop-q.invariant.long, c.requires.room), omega (arith, c.loop-q.invariant.long, c.requires.small))),
+                      (omega (arith, l, deep), (omega (arith, l, deep, long, c.loop-q.invariant.long, c.requires.room), omega (arith, long, c.loop-q.invariant.long, c.requires.small))),
                     ),
                   ),
                 ),
@@ -88,66 +106,92 @@ settle_chain-term-requires g k c κs within =
       ),
     )
 
-pub passed-term-requires : goal.passed-term-requires
-passed-term-requires g k c =
-    let low = next_low g.row.N c.outside.result c.args.self.now.phase.members c.args.path.now c.loop-q.yielded c.next.new.self c.loop-q.q-iterator c.in-Some.q c.iter-q-items.ensures.ids c.outside.ensures c.loop-q.invariant.split c.in-Some.ensures.steps in
-    (omega arith, (c.requires.item, low))
-
 pub loop-q-preserved : goal.loop-q-preserved
 loop-q-preserved g k c =
     let p = c.args.path.now in
     let q = c.in-Some.q in
-    let w = direct_world (telling g.S.Relays.says c.args.self.now) in
-    let r : ℕ = c.args.self.now.phase.rounds - length p in
-    let term = chain_term g.V.PartialEq.eq w c.args.self.now.odd r c.args.i p in
-    let i = c.loop-q.invariant in
-    let few = next_few g.row.N c.outside.result c.args.self.now.phase.members p c.loop-q.yielded c.next.new.self c.loop-q.q-iterator q c.requires.item.capacity_ok c.iter-q-items.ensures.few c.outside.ensures i.split c.in-Some.ensures.steps in
-    let deep : length p ≤ c.args.self.now.phase.rounds = omega (arith, c.if-len-self.false, c.len.ensures.count) in
-    let room : c.loop-q.end < length c.if-has.work = omega (arith, few, deep, i.end, i.long, c.requires.room, c.if-has.auto.work) in
+    let t = telling g.S.Relays.says c.args.self.now in
+    let w = direct_world t in
+    let eq = g.V.PartialEq.eq in
+    let r : ℕ = t.rounds - length p in
+    let inv = c.loop-q.invariant in
+    let n : ℕ = c.loop-q.count in
+    let from : ℕ = c.args.from in
+    let ys = c.loop-q.yielded in
+    let nodes = c.args.receivers.now in
+    let few16 = next_few g.row.N c.outside.result t.members p ys c.next.new.self c.loop-q.q-iterator q c.requires.item.capacity_ok c.iter-q-items.ensures.few c.outside.ensures inv.split c.in-Some.ensures.steps in
+    let few : n ≤ 15 = omega (arith, few16, inv.count) in
+    let deep : length p ≤ t.rounds = omega (arith, c.if-len-self.false, c.len-2.ensures.count) in
+    let low : (i : ℕ) → has_id nodes i ≡ true → i < 16 = λ i on. let m = member-lt g.row.N nodes i c.len.ensures.ids on in omega (arith, m, capacity-le g.row.N c.requires.item.capacity_ok) in
+    let fill = c.fill_terms.ensures in
+    let own = c.passed-own.result in
+    let is_own : own ≡ own_term (ear w q) p = c.passed-own.ensures in
     record {
       can = tt;
       ends = tt;
-      split = split_more (outside c.args.self.now.phase.members p) c.loop-q.yielded c.next.new.self c.loop-q.q-iterator q i.split c.in-Some.ensures.steps;
-      end = omega (arith, i.end, length_push c.loop-q.yielded q);
-      long = ap length c.set_value.ensures ∙ length-set c.if-has.work c.loop-q.end c.if-has.term ∙ c.if-has.auto.work ∙ i.long;
-      terms = elim c.if-has.branch [
-        | then-has+then-q-i w' ↦
-            let l : length w'.then.result ≡ length p + 1 = ap length w'.then.ensures ∙ length_push p q in
-            let e : c.args.self.now.phase.rounds + 1 - length w'.then.result ≡ r = omega (arith, l) in
-            laid_more term c.loop-q.yielded q (take c.args.from c.args.work.now) c.loop-q.work c.if-has.work c.set_value.new.values c.loop-q.end c.if-has.term i.terms
-            (ap (take c.loop-q.end) w'.work-is ∙ w'.settle_chain-term.ensures.kept) room c.set_value.ensures
-            (w'.term-is ∙ w'.settle_chain-term.ensures.settled
-            ∙ ap (λ (n : ℕ). chain_within g.V.PartialEq.eq w c.args.self.now.odd c.args.i n w'.then.result) e
-            ∙ ap (chain_within g.V.PartialEq.eq w c.args.self.now.odd c.args.i r) w'.then.ensures
-            ∙ sym (chain_odd g.V.PartialEq.eq w c.args.self.now.odd r c.args.i p q (not_self (has_id c.args.self.now.odd q) q c.args.i (sym c.has.ensures ∙ w'.if-has.true) w'.if-q-i.true)))
-        | else-has w' ↦
-            laid_more term c.loop-q.yielded q (take c.args.from c.args.work.now) c.loop-q.work c.if-has.work c.set_value.new.values c.loop-q.end c.if-has.term i.terms
-            (ap (take c.loop-q.end) w'.work-is) room c.set_value.ensures
-            (w'.term-is ∙ w'.passed-term.ensures
-            ∙ sym (chain_base g.V.PartialEq.eq w c.args.self.now.odd r c.args.i p q (elim w'.else-has.branch [
-              | else-has-via-then-has+else-q-i w'' ↦ self_or_regular (has_id c.args.self.now.odd q) q c.args.i (inl (sym c.has.ensures ∙ w''.if-has.true, w''.if-q-i.false))
-              | else-has-via-else-has w'' ↦ self_or_regular (has_id c.args.self.now.odd q) q c.args.i (inr (sym c.has.ensures ∙ w''.if-has.false))
-            ])))
+      split = split_more (outside t.members p) ys c.next.new.self c.loop-q.q-iterator q inv.split c.in-Some.ensures.steps;
+      count = omega (arith, inv.count, length_push ys q);
+      long = c.if-has.auto.work ∙ fill.room ∙ inv.long;
+      terms = λ i on. row_more (Fault 0) (chain_term eq w t.odd r i p) ys q c.loop-q.work c.if-has.work (from + 16 + 16 * i) (inv.terms i on)
+          (λ j less. elim c.if-has.branch [
+            | then-has b ↦ ap (λ xs. slice_index_or xs (from + 16 + 16 * i + j) (Fault 0)) b.work-is
+                ∙ final_row (Fault 0) from n few nodes c.loop-q.work c.fill_terms.new.work own fill.kept fill.laid b.without-others.result b.settle_chain.new.work b.copy_terms.new.work b.settle_chain.ensures.kept b.copy_terms.ensures.kept b.copy_terms.ensures.laid
+                i j (low i on) (omega (arith, less, inv.count))
+            | else-has b ↦ ap (λ xs. slice_index_or xs (from + 16 + 16 * i + j) (Fault 0)) b.work-is
+                ∙ filled_row (Fault 0) from n few nodes c.loop-q.work c.fill_terms.new.work own fill.kept fill.laid i j (omega (arith, less, inv.count))
+          ])
+          (ap (λ (m : ℕ). slice_index_or c.if-has.work (from + 16 + 16 * i + m) (Fault 0)) (sym inv.count)
+          ∙ elim c.if-has.branch [
+            | then-has b ↦
+                let odd = sym c.has.ensures ∙ b.if-has.true in
+                let l : length b.then.result ≡ length p + 1 = ap length b.then.ensures ∙ length_push p q in
+                let e : t.rounds + 1 - length b.then.result ≡ r = omega (arith, l) in
+                ap (λ xs. slice_index_or xs (from + 16 + 16 * i + n) (Fault 0)) b.work-is
+                ∙ elim (cases_eq q i) [
+                  | inl same ↦
+                      final_own (Fault 0) from n few nodes c.loop-q.work c.fill_terms.new.work own fill.kept fill.laid b.without-others.result b.settle_chain.new.work b.copy_terms.new.work b.settle_chain.ensures.kept b.copy_terms.ensures.kept b.copy_terms.ensures.laid
+                      i (low i on) on (λ x at e'. off_others nodes b.without-others.result q x b.without-others.ensures at (sym e' ∙ sym same))
+                      ∙ is_own ∙ sym (chain_base eq w t.odd r i p q (self (has_id t.odd q) q i odd same))
+                  | inr other ↦
+                      let on' = on_others nodes b.without-others.result q i b.without-others.ensures on other in
+                      final_copied (Fault 0) from n few nodes c.loop-q.work c.fill_terms.new.work own fill.kept fill.laid b.without-others.result b.settle_chain.new.work b.copy_terms.new.work b.settle_chain.ensures.kept b.copy_terms.ensures.kept b.copy_terms.ensures.laid i on'
+                      ∙ b.settle_chain.ensures.settled i on'
+                      ∙ ap (λ (m : ℕ). chain_within eq w t.odd i m b.then.result) e
+                      ∙ ap (chain_within eq w t.odd i r) b.then.ensures
+                      ∙ sym (chain_odd eq w t.odd r i p q (not_self (has_id t.odd q) q i odd other))
+                ]
+            | else-has b ↦
+                ap (λ xs. slice_index_or xs (from + 16 + 16 * i + n) (Fault 0)) b.work-is
+                ∙ filled_here (Fault 0) from n few nodes c.loop-q.work c.fill_terms.new.work own fill.kept fill.laid i on
+                ∙ is_own ∙ sym (chain_base eq w t.odd r i p q (regular (has_id t.odd q) q i (sym c.has.ensures ∙ b.if-has.false)))
+          ]);
+      kept = λ m below. elim c.if-has.branch [
+        | then-has b ↦ ap (λ xs. slice_index_or xs m (Fault 0)) b.work-is
+            ∙ final_below (Fault 0) from n few nodes c.loop-q.work c.fill_terms.new.work own fill.kept fill.laid b.without-others.result b.settle_chain.new.work b.copy_terms.new.work b.settle_chain.ensures.kept b.copy_terms.ensures.kept b.copy_terms.ensures.laid m below
+            ∙ inv.kept m below
+        | else-has b ↦ ap (λ xs. slice_index_or xs m (Fault 0)) b.work-is
+            ∙ filled_below (Fault 0) from n few nodes c.loop-q.work c.fill_terms.new.work own fill.kept fill.laid m below ∙ inv.kept m below
       ];
     }
 
 pub returns-clause-settled : goal.returns-clause-settled
 returns-clause-settled g k c =
     let p = c.args.path.now in
-    let w = direct_world (telling g.S.Relays.says c.args.self.now) in
-    let r : ℕ = c.args.self.now.phase.rounds - length p in
-    let term = chain_term g.V.PartialEq.eq w c.args.self.now.odd r c.args.i p in
-    let i = c.loop-q.invariant in
-    let e : suc r ≡ c.args.self.now.phase.rounds + 1 - length p = omega (arith, c.if-len-self.false, c.len.ensures.count) in
-    c.settled_from_terms.ensures
-    ∙ ap (λ ts. unwrapped (majority_of g.V.PartialEq.eq ts))
-    (laid_behind term c.loop-q.yielded c.args.work.now c.loop-q.work c.args.from c.loop-q.end (omega (arith, c.requires.room)) (omega (arith, i.end)) i.terms
-    ∙ ap (map term) (sym (split_all (outside c.args.self.now.phase.members p) c.loop-q.yielded c.loop-q.q-iterator i.split c.in-None.ensures.steps.0)))
-    ∙ sym (chain_later g.V.PartialEq.eq w c.args.self.now.odd r c.args.i p)
-    ∙ ap (λ (n : ℕ). chain_within g.V.PartialEq.eq w c.args.self.now.odd c.args.i n p) e
-
-pub returns-clause-kept : goal.returns-clause-kept
-returns-clause-kept g k c =
-    let w = direct_world (telling g.S.Relays.says c.args.self.now) in
-    laid_before (chain_term g.V.PartialEq.eq w c.args.self.now.odd (c.args.self.now.phase.rounds - length c.args.path.now) c.args.i c.args.path.now)
-    c.loop-q.yielded c.args.work.now c.loop-q.work c.args.from c.loop-q.end (omega (arith, c.requires.room)) (omega (arith, c.loop-q.invariant.end)) c.loop-q.invariant.terms
+    let t = telling g.S.Relays.says c.args.self.now in
+    let w = direct_world t in
+    let eq = g.V.PartialEq.eq in
+    let r : ℕ = t.rounds - length p in
+    let inv = c.loop-q.invariant in
+    let ys = c.loop-q.yielded in
+    let all = split_all (outside t.members p) ys c.loop-q.q-iterator inv.split c.in-None.ensures.steps.0 in
+    let e : suc r ≡ t.rounds + 1 - length p = omega (arith, c.if-len-self.false, c.len-2.ensures.count) in
+    let few : length ys ≤ 16 = omega (arith, ap length all, ap length c.outside.ensures, c.iter-q-items.ensures.few, capacity-le g.row.N c.requires.item.capacity_ok) in
+    λ i on.
+    let m = member-lt g.row.N c.args.receivers.now i c.len.ensures.ids on in
+    let s : ℕ = c.args.from + 16 + 16 * i in
+    let room : s + length ys ≤ length c.loop-q.work = omega (arith, few, m, capacity-le g.row.N c.requires.item.capacity_ok, inv.long, c.requires.room, c.if-len-self.false, c.len-2.ensures.count) in
+    c.settle_terms.ensures.settled i on
+    ∙ ap (λ (n : ℕ). unwrapped (majority_of eq (take n (drop s c.loop-q.work)))) inv.count
+    ∙ ap (λ ts. unwrapped (majority_of eq ts)) (row_is (Fault 0) (chain_term eq w t.odd r i p) ys c.loop-q.work s room (inv.terms i on) ∙ ap (map (chain_term eq w t.odd r i p)) (sym all))
+    ∙ sym (chain_later eq w t.odd r i p)
+    ∙ ap (λ (n : ℕ). chain_within eq w t.odd i n p) e

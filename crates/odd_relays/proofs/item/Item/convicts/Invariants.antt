@@ -10,6 +10,6 @@ invariant-loop-q g l = record {
   ends : (goal.iterator-loop-q g).is_finite l.q-iterator;
   split : outside l.self.phase.members (l.self.commander ∷ l.i ∷ []) ≡ l.yielded ++ l.q-iterator;
   end : l.end ≡ length l.yielded;
-  long : length l.work ≡ 64;
+  long : length l.work ≡ 832;
   relays : take l.end l.work ≡ map (relay_of (telling g.S.Relays.says l.self) l.i) l.yielded;
 }

@@ -1,44 +1,29 @@
-use Rattle.std.proofs.Common.{◌≡◌, ◌<◌, ◌+◌, ◌-◌, ◌==◌, true, ℕ, List, [], ◌∷◌, length, sym, ap, ◌∙◌, inl, inr, arith, eqb-true}
-use Rattle.std.proofs.lemmas.Bool.{or_cases}
-use Rattle.node_grid.specs.NodeSet.{has_id, IsIdSet}
-use Rattle.omh_paths.specs.MemberLaws.{Distinct-ids, member-lt}
-use Rattle.odd_relays.specs.Chains.{chain_within}
-use Rattle.odd_relays.specs.Telling.{telling}
-use Rattle.odd_relays.specs.Direct.{direct_world}
-use Rattle.odd_relays.proofs.Direct.{direct_settles}
+use Rattle.std.proofs.Common.{ℕ, ◌≡◌, ◌≢◌, ◌<◌, ◌==◌, ◌||◌, true, false, List, [], sym, ap, ◌∙◌, inl, inr, arith, eq-eqb, eqb-true, refl}
+use Rattle.std.proofs.lemmas.Bool.{cases_Bool, or_cases, or_left}
+use Rattle.node_grid.specs.NodeSet.{has_id, with_id}
+use Rattle.node_grid.specs.NodeSetLaws.{passes_where, has-with_id}
+use Rattle.node_grid.specs.CapacityLaws.{capacity-le}
 use Rattle.odd_relays.proofs.item.Item.settle.Goals as goal
 
-root_low : (n : ℕ) (members path : List ℕ) (c : ℕ) → IsIdSet n members → has_id members c ≡ true → path ≡ c ∷ [] → (q : ℕ) → has_id path q ≡ true → q < n
-root_low n members path c ids member is q on = elim (or_cases (c == q) _ (ap (λ (p : List ℕ). has_id p q) (sym is) ∙ on)) [
-  | inl here ↦ let e : c ≡ q = eqb-true c q here in let l = member-lt n members c ids member in omega arith
-  | inr none ↦ absurd (cc)
+-- a set of one node
+has_alone : (n : ℕ) (empty alone : List ℕ) (i : ℕ) → i < n → alone ≡ with_id n empty i → has_id alone i ≡ true
+has_alone n empty alone i low is = ap (λ (s : List ℕ). has_id s i) is ∙ has-with_id n empty i i low ∙ or_left (i == i) (has_id empty i) (eq-eqb i i refl)
+
+only_alone : (n : ℕ) (empty alone : List ℕ) (c i : ℕ) → c ≢ i → empty ≡ [] → alone ≡ with_id n empty i → has_id alone c ≡ false
+only_alone n empty alone c i ne none is = elim (cases_Bool (has_id alone c)) [
+  | inr off ↦ off
+  | inl on ↦ elim (or_cases (c == i) (has_id empty c) (passes_where (λ k. (k == i) || has_id empty k) n c (ap (λ (s : List ℕ). has_id s c) (sym is) ∙ on))) [
+    | inl here ↦ absurd (ne (eqb-true c i here))
+    | inr there ↦ let h = sym (ap (λ (s : List ℕ). has_id s c) none) ∙ there in absurd (cc)
+  ]
 ]
 
-pub settle_chain-requires : goal.settle_chain-requires
-settle_chain-requires g c =
-    let long = ap length c.root.ensures in (
-      omega arith,
-      (
-        c.requires.exact,
-        (
-          c.requires.item,
-          (
-            c.requires.node,
-            (
-              root_low g.row.N c.args.self.now.phase.members c.root.result c.args.self.now.commander c.len.ensures.ids c.requires.item.member c.root.ensures,
-              (omega (arith, long), (omega (arith, long, c.requires.room, c.requires.item.rounds_ok), omega (arith, c.requires.room))),
-            ),
-          ),
-        ),
-      ),
-    )
+pub settle_at-requires : goal.settle_at-requires
+settle_at-requires g c =
+    (omega arith, (omega arith, (c.requires.exact, (c.requires.item, (c.requires.few, (only_alone g.row.N c.empty-alone.result c.put.new.self c.args.self.now.commander c.args.i c.requires.other c.empty-alone.ensures c.put.ensures, c.requires.room))))))
+
+pub value_at-requires : goal.value_at-requires
+value_at-requires g c = omega (arith, c.settle_at.ensures.room, c.requires.node, capacity-le g.row.N c.requires.item.capacity_ok)
 
 pub returns-clause-settled : goal.returns-clause-settled
-returns-clause-settled g c =
-    let t = telling g.S.Relays.says c.args.self.now in
-    let w = direct_world t in
-    let e : t.rounds + 1 - length c.root.result ≡ t.rounds = omega (arith, ap length c.root.ensures) in
-    c.settle_chain.ensures.settled
-    ∙ ap (λ (n : ℕ). chain_within g.V.PartialEq.eq w t.odd c.args.i n c.root.result) e
-    ∙ ap (chain_within g.V.PartialEq.eq w t.odd c.args.i t.rounds) c.root.ensures
-    ∙ direct_settles t g.V.PartialEq.eq c.requires.exact (Distinct-ids g.row.N t.members c.len.ensures.ids) c.requires.few c.requires.item.member c.args.i c.requires.other
+returns-clause-settled g c = c.value_at.ensures ∙ c.settle_at.ensures.settled c.args.i (has_alone g.row.N c.empty-alone.result c.put.new.self c.args.i c.requires.node c.put.ensures)

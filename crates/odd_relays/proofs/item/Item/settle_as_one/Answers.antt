@@ -12,8 +12,8 @@ are_alike-requires g c =
 pub value_at-requires : goal.value_at-requires
 value_at-requires g c = let l = member-lt g.row.N c.args.nodes.now c.args.first c.len-2.ensures.ids c.requires.first in omega (arith, l, c.requires.item.told_ok)
 
-pub is_told_alone-requires : goal.is_told_alone-requires
-is_told_alone-requires g c = (omega arith, member-lt g.row.N c.args.self.now.phase.members c.args.self.now.commander c.len.ensures.ids c.requires.item.member)
+pub has_no_other_odd-requires : goal.has_no_other_odd-requires
+has_no_other_odd-requires g c = (omega arith, member-lt g.row.N c.args.self.now.phase.members c.args.self.now.commander c.len.ensures.ids c.requires.item.member)
 
 pub settle-requires : goal.settle-requires
 settle-requires g c =
@@ -27,9 +27,9 @@ returns-then-are_alike-clause-settled g c =
     direct_alike t g.V.PartialEq.eq c.requires.exact (Distinct-ids g.row.N t.members c.len.ensures.ids) c.requires.few c.requires.item.member c.args.nodes.now c.value_at.result c.requires.others
     c.requires.full (λ k on. c.are_alike.ensures c.if-are_alike.true k on ∙ sym c.value_at.ensures)
 
-pub returns-then-is_told_alone-clause-settled : goal.returns-then-is_told_alone-clause-settled
-returns-then-is_told_alone-clause-settled g c =
+pub returns-then-has_no_other_odd-clause-settled : goal.returns-then-has_no_other_odd-clause-settled
+returns-then-has_no_other_odd-clause-settled g c =
     let t = telling g.S.Relays.says c.args.self.now in
     λ i on. c.settle.ensures.settled
-    ∙ direct_common t g.V.PartialEq.eq c.requires.exact (Distinct-ids g.row.N t.members c.len.ensures.ids) c.requires.few c.requires.item.member c.if-self-gt0.true (c.is_told_alone.ensures c.if-is_told_alone.true) i c.args.first
+    ∙ direct_common t g.V.PartialEq.eq c.requires.exact (Distinct-ids g.row.N t.members c.len.ensures.ids) c.requires.few c.requires.item.member c.if-self-gt0.true (c.has_no_other_odd.ensures c.if-has_no_other_odd.true) i c.args.first
     (apart c.args.nodes.now t.commander i c.requires.others on) (apart c.args.nodes.now t.commander c.args.first c.requires.others c.requires.first)

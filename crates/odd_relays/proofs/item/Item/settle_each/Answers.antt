@@ -1,41 +1,46 @@
-use Rattle.std.proofs.Common.{length, ap, ◌∙◌, arith}
-use Rattle.std.proofs.lemmas.List.{length-set}
-use Rattle.omh_paths.specs.declared.wrapped.Wrapped.TheVariants.{Fault}
+use Rattle.std.proofs.Common.{ℕ, ◌≡◌, ◌<◌, true, false, List, length, slice_index_or, sym, ap, ◌∙◌, inl, inr, arith}
+use Rattle.std.proofs.lemmas.Bool.{cases_Bool, both_ways}
+use Rattle.node_grid.specs.NodeSet.{has_id}
+use Rattle.node_grid.specs.CapacityLaws.{capacity-le}
+use Rattle.omh_paths.specs.MemberLaws.{Distinct-ids, member-lt}
 use Rattle.odd_relays.specs.Telling.{telling, settled_item}
-use Rattle.odd_relays.proofs.Laying.{low_of, next_on, apart, split_more, laid_each, off_done, done_more}
+use Rattle.odd_relays.proofs.Laying.{apart}
+use Rattle.odd_relays.proofs.ItemLaws.{direct_views}
 use Rattle.odd_relays.proofs.item.Item.settle_each.Goals as goal
 
-pub settle_like-value-requires : goal.settle_like-value-requires
-settle_like-value-requires g c =
-    let i = c.loop-i.invariant in
-    let l = low_of g.row.N c.args.nodes.now c.loop-i.yielded c.next.new.self c.loop-i.i-iterator c.in-Some.i c.iter-i-items.ensures.ids i.split c.in-Some.ensures.steps in
-    let on = next_on c.args.nodes.now c.loop-i.yielded c.next.new.self c.loop-i.i-iterator c.in-Some.i i.split c.in-Some.ensures.steps in
-    let ne = apart c.args.nodes.now c.args.self.now.commander c.in-Some.i c.requires.others on in
-    let off = off_done c.args.nodes.now c.loop-i.done c.loop-i.yielded c.loop-i.i-iterator c.args.self.now.commander i.split i.done c.requires.others in (
-      omega arith,
-      (omega arith, (c.requires.exact, (c.requires.item, (c.requires.few, (l, (ne, (off, (i.room, (i.places, λ k h. i.settled k (i.done k h)))))))))),
-    )
+off_within : (leaders nodes : List ℕ) (c : ℕ) → ((j : ℕ) → has_id leaders j ≡ true → has_id nodes j ≡ true) → has_id nodes c ≡ false → has_id leaders c ≡ false
+off_within leaders nodes c within off = elim (cases_Bool (has_id leaders c)) [
+  | inr h ↦ h
+  | inl on ↦ absurd (both_ways _ off (within c on))
+]
 
-pub put-requires : goal.put-requires
-put-requires g c =
-    (omega arith, low_of g.row.N c.args.nodes.now c.loop-i.yielded c.next.new.self c.loop-i.i-iterator c.in-Some.i c.iter-i-items.ensures.ids c.loop-i.invariant.split c.in-Some.ensures.steps)
+pub settle_at-requires : goal.settle_at-requires
+settle_at-requires g c =
+    let off = off_within c.find_leaders-leaders.result c.args.nodes.now c.args.self.now.commander c.find_leaders-leaders.ensures.within c.requires.others in
+    (omega arith, (omega arith, (c.requires.exact, (c.requires.item, (c.requires.few, (off, c.requires.room))))))
 
-pub set_value-requires : goal.set_value-requires
-set_value-requires g c =
-    let l = low_of g.row.N c.args.nodes.now c.loop-i.yielded c.next.new.self c.loop-i.i-iterator c.in-Some.i c.iter-i-items.ensures.ids c.loop-i.invariant.split c.in-Some.ensures.steps in
-    omega (arith, l, c.loop-i.invariant.places)
+pub copy_led-requires : goal.copy_led-requires
+copy_led-requires g c =
+    let led = c.find_leaders-leaders.ensures in
+    let low = λ (i : ℕ) (on : has_id c.args.nodes.now i ≡ true).
+    let l = member-lt g.row.N c.find_leaders-leaders.result (slice_index_or c.find_leaders-leaders.new.leader_of i 0) c.len-2.ensures.ids (led.led i on).among in
+    let k : slice_index_or c.find_leaders-leaders.new.leader_of i 0 < length c.settle_at.new.work = omega (arith, l, capacity-le g.row.N c.requires.item.capacity_ok, c.settle_at.ensures.room) in k
+    in
+    (omega arith, (c.requires.item.capacity_ok, (c.requires.places, (led.places, low))))
 
-pub loop-i-preserved : goal.loop-i-preserved
-loop-i-preserved g c =
-    let i = c.loop-i.invariant in
-    let l = low_of g.row.N c.args.nodes.now c.loop-i.yielded c.next.new.self c.loop-i.i-iterator c.in-Some.i c.iter-i-items.ensures.ids i.split c.in-Some.ensures.steps in
-    record {
-      can = tt;
-      ends = tt;
-      split = split_more c.args.nodes.now c.loop-i.yielded c.next.new.self c.loop-i.i-iterator c.in-Some.i i.split c.in-Some.ensures.steps;
-      room = c.settle_like-value.ensures.room;
-      places = ap length c.set_value.ensures ∙ length-set c.loop-i.all c.in-Some.i c.settle_like-value.result ∙ i.places;
-      done = done_more g.row.N c.loop-i.done c.put.new.self c.loop-i.yielded c.in-Some.i i.done c.put.ensures;
-      settled = laid_each (settled_item g.V.PartialEq.eq (telling g.S.Relays.says c.args.self.now)) c.loop-i.yielded c.in-Some.i c.loop-i.all c.set_value.new.values c.settle_like-value.result (Fault 0)
-          i.settled (omega (arith, l, i.places)) c.set_value.ensures c.settle_like-value.ensures.settled;
-    }
+pub returns-clause-settled : goal.returns-clause-settled
+returns-clause-settled g c =
+    let t = telling g.S.Relays.says c.args.self.now in
+    let eq = g.V.PartialEq.eq in
+    let leaders = c.find_leaders-leaders.ensures in
+    λ i on.
+    let j : ℕ = slice_index_or c.find_leaders-leaders.new.leader_of i 0 in
+    let led = leaders.led i on in
+    c.copy_led.ensures.laid i on
+    ∙ c.settle_at.ensures.settled j led.among
+    ∙ elim led.alike [
+      | inl same ↦ ap (settled_item eq t) (sym same)
+      | inr alike ↦
+          direct_views t eq c.requires.exact (Distinct-ids g.row.N t.members c.len.ensures.ids) c.requires.few c.requires.item.member alike.relayed i j
+          (apart c.args.nodes.now t.commander i c.requires.others on) (apart c.args.nodes.now t.commander j c.requires.others (leaders.within j led.among)) alike.first alike.second alike.says
+    ]

@@ -1,0 +1,49 @@
+use Rattle.std.proofs.Common.{◌≡◌, ◌<◌, ◌+◌, ◌-◌, ◌==◌, true, ℕ, List, [], ◌∷◌, length, slice_index_or, sym, ap, ◌∙◌, inl, inr, arith, eqb-true}
+use Rattle.std.proofs.lemmas.Bool.{or_cases}
+use Rattle.node_grid.specs.NodeSet.{has_id, IsIdSet}
+use Rattle.omh_paths.specs.MemberLaws.{Distinct-ids, member-lt}
+use Rattle.omh_paths.specs.declared.wrapped.Wrapped.TheVariants.{Fault}
+use Rattle.odd_relays.specs.Chains.{chain_within}
+use Rattle.odd_relays.specs.Telling.{telling}
+use Rattle.odd_relays.specs.Direct.{direct_world}
+use Rattle.odd_relays.proofs.Laying.{apart}
+use Rattle.odd_relays.proofs.Direct.{direct_settles}
+use Rattle.odd_relays.proofs.item.Item.settle_at.Goals as goal
+
+root_low : (n : ℕ) (members path : List ℕ) (c : ℕ) → IsIdSet n members → has_id members c ≡ true → path ≡ c ∷ [] → (q : ℕ) → has_id path q ≡ true → q < n
+root_low n members path c ids member is q on = elim (or_cases (c == q) _ (ap (λ (p : List ℕ). has_id p q) (sym is) ∙ on)) [
+  | inl here ↦ let e : c ≡ q = eqb-true c q here in let l = member-lt n members c ids member in omega arith
+  | inr none ↦ absurd (cc)
+]
+
+pub settle_chain-requires : goal.settle_chain-requires
+settle_chain-requires g c =
+    let long = ap length c.root.ensures in (
+      omega arith,
+      (
+        omega arith,
+        (
+          c.requires.exact,
+          (
+            c.requires.item,
+            (
+              root_low g.row.N c.args.self.now.phase.members c.root.result c.args.self.now.commander c.len.ensures.ids c.requires.item.member c.root.ensures,
+              (omega (arith, long), (omega (arith, long, c.requires.room, c.requires.item.rounds_ok), omega (arith, c.requires.room))),
+            ),
+          ),
+        ),
+      ),
+    )
+
+pub returns-clause-settled : goal.returns-clause-settled
+returns-clause-settled g c =
+    let t = telling g.S.Relays.says c.args.self.now in
+    let w = direct_world t in
+    let e : t.rounds + 1 - length c.root.result ≡ t.rounds = omega (arith, ap length c.root.ensures) in
+    λ i on.
+    let first : i ≡ 0 + i = omega arith in
+    ap (λ (k : ℕ). slice_index_or c.settle_chain.new.work k (Fault 0)) first
+    ∙ c.settle_chain.ensures.settled i on
+    ∙ ap (λ (n : ℕ). chain_within g.V.PartialEq.eq w t.odd i n c.root.result) e
+    ∙ ap (chain_within g.V.PartialEq.eq w t.odd i t.rounds) c.root.ensures
+    ∙ direct_settles t g.V.PartialEq.eq c.requires.exact (Distinct-ids g.row.N t.members c.len.ensures.ids) c.requires.few c.requires.item.member i (apart c.args.receivers.now t.commander i c.requires.others on)
