@@ -1,0 +1,6 @@
+pub mod Loops
+pub mod Places
+pub mod Passes
+pub mod Folds
+pub mod Layers
+pub mod Rooms

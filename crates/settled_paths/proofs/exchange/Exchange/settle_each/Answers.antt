@@ -1,0 +1,58 @@
+use Rattle.std.proofs.Common.{ℕ, ◌≡◌, ◌≢◌, ◌<◌, ◌-◌, ◌∷◌, [], Bool, List, true, false, length, get_or, sym, ap, ◌∙◌, arith}
+use Rattle.std.proofs.lemmas.Bool.{both_ways}
+use Rattle.std.proofs.lemmas.List.{length-set}
+use Rattle.node_grid.specs.NodeSet.{has_id}
+use Rattle.omh_paths.specs.declared.wrapped.Wrapped.{Wrapped}
+use Rattle.omh_paths.specs.declared.wrapped.Wrapped.TheVariants.{Fault}
+use Rattle.omh_paths.specs.Paths.{index_in}
+use Rattle.omh.specs.Omh.{settled_at}
+use Rattle.omh.specs.Flat.{AreSettled}
+use Rattle.settled_paths.specs.Levels.{AreOwnTerms, ear_in}
+use Rattle.settled_paths.proofs.Loops.{next_on, low_of, apart, split_more, laid_each, laid_kept}
+use Rattle.settled_paths.proofs.exchange.Exchange.settle_each.Goals as goal
+
+pub settle_from-settled-requires : goal.settle_from-settled-requires
+settle_from-settled-requires g c =
+    let i = c.loop-i.invariant in
+    let nodes = c.args.nodes.now in
+    let q = c.in-Some.i in
+    let on = next_on nodes c.loop-i.yielded c.next.new.self c.loop-i.i-iterator q i.split c.in-Some.ensures.steps in
+    let low = low_of g.row.N nodes c.loop-i.yielded c.next.new.self c.loop-i.i-iterator q c.iter-i-items.ensures.ids i.split c.in-Some.ensures.steps in (
+      omega arith,
+      (
+        c.requires.exact,
+        (
+          c.requires.exchange,
+          (c.requires.some, (apart nodes c.args.self.now.commander q c.requires.others on, (low, (c.requires.laid, (c.requires.longest, omega (arith, c.requires.work, i.work)))))),
+        ),
+      ),
+    )
+
+pub set_value-requires : goal.set_value-requires
+set_value-requires g c =
+    let i = c.loop-i.invariant in
+    let low = low_of g.row.N c.args.nodes.now c.loop-i.yielded c.next.new.self c.loop-i.i-iterator c.in-Some.i c.iter-i-items.ensures.ids i.split c.in-Some.ensures.steps in
+    omega (arith, low, i.places)
+
+pub loop-i-preserved : goal.loop-i-preserved
+loop-i-preserved g c =
+    let s = c.args.self.now in
+    let i = c.loop-i.invariant in
+    let nodes = c.args.nodes.now in
+    let q = c.in-Some.i in
+    let place : ℕ = index_in s.members s.commander in
+    let on = next_on nodes c.loop-i.yielded c.next.new.self c.loop-i.i-iterator q i.split c.in-Some.ensures.steps in
+    let low = low_of g.row.N nodes c.loop-i.yielded c.next.new.self c.loop-i.i-iterator q c.iter-i-items.ensures.ids i.split c.in-Some.ensures.steps in
+    record {
+      can = tt;
+      ends = tt;
+      split = split_more nodes c.loop-i.yielded c.next.new.self c.loop-i.i-iterator q i.split c.in-Some.ensures.steps;
+      work = c.settle_from-settled.ensures.work ∙ i.work;
+      places = ap length c.set_value.ensures ∙ length-set c.loop-i.all q c.settle_from-settled.result ∙ i.places;
+      settled = laid_each (λ (k : ℕ) (v : Wrapped g.row.V.Denot). (full : Bool) (h : List ℕ → Wrapped g.row.V.Denot) → AreOwnTerms (ear_in s.rounds s.members k full h) place c.args.laid.now
+          → AreSettled g.V.PartialEq.eq (ear_in s.rounds s.members k full h) place (s.rounds - 1) c.args.longest.now → v ≡ settled_at g.V.PartialEq.eq (ear_in s.rounds s.members k full h) (s.commander ∷ []))
+          c.loop-i.yielded q c.loop-i.all c.set_value.new.values c.settle_from-settled.result (Fault 0) i.settled (omega (arith, low, i.places)) c.set_value.ensures c.settle_from-settled.ensures.settled;
+      kept = λ k off.
+      let other : k ≢ q = λ e. both_ways _ off (ap (has_id nodes) e ∙ on) in
+      laid_kept c.loop-i.all c.set_value.new.values k q c.settle_from-settled.result (Fault 0) other c.set_value.ensures ∙ i.kept k off;
+    }

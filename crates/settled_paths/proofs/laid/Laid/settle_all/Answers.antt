@@ -1,0 +1,47 @@
+use Rattle.std.proofs.Common.{ℕ, ◌≡◌, ◌≤◌, ◌+◌, ◌-◌, length, ap, ◌∙◌, arith}
+use Rattle.omh_paths.specs.MemberLaws.{member-lt}
+use Rattle.settled_paths.proofs.Rooms.{room_for}
+use Rattle.settled_paths.proofs.laid.Laid.settle_all.Goals as goal
+
+pub settle_heard-requires : goal.settle_heard-requires
+settle_heard-requires g c =
+    let e = c.args.exchange.now in
+    (omega arith, (c.if-exchange-eq0.true, (member-lt g.row.N e.members e.commander c.len.ensures.ids c.requires.member, c.requires.places)))
+
+pub lay-requires : goal.lay-requires
+lay-requires g c =
+    let e = c.args.exchange.now in
+    let room = room_for g.row.N e.rounds c.self.inside.nodes c.self.inside.rounds e.members c.args.self.now c.self.view_is c.requires.rounds c.len.ensures.ids c.requires.nodes in (
+      omega arith,
+      (
+        record { capacity_ok = c.requires.capacity; rounds_ok = omega (arith, c.requires.rounds, c.requires.few); members_ok = c.len.ensures.ids; member_ok = c.requires.member },
+        (c.requires.own, omega (arith, room.0, ap length c.as_mut_slice.ensures.value, c.self.invariant.laid_ok)),
+      ),
+    )
+
+pub settle_relayed-requires : goal.settle_relayed-requires
+settle_relayed-requires g c =
+    let e = c.args.exchange.now in
+    let room = room_for g.row.N e.rounds c.self.inside.nodes c.self.inside.rounds e.members c.args.self.now c.self.view_is c.requires.rounds c.len.ensures.ids c.requires.nodes in
+    let laid = c.self.inside.laid.ok.0 in (
+      omega arith,
+      (
+        c.requires.exact,
+        (
+          record { capacity_ok = c.requires.capacity; rounds_ok = omega (arith, c.requires.rounds, c.requires.few); members_ok = c.len.ensures.ids; member_ok = c.requires.member },
+          (
+            omega (arith, c.if-exchange-eq0.false),
+            (
+              omega (arith, room.0, c.as_slice.ensures.len, laid, c.self.invariant.laid_ok),
+              (
+                omega (arith, room.1, ap length c.as_mut_slice-2.ensures.value, c.self.invariant.longest_ok),
+                (
+                  omega (arith, room.1, ap length c.as_mut_slice-3.ensures.value, c.self.invariant.work_ok),
+                  (omega (arith, ap length c.as_mut_slice-3.ensures.value, c.self.invariant.work_ok), c.requires.places),
+                ),
+              ),
+            ),
+          ),
+        ),
+      ),
+    )
