@@ -60,15 +60,19 @@ longest_more {V} eq x place i last k w next says path laid passed terms longest 
   where
     p : List ℕ
     p = relay_path x.members place last k
+
     many : length (outside x.members (relay_path x.members place last k)) ≡ length x.members - suc last
     many = width_of x.members place last k d low within
+
     each_here : (j : ℕ) → j < length (outside x.members (relay_path x.members place last k)) → get_or terms j (Fault 0) ≡ or_passed (instead says i (relay_path x.members place last k) (get_or (outside x.members (relay_path x.members place last k)) j 0)) (get_or passed j (Fault 0))
     each_here = subst (λ (ns : List ℕ). (j : ℕ) → j < length (outside x.members ns) → get_or terms j (Fault 0) ≡ or_passed (instead says i ns (get_or (outside x.members ns) j 0)) (get_or passed j (Fault 0))) path-is each
+
     at : (j : ℕ) → j < w → get_or passed j (Fault 0) ≡ get_or laid (level_at (length x.members - 1) (suc last) + (k * (length x.members - suc last) + j)) (Fault 0)
     at j inside =
         let same : next + k * w + j ≡ level_at (length x.members - 1) (suc last) + (k * (length x.members - suc last) + j) = omega (arith, next-is, ap (λ (a : ℕ). k * a) w-is) in
         ap (λ (ts : List (Wrapped V)). get_or ts j (Fault 0)) passed-is ∙ get_or-take w (drop (next + k * w) laid) j (Fault 0) inside ∙ get_or-drop (next + k * w) laid j (Fault 0)
         ∙ ap (λ (a : ℕ). get_or laid a (Fault 0)) same
+
     term : (j : ℕ) → j < w → has_id (relay_path x.members place last k) x.me ≡ false → get_or terms j (Fault 0) ≡ term_at eq x (relay_path x.members place last k) (get_or (outside x.members (relay_path x.members place last k)) j 0)
     term j inside now =
         each_here j (omega (arith, many, w-is))
@@ -112,17 +116,23 @@ shorter_more {V} eq x place r k w next path laid work new own d low short terms 
   where
     p : List ℕ
     p = relay_path x.members place r k
+
     others : List ℕ
     others = outside x.members (relay_path x.members place r k)
+
     v : ℕ
     v = length x.members - suc r
+
     many : length (outside x.members (relay_path x.members place r k)) ≡ length x.members - suc r
     many = width_of x.members place r k d low within
+
     now : new ≡ path_settled eq (outside x.members (relay_path x.members place r k)) x.me k (length x.members - suc r) own work
     now = puts ∙ ap (λ (ns : List ℕ). path_settled eq (outside x.members ns) x.me k (length (outside x.members ns)) own work) path-is
         ∙ ap (λ (a : ℕ). path_settled eq (outside x.members (relay_path x.members place r k)) x.me k a own work) many
+
     own_here : has_id (outside x.members (relay_path x.members place r k)) x.me ≡ true → own ≡ get_or laid (next + k * w + index_in (outside x.members (relay_path x.members place r k)) x.me) (Fault 0)
     own_here = subst (λ (ns : List ℕ). has_id (outside x.members ns) x.me ≡ true → own ≡ get_or laid (next + k * w + index_in (outside x.members ns) x.me) (Fault 0)) path-is own-is
+
     laid_same : laid_own (outside x.members (relay_path x.members place r k)) x.me (k * (length x.members - suc r)) own work ≡ laid_own (outside x.members (relay_path x.members place r k)) x.me (k * (length x.members - suc r)) (own_term x (relay_path x.members place r k)) work
     laid_same = elim (cases_Bool (has_id others x.me)) [
       | inl on ↦
@@ -136,6 +146,7 @@ shorter_more {V} eq x place r k w next path laid work new own d low short terms 
           cond-false (has_id others x.me) (set work (k * (length x.members - suc r) + index_in others x.me) own) work off
           ∙ sym (cond-false (has_id others x.me) (set work (k * (length x.members - suc r) + index_in others x.me) (own_term x (relay_path x.members place r k))) work off)
     ]
+
     same : path_settled eq (outside x.members (relay_path x.members place r k)) x.me k (length x.members - suc r) own work
         ≡ set (laid_own (outside x.members (relay_path x.members place r k)) x.me (k * (length x.members - suc r)) (own_term x (relay_path x.members place r k)) work) k (unwrapped (majority eq (take (length x.members - suc r) (drop (k * (length x.members - suc r)) (laid_own (outside x.members (relay_path x.members place r k)) x.me (k * (length x.members - suc r)) (own_term x (relay_path x.members place r k)) work)))))
     same = ap (λ (ts : List (Wrapped V)). set ts k (unwrapped (majority eq (take (length x.members - suc r) (drop (k * (length x.members - suc r)) ts))))) laid_same

@@ -4,3 +4,4 @@ pub mod Passes
 pub mod Folds
 pub mod Layers
 pub mod Rooms
+pub mod Worlds

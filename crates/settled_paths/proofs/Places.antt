@@ -37,6 +37,7 @@ place_fits place n p h = let m : (place + 1) * p ≤ n * p = mul-le-mul next sam
   where
     next : place + 1 ≤ n
     next = omega arith
+
     same : p ≤ p
     same = omega arith
 

@@ -57,6 +57,10 @@ pub record AreLastTerms {V : Type 0} (eq : V → V → Bool) (x : Ear V) (place 
       → or_passed (instead says i (relay_path x.members place last k) (slice_index_or (outside x.members (relay_path x.members place last k)) j 0)) (level_value x.members (suc last) (k * (length x.members - suc last) + j) laid)
       ≡ term_at eq x (relay_path x.members place last k) (slice_index_or (outside x.members (relay_path x.members place last k)) j 0)
 
--- a node that takes part in an exchange
+-- a node that hears an item
 abbrev pub ear_in : {V : Type 0} → ℕ → List ℕ → ℕ → Bool → (List ℕ → Wrapped V) → Ear V
 ear_in rounds members me full heard = record { rounds = rounds; members = members; me = me; full = full; heard = heard }
+
+-- so it is of each node `me`, whatever it heard
+abbrev pub EachEar : {V : Type 0} → ℕ → List ℕ → ℕ → (Ear V → Type 0) → Type 0
+EachEar {V} rounds members me P = (full : Bool) (heard : List ℕ → Wrapped V) → P (ear_in rounds members me full heard)

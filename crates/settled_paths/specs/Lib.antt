@@ -1,4 +1,5 @@
 pub mod Passing
+pub mod Laws
 pub mod Levels
 pub mod Rooms
 pub use Rattle.node_grid.specs.NodeSet

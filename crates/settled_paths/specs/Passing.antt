@@ -11,11 +11,15 @@ abbrev pub or_passed : {V : Type 0} → Option (Wrapped V) → Wrapped V → Wra
 or_passed None passed = passed
 or_passed (Some v) passed = v
 
--- what a path's last node q passes on of the path behind it, which is given from its last node back: the commander says its
--- own, and a Full relay passes on what it heard, wrapped. says i path is what node i hears in place of what is passed on
+-- what the relay q passes on of a path whose last node passed this on: what it heard, wrapped, and nothing where it isn't Full
+-- says i path is what node i hears in place of what is passed on
+abbrev pub passes : {V : Type 0} → List ℕ → (ℕ → List ℕ → Option (Wrapped V)) → List ℕ → Wrapped V → ℕ → Wrapped V
+passes full says path passed q = if has_id full q then wrapped (or_passed (says q path) passed) else Fault 0
+
+-- what a path's last node q passes on of the path behind it, which is given from its last node back: the commander says its own
 abbrev pub passed_back : {V : Type 0} → List ℕ → Wrapped V → (ℕ → List ℕ → Option (Wrapped V)) → ℕ → List ℕ → Wrapped V
 passed_back full own says q [] = own
-passed_back full own says q (b ∷ back) = if has_id full q then wrapped (or_passed (says q (reverse (b ∷ back))) (passed_back full own says b back)) else Fault 0
+passed_back full own says q (b ∷ back) = passes full says (reverse (b ∷ back)) (passed_back full own says b back) q
 
 -- what a path's last node passes on, where the path is given from its last node back
 abbrev pub passed_from : {V : Type 0} → List ℕ → Wrapped V → (ℕ → List ℕ → Option (Wrapped V)) → List ℕ → Wrapped V

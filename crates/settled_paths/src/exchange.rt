@@ -7,7 +7,7 @@ ghost use Rattle.settled_paths.specs.Levels.{level_at, IsExchange, IsLevel};
 use node_grid::NodeSet;
 use omh_paths::{Path, count_paths, unrank};
 
-/// How many paths of fewer relays there are behind one commander, where so many members may relay its item.
+/// How many paths of fewer relays there are behind one commander, where so many others may relay.
 pub(crate) fn level_at(others: u8, relays: u8) -> usize
     requires others { others ≤ 16 }
     requires short { relays ≤ 4 }
@@ -26,13 +26,15 @@ pub(crate) fn level_at(others: u8, relays: u8) -> usize
 pub(crate) struct Level {
     /// The place of the first of them among all paths of that length.
     pub first: usize,
-    /// The place of the first of them in a list of paths behind the commander, shorter ones first.
+    /// The place of the first of them in a list of all paths behind the commander, shorter ones
+    /// first.
     pub begins: usize,
     /// How many they are.
     pub paths: usize,
 }
 
-/// One member's item as it is exchanged: who tells it, who passes it on, in how many rounds, and who hears it.
+/// One member's item as it is exchanged: who tells it, who passes it on and in how many rounds, and
+/// who hears it.
 #[derive(Clone, Copy)]
 pub struct Exchange<const N: usize> {
     /// The rounds of relaying, m.

@@ -17,7 +17,7 @@ use std::marker::Model;
 
 /// Room for what is passed on of one member's item, by path, and for settling it.
 ///
-/// All its memory is taken by [`Laid::open`]; what it has from an item settled before means nothing.
+/// All its memory is taken by [`Laid::open`]. What is left in it from an item means nothing.
 #[derive(Drop)]
 pub struct Laid<V> {
     nodes: u8,
@@ -39,7 +39,7 @@ impl<V> Model for Laid<V> {
 }
 
 impl<V: Copy + Eq + Drop> Laid<V> {
-    /// Room for items of one of `nodes` nodes, relayed in `rounds` rounds.
+    /// Room for the items of `nodes` nodes, at most 16, relayed in `rounds` rounds, at most 3.
     pub fn open(alloc: Global, nodes: u8, rounds: u8) -> Result<Laid<V>, NoMemory>
         requires nodes { nodes ≤ 16 }
         requires rounds { rounds ≤ 3 }
@@ -64,8 +64,9 @@ impl<V: Copy + Eq + Drop> Laid<V> {
         })
     }
 
-    /// What each node that hears the item of another member settles for it, laid at the node's place in `all`, where the
-    /// commander says this of it and some is said otherwise. Other places stay.
+    /// What each node that hears the item of another member settles for it, laid at the node's
+    /// place in `all`. The commander says this of its item, and some nodes hear something else of
+    /// it, or of what is passed on. Other places of `all` stay.
     pub fn settle_all<T: Touched<V>, const N: usize>(
         &mut self,
         exchange: &Exchange<N>,
@@ -76,7 +77,6 @@ impl<V: Copy + Eq + Drop> Laid<V> {
         requires exact { IsExact V.eq }
         requires capacity { IsCapacity N }
         requires rounds { exchange.now.rounds ≡ self.old.rounds }
-        requires few { self.old.rounds ≤ 3 }
         requires nodes { (q : ℕ) → has_id exchange.now.members q ≡ true → q < self.old.nodes }
         requires member { has_id exchange.now.members exchange.now.commander ≡ true }
         requires own { IsSmall 252 own }

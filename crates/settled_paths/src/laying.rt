@@ -3,10 +3,9 @@
 ghost use Rattle.std.specs.Prelude.{◌≡◌, ◌≢◌, ℕ, ◌+◌, ◌-◌, ◌*◌, ◌<◌, ◌≤◌, ◌∷◌, ◌++◌, ◌⊎◌, [], length, slice_index_or, true, if◌then◌else◌};
 ghost use Rattle.node_grid.specs.NodeSet.{has_id};
 ghost use Rattle.omh_paths.specs.declared.wrapped.Wrapped.TheVariants.{Fault};
-ghost use Rattle.omh_paths.specs.Wrapped.{wrapped};
 ghost use Rattle.omh_paths.specs.Paths.{outside, path_count, index_in};
 ghost use Rattle.omh.specs.Written.{IsSmall};
-ghost use Rattle.settled_paths.specs.Passing.{or_passed};
+ghost use Rattle.settled_paths.specs.Passing.{passes};
 ghost use Rattle.settled_paths.specs.Levels.{level_at, IsExchange, AreLaid, AreSmall};
 
 use crate::exchange::Exchange;
@@ -25,7 +24,7 @@ impl<const N: usize> Exchange<N> {
         touched: &T,
     ) -> Wrapped<V>
         requires { IsSmall 254 passed }
-        ensures passed { result ≡ (if has_id self.now.full q then wrapped (or_passed (T.says touched.now q path.now) passed) else Fault 0) }
+        ensures passed { result ≡ passes self.now.full (T.says touched.now) path.now passed q }
         ensures small { (most : ℕ) → 252 ≤ most → IsSmall most passed → IsSmall (most + 1) result }
     {
         if self.full.has(q) {
@@ -48,7 +47,7 @@ impl<const N: usize> Exchange<N> {
         requires known { IsSmall 254 passed }
         requires room { from + length (outside self.now.members path.now) ≤ length laid.old }
         requires small { from ≤ 4194304 }
-        ensures each { (j : ℕ) → j < length (outside self.now.members path.now) → slice_index_or laid.new (from + j) (Fault 0) ≡ (if has_id self.now.full (slice_index_or (outside self.now.members path.now) j 0) then wrapped (or_passed (T.says touched.now (slice_index_or (outside self.now.members path.now) j 0) path.now) passed) else Fault 0) }
+        ensures each { (j : ℕ) → j < length (outside self.now.members path.now) → slice_index_or laid.new (from + j) (Fault 0) ≡ passes self.now.full (T.says touched.now) path.now passed (slice_index_or (outside self.now.members path.now) j 0) }
         ensures few { (most : ℕ) → 252 ≤ most → IsSmall most passed → (j : ℕ) → j < length (outside self.now.members path.now) → IsSmall (most + 1) (slice_index_or laid.new (from + j) (Fault 0)) }
         ensures kept { (k : ℕ) → (k < from) ⊎ (from + length (outside self.now.members path.now) ≤ k) → slice_index_or laid.new k (Fault 0) ≡ slice_index_or laid.old k (Fault 0) }
         ensures room { length laid.new ≡ length laid.old }
@@ -60,7 +59,7 @@ impl<const N: usize> Exchange<N> {
         }
     }
 
-    /// Lays what is passed on of all paths of so many relays, where that is done for those of fewer.
+    /// Lays what is passed on of all paths of so many relays, where that of shorter ones is laid.
     fn lay_longer<V: Copy + Eq, T: Touched<V>>(
         &self,
         relays: u8,
@@ -85,8 +84,8 @@ impl<const N: usize> Exchange<N> {
         }
     }
 
-    /// Lays what is passed on of the item, where its commander says this of it: for each path behind the commander, shorter ones
-    /// first, what the path's last node passes on.
+    /// Lays what is passed on of the item, where its commander says this of it: for each path
+    /// behind the commander, shorter ones first, what the path's last node passes on.
     pub(crate) fn lay<V: Copy + Eq, T: Touched<V>>(
         &self,
         own: Wrapped<V>,

@@ -1,4 +1,5 @@
-//! What a receiver settles: the longest paths from what it hears in the last round, then the shorter ones.
+//! What a receiver settles: the longest paths from what it hears in the last round, then the
+//! shorter ones.
 
 ghost use Rattle.std.specs.Prelude.{◌≡◌, ◌≢◌, ℕ, Bool, List, ◌+◌, ◌-◌, ◌*◌, ◌<◌, ◌≤◌, ◌⊎◌, ◌∷◌, ◌++◌, [], length, slice_index_or, true, false, if◌then◌else◌};
 ghost use Rattle.node_grid.specs.NodeSet.{has_id};
@@ -9,7 +10,7 @@ ghost use Rattle.omh_paths.specs.Paths.{outside, path_count, index_in};
 ghost use Rattle.omh.specs.Omh.{settled_at, settled};
 ghost use Rattle.omh.specs.Flat.{AreSettled, path_settled};
 ghost use Rattle.settled_paths.specs.Passing.{or_passed, instead, HearAlike, passing_world};
-ghost use Rattle.settled_paths.specs.Levels.{level_at, ear_in, IsExchange, AreLaid, AreOwnTerms, AreLastTerms};
+ghost use Rattle.settled_paths.specs.Levels.{level_at, EachEar, IsExchange, AreLaid, AreOwnTerms, AreLastTerms};
 
 use crate::exchange::Exchange;
 use crate::touched::{Touched, heard, term};
@@ -19,7 +20,8 @@ use omh::outside;
 use omh_paths::{Path, Wrapped};
 
 impl<const N: usize> Exchange<N> {
-    /// Lays what node `i` puts into the majority of a path of m nodes, for each member outside it; these pass this on.
+    /// Lays what node `i` puts into the majority of a path of m nodes for each member outside it;
+    /// these pass this on.
     fn lay_terms<V: Copy + Eq, T: Touched<V>>(
         &self,
         i: u8,
@@ -43,8 +45,8 @@ impl<const N: usize> Exchange<N> {
         }
     }
 
-    /// Settles the paths of m nodes, of which each grows by one more, from what node `i` hears in the last round. That
-    /// is what each node settles to which the same is said in that round.
+    /// Settles the paths of m nodes from what node `i` hears in the last round. Each node for which
+    /// the same is changed in that round settles them so.
     fn settle_longest<V: Copy + Eq, T: Touched<V>>(
         &self,
         i: u8,
@@ -59,7 +61,7 @@ impl<const N: usize> Exchange<N> {
         requires laid { level_at (length self.now.members - 1) (self.now.rounds + 1) ≤ length laid.now }
         requires longest { level_at (length self.now.members - 1) self.now.rounds ≤ length longest.old }
         requires terms { 16 ≤ length terms.old }
-        ensures settled { (me : ℕ) (full : Bool) (h : List ℕ → Wrapped V) → AreLastTerms V.eq (ear_in self.now.rounds self.now.members me full h) (index_in self.now.members self.now.commander) i (T.says touched.now) (self.now.rounds - 1) laid.now → AreSettled V.eq (ear_in self.now.rounds self.now.members me full h) (index_in self.now.members self.now.commander) (self.now.rounds - 1) longest.new }
+        ensures settled { (me : ℕ) → EachEar self.now.rounds self.now.members me (λ x. AreLastTerms V.eq x (index_in self.now.members self.now.commander) i (T.says touched.now) (self.now.rounds - 1) laid.now → AreSettled V.eq x (index_in self.now.members self.now.commander) (self.now.rounds - 1) longest.new) }
         ensures longest { length longest.new ≡ length longest.old }
         ensures terms { length terms.new ≡ length terms.old }
     {
@@ -76,8 +78,8 @@ impl<const N: usize> Exchange<N> {
         }
     }
 
-    /// What node `i` itself puts into the majority of a path, where that stands among what the members outside the path
-    /// put in, which begins at `from`.
+    /// What node `i` itself puts into the majority of a path, which stands among what the members
+    /// outside the path pass on of it, from this place on.
     fn own_term<V: Copy + Eq>(
         &self,
         i: u8,
@@ -99,7 +101,8 @@ impl<const N: usize> Exchange<N> {
         }
     }
 
-    /// Settles the path at place `k` from the terms of its majority, with the node's own term among them.
+    /// Settles the path at place `k` from the terms of its majority, with the node's own term among
+    /// them.
     fn settle_path<V: Copy + Eq>(
         &self,
         i: u8,
@@ -125,7 +128,8 @@ impl<const N: usize> Exchange<N> {
         set_value(work, k, settled);
     }
 
-    /// Settles all paths of so many relays, in place of what was settled for those of one relay more.
+    /// Settles all paths of so many relays, in place of what was settled for those of one relay
+    /// more.
     fn settle_shorter<V: Copy + Eq>(
         &self,
         i: u8,
@@ -139,7 +143,7 @@ impl<const N: usize> Exchange<N> {
         requires node { i < N }
         requires laid { level_at (length self.now.members - 1) (self.now.rounds + 1) ≤ length laid.now }
         requires work { level_at (length self.now.members - 1) self.now.rounds ≤ length work.old }
-        ensures settled { (full : Bool) (h : List ℕ → Wrapped V) → AreOwnTerms (ear_in self.now.rounds self.now.members i full h) (index_in self.now.members self.now.commander) laid.now → AreSettled V.eq (ear_in self.now.rounds self.now.members i full h) (index_in self.now.members self.now.commander) (relays + 1) work.old → AreSettled V.eq (ear_in self.now.rounds self.now.members i full h) (index_in self.now.members self.now.commander) relays work.new }
+        ensures settled { EachEar self.now.rounds self.now.members i (λ x. AreOwnTerms x (index_in self.now.members self.now.commander) laid.now → AreSettled V.eq x (index_in self.now.members self.now.commander) (relays + 1) work.old → AreSettled V.eq x (index_in self.now.members self.now.commander) relays work.new) }
         ensures work { length work.new ≡ length work.old }
     {
         let level = self.level(relays);
@@ -168,7 +172,7 @@ impl<const N: usize> Exchange<N> {
         requires laid { level_at (length self.now.members - 1) (self.now.rounds + 1) ≤ length laid.now }
         requires longest { level_at (length self.now.members - 1) self.now.rounds ≤ length longest.now }
         requires work { level_at (length self.now.members - 1) self.now.rounds ≤ length work.old }
-        ensures settled { (full : Bool) (h : List ℕ → Wrapped V) → AreOwnTerms (ear_in self.now.rounds self.now.members i full h) (index_in self.now.members self.now.commander) laid.now → AreSettled V.eq (ear_in self.now.rounds self.now.members i full h) (index_in self.now.members self.now.commander) (self.now.rounds - 1) longest.now → result ≡ settled_at V.eq (ear_in self.now.rounds self.now.members i full h) (self.now.commander ∷ []) }
+        ensures settled { EachEar self.now.rounds self.now.members i (λ x. AreOwnTerms x (index_in self.now.members self.now.commander) laid.now → AreSettled V.eq x (index_in self.now.members self.now.commander) (self.now.rounds - 1) longest.now → result ≡ settled_at V.eq x (self.now.commander ∷ [])) }
         ensures work { length work.new ≡ length work.old }
     {
         let last = self.rounds - 1;
@@ -179,7 +183,8 @@ impl<const N: usize> Exchange<N> {
         value_at(work, 0)
     }
 
-    /// Those of the nodes to which the same is said in the last round as to this one of them, itself included.
+    /// Those of the nodes for which the same is changed in the last round as for this one of them,
+    /// which is one of them.
     fn alike<V: Copy + Eq, T: Touched<V>>(
         &self,
         touched: &T,
@@ -202,8 +207,8 @@ impl<const N: usize> Exchange<N> {
         alike
     }
 
-    /// What each of these nodes settles for the item, from what they all settle for the paths of m nodes, laid at the
-    /// node's place in `all`.
+    /// What each of these nodes settles for the item, from what they all settle for the paths of m
+    /// nodes, laid at the node's place in `all`.
     fn settle_each<V: Copy + Eq>(
         &self,
         nodes: &NodeSet<N>,
@@ -220,7 +225,7 @@ impl<const N: usize> Exchange<N> {
         requires longest { level_at (length self.now.members - 1) self.now.rounds ≤ length longest.now }
         requires work { level_at (length self.now.members - 1) self.now.rounds ≤ length work.old }
         requires places { length all.old ≡ N }
-        ensures settled { (i : ℕ) → has_id nodes.now i ≡ true → (full : Bool) (h : List ℕ → Wrapped V) → AreOwnTerms (ear_in self.now.rounds self.now.members i full h) (index_in self.now.members self.now.commander) laid.now → AreSettled V.eq (ear_in self.now.rounds self.now.members i full h) (index_in self.now.members self.now.commander) (self.now.rounds - 1) longest.now → slice_index_or all.new i (Fault 0) ≡ settled_at V.eq (ear_in self.now.rounds self.now.members i full h) (self.now.commander ∷ []) }
+        ensures settled { (i : ℕ) → has_id nodes.now i ≡ true → EachEar self.now.rounds self.now.members i (λ x. AreOwnTerms x (index_in self.now.members self.now.commander) laid.now → AreSettled V.eq x (index_in self.now.members self.now.commander) (self.now.rounds - 1) longest.now → slice_index_or all.new i (Fault 0) ≡ settled_at V.eq x (self.now.commander ∷ [])) }
         ensures kept { (i : ℕ) → has_id nodes.now i ≡ false → slice_index_or all.new i (Fault 0) ≡ slice_index_or all.old i (Fault 0) }
         ensures work { length work.new ≡ length work.old }
         ensures places { length all.new ≡ N }
@@ -231,8 +236,9 @@ impl<const N: usize> Exchange<N> {
         }
     }
 
-    /// What each node that hears the item of another member settles for it, where it is relayed at all: once for all
-    /// nodes to which the same is said in the last round the paths of m nodes, and for each the shorter ones.
+    /// What each node that hears the item of another member settles for it, where it is relayed:
+    /// the paths of m nodes once for all nodes for which the same is changed in the last round, and
+    /// the shorter ones for each.
     pub(crate) fn settle_relayed<V: Copy + Eq, T: Touched<V>>(
         &self,
         touched: &T,
@@ -267,7 +273,8 @@ impl<const N: usize> Exchange<N> {
         }
     }
 
-    /// What each node that hears the item of another member settles for it, where nothing is relayed: what it hears.
+    /// What each node that hears the item of another member settles for it, where nothing is
+    /// relayed: what it hears.
     pub(crate) fn settle_heard<V: Copy + Eq, T: Touched<V>>(
         &self,
         own: Wrapped<V>,

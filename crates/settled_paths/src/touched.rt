@@ -6,17 +6,18 @@ ghost use Rattle.settled_paths.specs.Passing.{or_passed, instead, HearAlike};
 
 use omh_paths::{Path, Wrapped};
 
-/// What nodes hear of one member's item in place of what is passed on to them.
+/// What was touched of one member's item on its way: what nodes hear in place of what is passed on.
 pub trait Touched<V: Copy + Eq> {
     ghost says: { Self → ℕ → List ℕ → Option (Wrapped V) };
 
-    /// What node `to` hears for a path in place of what the path's last node passes on; None where it hears just that.
+    /// What node `to` hears for a path in place of what the path's last node passes on; None where
+    /// it hears just that.
     fn said(&self, to: u8, path: &Path) -> Option<Wrapped<V>>
         ensures is { result ≡ says self.now to path.now }
         ensures small { IfSome result (λ v. IsSmall 252 v) };
 
-    /// Whether two nodes hear the same in place of what is passed on, of all paths of so many nodes. It may say false of
-    /// any two.
+    /// Whether two nodes hear the same in place of what is passed on, for all paths of so many
+    /// nodes. It may say false of any two.
     fn is_alike(&self, i: u8, j: u8, len: u8) -> bool
         ensures { result ≡ true → HearAlike (says self.now) i j len };
 }
@@ -37,8 +38,8 @@ pub(crate) fn heard<V: Copy + Eq, T: Touched<V>>(
     }
 }
 
-/// What a node puts into the majority of a path of m nodes for the member `q`, which passes this on: what it hears of it, or its own
-/// word.
+/// What node `i` puts into the majority of a path of m nodes for the member `q`, which passes this
+/// on: what it hears of it, or just that where `q` is the node itself.
 pub(crate) fn term<V: Copy + Eq, T: Touched<V>>(
     touched: &T,
     i: u8,

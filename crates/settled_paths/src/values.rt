@@ -9,10 +9,7 @@ use omh_paths::{Wrapped, majority};
 use std::alloc::{AllocError, Global};
 
 /// So many values, all of them the error.
-pub(crate) fn blank<V: Copy + Eq>(
-    alloc: Global,
-    len: usize,
-) -> Result<Vec<Wrapped<V>>, AllocError>
+pub(crate) fn blank<V: Copy + Eq>(alloc: Global, len: usize) -> Result<Vec<Wrapped<V>>, AllocError>
     ensures { IfOk result (λ v. v.items ≡ replicate len (Fault 0)) }
 {
     let mut values = Vec::with_capacity(alloc, len)?;
@@ -39,11 +36,7 @@ pub(crate) fn value_at<V: Copy + Eq>(values: &[Wrapped<V>], place: usize) -> Wra
 }
 
 /// So many values, which begin at `from`.
-pub(crate) fn part<V: Copy + Eq>(
-    values: &[Wrapped<V>],
-    from: usize,
-    len: usize,
-) -> &[Wrapped<V>]
+pub(crate) fn part<V: Copy + Eq>(values: &[Wrapped<V>], from: usize, len: usize) -> &[Wrapped<V>]
     requires within { from + len ≤ length values.now }
     requires small { from + len ≤ 8388608 }
     ensures { result.now ≡ take len (drop from values.now) }

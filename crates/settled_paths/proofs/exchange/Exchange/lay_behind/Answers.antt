@@ -34,6 +34,6 @@ loop-q-preserved g c =
       few = λ most up small j l. laid_next (λ (k : ℕ) (v : Wrapped g.row.V.Denot). IsSmall (most + 1) v) c.loop-q.laid c.set_value.new.values a.from n c.loop-q.place c.passed_on.result (Fault 0) i.end room c.set_value.ensures (i.few most up small)
           (c.passed_on.ensures.small most up small) j (omega (arith, long));
       kept = λ k out.
-      let other : k ≢ c.loop-q.place = elim out [ inl low ↦ (λ e. omega (arith, i.end)) | inr high ↦ (λ e. omega (arith, i.end, short)) ] in
-      laid_kept c.loop-q.laid c.set_value.new.values k c.loop-q.place c.passed_on.result (Fault 0) other c.set_value.ensures ∙ i.kept k out;
+          let other : k ≢ c.loop-q.place = elim out [ inl low ↦ (λ e. omega (arith, i.end)) | inr high ↦ (λ e. omega (arith, i.end, short)) ] in
+          laid_kept c.loop-q.laid c.set_value.new.values k c.loop-q.place c.passed_on.result (Fault 0) other c.set_value.ensures ∙ i.kept k out;
     }

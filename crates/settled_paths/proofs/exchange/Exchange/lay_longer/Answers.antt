@@ -72,7 +72,7 @@ loop-k-preserved g c =
           (λ j inside. subst (λ (m : ℕ). IsSmall m (get_or c.lay_behind.new.laid (from + j) (Fault 0))) next_small (c.lay_behind.ensures.few (252 + r) (omega arith) value_small j (omega (arith, t.many)))) k l;
       done = λ own laid k l. layer_more (λ (n : ℕ) (v : Wrapped g.row.V.Denot). v ≡ passed s.full own says (relay_path s.members place (suc r) n)) c.loop-k.laid c.lay_behind.new.laid (Fault 0) next c.loop-k.k w from refl (i.done own laid) kept
           (λ j inside. layer_term s.full own says s.members c.path-path.result place r c.loop-k.k j w c.value_at-passed.result (get_or c.lay_behind.new.laid (from + j) (Fault 0)) (Distinct-ids g.row.N s.members x.members_ok) (index_in-lt s.members s.commander x.member_ok)
-              t.inside inside t.width_is t.path_is (value_is ∙ laid r c.loop-k.k (omega arith) t.inside) (c.lay_behind.ensures.each j (omega (arith, t.many)))) k l;
+          t.inside inside t.width_is t.path_is (value_is ∙ laid r c.loop-k.k (omega arith) t.inside) (c.lay_behind.ensures.each j (omega (arith, t.many)))) k l;
     }
 
 pub returns-clause-laid : goal.returns-clause-laid

@@ -53,6 +53,6 @@ loop-i-preserved g c =
           → AreSettled g.V.PartialEq.eq (ear_in s.rounds s.members k full h) place (s.rounds - 1) c.args.longest.now → v ≡ settled_at g.V.PartialEq.eq (ear_in s.rounds s.members k full h) (s.commander ∷ []))
           c.loop-i.yielded q c.loop-i.all c.set_value.new.values c.settle_from-settled.result (Fault 0) i.settled (omega (arith, low, i.places)) c.set_value.ensures c.settle_from-settled.ensures.settled;
       kept = λ k off.
-      let other : k ≢ q = λ e. both_ways _ off (ap (has_id nodes) e ∙ on) in
-      laid_kept c.loop-i.all c.set_value.new.values k q c.settle_from-settled.result (Fault 0) other c.set_value.ensures ∙ i.kept k off;
+          let other : k ≢ q = λ e. both_ways _ off (ap (has_id nodes) e ∙ on) in
+          laid_kept c.loop-i.all c.set_value.new.values k q c.settle_from-settled.result (Fault 0) other c.set_value.ensures ∙ i.kept k off;
     }

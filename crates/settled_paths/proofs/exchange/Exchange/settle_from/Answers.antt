@@ -18,10 +18,10 @@ loop-done-init g c =
     record {
       work = refl;
       settled = λ full h own longest.
-      let x = ear_in s.rounds s.members c.args.i full h in
-      settled_moved_to g.V.PartialEq.eq x (index_in s.members s.commander) last (last - 0) c.copy_front.new.work (omega arith)
-      (copied g.V.PartialEq.eq x (index_in s.members s.commander) last c.level.result.paths c.args.longest.now c.args.work.now c.copy_front.new.work c.level.ensures.paths_are
-      (omega (arith, c.level.ensures.paths_are, room, up, c.requires.longest)) c.copy_front.ensures longest);
+          let x = ear_in s.rounds s.members c.args.i full h in
+          settled_moved_to g.V.PartialEq.eq x (index_in s.members s.commander) last (last - 0) c.copy_front.new.work (omega arith)
+          (copied g.V.PartialEq.eq x (index_in s.members s.commander) last c.level.result.paths c.args.longest.now c.args.work.now c.copy_front.new.work c.level.ensures.paths_are
+          (omega (arith, c.level.ensures.paths_are, room, up, c.requires.longest)) c.copy_front.ensures longest);
     }
 
 pub loop-done-preserved : goal.loop-done-preserved
@@ -31,10 +31,10 @@ loop-done-preserved g c =
     record {
       work = c.settle_shorter.ensures.work ∙ c.loop-done.invariant.work;
       settled = λ full h own longest.
-      let x = ear_in s.rounds s.members c.args.i full h in
-      settled_moved_to g.V.PartialEq.eq x (index_in s.members s.commander) (last - c.loop-done.done - 1) (last - (c.loop-done.done + 1)) c.settle_shorter.new.work (omega arith)
-      (c.settle_shorter.ensures.settled full h own
-      (settled_moved_to g.V.PartialEq.eq x (index_in s.members s.commander) (last - c.loop-done.done) (last - c.loop-done.done - 1 + 1) c.loop-done.work (omega (arith, c.loop-done-test.true)) (c.loop-done.invariant.settled full h own longest)));
+          let x = ear_in s.rounds s.members c.args.i full h in
+          settled_moved_to g.V.PartialEq.eq x (index_in s.members s.commander) (last - c.loop-done.done - 1) (last - (c.loop-done.done + 1)) c.settle_shorter.new.work (omega arith)
+          (c.settle_shorter.ensures.settled full h own
+          (settled_moved_to g.V.PartialEq.eq x (index_in s.members s.commander) (last - c.loop-done.done) (last - c.loop-done.done - 1 + 1) c.loop-done.work (omega (arith, c.loop-done-test.true)) (c.loop-done.invariant.settled full h own longest)));
     }
 
 pub value_at-requires : goal.value_at-requires

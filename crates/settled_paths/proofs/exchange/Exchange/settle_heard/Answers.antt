@@ -37,8 +37,8 @@ loop-i-preserved g c =
           (c.heard.ensures.heard ∙ ap (λ (p : List ℕ). or_passed (g.T.Touched.says c.args.touched.now q p) c.args.own) c.root-root.ensures
           ∙ sym (settled_at_end g.V.PartialEq.eq (ear w q) (s.commander ∷ []) (omega (arith, c.requires.none))));
       kept = λ k off.
-      let other : k ≢ q = λ e. both_ways _ off (ap (has_id nodes) e ∙ on) in
-      laid_kept c.loop-i.all c.set_value.new.values k q c.heard.result (Fault 0) other c.set_value.ensures ∙ i.kept k off;
+          let other : k ≢ q = λ e. both_ways _ off (ap (has_id nodes) e ∙ on) in
+          laid_kept c.loop-i.all c.set_value.new.values k q c.heard.result (Fault 0) other c.set_value.ensures ∙ i.kept k off;
     }
 
 pub returns-clause-settled : goal.returns-clause-settled

@@ -67,9 +67,9 @@ loop-k-preserved g c =
       longest = ap length c.set_value.ensures ∙ length-set c.loop-k.longest c.loop-k.k c.settled_from_terms-settled.result ∙ i.longest;
       terms = c.lay_terms.ensures.room ∙ i.terms;
       done = λ me full h lasts k l.
-      longest_more g.V.PartialEq.eq (ear_in s.rounds s.members me full h) place c.args.i last c.loop-k.k c.saturating_sub-width.result (c.level-level.result.begins + c.level-level.result.paths) (g.T.Touched.says c.args.touched.now)
-      c.path-path.result c.args.laid.now c.part.result.now c.lay_terms.new.terms c.loop-k.longest c.set_value.new.values c.settled_from_terms-settled.result
-      (Distinct-ids g.row.N s.members x.members_ok) (index_in-lt s.members s.commander x.member_ok) (omega (arith, c.requires.some)) lasts t.inside t.width_is t.next_is t.path_is c.part.ensures
-      (omega (arith, t.narrow, c.lay_terms.ensures.room, i.terms, c.requires.terms)) (omega (arith, low, i.longest, c.requires.longest)) c.lay_terms.ensures.each c.settled_from_terms-settled.ensures c.set_value.ensures
-      (i.done me full h lasts) k l;
+          longest_more g.V.PartialEq.eq (ear_in s.rounds s.members me full h) place c.args.i last c.loop-k.k c.saturating_sub-width.result (c.level-level.result.begins + c.level-level.result.paths) (g.T.Touched.says c.args.touched.now)
+          c.path-path.result c.args.laid.now c.part.result.now c.lay_terms.new.terms c.loop-k.longest c.set_value.new.values c.settled_from_terms-settled.result
+          (Distinct-ids g.row.N s.members x.members_ok) (index_in-lt s.members s.commander x.member_ok) (omega (arith, c.requires.some)) lasts t.inside t.width_is t.next_is t.path_is c.part.ensures
+          (omega (arith, t.narrow, c.lay_terms.ensures.room, i.terms, c.requires.terms)) (omega (arith, low, i.longest, c.requires.longest)) c.lay_terms.ensures.each c.settled_from_terms-settled.ensures c.set_value.ensures
+          (i.done me full h lasts) k l;
     }

@@ -76,24 +76,24 @@ loop-first-preserved-then-not-has g c =
       work = c.settle_each.ensures.work ∙ c.settle_longest.ensures.terms ∙ i.work;
       places = c.settle_each.ensures.places;
       reached = λ k on.
-      let here = ap (λ (xs : List ℕ). has_id xs k) split ∙ has_front (c.loop-first.yielded ++ q ∷ []) c.next.new.self k on in
-      joined_on g.row.N c.loop-first.done c.alike-alike.result c.union-done.result k c.union-done.ensures (member-lt g.row.N nodes k c.iter-first-items.ensures.ids here)
-      (elim (or_cases (has_id c.loop-first.yielded k) (q == k) (sym (has_push c.loop-first.yielded q k) ∙ on)) [
-        | inl was ↦ inl (i.reached k was)
-        | inr is ↦ inr (ap (has_id c.alike-alike.result) (sym (eqb-true q k is)) ∙ c.alike-alike.ensures.first)
-      ]);
+          let here = ap (λ (xs : List ℕ). has_id xs k) split ∙ has_front (c.loop-first.yielded ++ q ∷ []) c.next.new.self k on in
+          joined_on g.row.N c.loop-first.done c.alike-alike.result c.union-done.result k c.union-done.ensures (member-lt g.row.N nodes k c.iter-first-items.ensures.ids here)
+          (elim (or_cases (has_id c.loop-first.yielded k) (q == k) (sym (has_push c.loop-first.yielded q k) ∙ on)) [
+            | inl was ↦ inl (i.reached k was)
+            | inr is ↦ inr (ap (has_id c.alike-alike.result) (sym (eqb-true q k is)) ∙ c.alike-alike.ensures.first)
+          ]);
       settled = λ own laid k on.
-      let w = passing_world s.rounds s.members s.full own says in
-      elim (cases_Bool (has_id c.alike-alike.result k)) [
-        | inl al ↦
-            let lasts = last_terms s.full own says s.rounds s.members place distinct low c.args.laid.now laid g.V.PartialEq.eq q k (s.rounds - 1) (omega (arith, c.requires.some)) (c.alike-alike.ensures.alike k al) in
-            c.settle_each.ensures.settled k al (has_id s.full k) (w.heard k) (own_terms s.full own says s.rounds s.members place distinct low c.args.laid.now laid k)
-            (c.settle_longest.ensures.settled k (has_id s.full k) (w.heard k) lasts)
-        | inr off ↦ c.settle_each.ensures.kept k off ∙ elim (joined_has g.row.N c.loop-first.done c.alike-alike.result c.union-done.result k c.union-done.ensures on) [
-          | inl was ↦ i.settled own laid k was
-          | inr al ↦ absurd (both_ways _ off al)
-        ]
-      ];
+          let w = passing_world s.rounds s.members s.full own says in
+          elim (cases_Bool (has_id c.alike-alike.result k)) [
+            | inl al ↦
+                let lasts = last_terms s.full own says s.rounds s.members place distinct low c.args.laid.now laid g.V.PartialEq.eq q k (s.rounds - 1) (omega (arith, c.requires.some)) (c.alike-alike.ensures.alike k al) in
+                c.settle_each.ensures.settled k al (has_id s.full k) (w.heard k) (own_terms s.full own says s.rounds s.members place distinct low c.args.laid.now laid k)
+                (c.settle_longest.ensures.settled k (has_id s.full k) (w.heard k) lasts)
+            | inr off ↦ c.settle_each.ensures.kept k off ∙ elim (joined_has g.row.N c.loop-first.done c.alike-alike.result c.union-done.result k c.union-done.ensures on) [
+              | inl was ↦ i.settled own laid k was
+              | inr al ↦ absurd (both_ways _ off al)
+            ]
+          ];
       kept = λ k off. c.settle_each.ensures.kept k (off_some nodes c.alike-alike.result k c.alike-alike.ensures.within off) ∙ i.kept k off;
     }
 

@@ -65,7 +65,7 @@ loop-k-preserved g c =
     record {
       work = ap length c.settle_path.ensures ∙ length-settled g.V.PartialEq.eq (outside s.members c.path-path.result) c.args.i c.loop-k.k (length (outside s.members c.path-path.result)) c.own_term-own.result c.loop-k.work ∙ i.work;
       half = λ full h own longer.
-      shorter_more g.V.PartialEq.eq (ear_in s.rounds s.members c.args.i full h) (index_in s.members s.commander) c.args.relays c.loop-k.k c.saturating_sub-width.result (c.level-level.result.begins + c.level-level.result.paths) c.path-path.result
-      c.args.laid.now c.loop-k.work c.settle_path.new.work c.own_term-own.result (Distinct-ids g.row.N s.members x.members_ok) (index_in-lt s.members s.commander x.member_ok) (omega (arith, c.requires.shorter)) own (i.half full h own longer)
-      t.inside room here t.width_is t.next_is t.path_is c.own_term-own.ensures c.settle_path.ensures;
+          shorter_more g.V.PartialEq.eq (ear_in s.rounds s.members c.args.i full h) (index_in s.members s.commander) c.args.relays c.loop-k.k c.saturating_sub-width.result (c.level-level.result.begins + c.level-level.result.paths) c.path-path.result
+          c.args.laid.now c.loop-k.work c.settle_path.new.work c.own_term-own.result (Distinct-ids g.row.N s.members x.members_ok) (index_in-lt s.members s.commander x.member_ok) (omega (arith, c.requires.shorter)) own (i.half full h own longer)
+          t.inside room here t.width_is t.next_is t.path_is c.own_term-own.ensures c.settle_path.ensures;
     }

@@ -14,7 +14,7 @@ lay-requires g c =
     let room = room_for g.row.N e.rounds c.self.inside.nodes c.self.inside.rounds e.members c.args.self.now c.self.view_is c.requires.rounds c.len.ensures.ids c.requires.nodes in (
       omega arith,
       (
-        record { capacity_ok = c.requires.capacity; rounds_ok = omega (arith, c.requires.rounds, c.requires.few); members_ok = c.len.ensures.ids; member_ok = c.requires.member },
+        record { capacity_ok = c.requires.capacity; rounds_ok = omega (arith, room.2, c.self.invariant.rounds_ok); members_ok = c.len.ensures.ids; member_ok = c.requires.member },
         (c.requires.own, omega (arith, room.0, ap length c.as_mut_slice.ensures.value, c.self.invariant.laid_ok)),
       ),
     )
@@ -28,7 +28,7 @@ settle_relayed-requires g c =
       (
         c.requires.exact,
         (
-          record { capacity_ok = c.requires.capacity; rounds_ok = omega (arith, c.requires.rounds, c.requires.few); members_ok = c.len.ensures.ids; member_ok = c.requires.member },
+          record { capacity_ok = c.requires.capacity; rounds_ok = omega (arith, room.2, c.self.invariant.rounds_ok); members_ok = c.len.ensures.ids; member_ok = c.requires.member },
           (
             omega (arith, c.if-exchange-eq0.false),
             (
