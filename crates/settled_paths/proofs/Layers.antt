@@ -1,5 +1,5 @@
 -- What is laid for the paths of one relay more.
-use Rattle.std.proofs.Common.{ℕ, zero, suc, ◌≡◌, ◌≢◌, ◌<◌, ◌≤◌, ◌+◌, ◌-◌, ◌*◌, true, List, [], ◌∷◌, ◌++◌, length, get_or, set, refl, sym, ap, subst, ◌∙◌, inl, inr, arith}
+use Rattle.std.proofs.Common.{ℕ, suc, ◌≡◌, ◌≢◌, ◌<◌, ◌≤◌, ◌+◌, ◌-◌, ◌*◌, true, List, length, get_or, set, sym, ap, subst, ◌∙◌, inl, inr, arith}
 use Rattle.std.specs.Prelude.{Option, if◌then◌else◌}
 use Rattle.std.proofs.lemmas.Bool.{cases_lt}
 use Rattle.std.proofs.lemmas.List.{get_or-set_same}
@@ -14,7 +14,7 @@ use Rattle.omh.specs.Written.{IsSmall}
 use Rattle.omh.proofs.Folding.{relay_listed, relay_root}
 use Rattle.settled_paths.specs.Passing.{or_passed, passed}
 use Rattle.settled_paths.specs.Levels.{level_at, level_value, AreLaid, AreSmall}
-use Rattle.settled_paths.proofs.Places.{level_within, level_at-le, relay_path-push, width_of}
+use Rattle.settled_paths.proofs.Places.{level_within, relay_path-push}
 use Rattle.settled_paths.proofs.Passes.{passed_push}
 
 -- ---- errors that were wrapped a few times

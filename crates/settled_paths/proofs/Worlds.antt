@@ -1,5 +1,5 @@
 -- A world in which an item is passed on settles it as the world that is made of what is passed on does.
-use Rattle.std.proofs.Common.{ℕ, zero, suc, ◌≡◌, ◌≢◌, ◌<◌, ◌≤◌, ◌+◌, ◌-◌, ◌==◌, ◌||◌, ◌⊎◌, Bool, true, false, List, [], ◌∷◌, ◌++◌, length, reverse, refl, sym, ap, subst, ◌∙◌, inl, inr, arith, eqb-true, eq-eqb, ne_eqb}
+use Rattle.std.proofs.Common.{ℕ, ◌≡◌, ◌≢◌, ◌+◌, ◌-◌, ◌==◌, ◌||◌, Bool, true, false, List, [], ◌∷◌, ◌++◌, reverse, refl, sym, ap, subst, ◌∙◌, inl, inr, arith, eqb-true, eq-eqb, ne_eqb}
 use Rattle.std.specs.Prelude.{Option, if◌then◌else◌}
 use Rattle.std.proofs.lemmas.Bool.{cases_Bool, cond-true, cond-false, or_cases, both_ways}
 use Rattle.std.proofs.lemmas.List.{length_push, reverse-append, reverse-reverse}
@@ -12,7 +12,7 @@ use Rattle.omh_paths.specs.Wrapped.{wrapped}
 use Rattle.omh_paths.specs.Paths.{IsPath}
 use Rattle.omh_paths.specs.PathLaws.{off_longer, off_from, IsPath-push}
 use Rattle.omh.specs.Omh.{Ear, World, ear, own_term, settled, settled_within}
-use Rattle.omh.specs.HeardLaws.{heard_as, Grows, settled_alike}
+use Rattle.omh.specs.HeardLaws.{settled_alike}
 use Rattle.settled_paths.specs.Passing.{or_passed, passed, passing_world}
 use Rattle.settled_paths.specs.Laws.{IsPassedOn, PassingLaw}
 use Rattle.settled_paths.proofs.Passes.{passed_push}

@@ -1,4 +1,4 @@
-use Rattle.std.proofs.Common.{◌+◌, arith}
+use Rattle.std.proofs.Common.{arith}
 use Rattle.omh_paths.specs.MemberLaws.{path_count-few}
 use Rattle.settled_paths.proofs.Places.{level_at-next}
 use Rattle.settled_paths.proofs.exchange.level_at.Goals as goal

@@ -1,4 +1,4 @@
-use Rattle.std.proofs.Common.{◌+◌, sym, subst, arith, lit<}
+use Rattle.std.proofs.Common.{◌+◌, sym, subst, arith}
 use Rattle.omh.specs.Written.{IsSmall}
 use Rattle.settled_paths.proofs.Layers.{small_wrapped, small_known}
 use Rattle.settled_paths.proofs.exchange.Exchange.passed_on.Goals as goal

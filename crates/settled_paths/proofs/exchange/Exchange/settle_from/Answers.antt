@@ -1,10 +1,8 @@
-use Rattle.std.proofs.Common.{ℕ, ◌≡◌, ◌<◌, ◌≤◌, ◌+◌, ◌-◌, length, refl, ap, ◌∙◌, arith}
-use Rattle.std.proofs.lemmas.List.{length-append, length-take-le, length-drop}
-use Rattle.std.specs.Prelude.{take, drop}
-use Rattle.omh_paths.specs.Paths.{path_count, index_in}
+use Rattle.std.proofs.Common.{ℕ, ◌+◌, ◌-◌, length, refl, ◌∙◌, arith}
+use Rattle.omh_paths.specs.Paths.{index_in}
 use Rattle.omh_paths.specs.MemberLaws.{Distinct-ids}
 use Rattle.omh.proofs.Folding.{settled_moved_to, root_settled}
-use Rattle.settled_paths.specs.Levels.{level_at, ear_in}
+use Rattle.settled_paths.specs.Levels.{ear_in}
 use Rattle.settled_paths.proofs.Places.{level_at-le, level_at-next}
 use Rattle.settled_paths.proofs.Folds.{copied}
 use Rattle.settled_paths.proofs.exchange.Exchange.settle_from.Goals as goal

@@ -1,4 +1,4 @@
-use Rattle.std.proofs.Common.{ℕ, ◌≡◌, ◌≤◌, ◌+◌, ◌-◌, length, ap, ◌∙◌, arith}
+use Rattle.std.proofs.Common.{length, ap, arith}
 use Rattle.omh_paths.specs.MemberLaws.{member-lt}
 use Rattle.settled_paths.proofs.Rooms.{room_for}
 use Rattle.settled_paths.proofs.laid.Laid.settle_all.Goals as goal
