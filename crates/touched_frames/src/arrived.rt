@@ -1,0 +1,37 @@
+//! What a receiver has of a frame.
+
+ghost use Rattle.std.specs.Prelude.{◌≡◌, ◌<◌, ◌≤◌};
+ghost use Rattle.node_grid.specs.Capacity.{IsCapacity};
+ghost use Rattle.frames.specs.Seen.{expected};
+ghost use Rattle.frames.specs.Reading.{reading};
+ghost use Rattle.touched_frames.specs.Arrived.{seen, arrived_as};
+
+use frames::{Body, Expect, decode};
+use node_grid::kind::{COLD, MALFORMED};
+
+/// What a receiver has of a frame.
+#[derive(Clone, Copy)]
+pub enum Arrived<'a, const N: usize> {
+    /// What the frame says, which isn't that its sender is cold.
+    Good(Body<'a, N>),
+    /// The kind of error that is found of what came, or of there being nothing.
+    Bad(u8),
+}
+
+/// What a receiver has of bytes that came once, in time.
+pub(crate) fn read<'a, const N: usize>(receiver: &Expect<N>, bytes: &'a [u8]) -> Arrived<'a, N>
+    requires capacity { IsCapacity N }
+    requires some_nodes { 0 < receiver.now.nodes }
+    requires nodes { receiver.now.nodes ≤ N }
+    requires rounds { receiver.now.m ≤ 3 }
+    ensures { seen receiver.now.nodes result ≡ arrived_as (reading (expected receiver.now) bytes.now) }
+{
+    let Some(frame) = decode(receiver, bytes) else {
+        return Arrived::Bad(MALFORMED);
+    };
+    if frame.body.is_cold() {
+        Arrived::Bad(COLD)
+    } else {
+        Arrived::Good(frame.body)
+    }
+}
