@@ -6,10 +6,10 @@
 #![tactic(auto)]
 
 mod asking;
-mod capacities;
 mod devices;
+mod rooms;
 
 fn main(rt: HostRuntime) -> anyhow::Result<()> {
     devices::print(&rt)?;
-    capacities::print(&rt)
+    rooms::print(&rt)
 }
