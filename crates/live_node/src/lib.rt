@@ -1,0 +1,2 @@
+//! A node that is told one event after another, by lines of text, and answers with text.
+#![tactic(auto)]
