@@ -7,7 +7,7 @@ use Rattle.agreed_state.specs.declared.config.Inputs.{Inputs}
 use Rattle.node_steps.specs.Fresh.{IsFresh}
 use Rattle.node_steps.specs.Parts.{NodeView}
 use Rattle.node_steps.specs.Steps.{restarted, begun, given_frame, after_slot, frame_of}
-use Rattle.scenario.specs.Scenario.{ScenarioView, IsScenario, inputs_of}
+use Rattle.scenario.specs.Scenario.{ScenarioView, inputs_of}
 use Rattle.run_text.specs.PeriodText.{alone_text}
 use Rattle.live_node.specs.Event.{Event, event_of}
 use Rattle.live_node.specs.Event.Event.{Begin, Deliver, End, Restart, Reading, Ahead}
@@ -22,6 +22,7 @@ pub record LiveView (N : ℕ) : Type 0 where
   pub forgot : Bool  -- whether the node has forgotten all since its last period
   pub given : List (Option ℤ)  -- by channel: what the node was told that it reads in the next period
   pub ahead : List (Option ℤ)  -- by node: how far its clock was told to be ahead in this period
+  pub longest : ℕ  -- how many bytes a line may have; nothing changes it
 
 -- node id of a scenario before it was told anything
 pub record IsNewLive {N : ℕ} (sc : ScenarioView N) (id : ℕ) (v : LiveView N) : Type 0 where
