@@ -1,3 +1,5 @@
 pub mod Event
 pub mod Text
 pub mod Live
+pub mod Seen
+pub mod Standing

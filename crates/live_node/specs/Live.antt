@@ -98,13 +98,20 @@ told v (Ahead j x) = record v { ahead = set v.ahead j (Some x) }
 
 -- ---- what it answers
 
--- what it reads of the others' clocks: the nodes whose frame in the sync slot was good and of whose clock it was told, and how far each
--- clock is ahead
+-- of nodes whose frame in the sync slot was good, those of whose clock something was told
+abbrev pub good_told : List ℕ → List (Option ℤ) → List ℕ
+good_told sync ahead = filter (λ j. is_some (slice_index_or ahead j None)) sync
+
+-- what was told of each clock, and 0 where nothing was
+abbrev pub told_numbers : List (Option ℤ) → List ℤ
+told_numbers ahead = map (λ o. unwrap_or o (pos 0)) ahead
+
+-- what it reads of the others' clocks: whose it reads, and how far each clock is ahead
 abbrev pub clocks_read : {N : ℕ} → LiveView N → List ℕ
-clocks_read v = filter (λ j. is_some (slice_index_or v.ahead j None)) v.node.outcome.sync
+clocks_read v = good_told v.node.outcome.sync v.ahead
 
 abbrev pub readings : {N : ℕ} → LiveView N → List ℤ
-readings v = map (λ o. unwrap_or o (pos 0)) v.ahead
+readings v = told_numbers v.ahead
 
 -- by how much it corrects its clock after the period that was run last
 abbrev pub correction : {N : ℕ} → LiveView N → ℤ

@@ -1,2 +1,7 @@
 //! A node that is told one event after another, by lines of text, and answers with text.
 #![tactic(auto)]
+
+mod correcting;
+mod event;
+mod text;
+mod words;

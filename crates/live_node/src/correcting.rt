@@ -1,0 +1,71 @@
+//! By how much a node corrects its clock, by what it was told of the others'.
+
+ghost use Rattle.std.specs.Prelude.{◌≡◌, ◌<◌, ◌&&◌, ℤ, All, IfSome, None, is_some, slice_index_or};
+ghost use Rattle.clock_skew.specs.Correction.{IsReading};
+ghost use Rattle.frames.specs.Content.{IsValue};
+ghost use Rattle.node_grid.specs.Capacity.{IsCapacity};
+ghost use Rattle.node_grid.specs.NodeSet.{has_id};
+ghost use Rattle.protocol.specs.Clocks.{corrects};
+ghost use Rattle.live_node.specs.Live.{good_told, told_numbers};
+
+use clock_skew::correction;
+use node_core::{Mode, NodeRecord};
+use node_grid::NodeSet;
+
+/// Whether the node's frame in the sync slot was good, and something was told of its clock.
+fn is_read<const N: usize>(sync: &NodeSet<N>, ahead: &[Option<i64>; N], node: usize) -> bool
+    requires capacity { IsCapacity N }
+    requires node { node < N }
+    ensures { result ≡ (has_id sync.now node && is_some (slice_index_or ahead.now node None)) }
+{
+    sync.has(node as u8) && ahead[node].is_some()
+}
+
+/// Of nodes whose frame in the sync slot was good, those of whose clock something was told.
+fn good_told<const N: usize>(sync: &NodeSet<N>, ahead: &[Option<i64>; N]) -> NodeSet<N>
+    requires capacity { IsCapacity N }
+    ensures { result ≡ good_told sync.now ahead.now }
+{
+    let mut good = NodeSet::empty();
+    for node in 0..N {
+        if is_read(sync, ahead, node) {
+            good.put(node as u8);
+        }
+    }
+    good
+}
+
+/// What was told of each clock, and 0 where nothing was.
+fn told_numbers<const N: usize>(ahead: &[Option<i64>; N]) -> [i64; N]
+    requires values { All (λ o. IfSome o IsValue) ahead.now }
+    ensures numbers { result ≡ told_numbers ahead.now }
+    ensures readings { All IsReading result }
+{
+    let mut numbers = [0; N];
+    for node in 0..N {
+        numbers[node] = ahead[node].unwrap_or(0);
+    }
+    numbers
+}
+
+/// By how much node `id` corrects its clock after a period, by its record of it and by what it was told of the other
+/// clocks.
+pub(crate) fn correction_by<const N: usize>(
+    outcome: &NodeRecord<N>,
+    ahead: &[Option<i64>; N],
+    id: u8,
+    m: u8,
+) -> i64
+    requires capacity { IsCapacity N }
+    requires values { All (λ o. IfSome o IsValue) ahead.now }
+    requires own { slice_index_or ahead.now id None ≡ None }
+    ensures { result ≡ corrects m id (told_numbers ahead.now) outcome.now.members (good_told outcome.now.sync ahead.now) outcome.now.mode }
+{
+    let good = good_told(&outcome.sync, ahead);
+    let readings = told_numbers(ahead);
+    match outcome.mode {
+        Mode::Full => correction(&outcome.members, &good, Some(id), &readings, m),
+        Mode::Joining => correction(&outcome.members, &good, None, &readings, m),
+        Mode::Cold => 0,
+    }
+}
