@@ -1,2 +1,5 @@
 mod Splitting
 mod Told
+mod Keeping
+mod Deciding
+mod Held

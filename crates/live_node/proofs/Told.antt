@@ -1,17 +1,17 @@
 -- What was told of clocks and channels.
-use Rattle.std.proofs.Common.{◌≡◌, ℕ, ◌+◌, ◌<◌, ◌≤◌, ◌^◌, ◌++◌, ℤ, pos, neg_ℤ, ◌≤ℤ◌, List, [], ◌∷◌, length, map, take, get_or, replicate, refl, sym, ap, ap₂, subst, ◌∙◌, arith, w64, to_z, of_z, length-set}
-use Rattle.std.specs.Prelude.{All, IfSome, Option, None, Some, is_some, unwrap_or, slice_set, slice_index_or, Bool, true, false, ◌&&◌, ◌||◌, ◌==◌}
+use Rattle.std.proofs.Common.{◌≡◌, ℕ, ◌+◌, ◌<◌, ◌≤◌, ◌^◌, ◌++◌, ℤ, pos, neg_ℤ, ◌≤ℤ◌, List, [], ◌∷◌, length, map, take, get_or, replicate, refl, sym, ap, ap₂, subst, ◌∙◌, arith, w64, to_z, of_z, length-set, inl, inr}
+use Rattle.std.specs.Prelude.{All, IfSome, Option, None, Some, is_some, unwrap_or, slice_set, slice_index_or, Bool, true, false, ◌&&◌, ◌||◌, ◌==◌, ◌⊎◌}
 use Rattle.std.specs.List.{filter}
 use mir.Val.{SFits}
 use Rattle.std.proofs.Math.Seq.{take_all}
 use Rattle.std.proofs.lemmas.Int.{to_z-of_z, ints}
 use Rattle.std.proofs.lemmas.List.{take_more_set, map_more}
-use Rattle.std.proofs.lemmas.Bool.{false≢true, eqb-true}
+use Rattle.std.proofs.lemmas.Bool.{false≢true, eqb-true, eq-eqb, cases_Bool}
 use Rattle.std.proofs.lemmas.List.Elements.{All-map, All-weaker, All-head, All-tail, filter_passes}
 use Rattle.clock_skew.specs.Correction.{IsReading}
 use Rattle.frames.specs.Content.{IsValue}
-use Rattle.node_grid.specs.NodeSet.{ids_below, ids_where, has_id, IsIdSet}
-use Rattle.node_grid.specs.NodeSetLaws.{filter_filter}
+use Rattle.node_grid.specs.NodeSet.{ids_below, ids_where, has_id, with_id, IsIdSet}
+use Rattle.node_grid.specs.NodeSetLaws.{filter_filter, filter_range, has-filter}
 use Rattle.live_node.specs.Live.{good_told, told_numbers}
 use Rattle.live_node.proofs.Splitting.{not_true}
 
@@ -47,9 +47,76 @@ value_read (Some z) h = (omega (arith, ints, h.low), omega (arith, ints, h.high)
 pub numbers_read : (ahead : List (Option ℤ)) → All (λ o. IfSome o IsValue) ahead → All IsReading (told_numbers ahead)
 numbers_read ahead h = All-map IsReading number_told ahead (All-weaker (λ o. IfSome o IsValue) (λ o. IsReading (number_told o)) value_read ahead h)
 
--- whose clocks are read, in the order of all nodes
-pub read_of_all : (n : ℕ) (sync : List ℕ) (p : ℕ → Bool) → IsIdSet n sync → ids_where (λ k. has_id sync k && p k) n ≡ filter p sync
-read_of_all n sync p is = sym (filter_filter (has_id sync) p (ids_below n)) ∙ ap (filter p) (sym is)
+-- ---- tests
+
+or_false : (a : Bool) → (a || false) ≡ (false || a)
+or_false true = refl
+or_false false = refl
+
+or_of_three : (a b c : Bool) → (a || (b || c)) ≡ ((a || b) || c)
+or_of_three true b c = refl
+or_of_three false b c = refl
+
+and_no : (x : Bool) → (x && false) ≡ false
+and_no true = refl
+and_no false = refl
+
+same_or_not : (j k : ℕ) → (j ≡ k) ⊎ (((j == k) ≡ false) × ((k == j) ≡ false))
+same_or_not j k = elim (cases_Bool (j == k)) [
+  | inl t ↦ inl (eqb-true j k t)
+  | inr f ↦ inr (f, not_true (k == j) (λ t. false≢true (sym f ∙ eq-eqb j k (sym (eqb-true k j t)))))
+]
+
+added_at : (a : Bool) (p : ℕ → Bool) (k : ℕ) → p k ≡ true → ((k == k) || (a && p k)) ≡ ((a || (k == k)) && p k)
+added_at true p k holds = rw (eq-eqb k k refl, holds) refl
+added_at false p k holds = rw (eq-eqb k k refl, holds) refl
+
+added_beside : (a x y b : Bool) → x ≡ false → y ≡ false → (x || (a && b)) ≡ ((a || y) && b)
+added_beside true x y b h i = rw h refl
+added_beside false x y b h i = rw (h, i) refl
+
+added : (a : Bool) (p : ℕ → Bool) (j k : ℕ) → p k ≡ true → ((j == k) || (a && p j)) ≡ ((a || (k == j)) && p j)
+added a p j k holds = elim (same_or_not j k) [
+  | inl e ↦ rw e (added_at a p k holds)
+  | inr d ↦ added_beside a (j == k) (k == j) (p j) d.0 d.1
+]
+
+passed_at : (a x b : Bool) → b ≡ false → (a && b) ≡ ((a || x) && b)
+passed_at true x b h = rw h refl
+passed_at false x b h = rw h (sym (and_no x))
+
+passed_beside : (a y b : Bool) → y ≡ false → (a && b) ≡ ((a || y) && b)
+passed_beside true y b h = refl
+passed_beside false y b h = rw h refl
+
+passed : (a : Bool) (p : ℕ → Bool) (j k : ℕ) → p k ≡ false → (a && p j) ≡ ((a || (k == j)) && p j)
+passed a p j k fails = elim (same_or_not j k) [
+  | inl e ↦ rw e (passed_at a (k == k) (p k) fails)
+  | inr d ↦ passed_beside a (k == j) (p j) d.1
+]
+
+-- the nodes of a list that pass a test, in the order of all nodes
+abbrev pub read_among : ℕ → List ℕ → (ℕ → Bool) → List ℕ
+read_among n xs p = ids_where (λ j. has_id xs j && p j) n
+
+has-append : (xs : List ℕ) (k j : ℕ) → has_id (xs ++ k ∷ []) j ≡ (has_id xs j || (k == j))
+has-append [] k j = or_false (k == j)
+has-append (x ∷ xs) k j = ap (λ (b : Bool). (x == j) || b) (has-append xs k j) ∙ or_of_three (x == j) (has_id xs j) (k == j)
+
+-- one more passes, or doesn't
+pub one_read : (n : ℕ) (xs : List ℕ) (p : ℕ → Bool) (k : ℕ) → p k ≡ true → with_id n (read_among n xs p) k ≡ read_among n (xs ++ k ∷ []) p
+one_read n xs p k holds =
+    filter_range (λ j. (j == k) || has_id (read_among n xs p) j) (λ j. has_id (xs ++ k ∷ []) j && p j) 0 n
+    (λ j low high. ap (λ (b : Bool). (j == k) || b) (has-filter (λ i. has_id xs i && p i) n j (omega (arith, high))) ∙ added (has_id xs j) p j k holds ∙ ap (λ (b : Bool). b && p j) (sym (has-append xs k j)))
+
+pub none_read : (n : ℕ) (xs : List ℕ) (p : ℕ → Bool) (k : ℕ) → p k ≡ false → read_among n xs p ≡ read_among n (xs ++ k ∷ []) p
+none_read n xs p k fails =
+    filter_range (λ j. has_id xs j && p j) (λ j. has_id (xs ++ k ∷ []) j && p j) 0 n
+    (λ j low high. passed (has_id xs j) p j k fails ∙ ap (λ (b : Bool). b && p j) (sym (has-append xs k j)))
+
+-- all of them, where the list is a set of nodes
+pub all_read : (n : ℕ) (sync : List ℕ) (p : ℕ → Bool) → IsIdSet n sync → read_among n sync p ≡ filter p sync
+all_read n sync p is = sym (filter_filter (has_id sync) p (ids_below n)) ∙ ap (filter p) (sym is)
 
 -- what passes no test isn't among those that pass it
 hasnt : (p : ℕ → Bool) (x : ℕ) (s : List ℕ) → p x ≡ false → All (λ y. p y ≡ true) s → has_id s x ≡ false

@@ -29,3 +29,12 @@ FitsIn room End = Unit {0}
 FitsIn room Restart = Unit {0}
 FitsIn room (Reading channel value) = (channel ≤ 7) × IsValue value
 FitsIn room (Ahead node by) = (node ≤ 15) × IsValue by
+
+-- the node answers it
+abbrev pub IsAnswered : Event → Type 0
+IsAnswered (Begin named) = Unit {0}
+IsAnswered (Deliver from tick size) = ⊥
+IsAnswered End = Unit {0}
+IsAnswered Restart = ⊥
+IsAnswered (Reading channel value) = ⊥
+IsAnswered (Ahead node by) = ⊥

@@ -18,6 +18,7 @@ pub record IsLive {N : ℕ} (v : LiveView N) : Type 0 where
   pub me : v.node.phase.me ≡ v.id
   pub period : 0 < v.next → v.next ≡ v.node.phase.period + 1
   pub started : is_open v ≡ true → v.run < v.next
+  pub within : is_open v ≡ true → v.node.phase.slot ≤ 2 * v.node.config.m + 3
   pub run : v.run ≤ v.next
   pub next : v.next ≤ 2 ^ 32
   pub given : AreTold channel_room v.given

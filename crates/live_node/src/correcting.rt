@@ -1,10 +1,9 @@
 //! By how much a node corrects its clock, by what it was told of the others'.
 
-ghost use Rattle.std.specs.Prelude.{◌≡◌, ◌<◌, ◌&&◌, ℤ, All, IfSome, None, is_some, slice_index_or};
+ghost use Rattle.std.specs.Prelude.{◌≡◌, All, IfSome, None, slice_index_or};
 ghost use Rattle.clock_skew.specs.Correction.{IsReading};
 ghost use Rattle.frames.specs.Content.{IsValue};
 ghost use Rattle.node_grid.specs.Capacity.{IsCapacity};
-ghost use Rattle.node_grid.specs.NodeSet.{has_id};
 ghost use Rattle.protocol.specs.Clocks.{corrects};
 ghost use Rattle.live_node.specs.Live.{good_told, told_numbers};
 
@@ -12,24 +11,15 @@ use clock_skew::correction;
 use node_core::{Mode, NodeRecord};
 use node_grid::NodeSet;
 
-/// Whether the node's frame in the sync slot was good, and something was told of its clock.
-fn is_read<const N: usize>(sync: &NodeSet<N>, ahead: &[Option<i64>; N], node: usize) -> bool
-    requires capacity { IsCapacity N }
-    requires node { node < N }
-    ensures { result ≡ (has_id sync.now node && is_some (slice_index_or ahead.now node None)) }
-{
-    sync.has(node as u8) && ahead[node].is_some()
-}
-
 /// Of nodes whose frame in the sync slot was good, those of whose clock something was told.
 fn good_told<const N: usize>(sync: &NodeSet<N>, ahead: &[Option<i64>; N]) -> NodeSet<N>
     requires capacity { IsCapacity N }
     ensures { result ≡ good_told sync.now ahead.now }
 {
     let mut good = NodeSet::empty();
-    for node in 0..N {
-        if is_read(sync, ahead, node) {
-            good.put(node as u8);
+    for node in sync.iter() {
+        if ahead[node as usize].is_some() {
+            good.put(node);
         }
     }
     good

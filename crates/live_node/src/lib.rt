@@ -3,5 +3,9 @@
 
 mod correcting;
 mod event;
+mod event_node;
+mod live;
 mod text;
 mod words;
+
+pub use live::{Live, Refusal};

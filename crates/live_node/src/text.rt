@@ -1,10 +1,13 @@
 //! The lines that a node answers, in rooms that are taken once.
 
 ghost use Rattle.std.specs.Prelude.{◌≡◌, ◌+◌, ◌*◌, ◌≤◌, length, vec_capacity};
+ghost use Rattle.span_io.specs.Causes.{Writes};
 ghost use Rattle.live_node.specs.Text.{say_text, correct_text};
 
 use hex::encode_to_slice;
 use itoa::Buffer;
+use run_print::WriteFault;
+use span_io::{Sink, write_all};
 
 /// How many bytes a line has at most beside the digits of a frame.
 pub(crate) const AROUND: usize = 32;
@@ -37,4 +40,14 @@ pub(crate) fn spell_correct(by: i64, text: &mut Vec<u8>)
     let _within_room = text.extend_from_slice(b"correct ").is_ok();
     let _within_room = text.extend_from_slice(buffer.format(by).as_bytes()).is_ok();
     let _within_room = text.push(b'\n').is_ok();
+}
+
+/// Writes a line.
+pub(crate) fn write<K: Sink>(line: &[u8], sink: &mut K) -> Result<(), WriteFault>
+    ensures { Writes (K.written sink.old) (K.written sink.new) (K.faults sink.old) (K.faults sink.new) line.now result }
+{
+    match write_all(sink, line) {
+        Ok(()) => Ok(()),
+        Err(_) => Err(WriteFault),
+    }
 }

@@ -1,4 +1,19 @@
+use Rattle.std.proofs.Common.{inl, inr, lit<, ap, ◌∙◌}
+use Rattle.node_grid.specs.NodeSet.{has_id}
+use Rattle.live_node.proofs.Told.{not_read}
 use Rattle.live_node.proofs.correcting.correction_by.Goals as goal
 
 pub correction-requires : goal.correction-requires
-correction-requires g c = ?
+correction-requires g c = (
+  lit< tt,
+  (
+    elim c.requires.capacity [ inl e ↦ rw e (lit< tt) | inr e ↦ rw e (lit< tt) ],
+    (
+      c.requires.capacity,
+      (
+        c.told_numbers-readings.ensures.readings,
+        ap (λ s. has_id s c.args.id) c.good_told-good.ensures ∙ not_read c.outcome.inside.sync c.args.ahead.now c.args.id c.requires.own,
+      ),
+    ),
+  ),
+)

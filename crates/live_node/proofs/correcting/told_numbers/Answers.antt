@@ -1,4 +1,5 @@
-use Rattle.std.proofs.Common.{rules, w64, refl, sym, subst, length-replicate, ◌∙◌}
+use Rattle.std.proofs.Common.{rules, w64, refl, sym, subst, ◌∙◌}
+use Rattle.std.proofs.lemmas.List.{length-replicate}
 use Rattle.std.specs.Prelude.{All}
 use mir.Val.{SFits}
 use Rattle.clock_skew.specs.Correction.{IsReading}

@@ -1,0 +1,127 @@
+use Rattle.std.proofs.Common.{◌≡◌, ◌≢◌, ◌<◌, ◌≤◌, ◌+◌, ◌*◌, ◌^◌, ◌&&◌, ℕ, ℤ, List, Bool, true, false, not, nat_lt, length, take, refl, sym, ap, ap₂, subst, ◌∙◌, arith, inl, inr, lit<, w64, to_z, of_z}
+use Rattle.std.specs.Prelude.{All, Option, None, Some, is_some, option_map, unwrap_or, vec_capacity, set}
+use Rattle.agreed_state.specs.declared.config.Config.{Config}
+use Rattle.agreed_state.specs.declared.config.Inputs.{Inputs}
+use Rattle.agreed_state.specs.ConfigLaws.{few_rounds}
+use Rattle.agreed_state.specs.Config.{IsConfig}
+use Rattle.frames.specs.Content.{IsValue}
+use Rattle.node_grid.specs.Capacity.{IsCapacity}
+use Rattle.node_steps.specs.Parts.{NodeView}
+use Rattle.node_steps.specs.Steps.{given_frame, restarted, frame_of, after_slot}
+use Rattle.node_steps.specs.Fresh.{IsFresh}
+use Rattle.scenario.specs.Scenario.{ScenarioView, IsScenario, inputs_of}
+use Rattle.span_io.specs.Causes.{Writes}
+use Rattle.run_print.specs.declared.WriteFault.{WriteFault}
+use Rattle.run_text.specs.PeriodText.{alone_text}
+use Rattle.live_node.specs.Event as spec
+use Rattle.live_node.specs.Live.{LiveView, IsNewLive, is_open, is_other, is_of_cluster, may_begin, allowed, period_begun, slot_ended, inputs_given, replaced, told, answer, correction, run_text, slot_answer}
+use Rattle.live_node.specs.Seen.{event_in, FitsIn, IsAnswered}
+use Rattle.live_node.specs.Standing.{IsLive, IsHeld, open_slot}
+use Rattle.live_node.specs.Text.{say_text, correct_text}
+use Rattle.live_node.proofs.Splitting.{is_some_map}
+use Rattle.live_node.proofs.Deciding.{begin_shut, begin_open}
+use Rattle.live_node.proofs.Keeping.{values_replaced, open_some}
+use Rattle.live_node.proofs.Held.{both, not_so, and_true, and_false, begins_later, begins_next, other_is, fits_value, slot_at, opened_at, shut_at, slot_small, held_begun, begun_is, held_next, next_is, held_last, last_is, held_given, held_restarted, held_reading, held_ahead, held_larger, stored, new_live, held_new, said_later}
+use Rattle.std.proofs.lemmas.Bool.{false≢true}
+use Rattle.live_node.proofs.event_node.EventNode.end_slot.Goals as goal
+
+pub returns-in_default : goal.returns-in_default
+returns-in_default g c =
+    let v : LiveView g.row.N = record { scenario = c.self.inside.scenario.now; id = c.self.inside.id; node = c.self.inside.node; next = c.self.inside.next; run = c.self.inside.run; forgot = c.self.inside.forgot; given = c.self.inside.told.given; ahead = c.self.inside.told.ahead; longest = c.self.inside.longest } in
+    let same : v ≡ c.args.self.now = c.self.view_is in
+    let held : IsHeld v c.self.inside.slot (vec_capacity c.self.inside.frame) (vec_capacity c.self.inside.text) = c.self.invariant in
+    let opened : is_open v ≡ true = ap (λ (x : LiveView g.row.N). is_open x) same ∙ c.requires.open in
+    absurd (false≢true (sym (shut_at v.node c.self.inside.slot held.slot_is c.in_default.is) ∙ opened))
+
+pub slot_end-requires : goal.slot_end-requires
+slot_end-requires g c =
+    let v : LiveView g.row.N = record { scenario = c.self.inside.scenario.now; id = c.self.inside.id; node = c.self.inside.node; next = c.self.inside.next; run = c.self.inside.run; forgot = c.self.inside.forgot; given = c.self.inside.told.given; ahead = c.self.inside.told.ahead; longest = c.self.inside.longest } in
+    let same : v ≡ c.args.self.now = c.self.view_is in
+    let opened : is_open v ≡ true = ap (λ (x : LiveView g.row.N). is_open x) same ∙ c.requires.open in
+    (elim c.requires.capacity [ inl e ↦ rw e (lit< tt) | inr e ↦ rw e (lit< tt) ], opened)
+
+pub overflow_add-slot : goal.overflow_add-slot
+overflow_add-slot g c =
+    let v : LiveView g.row.N = record { scenario = c.self.inside.scenario.now; id = c.self.inside.id; node = c.self.inside.node; next = c.self.inside.next; run = c.self.inside.run; forgot = c.self.inside.forgot; given = c.self.inside.told.given; ahead = c.self.inside.told.ahead; longest = c.self.inside.longest } in
+    let same : v ≡ c.args.self.now = c.self.view_is in
+    let held : IsHeld v c.self.inside.slot (vec_capacity c.self.inside.frame) (vec_capacity c.self.inside.text) = c.self.invariant in
+    let opened : is_open v ≡ true = ap (λ (x : LiveView g.row.N). is_open x) same ∙ c.requires.open in
+    let small = slot_small v c.self.inside.slot (vec_capacity c.self.inside.frame) (vec_capacity c.self.inside.text) held c.in-Some.slot c.in-Some.is opened in omega (arith, small.1)
+
+pub config-requires : goal.config-requires
+config-requires g c =
+    elim c.requires.capacity [ inl e ↦ rw e (lit< tt, lit< tt) | inr e ↦ rw e (lit< tt, lit< tt) ]
+
+pub slot_count-requires : goal.slot_count-requires
+slot_count-requires g c =
+    let v : LiveView g.row.N = record { scenario = c.self.inside.scenario.now; id = c.self.inside.id; node = c.self.inside.node; next = c.self.inside.next; run = c.self.inside.run; forgot = c.self.inside.forgot; given = c.self.inside.told.given; ahead = c.self.inside.told.ahead; longest = c.self.inside.longest } in
+    let held : IsHeld v c.self.inside.slot (vec_capacity c.self.inside.frame) (vec_capacity c.self.inside.text) = c.self.invariant in
+    let few = few_rounds g.row.N v.scenario.config held.live.scenario.system.config in
+    let m : c.config.result.now.m ≡ v.scenario.config.m = ap (λ (y : Config g.row.N). y.m) c.config.ensures.config in
+    omega (arith, few, m)
+
+pub overflow_add-self : goal.overflow_add-self
+overflow_add-self g c =
+    let v : LiveView g.row.N = record { scenario = c.self.inside.scenario.now; id = c.self.inside.id; node = c.self.inside.node; next = c.self.inside.next; run = c.self.inside.run; forgot = c.self.inside.forgot; given = c.self.inside.told.given; ahead = c.self.inside.told.ahead; longest = c.self.inside.longest } in
+    let same : v ≡ c.args.self.now = c.self.view_is in
+    let held : IsHeld v c.self.inside.slot (vec_capacity c.self.inside.frame) (vec_capacity c.self.inside.text) = c.self.invariant in
+    let opened : is_open v ≡ true = ap (λ (x : LiveView g.row.N). is_open x) same ∙ c.requires.open in
+    let small = slot_small v c.self.inside.slot (vec_capacity c.self.inside.frame) (vec_capacity c.self.inside.text) held c.in-Some.slot c.in-Some.is opened in omega (arith, small.1)
+
+pub invariant_of-self : goal.invariant_of-self
+invariant_of-self g c =
+    let v : LiveView g.row.N = record { scenario = c.self.inside.scenario.now; id = c.self.inside.id; node = c.self.inside.node; next = c.self.inside.next; run = c.self.inside.run; forgot = c.self.inside.forgot; given = c.self.inside.told.given; ahead = c.self.inside.told.ahead; longest = c.self.inside.longest } in
+    let same : v ≡ c.args.self.now = c.self.view_is in
+    let held : IsHeld v c.self.inside.slot (vec_capacity c.self.inside.frame) (vec_capacity c.self.inside.text) = c.self.invariant in
+    let opened : is_open v ≡ true = ap (λ (x : LiveView g.row.N). is_open x) same ∙ c.requires.open in
+    let small = slot_small v c.self.inside.slot (vec_capacity c.self.inside.frame) (vec_capacity c.self.inside.text) held c.in-Some.slot c.in-Some.is opened in
+    let count : c.slot_count.result ≡ 2 * v.node.config.m + 4 =
+    c.slot_count.ensures ∙ ap (λ (y : Config g.row.N). 2 * y.m + 4) (c.config.ensures.config ∙ sym held.live.config) in
+    let test = c.if-slot-slot_count.true in
+    held_next v c.self.inside.slot (vec_capacity c.self.inside.frame) (vec_capacity c.self.inside.text) held c.slot_end.new.self c.slot_end.ensures opened (λ e. absurd (omega (arith, e, small.0, count, test))) c.in-Some.slot small.0
+
+pub overflow_add-self-else-slot-slot_count : goal.overflow_add-self-else-slot-slot_count
+overflow_add-self-else-slot-slot_count g c =
+    let v : LiveView g.row.N = record { scenario = c.self.inside.scenario.now; id = c.self.inside.id; node = c.self.inside.node; next = c.self.inside.next; run = c.self.inside.run; forgot = c.self.inside.forgot; given = c.self.inside.told.given; ahead = c.self.inside.told.ahead; longest = c.self.inside.longest } in
+    let same : v ≡ c.args.self.now = c.self.view_is in
+    let held : IsHeld v c.self.inside.slot (vec_capacity c.self.inside.frame) (vec_capacity c.self.inside.text) = c.self.invariant in
+    let opened : is_open v ≡ true = ap (λ (x : LiveView g.row.N). is_open x) same ∙ c.requires.open in
+    let started = held.live.started opened in let next = held.live.next in omega (arith, started, next)
+
+pub invariant_of-self-else-slot-slot_count : goal.invariant_of-self-else-slot-slot_count
+invariant_of-self-else-slot-slot_count g c =
+    let v : LiveView g.row.N = record { scenario = c.self.inside.scenario.now; id = c.self.inside.id; node = c.self.inside.node; next = c.self.inside.next; run = c.self.inside.run; forgot = c.self.inside.forgot; given = c.self.inside.told.given; ahead = c.self.inside.told.ahead; longest = c.self.inside.longest } in
+    let same : v ≡ c.args.self.now = c.self.view_is in
+    let held : IsHeld v c.self.inside.slot (vec_capacity c.self.inside.frame) (vec_capacity c.self.inside.text) = c.self.invariant in
+    let opened : is_open v ≡ true = ap (λ (x : LiveView g.row.N). is_open x) same ∙ c.requires.open in
+    let small = slot_small v c.self.inside.slot (vec_capacity c.self.inside.frame) (vec_capacity c.self.inside.text) held c.in-Some.slot c.in-Some.is opened in
+    let count : c.slot_count.result ≡ 2 * v.node.config.m + 4 =
+    c.slot_count.ensures ∙ ap (λ (y : Config g.row.N). 2 * y.m + 4) (c.config.ensures.config ∙ sym held.live.config) in
+    let test = c.if-slot-slot_count.false in
+    let within = held.live.within opened in
+    held_last v c.self.inside.slot (vec_capacity c.self.inside.frame) (vec_capacity c.self.inside.text) held c.slot_end.new.self c.slot_end.ensures opened (omega (arith, small.0, count, test, within))
+
+pub returns-then-slot-slot_count : goal.returns-then-slot-slot_count
+returns-then-slot-slot_count g c =
+    let v : LiveView g.row.N = record { scenario = c.self.inside.scenario.now; id = c.self.inside.id; node = c.self.inside.node; next = c.self.inside.next; run = c.self.inside.run; forgot = c.self.inside.forgot; given = c.self.inside.told.given; ahead = c.self.inside.told.ahead; longest = c.self.inside.longest } in
+    let same : v ≡ c.args.self.now = c.self.view_is in
+    let held : IsHeld v c.self.inside.slot (vec_capacity c.self.inside.frame) (vec_capacity c.self.inside.text) = c.self.invariant in
+    let opened : is_open v ≡ true = ap (λ (x : LiveView g.row.N). is_open x) same ∙ c.requires.open in
+    let small = slot_small v c.self.inside.slot (vec_capacity c.self.inside.frame) (vec_capacity c.self.inside.text) held c.in-Some.slot c.in-Some.is opened in
+    let count : c.slot_count.result ≡ 2 * v.node.config.m + 4 =
+    c.slot_count.ensures ∙ ap (λ (y : Config g.row.N). 2 * y.m + 4) (c.config.ensures.config ∙ sym held.live.config) in
+    let test = c.if-slot-slot_count.true in
+    next_is v c.self.inside.slot (vec_capacity c.self.inside.frame) (vec_capacity c.self.inside.text) held c.slot_end.new.self c.slot_end.ensures opened (λ e. absurd (omega (arith, e, small.0, count, test))) c.args.self.now same
+
+pub returns-else-slot-slot_count : goal.returns-else-slot-slot_count
+returns-else-slot-slot_count g c =
+    let v : LiveView g.row.N = record { scenario = c.self.inside.scenario.now; id = c.self.inside.id; node = c.self.inside.node; next = c.self.inside.next; run = c.self.inside.run; forgot = c.self.inside.forgot; given = c.self.inside.told.given; ahead = c.self.inside.told.ahead; longest = c.self.inside.longest } in
+    let same : v ≡ c.args.self.now = c.self.view_is in
+    let held : IsHeld v c.self.inside.slot (vec_capacity c.self.inside.frame) (vec_capacity c.self.inside.text) = c.self.invariant in
+    let opened : is_open v ≡ true = ap (λ (x : LiveView g.row.N). is_open x) same ∙ c.requires.open in
+    let small = slot_small v c.self.inside.slot (vec_capacity c.self.inside.frame) (vec_capacity c.self.inside.text) held c.in-Some.slot c.in-Some.is opened in
+    let count : c.slot_count.result ≡ 2 * v.node.config.m + 4 =
+    c.slot_count.ensures ∙ ap (λ (y : Config g.row.N). 2 * y.m + 4) (c.config.ensures.config ∙ sym held.live.config) in
+    let test = c.if-slot-slot_count.false in
+    let within = held.live.within opened in
+    last_is v c.self.inside.slot (vec_capacity c.self.inside.frame) (vec_capacity c.self.inside.text) held c.slot_end.new.self c.slot_end.ensures opened (omega (arith, small.0, count, test, within)) c.args.self.now same

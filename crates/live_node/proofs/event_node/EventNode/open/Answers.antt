@@ -1,0 +1,75 @@
+use Rattle.std.proofs.Common.{◌≡◌, ◌≢◌, ◌<◌, ◌≤◌, ◌+◌, ◌*◌, ◌^◌, ◌&&◌, ℕ, ℤ, List, Bool, true, false, not, nat_lt, length, take, refl, sym, ap, ap₂, subst, ◌∙◌, arith, inl, inr, lit<, w64, to_z, of_z}
+use Rattle.std.specs.Prelude.{All, Option, None, Some, is_some, option_map, unwrap_or, vec_capacity, set}
+use Rattle.agreed_state.specs.declared.config.Config.{Config}
+use Rattle.agreed_state.specs.declared.config.Inputs.{Inputs}
+use Rattle.agreed_state.specs.ConfigLaws.{few_rounds}
+use Rattle.agreed_state.specs.Config.{IsConfig}
+use Rattle.frames.specs.Content.{IsValue}
+use Rattle.node_grid.specs.Capacity.{IsCapacity}
+use Rattle.node_steps.specs.Parts.{NodeView}
+use Rattle.node_steps.specs.Steps.{given_frame, restarted, frame_of, after_slot}
+use Rattle.node_steps.specs.Fresh.{IsFresh}
+use Rattle.scenario.specs.Scenario.{ScenarioView, IsScenario, inputs_of}
+use Rattle.span_io.specs.Causes.{Writes}
+use Rattle.run_print.specs.declared.WriteFault.{WriteFault}
+use Rattle.run_text.specs.PeriodText.{alone_text}
+use Rattle.live_node.specs.Event as spec
+use Rattle.live_node.specs.Live.{LiveView, IsNewLive, is_open, is_other, is_of_cluster, may_begin, allowed, period_begun, slot_ended, inputs_given, replaced, told, answer, correction, run_text, slot_answer}
+use Rattle.live_node.specs.Seen.{event_in, FitsIn, IsAnswered}
+use Rattle.live_node.specs.Standing.{IsLive, IsHeld, open_slot}
+use Rattle.live_node.specs.Text.{say_text, correct_text}
+use Rattle.live_node.proofs.Splitting.{is_some_map}
+use Rattle.live_node.proofs.Deciding.{begin_shut, begin_open}
+use Rattle.live_node.proofs.Keeping.{values_replaced, open_some}
+use Rattle.live_node.proofs.Held.{both, not_so, and_true, and_false, begins_later, begins_next, other_is, fits_value, slot_at, opened_at, shut_at, slot_small, held_begun, begun_is, held_next, next_is, held_last, last_is, held_given, held_restarted, held_reading, held_ahead, held_larger, stored, new_live, held_new, said_later}
+use Rattle.live_node.proofs.event_node.EventNode.open.Goals as goal
+
+pub config-config-requires : goal.config-config-requires
+config-config-requires g c =
+    elim c.requires.capacity [ inl e ↦ rw e (lit< tt, lit< tt) | inr e ↦ rw e (lit< tt, lit< tt) ]
+
+pub state_len-requires : goal.state_len-requires
+state_len-requires g c =
+    let fine : IsConfig g.row.N c.config-config.result.now = subst (IsConfig g.row.N) (sym c.config-config.ensures.config) c.config-config.ensures.scenario.system.config in
+    (elim c.requires.capacity [ inl e ↦ rw e (lit< tt) | inr e ↦ rw e (lit< tt) ], (c.requires.capacity, fine))
+
+pub frame_bound-room-requires-clause-nodes : goal.frame_bound-room-requires-clause-nodes
+frame_bound-room-requires-clause-nodes g c =
+    let fine : IsConfig g.row.N c.config-config.result.now = subst (IsConfig g.row.N) (sym c.config-config.ensures.config) c.config-config.ensures.scenario.system.config in
+    let few = fine.few_nodes in
+    let cap : IsCapacity g.row.N = c.requires.capacity in
+    omega (arith, few, cap)
+
+pub frame_bound-room-requires-clause-rounds : goal.frame_bound-room-requires-clause-rounds
+frame_bound-room-requires-clause-rounds g c =
+    let fine : IsConfig g.row.N c.config-config.result.now = subst (IsConfig g.row.N) (sym c.config-config.ensures.config) c.config-config.ensures.scenario.system.config in
+    few_rounds g.row.N c.config-config.result.now fine
+
+pub frame_bound-room-requires-clause-fewer : goal.frame_bound-room-requires-clause-fewer
+frame_bound-room-requires-clause-fewer g c =
+    let fine : IsConfig g.row.N c.config-config.result.now = subst (IsConfig g.row.N) (sym c.config-config.ensures.config) c.config-config.ensures.scenario.system.config in
+    fine.rounds
+
+pub open-requires : goal.open-requires
+open-requires g c =
+    let fine : IsConfig g.row.N c.config-config.result.now = subst (IsConfig g.row.N) (sym c.config-config.ensures.config) c.config-config.ensures.scenario.system.config in
+    let nodes : c.config-config.result.now.nodes ≡ c.args.scenario.now.config.nodes = ap (λ (y : Config g.row.N). y.nodes) c.config-config.ensures.config in
+    let low = c.requires.id in
+    (elim c.requires.capacity [ inl e ↦ rw e (lit< tt) | inr e ↦ rw e (lit< tt) ], (elim c.requires.capacity [ inl e ↦ rw e (lit< tt) | inr e ↦ rw e (lit< tt) ], (c.requires.capacity, (fine, omega (arith, nodes, low)))))
+
+pub nothing-requires : goal.nothing-requires
+nothing-requires g c =
+    elim c.requires.capacity [ inl e ↦ rw e (lit< tt) | inr e ↦ rw e (lit< tt) ]
+
+pub invariant_of-result : goal.invariant_of-result
+invariant_of-result g c =
+    let fresh : IsFresh c.args.scenario.now.config c.args.id c.in_ok-node.node = subst (λ (y : Config g.row.N). IsFresh y c.args.id c.in_ok-node.node) c.config-config.ensures.config c.in_ok-node.ensures in
+    let front = c.in-Ok.ensures.capacity in
+    let back = c.in-Ok-with_capacity.ensures.capacity in
+    held_new c.args.scenario.now c.args.id c.frame_bound-room.result (vec_capacity c.in-Ok.frame) (vec_capacity c.in-Ok-with_capacity.text) c.args.longest c.in_ok-node.node c.nothing.result.given c.nothing.result.ahead c.nothing.ensures.given c.nothing.ensures.ahead fresh
+    c.config-config.ensures.scenario c.requires.id ? front back
+
+pub returns-clause-fresh : goal.returns-clause-fresh
+returns-clause-fresh g c =
+    let fresh : IsFresh c.args.scenario.now.config c.args.id c.in_ok-node.node = subst (λ (y : Config g.row.N). IsFresh y c.args.id c.in_ok-node.node) c.config-config.ensures.config c.in_ok-node.ensures in
+    new_live c.args.scenario.now c.args.id c.frame_bound-room.result (vec_capacity c.in-Ok.frame) (vec_capacity c.in-Ok-with_capacity.text) c.args.longest c.in_ok-node.node c.nothing.result.given c.nothing.result.ahead c.nothing.ensures.given c.nothing.ensures.ahead fresh

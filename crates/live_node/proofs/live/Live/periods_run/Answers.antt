@@ -1,0 +1,5 @@
+use Rattle.std.proofs.Common.{inl, inr, lit<}
+use Rattle.live_node.proofs.live.Live.periods_run.Goals as goal
+
+pub periods_run-requires : goal.periods_run-requires
+periods_run-requires g c = elim c.requires [ inl e ↦ rw e (lit< tt) | inr e ↦ rw e (lit< tt) ]
