@@ -1,5 +1,5 @@
 -- A node with its slot and its rooms, after each event: it is held, and it is what the event makes of it.
-use Rattle.std.proofs.Common.{ℕ, suc, ◌≡◌, ◌≢◌, ◌<◌, ◌≤◌, ◌+◌, ◌*◌, ◌^◌, ◌==◌, ◌&&◌, ◌||◌, Bool, true, false, not, nat_lt, if◌then◌else◌, ℤ, List, length, take, replicate, refl, sym, ap, ap₂, subst, ◌∙◌, arith, w64, to_z, of_z}
+use Rattle.std.proofs.Common.{ℕ, suc, ◌≡◌, ◌≢◌, ◌<◌, ◌≤◌, ◌+◌, ◌*◌, ◌^◌, ◌==◌, ◌&&◌, ◌||◌, Bool, true, false, not, nat_lt, if◌then◌else◌, ℤ, pos, negsuc, List, length, take, replicate, refl, sym, ap, ap₂, subst, ◌∙◌, arith, w64, to_z, of_z, inl, inr}
 use Rattle.std.specs.Prelude.{Option, None, Some, unwrap_or, set}
 use mir.Val.{SFits}
 use Rattle.std.proofs.lemmas.Bool.{false≢true, eqb-true}
@@ -12,6 +12,7 @@ use Rattle.agreed_state.specs.declared.config.Inputs.{Inputs}
 use Rattle.agreed_state.specs.Config.{IsConfig}
 use Rattle.agreed_state.specs.ConfigLaws.{few_rounds}
 use Rattle.agreed_state.specs.Body.{state_len}
+use Rattle.node_grid.specs.Capacity.{IsCapacity}
 use Rattle.protocol.specs.View.{channel_room}
 use Rattle.node_steps.specs.Fresh.{IsFresh}
 use Rattle.node_steps.specs.Parts.{NodeView}
@@ -21,6 +22,9 @@ use Rattle.scenario.specs.Scenario.{ScenarioView, IsScenario}
 use Rattle.live_node.specs.Event as spec
 use Rattle.live_node.specs.Event.Event.{Begin, Deliver, End, Restart, Reading, Ahead}
 use Rattle.live_node.specs.Live.{LiveView, IsNewLive, is_open, is_other, may_begin, allowed, period_begun, slot_ended, inputs_given, told}
+use Rattle.live_node.specs.Seen.{event_in, IsAnswered}
+use Rattle.live_node.specs.declared.event.Event.{Event}
+use Rattle.live_node.specs.declared.event.Event.TheVariants as coded
 use Rattle.live_node.specs.Standing.{IsLive, IsHeld, AreTold, open_slot}
 use Rattle.live_node.proofs.Keeping.{live_begun, live_given, live_restarted, live_reading, live_ahead, live_last, live_next, closes, goes_on, next_slot, after_room, given_room, open_is, shut_is, none_told, if_true, if_false, same_place, same_greatest}
 
@@ -72,7 +76,8 @@ other_is {N} v is j h =
 -- ---- values
 
 pub fits_value : (z : ℤ) → IsValue z → SFits w64 z
-fits_value z h = record { sfits = omega (arith, ints, h.low, h.high) }
+fits_value (pos n) h = record { sfits = omega (arith, ints, h.high) }
+fits_value (negsuc n) h = record { sfits = omega (arith, ints, h.low) }
 
 -- ---- the slot that is open
 
@@ -235,3 +240,16 @@ said_later v is (Deliver from tick bytes) h a = absurd (false≢true a)
 said_later v is Restart h a = absurd (false≢true a)
 said_later v is (Reading c x) h a = absurd (false≢true a)
 said_later v is (Ahead j x) h a = absurd (false≢true a)
+
+-- a configuration has at most 16 nodes
+pub few_nodes : (N : ℕ) (y : Config N) → IsCapacity N → IsConfig N y → y.nodes ≤ 16
+few_nodes N y cap fine = elim cap [ inl e ↦ omega (arith, e, fine.few_nodes) | inr e ↦ omega (arith, e, fine.few_nodes) ]
+
+-- what the code answers is what is answered
+pub answered : (room : List ℕ) (e : Event) → IsAnswered e → answers (event_in room e) ≡ true
+answered room (coded.Begin named) a = refl
+answered room coded.End a = refl
+answered room (coded.Deliver from tick size) a = absurd a
+answered room coded.Restart a = absurd a
+answered room (coded.Reading channel value) a = absurd a
+answered room (coded.Ahead node by) a = absurd a

@@ -3,3 +3,4 @@ mod Told
 mod Keeping
 mod Deciding
 mod Held
+mod Taking

@@ -7,6 +7,7 @@ ghost use Rattle.node_steps.specs.Steps.{after_slot, frame_of};
 ghost use Rattle.span_io.specs.Causes.{Writes};
 ghost use Rattle.live_node.specs.Live.{is_of_cluster, is_other, may_begin, allowed, is_open, period_begun, slot_ended, told, inputs_given, correction, run_text, slot_answer, answer, replaced, IsNewLive};
 ghost use Rattle.live_node.specs.Seen.{event_in, FitsIn, IsAnswered};
+ghost use Rattle.live_node.specs.Standing.{IsLive};
 ghost use Rattle.live_node.specs.Text.{say_text, correct_text};
 
 use crate::correcting::correction_by;
@@ -203,12 +204,14 @@ impl<'s, const N: usize> EventNode<'s, N> {
     /// Whether the event may come now.
     pub(crate) fn allows(&self, event: Event) -> bool
         requires capacity { IsCapacity N }
-        ensures { (room : List ℕ) → result ≡ allowed self.now (event_in room event) }
+        ensures event { (room : List ℕ) → result ≡ allowed self.now (event_in room event) }
+        ensures live { IsLive self.now }
     {
+        let is_open = self.slot.is_some();
         match event {
-            Event::Begin(named) => !self.is_open() && self.may_begin(named),
-            Event::Deliver { .. } | Event::End | Event::Ahead { .. } => self.is_open(),
-            Event::Restart | Event::Reading { .. } => !self.is_open(),
+            Event::Begin(named) => !is_open && self.may_begin(named),
+            Event::Deliver { .. } | Event::End | Event::Ahead { .. } => is_open,
+            Event::Restart | Event::Reading { .. } => !is_open,
         }
     }
 
@@ -322,7 +325,6 @@ impl<'s, const N: usize> EventNode<'s, N> {
     }
 
     /// Writes the lines of the period that was run last.
-    #[tactic(none)]
     fn write_run<K: Sink>(&mut self, sink: &mut K) -> Result<(), WriteFault>
         requires capacity { IsCapacity N }
         requires closed { is_open self.old ≡ false }
@@ -344,7 +346,6 @@ impl<'s, const N: usize> EventNode<'s, N> {
     }
 
     /// Writes what the node answers to an event that was taken last.
-    #[tactic(none)]
     pub(crate) fn answer<K: Sink>(&mut self, event: Event, sink: &mut K) -> Result<(), WriteFault>
         requires capacity { IsCapacity N }
         requires some { IsAnswered event → 0 < self.old.next }

@@ -98,7 +98,6 @@ impl<'s, const N: usize> Live<'s, N> {
     /// - `Unknown` and `NotNow`: nothing was written, and the node is as before.
     /// - `WriteFault` comes only where the sink's count of faults rose. The line was taken, and a prefix of the answer was
     ///   written then.
-    #[tactic(none)]
     pub fn take<K: Sink>(&mut self, line: &[u8], sink: &mut K) -> Result<(), Refusal>
         requires capacity { IsCapacity N }
         requires short { length line.now ≤ self.old.longest }

@@ -14,14 +14,21 @@ use Rattle.span_io.specs.Causes.{Writes}
 use Rattle.run_print.specs.declared.WriteFault.{WriteFault}
 use Rattle.run_text.specs.PeriodText.{alone_text}
 use Rattle.live_node.specs.Event as spec
-use Rattle.live_node.specs.Live.{LiveView, IsNewLive, is_open, is_other, is_of_cluster, may_begin, allowed, period_begun, slot_ended, inputs_given, replaced, told, answer, correction, run_text, slot_answer}
+use Rattle.live_node.specs.Live.{LiveView, IsNewLive, is_open, is_other, is_of_cluster, may_begin, allowed, period_begun, slot_ended, inputs_given, replaced, told, answer, correction, run_text, slot_answer, told_numbers, good_told}
 use Rattle.live_node.specs.Seen.{event_in, FitsIn, IsAnswered}
 use Rattle.live_node.specs.Standing.{IsLive, IsHeld, open_slot}
 use Rattle.live_node.specs.Text.{say_text, correct_text}
 use Rattle.live_node.proofs.Splitting.{is_some_map}
 use Rattle.live_node.proofs.Deciding.{begin_shut, begin_open}
 use Rattle.live_node.proofs.Keeping.{values_replaced, open_some}
-use Rattle.live_node.proofs.Held.{both, not_so, and_true, and_false, begins_later, begins_next, other_is, fits_value, slot_at, opened_at, shut_at, slot_small, held_begun, begun_is, held_next, next_is, held_last, last_is, held_given, held_restarted, held_reading, held_ahead, held_larger, stored, new_live, held_new, said_later}
+use Rattle.live_node.proofs.Held.{both, not_so, and_true, and_false, begins_later, begins_next, other_is, fits_value, slot_at, opened_at, shut_at, slot_small, held_begun, begun_is, held_next, next_is, held_last, last_is, held_given, held_restarted, held_reading, held_ahead, held_larger, stored, new_live, held_new, said_later, few_nodes}
+use Rattle.frames.specs.Bound.{IsGreatest}
+use Rattle.agreed_state.specs.Body.{state_len}
+use Rattle.node_steps.specs.Outcome.{Outcome}
+use Rattle.protocol.specs.Clocks.{corrects}
+use Rattle.std.proofs.Common.{rules}
+use mir.Val.{SFits}
+use Rattle.std.proofs.lemmas.Int.{to_z-of_z}
 use Rattle.live_node.proofs.event_node.EventNode.open.Goals as goal
 
 pub config-config-requires : goal.config-config-requires
@@ -35,10 +42,7 @@ state_len-requires g c =
 
 pub frame_bound-room-requires-clause-nodes : goal.frame_bound-room-requires-clause-nodes
 frame_bound-room-requires-clause-nodes g c =
-    let fine : IsConfig g.row.N c.config-config.result.now = subst (IsConfig g.row.N) (sym c.config-config.ensures.config) c.config-config.ensures.scenario.system.config in
-    let few = fine.few_nodes in
-    let cap : IsCapacity g.row.N = c.requires.capacity in
-    omega (arith, few, cap)
+    few_nodes g.row.N c.config-config.result.now c.requires.capacity (subst (IsConfig g.row.N) (sym c.config-config.ensures.config) c.config-config.ensures.scenario.system.config)
 
 pub frame_bound-room-requires-clause-rounds : goal.frame_bound-room-requires-clause-rounds
 frame_bound-room-requires-clause-rounds g c =
@@ -67,7 +71,9 @@ invariant_of-result g c =
     let front = c.in-Ok.ensures.capacity in
     let back = c.in-Ok-with_capacity.ensures.capacity in
     held_new c.args.scenario.now c.args.id c.frame_bound-room.result (vec_capacity c.in-Ok.frame) (vec_capacity c.in-Ok-with_capacity.text) c.args.longest c.in_ok-node.node c.nothing.result.given c.nothing.result.ahead c.nothing.ensures.given c.nothing.ensures.ahead fresh
-    c.config-config.ensures.scenario c.requires.id ? front back
+    c.config-config.ensures.scenario c.requires.id
+    (subst (λ (y : Config g.row.N). IsGreatest y.nodes y.m (state_len y) 8 c.frame_bound-room.result) c.config-config.ensures.config
+    (subst (λ n. IsGreatest c.config-config.result.now.nodes c.config-config.result.now.m n 8 c.frame_bound-room.result) c.state_len.ensures c.frame_bound-room.ensures.greatest)) front back
 
 pub returns-clause-fresh : goal.returns-clause-fresh
 returns-clause-fresh g c =

@@ -14,14 +14,21 @@ use Rattle.span_io.specs.Causes.{Writes}
 use Rattle.run_print.specs.declared.WriteFault.{WriteFault}
 use Rattle.run_text.specs.PeriodText.{alone_text}
 use Rattle.live_node.specs.Event as spec
-use Rattle.live_node.specs.Live.{LiveView, IsNewLive, is_open, is_other, is_of_cluster, may_begin, allowed, period_begun, slot_ended, inputs_given, replaced, told, answer, correction, run_text, slot_answer}
+use Rattle.live_node.specs.Live.{LiveView, IsNewLive, is_open, is_other, is_of_cluster, may_begin, allowed, period_begun, slot_ended, inputs_given, replaced, told, answer, correction, run_text, slot_answer, told_numbers, good_told}
 use Rattle.live_node.specs.Seen.{event_in, FitsIn, IsAnswered}
 use Rattle.live_node.specs.Standing.{IsLive, IsHeld, open_slot}
 use Rattle.live_node.specs.Text.{say_text, correct_text}
 use Rattle.live_node.proofs.Splitting.{is_some_map}
 use Rattle.live_node.proofs.Deciding.{begin_shut, begin_open}
 use Rattle.live_node.proofs.Keeping.{values_replaced, open_some}
-use Rattle.live_node.proofs.Held.{both, not_so, and_true, and_false, begins_later, begins_next, other_is, fits_value, slot_at, opened_at, shut_at, slot_small, held_begun, begun_is, held_next, next_is, held_last, last_is, held_given, held_restarted, held_reading, held_ahead, held_larger, stored, new_live, held_new, said_later}
+use Rattle.live_node.proofs.Held.{both, not_so, and_true, and_false, begins_later, begins_next, other_is, fits_value, slot_at, opened_at, shut_at, slot_small, held_begun, begun_is, held_next, next_is, held_last, last_is, held_given, held_restarted, held_reading, held_ahead, held_larger, stored, new_live, held_new, said_later, few_nodes}
+use Rattle.frames.specs.Bound.{IsGreatest}
+use Rattle.agreed_state.specs.Body.{state_len}
+use Rattle.node_steps.specs.Outcome.{Outcome}
+use Rattle.protocol.specs.Clocks.{corrects}
+use Rattle.std.proofs.Common.{rules}
+use mir.Val.{SFits}
+use Rattle.std.proofs.lemmas.Int.{to_z-of_z}
 use Rattle.live_node.proofs.event_node.EventNode.write_correct.Goals as goal
 
 pub config-requires : goal.config-requires
@@ -54,5 +61,13 @@ pub returns-clause-wrote : goal.returns-clause-wrote
 returns-clause-wrote g c =
     let v : LiveView g.row.N = record { scenario = c.self.inside.scenario.now; id = c.self.inside.id; node = c.self.inside.node; next = c.self.inside.next; run = c.self.inside.run; forgot = c.self.inside.forgot; given = c.self.inside.told.given; ahead = c.self.inside.told.ahead; longest = c.self.inside.longest } in
     let same : v ≡ c.args.self.now = c.self.view_is in
-    let by : c.correction_by-by.result ≡ correction c.args.self.now = ? in
-    subst (λ (line : List ℕ). Writes {T = Unit {0}} {E = WriteFault} (g.K.Sink.written c.args.sink.now) (g.K.Sink.written c.write.new.sink) (g.K.Sink.faults c.args.sink.now) (g.K.Sink.faults c.write.new.sink) line c.write.result) (c.as_slice.ensures.value ∙ c.spell_correct.ensures.text ∙ ap correct_text by) c.write.ensures
+    let by : c.correction_by-by.result ≡ correction c.args.self.now =
+    c.correction_by-by.ensures
+    ∙ ap (λ (y : Config g.row.N). corrects y.m v.id (told_numbers v.ahead) c.args.outcome.now.members (good_told c.args.outcome.now.sync v.ahead) c.args.outcome.now.mode) c.config.ensures.config
+    ∙ ap (λ (o : Outcome). corrects v.scenario.config.m v.id (told_numbers v.ahead) o.members (good_told o.sync v.ahead) o.mode) (c.requires.outcome ∙ sym (ap (λ (x : LiveView g.row.N). x.node.outcome) same))
+    ∙ ap (λ (x : LiveView g.row.N). correction x) same in
+    let fits : SFits w64 c.correction_by-by.result = search rules in
+    let spelled : ◌≡◌ {A = List ℕ} c.spell_correct.new.text.items (correct_text (to_z w64 (of_z w64 c.correction_by-by.result))) = c.spell_correct.ensures.text in
+    let kept : to_z w64 (of_z w64 c.correction_by-by.result) ≡ c.correction_by-by.result = to_z-of_z w64 c.correction_by-by.result fits in
+    let lent : ◌≡◌ {A = List ℕ} c.as_slice.result.now c.spell_correct.new.text.items = c.as_slice.ensures.value in
+    subst (λ (line : List ℕ). Writes {T = Unit {0}} {E = WriteFault} (g.K.Sink.written c.args.sink.now) (g.K.Sink.written c.write.new.sink) (g.K.Sink.faults c.args.sink.now) (g.K.Sink.faults c.write.new.sink) line c.write.result) (lent ∙ spelled ∙ ap correct_text (kept ∙ by)) c.write.ensures

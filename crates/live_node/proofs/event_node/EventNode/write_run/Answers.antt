@@ -1,0 +1,110 @@
+use Rattle.std.proofs.Common.{◌≡◌, ◌≢◌, ◌<◌, ◌≤◌, ◌+◌, ◌*◌, ◌^◌, ◌&&◌, ℕ, ℤ, List, Bool, true, false, not, nat_lt, length, take, refl, sym, ap, ap₂, subst, ◌∙◌, arith, inl, inr, lit<, w64, to_z, of_z}
+use Rattle.std.specs.Prelude.{All, Option, None, Some, is_some, option_map, unwrap_or, vec_capacity, set}
+use Rattle.agreed_state.specs.declared.config.Config.{Config}
+use Rattle.agreed_state.specs.declared.config.Inputs.{Inputs}
+use Rattle.agreed_state.specs.ConfigLaws.{few_rounds}
+use Rattle.agreed_state.specs.Config.{IsConfig}
+use Rattle.frames.specs.Content.{IsValue}
+use Rattle.node_grid.specs.Capacity.{IsCapacity}
+use Rattle.node_steps.specs.Parts.{NodeView}
+use Rattle.node_steps.specs.Steps.{given_frame, restarted, frame_of, after_slot}
+use Rattle.node_steps.specs.Fresh.{IsFresh}
+use Rattle.scenario.specs.Scenario.{ScenarioView, IsScenario, inputs_of}
+use Rattle.span_io.specs.Causes.{Writes}
+use Rattle.run_print.specs.declared.WriteFault.{WriteFault}
+use Rattle.run_text.specs.PeriodText.{alone_text}
+use Rattle.live_node.specs.Event as spec
+use Rattle.live_node.specs.Live.{LiveView, IsNewLive, is_open, is_other, is_of_cluster, may_begin, allowed, period_begun, slot_ended, inputs_given, replaced, told, answer, correction, run_text, slot_answer, told_numbers, good_told}
+use Rattle.live_node.specs.Seen.{event_in, FitsIn, IsAnswered}
+use Rattle.live_node.specs.Standing.{IsLive, IsHeld, open_slot}
+use Rattle.live_node.specs.Text.{say_text, correct_text}
+use Rattle.live_node.proofs.Splitting.{is_some_map}
+use Rattle.live_node.proofs.Deciding.{begin_shut, begin_open}
+use Rattle.live_node.proofs.Keeping.{values_replaced, open_some}
+use Rattle.live_node.proofs.Held.{both, not_so, and_true, and_false, begins_later, begins_next, other_is, fits_value, slot_at, opened_at, shut_at, slot_small, held_begun, begun_is, held_next, next_is, held_last, last_is, held_given, held_restarted, held_reading, held_ahead, held_larger, stored, new_live, held_new, said_later, few_nodes}
+use Rattle.frames.specs.Bound.{IsGreatest}
+use Rattle.agreed_state.specs.Body.{state_len}
+use Rattle.node_steps.specs.Outcome.{Outcome}
+use Rattle.protocol.specs.Clocks.{corrects}
+use Rattle.std.proofs.Common.{rules}
+use mir.Val.{SFits}
+use Rattle.std.proofs.lemmas.Int.{to_z-of_z}
+use Rattle.std.proofs.Common.{◌++◌, ◌-◌, Result, drop, take_at}
+use Rattle.live_node.proofs.Taking.{no_event, unknown, not_now, goes, longest_kept, refused, taken_ok, taken_err, silent, period_lines, lines_are, with_clock, without_clock, said, ran, front_failed, front_all, front_and_rest}
+use Rattle.std.proofs.Common.{if◌then◌else◌, []}
+use Rattle.live_node.proofs.event_node.EventNode.write_run.Goals as goal
+
+pub config-config-requires : goal.config-config-requires
+config-config-requires g c =
+    elim c.requires.capacity [ inl e ↦ rw e (lit< tt, lit< tt) | inr e ↦ rw e (lit< tt, lit< tt) ]
+
+pub record-outcome-requires : goal.record-outcome-requires
+record-outcome-requires g c =
+    let v : LiveView g.row.N = record { scenario = c.self.inside.scenario.now; id = c.self.inside.id; node = c.self.inside.node; next = c.self.inside.next; run = c.self.inside.run; forgot = c.self.inside.forgot; given = c.self.inside.told.given; ahead = c.self.inside.told.ahead; longest = c.self.inside.longest } in
+    let same : v ≡ c.args.self.now = c.self.view_is in
+    (elim c.requires.capacity [ inl e ↦ rw e (lit< tt) | inr e ↦ rw e (lit< tt) ], (elim c.requires.capacity [ inl e ↦ rw e (lit< tt) | inr e ↦ rw e (lit< tt) ], ap (λ (x : LiveView g.row.N). is_open x) same ∙ c.requires.closed))
+
+pub overflow_sub-period : goal.overflow_sub-period
+overflow_sub-period g c =
+    let next = ap (λ (x : LiveView g.row.N). x.next) c.self.view_is in let some = c.requires.some in omega (arith, next, some)
+
+pub overflow_cast-period : goal.overflow_cast-period
+overflow_cast-period g c =
+    let v : LiveView g.row.N = record { scenario = c.self.inside.scenario.now; id = c.self.inside.id; node = c.self.inside.node; next = c.self.inside.next; run = c.self.inside.run; forgot = c.self.inside.forgot; given = c.self.inside.told.given; ahead = c.self.inside.told.ahead; longest = c.self.inside.longest } in
+    let held : IsHeld v c.self.inside.slot (vec_capacity c.self.inside.frame) (vec_capacity c.self.inside.text) = c.self.invariant in
+    let next = held.live.next in omega (arith, next)
+
+pub write_alone-requires : goal.write_alone-requires
+write_alone-requires g c =
+    let few : c.config-config.result.now.nodes ≤ g.row.N = rw c.config-config.ensures.config c.config-config.ensures.scenario.system.config.few_nodes in
+    (elim c.requires.capacity [ inl e ↦ rw e (lit< tt) | inr e ↦ rw e (lit< tt) ], (c.requires.capacity, few))
+
+pub clock-requires : goal.clock-requires
+clock-requires g c =
+    elim c.requires.capacity [ inl e ↦ rw e (lit< tt, lit< tt) | inr e ↦ rw e (lit< tt, lit< tt) ]
+
+pub write_correct-requires : goal.write_correct-requires
+write_correct-requires g c =
+    let v : LiveView g.row.N = record { scenario = c.self.inside.scenario.now; id = c.self.inside.id; node = c.self.inside.node; next = c.self.inside.next; run = c.self.inside.run; forgot = c.self.inside.forgot; given = c.self.inside.told.given; ahead = c.self.inside.told.ahead; longest = c.self.inside.longest } in
+    let same : v ≡ c.args.self.now = c.self.view_is in
+    (elim c.requires.capacity [ inl e ↦ rw e (lit< tt) | inr e ↦ rw e (lit< tt) ], (elim c.requires.capacity [ inl e ↦ rw e (lit< tt) | inr e ↦ rw e (lit< tt) ], (c.requires.capacity, c.record-outcome.ensures ∙ ap (λ (x : LiveView g.row.N). x.node.outcome) same)))
+
+pub returns-in_default-clause-wrote : goal.returns-in_default-clause-wrote
+returns-in_default-clause-wrote g c =
+    let v : LiveView g.row.N = record { scenario = c.self.inside.scenario.now; id = c.self.inside.id; node = c.self.inside.node; next = c.self.inside.next; run = c.self.inside.run; forgot = c.self.inside.forgot; given = c.self.inside.told.given; ahead = c.self.inside.told.ahead; longest = c.self.inside.longest } in
+    let same : v ≡ c.args.self.now = c.self.view_is in
+    let held : IsHeld v c.self.inside.slot (vec_capacity c.self.inside.frame) (vec_capacity c.self.inside.text) = c.self.invariant in
+    let some : 0 < v.next = let next = ap (λ (x : LiveView g.row.N). x.next) same in let some' = c.requires.some in omega (arith, next, some') in
+    let lines : alone_text (c.self.inside.next - 1) c.self.inside.id c.config-config.result.now.nodes c.config-config.result.now.policy.retire c.record-outcome.result ≡ period_lines c.args.self.now =
+    lines_are v c.args.self.now same (c.self.inside.next - 1) c.config-config.result.now c.record-outcome.result (omega (arith, some)) (held.live.period some) c.config-config.ensures.config c.record-outcome.ensures in
+    front_failed (Unit {0}) (Unit {0}) WriteFault WriteFault (g.K.Sink.written c.args.sink.now) (g.K.Sink.written c.write_alone.new.sink) (g.K.Sink.faults c.args.sink.now) (g.K.Sink.faults c.write_alone.new.sink) (alone_text (c.self.inside.next - 1) c.self.inside.id c.config-config.result.now.nodes c.config-config.result.now.policy.retire c.record-outcome.result) (if is_some c.args.self.now.scenario.clock then correct_text (correction c.args.self.now) else []) (run_text c.args.self.now) c.write_alone.result c.in_default.field-0 _
+    c.in_default.is (ap (λ xs. xs ++ (if is_some c.args.self.now.scenario.clock then correct_text (correction c.args.self.now) else [])) lines) c.write_alone.ensures
+
+pub returns-then-is_none-clause-wrote : goal.returns-then-is_none-clause-wrote
+returns-then-is_none-clause-wrote g c =
+    let v : LiveView g.row.N = record { scenario = c.self.inside.scenario.now; id = c.self.inside.id; node = c.self.inside.node; next = c.self.inside.next; run = c.self.inside.run; forgot = c.self.inside.forgot; given = c.self.inside.told.given; ahead = c.self.inside.told.ahead; longest = c.self.inside.longest } in
+    let same : v ≡ c.args.self.now = c.self.view_is in
+    let held : IsHeld v c.self.inside.slot (vec_capacity c.self.inside.frame) (vec_capacity c.self.inside.text) = c.self.invariant in
+    let some : 0 < v.next = let next = ap (λ (x : LiveView g.row.N). x.next) same in let some' = c.requires.some in omega (arith, next, some') in
+    let lines : alone_text (c.self.inside.next - 1) c.self.inside.id c.config-config.result.now.nodes c.config-config.result.now.policy.retire c.record-outcome.result ≡ period_lines c.args.self.now =
+    lines_are v c.args.self.now same (c.self.inside.next - 1) c.config-config.result.now c.record-outcome.result (omega (arith, some)) (held.live.period some) c.config-config.ensures.config c.record-outcome.ensures in
+    let clock : is_some c.args.self.now.scenario.clock ≡ false =
+    sym (ap (λ (x : LiveView g.row.N). is_some x.scenario.clock) same) ∙ sym (ap is_some c.clock.ensures.clock) ∙ is_some_map _ c.clock.result ∙ c.is_none.ensures ∙ ap not c.if-is_none.true in
+    front_all (Unit {0}) (Unit {0}) WriteFault WriteFault (g.K.Sink.written c.args.sink.now) (g.K.Sink.written c.write_alone.new.sink) (g.K.Sink.faults c.args.sink.now) (g.K.Sink.faults c.write_alone.new.sink) (alone_text (c.self.inside.next - 1) c.self.inside.id c.config-config.result.now.nodes c.config-config.result.now.policy.retire c.record-outcome.result) (run_text c.args.self.now) c.write_alone.result c.in-Ok.field-0 tt c.in-Ok.is (lines ∙ without_clock c.args.self.now clock) c.write_alone.ensures
+
+pub returns-clause-same : goal.returns-clause-same
+returns-clause-same g c =
+    c.write_correct.ensures.same
+
+pub returns-clause-wrote : goal.returns-clause-wrote
+returns-clause-wrote g c =
+    let v : LiveView g.row.N = record { scenario = c.self.inside.scenario.now; id = c.self.inside.id; node = c.self.inside.node; next = c.self.inside.next; run = c.self.inside.run; forgot = c.self.inside.forgot; given = c.self.inside.told.given; ahead = c.self.inside.told.ahead; longest = c.self.inside.longest } in
+    let same : v ≡ c.args.self.now = c.self.view_is in
+    let held : IsHeld v c.self.inside.slot (vec_capacity c.self.inside.frame) (vec_capacity c.self.inside.text) = c.self.invariant in
+    let some : 0 < v.next = let next = ap (λ (x : LiveView g.row.N). x.next) same in let some' = c.requires.some in omega (arith, next, some') in
+    let lines : alone_text (c.self.inside.next - 1) c.self.inside.id c.config-config.result.now.nodes c.config-config.result.now.policy.retire c.record-outcome.result ≡ period_lines c.args.self.now =
+    lines_are v c.args.self.now same (c.self.inside.next - 1) c.config-config.result.now c.record-outcome.result (omega (arith, some)) (held.live.period some) c.config-config.ensures.config c.record-outcome.ensures in
+    let clock : is_some c.args.self.now.scenario.clock ≡ true =
+    sym (ap (λ (x : LiveView g.row.N). is_some x.scenario.clock) same) ∙ sym (ap is_some c.clock.ensures.clock) ∙ is_some_map _ c.clock.result ∙ c.is_none.ensures ∙ ap not c.if-is_none.false in
+    front_and_rest (Unit {0}) WriteFault (g.K.Sink.written c.args.sink.now) (g.K.Sink.written c.write_alone.new.sink) (g.K.Sink.written c.write_correct.new.sink) (g.K.Sink.faults c.args.sink.now) (g.K.Sink.faults c.write_alone.new.sink) (g.K.Sink.faults c.write_correct.new.sink)
+    (alone_text (c.self.inside.next - 1) c.self.inside.id c.config-config.result.now.nodes c.config-config.result.now.policy.retire c.record-outcome.result) (correct_text (correction c.args.self.now)) (run_text c.args.self.now) c.write_alone.result c.write_correct.result c.in-Ok.field-0 c.in-Ok.is (ap (λ xs. xs ++ correct_text (correction c.args.self.now)) lines ∙ with_clock c.args.self.now clock) c.write_alone.ensures c.write_correct.ensures.wrote
