@@ -1,8 +1,8 @@
 -- A node with its slot and its rooms, after each event: it is held, and it is what the event makes of it.
-use Rattle.std.proofs.Common.{ℕ, suc, ◌≡◌, ◌≢◌, ◌<◌, ◌≤◌, ◌+◌, ◌*◌, ◌^◌, ◌==◌, ◌&&◌, ◌||◌, Bool, true, false, not, nat_lt, if◌then◌else◌, ℤ, pos, negsuc, List, length, take, replicate, refl, sym, ap, ap₂, subst, ◌∙◌, arith, w64, to_z, of_z, inl, inr}
+use Rattle.std.proofs.Common.{ℕ, ◌≡◌, ◌≢◌, ◌<◌, ◌≤◌, ◌+◌, ◌*◌, ◌^◌, ◌==◌, ◌&&◌, ◌||◌, Bool, true, false, not, nat_lt, if◌then◌else◌, ℤ, pos, negsuc, List, replicate, refl, sym, ap, ap₂, subst, ◌∙◌, arith, w64, to_z, of_z, inl, inr}
 use Rattle.std.specs.Prelude.{Option, None, Some, unwrap_or, set}
 use mir.Val.{SFits}
-use Rattle.std.proofs.lemmas.Bool.{false≢true, eqb-true}
+use Rattle.std.proofs.lemmas.Bool.{false≢true}
 use Rattle.std.proofs.lemmas.Bool.Decides.{nat_tests}
 use Rattle.std.proofs.lemmas.Int.{to_z-of_z, ints}
 use Rattle.frames.specs.Bound.{IsGreatest}

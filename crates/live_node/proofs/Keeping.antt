@@ -1,21 +1,21 @@
 -- What each event leaves of a node: that it stands as between two lines, which slot is open, and its rooms.
-use Rattle.std.proofs.Common.{ℕ, zero, suc, ◌≡◌, ◌≢◌, ◌<◌, ◌≤◌, ◌+◌, ◌*◌, ◌^◌, ◌==◌, Bool, true, false, if◌then◌else◌, ℤ, List, [], ◌∷◌, length, take, get_or, replicate, refl, sym, ap, ap₂, subst, ◌∙◌, arith, length-set, w64, to_z, of_z}
+use Rattle.std.proofs.Common.{ℕ, zero, suc, ◌≡◌, ◌≢◌, ◌<◌, ◌≤◌, ◌+◌, ◌*◌, ◌^◌, ◌==◌, Bool, true, false, if◌then◌else◌, ℤ, List, [], ◌∷◌, length, take, get_or, replicate, refl, sym, ap, ◌∙◌, arith, length-set, w64, to_z, of_z}
 use mir.Val.{SFits}
 use Rattle.std.proofs.lemmas.Int.{to_z-of_z}
-use Rattle.std.specs.Prelude.{All, IfSome, Option, None, Some, is_some, unwrap_or, set, slice_index_or}
+use Rattle.std.specs.Prelude.{All, IfSome, Option, None, Some, is_some, unwrap_or, set}
 use Rattle.std.proofs.lemmas.Bool.{false≢true, eq-eqb, eqb-true}
 use Rattle.std.proofs.lemmas.List.{length-replicate}
-use Rattle.std.proofs.lemmas.List.Elements.{All-nil, All-cons, All-head, All-tail, All-set, All-replicate}
+use Rattle.std.proofs.lemmas.List.Elements.{All-cons, All-head, All-tail, All-set, All-replicate}
 use Rattle.frames.specs.Bound.{IsGreatest}
 use Rattle.frames.specs.Content.{IsValue}
 use Rattle.agreed_state.specs.declared.config.Config.{Config}
 use Rattle.agreed_state.specs.declared.config.Inputs.{Inputs}
 use Rattle.protocol.specs.View.{channel_room}
 use Rattle.node_steps.specs.Parts.{NodeView}
-use Rattle.node_steps.specs.Sending.{Fixed, fixed}
-use Rattle.node_steps.specs.Steps.{shut, slot_taken, after_slot, given_frame, restarted, begun, finished}
-use Rattle.node_steps.specs.FixedLaws.{Place, place, slot_place, after_fixed, slots_period, room_kept}
-use Rattle.live_node.specs.Live.{LiveView, is_open, period_begun, slot_ended, replaced}
+use Rattle.node_steps.specs.Sending.{Fixed}
+use Rattle.node_steps.specs.Steps.{shut, slot_taken, after_slot, given_frame, restarted, begun}
+use Rattle.node_steps.specs.FixedLaws.{Place, slot_place, after_fixed, slots_period, room_kept}
+use Rattle.live_node.specs.Live.{LiveView, is_open, replaced}
 use Rattle.live_node.specs.Standing.{IsLive, AreTold, open_slot}
 use Rattle.live_node.proofs.Splitting.{not_true}
 

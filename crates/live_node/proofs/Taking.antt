@@ -1,6 +1,6 @@
 -- What becomes of a node and a sink by a line.
-use Rattle.std.proofs.Common.{ℕ, ◌≡◌, ◌≤◌, ◌+◌, ◌*◌, Bool, true, false, if◌then◌else◌, List, [], ◌++◌, refl, sym, ap, ap₂, subst, ◌∙◌, arith, append-nil, Option, None, Some, Result, Ok, Err}
-use Rattle.std.specs.Prelude.{IsErr, IfErr, is_some}
+use Rattle.std.proofs.Common.{ℕ, ◌≡◌, ◌+◌, Bool, true, false, if◌then◌else◌, List, [], ◌++◌, refl, sym, ap, subst, ◌∙◌, arith, append-nil, Option, None, Some, Result, Ok, Err}
+use Rattle.std.specs.Prelude.{is_some}
 use Rattle.std.proofs.KnownBytes.{Keeps-refl}
 use Rattle.span_io.specs.Causes.{Writes}
 use Rattle.span_io.specs.Progress.{then, stop, start, finish}
@@ -12,10 +12,10 @@ use Rattle.node_steps.specs.Steps.{frame_of}
 use Rattle.live_node.specs.Event as spec
 use Rattle.live_node.specs.Event.Event.{Begin, Deliver, End, Restart, Reading, Ahead}
 use Rattle.live_node.specs.Event.{event_of}
-use Rattle.live_node.specs.Live.{LiveView, Step, is_open, is_of_cluster, allowed, told, answer, event_step, step_of, line_step, unknown_rule, not_now_rule, run_text, slot_answer, correction}
+use Rattle.live_node.specs.Live.{LiveView, Step, is_open, is_of_cluster, allowed, told, answer, step_of, line_step, unknown_rule, not_now_rule, run_text, slot_answer, correction}
 use Rattle.live_node.specs.Live.Step.{Goes, Refuses}
 use Rattle.live_node.specs.Text.{say_text, correct_text}
-use Rattle.live_node.specs.Taking.{Takes, refusal_by, IsRefused, IsAnswered}
+use Rattle.live_node.specs.Taking.{Takes, refusal_by}
 use Rattle.live_node.specs.declared.live.Refusal.{Refusal}
 use Rattle.live_node.specs.declared.live.Refusal.TheVariants.{WriteFault as Failed}
 use Rattle.live_node.proofs.Keeping.{if_true, if_false}

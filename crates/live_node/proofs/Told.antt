@@ -1,5 +1,5 @@
 -- What was told of clocks and channels.
-use Rattle.std.proofs.Common.{◌≡◌, ℕ, ◌+◌, ◌<◌, ◌≤◌, ◌^◌, ◌++◌, ℤ, pos, neg_ℤ, ◌≤ℤ◌, List, [], ◌∷◌, length, map, take, get_or, replicate, refl, sym, ap, ap₂, subst, ◌∙◌, arith, w64, to_z, of_z, length-set, inl, inr}
+use Rattle.std.proofs.Common.{◌≡◌, ℕ, ◌+◌, ◌<◌, ◌≤◌, ◌++◌, ℤ, pos, List, [], ◌∷◌, length, map, take, get_or, refl, sym, ap, ap₂, subst, ◌∙◌, arith, w64, to_z, of_z, length-set, inl, inr}
 use Rattle.std.specs.Prelude.{All, IfSome, Option, None, Some, is_some, unwrap_or, slice_set, slice_index_or, Bool, true, false, ◌&&◌, ◌||◌, ◌==◌, ◌⊎◌}
 use Rattle.std.specs.List.{filter}
 use mir.Val.{SFits}

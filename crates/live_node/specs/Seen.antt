@@ -1,6 +1,5 @@
 -- What the code reads and keeps, seen as in the definitions.
-use Rattle.std.specs.Prelude.{◌≡◌, ℕ, ◌*◌, ◌+◌, ◌^◌, ◌<◌, ◌≤◌, List, [], length, option_map, Option, None, Some, take, IfSome}
-use Rattle.slot_plan.specs.Ticks.{last_tick}
+use Rattle.std.specs.Prelude.{ℕ, ◌^◌, ◌<◌, ◌≤◌, List, [], Option, None, Some, take, IfSome}
 use Rattle.frames.specs.Content.{IsValue}
 use Rattle.live_node.specs.Event as spec
 use Rattle.live_node.specs.Event.{words}

@@ -357,10 +357,8 @@ impl<'s, const N: usize> EventNode<'s, N> {
                 Some(slot) => self.write_say(slot, sink),
                 None => self.write_run(sink),
             },
-            Event::Deliver { .. }
-            | Event::Restart
-            | Event::Reading { .. }
-            | Event::Ahead { .. } => Ok(()),
+            Event::Deliver { .. } | Event::Restart | Event::Reading { .. } | Event::Ahead { .. } =>
+                Ok(()),
         }
     }
 }

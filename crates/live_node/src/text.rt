@@ -21,7 +21,9 @@ pub(crate) fn spell_say(slot: u8, frame: &[u8], text: &mut Vec<u8>)
     let mut buffer = Buffer::new();
     text.clear();
     let _within_room = text.extend_from_slice(b"say ").is_ok();
-    let _within_room = text.extend_from_slice(buffer.format(slot).as_bytes()).is_ok();
+    let _within_room = text
+        .extend_from_slice(buffer.format(slot).as_bytes())
+        .is_ok();
     let _within_room = text.push(b' ').is_ok();
     let start = text.len();
     let _within_room = text.resize(start + 2 * frame.len(), 0).is_ok();

@@ -63,7 +63,11 @@ pub(crate) fn value_in(word: &[u8]) -> Option<i64>
         return Some(number_in(word, VALUE_LIMIT)? as i64);
     }
     let size = number_in(&word[1..], VALUE_LIMIT)?;
-    if size == 0 { None } else { Some(-(size as i64)) }
+    if size == 0 {
+        None
+    } else {
+        Some(-(size as i64))
+    }
 }
 
 /// Puts the bytes that a word is in hexadecimal at the front of the room, and answers how many they are.

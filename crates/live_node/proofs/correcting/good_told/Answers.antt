@@ -1,6 +1,6 @@
 use Rattle.std.proofs.Common.{◌≡◌, ◌<◌, ◌++◌, ◌∷◌, [], ℕ, Bool, List, None, slice_index_or, sym, ap, subst, ◌∙◌, append_assoc, append-nil}
 use Rattle.std.specs.Prelude.{All, is_some}
-use Rattle.std.proofs.lemmas.List.Elements.{All-head, All-tail}
+use Rattle.std.proofs.lemmas.List.Elements.{All-tail}
 use Rattle.node_grid.specs.NodeSet.{with_id}
 use Rattle.live_node.proofs.Told.{read_among, one_read, none_read, all_read}
 use Rattle.live_node.proofs.correcting.good_told.Goals as goal

@@ -1,6 +1,5 @@
 use Rattle.std.proofs.Common.{◌≡◌, ◌++◌, ◌<◌, None, slice_index_or}
 use Rattle.std.specs.Prelude.{All, is_some}
-use Rattle.node_grid.specs.NodeSet.{IsIdSet}
 use Rattle.live_node.proofs.Told.{read_among}
 use Rattle.live_node.proofs.correcting.good_told.Given as goal
 

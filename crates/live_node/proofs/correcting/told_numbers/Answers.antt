@@ -1,4 +1,4 @@
-use Rattle.std.proofs.Common.{rules, w64, refl, sym, subst, ◌∙◌}
+use Rattle.std.proofs.Common.{rules, w64, refl, sym, subst}
 use Rattle.std.proofs.lemmas.List.{length-replicate}
 use Rattle.std.specs.Prelude.{All}
 use mir.Val.{SFits}

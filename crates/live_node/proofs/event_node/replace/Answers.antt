@@ -1,7 +1,5 @@
-use Rattle.std.proofs.Common.{rules, w64, ℕ, ℤ, List, length, sym, ap, ◌∙◌, ◌<◌, ◌≡◌, arith, take}
+use Rattle.std.proofs.Common.{rules, w64, length, ◌<◌, arith}
 use mir.Val.{SFits}
-use Rattle.std.proofs.Math.Seq.{take_all}
-use Rattle.live_node.specs.Live.{replaced}
 use Rattle.live_node.proofs.Keeping.{put_reading, left_reading}
 use Rattle.live_node.proofs.event_node.replace.Goals as goal
 use Rattle.live_node.proofs.event_node.replace.Goals.{in-Some, in_default}

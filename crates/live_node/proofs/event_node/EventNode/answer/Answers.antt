@@ -1,36 +1,12 @@
-use Rattle.std.proofs.Common.{◌≡◌, ◌≢◌, ◌<◌, ◌≤◌, ◌+◌, ◌*◌, ◌^◌, ◌&&◌, ℕ, ℤ, List, Bool, true, false, not, nat_lt, length, take, refl, sym, ap, ap₂, subst, ◌∙◌, arith, inl, inr, lit<, w64, to_z, of_z}
-use Rattle.std.specs.Prelude.{All, Option, None, Some, is_some, option_map, unwrap_or, vec_capacity, set}
-use Rattle.agreed_state.specs.declared.config.Config.{Config}
-use Rattle.agreed_state.specs.declared.config.Inputs.{Inputs}
-use Rattle.agreed_state.specs.ConfigLaws.{few_rounds}
-use Rattle.agreed_state.specs.Config.{IsConfig}
-use Rattle.frames.specs.Content.{IsValue}
-use Rattle.node_grid.specs.Capacity.{IsCapacity}
-use Rattle.node_steps.specs.Parts.{NodeView}
-use Rattle.node_steps.specs.Steps.{given_frame, restarted, frame_of, after_slot}
-use Rattle.node_steps.specs.Fresh.{IsFresh}
-use Rattle.scenario.specs.Scenario.{ScenarioView, IsScenario, inputs_of}
+use Rattle.std.proofs.Common.{◌≡◌, ℕ, List, refl, sym, ap, subst, ◌∙◌, inl, inr, lit<}
+use Rattle.std.specs.Prelude.{vec_capacity}
 use Rattle.span_io.specs.Causes.{Writes}
 use Rattle.run_print.specs.declared.WriteFault.{WriteFault}
-use Rattle.run_text.specs.PeriodText.{alone_text}
-use Rattle.live_node.specs.Event as spec
-use Rattle.live_node.specs.Live.{LiveView, IsNewLive, is_open, is_other, is_of_cluster, may_begin, allowed, period_begun, slot_ended, inputs_given, replaced, told, answer, correction, run_text, slot_answer, told_numbers, good_told}
-use Rattle.live_node.specs.Seen.{event_in, FitsIn, IsAnswered}
-use Rattle.live_node.specs.Standing.{IsLive, IsHeld, open_slot}
-use Rattle.live_node.specs.Text.{say_text, correct_text}
-use Rattle.live_node.proofs.Splitting.{is_some_map}
-use Rattle.live_node.proofs.Deciding.{begin_shut, begin_open}
-use Rattle.live_node.proofs.Keeping.{values_replaced, open_some}
-use Rattle.live_node.proofs.Held.{both, not_so, and_true, and_false, begins_later, begins_next, other_is, fits_value, slot_at, opened_at, shut_at, slot_small, held_begun, begun_is, held_next, next_is, held_last, last_is, held_given, held_restarted, held_reading, held_ahead, held_larger, stored, new_live, held_new, said_later, few_nodes}
-use Rattle.frames.specs.Bound.{IsGreatest}
-use Rattle.agreed_state.specs.Body.{state_len}
-use Rattle.node_steps.specs.Outcome.{Outcome}
-use Rattle.protocol.specs.Clocks.{corrects}
-use Rattle.std.proofs.Common.{rules}
-use mir.Val.{SFits}
-use Rattle.std.proofs.lemmas.Int.{to_z-of_z}
-use Rattle.std.proofs.Common.{◌++◌, ◌-◌, Result, drop, take_at}
-use Rattle.live_node.proofs.Taking.{no_event, unknown, not_now, goes, longest_kept, refused, taken_ok, taken_err, silent, period_lines, lines_are, with_clock, without_clock, said, ran, front_failed, front_all, front_and_rest}
+use Rattle.live_node.specs.Live.{LiveView, is_open, answer, slot_answer}
+use Rattle.live_node.specs.Seen.{event_in, IsAnswered}
+use Rattle.live_node.specs.Standing.{IsHeld}
+use Rattle.live_node.proofs.Held.{slot_at, opened_at, shut_at}
+use Rattle.live_node.proofs.Taking.{silent, said, ran}
 use Rattle.std.proofs.Common.{[]}
 use Rattle.live_node.proofs.event_node.EventNode.answer.Goals as goal
 
@@ -61,24 +37,24 @@ returns-in-None-clause-same g c =
 pub returns-in-Some-clause-wrote : goal.returns-in-Some-clause-wrote
 returns-in-Some-clause-wrote g c =
     λ room.
-        let v : LiveView g.row.N = record { scenario = c.self.inside.scenario.now; id = c.self.inside.id; node = c.self.inside.node; next = c.self.inside.next; run = c.self.inside.run; forgot = c.self.inside.forgot; given = c.self.inside.told.given; ahead = c.self.inside.told.ahead; longest = c.self.inside.longest } in
-        let same : v ≡ c.args.self.now = c.self.view_is in
-        let held : IsHeld v c.self.inside.slot (vec_capacity c.self.inside.frame) (vec_capacity c.self.inside.text) = c.self.invariant in
-        let opened = opened_at v.node c.self.inside.slot held.slot_is c.in-Some.slot c.in-Some.is in
-        let at = slot_at v.node c.self.inside.slot held.slot_is c.in-Some.slot c.in-Some.is opened ∙ ap (λ (x : LiveView g.row.N). x.node.phase.slot) same in
-        let text = said c.args.self.now c.in-Some.slot at (sym (ap (λ (x : LiveView g.row.N). is_open x) same) ∙ opened) in
-        let of_event : slot_answer c.args.self.now ≡ answer c.args.self.now (event_in room c.args.event) = elim c.in-Begin.is [ inl p ↦ sym (ap (λ e. answer c.args.self.now (event_in room e)) p.1) | inr p ↦ sym (ap (λ e. answer c.args.self.now (event_in room e)) p) ] in
-        subst (λ (line : List ℕ). Writes {T = Unit {0}} {E = WriteFault} (g.K.Sink.written c.args.sink.now) (g.K.Sink.written c.write_say.new.sink) (g.K.Sink.faults c.args.sink.now) (g.K.Sink.faults c.write_say.new.sink) line c.write_say.result) (text ∙ of_event) c.write_say.ensures.wrote
+    let v : LiveView g.row.N = record { scenario = c.self.inside.scenario.now; id = c.self.inside.id; node = c.self.inside.node; next = c.self.inside.next; run = c.self.inside.run; forgot = c.self.inside.forgot; given = c.self.inside.told.given; ahead = c.self.inside.told.ahead; longest = c.self.inside.longest } in
+    let same : v ≡ c.args.self.now = c.self.view_is in
+    let held : IsHeld v c.self.inside.slot (vec_capacity c.self.inside.frame) (vec_capacity c.self.inside.text) = c.self.invariant in
+    let opened = opened_at v.node c.self.inside.slot held.slot_is c.in-Some.slot c.in-Some.is in
+    let at = slot_at v.node c.self.inside.slot held.slot_is c.in-Some.slot c.in-Some.is opened ∙ ap (λ (x : LiveView g.row.N). x.node.phase.slot) same in
+    let text = said c.args.self.now c.in-Some.slot at (sym (ap (λ (x : LiveView g.row.N). is_open x) same) ∙ opened) in
+    let of_event : slot_answer c.args.self.now ≡ answer c.args.self.now (event_in room c.args.event) = elim c.in-Begin.is [ inl p ↦ sym (ap (λ e. answer c.args.self.now (event_in room e)) p.1) | inr p ↦ sym (ap (λ e. answer c.args.self.now (event_in room e)) p) ] in
+    subst (λ (line : List ℕ). Writes {T = Unit {0}} {E = WriteFault} (g.K.Sink.written c.args.sink.now) (g.K.Sink.written c.write_say.new.sink) (g.K.Sink.faults c.args.sink.now) (g.K.Sink.faults c.write_say.new.sink) line c.write_say.result) (text ∙ of_event) c.write_say.ensures.wrote
 
 pub returns-in-None-clause-wrote : goal.returns-in-None-clause-wrote
 returns-in-None-clause-wrote g c =
     λ room.
-        let v : LiveView g.row.N = record { scenario = c.self.inside.scenario.now; id = c.self.inside.id; node = c.self.inside.node; next = c.self.inside.next; run = c.self.inside.run; forgot = c.self.inside.forgot; given = c.self.inside.told.given; ahead = c.self.inside.told.ahead; longest = c.self.inside.longest } in
-        let same : v ≡ c.args.self.now = c.self.view_is in
-        let held : IsHeld v c.self.inside.slot (vec_capacity c.self.inside.frame) (vec_capacity c.self.inside.text) = c.self.invariant in
-        let text = ran c.args.self.now (sym (ap (λ (x : LiveView g.row.N). is_open x) same) ∙ shut_at v.node c.self.inside.slot held.slot_is c.in-None.is) in
-        let of_event : slot_answer c.args.self.now ≡ answer c.args.self.now (event_in room c.args.event) = elim c.in-Begin.is [ inl p ↦ sym (ap (λ e. answer c.args.self.now (event_in room e)) p.1) | inr p ↦ sym (ap (λ e. answer c.args.self.now (event_in room e)) p) ] in
-        subst (λ (line : List ℕ). Writes {T = Unit {0}} {E = WriteFault} (g.K.Sink.written c.args.sink.now) (g.K.Sink.written c.write_run.new.sink) (g.K.Sink.faults c.args.sink.now) (g.K.Sink.faults c.write_run.new.sink) line c.write_run.result) (text ∙ of_event) c.write_run.ensures.wrote
+    let v : LiveView g.row.N = record { scenario = c.self.inside.scenario.now; id = c.self.inside.id; node = c.self.inside.node; next = c.self.inside.next; run = c.self.inside.run; forgot = c.self.inside.forgot; given = c.self.inside.told.given; ahead = c.self.inside.told.ahead; longest = c.self.inside.longest } in
+    let same : v ≡ c.args.self.now = c.self.view_is in
+    let held : IsHeld v c.self.inside.slot (vec_capacity c.self.inside.frame) (vec_capacity c.self.inside.text) = c.self.invariant in
+    let text = ran c.args.self.now (sym (ap (λ (x : LiveView g.row.N). is_open x) same) ∙ shut_at v.node c.self.inside.slot held.slot_is c.in-None.is) in
+    let of_event : slot_answer c.args.self.now ≡ answer c.args.self.now (event_in room c.args.event) = elim c.in-Begin.is [ inl p ↦ sym (ap (λ e. answer c.args.self.now (event_in room e)) p.1) | inr p ↦ sym (ap (λ e. answer c.args.self.now (event_in room e)) p) ] in
+    subst (λ (line : List ℕ). Writes {T = Unit {0}} {E = WriteFault} (g.K.Sink.written c.args.sink.now) (g.K.Sink.written c.write_run.new.sink) (g.K.Sink.faults c.args.sink.now) (g.K.Sink.faults c.write_run.new.sink) line c.write_run.result) (text ∙ of_event) c.write_run.ensures.wrote
 
 pub returns-in-Deliver : goal.returns-in-Deliver
 returns-in-Deliver g c =
@@ -88,9 +64,9 @@ returns-in-Deliver g c =
           let nothing : answer c.args.self.now (event_in room c.args.event) ≡ [] = elim c.in-Deliver.is [
             | inl p ↦ ap (λ e. answer c.args.self.now (event_in room e)) p.3
             | inr q ↦ elim q [
-                | inl p ↦ ap (λ e. answer c.args.self.now (event_in room e)) p
-                | inr r ↦ elim r [ inl p ↦ ap (λ e. answer c.args.self.now (event_in room e)) p.2 | inr p ↦ ap (λ e. answer c.args.self.now (event_in room e)) p.2 ]
-              ]
+              | inl p ↦ ap (λ e. answer c.args.self.now (event_in room e)) p
+              | inr r ↦ elim r [ inl p ↦ ap (λ e. answer c.args.self.now (event_in room e)) p.2 | inr p ↦ ap (λ e. answer c.args.self.now (event_in room e)) p.2 ]
+            ]
           ] in
           silent (Unit {0}) WriteFault (g.K.Sink.written c.args.sink.now) (g.K.Sink.faults c.args.sink.now) (answer c.args.self.now (event_in room c.args.event)) tt nothing;
     }

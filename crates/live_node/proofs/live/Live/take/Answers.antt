@@ -1,36 +1,12 @@
-use Rattle.std.proofs.Common.{◌≡◌, ◌≢◌, ◌<◌, ◌≤◌, ◌+◌, ◌*◌, ◌^◌, ◌&&◌, ℕ, ℤ, List, Bool, true, false, not, nat_lt, length, take, refl, sym, ap, ap₂, subst, ◌∙◌, arith, inl, inr, lit<, w64, to_z, of_z}
-use Rattle.std.specs.Prelude.{All, Option, None, Some, is_some, option_map, unwrap_or, vec_capacity, set}
-use Rattle.agreed_state.specs.declared.config.Config.{Config}
-use Rattle.agreed_state.specs.declared.config.Inputs.{Inputs}
-use Rattle.agreed_state.specs.ConfigLaws.{few_rounds}
-use Rattle.agreed_state.specs.Config.{IsConfig}
-use Rattle.frames.specs.Content.{IsValue}
-use Rattle.node_grid.specs.Capacity.{IsCapacity}
-use Rattle.node_steps.specs.Parts.{NodeView}
-use Rattle.node_steps.specs.Steps.{given_frame, restarted, frame_of, after_slot}
-use Rattle.node_steps.specs.Fresh.{IsFresh}
-use Rattle.scenario.specs.Scenario.{ScenarioView, IsScenario, inputs_of}
+use Rattle.std.proofs.Common.{◌≡◌, ◌<◌, ◌≤◌, ◌+◌, ◌*◌, ℕ, List, true, false, length, take, refl, sym, ap, subst, ◌∙◌, arith, inl, inr, lit<}
+use Rattle.std.specs.Prelude.{None, Some, option_map}
 use Rattle.span_io.specs.Causes.{Writes}
 use Rattle.run_print.specs.declared.WriteFault.{WriteFault}
-use Rattle.run_text.specs.PeriodText.{alone_text}
-use Rattle.live_node.specs.Event as spec
-use Rattle.live_node.specs.Live.{LiveView, IsNewLive, is_open, is_other, is_of_cluster, may_begin, allowed, period_begun, slot_ended, inputs_given, replaced, told, answer, correction, run_text, slot_answer, told_numbers, good_told}
+use Rattle.live_node.specs.Live.{LiveView, is_of_cluster, allowed, told, answer}
 use Rattle.live_node.specs.Seen.{event_in, FitsIn, IsAnswered}
-use Rattle.live_node.specs.Standing.{IsLive, IsHeld, open_slot}
-use Rattle.live_node.specs.Text.{say_text, correct_text}
-use Rattle.live_node.proofs.Splitting.{is_some_map}
-use Rattle.live_node.proofs.Deciding.{begin_shut, begin_open}
-use Rattle.live_node.proofs.Keeping.{values_replaced, open_some}
-use Rattle.live_node.proofs.Held.{both, not_so, and_true, and_false, begins_later, begins_next, other_is, fits_value, slot_at, opened_at, shut_at, slot_small, held_begun, begun_is, held_next, next_is, held_last, last_is, held_given, held_restarted, held_reading, held_ahead, held_larger, stored, new_live, held_new, said_later, few_nodes}
-use Rattle.frames.specs.Bound.{IsGreatest}
-use Rattle.agreed_state.specs.Body.{state_len}
-use Rattle.node_steps.specs.Outcome.{Outcome}
-use Rattle.protocol.specs.Clocks.{corrects}
-use Rattle.std.proofs.Common.{rules}
-use mir.Val.{SFits}
-use Rattle.std.proofs.lemmas.Int.{to_z-of_z}
-use Rattle.std.proofs.Common.{◌++◌, ◌-◌, Result, drop, take_at}
-use Rattle.live_node.proofs.Taking.{no_event, unknown, not_now, goes, longest_kept, refused, taken_ok, taken_err, silent, period_lines, lines_are, with_clock, without_clock, said, ran, front_failed, front_all, front_and_rest}
+use Rattle.live_node.proofs.Held.{said_later}
+use Rattle.std.proofs.Common.{◌++◌, Result, drop, take_at}
+use Rattle.live_node.proofs.Taking.{no_event, unknown, not_now, goes, longest_kept, refused, taken_ok, taken_err}
 use Rattle.live_node.specs.Event.{event_of}
 use Rattle.live_node.specs.Live.{line_step, unknown_rule, not_now_rule}
 use Rattle.live_node.specs.Taking.{Takes}
@@ -111,8 +87,7 @@ pub tell-requires : goal.tell-requires
 tell-requires g c =
     let whole : take c.self.inside.arrived.len (c.event_of.new.room ++ drop (length c.event_of.new.room) c.self.inside.arrived.items) ≡ c.event_of.new.room =
     take_at c.event_of.new.room (drop (length c.event_of.new.room) c.self.inside.arrived.items) c.self.inside.arrived.len (c.event_of.ensures.room ∙ c.as_mut_slice.ensures.len) in
-    let room : length c.as_slice.result.now ≡ length c.as_mut_slice.result.now = ap length c.as_slice.ensures.value ∙ ap length whole ∙ c.event_of.ensures.room in
-    (
+    let room : length c.as_slice.result.now ≡ length c.as_mut_slice.result.now = ap length c.as_slice.ensures.value ∙ ap length whole ∙ c.event_of.ensures.room in (
       elim c.requires.capacity [ inl e ↦ rw e (lit< tt) | inr e ↦ rw e (lit< tt) ],
       (
         c.requires.capacity,
@@ -126,7 +101,7 @@ tell-requires g c =
 pub answer-requires : goal.answer-requires
 answer-requires g c =
     let later : IsAnswered c.in-Some.event → 0 < (told c.self.inside.node (event_in c.as_slice.result.now c.in-Some.event)).next = λ a.
-        said_later c.self.inside.node c.allows.ensures.live (event_in c.as_slice.result.now c.in-Some.event) (sym (c.allows.ensures.event c.as_slice.result.now) ∙ c.if-not-allows.false) (answered c.as_slice.result.now c.in-Some.event a) in
+    said_later c.self.inside.node c.allows.ensures.live (event_in c.as_slice.result.now c.in-Some.event) (sym (c.allows.ensures.event c.as_slice.result.now) ∙ c.if-not-allows.false) (answered c.as_slice.result.now c.in-Some.event a) in
     (elim c.requires.capacity [ inl e ↦ rw e (lit< tt) | inr e ↦ rw e (lit< tt) ], (c.requires.capacity, λ a. subst (λ (x : LiveView g.row.N). 0 < x.next) (sym c.tell.ensures) (later a)))
 
 pub invariant_of-self-2 : goal.invariant_of-self-2
