@@ -1,0 +1,5 @@
+pub mod Lines
+pub mod Reading
+pub mod Buffer
+pub mod Laws
+pub mod Splits
