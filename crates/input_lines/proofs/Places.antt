@@ -1,6 +1,6 @@
 -- Parts of a list of bytes, and where no line feed stands in them.
-use Rattle.std.proofs.Common.{◌≡◌, ℕ, ◌+◌, ◌-◌, ◌<◌, ◌≤◌, Bool, true, List, [], ◌∷◌, ◌++◌, length, get_or, take, drop, add-one, arith, refl, sym, ap, ◌∙◌, eq-eqb, inl, inr, ⊎_elim}
-use Rattle.std.specs.Prelude.{◌≢◌, slice_index, slice_range}
+use Rattle.std.proofs.Common.{◌≡◌, ℕ, ◌+◌, ◌-◌, ◌<◌, ◌≤◌, List, ◌∷◌, ◌++◌, length, get_or, take, drop, add-one, arith, sym, ap, ◌∙◌, eq-eqb, ⊎_elim}
+use Rattle.std.specs.Prelude.{◌≢◌}
 use Rattle.std.specs.List.{between}
 use Rattle.std.proofs.lemmas.Bool.{cases_lt}
 use Rattle.std.proofs.lemmas.List.{drop-drop, drop_more, drop_at, take-take, take_at, length-take-le, take-append-le}
@@ -61,3 +61,8 @@ read_behind xs buf post from to n low fits few =
     ∙ ap (λ ys. ys ++ between to (to + n) (take to xs ++ (buf ++ post))) (kept_before xs (buf ++ post) from to fits)
     ∙ ap (λ ys. between from to xs ++ take ((to + n) - to) ys) behind ∙ ap (λ m. between from to xs ++ take m (buf ++ post)) size
     ∙ ap (λ ys. between from to xs ++ ys) (take-append-le n buf post few)
+
+-- what stands within a front stays where that front does
+pub kept_in_front : (xs ys : List ℕ) (from to : ℕ) → to ≤ length xs → take (length xs) ys ≡ xs → between from to ys ≡ between from to xs
+kept_in_front xs ys from to fits same =
+    between_is ys from to ∙ ap (drop from) (sym (take-take to (length xs) ys fits) ∙ ap (take to) same) ∙ sym (between_is xs from to)

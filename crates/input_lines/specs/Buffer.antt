@@ -1,5 +1,5 @@
 -- The room in which lines come to be whole.
-use Rattle.std.specs.Prelude.{◌≡◌, ◌≢◌, ℕ, ◌+◌, ◌<◌, ◌≤◌, List, [], ◌++◌, length, slice_index, slice_range, Option, Result, MatchOption, MatchResult}
+use Rattle.std.specs.Prelude.{◌≡◌, ◌≢◌, ℕ, ◌<◌, ◌≤◌, List, ◌++◌, length, take, slice_index, slice_range, Option, Result, MatchOption, MatchResult}
 use Rattle.std.specs.Io.KnownBytes.{Consumes, Keeps, IsAtEnd}
 use Rattle.input_lines.specs.Lines.{line_feed}
 use Rattle.input_lines.specs.declared.buffer.Buffer.{Buffer}
@@ -30,6 +30,14 @@ pub record IsFeed (b : Buffer) (place : ℕ) : Type 0 where
 -- the answer is the place of the first line feed, where there is one
 abbrev pub FindsFeed : Buffer → Option ℕ → Type 0
 FindsFeed b found = MatchOption found (NoFeed b.bytes.items b.next b.end) (IsFeed b)
+
+-- there is as much room as before, or more, and all else stays
+pub record IsGrown (old new : Buffer) : Type 0 where
+  pub next : new.next ≡ old.next
+  pub seen : new.seen ≡ old.seen
+  pub end : new.end ≡ old.end
+  pub room : length old.bytes.items ≤ length new.bytes.items
+  pub bytes : take (length old.bytes.items) new.bytes.items ≡ old.bytes.items
 
 -- what was read behind what was not taken was given by the source
 abbrev pub Gives : {E : Type 0} → List ℕ → List ℕ → Option (List ℕ) → Option (List ℕ) → Result ℕ E → Type 0

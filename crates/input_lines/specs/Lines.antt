@@ -1,5 +1,5 @@
 -- The lines of bytes: what stands before each line feed, and what stands behind the last one.
-use Rattle.std.specs.Prelude.{ℕ, ◌≢◌, Bool, true, false, cond, ◌==◌, ◌||◌, List, [], ◌∷◌, ◌++◌, All}
+use Rattle.std.specs.Prelude.{ℕ, ◌≢◌, Bool, false, cond, ◌==◌, ◌||◌, List, [], ◌∷◌, ◌++◌, All}
 
 -- the code of a line feed
 abbrev pub line_feed : ℕ

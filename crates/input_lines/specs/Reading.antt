@@ -6,11 +6,12 @@ use Rattle.input_lines.specs.Lines.{line_feed, IsUnbroken}
 use Rattle.input_lines.specs.declared.lines.LineError.{LineError}
 use Rattle.input_lines.specs.declared.lines.LineError.TheVariants.{Failed, TooLong, NoMemory}
 
--- what was read and not taken, the line that was taken last, and the most bytes that a line may have
+-- what was read and not taken, the line that was taken last, the most bytes that a line may have, and for how many bytes there is room
 pub record LinesView : Type 0 where
   pub rest : List ℕ
   pub line : List ℕ
   pub limit : ℕ
+  pub room : ℕ
 
 -- the first line of the rest is taken, with its line feed
 pub record TakesLine (old new : LinesView) : Type 0 where
@@ -18,6 +19,7 @@ pub record TakesLine (old new : LinesView) : Type 0 where
   pub unbroken : IsUnbroken new.line
   pub short : length new.line ≤ old.limit
   pub limit : new.limit ≡ old.limit
+  pub room : new.room ≡ old.room
 
 -- more than limit bytes come before the first line feed, or come and there is none
 pub record IsLong (limit : ℕ) (rest : List ℕ) : Type 0 where
@@ -31,6 +33,13 @@ Takes old new (Ok false) = IsUnbroken old.rest × (length old.rest ≤ old.limit
 Takes old new (Err TooLong) = IsLong old.limit old.rest × (new ≡ old)
 Takes old new (Err Failed) = ⊥
 Takes old new (Err NoMemory) = ⊥
+
+-- a line may have so many bytes from now on, and there is room for it and its line feed
+pub record HasLimit (limit : ℕ) (old new : LinesView) : Type 0 where
+  pub rest : new.rest ≡ old.rest
+  pub line : new.line ≡ old.line
+  pub limited : new.limit ≡ limit
+  pub room : limit < new.room
 
 -- what is seen of a source: what is left, how many bytes it gave, and how many faults it counted
 pub record SourceView : Type 0 where
@@ -50,13 +59,16 @@ pub record GivesNothing (old new : SourceView) : Type 0 where
   pub given : new.given ≡ old.given
 
 -- these bytes were read behind the rest, and the line that was taken last was forgotten
-abbrev pub with_more : LinesView → List ℕ → LinesView
-with_more old bytes = record { rest = old.rest ++ bytes; line = []; limit = old.limit }
+pub record HasMore (old new : LinesView) (bytes : List ℕ) : Type 0 where
+  pub rest : new.rest ≡ old.rest ++ bytes
+  pub line : new.line ≡ []
+  pub limit : new.limit ≡ old.limit
+  pub room : old.room ≤ new.room
 
--- what a call of `read` does
+-- What a call of `read` does. It wants memory only where the rest fills the room
 abbrev pub Reads : LinesView → LinesView → SourceView → SourceView → Result Bool LineError → Type 0
-Reads old new before now (Ok true) = (bytes : List ℕ) × (0 < length bytes) × GivesBytes before now bytes × (new ≡ with_more old bytes)
-Reads old new before now (Ok false) = IsAtEnd now.left × GivesBytes before now [] × (new ≡ with_more old [])
-Reads old new before now (Err Failed) = GivesNothing before now × Rose before.faults now.faults × (new ≡ with_more old [])
-Reads old new before now (Err NoMemory) = (now ≡ before) × (new ≡ with_more old [])
+Reads old new before now (Ok true) = (bytes : List ℕ) × (0 < length bytes) × GivesBytes before now bytes × HasMore old new bytes
+Reads old new before now (Ok false) = IsAtEnd now.left × GivesBytes before now [] × HasMore old new []
+Reads old new before now (Err Failed) = GivesNothing before now × Rose before.faults now.faults × HasMore old new []
+Reads old new before now (Err NoMemory) = (old.room ≤ length old.rest) × (now ≡ before) × HasMore old new []
 Reads old new before now (Err TooLong) = ⊥

@@ -1,5 +1,5 @@
 -- How bytes come to be split into their lines: lemmas for whoever takes one line after another.
-use Rattle.std.proofs.Common.{◌≡◌, ℕ, Bool, true, false, cond, List, [], ◌∷◌, ◌++◌, append_assoc, append-nil, refl, sym, ap, ◌∙◌, subst, eqb, eqb-true, ne_eqb, inl, inr, ⊎_elim}
+use Rattle.std.proofs.Common.{◌≡◌, ℕ, true, false, cond, List, [], ◌∷◌, ◌++◌, append_assoc, append-nil, refl, sym, ap, ◌∙◌, subst, eqb-true, ne_eqb, inl, inr}
 use Rattle.std.specs.Prelude.{All, flat_map, ◌≢◌, ◌||◌, ◌==◌}
 use Rattle.std.proofs.lemmas.Bool.{cases_Bool, eqb-false}
 use Rattle.std.proofs.lemmas.List.Concat.{flat_map-append}
@@ -102,8 +102,8 @@ some_split [] = ([], [], begin [], All-nil (λ x. x ≢ line_feed))
 some_split (c ∷ bytes) =
     let s = some_split bytes in
     elim (cases_Bool (c == line_feed)) [
-      inl is ↦ ([] ∷ s.0, s.1, record { whole = ap (λ x. x ∷ bytes) (eqb-true c line_feed is) ∙ ap (λ later. line_feed ∷ later) s.2.whole; each = All-cons IsUnbroken [] s.0 (All-nil (λ x. x ≢ line_feed)) s.2.each }, s.3)
-    | inr not ↦ one_more c bytes s.0 s.1 (eqb-false c line_feed not) s.2 s.3
+      | inl is ↦ ([] ∷ s.0, s.1, record { whole = ap (λ x. x ∷ bytes) (eqb-true c line_feed is) ∙ ap (λ later. line_feed ∷ later) s.2.whole; each = All-cons IsUnbroken [] s.0 (All-nil (λ x. x ≢ line_feed)) s.2.each }, s.3)
+      | inr not ↦ one_more c bytes s.0 s.1 (eqb-false c line_feed not) s.2 s.3
     ]
 
 splits : (bytes : List ℕ) → Begins bytes (lines_of bytes) (rest_of bytes) × IsUnbroken (rest_of bytes)

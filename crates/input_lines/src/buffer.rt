@@ -2,7 +2,7 @@
 ghost use Rattle.std.specs.Prelude.{◌≡◌, ◌+◌, ◌<◌, ◌≤◌, ◌++◌, [], length, drop, take, slice_range, IfOk, OnOk, OnErr, MatchResult};
 ghost use Rattle.std.specs.Io.KnownBytes.{Keeps, Consumes, IsAtEnd};
 ghost use Rattle.span_io.specs.Causes.{HasCause, CountsGiven};
-ghost use Rattle.input_lines.specs.Buffer.{unread, IsBuffer, FindsFeed, Gives};
+ghost use Rattle.input_lines.specs.Buffer.{unread, IsBuffer, FindsFeed, IsGrown, Gives};
 
 use memchr::memchr;
 use node_grid::NoMemory;
@@ -33,6 +33,7 @@ impl Buffer {
     pub(crate) fn open(alloc: Global) -> Result<Buffer, NoMemory>
         ensures buffer { IfOk result IsBuffer }
         ensures nothing { IfOk result (λ buffer. unread buffer ≡ []) }
+        ensures room { IfOk result (λ buffer. length buffer.bytes.items ≡ 65536) }
     {
         let Ok(bytes) = vec![in alloc; 0u8; FIRST_ROOM] else {
             return Err(NoMemory);
@@ -92,6 +93,26 @@ impl Buffer {
         self.end -= start;
     }
 
+    /// Makes room for so many bytes in all.
+    ///
+    /// # Errors
+    /// `NoMemory` where there is none.
+    pub(crate) fn grow(&mut self, room: usize) -> Result<(), NoMemory>
+        requires { IsBuffer self.old }
+        ensures buffer { IsBuffer self.new }
+        ensures grown { IsGrown self.old self.new }
+        ensures ok { OnOk result (room ≤ length self.new.bytes.items) }
+        ensures err { OnErr result (self.new.bytes.items ≡ self.old.bytes.items) }
+    {
+        if room <= self.bytes.len() {
+            return Ok(());
+        }
+        let Ok(()) = self.bytes.resize(room, 0) else {
+            return Err(NoMemory);
+        };
+        Ok(())
+    }
+
     /// Makes room for a byte more, where there is none.
     ///
     /// # Errors
@@ -100,7 +121,9 @@ impl Buffer {
         requires { IsBuffer self.old }
         ensures buffer { IsBuffer self.new }
         ensures same { unread self.new ≡ unread self.old }
-        ensures room { OnOk result (self.new.end < length self.new.bytes.items) }
+        ensures more { OnOk result (self.new.end < length self.new.bytes.items) }
+        ensures kept { length self.old.bytes.items ≤ length self.new.bytes.items }
+        ensures full { OnErr result (length self.old.bytes.items ≤ length (unread self.old)) }
     {
         if self.end < self.bytes.len() {
             return Ok(());
@@ -110,10 +133,7 @@ impl Buffer {
             return Ok(());
         }
         let room = 2 * self.bytes.len();
-        let Ok(()) = self.bytes.resize(room, 0) else {
-            return Err(NoMemory);
-        };
-        Ok(())
+        self.grow(room)
     }
 
     /// Reads more behind what was read, and tells how many bytes were given.
@@ -127,6 +147,7 @@ impl Buffer {
         ensures bytes { Gives (unread self.old) (unread self.new) (S.left source.old) (S.left source.new) result }
         ensures given { CountsGiven (S.given source.old) (S.given source.new) result }
         ensures cause { HasCause (S.faults source.old) (S.faults source.new) result }
+        ensures room { length self.new.bytes.items ≡ length self.old.bytes.items }
     {
         let end = self.end;
         let Ok(count) = source.read(&mut self.bytes.as_mut_slice()[end..]) else {

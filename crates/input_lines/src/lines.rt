@@ -1,10 +1,10 @@
 //! The lines of a source.
-ghost use Rattle.std.specs.Prelude.{◌≡◌, ◌<◌, [], length, IfOk, IsTrue, ◌↔◌};
-ghost use Rattle.input_lines.specs.Reading.{LinesView, Takes, Reads};
+ghost use Rattle.std.specs.Prelude.{◌≡◌, ◌^◌, ◌<◌, [], length, IfOk, OnOk, OnErr, IsTrue, ◌↔◌};
+ghost use Rattle.input_lines.specs.Reading.{HasLimit, Takes, Reads};
 
 use crate::buffer::Buffer;
 use node_grid::NoMemory;
-use span_io::{Failed, Source};
+use span_io::Source;
 use std::alloc::Global;
 use std::error::Error;
 use std::fmt;
@@ -62,6 +62,7 @@ impl Model for Lines {
       rest = unread l.buffer;
       line = slice_range l.buffer.bytes.items l.from l.to;
       limit = l.limit;
+      room = length l.buffer.bytes.items;
     } };
 
     ghost invariant = { λ l. IsBuffer l.buffer × (l.from ≤ l.to) × (l.to ≤ length l.buffer.bytes.items) };
@@ -73,7 +74,7 @@ impl Lines {
     /// # Errors
     /// `NoMemory` where there is none for the first 65,536 bytes.
     pub fn open(alloc: Global, limit: usize) -> Result<Lines, NoMemory>
-        ensures { IfOk result (λ lines. lines ≡ record { rest = []; line = []; limit = limit }) }
+        ensures { IfOk result (λ lines. lines ≡ record { rest = []; line = []; limit = limit; room = 65536 }) }
     {
         let buffer = Buffer::open(alloc)?;
         Ok(Lines {
@@ -84,11 +85,19 @@ impl Lines {
         })
     }
 
-    /// From now on a line may have at most `limit` bytes.
-    pub fn set_limit(&mut self, limit: usize)
-        ensures { self.new ≡ record self.old { limit = limit } }
+    /// From now on a line may have at most `limit` bytes, and there is room for one and its line feed. So where all
+    /// lines are taken before each read, no read wants memory.
+    ///
+    /// # Errors
+    /// `NoMemory` where there is none. Nothing changes then.
+    pub fn set_limit(&mut self, limit: usize) -> Result<(), NoMemory>
+        requires { limit < 2 ^ 32 }
+        ensures ok { OnOk result (HasLimit limit self.old self.new) }
+        ensures err { OnErr result (self.new ≡ self.old) }
     {
+        self.buffer.grow(limit + 1)?;
         self.limit = limit;
+        Ok(())
     }
 
     /// Takes the next line of what was read, and tells whether there is one.
@@ -137,10 +146,9 @@ impl Lines {
     /// Reads more, and tells whether more was given; no more is the end of the input. The line that was taken last is
     /// forgotten.
     ///
-    /// Where all lines were taken before each read, there is room for at most 65,536 bytes or twice the limit.
-    ///
     /// # Errors
-    /// `Failed` where the source failed. `NoMemory` where there is none, and then nothing was read.
+    /// `Failed` where the source failed. `NoMemory` where there is none and the rest fills the room: nothing was read
+    /// then.
     pub fn read<S: Source>(&mut self, source: &mut S) -> Result<bool, LineError>
         ensures { Reads self.old self.new
             (record { left = S.left source.old; given = S.given source.old; faults = S.faults source.old })
@@ -152,9 +160,12 @@ impl Lines {
         let Ok(()) = self.buffer.make_room() else {
             return Err(LineError::NoMemory);
         };
-        match self.buffer.read(source) {
-            Ok(count) => Ok(count > 0),
-            Err(Failed) => Err(LineError::Failed),
+        let Ok(count) = self.buffer.read(source) else {
+            return Err(LineError::Failed);
+        };
+        if count == 0 {
+            return Ok(false);
         }
+        Ok(true)
     }
 }

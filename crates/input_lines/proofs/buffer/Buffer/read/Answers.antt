@@ -1,7 +1,5 @@
-use Rattle.std.proofs.Common.{◌≡◌, ℕ, ◌+◌, ◌-◌, ◌≤◌, List, length, drop, take, ◌++◌, arith, ap, sym, ◌∙◌, refl, length-append, length-take, length-take-le, length-drop}
-use Rattle.std.specs.Global.{Vec}
+use Rattle.std.proofs.Common.{◌≡◌, ℕ, ◌+◌, ◌-◌, ◌≤◌, List, length, drop, take, ◌++◌, arith, ap, sym, ◌∙◌, length-append, length-take, length-drop}
 use Rattle.std.specs.List.{between}
-use Rattle.std.specs.Vec.{with_items, vec_len}
 use Rattle.std.proofs.lemmas.List.{with_items_is}
 use borrow.Rule.Slice.PartMut.{post_of}
 use Rattle.input_lines.proofs.Places.{kept_before, read_behind}
