@@ -50,7 +50,7 @@ pub record SourceView : Type 0 where
 -- the source gave these bytes
 pub record GivesBytes (old new : SourceView) (bytes : List ℕ) : Type 0 where
   pub left : Consumes old.left new.left bytes
-  pub given : new.given ≡ min (old.given + length bytes) (2 ^ 64 - 1)
+  pub given : min (old.given + length bytes) (2 ^ 64 - 1) ≤ new.given
   pub faults : new.faults ≡ old.faults
 
 -- the source gave nothing
