@@ -1,0 +1,14 @@
+pub mod Calling
+pub mod Gathering
+pub mod Courses
+pub mod Writing
+pub mod Steps
+pub mod Taking
+pub mod Stopping
+pub mod FirstLines
+pub mod Endings
+pub mod Running
+pub mod Deciding
+pub mod Explaining
+pub mod Answering
+pub mod Causal
