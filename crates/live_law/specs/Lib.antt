@@ -1,2 +1,3 @@
 pub mod Received
 pub mod Life
+pub mod Run

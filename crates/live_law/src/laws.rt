@@ -1,8 +1,10 @@
 //! What a live controller does, over the definitions alone. Each function's promise is its law.
 
 ghost use Rattle.live_law.specs.Life.{LifeLaw};
+ghost use Rattle.live_law.specs.Run.{RunLaw};
 
 use node_steps::laws::period;
+use safety::laws::talk::{delivery, saying};
 
 /// Through any periods, restarts between them and whatever is delivered in each slot, a node is what the protocol says of
 /// what it was told, from whatever it kept before the first.
@@ -10,4 +12,14 @@ pub fn life()
     ensures { LifeLaw }
 {
     period();
+}
+
+/// A node that kept what a run says, and is delivered in each slot of a period what the run delivers to it, in any order,
+/// says what is sent in the run, and keeps and records what the run says.
+pub fn runs()
+    ensures { RunLaw }
+{
+    period();
+    delivery();
+    saying();
 }
