@@ -1,3 +1,4 @@
 mod Told
 mod Lives
 mod OfRun
+mod Linked

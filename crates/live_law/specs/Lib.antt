@@ -1,3 +1,4 @@
 pub mod Received
 pub mod Life
 pub mod Run
+pub mod Controllers

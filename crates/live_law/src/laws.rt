@@ -2,6 +2,7 @@
 
 ghost use Rattle.live_law.specs.Life.{LifeLaw};
 ghost use Rattle.live_law.specs.Run.{RunLaw};
+ghost use Rattle.live_law.specs.Controllers.{LinkLaw};
 
 use node_steps::laws::period;
 use safety::laws::talk::{delivery, saying};
@@ -18,6 +19,17 @@ pub fn life()
 /// says what is sent in the run, and keeps and records what the run says.
 pub fn runs()
     ensures { RunLaw }
+{
+    period();
+    delivery();
+    saying();
+}
+
+/// Controllers of which each is delivered what a fault plan makes of what the others say are the run of that plan, in any
+/// number of periods. A controller that is killed is a node whose frames are lost from then on, and one that is started anew
+/// a node that restarts.
+pub fn linked()
+    ensures { LinkLaw }
 {
     period();
     delivery();
