@@ -2,3 +2,6 @@ mod Told
 mod Lives
 mod OfRun
 mod Linked
+mod Lists
+mod Steps
+mod Spans

@@ -24,7 +24,7 @@ use Rattle.node_steps.specs.Sending.{PeriodLaw}
 use Rattle.scenario.specs.Scenario.{ScenarioView}
 use Rattle.cluster_periods.specs.Slots.{arrivals}
 use Rattle.cluster_periods.proofs.Arriving.{from_each}
-use Rattle.live_law.specs.Life.{IsBetween}
+use Rattle.live_law.specs.Periods.{IsBetween}
 use Rattle.live_law.specs.Run.{system_given, IsDelivered}
 use Rattle.live_law.specs.Controllers.{Controllers, said, in_slot, Continues, BeginsAnew, Hears, AreLinked, IsOfRun, LinkLaw}
 use Rattle.live_law.proofs.Lives.{between_restarted}

@@ -24,8 +24,8 @@ use Rattle.node_steps.specs.Period.{slots_run, goes, Told, IsOver}
 use Rattle.node_steps.specs.Living.{restarted_if}
 use Rattle.node_steps.specs.Sending.{GoesThrough, PeriodLaw}
 use Rattle.scenario.specs.Scenario.{ScenarioView}
-use Rattle.live_law.specs.Life.{IsBetween, after_next, begun_next}
-use Rattle.live_law.specs.Run.{system_given, next_of, IsDelivered, GoesAsRun, RunLaw}
+use Rattle.live_law.specs.Periods.{IsBetween, after_next, begun_next}
+use Rattle.live_law.specs.Run.{system_given, next_of, IsDelivered, GoesAsRun, DeliveredLaw}
 use Rattle.live_law.proofs.Told.{served_by}
 use Rattle.live_law.proofs.Lives.{between_restarted}
 
@@ -104,5 +104,5 @@ module _ {N : ℕ} (sc : ScenarioView N) (inputs : ℕ → ℕ → Inputs) (capa
           between = between_runs (restarted_if (restarts_at sc.plan i p) v) w;
         }
 
-pub run_law : PeriodLaw → DeliveryLaw → SayingLaw → RunLaw
+pub run_law : PeriodLaw → DeliveryLaw → SayingLaw → DeliveredLaw
 run_law law delivery saying N sc inputs i p ds v capacity is at comes = goes_as_run sc inputs capacity is law delivery saying i p ds comes v at

@@ -15,7 +15,7 @@ use Rattle.node_steps.specs.Parts.{NodeView}
 use Rattle.node_steps.specs.Steps.{frame_of}
 use Rattle.node_steps.specs.Period.{slots_run, IsOver}
 use Rattle.scenario.specs.Scenario.{ScenarioView}
-use Rattle.live_law.specs.Life.{IsBetween, Next, begun_next, after_next}
+use Rattle.live_law.specs.Periods.{IsBetween, Next, begun_next, after_next}
 use Rattle.live_law.specs.Run.{system_given, next_of}
 
 -- of each node's controller: how it stands before each period, how many slots of the period it runs (none where it is down, not all

@@ -1,4 +1,6 @@
 pub mod Received
-pub mod Life
+pub mod Periods
 pub mod Run
 pub mod Controllers
+pub mod Events
+pub mod Living

@@ -59,5 +59,5 @@ module _ {N : ℕ} (config : Config N) (i p : ℕ) (g : Inputs) (k : Kept) (ds :
   }
 
   -- and the whole of it
-  abbrev pub view_told : View
-  view_told = view_by received
+  abbrev pub view_delivered : View
+  view_delivered = view_by received

@@ -11,7 +11,7 @@ use Rattle.node_steps.specs.Parts.{NodeView}
 use Rattle.node_steps.specs.Steps.{frame_of}
 use Rattle.node_steps.specs.Period.{slots_run, IsOver}
 use Rattle.scenario.specs.Scenario.{ScenarioView, system_of}
-use Rattle.live_law.specs.Life.{IsBetween, Next, begun_next, after_next}
+use Rattle.live_law.specs.Periods.{IsBetween, Next, begun_next, after_next}
 
 -- the system of a scenario, but that each node is given this in each period, in place of its readings
 abbrev pub system_given : {N : ℕ} → ScenarioView N → (ℕ → ℕ → Inputs) → System
@@ -33,7 +33,7 @@ module _ {N : ℕ} (sc : ScenarioView N) (inputs : ℕ → ℕ → Inputs) where
     pub between : IsBetween sc.config i (kept (run (system_given sc inputs)) i (suc p)) (after_next sc.config i v (next_of (system_given sc inputs) i p ds))
 
 -- Law: so does each node that kept what the run says
-abbrev pub RunLaw : Type 0
-RunLaw =
+abbrev pub DeliveredLaw : Type 0
+DeliveredLaw =
     (N : ℕ) (sc : ScenarioView N) (inputs : ℕ → ℕ → Inputs) (i p : ℕ) (ds : ℕ → List Arriving) (v : NodeView N)
     → IsCapacity N → IsConfig N sc.config → IsBetween sc.config i (kept (run (system_given sc inputs)) i p) v → IsDelivered (system_given sc inputs) i p ds → GoesAsRun sc inputs i p ds v

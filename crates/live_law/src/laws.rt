@@ -1,7 +1,7 @@
 //! What a live controller does, over the definitions alone. Each function's promise is its law.
 
-ghost use Rattle.live_law.specs.Life.{LifeLaw};
-ghost use Rattle.live_law.specs.Run.{RunLaw};
+ghost use Rattle.live_law.specs.Periods.{PeriodsLaw};
+ghost use Rattle.live_law.specs.Run.{DeliveredLaw};
 ghost use Rattle.live_law.specs.Controllers.{LinkLaw};
 
 use node_steps::laws::period;
@@ -10,7 +10,7 @@ use safety::laws::talk::{delivery, saying};
 /// Through any periods, restarts between them and whatever is delivered in each slot, a node is what the protocol says of
 /// what it was told, from whatever it kept before the first.
 pub fn life()
-    ensures { LifeLaw }
+    ensures { PeriodsLaw }
 {
     period();
 }
@@ -18,7 +18,7 @@ pub fn life()
 /// A node that kept what a run says, and is delivered in each slot of a period what the run delivers to it, in any order,
 /// says what is sent in the run, and keeps and records what the run says.
 pub fn runs()
-    ensures { RunLaw }
+    ensures { DeliveredLaw }
 {
     period();
     delivery();

@@ -15,7 +15,7 @@ use Rattle.node_steps.specs.Steps.{begun}
 use Rattle.node_steps.specs.Living.{restarted_if}
 use Rattle.node_steps.specs.Period.{slots_run}
 use Rattle.node_steps.specs.Sending.{fixed, fixed_of, GoesThrough}
-use Rattle.live_law.specs.Received.{received, view_told}
+use Rattle.live_law.specs.Received.{received, view_delivered}
 
 -- node i between two periods, which keeps k, an agreed state of the configuration or none
 pub record IsBetween {N : ℕ} (config : Config N) (i : ℕ) (k : Kept) (v : NodeView N) : Type 0 where
@@ -41,7 +41,7 @@ module _ {N : ℕ} (config : Config N) (i : ℕ) where
 
   -- its view of it, as the protocol says
   abbrev pub view_next : Kept → Next → View
-  view_next k q = view_told config i q.period q.inputs (begins_next k q) q.slots
+  view_next k q = view_delivered config i q.period q.inputs (begins_next k q) q.slots
 
   -- the node as it begins it, and after it
   abbrev pub begun_next : NodeView N → Next → NodeView N
@@ -58,7 +58,7 @@ module _ {N : ℕ} (config : Config N) (i : ℕ) where
       × LivesOn (view_next k q).kept (after_next v q) qs
 
 -- Law: so does each node, through any periods, whatever is delivered to it
-abbrev pub LifeLaw : Type 0
-LifeLaw =
+abbrev pub PeriodsLaw : Type 0
+PeriodsLaw =
     (N : ℕ) (config : Config N) (i : ℕ) (k : Kept) (v : NodeView N) (qs : List Next)
     → IsCapacity N → IsConfig N config → IsBetween config i k v → LivesOn config i k v qs

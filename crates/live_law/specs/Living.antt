@@ -1,0 +1,135 @@
+-- What a live node is and answers, by the protocol, from what it is told.
+use Rattle.std.specs.Prelude.{◌≡◌, ◌≢◌, ◌<◌, ◌⊎◌, ℕ, ◌+◌, ◌^◌, ℤ, pos, Bool, true, false, All, List, [], ◌∷◌, ◌++◌, map, length, replicate, Option, None, Some, is_some, unwrap_or, if◌then◌else◌, slice_index_or}
+use Rattle.std.specs.List.{filter, flat_map}
+use Rattle.node_grid.specs.NodeSet.{ids_below}
+use Rattle.slot_plan.specs.Slots.{slot_count}
+use Rattle.frames.specs.Spelling.{spelling}
+use Rattle.agreed_state.specs.declared.config.Inputs.{Inputs}
+use Rattle.protocol.specs.Clocks.{corrects}
+use Rattle.protocol.specs.Run.{members_in}
+use Rattle.protocol.specs.Saying.{says}
+use Rattle.protocol.specs.View.{Kept, View, channel_room}
+use Rattle.protocol.specs.Configured.{setting_of}
+use Rattle.node_steps.specs.Stages.{outcome_of}
+use Rattle.scenario.specs.Scenario.{ScenarioView, IsScenario, inputs_of}
+use Rattle.run_text.specs.PeriodText.{alone_text}
+use Rattle.live_node.specs.Event.{Event}
+use Rattle.live_node.specs.Event.Event.{Begin, Deliver, End, Restart, Reading, Ahead}
+use Rattle.live_node.specs.Live.{LiveView, replaced}
+use Rattle.live_node.specs.Live.Step.{Goes}
+use Rattle.live_node.specs.Text.{say_text, correct_text}
+use Rattle.live_law.specs.Received.{received}
+use Rattle.live_law.specs.Periods.{IsBetween, Next, begins_next, view_next}
+use Rattle.live_law.specs.Events.{PeriodEvents, events_of, all_steps, restarts_in, arrivals_in, readings_told, aheads_told}
+
+-- a node between periods: what it keeps, which period begins next, and how many were run
+pub record Rest : Type 0 where
+  pub kept : Kept
+  pub next : ℕ
+  pub run : ℕ
+
+-- node id of a scenario
+module _ {N : ℕ} (sc : ScenarioView N) (id : ℕ) where
+  -- what it is given for period p: what the scenario says, with what it is told before it in the places of readings
+  abbrev pub inputs_told : ℕ → List Event → Inputs
+  inputs_told p es = record (inputs_of sc id p) { reading = replaced (readings_told es) (inputs_of sc id p).reading }
+
+  -- ---- a period
+
+  module _ (r : Rest) (q : PeriodEvents) where
+    abbrev pub number_told : ℕ
+    number_told = unwrap_or q.number r.next
+
+    abbrev pub next_told : Next
+    next_told = record { period = number_told; restarts = restarts_in q.before; inputs = inputs_told number_told q.before; slots = λ t. arrivals_in (q.slots t) }
+
+    -- its view of it
+    abbrev pub view_told : View
+    view_told = view_next sc.config id r.kept next_told
+
+    -- what it says in a slot
+    abbrev pub frame_told : ℕ → List ℕ
+    frame_told t =
+        let k = begins_next sc.config id r.kept next_told in
+        let x = received sc.config id number_told next_told.inputs k next_told.slots in
+        spelling sc.config.nodes (record { version = sc.config.version; period = number_told; sender = id; slot = t }) (says (setting_of sc.config) id next_told.inputs k x view_told t)
+
+    -- how far it was told that each clock is ahead
+    abbrev pub ahead_told : List (Option ℤ)
+    ahead_told = aheads_told N (flat_map q.slots (ids_below (slot_count sc.config.m)))
+
+    -- by how much it corrects its clock: by the clocks of the members whose frame in the sync slot was good, of those that it was told of
+    abbrev pub correction_told : ℤ
+    correction_told =
+        corrects sc.config.m id (map (λ o. unwrap_or o (pos 0)) ahead_told) (members_in view_told.before) (filter (λ j. is_some (slice_index_or ahead_told j None)) view_told.sync) view_told.mode
+
+    -- all that it answers: a line for each slot, and the lines of the period
+    abbrev pub period_text : List ℕ
+    period_text =
+        flat_map (λ t. say_text t (frame_told t)) (ids_below (slot_count sc.config.m))
+        ++ (alone_text number_told id sc.config.nodes sc.config.policy.retire (outcome_of view_told) ++ (if is_some sc.clock then correct_text correction_told else []))
+
+    abbrev pub after_period : Rest
+    after_period = record { kept = view_told.kept; next = number_told + 1; run = r.run + 1 }
+
+    -- ---- what it may be told
+
+    -- the period that comes next, or a later one where it restarts
+    abbrev pub MayBegin : Option ℕ → Type 0
+    MayBegin None = r.next < 2 ^ 32
+    MayBegin (Some p) = (p ≡ r.next) ⊎ ((restarts_in q.before ≡ true) × (r.next < p))
+
+  -- between periods: restarts, and readings of channels
+  abbrev pub ComesBefore : Event → Type 0
+  ComesBefore Restart = Unit {0}
+  ComesBefore (Reading c x) = c < length sc.config.channels.items
+  ComesBefore _ = ⊥
+
+  -- in a slot: deliveries from other nodes, and their clocks, where there are clocks
+  abbrev pub ComesWithin : Event → Type 0
+  ComesWithin (Deliver from tick bytes) = (from < sc.config.nodes) × (from ≢ id)
+  ComesWithin (Ahead j x) = (j < sc.config.nodes) × (j ≢ id) × (is_some sc.clock ≡ true)
+  ComesWithin _ = ⊥
+
+  pub record IsPeriod (r : Rest) (q : PeriodEvents) : Type 0 where
+    pub before : All ComesBefore q.before
+    pub number : MayBegin r q q.number
+    pub within : (t : ℕ) → t < slot_count sc.config.m → All ComesWithin (q.slots t)
+
+  -- ---- periods
+
+  -- periods that come one after another
+  unfoldable pub ArePeriods : Rest → List PeriodEvents → Type 0
+  ArePeriods r [] = Unit {0}
+  ArePeriods r (q ∷ qs) = IsPeriod r q × ArePeriods (after_period r q) qs
+
+  -- all that it answers, and how it rests behind them
+  unfoldable pub life_text : Rest → List PeriodEvents → List ℕ
+  life_text r [] = []
+  life_text r (q ∷ qs) = period_text r q ++ life_text (after_period r q) qs
+
+  unfoldable pub after_life : Rest → List PeriodEvents → Rest
+  after_life r [] = r
+  after_life r (q ∷ qs) = after_life (after_period r q) qs
+
+  -- a live node that rests so, and was told nothing yet of its next period
+  pub record IsResting (r : Rest) (v : LiveView N) : Type 0 where
+    pub is_of : v.scenario ≡ sc
+    pub is_node : v.id ≡ id
+    pub between : IsBetween sc.config id r.kept v.node
+    pub next : v.next ≡ r.next
+    pub run : v.run ≡ r.run
+    pub forgot : v.forgot ≡ false
+    pub given : v.given ≡ replicate channel_room None
+
+  -- it takes the events of these periods, answers with the protocol's text, and rests as the protocol says
+  pub record Lives (r : Rest) (v : LiveView N) (qs : List PeriodEvents) : Type 0 where
+    pub to : LiveView N
+    pub takes : all_steps v (flat_map (events_of sc.config.m) qs) ≡ Goes to (life_text r qs)
+    pub rests : IsResting (after_life r qs) to
+
+-- Law: so does each live node, through any periods and whatever it is told in them
+abbrev pub LifeLaw : Type 0
+LifeLaw =
+    (N : ℕ) (sc : ScenarioView N) (id : ℕ) (r : Rest) (v : LiveView N) (qs : List PeriodEvents)
+    → IsScenario sc → IsResting sc id r v → ArePeriods sc id r qs → Lives sc id r v qs
