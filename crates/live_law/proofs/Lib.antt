@@ -5,3 +5,4 @@ mod Linked
 mod Lists
 mod Steps
 mod Spans
+mod LiveLife

@@ -179,10 +179,57 @@ module _ {N : ℕ} (v : LiveView N) (r : Rest) (q : PeriodEvents) where
 
     -- ---- the last slot
 
-    abbrev t' : ℕ
-    t' = 2 * config.m + 3
-
-    shown_by : ℕ → Outcome → List (Option ℤ) → List ℕ
+    abbrev shown_by : ℕ → Outcome → List (Option ℤ) → List ℕ
     shown_by n o ahead =
         alone_text n v.id config.nodes config.policy.retire o
         ++ (if is_some v.scenario.clock then correct_text (corrects config.m v.id (map (λ y. unwrap_or y (pos 0)) ahead) o.members (filter (λ j. is_some (slice_index_or ahead j None)) o.sync) o.mode) else [])
+
+    abbrev shown : List ℕ
+    shown = shown_by p (outcome_of (view_told v.scenario v.id r q)) (ahead_told v.scenario v.id r q)
+
+    -- so many slots are all
+    module _ (t : ℕ) (all : suc t ≡ 2 * config.m + 4) where
+      shut : (live_at (suc t)).node.phase.is_open ≡ false
+      shut = ap (λ (n : ℕ). (live_at n).node.phase.is_open) all ∙ through.over.shut
+
+      ends : told (heard (live_at t) (q.slots t)) End ≡ after_all
+      ends = ap₂ (ended t) (ahead_next t) (cond-false (live_at (suc t)).node.phase.is_open v.run (v.run + 1) shut) ∙ ap (λ (n : ℕ). record (live_at n) { run = v.run + 1 }) all
+
+      shows : slot_answer after_all ≡ shown
+      shows =
+          cond-false after_all.node.phase.is_open _ _ through.over.shut
+          ∙ ap₂ (λ (n : ℕ) (o : Outcome). shown_by n o after_all.ahead) (slots_period next.slots (2 * config.m + 4) first) through.over.outcome
+          ∙ ap (shown_by p (outcome_of (view_told v.scenario v.id r q))) (aheads_are N (flat_map q.slots (range_with_len 0 (2 * config.m + 4))))
+
+      last_slot : (text : List ℕ) → fold step_on (Goes (live_at t) text) (in_slot t) ≡ Goes after_all (text ++ shown)
+      last_slot text = to_end t text (omega arith) ∙ ap (λ (w : LiveView N). Goes w (text ++ slot_answer w)) ends ∙ ap (λ (more : List ℕ). Goes after_all (text ++ more)) shows
+
+      all_slots : (text : List ℕ) → fold step_on (Goes (live_at 0) (text ++ lines 1)) (flat_map in_slot (range_with_len 0 (2 * config.m + 4))) ≡ Goes after_all (text ++ lines (2 * config.m + 4) ++ shown)
+      all_slots text =
+          ap (λ (n : ℕ). fold step_on (Goes (live_at 0) (text ++ lines 1)) (flat_map in_slot (range_with_len 0 n))) (sym all)
+          ∙ ap (fold step_on (Goes (live_at 0) (text ++ lines 1))) (flat_push in_slot 0 t ∙ ap (λ (k : ℕ). flat_map in_slot (range_with_len 0 t) ++ in_slot k) (let e : 0 + t ≡ t = omega arith in e))
+          ∙ fold-append step_on (Goes (live_at 0) (text ++ lines 1)) (flat_map in_slot (range_with_len 0 t)) (in_slot t)
+          ∙ ap (λ (s : Step N). fold step_on s (in_slot t)) (so_many t text (omega arith))
+          ∙ last_slot (text ++ lines (suc t))
+          ∙ ap (λ (n : ℕ). Goes after_all (text ++ lines n ++ shown)) all
+
+    -- ---- the whole period
+
+    pub whole : (text : List ℕ) → fold step_on (Goes v text) (events_of config.m q) ≡ Goes after_all (text ++ period_text v.scenario v.id r q)
+    whole text =
+        ap (fold step_on (Goes v text)) (sym (append_assoc q.before (Begin q.number ∷ []) (flat_map in_slot (range_with_len 0 (2 * config.m + 4)))))
+        ∙ fold-append step_on (Goes v text) (q.before ++ Begin q.number ∷ []) (flat_map in_slot (range_with_len 0 (2 * config.m + 4)))
+        ∙ ap (λ (s : Step N). fold step_on s (flat_map in_slot (range_with_len 0 (2 * config.m + 4)))) (to_begin text)
+        ∙ all_slots (2 * config.m + 3) (omega arith) text
+        ∙ ap (Goes after_all) (append_assoc text (lines (2 * config.m + 4)) shown)
+
+    pub rests_after : IsResting v.scenario v.id (after_period v.scenario v.id r q) after_all
+    rests_after = record {
+      is_of = refl;
+      is_node = refl;
+      between = between_after law config v.id is.system.capacity is.system.config r.kept v.node next at.between;
+      next = refl;
+      run = ap (λ (n : ℕ). n + 1) at.run;
+      forgot = refl;
+      given = refl;
+    }

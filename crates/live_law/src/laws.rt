@@ -3,6 +3,7 @@
 ghost use Rattle.live_law.specs.Periods.{PeriodsLaw};
 ghost use Rattle.live_law.specs.Run.{DeliveredLaw};
 ghost use Rattle.live_law.specs.Controllers.{LinkLaw};
+ghost use Rattle.live_law.specs.Living.{LifeLaw};
 
 use node_steps::laws::period;
 use safety::laws::talk::{delivery, saying};
@@ -34,4 +35,12 @@ pub fn linked()
     period();
     delivery();
     saying();
+}
+
+/// A live node that is told the events of any periods takes them, and answers with the frames and the lines that the protocol
+/// says: of what it is delivered in each slot, by what it keeps, whatever that was before the first of these periods.
+pub fn live_life()
+    ensures { LifeLaw }
+{
+    period();
 }

@@ -1,0 +1,43 @@
+-- A live node through any periods.
+use Rattle.std.proofs.Common.{ℕ, ◌≡◌, List, [], ◌∷◌, ◌++◌, refl, sym, ap, subst, ◌∙◌}
+use Rattle.std.specs.List.{fold, flat_map}
+use Rattle.std.proofs.lemmas.List.{append_assoc, append-nil}
+use Rattle.std.proofs.lemmas.List.Sums.{fold-append}
+use Rattle.node_steps.specs.Sending.{PeriodLaw}
+use Rattle.scenario.specs.Scenario.{ScenarioView, IsScenario}
+use Rattle.live_node.specs.Live.{LiveView, Step}
+use Rattle.live_node.specs.Live.Step.{Goes}
+use Rattle.live_law.specs.Events.{step_on, PeriodEvents, events_of}
+use Rattle.live_law.specs.Living.{Rest, IsResting, ArePeriods, Lives, LifeLaw, period_text, after_period, life_text, after_life}
+use Rattle.live_law.proofs.Spans.{after_all, whole, rests_after}
+
+-- where this was answered before
+record LivesFrom {N : ℕ} (text : List ℕ) (r : Rest) (v : LiveView N) (qs : List PeriodEvents) : Type 0 where
+  pub to : LiveView N
+  pub takes : fold step_on (Goes v text) (flat_map (events_of v.scenario.config.m) qs) ≡ Goes to (text ++ life_text v.scenario v.id r qs)
+  pub rests : IsResting v.scenario v.id (after_life v.scenario v.id r qs) to
+
+module _ (law : PeriodLaw) where
+  lives : {N : ℕ} (v : LiveView N) (r : Rest) (qs : List PeriodEvents) (text : List ℕ) → IsScenario v.scenario → IsResting v.scenario v.id r v → ArePeriods v.scenario v.id r qs → LivesFrom text r v qs
+  unfolding ArePeriods life_text after_life
+  lives v r [] text is at may = record { to = v; takes = ap (Goes v) (sym (append-nil text)); rests = at }
+  lives {N} v r (q ∷ qs) text is at may =
+      let w : LiveView N = after_all v r q in
+      let rest : LivesFrom (text ++ period_text v.scenario v.id r q) (after_period v.scenario v.id r q) w qs =
+          lives w (after_period v.scenario v.id r q) qs (text ++ period_text v.scenario v.id r q) is (rests_after v r q is law at may.0) may.1 in
+      record {
+        to = rest.to;
+        takes = fold-append step_on (Goes v text) (events_of v.scenario.config.m q) (flat_map (events_of v.scenario.config.m) qs)
+            ∙ ap (λ (s : Step N). fold step_on s (flat_map (events_of v.scenario.config.m) qs)) (whole v r q is law at may.0 text)
+            ∙ rest.takes
+            ∙ ap (Goes rest.to) (append_assoc text (period_text v.scenario v.id r q) (life_text v.scenario v.id (after_period v.scenario v.id r q) qs));
+        rests = rest.rests;
+      }
+
+  by_itself : {N : ℕ} (v : LiveView N) (r : Rest) (qs : List PeriodEvents) → IsScenario v.scenario → IsResting v.scenario v.id r v → ArePeriods v.scenario v.id r qs → Lives v.scenario v.id r v qs
+  by_itself v r qs is at may = let l = lives v r qs [] is at may in record { to = l.to; takes = l.takes; rests = l.rests }
+
+pub live_life : PeriodLaw → LifeLaw
+live_life law N sc id r v qs is at may =
+    subst (λ (s : ScenarioView N). IsScenario s → IsResting s id r v → ArePeriods s id r qs → Lives s id r v qs) at.is_of
+    (subst (λ (i : ℕ). IsScenario v.scenario → IsResting v.scenario i r v → ArePeriods v.scenario i r qs → Lives v.scenario i r v qs) at.is_node (by_itself law v r qs)) is at may
