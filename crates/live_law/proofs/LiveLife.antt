@@ -1,15 +1,19 @@
 -- A live node through any periods.
-use Rattle.std.proofs.Common.{ℕ, ◌≡◌, List, [], ◌∷◌, ◌++◌, refl, sym, ap, subst, ◌∙◌}
+use Rattle.std.proofs.Common.{ℕ, ◌≡◌, ◌<◌, List, [], ◌∷◌, ◌++◌, refl, sym, ap, subst, ◌∙◌}
 use Rattle.std.specs.List.{fold, flat_map}
 use Rattle.std.proofs.lemmas.List.{append_assoc, append-nil}
 use Rattle.std.proofs.lemmas.List.Sums.{fold-append}
+use Rattle.std.proofs.lemmas.Option.{same_Some}
+use Rattle.slot_plan.specs.Slots.{slot_count}
+use Rattle.agreed_state.specs.Agreed.{IsAgreed}
+use Rattle.agreed_state.specs.AgreedLaws.{first-agreed}
 use Rattle.node_steps.specs.Sending.{PeriodLaw}
 use Rattle.scenario.specs.Scenario.{ScenarioView, IsScenario}
 use Rattle.live_node.specs.Live.{LiveView, Step}
 use Rattle.live_node.specs.Live.Step.{Goes}
-use Rattle.live_law.specs.Events.{step_on, PeriodEvents, events_of}
-use Rattle.live_law.specs.Living.{Rest, IsResting, ArePeriods, Lives, LifeLaw, period_text, after_period, life_text, after_life}
-use Rattle.live_law.proofs.Spans.{after_all, whole, rests_after}
+use Rattle.live_law.specs.Events.{step_on, all_steps, PeriodEvents, events_of}
+use Rattle.live_law.specs.Living.{Rest, IsResting, IsPeriod, ArePeriods, Lives, Says, NewLaw, SayLaw, LifeLaw, period_text, after_period, life_text, after_life}
+use Rattle.live_law.proofs.Spans.{after_all, whole, rests_after, says_so_far}
 
 -- where this was answered before
 record LivesFrom {N : ℕ} (text : List ℕ) (r : Rest) (v : LiveView N) (qs : List PeriodEvents) : Type 0 where
@@ -36,6 +40,42 @@ module _ (law : PeriodLaw) where
 
   by_itself : {N : ℕ} (v : LiveView N) (r : Rest) (qs : List PeriodEvents) → IsScenario v.scenario → IsResting v.scenario v.id r v → ArePeriods v.scenario v.id r qs → Lives v.scenario v.id r v qs
   by_itself v r qs is at may = let l = lives v r qs [] is at may in record { to = l.to; takes = l.takes; rests = l.rests }
+
+-- one period
+pub record Takes {N : ℕ} (sc : ScenarioView N) (id : ℕ) (r : Rest) (v : LiveView N) (q : PeriodEvents) : Type 0 where
+  pub to : LiveView N
+  pub takes : all_steps v (events_of sc.config.m q) ≡ Goes to (period_text sc id r q)
+  pub rests : IsResting sc id (after_period sc id r q) to
+
+pub takes_period : PeriodLaw → {N : ℕ} (sc : ScenarioView N) (id : ℕ) (r : Rest) (v : LiveView N) (q : PeriodEvents) → IsScenario sc → IsResting sc id r v → IsPeriod sc id r q → Takes sc id r v q
+takes_period law sc id r v q is at may =
+    subst (λ (s : ScenarioView _). IsScenario s → IsResting s id r v → IsPeriod s id r q → Takes s id r v q) at.is_of
+    (subst (λ (i : ℕ). IsScenario v.scenario → IsResting v.scenario i r v → IsPeriod v.scenario i r q → Takes v.scenario i r v q) at.is_node
+    (λ is at may. record { to = after_all v r q; takes = whole v r q is law at may []; rests = rests_after v r q is law at may })) is at may
+
+pub say_law : PeriodLaw → SayLaw
+say_law law N sc id r v q slots is at may low =
+    subst (λ (s : ScenarioView N). IsScenario s → IsResting s id r v → IsPeriod s id r q → slots < slot_count s.config.m → Says s id r v q slots) at.is_of
+    (subst (λ (i : ℕ). IsScenario v.scenario → IsResting v.scenario i r v → IsPeriod v.scenario i r q → slots < slot_count v.scenario.config.m → Says v.scenario i r v q slots) at.is_node
+    (λ is at may low. says_so_far v r q is law at may slots low)) is at may low
+
+pub new_law : NewLaw
+new_law N sc id v is new = record {
+  is_of = new.is_of;
+  is_node = new.is_node;
+  between = record {
+    room = v.node.arrived.frame_max;
+    greatest = new.node.greatest;
+    same = new.node.is;
+    keeps = new.node.kept;
+    valid = λ a e. subst (IsAgreed N sc.config) (same_Some _ a e) (first-agreed N sc.config is.system.config);
+    shut = new.node.shut;
+  };
+  next = new.next;
+  run = new.run;
+  forgot = new.forgot;
+  given = new.given;
+}
 
 pub live_life : PeriodLaw → LifeLaw
 live_life law N sc id r v qs is at may =

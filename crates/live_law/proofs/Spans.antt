@@ -33,8 +33,8 @@ use Rattle.live_node.specs.Live.Step.{Goes}
 use Rattle.live_node.specs.Text.{say_text, correct_text}
 use Rattle.live_law.specs.Received.{received}
 use Rattle.live_law.specs.Periods.{IsBetween, Next, begins_next, begun_next, after_next}
-use Rattle.live_law.specs.Events.{step_on, PeriodEvents, events_of, restarts_in, arrivals_in, readings_told}
-use Rattle.live_law.specs.Living.{Rest, IsResting, IsPeriod, MayBegin, ComesBefore, ComesWithin, number_told, next_told, inputs_told, frame_told, ahead_told, view_told, period_text, after_period}
+use Rattle.live_law.specs.Events.{step_on, PeriodEvents, part_of, events_of, restarts_in, arrivals_in, readings_told}
+use Rattle.live_law.specs.Living.{Rest, IsResting, IsPeriod, Says, MayBegin, ComesBefore, ComesWithin, number_told, next_told, inputs_told, frame_told, ahead_told, view_told, period_text, after_period}
 use Rattle.live_law.proofs.Lists.{flat_push}
 use Rattle.live_law.proofs.Lives.{goes_next, between_after}
 use Rattle.live_law.proofs.Steps.{goes, rested, rests, readings_are, heard, hears, put_ahead, put_reading, aheads_are}
@@ -99,12 +99,14 @@ module _ {N : ℕ} (v : LiveView N) (r : Rest) (q : PeriodEvents) where
     woken_config true = ap (λ (f : Fixed N). f.config) at.between.same
     woken_config false = ap (λ (f : Fixed N). f.config) at.between.same
 
+    slot_is : (t : ℕ) → t < 2 * config.m + 4 → (slots_run next.slots t first).phase.slot ≡ t
+    slot_is t low =
+        let e : (restarted_if next.restarts v.node).config.m ≡ config.m = ap (λ (z : Config N). z.m) (woken_config next.restarts) in
+        (starts_at (restarted_if next.restarts v.node) p next.inputs next.slots t (omega (arith, low, e))).slot (omega (arith, low, e))
+
     -- what it says in a slot
     says : (t : ℕ) → t < 2 * config.m + 4 → slot_answer (live_at t) ≡ line t
-    says t low =
-        let c : (restarted_if next.restarts v.node).config ≡ config = woken_config next.restarts in
-        let s = (starts_at (restarted_if next.restarts v.node) p next.inputs next.slots t (let e = ap (λ (z : Config N). z.m) c in omega (arith, low, e))).slot (let e = ap (λ (z : Config N). z.m) c in omega (arith, low, e)) in
-        cond-true (live_at t).node.phase.is_open _ _ (through.opens t low) ∙ ap₂ say_text s (through.frames t low)
+    says t low = cond-true (live_at t).node.phase.is_open _ _ (through.opens t low) ∙ ap₂ say_text (slot_is t low) (through.frames t low)
 
     -- ---- the begin
 
@@ -177,6 +179,22 @@ module _ {N : ℕ} (v : LiveView N) (r : Rest) (q : PeriodEvents) where
         ∙ one_slot n (text ++ lines (suc n)) low
         ∙ ap (Goes (live_at (suc n))) (append_assoc text (lines (suc n)) (line (suc n)) ∙ ap (λ (ys : List ℕ). text ++ ys) (ap (λ (k : ℕ). lines (suc n) ++ line k) (let e : suc n ≡ 0 + suc n = omega arith in e) ∙ sym (flat_push line 0 (suc n))))
 
+    -- the events up to the end of so many slots
+    parted : (n : ℕ) (text : List ℕ) → fold step_on (Goes v text) (part_of q n) ≡ fold step_on (Goes (live_at 0) (text ++ lines 1)) (flat_map in_slot (range_with_len 0 n))
+    parted n text =
+        ap (fold step_on (Goes v text)) (sym (append_assoc q.before (Begin q.number ∷ []) (flat_map in_slot (range_with_len 0 n))))
+        ∙ fold-append step_on (Goes v text) (q.before ++ Begin q.number ∷ []) (flat_map in_slot (range_with_len 0 n))
+        ∙ ap (λ (s : Step N). fold step_on s (flat_map in_slot (range_with_len 0 n))) (to_begin text)
+
+    pub says_so_far : (n : ℕ) → n < 2 * config.m + 4 → Says v.scenario v.id r v q n
+    says_so_far n low = record {
+      to = live_at n;
+      takes = parted n [] ∙ so_many n [] low;
+      still = through.opens n low;
+      slot = slot_is n low;
+      frame = through.frames n low;
+    }
+
     -- ---- the last slot
 
     abbrev shown_by : ℕ → Outcome → List (Option ℤ) → List ℕ
@@ -217,10 +235,7 @@ module _ {N : ℕ} (v : LiveView N) (r : Rest) (q : PeriodEvents) where
 
     pub whole : (text : List ℕ) → fold step_on (Goes v text) (events_of config.m q) ≡ Goes after_all (text ++ period_text v.scenario v.id r q)
     whole text =
-        ap (fold step_on (Goes v text)) (sym (append_assoc q.before (Begin q.number ∷ []) (flat_map in_slot (range_with_len 0 (2 * config.m + 4)))))
-        ∙ fold-append step_on (Goes v text) (q.before ++ Begin q.number ∷ []) (flat_map in_slot (range_with_len 0 (2 * config.m + 4)))
-        ∙ ap (λ (s : Step N). fold step_on s (flat_map in_slot (range_with_len 0 (2 * config.m + 4)))) (to_begin text)
-        ∙ all_slots (2 * config.m + 3) (omega arith) text
+        parted (2 * config.m + 4) text ∙ all_slots (2 * config.m + 3) (omega arith) text
         ∙ ap (Goes after_all) (append_assoc text (lines (2 * config.m + 4)) shown)
 
     pub rests_after : IsResting v.scenario v.id (after_period v.scenario v.id r q) after_all

@@ -35,9 +35,13 @@ pub record PeriodEvents : Type 0 where
   pub number : Option ℕ
   pub slots : ℕ → List Event
 
--- all events of a period with m relay rounds
+-- its events up to the end of so many slots
+abbrev pub part_of : PeriodEvents → ℕ → List Event
+part_of q slots = q.before ++ Begin q.number ∷ flat_map (λ t. q.slots t ++ End ∷ []) (ids_below slots)
+
+-- all its events, with m relay rounds
 abbrev pub events_of : ℕ → PeriodEvents → List Event
-events_of m q = q.before ++ Begin q.number ∷ flat_map (λ t. q.slots t ++ End ∷ []) (ids_below (slot_count m))
+events_of m q = part_of q (slot_count m)
 
 -- ---- what events tell
 

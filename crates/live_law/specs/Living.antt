@@ -1,32 +1,34 @@
 -- What a live node is and answers, by the protocol, from what it is told.
-use Rattle.std.specs.Prelude.{◌≡◌, ◌≢◌, ◌<◌, ◌⊎◌, ℕ, ◌+◌, ◌^◌, ℤ, pos, Bool, true, false, All, List, [], ◌∷◌, ◌++◌, map, length, replicate, Option, None, Some, is_some, unwrap_or, if◌then◌else◌, slice_index_or}
+use Rattle.std.specs.Prelude.{◌≡◌, ◌≢◌, ◌<◌, ◌⊎◌, ℕ, suc, ◌+◌, ◌^◌, ℤ, pos, Bool, true, false, All, List, [], ◌∷◌, ◌++◌, map, length, replicate, Option, None, Some, is_some, unwrap_or, if◌then◌else◌, slice_index_or}
 use Rattle.std.specs.List.{filter, flat_map}
 use Rattle.node_grid.specs.NodeSet.{ids_below}
 use Rattle.slot_plan.specs.Slots.{slot_count}
-use Rattle.frames.specs.Spelling.{spelling}
 use Rattle.agreed_state.specs.declared.config.Inputs.{Inputs}
 use Rattle.protocol.specs.Clocks.{corrects}
 use Rattle.protocol.specs.Run.{members_in}
-use Rattle.protocol.specs.Saying.{says}
-use Rattle.protocol.specs.View.{Kept, View, channel_room}
+use Rattle.protocol.specs.View.{Kept, View, first_kept, channel_room}
 use Rattle.protocol.specs.Configured.{setting_of}
 use Rattle.node_steps.specs.Stages.{outcome_of}
+use Rattle.node_steps.specs.Steps.{frame_of}
 use Rattle.scenario.specs.Scenario.{ScenarioView, IsScenario, inputs_of}
 use Rattle.run_text.specs.PeriodText.{alone_text}
 use Rattle.live_node.specs.Event.{Event}
 use Rattle.live_node.specs.Event.Event.{Begin, Deliver, End, Restart, Reading, Ahead}
-use Rattle.live_node.specs.Live.{LiveView, replaced}
+use Rattle.live_node.specs.Live.{LiveView, IsNewLive, replaced}
 use Rattle.live_node.specs.Live.Step.{Goes}
 use Rattle.live_node.specs.Text.{say_text, correct_text}
-use Rattle.live_law.specs.Received.{received}
-use Rattle.live_law.specs.Periods.{IsBetween, Next, begins_next, view_next}
-use Rattle.live_law.specs.Events.{PeriodEvents, events_of, all_steps, restarts_in, arrivals_in, readings_told, aheads_told}
+use Rattle.live_law.specs.Periods.{IsBetween, Next, view_next, frame_next}
+use Rattle.live_law.specs.Events.{PeriodEvents, part_of, events_of, all_steps, restarts_in, arrivals_in, readings_told, aheads_told}
 
 -- a node between periods: what it keeps, which period begins next, and how many were run
 pub record Rest : Type 0 where
   pub kept : Kept
   pub next : ℕ
   pub run : ℕ
+
+-- that of a live node
+abbrev pub rest_of : {N : ℕ} → LiveView N → Rest
+rest_of v = record { kept = v.node.kept; next = v.next; run = v.run }
 
 -- node id of a scenario
 module _ {N : ℕ} (sc : ScenarioView N) (id : ℕ) where
@@ -49,10 +51,11 @@ module _ {N : ℕ} (sc : ScenarioView N) (id : ℕ) where
 
     -- what it says in a slot
     abbrev pub frame_told : ℕ → List ℕ
-    frame_told t =
-        let k = begins_next sc.config id r.kept next_told in
-        let x = received sc.config id number_told next_told.inputs k next_told.slots in
-        spelling sc.config.nodes (record { version = sc.config.version; period = number_told; sender = id; slot = t }) (says (setting_of sc.config) id next_told.inputs k x view_told t)
+    frame_told t = frame_next sc.config id r.kept next_told t
+
+    -- the lines of the first so many slots
+    abbrev pub said_text : ℕ → List ℕ
+    said_text slots = flat_map (λ t. say_text t (frame_told t)) (ids_below slots)
 
     -- how far it was told that each clock is ahead
     abbrev pub ahead_told : List (Option ℤ)
@@ -66,7 +69,7 @@ module _ {N : ℕ} (sc : ScenarioView N) (id : ℕ) where
     -- all that it answers: a line for each slot, and the lines of the period
     abbrev pub period_text : List ℕ
     period_text =
-        flat_map (λ t. say_text t (frame_told t)) (ids_below (slot_count sc.config.m))
+        said_text (slot_count sc.config.m)
         ++ (alone_text number_told id sc.config.nodes sc.config.policy.retire (outcome_of view_told) ++ (if is_some sc.clock then correct_text correction_told else []))
 
     abbrev pub after_period : Rest
@@ -127,6 +130,26 @@ module _ {N : ℕ} (sc : ScenarioView N) (id : ℕ) where
     pub to : LiveView N
     pub takes : all_steps v (flat_map (events_of sc.config.m) qs) ≡ Goes to (life_text r qs)
     pub rests : IsResting (after_life r qs) to
+
+  -- it takes the events of the first so many slots of a period, and those before them, and has said in them what the protocol says
+  pub record Says (r : Rest) (v : LiveView N) (q : PeriodEvents) (slots : ℕ) : Type 0 where
+    pub to : LiveView N
+    pub takes : all_steps v (part_of q slots) ≡ Goes to (said_text r q (suc slots))
+    pub still : to.node.phase.is_open ≡ true
+    pub slot : to.node.phase.slot ≡ slots
+    pub frame : frame_of to.node ≡ frame_told r q slots
+
+-- Law: a new live node rests with what the protocol gives it first, and period 0 is its first
+abbrev pub NewLaw : Type 0
+NewLaw =
+    (N : ℕ) (sc : ScenarioView N) (id : ℕ) (v : LiveView N)
+    → IsScenario sc → IsNewLive sc id v → IsResting sc id (record { kept = first_kept (setting_of sc.config); next = 0; run = 0 }) v
+
+-- Law: a live node that rests says in the slots of a period what the protocol says of what it was told before
+abbrev pub SayLaw : Type 0
+SayLaw =
+    (N : ℕ) (sc : ScenarioView N) (id : ℕ) (r : Rest) (v : LiveView N) (q : PeriodEvents) (slots : ℕ)
+    → IsScenario sc → IsResting sc id r v → IsPeriod sc id r q → slots < slot_count sc.config.m → Says sc id r v q slots
 
 -- Law: so does each live node, through any periods and whatever it is told in them
 abbrev pub LifeLaw : Type 0

@@ -2,6 +2,7 @@
 use Rattle.std.specs.Prelude.{◌≡◌, ℕ, ◌+◌, ◌*◌, Bool, false, List, [], ◌∷◌}
 use Rattle.node_grid.specs.Capacity.{IsCapacity}
 use Rattle.frames.specs.Bound.{IsGreatest}
+use Rattle.frames.specs.Spelling.{spelling}
 use Rattle.error_detect.specs.Multiset.{Arriving}
 use Rattle.agreed_state.specs.declared.config.Config.{Config}
 use Rattle.agreed_state.specs.declared.config.Inputs.{Inputs}
@@ -10,6 +11,7 @@ use Rattle.agreed_state.specs.Body.{state_len}
 use Rattle.protocol.specs.View.{Kept, View, opened}
 use Rattle.protocol.specs.ViewLaws.{IsValid}
 use Rattle.protocol.specs.Configured.{setting_of}
+use Rattle.protocol.specs.Saying.{says}
 use Rattle.node_steps.specs.Parts.{NodeView}
 use Rattle.node_steps.specs.Steps.{begun}
 use Rattle.node_steps.specs.Living.{restarted_if}
@@ -42,6 +44,12 @@ module _ {N : ℕ} (config : Config N) (i : ℕ) where
   -- its view of it, as the protocol says
   abbrev pub view_next : Kept → Next → View
   view_next k q = view_delivered config i q.period q.inputs (begins_next k q) q.slots
+
+  -- and what it says in a slot
+  abbrev pub frame_next : Kept → Next → ℕ → List ℕ
+  frame_next k q t =
+      spelling config.nodes (record { version = config.version; period = q.period; sender = i; slot = t })
+      (says (setting_of config) i q.inputs (begins_next k q) (received config i q.period q.inputs (begins_next k q) q.slots) (view_next k q) t)
 
   -- the node as it begins it, and after it
   abbrev pub begun_next : NodeView N → Next → NodeView N

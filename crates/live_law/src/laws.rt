@@ -3,7 +3,7 @@
 ghost use Rattle.live_law.specs.Periods.{PeriodsLaw};
 ghost use Rattle.live_law.specs.Run.{DeliveredLaw};
 ghost use Rattle.live_law.specs.Controllers.{LinkLaw};
-ghost use Rattle.live_law.specs.Living.{LifeLaw};
+ghost use Rattle.live_law.specs.Living.{NewLaw, SayLaw, LifeLaw};
 
 use node_steps::laws::period;
 use safety::laws::talk::{delivery, saying};
@@ -41,6 +41,18 @@ pub fn linked()
 /// says: of what it is delivered in each slot, by what it keeps, whatever that was before the first of these periods.
 pub fn live_life()
     ensures { LifeLaw }
+{
+    period();
+}
+
+/// A new live node rests with what the protocol gives each node first, and period 0 is its first.
+pub fn new_rests()
+    ensures { NewLaw }
+{}
+
+/// In each slot of a period a live node has said what the protocol says of what it was told so far.
+pub fn live_says()
+    ensures { SayLaw }
 {
     period();
 }
