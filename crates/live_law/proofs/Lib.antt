@@ -6,3 +6,4 @@ mod Lists
 mod Steps
 mod Spans
 mod LiveLife
+mod LiveAsRun

@@ -4,3 +4,4 @@ pub mod Run
 pub mod Controllers
 pub mod Events
 pub mod Living
+pub mod LiveRun

@@ -3,6 +3,7 @@
 ghost use Rattle.live_law.specs.Periods.{PeriodsLaw};
 ghost use Rattle.live_law.specs.Run.{DeliveredLaw};
 ghost use Rattle.live_law.specs.Controllers.{LinkLaw};
+ghost use Rattle.live_law.specs.LiveRun.{LiveRunLaw};
 ghost use Rattle.live_law.specs.Living.{NewLaw, SayLaw, LifeLaw};
 
 use node_steps::laws::period;
@@ -55,4 +56,14 @@ pub fn live_says()
     ensures { SayLaw }
 {
     period();
+}
+
+/// Where a live node keeps what a run says and is told what the run gives it, what it answers to the events of a period is
+/// what the record of the run's period shows of the node.
+pub fn live_run()
+    ensures { LiveRunLaw }
+{
+    period();
+    delivery();
+    saying();
 }
