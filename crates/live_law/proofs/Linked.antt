@@ -111,6 +111,8 @@ module _ {N : ℕ} (sc : ScenarioView N) (c : Controllers N) (capacity : IsCapac
 
     pub of_run : (i : ℕ) → i < config.nodes → 0 < c.ran i p → IsOfRun sc c i p
     of_run i li some = record {
+      goes_in = (before i li some).keeps;
+      delivered = λ whole. all_come i li whole;
       frames = λ t slot low. says_all t i li slot low;
       over = λ whole. (through_run sc c.inputs capacity is law delivery saying i p (c.delivered i p) (all_come i li whole) (woken i p) (before i li some)).over;
       between = λ whole. between_runs sc c.inputs capacity is law delivery saying i p (c.delivered i p) (all_come i li whole) (woken i p) (before i li some);

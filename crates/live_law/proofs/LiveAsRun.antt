@@ -23,7 +23,8 @@ use Rattle.protocol.specs.Arrival.{is_good}
 use Rattle.protocol.specs.Cluster.{kept, begins, view}
 use Rattle.protocol.specs.Clocks.{corrects, readings_at, offsets, correction_at}
 use Rattle.protocol.specs.Run.{System, members_in, run, sent}
-use Rattle.protocol.specs.View.{Setting, Kept, Received, Mode, adopted_by, synced_by, through, joined, view_from}
+use Rattle.protocol.specs.Configured.{setting_of}
+use Rattle.protocol.specs.View.{Setting, Kept, Received, Mode, opened, adopted_by, synced_by, through, joined, view_from}
 use Rattle.protocol.specs.View.Mode.{Full, Joining, Cold}
 use Rattle.safety.specs.Talk.{DeliveryLaw, SayingLaw}
 use Rattle.node_steps.specs.Living.{restarted_if}
@@ -44,9 +45,9 @@ use Rattle.live_law.specs.Run.{system_given, next_of, IsDelivered, GoesAsRun}
 use Rattle.live_law.specs.Events.{PeriodEvents, arrivals_in, restarts_in, aheads_told, last_told, ahead_of}
 use Rattle.live_law.specs.Living.{Rest, IsResting, IsPeriod, next_told, view_told, frame_told, inputs_told, ahead_told, correction_told, period_text}
 use Rattle.live_law.specs.LiveRun.{sent_text, recorded_alone, corrected_text, record_text, run_record, BeginsAsRun, ToldClocks, AnswersAsRun, LiveRunLaw}
-use Rattle.live_law.proofs.Lives.{goes_next}
+use Rattle.live_law.proofs.Lives.{goes_next, between_restarted}
 use Rattle.live_law.proofs.LiveLife.{Takes, takes_period}
-use Rattle.live_law.proofs.OfRun.{goes_as_run}
+use Rattle.live_law.proofs.OfRun.{through_run, says_sent, between_runs}
 
 -- ---- lists
 
@@ -105,7 +106,8 @@ module _ (m : ℕ) (members good : List ℕ) (rs xs : List ℤ) (same : (k : ℕ
 -- ---- a period
 
 module _ {N : ℕ} (sc : ScenarioView N) (inputs : ℕ → ℕ → Inputs) (is : IsScenario sc) (law : PeriodLaw) (delivery : DeliveryLaw) (saying : SayingLaw) (i p : ℕ) (low : i < sc.config.nodes) (r : Rest) (v : LiveView N) (q : PeriodEvents)
-    (at : IsResting sc i r v) (keeps : r.kept ≡ kept (run (system_given sc inputs)) i p) (may : IsPeriod sc i r q) (begin : BeginsAsRun sc inputs i p r q)
+    (at : IsResting sc i r v) (may : IsPeriod sc i r q) (begin : BeginsAsRun sc inputs i p r q)
+    (goes_in : opened (setting_of sc.config) (restarts_at sc.plan i p) r.kept ≡ begins (run (system_given sc inputs)) i p)
     (come : IsDelivered (system_given sc inputs) i p (λ t. arrivals_in (q.slots t))) where
   abbrev config : Config N
   config = sc.config
@@ -117,7 +119,7 @@ module _ {N : ℕ} (sc : ScenarioView N) (inputs : ℕ → ℕ → Inputs) (is :
   ds t = arrivals_in (q.slots t)
 
   abbrev k : Kept
-  k = kept (run sys) i p
+  k = r.kept
 
   abbrev next : Next
   next = next_of sys i p ds
@@ -134,23 +136,28 @@ module _ {N : ℕ} (sc : ScenarioView N) (inputs : ℕ → ℕ → Inputs) (is :
       ap (λ (n : ℕ). record { period = n; restarts = restarts_in q.before; inputs = inputs_told sc i n q.before; slots = ds }) begin.number
       ∙ ap₂ (λ (b : Bool) (g : Inputs). record { period = p; restarts = b; inputs = g; slots = ds }) begin.restarts begin.inputs_are
 
-  between : IsBetween config i k v.node
-  between = subst (λ (y : Kept). IsBetween config i y v.node) keeps at.between
+  abbrev woken : NodeView N
+  woken = restarted_if (restarts_at sc.plan i p) v.node
 
-  by_itself : GoesThrough config i p (inputs i p) (begins_next config i k next) (received config i p (inputs i p) (begins_next config i k next) ds) ds (restarted_if next.restarts v.node)
-  by_itself = goes_next law config i is.system.capacity is.system.config k v.node next between
+  between : IsBetween config i (begins (run sys) i p) woken
+  between = subst (λ (y : Kept). IsBetween config i y woken) goes_in (between_restarted config i (restarts_at sc.plan i p) k v.node at.between)
 
-  as_run : GoesAsRun sc inputs i p ds v.node
-  as_run = goes_as_run sc inputs is.system.capacity is.system.config law delivery saying i p ds come v.node between
+  by_itself : GoesThrough config i p (inputs i p) (begins_next config i k next) (received config i p (inputs i p) (begins_next config i k next) ds) ds woken
+  by_itself = goes_next law config i is.system.capacity is.system.config k v.node next at.between
+
+  as_run : GoesThrough config i p (inputs i p) (begins (run sys) i p) ((run sys).received i p) ds woken
+  as_run = through_run sc inputs is.system.capacity is.system.config law delivery saying i p ds come woken between
 
   pub frame_is : (t : ℕ) → t < count → frame_told sc i r q t ≡ sent sys p t i
-  frame_is t l = ap₂ (λ (y : Kept) (n : Next). frame_next config i y n t) keeps next_is ∙ sym (by_itself.frames t l) ∙ as_run.frames t l
+  frame_is t l = ap (λ (n : Next). frame_next config i k n t) next_is ∙ sym (by_itself.frames t l) ∙ says_sent sc inputs is.system.capacity is.system.config law delivery saying i p ds come woken between t l
 
   outcome_is : outcome_of (view_told sc i r q) ≡ o
-  outcome_is = ap₂ (λ (y : Kept) (n : Next). outcome_of (view_next config i y n)) keeps next_is ∙ sym by_itself.over.outcome ∙ as_run.over.outcome
+  outcome_is = ap (λ (n : Next). outcome_of (view_next config i k n)) next_is ∙ sym by_itself.over.outcome ∙ as_run.over.outcome
 
   keeps_then : (view_told sc i r q).kept ≡ kept (run sys) i (suc p)
-  keeps_then = ap₂ (λ (y : Kept) (n : Next). (view_next config i y n).kept) keeps next_is ∙ sym by_itself.over.kept ∙ as_run.between.keeps
+  keeps_then =
+      ap (λ (n : Next). (view_next config i k n).kept) next_is ∙ sym by_itself.over.kept
+      ∙ (between_runs sc inputs is.system.capacity is.system.config law delivery saying i p ds come woken between).keeps
 
   -- ---- its clock
 
@@ -221,4 +228,4 @@ module _ {N : ℕ} (sc : ScenarioView N) (inputs : ℕ → ℕ → Inputs) (is :
       }
 
 pub live_run_law : PeriodLaw → DeliveryLaw → SayingLaw → LiveRunLaw
-live_run_law law delivery saying N sc inputs i p r v q is low at keeps may begin come clocks = answers sc inputs is law delivery saying i p low r v q at keeps may begin come clocks
+live_run_law law delivery saying N sc inputs i p r v q is low at may begin goes_in come clocks = answers sc inputs is law delivery saying i p low r v q at may begin goes_in come clocks

@@ -8,15 +8,16 @@ use Rattle.fault_link.specs.Arrival.{delivered_of}
 use Rattle.agreed_state.specs.declared.config.Inputs.{Inputs}
 use Rattle.agreed_state.specs.Config.{IsConfig}
 use Rattle.protocol.specs.View.{Kept, first_kept}
-use Rattle.protocol.specs.Cluster.{kept, view}
+use Rattle.protocol.specs.Cluster.{kept, begins, view}
 use Rattle.protocol.specs.Run.{run, sent}
 use Rattle.protocol.specs.Configured.{setting_of}
 use Rattle.node_steps.specs.Parts.{NodeView}
 use Rattle.node_steps.specs.Steps.{frame_of}
+use Rattle.node_steps.specs.Living.{restarted_if}
 use Rattle.node_steps.specs.Period.{slots_run, IsOver}
 use Rattle.scenario.specs.Scenario.{ScenarioView}
 use Rattle.live_law.specs.Periods.{IsBetween, Next, begun_next, after_next}
-use Rattle.live_law.specs.Run.{system_given, next_of}
+use Rattle.live_law.specs.Run.{system_given, next_of, IsDelivered}
 
 -- of each node's controller: how it stands before each period, how many slots of the period it runs (none where it is down, not all
 -- where it is killed), what it is given for the period, and what it is delivered in each slot
@@ -59,10 +60,12 @@ module _ {N : ℕ} (sc : ScenarioView N) (c : Controllers N) where
     pub begin : (i p : ℕ) → i < sc.config.nodes → 0 < c.ran i p → Continues i p ⊎ BeginsAnew i p
     pub hear : (i j p t : ℕ) → i < sc.config.nodes → j < sc.config.nodes → j ≢ i → t < 2 * sc.config.m + 4 → t < c.ran i p → Hears i j p t
 
-  -- what the controller of node i does in period p is what the node does in the run: in each slot that it runs it says what is sent, and
-  -- after the last one it keeps and records what the node does
+  -- what the controller of node i does in period p is what the node does in the run: it goes into it with the same, in each slot that it
+  -- runs it says what is sent, and where it runs all of them it is delivered what the run delivers, and keeps and records what the node does
   pub record IsOfRun (i p : ℕ) : Type 0 where
+    pub goes_in : (restarted_if (restarts_at sc.plan i p) (c.node i p)).kept ≡ begins (run (system_given sc c.inputs)) i p
     pub frames : (t : ℕ) → t < 2 * sc.config.m + 4 → t < c.ran i p → said i p t ≡ sent (system_given sc c.inputs) p t i
+    pub delivered : c.ran i p ≡ 2 * sc.config.m + 4 → IsDelivered (system_given sc c.inputs) i p (c.delivered i p)
     pub over : c.ran i p ≡ 2 * sc.config.m + 4 → IsOver (after_next sc.config i (c.node i p) (next_at i p)) (view (run (system_given sc c.inputs)) i p)
     pub between : c.ran i p ≡ 2 * sc.config.m + 4
         → IsBetween sc.config i (kept (run (system_given sc c.inputs)) i (suc p)) (after_next sc.config i (c.node i p) (next_at i p))

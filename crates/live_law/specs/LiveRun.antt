@@ -7,9 +7,11 @@ use Rattle.fault_classes.specs.Plan.{restarts_at}
 use Rattle.clock_skew.specs.Clock.{ClockView}
 use Rattle.clock_skew.specs.Reading.{reading_at}
 use Rattle.agreed_state.specs.declared.config.Inputs.{Inputs}
-use Rattle.protocol.specs.Cluster.{kept, view}
+use Rattle.protocol.specs.Cluster.{kept, begins, view}
 use Rattle.protocol.specs.Clocks.{offsets}
+use Rattle.protocol.specs.Configured.{setting_of}
 use Rattle.protocol.specs.Run.{run}
+use Rattle.protocol.specs.View.{opened}
 use Rattle.node_steps.specs.Outcome.{Outcome}
 use Rattle.scenario.specs.Scenario.{ScenarioView, IsScenario}
 use Rattle.cluster_periods.specs.Record.{PeriodView, ClockShown, frame_at, period_record}
@@ -63,9 +65,10 @@ module _ {N : ℕ} (sc : ScenarioView N) (inputs : ℕ → ℕ → Inputs) where
     pub takes : all_steps v (events_of sc.config.m q) ≡ Goes to (record_text (run_record p) i)
     pub rests : IsResting sc i (record { kept = kept (run (system_given sc inputs)) i (suc p); next = p + 1; run = r.run + 1 }) to
 
--- Law: where a live node keeps what the run says, and is told what the run gives it, what it answers is the run's
+-- Law: where a live node goes into a period with what the run says, and is told what the run gives it, what it answers is the run's
 abbrev pub LiveRunLaw : Type 0
 LiveRunLaw =
     (N : ℕ) (sc : ScenarioView N) (inputs : ℕ → ℕ → Inputs) (i p : ℕ) (r : Rest) (v : LiveView N) (q : PeriodEvents)
-    → IsScenario sc → i < sc.config.nodes → IsResting sc i r v → r.kept ≡ kept (run (system_given sc inputs)) i p → IsPeriod sc i r q
-    → BeginsAsRun sc inputs i p r q → IsDelivered (system_given sc inputs) i p (λ t. arrivals_in (q.slots t)) → ToldClocks sc inputs i p q → AnswersAsRun sc inputs i p r v q
+    → IsScenario sc → i < sc.config.nodes → IsResting sc i r v → IsPeriod sc i r q → BeginsAsRun sc inputs i p r q
+    → opened (setting_of sc.config) (restarts_at sc.plan i p) r.kept ≡ begins (run (system_given sc inputs)) i p
+    → IsDelivered (system_given sc inputs) i p (λ t. arrivals_in (q.slots t)) → ToldClocks sc inputs i p q → AnswersAsRun sc inputs i p r v q
