@@ -7,3 +7,4 @@ mod Steps
 mod Spans
 mod LiveLife
 mod LiveAsRun
+mod LiveLinked

@@ -105,6 +105,12 @@ module _ (m : ℕ) (members good : List ℕ) (rs xs : List ℤ) (same : (k : ℕ
 
 -- ---- a period
 
+-- the frames that the record shows are those that are sent
+pub frame_shown : {N : ℕ} (sc : ScenarioView N) (inputs : ℕ → ℕ → Inputs) (i p t : ℕ) → i < sc.config.nodes → t < 2 * sc.config.m + 4 → frame_at (run_record sc inputs p) t i ≡ sent (system_given sc inputs) p t i
+frame_shown sc inputs i p t low l =
+    ap (λ (fs : List (List ℕ)). slice_index_or fs i []) (get_or-map-range_with_len (λ t. map (sent (system_given sc inputs) p t) (ids_below sc.config.nodes)) 0 (2 * sc.config.m + 4) t t [] l (omega arith))
+    ∙ get_or-map-range_with_len (sent (system_given sc inputs) p t) 0 sc.config.nodes i i [] low (omega arith)
+
 module _ {N : ℕ} (sc : ScenarioView N) (inputs : ℕ → ℕ → Inputs) (is : IsScenario sc) (law : PeriodLaw) (delivery : DeliveryLaw) (saying : SayingLaw) (i p : ℕ) (low : i < sc.config.nodes) (r : Rest) (v : LiveView N) (q : PeriodEvents)
     (at : IsResting sc i r v) (may : IsPeriod sc i r q) (begin : BeginsAsRun sc inputs i p r q)
     (goes_in : opened (setting_of sc.config) (restarts_at sc.plan i p) r.kept ≡ begins (run (system_given sc inputs)) i p)
@@ -206,14 +212,9 @@ module _ {N : ℕ} (sc : ScenarioView N) (inputs : ℕ → ℕ → Inputs) (is :
 
   -- ---- its text
 
-  pub frame_shown : (t : ℕ) → t < count → frame_at (run_record sc inputs p) t i ≡ sent sys p t i
-  frame_shown t l =
-      ap (λ (fs : List (List ℕ)). slice_index_or fs i []) (get_or-map-range_with_len (λ t. map (sent sys p t) (ids_below config.nodes)) 0 count t t [] l (omega arith))
-      ∙ get_or-map-range_with_len (sent sys p t) 0 config.nodes i i [] low (omega arith)
-
   text_is : ToldClocks sc inputs i p q → period_text sc i r q ≡ record_text (run_record sc inputs p) i
   text_is clocks =
-      ap₂ ◌++◌ (flat_below (λ t. say_text t (frame_told sc i r q t)) (λ t. say_text t (frame_at (run_record sc inputs p) t i)) 0 count (λ t l. ap (say_text t) (frame_is t (omega arith) ∙ sym (frame_shown t (omega arith)))))
+      ap₂ ◌++◌ (flat_below (λ t. say_text t (frame_told sc i r q t)) (λ t. say_text t (frame_at (run_record sc inputs p) t i)) 0 count (λ t l. ap (say_text t) (frame_is t (omega arith) ∙ sym (frame_shown sc inputs i p t low (omega arith)))))
       (ap₂ ◌++◌
       (ap₂ (λ (n : ℕ) (y : Outcome). alone_text n i config.nodes config.policy.retire y) begin.number outcome_is ∙ ap (recorded_alone (run_record sc inputs p) i) (sym (recorded (λ j. outcome_of (view (run sys) j p)) config.nodes i low)))
       (corrected clocks sc.clock refl))

@@ -11,8 +11,9 @@ use Rattle.node_steps.specs.Sending.{PeriodLaw}
 use Rattle.scenario.specs.Scenario.{ScenarioView, IsScenario}
 use Rattle.live_node.specs.Live.{LiveView, Step}
 use Rattle.live_node.specs.Live.Step.{Goes}
+use Rattle.live_law.specs.Periods.{after_next}
 use Rattle.live_law.specs.Events.{step_on, all_steps, PeriodEvents, events_of}
-use Rattle.live_law.specs.Living.{Rest, IsResting, IsPeriod, ArePeriods, Lives, Says, NewLaw, SayLaw, LifeLaw, period_text, after_period, life_text, after_life}
+use Rattle.live_law.specs.Living.{Rest, IsResting, IsPeriod, ArePeriods, Lives, Says, NewLaw, SayLaw, LifeLaw, next_told, period_text, after_period, life_text, after_life}
 use Rattle.live_law.proofs.Spans.{after_all, whole, rests_after, says_so_far}
 
 -- where this was answered before
@@ -46,12 +47,13 @@ pub record Takes {N : ℕ} (sc : ScenarioView N) (id : ℕ) (r : Rest) (v : Live
   pub to : LiveView N
   pub takes : all_steps v (events_of sc.config.m q) ≡ Goes to (period_text sc id r q)
   pub rests : IsResting sc id (after_period sc id r q) to
+  pub node : to.node ≡ after_next sc.config id v.node (next_told sc id r q)
 
 pub takes_period : PeriodLaw → {N : ℕ} (sc : ScenarioView N) (id : ℕ) (r : Rest) (v : LiveView N) (q : PeriodEvents) → IsScenario sc → IsResting sc id r v → IsPeriod sc id r q → Takes sc id r v q
 takes_period law sc id r v q is at may =
     subst (λ (s : ScenarioView _). IsScenario s → IsResting s id r v → IsPeriod s id r q → Takes s id r v q) at.is_of
     (subst (λ (i : ℕ). IsScenario v.scenario → IsResting v.scenario i r v → IsPeriod v.scenario i r q → Takes v.scenario i r v q) at.is_node
-    (λ is at may. record { to = after_all v r q; takes = whole v r q is law at may []; rests = rests_after v r q is law at may })) is at may
+    (λ is at may. record { to = after_all v r q; takes = whole v r q is law at may []; rests = rests_after v r q is law at may; node = refl })) is at may
 
 pub say_law : PeriodLaw → SayLaw
 say_law law N sc id r v q slots is at may low =

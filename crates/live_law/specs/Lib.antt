@@ -5,3 +5,4 @@ pub mod Controllers
 pub mod Events
 pub mod Living
 pub mod LiveRun
+pub mod LiveCluster

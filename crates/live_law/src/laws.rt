@@ -3,6 +3,7 @@
 ghost use Rattle.live_law.specs.Periods.{PeriodsLaw};
 ghost use Rattle.live_law.specs.Run.{DeliveredLaw};
 ghost use Rattle.live_law.specs.Controllers.{LinkLaw};
+ghost use Rattle.live_law.specs.LiveCluster.{LiveClusterLaw};
 ghost use Rattle.live_law.specs.LiveRun.{LiveRunLaw};
 ghost use Rattle.live_law.specs.Living.{NewLaw, SayLaw, LifeLaw};
 
@@ -62,6 +63,17 @@ pub fn live_says()
 /// what the record of the run's period shows of the node.
 pub fn live_run()
     ensures { LiveRunLaw }
+{
+    period();
+    delivery();
+    saying();
+}
+
+/// Live controllers of which each is told what a fault plan makes of what the others say are the run of that plan: what each
+/// answers is what the record of the run's period shows of its node. A controller that is killed is a node whose frames are
+/// lost from then on, and one that is started anew a node that restarts.
+pub fn live_cluster()
+    ensures { LiveClusterLaw }
 {
     period();
     delivery();

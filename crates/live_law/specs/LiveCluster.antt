@@ -1,0 +1,87 @@
+-- Live controllers of all nodes of a cluster, each told what the others say, over a faulty network.
+use Rattle.std.specs.Prelude.{◌≡◌, ◌≢◌, ◌<◌, ◌≤◌, ◌⊎◌, ℕ, zero, suc, ◌+◌, true, List, []}
+use Rattle.error_detect.specs.Multiset.{from_sender}
+use Rattle.fault_classes.specs.Line.{effect_at}
+use Rattle.fault_classes.specs.Plan.{restarts_at}
+use Rattle.fault_link.specs.Arrival.{delivered_of}
+use Rattle.slot_plan.specs.Slots.{slot_count}
+use Rattle.agreed_state.specs.declared.config.Inputs.{Inputs}
+use Rattle.protocol.specs.Cluster.{kept}
+use Rattle.protocol.specs.Run.{run}
+use Rattle.node_steps.specs.Steps.{frame_of}
+use Rattle.scenario.specs.Scenario.{ScenarioView, IsScenario, inputs_of}
+use Rattle.cluster_periods.specs.Laws.{IsClaimed, Promises}
+use Rattle.live_node.specs.Live.{LiveView, IsNewLive, Step}
+use Rattle.live_node.specs.Live.Step.{Goes, Refuses}
+use Rattle.live_law.specs.Run.{system_given}
+use Rattle.live_law.specs.Events.{PeriodEvents, part_of, events_of, all_steps, arrivals_in}
+use Rattle.live_law.specs.Living.{Rest, rest_of, IsResting, IsPeriod}
+use Rattle.live_law.specs.LiveRun.{run_record, sent_text, record_text, BeginsAsRun, ToldClocks}
+
+-- a live node behind a step, which is the one before where the step is refused
+abbrev pub reached : {N : ℕ} → LiveView N → Step N → LiveView N
+reached v (Goes w text) = w
+reached v (Refuses rule) = v
+
+-- a live node after the events of a period, and what it says in a slot of it
+abbrev pub after_events : {N : ℕ} → ℕ → LiveView N → PeriodEvents → LiveView N
+after_events m v q = reached v (all_steps v (events_of m q))
+
+abbrev pub said_live : {N : ℕ} → LiveView N → PeriodEvents → ℕ → List ℕ
+said_live v q t = frame_of (reached v (all_steps v (part_of q t))).node
+
+-- of each node's controller: how it stands before each period, what it is told of the period, and how many slots of the period it runs:
+-- none where it is down, not all where it is killed
+pub record LiveControllers (N : ℕ) : Type 0 where
+  pub live : ℕ → ℕ → LiveView N  -- node, period
+  pub told : ℕ → ℕ → PeriodEvents  -- node, period
+  pub ran : ℕ → ℕ → ℕ  -- node, period
+
+module _ {N : ℕ} (sc : ScenarioView N) (inputs : ℕ → ℕ → Inputs) (c : LiveControllers N) where
+  -- a controller begins its first period as a new one, and a later one as it came out of the whole of the period before
+  abbrev pub Continues : ℕ → ℕ → Type 0
+  Continues i zero = IsNewLive sc i (c.live i 0)
+  Continues i (suc p) = (c.ran i p ≡ slot_count sc.config.m) × (c.live i (suc p) ≡ after_events sc.config.m (c.live i p) (c.told i p))
+
+  -- or it is any that rests, a new one too, and the plan says that the node restarts
+  pub record BeginsAnew (i p : ℕ) : Type 0 where
+    pub restarts : restarts_at sc.plan i p ≡ true
+    pub rests : IsResting sc i (rest_of (c.live i p)) (c.live i p)
+
+  -- a controller that runs slots of a period: how it came to it, and that it is told what may be told, the number and the restart of
+  -- the run, and what it is given
+  pub record Runs (i p : ℕ) : Type 0 where
+    pub comes : Continues i p ⊎ BeginsAnew i p
+    pub may : IsPeriod sc i (rest_of (c.live i p)) (c.told i p)
+    pub as_run : BeginsAsRun sc inputs i p (rest_of (c.live i p)) (c.told i p)
+
+  -- what the controller of node i is delivered of node j's frame in a slot: what the plan makes of what that node's controller says
+  -- there; and nothing where that one doesn't run, of which the plan tells by a line that loses the frame, whatever it is
+  pub record Hears (i j p t : ℕ) : Type 0 where
+    pub spoken : t < c.ran j p → from_sender j (arrivals_in ((c.told i p).slots t)) ≡ delivered_of (effect_at sc.plan.lines p t j i) (said_live (c.live j p) (c.told j p) t)
+    pub silent : c.ran j p ≤ t → (from_sender j (arrivals_in ((c.told i p).slots t)) ≡ []) × ((frame : List ℕ) → delivered_of (effect_at sc.plan.lines p t j i) frame ≡ [])
+
+  -- controllers that are linked by a network in which befalls the frames what the plan says
+  pub record AreLinked : Type 0 where
+    pub runs : (i p : ℕ) → i < sc.config.nodes → 0 < c.ran i p → Runs i p
+    pub hear : (i j p t : ℕ) → i < sc.config.nodes → j < sc.config.nodes → j ≢ i → t < slot_count sc.config.m → t < c.ran i p → Hears i j p t
+
+  -- what a controller answers in so many slots and in a whole period is what the record of the run's period shows of its node
+  pub record AnswersSlots (i p slots : ℕ) : Type 0 where
+    pub to : LiveView N
+    pub takes : all_steps (c.live i p) (part_of (c.told i p) slots) ≡ Goes to (sent_text (run_record sc inputs p) i (suc slots))
+
+  pub record AnswersPeriod (i p : ℕ) : Type 0 where
+    pub to : LiveView N
+    pub takes : all_steps (c.live i p) (events_of sc.config.m (c.told i p)) ≡ Goes to (record_text (run_record sc inputs p) i)
+    pub rests : IsResting sc i (record { kept = kept (run (system_given sc inputs)) i (suc p); next = p + 1; run = (c.live i p).run + 1 }) to
+
+  pub record IsLiveRun (i p : ℕ) : Type 0 where
+    pub slots : (t : ℕ) → t < slot_count sc.config.m → t < c.ran i p → AnswersSlots i p t
+    pub whole : c.ran i p ≡ slot_count sc.config.m → ToldClocks sc inputs i p (c.told i p) → AnswersPeriod i p
+
+-- Law: linked live controllers are the run of the plan, in each period in which they run, for however many periods
+abbrev pub LiveClusterLaw : Type 0
+LiveClusterLaw =
+    (N : ℕ) (sc : ScenarioView N) (inputs : ℕ → ℕ → Inputs) (c : LiveControllers N) → IsScenario sc → AreLinked sc inputs c
+    → (i p : ℕ) → i < sc.config.nodes → 0 < c.ran i p → IsLiveRun sc inputs c i p
