@@ -1,6 +1,7 @@
 mod Told
 mod Lives
 mod OfRun
+mod Controllers
 mod Linked
 mod Lists
 mod Steps

@@ -26,7 +26,7 @@ use Rattle.cluster_periods.specs.Slots.{arrivals}
 use Rattle.cluster_periods.proofs.Arriving.{from_each}
 use Rattle.live_law.specs.Periods.{IsBetween}
 use Rattle.live_law.specs.Run.{system_given, IsDelivered}
-use Rattle.live_law.specs.Controllers.{Controllers, said, in_slot, Continues, BeginsAnew, Hears, AreLinked, IsOfRun, LinkLaw}
+use Rattle.live_law.proofs.Controllers.{Controllers, said, in_slot, Continues, BeginsAnew, Hears, AreLinked, IsOfRun}
 use Rattle.live_law.proofs.Lives.{between_restarted}
 use Rattle.live_law.proofs.OfRun.{through_run, says_sent, between_runs}
 
@@ -138,6 +138,7 @@ module _ {N : ℕ} (sc : ScenarioView N) (c : Controllers N) (capacity : IsCapac
     | inr new ↦ anew i (suc p) new.keeps new.restarts new.between
   ]
 
-pub link_law : PeriodLaw → DeliveryLaw → SayingLaw → LinkLaw
+-- Law: nodes that are linked are the run of the plan, in each period in which they run, for however many periods
+pub link_law : PeriodLaw → DeliveryLaw → SayingLaw → (N : ℕ) (sc : ScenarioView N) (c : Controllers N) → IsCapacity N → IsConfig N sc.config → AreLinked sc c → (i p : ℕ) → i < sc.config.nodes → 0 < c.ran i p → IsOfRun sc c i p
 link_law law delivery saying N sc c capacity is linked i p li some =
     of_run sc c capacity is law delivery saying linked p (λ j lj up. begin_all sc c capacity is law delivery saying linked p j lj up) i li some

@@ -41,13 +41,12 @@ use Rattle.live_node.specs.Live.Step.{Goes}
 use Rattle.live_node.specs.Text.{say_text, correct_text}
 use Rattle.live_law.specs.Received.{received}
 use Rattle.live_law.specs.Periods.{IsBetween, Next, begins_next, view_next, frame_next}
-use Rattle.live_law.specs.Run.{system_given, next_of, IsDelivered, GoesAsRun}
+use Rattle.live_law.specs.Run.{system_given, IsDelivered, sent_text, recorded_alone, corrected_text, record_text, run_record, BeginsAsRun, ToldClocks, AnswersAsRun, LiveRunLaw}
 use Rattle.live_law.specs.Events.{PeriodEvents, arrivals_in, restarts_in, aheads_told, last_told, ahead_of}
-use Rattle.live_law.specs.Living.{Rest, IsResting, IsPeriod, next_told, view_told, frame_told, inputs_told, ahead_told, correction_told, period_text}
-use Rattle.live_law.specs.LiveRun.{sent_text, recorded_alone, corrected_text, record_text, run_record, BeginsAsRun, ToldClocks, AnswersAsRun, LiveRunLaw}
+use Rattle.live_law.specs.Living.{Rest, Rests, IsAllowed, next_told, view_told, frame_told, inputs_told, ahead_told, correction_told, period_text}
 use Rattle.live_law.proofs.Lives.{goes_next, between_restarted}
 use Rattle.live_law.proofs.LiveLife.{Takes, takes_period}
-use Rattle.live_law.proofs.OfRun.{through_run, says_sent, between_runs}
+use Rattle.live_law.proofs.OfRun.{next_of, through_run, says_sent, between_runs}
 
 -- ---- lists
 
@@ -112,7 +111,7 @@ frame_shown sc inputs i p t low l =
     ∙ get_or-map-range_with_len (sent (system_given sc inputs) p t) 0 sc.config.nodes i i [] low (omega arith)
 
 module _ {N : ℕ} (sc : ScenarioView N) (inputs : ℕ → ℕ → Inputs) (is : IsScenario sc) (law : PeriodLaw) (delivery : DeliveryLaw) (saying : SayingLaw) (i p : ℕ) (low : i < sc.config.nodes) (r : Rest) (v : LiveView N) (q : PeriodEvents)
-    (at : IsResting sc i r v) (may : IsPeriod sc i r q) (begin : BeginsAsRun sc inputs i p r q)
+    (at : Rests sc i r v) (may : IsAllowed sc i r q) (begin : BeginsAsRun sc inputs i p r q)
     (goes_in : opened (setting_of sc.config) (restarts_at sc.plan i p) r.kept ≡ begins (run (system_given sc inputs)) i p)
     (come : IsDelivered (system_given sc inputs) i p (λ t. arrivals_in (q.slots t))) where
   abbrev config : Config N
@@ -225,7 +224,7 @@ module _ {N : ℕ} (sc : ScenarioView N) (inputs : ℕ → ℕ → Inputs) (is :
       record {
         to = t.to;
         takes = t.takes ∙ ap (Goes t.to) (text_is clocks);
-        rests = subst (λ (y : Rest). IsResting sc i y t.to) (ap₂ (λ (y : Kept) (n : ℕ). record { kept = y; next = n + 1; run = r.run + 1 }) keeps_then begin.number) t.rests;
+        rests = subst (λ (y : Rest). Rests sc i y t.to) (ap₂ (λ (y : Kept) (n : ℕ). record { kept = y; next = n + 1; run = r.run + 1 }) keeps_then begin.number) t.rests;
       }
 
 pub live_run_law : PeriodLaw → DeliveryLaw → SayingLaw → LiveRunLaw

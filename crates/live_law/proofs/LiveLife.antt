@@ -13,18 +13,18 @@ use Rattle.live_node.specs.Live.{LiveView, Step}
 use Rattle.live_node.specs.Live.Step.{Goes}
 use Rattle.live_law.specs.Periods.{after_next}
 use Rattle.live_law.specs.Events.{step_on, all_steps, PeriodEvents, events_of}
-use Rattle.live_law.specs.Living.{Rest, IsResting, IsPeriod, ArePeriods, Lives, Says, NewLaw, SayLaw, LifeLaw, next_told, period_text, after_period, life_text, after_life}
+use Rattle.live_law.specs.Living.{Rest, Rests, IsAllowed, AreAllowed, AnswersLife, SaysSlots, NewLiveLaw, LiveSayLaw, LiveLifeLaw, next_told, period_text, after_period, life_text, after_life}
 use Rattle.live_law.proofs.Spans.{after_all, whole, rests_after, says_so_far}
 
 -- where this was answered before
 record LivesFrom {N : ℕ} (text : List ℕ) (r : Rest) (v : LiveView N) (qs : List PeriodEvents) : Type 0 where
   pub to : LiveView N
   pub takes : fold step_on (Goes v text) (flat_map (events_of v.scenario.config.m) qs) ≡ Goes to (text ++ life_text v.scenario v.id r qs)
-  pub rests : IsResting v.scenario v.id (after_life v.scenario v.id r qs) to
+  pub rests : Rests v.scenario v.id (after_life v.scenario v.id r qs) to
 
 module _ (law : PeriodLaw) where
-  lives : {N : ℕ} (v : LiveView N) (r : Rest) (qs : List PeriodEvents) (text : List ℕ) → IsScenario v.scenario → IsResting v.scenario v.id r v → ArePeriods v.scenario v.id r qs → LivesFrom text r v qs
-  unfolding ArePeriods life_text after_life
+  lives : {N : ℕ} (v : LiveView N) (r : Rest) (qs : List PeriodEvents) (text : List ℕ) → IsScenario v.scenario → Rests v.scenario v.id r v → AreAllowed v.scenario v.id r qs → LivesFrom text r v qs
+  unfolding AreAllowed life_text after_life
   lives v r [] text is at may = record { to = v; takes = ap (Goes v) (sym (append-nil text)); rests = at }
   lives {N} v r (q ∷ qs) text is at may =
       let w : LiveView N = after_all v r q in
@@ -39,29 +39,29 @@ module _ (law : PeriodLaw) where
         rests = rest.rests;
       }
 
-  by_itself : {N : ℕ} (v : LiveView N) (r : Rest) (qs : List PeriodEvents) → IsScenario v.scenario → IsResting v.scenario v.id r v → ArePeriods v.scenario v.id r qs → Lives v.scenario v.id r v qs
+  by_itself : {N : ℕ} (v : LiveView N) (r : Rest) (qs : List PeriodEvents) → IsScenario v.scenario → Rests v.scenario v.id r v → AreAllowed v.scenario v.id r qs → AnswersLife v.scenario v.id r v qs
   by_itself v r qs is at may = let l = lives v r qs [] is at may in record { to = l.to; takes = l.takes; rests = l.rests }
 
 -- one period
 pub record Takes {N : ℕ} (sc : ScenarioView N) (id : ℕ) (r : Rest) (v : LiveView N) (q : PeriodEvents) : Type 0 where
   pub to : LiveView N
   pub takes : all_steps v (events_of sc.config.m q) ≡ Goes to (period_text sc id r q)
-  pub rests : IsResting sc id (after_period sc id r q) to
+  pub rests : Rests sc id (after_period sc id r q) to
   pub node : to.node ≡ after_next sc.config id v.node (next_told sc id r q)
 
-pub takes_period : PeriodLaw → {N : ℕ} (sc : ScenarioView N) (id : ℕ) (r : Rest) (v : LiveView N) (q : PeriodEvents) → IsScenario sc → IsResting sc id r v → IsPeriod sc id r q → Takes sc id r v q
+pub takes_period : PeriodLaw → {N : ℕ} (sc : ScenarioView N) (id : ℕ) (r : Rest) (v : LiveView N) (q : PeriodEvents) → IsScenario sc → Rests sc id r v → IsAllowed sc id r q → Takes sc id r v q
 takes_period law sc id r v q is at may =
-    subst (λ (s : ScenarioView _). IsScenario s → IsResting s id r v → IsPeriod s id r q → Takes s id r v q) at.is_of
-    (subst (λ (i : ℕ). IsScenario v.scenario → IsResting v.scenario i r v → IsPeriod v.scenario i r q → Takes v.scenario i r v q) at.is_node
+    subst (λ (s : ScenarioView _). IsScenario s → Rests s id r v → IsAllowed s id r q → Takes s id r v q) at.is_of
+    (subst (λ (i : ℕ). IsScenario v.scenario → Rests v.scenario i r v → IsAllowed v.scenario i r q → Takes v.scenario i r v q) at.is_node
     (λ is at may. record { to = after_all v r q; takes = whole v r q is law at may []; rests = rests_after v r q is law at may; node = refl })) is at may
 
-pub say_law : PeriodLaw → SayLaw
+pub say_law : PeriodLaw → LiveSayLaw
 say_law law N sc id r v q slots is at may low =
-    subst (λ (s : ScenarioView N). IsScenario s → IsResting s id r v → IsPeriod s id r q → slots < slot_count s.config.m → Says s id r v q slots) at.is_of
-    (subst (λ (i : ℕ). IsScenario v.scenario → IsResting v.scenario i r v → IsPeriod v.scenario i r q → slots < slot_count v.scenario.config.m → Says v.scenario i r v q slots) at.is_node
+    subst (λ (s : ScenarioView N). IsScenario s → Rests s id r v → IsAllowed s id r q → slots < slot_count s.config.m → SaysSlots s id r v q slots) at.is_of
+    (subst (λ (i : ℕ). IsScenario v.scenario → Rests v.scenario i r v → IsAllowed v.scenario i r q → slots < slot_count v.scenario.config.m → SaysSlots v.scenario i r v q slots) at.is_node
     (λ is at may low. says_so_far v r q is law at may slots low)) is at may low
 
-pub new_law : NewLaw
+pub new_law : NewLiveLaw
 new_law N sc id v is new = record {
   is_of = new.is_of;
   is_node = new.is_node;
@@ -79,7 +79,7 @@ new_law N sc id v is new = record {
   given = new.given;
 }
 
-pub live_life : PeriodLaw → LifeLaw
+pub live_life : PeriodLaw → LiveLifeLaw
 live_life law N sc id r v qs is at may =
-    subst (λ (s : ScenarioView N). IsScenario s → IsResting s id r v → ArePeriods s id r qs → Lives s id r v qs) at.is_of
-    (subst (λ (i : ℕ). IsScenario v.scenario → IsResting v.scenario i r v → ArePeriods v.scenario i r qs → Lives v.scenario i r v qs) at.is_node (by_itself law v r qs)) is at may
+    subst (λ (s : ScenarioView N). IsScenario s → Rests s id r v → AreAllowed s id r qs → AnswersLife s id r v qs) at.is_of
+    (subst (λ (i : ℕ). IsScenario v.scenario → Rests v.scenario i r v → AreAllowed v.scenario i r qs → AnswersLife v.scenario i r v qs) at.is_node (by_itself law v r qs)) is at may

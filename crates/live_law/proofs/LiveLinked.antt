@@ -24,22 +24,22 @@ use Rattle.live_node.specs.Live.{LiveView, Step}
 use Rattle.live_node.specs.Live.Step.{Goes}
 use Rattle.live_node.specs.Text.{say_text}
 use Rattle.live_law.specs.Periods.{IsBetween, Next, begun_next, after_next, frame_next}
-use Rattle.live_law.specs.Run.{system_given, next_of}
-use Rattle.live_law.specs.Controllers.{Controllers, IsOfRun, said, AreLinked as AreLinkedNodes, Hears as NodesHear}
-use Rattle.live_law.specs.Controllers as nodes
+use Rattle.live_law.specs.Run.{system_given, run_record, sent_text, AnswersAsRun, BeginsAsRun, ToldClocks}
+use Rattle.live_law.proofs.Controllers.{Controllers, IsOfRun, said, AreLinked as AreLinkedNodes, Hears as NodesHear}
+use Rattle.live_law.proofs.Controllers as nodes
 use Rattle.live_law.specs.Events.{PeriodEvents, arrivals_in, restarts_in, all_steps, events_of, part_of}
-use Rattle.live_law.specs.Living.{Rest, rest_of, IsResting, IsPeriod, Says, next_told, inputs_told, frame_told, after_period}
-use Rattle.live_law.specs.LiveRun.{run_record, sent_text, AnswersAsRun, BeginsAsRun, ToldClocks}
-use Rattle.live_law.specs.LiveCluster.{LiveControllers, AreLinked, Runs, Hears, BeginsAnew, AnswersSlots, IsLiveRun, LiveClusterLaw, reached, after_events, said_live}
+use Rattle.live_law.specs.Living.{Rest, rest_of, Rests, IsAllowed, SaysSlots, next_told, inputs_told, frame_told, after_period}
+use Rattle.live_law.specs.Cluster.{LiveControllers, AreLinked, TakesPart, Carries, BeginsAnew, AnswersSlots, IsLiveRun, LiveClusterLaw, reached, after_events, said_live}
 use Rattle.live_law.proofs.Lives.{goes_next, between_restarted}
 use Rattle.live_law.proofs.Linked.{link_law}
+use Rattle.live_law.proofs.OfRun.{next_of}
 use Rattle.live_law.proofs.LiveLife.{Takes, takes_period, say_law, new_law}
 use Rattle.live_law.proofs.LiveAsRun.{live_run_law, flat_below, frame_shown}
 
 -- a live node that rests so rests as it says of itself
-rests_itself : {N : ℕ} (sc : ScenarioView N) (i : ℕ) (r : Rest) (v : LiveView N) → IsResting sc i r v → IsResting sc i (rest_of v) v
+rests_itself : {N : ℕ} (sc : ScenarioView N) (i : ℕ) (r : Rest) (v : LiveView N) → Rests sc i r v → Rests sc i (rest_of v) v
 rests_itself {N} sc i r v at =
-    subst (λ (y : Rest). IsResting sc i y v) (ap₂ (λ (k : Kept) (n : ℕ). record { kept = k; next = n; run = r.run }) (sym at.between.keeps) (sym at.next) ∙ ap (λ (n : ℕ). record { kept = v.node.kept; next = v.next; run = n }) (sym at.run)) at
+    subst (λ (y : Rest). Rests sc i y v) (ap₂ (λ (k : Kept) (n : ℕ). record { kept = k; next = n; run = r.run }) (sym at.between.keeps) (sym at.next) ∙ ap (λ (n : ℕ). record { kept = v.node.kept; next = v.next; run = n }) (sym at.run)) at
 
 module _ {N : ℕ} (sc : ScenarioView N) (inputs : ℕ → ℕ → Inputs) (c : LiveControllers N) (is : IsScenario sc) (law : PeriodLaw) (delivery : DeliveryLaw) (saying : SayingLaw) (linked : AreLinked sc inputs c) where
   abbrev config : Config N
@@ -64,14 +64,14 @@ module _ {N : ℕ} (sc : ScenarioView N) (inputs : ℕ → ℕ → Inputs) (c : 
   next i p = next_of sys i p (cs.delivered i p)
 
   -- what a controller is told of a period is what its node is
-  next_is : (i p : ℕ) → Runs sc inputs c i p → next_told sc i (r i p) (c.told i p) ≡ next i p
+  next_is : (i p : ℕ) → TakesPart sc inputs c i p → next_told sc i (r i p) (c.told i p) ≡ next i p
   next_is i p h =
       ap (λ (n : ℕ). record { period = n; restarts = restarts_in (c.told i p).before; inputs = inputs_told sc i n (c.told i p).before; slots = cs.delivered i p }) h.as_run.number
       ∙ ap₂ (λ (b : Bool) (g : Inputs). record { period = p; restarts = b; inputs = g; slots = cs.delivered i p }) h.as_run.restarts h.as_run.inputs_are
 
   -- ---- how controllers rest
 
-  rests : (p i : ℕ) → i < config.nodes → 0 < c.ran i p → IsResting sc i (r i p) (c.live i p)
+  rests : (p i : ℕ) → i < config.nodes → 0 < c.ran i p → Rests sc i (r i p) (c.live i p)
   rests zero i low some = elim (linked.runs i 0 low some).comes [
     | inl new ↦ rests_itself sc i (record { kept = first_kept (setting_of config); next = 0; run = 0 }) (c.live i 0) (new_law N sc i (c.live i 0) is new)
     | inr anew ↦ anew.rests
@@ -81,20 +81,20 @@ module _ {N : ℕ} (sc : ScenarioView N) (inputs : ℕ → ℕ → Inputs) (c : 
         let up : 0 < c.ran i p = let w = on.0 in omega arith in
         let t : Takes sc i (r i p) (c.live i p) (c.told i p) = takes_period law sc i (r i p) (c.live i p) (c.told i p) is (rests p i low up) (linked.runs i p low up).may in
         rests_itself sc i (after_period sc i (r i p) (c.told i p)) (c.live i (suc p))
-        (subst (λ (w : LiveView N). IsResting sc i (after_period sc i (r i p) (c.told i p)) w) (sym (on.1 ∙ ap (reached (c.live i p)) t.takes)) t.rests)
+        (subst (λ (w : LiveView N). Rests sc i (after_period sc i (r i p) (c.told i p)) w) (sym (on.1 ∙ ap (reached (c.live i p)) t.takes)) t.rests)
     | inr anew ↦ anew.rests
   ]
 
   -- ---- what they say
 
   module _ (i p : ℕ) (low : i < config.nodes) (some : 0 < c.ran i p) where
-    abbrev runs : Runs sc inputs c i p
+    abbrev runs : TakesPart sc inputs c i p
     runs = linked.runs i p low some
 
-    abbrev at : IsResting sc i (r i p) (c.live i p)
+    abbrev at : Rests sc i (r i p) (c.live i p)
     at = rests p i low some
 
-    speaks : (t : ℕ) → t < slot_count config.m → Says sc i (r i p) (c.live i p) (c.told i p) t
+    speaks : (t : ℕ) → t < slot_count config.m → SaysSlots sc i (r i p) (c.live i p) (c.told i p) t
     speaks t slot = say_law law N sc i (r i p) (c.live i p) (c.told i p) t is at runs.may slot
 
     -- what it says is what its node says

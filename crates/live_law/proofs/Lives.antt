@@ -10,7 +10,7 @@ use Rattle.node_steps.specs.Parts.{NodeView}
 use Rattle.node_steps.specs.Living.{restarted_if}
 use Rattle.node_steps.specs.Sending.{Fixed, fixed, GoesThrough, PeriodLaw}
 use Rattle.live_law.specs.Received.{received}
-use Rattle.live_law.specs.Periods.{IsBetween, Next, begins_next, view_next, after_next, LivesOn, PeriodsLaw}
+use Rattle.live_law.specs.Periods.{IsBetween, Next, begins_next, view_next, after_next, GoesThroughAll, AnyPeriodsLaw}
 use Rattle.live_law.proofs.Told.{told, served_by}
 
 same_fixed : {N : ℕ} (b : Bool) (v : NodeView N) → fixed (restarted_if b v) ≡ fixed v
@@ -60,10 +60,10 @@ module _ (law : PeriodLaw) {N : ℕ} (config : Config N) (i : ℕ) (capacity : I
         shut = through.over.shut;
       }
 
-  pub lives_on : (k : Kept) (v : NodeView N) (qs : List Next) → IsBetween config i k v → LivesOn config i k v qs
-  unfolding LivesOn
+  pub lives_on : (k : Kept) (v : NodeView N) (qs : List Next) → IsBetween config i k v → GoesThroughAll config i k v qs
+  unfolding GoesThroughAll
   lives_on k v [] at = at
   lives_on k v (q ∷ qs) at = (goes_next k v q at, lives_on (view_next config i k q).kept (after_next config i v q) qs (between_after k v q at))
 
-pub life : PeriodLaw → PeriodsLaw
+pub life : PeriodLaw → AnyPeriodsLaw
 life law N config i k v qs capacity is at = lives_on law config i capacity is k v qs at

@@ -21,13 +21,15 @@ use Rattle.node_steps.specs.Parts.{NodeView}
 use Rattle.node_steps.specs.Steps.{begun, frame_of}
 use Rattle.node_steps.specs.Stages.{due_of}
 use Rattle.node_steps.specs.Period.{slots_run, goes, Told, IsOver}
-use Rattle.node_steps.specs.Living.{restarted_if}
 use Rattle.node_steps.specs.Sending.{GoesThrough, PeriodLaw}
 use Rattle.scenario.specs.Scenario.{ScenarioView}
-use Rattle.live_law.specs.Periods.{IsBetween, after_next, begun_next}
-use Rattle.live_law.specs.Run.{system_given, next_of, IsDelivered, GoesAsRun, DeliveredLaw}
+use Rattle.live_law.specs.Periods.{IsBetween, Next}
+use Rattle.live_law.specs.Run.{system_given, IsDelivered}
 use Rattle.live_law.proofs.Told.{served_by}
-use Rattle.live_law.proofs.Lives.{between_restarted}
+
+-- what a run makes of period p for node i: whether it restarts, what it is given, and this in each slot
+abbrev pub next_of : System → ℕ → ℕ → (ℕ → List Arriving) → Next
+next_of sys i p ds = record { period = p; restarts = restarts_at sys.plan i p; inputs = sys.inputs i p; slots = ds }
 
 module _ {N : ℕ} (sc : ScenarioView N) (inputs : ℕ → ℕ → Inputs) (capacity : IsCapacity N) (is : IsConfig N sc.config) (law : PeriodLaw) (delivery : DeliveryLaw) (saying : SayingLaw) (i p : ℕ) where
   abbrev config : Config N
@@ -94,15 +96,3 @@ module _ {N : ℕ} (sc : ScenarioView N) (inputs : ℕ → ℕ → Inputs) (capa
         valid = kept_valid (setting_of config) capacity is i p (inputs i p) k x k.state at.valid;
         shut = through_run.over.shut;
       }
-
-    pub goes_as_run : (v : NodeView N) → IsBetween config i (kept (run sys) i p) v → GoesAsRun sc inputs i p ds v
-    goes_as_run v at =
-        let w = between_restarted config i (restarts_at sc.plan i p) (kept (run sys) i p) v at in
-        record {
-          frames = says_sent (restarted_if (restarts_at sc.plan i p) v) w;
-          over = (through_run (restarted_if (restarts_at sc.plan i p) v) w).over;
-          between = between_runs (restarted_if (restarts_at sc.plan i p) v) w;
-        }
-
-pub run_law : PeriodLaw → DeliveryLaw → SayingLaw → DeliveredLaw
-run_law law delivery saying N sc inputs i p ds v capacity is at comes = goes_as_run sc inputs capacity is law delivery saying i p ds comes v at

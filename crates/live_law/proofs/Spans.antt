@@ -34,7 +34,7 @@ use Rattle.live_node.specs.Text.{say_text, correct_text}
 use Rattle.live_law.specs.Received.{received}
 use Rattle.live_law.specs.Periods.{IsBetween, Next, begins_next, begun_next, after_next}
 use Rattle.live_law.specs.Events.{step_on, PeriodEvents, part_of, events_of, restarts_in, arrivals_in, readings_told}
-use Rattle.live_law.specs.Living.{Rest, IsResting, IsPeriod, Says, MayBegin, ComesBefore, ComesWithin, number_told, next_told, inputs_told, frame_told, ahead_told, view_told, period_text, after_period}
+use Rattle.live_law.specs.Living.{Rest, Rests, IsAllowed, SaysSlots, MayBegin, ComesBefore, ComesWithin, number_told, next_told, inputs_told, frame_told, ahead_told, view_told, period_text, after_period}
 use Rattle.live_law.proofs.Lists.{flat_push}
 use Rattle.live_law.proofs.Lives.{goes_next, between_after}
 use Rattle.live_law.proofs.Steps.{goes, rested, rests, readings_are, heard, hears, put_ahead, put_reading, aheads_are}
@@ -91,7 +91,7 @@ module _ {N : ℕ} (v : LiveView N) (r : Rest) (q : PeriodEvents) where
   abbrev in_slot : ℕ → List Event
   in_slot t = q.slots t ++ End ∷ []
 
-  module _ (is : IsScenario v.scenario) (law : PeriodLaw) (at : IsResting v.scenario v.id r v) (may : IsPeriod v.scenario v.id r q) where
+  module _ (is : IsScenario v.scenario) (law : PeriodLaw) (at : Rests v.scenario v.id r v) (may : IsAllowed v.scenario v.id r q) where
     through : GoesThrough config v.id p next.inputs (begins_next config v.id r.kept next) (received config v.id p next.inputs (begins_next config v.id r.kept next) next.slots) next.slots (restarted_if next.restarts v.node)
     through = goes_next law config v.id is.system.capacity is.system.config r.kept v.node next at.between
 
@@ -186,7 +186,7 @@ module _ {N : ℕ} (v : LiveView N) (r : Rest) (q : PeriodEvents) where
         ∙ fold-append step_on (Goes v text) (q.before ++ Begin q.number ∷ []) (flat_map in_slot (range_with_len 0 n))
         ∙ ap (λ (s : Step N). fold step_on s (flat_map in_slot (range_with_len 0 n))) (to_begin text)
 
-    pub says_so_far : (n : ℕ) → n < 2 * config.m + 4 → Says v.scenario v.id r v q n
+    pub says_so_far : (n : ℕ) → n < 2 * config.m + 4 → SaysSlots v.scenario v.id r v q n
     says_so_far n low = record {
       to = live_at n;
       takes = parted n [] ∙ so_many n [] low;
@@ -238,7 +238,7 @@ module _ {N : ℕ} (v : LiveView N) (r : Rest) (q : PeriodEvents) where
         parted (2 * config.m + 4) text ∙ all_slots (2 * config.m + 3) (omega arith) text
         ∙ ap (Goes after_all) (append_assoc text (lines (2 * config.m + 4)) shown)
 
-    pub rests_after : IsResting v.scenario v.id (after_period v.scenario v.id r q) after_all
+    pub rests_after : Rests v.scenario v.id (after_period v.scenario v.id r q) after_all
     rests_after = record {
       is_of = refl;
       is_node = refl;

@@ -1,8 +1,6 @@
 pub mod Received
 pub mod Periods
-pub mod Run
-pub mod Controllers
 pub mod Events
 pub mod Living
-pub mod LiveRun
-pub mod LiveCluster
+pub mod Run
+pub mod Cluster

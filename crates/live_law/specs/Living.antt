@@ -94,7 +94,7 @@ module _ {N : ℕ} (sc : ScenarioView N) (id : ℕ) where
   ComesWithin (Ahead j x) = (j < sc.config.nodes) × (j ≢ id) × (is_some sc.clock ≡ true)
   ComesWithin _ = ⊥
 
-  pub record IsPeriod (r : Rest) (q : PeriodEvents) : Type 0 where
+  pub record IsAllowed (r : Rest) (q : PeriodEvents) : Type 0 where
     pub before : All ComesBefore q.before
     pub number : MayBegin r q q.number
     pub within : (t : ℕ) → t < slot_count sc.config.m → All ComesWithin (q.slots t)
@@ -102,9 +102,9 @@ module _ {N : ℕ} (sc : ScenarioView N) (id : ℕ) where
   -- ---- periods
 
   -- periods that come one after another
-  unfoldable pub ArePeriods : Rest → List PeriodEvents → Type 0
-  ArePeriods r [] = Unit {0}
-  ArePeriods r (q ∷ qs) = IsPeriod r q × ArePeriods (after_period r q) qs
+  unfoldable pub AreAllowed : Rest → List PeriodEvents → Type 0
+  AreAllowed r [] = Unit {0}
+  AreAllowed r (q ∷ qs) = IsAllowed r q × AreAllowed (after_period r q) qs
 
   -- all that it answers, and how it rests behind them
   unfoldable pub life_text : Rest → List PeriodEvents → List ℕ
@@ -116,7 +116,7 @@ module _ {N : ℕ} (sc : ScenarioView N) (id : ℕ) where
   after_life r (q ∷ qs) = after_life (after_period r q) qs
 
   -- a live node that rests so, and was told nothing yet of its next period
-  pub record IsResting (r : Rest) (v : LiveView N) : Type 0 where
+  pub record Rests (r : Rest) (v : LiveView N) : Type 0 where
     pub is_of : v.scenario ≡ sc
     pub is_node : v.id ≡ id
     pub between : IsBetween sc.config id r.kept v.node
@@ -126,13 +126,13 @@ module _ {N : ℕ} (sc : ScenarioView N) (id : ℕ) where
     pub given : v.given ≡ replicate channel_room None
 
   -- it takes the events of these periods, answers with the protocol's text, and rests as the protocol says
-  pub record Lives (r : Rest) (v : LiveView N) (qs : List PeriodEvents) : Type 0 where
+  pub record AnswersLife (r : Rest) (v : LiveView N) (qs : List PeriodEvents) : Type 0 where
     pub to : LiveView N
     pub takes : all_steps v (flat_map (events_of sc.config.m) qs) ≡ Goes to (life_text r qs)
-    pub rests : IsResting (after_life r qs) to
+    pub rests : Rests (after_life r qs) to
 
   -- it takes the events of the first so many slots of a period, and those before them, and has said in them what the protocol says
-  pub record Says (r : Rest) (v : LiveView N) (q : PeriodEvents) (slots : ℕ) : Type 0 where
+  pub record SaysSlots (r : Rest) (v : LiveView N) (q : PeriodEvents) (slots : ℕ) : Type 0 where
     pub to : LiveView N
     pub takes : all_steps v (part_of q slots) ≡ Goes to (said_text r q (suc slots))
     pub still : to.node.phase.is_open ≡ true
@@ -140,19 +140,19 @@ module _ {N : ℕ} (sc : ScenarioView N) (id : ℕ) where
     pub frame : frame_of to.node ≡ frame_told r q slots
 
 -- Law: a new live node rests with what the protocol gives it first, and period 0 is its first
-abbrev pub NewLaw : Type 0
-NewLaw =
+abbrev pub NewLiveLaw : Type 0
+NewLiveLaw =
     (N : ℕ) (sc : ScenarioView N) (id : ℕ) (v : LiveView N)
-    → IsScenario sc → IsNewLive sc id v → IsResting sc id (record { kept = first_kept (setting_of sc.config); next = 0; run = 0 }) v
+    → IsScenario sc → IsNewLive sc id v → Rests sc id (record { kept = first_kept (setting_of sc.config); next = 0; run = 0 }) v
 
 -- Law: a live node that rests says in the slots of a period what the protocol says of what it was told before
-abbrev pub SayLaw : Type 0
-SayLaw =
+abbrev pub LiveSayLaw : Type 0
+LiveSayLaw =
     (N : ℕ) (sc : ScenarioView N) (id : ℕ) (r : Rest) (v : LiveView N) (q : PeriodEvents) (slots : ℕ)
-    → IsScenario sc → IsResting sc id r v → IsPeriod sc id r q → slots < slot_count sc.config.m → Says sc id r v q slots
+    → IsScenario sc → Rests sc id r v → IsAllowed sc id r q → slots < slot_count sc.config.m → SaysSlots sc id r v q slots
 
 -- Law: so does each live node, through any periods and whatever it is told in them
-abbrev pub LifeLaw : Type 0
-LifeLaw =
+abbrev pub LiveLifeLaw : Type 0
+LiveLifeLaw =
     (N : ℕ) (sc : ScenarioView N) (id : ℕ) (r : Rest) (v : LiveView N) (qs : List PeriodEvents)
-    → IsScenario sc → IsResting sc id r v → ArePeriods sc id r qs → Lives sc id r v qs
+    → IsScenario sc → Rests sc id r v → AreAllowed sc id r qs → AnswersLife sc id r v qs

@@ -59,14 +59,14 @@ module _ {N : ℕ} (config : Config N) (i : ℕ) where
   after_next v q = slots_run q.slots (2 * config.m + 4) (begun_next v q)
 
   -- the node goes through each of these periods as the protocol says: its frames, what it keeps and what it records
-  unfoldable pub LivesOn : Kept → NodeView N → List Next → Type 0
-  LivesOn k v [] = IsBetween config i k v
-  LivesOn k v (q ∷ qs) =
+  unfoldable pub GoesThroughAll : Kept → NodeView N → List Next → Type 0
+  GoesThroughAll k v [] = IsBetween config i k v
+  GoesThroughAll k v (q ∷ qs) =
       GoesThrough config i q.period q.inputs (begins_next k q) (received config i q.period q.inputs (begins_next k q) q.slots) q.slots (restarted_if q.restarts v)
-      × LivesOn (view_next k q).kept (after_next v q) qs
+      × GoesThroughAll (view_next k q).kept (after_next v q) qs
 
 -- Law: so does each node, through any periods, whatever is delivered to it
-abbrev pub PeriodsLaw : Type 0
-PeriodsLaw =
+abbrev pub AnyPeriodsLaw : Type 0
+AnyPeriodsLaw =
     (N : ℕ) (config : Config N) (i : ℕ) (k : Kept) (v : NodeView N) (qs : List Next)
-    → IsCapacity N → IsConfig N config → IsBetween config i k v → LivesOn config i k v qs
+    → IsCapacity N → IsConfig N config → IsBetween config i k v → GoesThroughAll config i k v qs

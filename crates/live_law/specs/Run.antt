@@ -1,39 +1,82 @@
--- A node that is delivered what a run delivers to it.
-use Rattle.std.specs.Prelude.{◌≡◌, ◌≢◌, ◌<◌, ℕ, suc, ◌+◌, ◌*◌, List}
-use Rattle.node_grid.specs.Capacity.{IsCapacity}
+-- A live node that is told what a run gives it: what it answers is what the record of the run's period shows of the node.
+use Rattle.std.specs.Prelude.{◌≡◌, ◌≢◌, ◌<◌, ℕ, suc, ◌+◌, ℤ, pos, true, List, [], ◌++◌, Option, None, Some, slice_get, slice_index_or}
+use Rattle.std.specs.List.{flat_map}
+use Rattle.node_grid.specs.NodeSet.{ids_below, has_id}
+use Rattle.slot_plan.specs.Slots.{slot_count}
 use Rattle.error_detect.specs.Multiset.{Arriving, from_sender}
 use Rattle.fault_classes.specs.Plan.{restarts_at}
+use Rattle.clock_skew.specs.Clock.{ClockView}
+use Rattle.clock_skew.specs.Reading.{reading_at}
 use Rattle.agreed_state.specs.declared.config.Inputs.{Inputs}
-use Rattle.agreed_state.specs.Config.{IsConfig}
-use Rattle.protocol.specs.Cluster.{kept, view}
-use Rattle.protocol.specs.Run.{System, run, sent, deliveries}
-use Rattle.node_steps.specs.Parts.{NodeView}
-use Rattle.node_steps.specs.Steps.{frame_of}
-use Rattle.node_steps.specs.Period.{slots_run, IsOver}
-use Rattle.scenario.specs.Scenario.{ScenarioView, system_of}
-use Rattle.live_law.specs.Periods.{IsBetween, Next, begun_next, after_next}
+use Rattle.protocol.specs.Cluster.{kept, begins, view}
+use Rattle.protocol.specs.Clocks.{offsets}
+use Rattle.protocol.specs.Configured.{setting_of}
+use Rattle.protocol.specs.Run.{System, run, deliveries}
+use Rattle.protocol.specs.View.{opened}
+use Rattle.node_steps.specs.Outcome.{Outcome}
+use Rattle.scenario.specs.Scenario.{ScenarioView, system_of, IsScenario}
+use Rattle.cluster_periods.specs.Record.{PeriodView, ClockShown, frame_at, period_record}
+use Rattle.run_text.specs.PeriodText.{alone_text}
+use Rattle.live_node.specs.Live.{LiveView}
+use Rattle.live_node.specs.Live.Step.{Goes}
+use Rattle.live_node.specs.Text.{say_text, correct_text}
+use Rattle.live_law.specs.Events.{PeriodEvents, events_of, all_steps, restarts_in, arrivals_in, last_told, ahead_of}
+use Rattle.live_law.specs.Living.{Rest, Rests, IsAllowed, number_told, inputs_told}
+
+-- ---- what the record of a period shows of node i, as its controller writes it
+
+-- the frames of the first so many slots
+abbrev pub sent_text : PeriodView → ℕ → ℕ → List ℕ
+sent_text t i slots = flat_map (λ s. say_text s (frame_at t s i)) (ids_below slots)
+
+-- the lines that are printed of the node, with no class
+abbrev pub recorded_alone : PeriodView → ℕ → Option Outcome → List ℕ
+recorded_alone t i None = []
+recorded_alone t i (Some o) = alone_text t.period i t.nodes t.retire o
+
+abbrev pub corrected_text : ℕ → Option ClockShown → List ℕ
+corrected_text i None = []
+corrected_text i (Some c) = correct_text (slice_index_or c.correction i (pos 0))
+
+abbrev pub record_text : PeriodView → ℕ → List ℕ
+record_text t i = sent_text t i (slot_count t.m) ++ (recorded_alone t i (slice_get t.records i) ++ corrected_text i t.clock)
+
+-- ---- what is told
 
 -- the system of a scenario, but that each node is given this in each period, in place of its readings
 abbrev pub system_given : {N : ℕ} → ScenarioView N → (ℕ → ℕ → Inputs) → System
 system_given sc inputs = record (system_of sc) { inputs = inputs }
 
--- what a run makes of period p for node i: whether it restarts, what it is given, and this in each slot
-abbrev pub next_of : System → ℕ → ℕ → (ℕ → List Arriving) → Next
-next_of sys i p ds = record { period = p; restarts = restarts_at sys.plan i p; inputs = sys.inputs i p; slots = ds }
-
 -- in each slot of period p node i is delivered what the run delivers to it, the frames of different nodes in any order
 pub record IsDelivered (sys : System) (i p : ℕ) (ds : ℕ → List Arriving) : Type 0 where
-  pub each : (t j : ℕ) → t < 2 * sys.setting.config.m + 4 → j < sys.setting.config.nodes → j ≢ i → from_sender j (ds t) ≡ deliveries sys p t j i
+  pub each : (t j : ℕ) → t < slot_count sys.setting.config.m → j < sys.setting.config.nodes → j ≢ i → from_sender j (ds t) ≡ deliveries sys p t j i
 
--- node v goes through period p as node i of the run: it says what is sent, and keeps and records its view
 module _ {N : ℕ} (sc : ScenarioView N) (inputs : ℕ → ℕ → Inputs) where
-  pub record GoesAsRun (i p : ℕ) (ds : ℕ → List Arriving) (v : NodeView N) : Type 0 where
-    pub frames : (t : ℕ) → t < 2 * sc.config.m + 4 → frame_of (slots_run ds t (begun_next sc.config i v (next_of (system_given sc inputs) i p ds))) ≡ sent (system_given sc inputs) p t i
-    pub over : IsOver (after_next sc.config i v (next_of (system_given sc inputs) i p ds)) (view (run (system_given sc inputs)) i p)
-    pub between : IsBetween sc.config i (kept (run (system_given sc inputs)) i (suc p)) (after_next sc.config i v (next_of (system_given sc inputs) i p ds))
+  -- the period of the run
+  abbrev pub run_record : ℕ → PeriodView
+  run_record p = period_record (system_given sc inputs) sc.clock p
 
--- Law: so does each node that kept what the run says
-abbrev pub DeliveredLaw : Type 0
-DeliveredLaw =
-    (N : ℕ) (sc : ScenarioView N) (inputs : ℕ → ℕ → Inputs) (i p : ℕ) (ds : ℕ → List Arriving) (v : NodeView N)
-    → IsCapacity N → IsConfig N sc.config → IsBetween sc.config i (kept (run (system_given sc inputs)) i p) v → IsDelivered (system_given sc inputs) i p ds → GoesAsRun sc inputs i p ds v
+  -- a node that rests so begins period p of the run as node i: with its number, a restart where the run has one, and what the run gives it
+  pub record BeginsAsRun (i p : ℕ) (r : Rest) (q : PeriodEvents) : Type 0 where
+    pub number : number_told sc i r q ≡ p
+    pub restarts : restarts_in q.before ≡ restarts_at sc.plan i p
+    pub inputs_are : inputs_told sc i p q.before ≡ inputs i p
+
+  -- of the clock of each node whose frame in the sync slot was good it's told last how far the run's clock is ahead
+  pub record ToldClocks (i p : ℕ) (q : PeriodEvents) : Type 0 where
+    pub each : (c : ClockView) → sc.clock ≡ Some c → (j : ℕ) → has_id (view (run (system_given sc inputs)) i p).sync j ≡ true
+        → last_told (ahead_of j) (flat_map q.slots (ids_below (slot_count sc.config.m))) ≡ Some (reading_at c (offsets (run (system_given sc inputs)) c p) p i j)
+
+  -- it takes the events, answers with what the run's record shows of node i, and keeps what node i keeps
+  pub record AnswersAsRun (i p : ℕ) (r : Rest) (v : LiveView N) (q : PeriodEvents) : Type 0 where
+    pub to : LiveView N
+    pub takes : all_steps v (events_of sc.config.m q) ≡ Goes to (record_text (run_record p) i)
+    pub rests : Rests sc i (record { kept = kept (run (system_given sc inputs)) i (suc p); next = p + 1; run = r.run + 1 }) to
+
+-- Law: where a live node goes into a period with what the run says, and is told what the run gives it, what it answers is the run's
+abbrev pub LiveRunLaw : Type 0
+LiveRunLaw =
+    (N : ℕ) (sc : ScenarioView N) (inputs : ℕ → ℕ → Inputs) (i p : ℕ) (r : Rest) (v : LiveView N) (q : PeriodEvents)
+    → IsScenario sc → i < sc.config.nodes → Rests sc i r v → IsAllowed sc i r q → BeginsAsRun sc inputs i p r q
+    → opened (setting_of sc.config) (restarts_at sc.plan i p) r.kept ≡ begins (run (system_given sc inputs)) i p
+    → IsDelivered (system_given sc inputs) i p (λ t. arrivals_in (q.slots t)) → ToldClocks sc inputs i p q → AnswersAsRun sc inputs i p r v q

@@ -1,5 +1,5 @@
-use Rattle.live_law.proofs.Lives.{life}
+use Rattle.live_law.proofs.LiveLife.{live_life}
 use Rattle.live_law.proofs.laws.life.Goals as goal
 
 pub returns : goal.returns
-returns c = life c.period.ensures
+returns c = live_life c.period.ensures

@@ -1,4 +1,4 @@
--- The controllers of all nodes of a cluster, each a process of its own, over a network.
+-- The nodes of the controllers of a cluster, without what they are told and answer.
 use Rattle.std.specs.Prelude.{◌≡◌, ◌≢◌, ◌<◌, ◌≤◌, ◌⊎◌, ℕ, zero, suc, ◌+◌, ◌*◌, true, List, []}
 use Rattle.node_grid.specs.Capacity.{IsCapacity}
 use Rattle.error_detect.specs.Multiset.{Arriving, from_sender}
@@ -17,7 +17,8 @@ use Rattle.node_steps.specs.Living.{restarted_if}
 use Rattle.node_steps.specs.Period.{slots_run, IsOver}
 use Rattle.scenario.specs.Scenario.{ScenarioView}
 use Rattle.live_law.specs.Periods.{IsBetween, Next, begun_next, after_next}
-use Rattle.live_law.specs.Run.{system_given, next_of, IsDelivered}
+use Rattle.live_law.specs.Run.{system_given, IsDelivered}
+use Rattle.live_law.proofs.OfRun.{next_of}
 
 -- of each node's controller: how it stands before each period, how many slots of the period it runs (none where it is down, not all
 -- where it is killed), what it is given for the period, and what it is delivered in each slot
@@ -69,9 +70,3 @@ module _ {N : ℕ} (sc : ScenarioView N) (c : Controllers N) where
     pub over : c.ran i p ≡ 2 * sc.config.m + 4 → IsOver (after_next sc.config i (c.node i p) (next_at i p)) (view (run (system_given sc c.inputs)) i p)
     pub between : c.ran i p ≡ 2 * sc.config.m + 4
         → IsBetween sc.config i (kept (run (system_given sc c.inputs)) i (suc p)) (after_next sc.config i (c.node i p) (next_at i p))
-
--- Law: linked controllers are the run of the plan, in each period in which they run, for however many periods
-abbrev pub LinkLaw : Type 0
-LinkLaw =
-    (N : ℕ) (sc : ScenarioView N) (c : Controllers N) → IsCapacity N → IsConfig N sc.config → AreLinked sc c
-    → (i p : ℕ) → i < sc.config.nodes → 0 < c.ran i p → IsOfRun sc c i p

@@ -13,10 +13,9 @@ use Rattle.scenario.specs.Scenario.{ScenarioView, IsScenario, inputs_of}
 use Rattle.cluster_periods.specs.Laws.{IsClaimed, Promises}
 use Rattle.live_node.specs.Live.{LiveView, IsNewLive, Step}
 use Rattle.live_node.specs.Live.Step.{Goes, Refuses}
-use Rattle.live_law.specs.Run.{system_given}
+use Rattle.live_law.specs.Run.{system_given, run_record, sent_text, record_text, BeginsAsRun, ToldClocks}
 use Rattle.live_law.specs.Events.{PeriodEvents, part_of, events_of, all_steps, arrivals_in}
-use Rattle.live_law.specs.Living.{Rest, rest_of, IsResting, IsPeriod}
-use Rattle.live_law.specs.LiveRun.{run_record, sent_text, record_text, BeginsAsRun, ToldClocks}
+use Rattle.live_law.specs.Living.{Rest, rest_of, Rests, IsAllowed}
 
 -- a live node behind a step, which is the one before where the step is refused
 abbrev pub reached : {N : ℕ} → LiveView N → Step N → LiveView N
@@ -46,25 +45,25 @@ module _ {N : ℕ} (sc : ScenarioView N) (inputs : ℕ → ℕ → Inputs) (c : 
   -- or it is any that rests, a new one too, and the plan says that the node restarts
   pub record BeginsAnew (i p : ℕ) : Type 0 where
     pub restarts : restarts_at sc.plan i p ≡ true
-    pub rests : IsResting sc i (rest_of (c.live i p)) (c.live i p)
+    pub rests : Rests sc i (rest_of (c.live i p)) (c.live i p)
 
   -- a controller that runs slots of a period: how it came to it, and that it is told what may be told, the number and the restart of
   -- the run, and what it is given
-  pub record Runs (i p : ℕ) : Type 0 where
+  pub record TakesPart (i p : ℕ) : Type 0 where
     pub comes : Continues i p ⊎ BeginsAnew i p
-    pub may : IsPeriod sc i (rest_of (c.live i p)) (c.told i p)
+    pub may : IsAllowed sc i (rest_of (c.live i p)) (c.told i p)
     pub as_run : BeginsAsRun sc inputs i p (rest_of (c.live i p)) (c.told i p)
 
   -- what the controller of node i is delivered of node j's frame in a slot: what the plan makes of what that node's controller says
   -- there; and nothing where that one doesn't run, of which the plan tells by a line that loses the frame, whatever it is
-  pub record Hears (i j p t : ℕ) : Type 0 where
+  pub record Carries (i j p t : ℕ) : Type 0 where
     pub spoken : t < c.ran j p → from_sender j (arrivals_in ((c.told i p).slots t)) ≡ delivered_of (effect_at sc.plan.lines p t j i) (said_live (c.live j p) (c.told j p) t)
     pub silent : c.ran j p ≤ t → (from_sender j (arrivals_in ((c.told i p).slots t)) ≡ []) × ((frame : List ℕ) → delivered_of (effect_at sc.plan.lines p t j i) frame ≡ [])
 
   -- controllers that are linked by a network in which befalls the frames what the plan says
   pub record AreLinked : Type 0 where
-    pub runs : (i p : ℕ) → i < sc.config.nodes → 0 < c.ran i p → Runs i p
-    pub hear : (i j p t : ℕ) → i < sc.config.nodes → j < sc.config.nodes → j ≢ i → t < slot_count sc.config.m → t < c.ran i p → Hears i j p t
+    pub runs : (i p : ℕ) → i < sc.config.nodes → 0 < c.ran i p → TakesPart i p
+    pub hear : (i j p t : ℕ) → i < sc.config.nodes → j < sc.config.nodes → j ≢ i → t < slot_count sc.config.m → t < c.ran i p → Carries i j p t
 
   -- what a controller answers in so many slots and in a whole period is what the record of the run's period shows of its node
   pub record AnswersSlots (i p slots : ℕ) : Type 0 where
@@ -74,7 +73,7 @@ module _ {N : ℕ} (sc : ScenarioView N) (inputs : ℕ → ℕ → Inputs) (c : 
   pub record AnswersPeriod (i p : ℕ) : Type 0 where
     pub to : LiveView N
     pub takes : all_steps (c.live i p) (events_of sc.config.m (c.told i p)) ≡ Goes to (record_text (run_record sc inputs p) i)
-    pub rests : IsResting sc i (record { kept = kept (run (system_given sc inputs)) i (suc p); next = p + 1; run = (c.live i p).run + 1 }) to
+    pub rests : Rests sc i (record { kept = kept (run (system_given sc inputs)) i (suc p); next = p + 1; run = (c.live i p).run + 1 }) to
 
   pub record IsLiveRun (i p : ℕ) : Type 0 where
     pub slots : (t : ℕ) → t < slot_count sc.config.m → t < c.ran i p → AnswersSlots i p t
@@ -85,3 +84,12 @@ abbrev pub LiveClusterLaw : Type 0
 LiveClusterLaw =
     (N : ℕ) (sc : ScenarioView N) (inputs : ℕ → ℕ → Inputs) (c : LiveControllers N) → IsScenario sc → AreLinked sc inputs c
     → (i p : ℕ) → i < sc.config.nodes → 0 < c.ran i p → IsLiveRun sc inputs c i p
+
+-- what the controllers of a scenario's nodes answer in a period is the run's, and all holds that is promised of the period
+pub record IsPromised {N : ℕ} (sc : ScenarioView N) (c : LiveControllers N) (p : ℕ) : Type 0 where
+  pub answers : (i : ℕ) → i < sc.config.nodes → 0 < c.ran i p → IsLiveRun sc (inputs_of sc) c i p
+  pub promises : Promises sc p
+
+-- Law: so it is in each period that the run claims
+abbrev pub LivePromiseLaw : Type 0
+LivePromiseLaw = (N : ℕ) (sc : ScenarioView N) (c : LiveControllers N) (p : ℕ) → IsScenario sc → AreLinked sc (inputs_of sc) c → IsClaimed sc p → IsPromised sc c p

@@ -1,5 +1,0 @@
-use Rattle.live_law.proofs.LiveLife.{live_life}
-use Rattle.live_law.proofs.laws.live_life.Goals as goal
-
-pub returns : goal.returns
-returns c = live_life c.period.ensures

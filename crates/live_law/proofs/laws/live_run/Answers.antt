@@ -1,5 +1,0 @@
-use Rattle.live_law.proofs.LiveAsRun.{live_run_law}
-use Rattle.live_law.proofs.laws.live_run.Goals as goal
-
-pub returns : goal.returns
-returns c = live_run_law c.period.ensures c.delivery.ensures c.saying.ensures
