@@ -111,7 +111,7 @@ frame_shown sc inputs i p t low l =
     ∙ get_or-map-range_with_len (sent (system_given sc inputs) p t) 0 sc.config.nodes i i [] low (omega arith)
 
 module _ {N : ℕ} (sc : ScenarioView N) (inputs : ℕ → ℕ → Inputs) (is : IsScenario sc) (law : PeriodLaw) (delivery : DeliveryLaw) (saying : SayingLaw) (i p : ℕ) (low : i < sc.config.nodes) (r : Rest) (v : LiveView N) (q : PeriodEvents)
-    (at : Rests sc i r v) (may : IsAllowed sc i r q) (begin : BeginsAsRun sc inputs i p r q)
+    (at : Rests sc i r v) (may : IsAllowed sc i (slot_count sc.config.m) r q) (begin : BeginsAsRun sc inputs i p r q)
     (goes_in : opened (setting_of sc.config) (restarts_at sc.plan i p) r.kept ≡ begins (run (system_given sc inputs)) i p)
     (come : IsDelivered (system_given sc inputs) i p (λ t. arrivals_in (q.slots t))) where
   abbrev config : Config N

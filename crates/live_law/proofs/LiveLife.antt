@@ -29,11 +29,11 @@ module _ (law : PeriodLaw) where
   lives {N} v r (q ∷ qs) text is at may =
       let w : LiveView N = after_all v r q in
       let rest : LivesFrom (text ++ period_text v.scenario v.id r q) (after_period v.scenario v.id r q) w qs =
-          lives w (after_period v.scenario v.id r q) qs (text ++ period_text v.scenario v.id r q) is (rests_after v r q is law at may.0) may.1 in
+          lives w (after_period v.scenario v.id r q) qs (text ++ period_text v.scenario v.id r q) is (rests_after v r q is law at) may.1 in
       record {
         to = rest.to;
         takes = fold-append step_on (Goes v text) (events_of v.scenario.config.m q) (flat_map (events_of v.scenario.config.m) qs)
-            ∙ ap (λ (s : Step N). fold step_on s (flat_map (events_of v.scenario.config.m) qs)) (whole v r q is law at may.0 text)
+            ∙ ap (λ (s : Step N). fold step_on s (flat_map (events_of v.scenario.config.m) qs)) (whole v r q is law at text may.0)
             ∙ rest.takes
             ∙ ap (Goes rest.to) (append_assoc text (period_text v.scenario v.id r q) (life_text v.scenario v.id (after_period v.scenario v.id r q) qs));
         rests = rest.rests;
@@ -49,17 +49,17 @@ pub record Takes {N : ℕ} (sc : ScenarioView N) (id : ℕ) (r : Rest) (v : Live
   pub rests : Rests sc id (after_period sc id r q) to
   pub node : to.node ≡ after_next sc.config id v.node (next_told sc id r q)
 
-pub takes_period : PeriodLaw → {N : ℕ} (sc : ScenarioView N) (id : ℕ) (r : Rest) (v : LiveView N) (q : PeriodEvents) → IsScenario sc → Rests sc id r v → IsAllowed sc id r q → Takes sc id r v q
+pub takes_period : PeriodLaw → {N : ℕ} (sc : ScenarioView N) (id : ℕ) (r : Rest) (v : LiveView N) (q : PeriodEvents) → IsScenario sc → Rests sc id r v → IsAllowed sc id (slot_count sc.config.m) r q → Takes sc id r v q
 takes_period law sc id r v q is at may =
-    subst (λ (s : ScenarioView _). IsScenario s → Rests s id r v → IsAllowed s id r q → Takes s id r v q) at.is_of
-    (subst (λ (i : ℕ). IsScenario v.scenario → Rests v.scenario i r v → IsAllowed v.scenario i r q → Takes v.scenario i r v q) at.is_node
-    (λ is at may. record { to = after_all v r q; takes = whole v r q is law at may []; rests = rests_after v r q is law at may; node = refl })) is at may
+    subst (λ (s : ScenarioView _). IsScenario s → Rests s id r v → IsAllowed s id (slot_count s.config.m) r q → Takes s id r v q) at.is_of
+    (subst (λ (i : ℕ). IsScenario v.scenario → Rests v.scenario i r v → IsAllowed v.scenario i (slot_count v.scenario.config.m) r q → Takes v.scenario i r v q) at.is_node
+    (λ is at may. record { to = after_all v r q; takes = whole v r q is law at [] may; rests = rests_after v r q is law at; node = refl })) is at may
 
 pub say_law : PeriodLaw → LiveSayLaw
 say_law law N sc id r v q slots is at may low =
-    subst (λ (s : ScenarioView N). IsScenario s → Rests s id r v → IsAllowed s id r q → slots < slot_count s.config.m → SaysSlots s id r v q slots) at.is_of
-    (subst (λ (i : ℕ). IsScenario v.scenario → Rests v.scenario i r v → IsAllowed v.scenario i r q → slots < slot_count v.scenario.config.m → SaysSlots v.scenario i r v q slots) at.is_node
-    (λ is at may low. says_so_far v r q is law at may slots low)) is at may low
+    subst (λ (s : ScenarioView N). IsScenario s → Rests s id r v → IsAllowed s id slots r q → slots < slot_count s.config.m → SaysSlots s id r v q slots) at.is_of
+    (subst (λ (i : ℕ). IsScenario v.scenario → Rests v.scenario i r v → IsAllowed v.scenario i slots r q → slots < slot_count v.scenario.config.m → SaysSlots v.scenario i r v q slots) at.is_node
+    (λ is at may low. says_so_far v r q is law at slots low may)) is at may low
 
 pub new_law : NewLiveLaw
 new_law N sc id v is new = record {

@@ -79,7 +79,7 @@ module _ {N : ℕ} (sc : ScenarioView N) (inputs : ℕ → ℕ → Inputs) (c : 
   rests (suc p) i low some = elim (linked.runs i (suc p) low some).comes [
     | inl on ↦
         let up : 0 < c.ran i p = let w = on.0 in omega arith in
-        let t : Takes sc i (r i p) (c.live i p) (c.told i p) = takes_period law sc i (r i p) (c.live i p) (c.told i p) is (rests p i low up) (linked.runs i p low up).may in
+        let t : Takes sc i (r i p) (c.live i p) (c.told i p) = takes_period law sc i (r i p) (c.live i p) (c.told i p) is (rests p i low up) (subst (λ (n : ℕ). IsAllowed sc i n (r i p) (c.told i p)) on.0 (linked.runs i p low up).may) in
         rests_itself sc i (after_period sc i (r i p) (c.told i p)) (c.live i (suc p))
         (subst (λ (w : LiveView N). Rests sc i (after_period sc i (r i p) (c.told i p)) w) (sym (on.1 ∙ ap (reached (c.live i p)) t.takes)) t.rests)
     | inr anew ↦ anew.rests
@@ -94,8 +94,8 @@ module _ {N : ℕ} (sc : ScenarioView N) (inputs : ℕ → ℕ → Inputs) (c : 
     abbrev at : Rests sc i (r i p) (c.live i p)
     at = rests p i low some
 
-    speaks : (t : ℕ) → t < slot_count config.m → SaysSlots sc i (r i p) (c.live i p) (c.told i p) t
-    speaks t slot = say_law law N sc i (r i p) (c.live i p) (c.told i p) t is at runs.may slot
+    speaks : (t : ℕ) → t < slot_count config.m → t < c.ran i p → SaysSlots sc i (r i p) (c.live i p) (c.told i p) t
+    speaks t slot up = say_law law N sc i (r i p) (c.live i p) (c.told i p) t is at (record { before = runs.may.before; number = runs.may.number; within = λ s l. runs.may.within s (omega arith) }) slot
 
     -- what it says is what its node says
     said_is : (t : ℕ) → t < 2 * config.m + 4 → frame_told sc i (r i p) (c.told i p) t ≡ said sc cs i p t
@@ -103,13 +103,16 @@ module _ {N : ℕ} (sc : ScenarioView N) (inputs : ℕ → ℕ → Inputs) (c : 
         ap (λ (n : Next). frame_next config i (r i p).kept n t) (next_is i p runs)
         ∙ sym ((goes_next law config i is.system.capacity is.system.config (r i p).kept (c.live i p).node (next i p) at.between).frames t slot)
 
-    live_says : (t : ℕ) → t < 2 * config.m + 4 → said_live (c.live i p) (c.told i p) t ≡ said sc cs i p t
-    live_says t slot = let s = speaks t slot in ap (λ (y : Step N). frame_of (reached (c.live i p) y).node) s.takes ∙ s.frame ∙ said_is t slot
+    live_says : (t : ℕ) → t < 2 * config.m + 4 → t < c.ran i p → said_live (c.live i p) (c.told i p) t ≡ said sc cs i p t
+    live_says t slot up = let s = speaks t slot up in ap (λ (y : Step N). frame_of (reached (c.live i p) y).node) s.takes ∙ s.frame ∙ said_is t slot
 
     -- its node after a whole period
-    node_after : (after_events config.m (c.live i p) (c.told i p)).node ≡ after_next config i (c.live i p).node (next i p)
-    node_after =
-        let t : Takes sc i (r i p) (c.live i p) (c.told i p) = takes_period law sc i (r i p) (c.live i p) (c.told i p) is at runs.may in
+    all_may : c.ran i p ≡ slot_count config.m → IsAllowed sc i (slot_count config.m) (r i p) (c.told i p)
+    all_may all = subst (λ (n : ℕ). IsAllowed sc i n (r i p) (c.told i p)) all runs.may
+
+    node_after : c.ran i p ≡ slot_count config.m → (after_events config.m (c.live i p) (c.told i p)).node ≡ after_next config i (c.live i p).node (next i p)
+    node_after all =
+        let t : Takes sc i (r i p) (c.live i p) (c.told i p) = takes_period law sc i (r i p) (c.live i p) (c.told i p) is at (all_may all) in
         ap (λ (y : Step N). (reached (c.live i p) y).node) t.takes ∙ t.node ∙ ap (after_next config i (c.live i p).node) (next_is i p runs)
 
   -- ---- the nodes are linked
@@ -118,7 +121,7 @@ module _ {N : ℕ} (sc : ScenarioView N) (inputs : ℕ → ℕ → Inputs) (c : 
   are_linked = record {
     begin = λ i p low some. begin i p low some;
     hear = λ i j p t li lj ne slot low. record {
-      spoken = λ up. (linked.hear i j p t li lj ne slot low).spoken up ∙ ap (delivered_of (effect_at sc.plan.lines p t j i)) (live_says j p lj (omega arith) t slot);
+      spoken = λ up. (linked.hear i j p t li lj ne slot low).spoken up ∙ ap (delivered_of (effect_at sc.plan.lines p t j i)) (live_says j p lj (omega arith) t slot up);
       silent = λ down. (linked.hear i j p t li lj ne slot low).silent down;
     };
   } where
@@ -128,7 +131,7 @@ module _ {N : ℕ} (sc : ScenarioView N) (inputs : ℕ → ℕ → Inputs) (c : 
       | inr anew ↦ inr (record { restarts = anew.restarts; keeps = (r i 0).kept; between = anew.rests.between })
     ]
     begin i (suc p) low some = elim (linked.runs i (suc p) low some).comes [
-      | inl on ↦ inl (on.0, ap (λ (w : LiveView N). w.node) on.1 ∙ node_after i p low (let w = on.0 in omega arith))
+      | inl on ↦ inl (on.0, ap (λ (w : LiveView N). w.node) on.1 ∙ node_after i p low (let w = on.0 in omega arith) on.0)
       | inr anew ↦ inr (record { restarts = anew.restarts; keeps = (r i (suc p)).kept; between = anew.rests.between })
     ]
 
@@ -140,7 +143,7 @@ module _ {N : ℕ} (sc : ScenarioView N) (inputs : ℕ → ℕ → Inputs) (c : 
 
     answers_slots : (t : ℕ) → t < slot_count config.m → t < c.ran i p → AnswersSlots sc inputs c i p t
     answers_slots t slot up =
-        let s = speaks i p low some t slot in
+        let s = speaks i p low some t slot up in
         record {
           to = s.to;
           takes = s.takes ∙ ap (Goes s.to) (flat_below (λ t. say_text t (frame_told sc i (r i p) (c.told i p) t)) (λ t. say_text t (frame_at (run_record sc inputs p) t i)) 0 (suc t)
@@ -156,7 +159,7 @@ module _ {N : ℕ} (sc : ScenarioView N) (inputs : ℕ → ℕ → Inputs) (c : 
       whole = λ all clocks.
           let h = runs i p low some in
           let a : AnswersAsRun sc inputs i p (r i p) (c.live i p) (c.told i p) =
-              live_run_law law delivery saying N sc inputs i p (r i p) (c.live i p) (c.told i p) is low (at i p low some) h.may h.as_run goes_in (of_run.delivered all) clocks in
+              live_run_law law delivery saying N sc inputs i p (r i p) (c.live i p) (c.told i p) is low (at i p low some) (all_may i p low some all) h.as_run goes_in (of_run.delivered all) clocks in
           record { to = a.to; takes = a.takes; rests = a.rests };
     }
 

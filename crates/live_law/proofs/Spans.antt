@@ -69,7 +69,7 @@ module _ {N : ℕ} (v : LiveView N) (r : Rest) (q : PeriodEvents) where
   first = begun_next config v.id v.node next
 
   -- with so many slots over
-  abbrev live_at : ℕ → LiveView N
+  abbrev pub live_at : ℕ → LiveView N
   live_at t = record v {
     node = slots_run next.slots t first;
     next = p + 1;
@@ -85,14 +85,20 @@ module _ {N : ℕ} (v : LiveView N) (r : Rest) (q : PeriodEvents) where
   abbrev line : ℕ → List ℕ
   line t = say_text t (frame_told v.scenario v.id r q t)
 
-  abbrev lines : ℕ → List ℕ
+  abbrev pub lines : ℕ → List ℕ
   lines n = flat_map line (range_with_len 0 n)
 
-  abbrev in_slot : ℕ → List Event
+  abbrev pub in_slot : ℕ → List Event
   in_slot t = q.slots t ++ End ∷ []
 
-  module _ (is : IsScenario v.scenario) (law : PeriodLaw) (at : Rests v.scenario v.id r v) (may : IsAllowed v.scenario v.id r q) where
-    through : GoesThrough config v.id p next.inputs (begins_next config v.id r.kept next) (received config v.id p next.inputs (begins_next config v.id r.kept next) next.slots) next.slots (restarted_if next.restarts v.node)
+  module _ (is : IsScenario v.scenario) (law : PeriodLaw) (at : Rests v.scenario v.id r v) where
+    abbrev Within : ℕ → Type 0
+    Within t = All (ComesWithin v.scenario v.id) (q.slots t)
+
+    abbrev Before : Type 0
+    Before = All (ComesBefore v.scenario v.id) q.before
+
+    pub through : GoesThrough config v.id p next.inputs (begins_next config v.id r.kept next) (received config v.id p next.inputs (begins_next config v.id r.kept next) next.slots) next.slots (restarted_if next.restarts v.node)
     through = goes_next law config v.id is.system.capacity is.system.config r.kept v.node next at.between
 
     woken_config : (b : Bool) → (restarted_if b v.node).config ≡ config
@@ -132,15 +138,15 @@ module _ {N : ℕ} (v : LiveView N) (r : Rest) (q : PeriodEvents) where
       | inr f ↦ or_right (n == v.next) _ (ap₂ (λ (a b : Bool). (a || v.forgot) && b) f.0 (less v.next n (let e = at.next in let l = f.1 in omega (arith, e, l))))
     ]
 
-    still_shut : (b : Bool) → (restarted_if b v.node).phase.is_open ≡ false
+    pub still_shut : (b : Bool) → (restarted_if b v.node).phase.is_open ≡ false
     still_shut true = at.between.shut
     still_shut false = at.between.shut
 
-    pub to_begin : (text : List ℕ) → fold step_on (Goes v text) (q.before ++ Begin q.number ∷ []) ≡ Goes (live_at 0) (text ++ lines 1)
-    to_begin text =
+    pub to_begin : (text : List ℕ) → Before → MayBegin v.scenario v.id r q q.number → fold step_on (Goes v text) (q.before ++ Begin q.number ∷ []) ≡ Goes (live_at 0) (text ++ lines 1)
+    to_begin text before number =
         fold-append step_on (Goes v text) q.before (Begin q.number ∷ [])
-        ∙ ap (λ (s : Step N). step_on s (Begin q.number)) (rests v text q.before at.between.shut may.before)
-        ∙ goes (rested v q.before) text (Begin q.number) refl (ap₂ (λ (a b : Bool). not a && b) (still_shut (restarts_in q.before)) (may_now q.number may.number))
+        ∙ ap (λ (s : Step N). step_on s (Begin q.number)) (rests v text q.before at.between.shut before)
+        ∙ goes (rested v q.before) text (Begin q.number) refl (ap₂ (λ (a b : Bool). not a && b) (still_shut (restarts_in q.before)) (may_now q.number number))
         ∙ ap (λ (w : LiveView N). Goes w (text ++ slot_answer w)) begins
         ∙ ap (λ (more : List ℕ). Goes (live_at 0) (text ++ more)) (says 0 (omega arith) ∙ sym (append-nil (line 0)))
 
@@ -155,41 +161,41 @@ module _ {N : ℕ} (v : LiveView N) (r : Rest) (q : PeriodEvents) where
     abbrev ended : ℕ → List (Option ℤ) → ℕ → LiveView N
     ended t ahead run = record (live_at (suc t)) { ahead = ahead; run = run }
 
-    to_end : (t : ℕ) (text : List ℕ) → t < 2 * config.m + 4
+    to_end : (t : ℕ) (text : List ℕ) → t < 2 * config.m + 4 → Within t
         → fold step_on (Goes (live_at t) text) (in_slot t) ≡ Goes (told (heard (live_at t) (q.slots t)) End) (text ++ slot_answer (told (heard (live_at t) (q.slots t)) End))
-    to_end t text low =
+    to_end t text low within =
         fold-append step_on (Goes (live_at t) text) (q.slots t) (End ∷ [])
-        ∙ ap (λ (s : Step N). step_on s End) (hears (live_at t) text (q.slots t) (through.opens t low) (may.within t low))
+        ∙ ap (λ (s : Step N). step_on s End) (hears (live_at t) text (q.slots t) (through.opens t low) within)
         ∙ goes (heard (live_at t) (q.slots t)) text End refl (through.opens t low)
 
     goes_on : (t : ℕ) → suc t < 2 * config.m + 4 → told (heard (live_at t) (q.slots t)) End ≡ live_at (suc t)
     goes_on t low = ap₂ (ended t) (ahead_next t) (cond-true (live_at (suc t)).node.phase.is_open v.run (v.run + 1) (through.opens (suc t) low))
 
-    one_slot : (t : ℕ) (text : List ℕ) → suc t < 2 * config.m + 4 → fold step_on (Goes (live_at t) text) (in_slot t) ≡ Goes (live_at (suc t)) (text ++ line (suc t))
-    one_slot t text low =
-        to_end t text (omega arith) ∙ ap (λ (w : LiveView N). Goes w (text ++ slot_answer w)) (goes_on t low)
+    pub one_slot : (t : ℕ) (text : List ℕ) → suc t < 2 * config.m + 4 → Within t → fold step_on (Goes (live_at t) text) (in_slot t) ≡ Goes (live_at (suc t)) (text ++ line (suc t))
+    one_slot t text low within =
+        to_end t text (omega arith) within ∙ ap (λ (w : LiveView N). Goes w (text ++ slot_answer w)) (goes_on t low)
         ∙ ap (λ (more : List ℕ). Goes (live_at (suc t)) (text ++ more)) (says (suc t) low)
 
-    so_many : (n : ℕ) (text : List ℕ) → n < 2 * config.m + 4 → fold step_on (Goes (live_at 0) (text ++ lines 1)) (flat_map in_slot (range_with_len 0 n)) ≡ Goes (live_at n) (text ++ lines (suc n))
-    so_many zero text low = refl
-    so_many (suc n) text low =
+    so_many : (n : ℕ) (text : List ℕ) → n < 2 * config.m + 4 → ((t : ℕ) → t < n → Within t) → fold step_on (Goes (live_at 0) (text ++ lines 1)) (flat_map in_slot (range_with_len 0 n)) ≡ Goes (live_at n) (text ++ lines (suc n))
+    so_many zero text low within = refl
+    so_many (suc n) text low within =
         ap (fold step_on (Goes (live_at 0) (text ++ lines 1))) (flat_push in_slot 0 n ∙ ap (λ (k : ℕ). flat_map in_slot (range_with_len 0 n) ++ in_slot k) (let e : 0 + n ≡ n = omega arith in e))
         ∙ fold-append step_on (Goes (live_at 0) (text ++ lines 1)) (flat_map in_slot (range_with_len 0 n)) (in_slot n)
-        ∙ ap (λ (s : Step N). fold step_on s (in_slot n)) (so_many n text (omega arith))
-        ∙ one_slot n (text ++ lines (suc n)) low
+        ∙ ap (λ (s : Step N). fold step_on s (in_slot n)) (so_many n text (omega arith) (λ t l. within t (omega arith)))
+        ∙ one_slot n (text ++ lines (suc n)) low (within n (omega arith))
         ∙ ap (Goes (live_at (suc n))) (append_assoc text (lines (suc n)) (line (suc n)) ∙ ap (λ (ys : List ℕ). text ++ ys) (ap (λ (k : ℕ). lines (suc n) ++ line k) (let e : suc n ≡ 0 + suc n = omega arith in e) ∙ sym (flat_push line 0 (suc n))))
 
     -- the events up to the end of so many slots
-    parted : (n : ℕ) (text : List ℕ) → fold step_on (Goes v text) (part_of q n) ≡ fold step_on (Goes (live_at 0) (text ++ lines 1)) (flat_map in_slot (range_with_len 0 n))
-    parted n text =
+    parted : (n : ℕ) (text : List ℕ) → Before → MayBegin v.scenario v.id r q q.number → fold step_on (Goes v text) (part_of q n) ≡ fold step_on (Goes (live_at 0) (text ++ lines 1)) (flat_map in_slot (range_with_len 0 n))
+    parted n text before number =
         ap (fold step_on (Goes v text)) (sym (append_assoc q.before (Begin q.number ∷ []) (flat_map in_slot (range_with_len 0 n))))
         ∙ fold-append step_on (Goes v text) (q.before ++ Begin q.number ∷ []) (flat_map in_slot (range_with_len 0 n))
-        ∙ ap (λ (s : Step N). fold step_on s (flat_map in_slot (range_with_len 0 n))) (to_begin text)
+        ∙ ap (λ (s : Step N). fold step_on s (flat_map in_slot (range_with_len 0 n))) (to_begin text before number)
 
-    pub says_so_far : (n : ℕ) → n < 2 * config.m + 4 → SaysSlots v.scenario v.id r v q n
-    says_so_far n low = record {
+    pub says_so_far : (n : ℕ) → n < 2 * config.m + 4 → IsAllowed v.scenario v.id n r q → SaysSlots v.scenario v.id r v q n
+    says_so_far n low may = record {
       to = live_at n;
-      takes = parted n [] ∙ so_many n [] low;
+      takes = parted n [] may.before may.number ∙ so_many n [] low may.within;
       still = through.opens n low;
       slot = slot_is n low;
       frame = through.frames n low;
@@ -202,7 +208,7 @@ module _ {N : ℕ} (v : LiveView N) (r : Rest) (q : PeriodEvents) where
         alone_text n v.id config.nodes config.policy.retire o
         ++ (if is_some v.scenario.clock then correct_text (corrects config.m v.id (map (λ y. unwrap_or y (pos 0)) ahead) o.members (filter (λ j. is_some (slice_index_or ahead j None)) o.sync) o.mode) else [])
 
-    abbrev shown : List ℕ
+    abbrev pub shown : List ℕ
     shown = shown_by p (outcome_of (view_told v.scenario v.id r q)) (ahead_told v.scenario v.id r q)
 
     -- so many slots are all
@@ -219,23 +225,23 @@ module _ {N : ℕ} (v : LiveView N) (r : Rest) (q : PeriodEvents) where
           ∙ ap₂ (λ (n : ℕ) (o : Outcome). shown_by n o after_all.ahead) (slots_period next.slots (2 * config.m + 4) first) through.over.outcome
           ∙ ap (shown_by p (outcome_of (view_told v.scenario v.id r q))) (aheads_are N (flat_map q.slots (range_with_len 0 (2 * config.m + 4))))
 
-      last_slot : (text : List ℕ) → fold step_on (Goes (live_at t) text) (in_slot t) ≡ Goes after_all (text ++ shown)
-      last_slot text = to_end t text (omega arith) ∙ ap (λ (w : LiveView N). Goes w (text ++ slot_answer w)) ends ∙ ap (λ (more : List ℕ). Goes after_all (text ++ more)) shows
+      pub last_slot : (text : List ℕ) → Within t → fold step_on (Goes (live_at t) text) (in_slot t) ≡ Goes after_all (text ++ shown)
+      last_slot text within = to_end t text (omega arith) within ∙ ap (λ (w : LiveView N). Goes w (text ++ slot_answer w)) ends ∙ ap (λ (more : List ℕ). Goes after_all (text ++ more)) shows
 
-      all_slots : (text : List ℕ) → fold step_on (Goes (live_at 0) (text ++ lines 1)) (flat_map in_slot (range_with_len 0 (2 * config.m + 4))) ≡ Goes after_all (text ++ lines (2 * config.m + 4) ++ shown)
-      all_slots text =
+      all_slots : (text : List ℕ) → ((s : ℕ) → s < 2 * config.m + 4 → Within s) → fold step_on (Goes (live_at 0) (text ++ lines 1)) (flat_map in_slot (range_with_len 0 (2 * config.m + 4))) ≡ Goes after_all (text ++ lines (2 * config.m + 4) ++ shown)
+      all_slots text within =
           ap (λ (n : ℕ). fold step_on (Goes (live_at 0) (text ++ lines 1)) (flat_map in_slot (range_with_len 0 n))) (sym all)
           ∙ ap (fold step_on (Goes (live_at 0) (text ++ lines 1))) (flat_push in_slot 0 t ∙ ap (λ (k : ℕ). flat_map in_slot (range_with_len 0 t) ++ in_slot k) (let e : 0 + t ≡ t = omega arith in e))
           ∙ fold-append step_on (Goes (live_at 0) (text ++ lines 1)) (flat_map in_slot (range_with_len 0 t)) (in_slot t)
-          ∙ ap (λ (s : Step N). fold step_on s (in_slot t)) (so_many t text (omega arith))
-          ∙ last_slot (text ++ lines (suc t))
+          ∙ ap (λ (s : Step N). fold step_on s (in_slot t)) (so_many t text (omega arith) (λ s l. within s (omega arith)))
+          ∙ last_slot (text ++ lines (suc t)) (within t (omega arith))
           ∙ ap (λ (n : ℕ). Goes after_all (text ++ lines n ++ shown)) all
 
     -- ---- the whole period
 
-    pub whole : (text : List ℕ) → fold step_on (Goes v text) (events_of config.m q) ≡ Goes after_all (text ++ period_text v.scenario v.id r q)
-    whole text =
-        parted (2 * config.m + 4) text ∙ all_slots (2 * config.m + 3) (omega arith) text
+    pub whole : (text : List ℕ) → IsAllowed v.scenario v.id (2 * config.m + 4) r q → fold step_on (Goes v text) (events_of config.m q) ≡ Goes after_all (text ++ period_text v.scenario v.id r q)
+    whole text may =
+        parted (2 * config.m + 4) text may.before may.number ∙ all_slots (2 * config.m + 3) (omega arith) text may.within
         ∙ ap (Goes after_all) (append_assoc text (lines (2 * config.m + 4)) shown)
 
     pub rests_after : Rests v.scenario v.id (after_period v.scenario v.id r q) after_all

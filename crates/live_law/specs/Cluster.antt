@@ -51,7 +51,7 @@ module _ {N : ℕ} (sc : ScenarioView N) (inputs : ℕ → ℕ → Inputs) (c : 
   -- the run, and what it is given
   pub record TakesPart (i p : ℕ) : Type 0 where
     pub comes : Continues i p ⊎ BeginsAnew i p
-    pub may : IsAllowed sc i (rest_of (c.live i p)) (c.told i p)
+    pub may : IsAllowed sc i (c.ran i p) (rest_of (c.live i p)) (c.told i p)
     pub as_run : BeginsAsRun sc inputs i p (rest_of (c.live i p)) (c.told i p)
 
   -- what the controller of node i is delivered of node j's frame in a slot: what the plan makes of what that node's controller says

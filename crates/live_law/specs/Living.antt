@@ -94,17 +94,18 @@ module _ {N : ℕ} (sc : ScenarioView N) (id : ℕ) where
   ComesWithin (Ahead j x) = (j < sc.config.nodes) × (j ≢ id) × (is_some sc.clock ≡ true)
   ComesWithin _ = ⊥
 
-  pub record IsAllowed (r : Rest) (q : PeriodEvents) : Type 0 where
+  -- the events up to the end of so many slots
+  pub record IsAllowed (slots : ℕ) (r : Rest) (q : PeriodEvents) : Type 0 where
     pub before : All ComesBefore q.before
     pub number : MayBegin r q q.number
-    pub within : (t : ℕ) → t < slot_count sc.config.m → All ComesWithin (q.slots t)
+    pub within : (t : ℕ) → t < slots → All ComesWithin (q.slots t)
 
   -- ---- periods
 
   -- periods that come one after another
   unfoldable pub AreAllowed : Rest → List PeriodEvents → Type 0
   AreAllowed r [] = Unit {0}
-  AreAllowed r (q ∷ qs) = IsAllowed r q × AreAllowed (after_period r q) qs
+  AreAllowed r (q ∷ qs) = IsAllowed (slot_count sc.config.m) r q × AreAllowed (after_period r q) qs
 
   -- all that it answers, and how it rests behind them
   unfoldable pub life_text : Rest → List PeriodEvents → List ℕ
@@ -149,7 +150,7 @@ NewLiveLaw =
 abbrev pub LiveSayLaw : Type 0
 LiveSayLaw =
     (N : ℕ) (sc : ScenarioView N) (id : ℕ) (r : Rest) (v : LiveView N) (q : PeriodEvents) (slots : ℕ)
-    → IsScenario sc → Rests sc id r v → IsAllowed sc id r q → slots < slot_count sc.config.m → SaysSlots sc id r v q slots
+    → IsScenario sc → Rests sc id r v → IsAllowed sc id slots r q → slots < slot_count sc.config.m → SaysSlots sc id r v q slots
 
 -- Law: so does each live node, through any periods and whatever it is told in them
 abbrev pub LiveLifeLaw : Type 0

@@ -77,6 +77,6 @@ module _ {N : ℕ} (sc : ScenarioView N) (inputs : ℕ → ℕ → Inputs) where
 abbrev pub LiveRunLaw : Type 0
 LiveRunLaw =
     (N : ℕ) (sc : ScenarioView N) (inputs : ℕ → ℕ → Inputs) (i p : ℕ) (r : Rest) (v : LiveView N) (q : PeriodEvents)
-    → IsScenario sc → i < sc.config.nodes → Rests sc i r v → IsAllowed sc i r q → BeginsAsRun sc inputs i p r q
+    → IsScenario sc → i < sc.config.nodes → Rests sc i r v → IsAllowed sc i (slot_count sc.config.m) r q → BeginsAsRun sc inputs i p r q
     → opened (setting_of sc.config) (restarts_at sc.plan i p) r.kept ≡ begins (run (system_given sc inputs)) i p
     → IsDelivered (system_given sc inputs) i p (λ t. arrivals_in (q.slots t)) → ToldClocks sc inputs i p q → AnswersAsRun sc inputs i p r v q
