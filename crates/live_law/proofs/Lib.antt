@@ -9,3 +9,5 @@ mod Spans
 mod LiveLife
 mod LiveAsRun
 mod LiveLinked
+mod Lines
+mod Parsing

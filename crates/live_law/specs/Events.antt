@@ -1,14 +1,14 @@
 -- The events of a period as a live node is told them, and what they tell.
-use Rattle.std.specs.Prelude.{ℕ, ◌==◌, ℤ, Bool, true, false, List, [], ◌∷◌, ◌++◌, map, Option, None, Some, if◌then◌else◌}
+use Rattle.std.specs.Prelude.{◌≡◌, ℕ, ◌==◌, ℤ, Bool, true, false, List, [], ◌∷◌, ◌++◌, map, Option, None, Some, if◌then◌else◌}
 use Rattle.std.specs.List.{list_any, filter_map, flat_map, fold}
 use Rattle.std.specs.Option.{option_or}
 use Rattle.node_grid.specs.NodeSet.{ids_below}
 use Rattle.slot_plan.specs.Slots.{slot_count}
 use Rattle.error_detect.specs.Multiset.{Arriving}
 use Rattle.protocol.specs.View.{channel_room}
-use Rattle.live_node.specs.Event.{Event}
+use Rattle.live_node.specs.Event.{Event, event_of}
 use Rattle.live_node.specs.Event.Event.{Begin, Deliver, End, Restart, Reading, Ahead}
-use Rattle.live_node.specs.Live.{LiveView, Step, event_step}
+use Rattle.live_node.specs.Live.{LiveView, Step, event_step, line_step}
 use Rattle.live_node.specs.Live.Step.{Goes, Refuses}
 
 -- ---- one event after another
@@ -25,6 +25,18 @@ step_on (Refuses rule) e = Refuses rule
 
 abbrev pub all_steps : {N : ℕ} → LiveView N → List Event → Step N
 all_steps v es = fold step_on (Goes v []) es
+
+-- and the same of lines
+abbrev pub line_on : {N : ℕ} → Step N → List ℕ → Step N
+line_on (Goes v text) line = behind text (line_step v line)
+line_on (Refuses rule) line = Refuses rule
+
+abbrev pub all_lines : {N : ℕ} → LiveView N → List (List ℕ) → Step N
+all_lines v ls = fold line_on (Goes v []) ls
+
+-- Law: lines that tell events do what the events do
+abbrev pub LiveLinesLaw : Type 0
+LiveLinesLaw = (N : ℕ) (v : LiveView N) (ls : List (List ℕ)) (es : List Event) → map event_of ls ≡ map Some es → all_lines v ls ≡ all_steps v es
 
 -- ---- a period
 

@@ -140,6 +140,20 @@ module _ {N : ℕ} (sc : ScenarioView N) (id : ℕ) where
     pub slot : to.node.phase.slot ≡ slots
     pub frame : frame_of to.node ≡ frame_told r q slots
 
+  -- events are those of periods, one after another, and behind them restarts and readings
+  pub record ArePeriodsOf (r : Rest) (es : List Event) : Type 0 where
+    pub periods : List PeriodEvents
+    pub left : List Event
+    pub are : es ≡ flat_map (events_of sc.config.m) periods ++ left
+    pub allowed : AreAllowed r periods
+    pub before : All ComesBefore left
+
+-- Law: so are all events that a live node that rests takes, where they leave no slot open
+abbrev pub LiveEventsLaw : Type 0
+LiveEventsLaw =
+    (N : ℕ) (sc : ScenarioView N) (id : ℕ) (r : Rest) (v w : LiveView N) (es : List Event) (text : List ℕ)
+    → IsScenario sc → Rests sc id r v → all_steps v es ≡ Goes w text → w.node.phase.is_open ≡ false → ArePeriodsOf sc id r es
+
 -- Law: a new live node rests with what the protocol gives it first, and period 0 is its first
 abbrev pub NewLiveLaw : Type 0
 NewLiveLaw =

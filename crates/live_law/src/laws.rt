@@ -1,6 +1,7 @@
 //! What a live controller does, over the definitions alone. Each function's promise is its law.
 
 ghost use Rattle.live_law.specs.Cluster.{LiveClusterLaw, LivePromiseLaw};
+ghost use Rattle.live_law.specs.Events.{LiveLinesLaw};
 ghost use Rattle.live_law.specs.Living.{NewLiveLaw, LiveSayLaw, LiveLifeLaw};
 ghost use Rattle.live_law.specs.Periods.{AnyPeriodsLaw};
 ghost use Rattle.live_law.specs.Run.{LiveRunLaw};
@@ -15,6 +16,11 @@ pub fn any_periods()
 {
     period();
 }
+
+/// Lines that tell events make of a live node what the events make of it, with the same answers.
+pub fn lines()
+    ensures { LiveLinesLaw }
+{}
 
 /// A new live node rests with what the protocol gives each node first, and period 0 is its first.
 pub fn new_live()

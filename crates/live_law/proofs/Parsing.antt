@@ -1,0 +1,186 @@
+-- Events that a live node takes are those of periods.
+use Rattle.std.proofs.Common.{ℕ, zero, suc, ◌≡◌, ◌≢◌, ◌<◌, ◌≤◌, ◌+◌, ◌*◌, ◌^◌, ◌==◌, ◌&&◌, ◌||◌, ◌⊎◌, Bool, true, false, not, List, [], ◌∷◌, ◌++◌, length, refl, sym, ap, ap₂, subst, ◌∙◌, inl, inr, arith, eqb-true, Option, None, Some}
+use Rattle.std.specs.Prelude.{All, nat_lt, is_some}
+use Rattle.std.specs.List.{fold, flat_map, range_with_len}
+use Rattle.std.proofs.lemmas.Bool.{cases_Bool, cond-true, cond-false, and_parts, or_cases, not-true, eqb-false}
+use Rattle.std.proofs.lemmas.Bool.Decides.{nat_tests}
+use Rattle.std.proofs.lemmas.List.{append_assoc, append-nil}
+use Rattle.std.proofs.lemmas.List.Elements.{All-nil, All-cons}
+use Rattle.std.proofs.lemmas.List.Sums.{fold-append}
+use Rattle.slot_plan.specs.Slots.{slot_count}
+use Rattle.node_steps.specs.Parts.{NodeView}
+use Rattle.node_steps.specs.Living.{restarted_if}
+use Rattle.node_steps.specs.Sending.{PeriodLaw}
+use Rattle.scenario.specs.Scenario.{ScenarioView, IsScenario}
+use Rattle.live_node.specs.Event.{Event}
+use Rattle.live_node.specs.Event.Event.{Begin, Deliver, End, Restart, Reading, Ahead}
+use Rattle.live_node.specs.Live.{LiveView, Step, is_of_cluster, allowed, may_begin, is_other, told, answer, event_step, unknown_rule, not_now_rule}
+use Rattle.live_node.specs.Live.Step.{Goes, Refuses}
+use Rattle.live_law.specs.Events.{behind, step_on, all_steps, PeriodEvents, part_of, events_of, restarts_in}
+use Rattle.live_law.specs.Living.{Rest, Rests, ComesBefore, ComesWithin, MayBegin, IsAllowed, AreAllowed, ArePeriodsOf, LiveEventsLaw, after_period}
+use Rattle.live_law.proofs.Lists.{flat_push}
+use Rattle.live_law.proofs.Spans.{live_at, after_all, lines, in_slot, shown, through, to_begin, one_slot, last_slot, rests_after}
+use Rattle.live_law.proofs.Steps.{goes, rested, rests}
+
+is_less : (a b : ℕ) → nat_lt a b ≡ true → a < b
+is_less a b h = grind (arith, nat_tests)
+
+-- ---- a refusal stays, so what was taken was known and allowed
+
+stays : {N : ℕ} (rule : ℕ) (es : List Event) (w : LiveView N) (text : List ℕ) → fold step_on (Refuses rule) es ≡ Goes w text → ⊥
+stays rule [] w text h = cc
+stays rule (e ∷ es) w text h = stays rule es w text h
+
+node_of : {N : ℕ} → LiveView N → Step N → LiveView N
+node_of v (Goes w text) = w
+node_of v (Refuses rule) = v
+
+same_node : {N : ℕ} (v w : LiveView N) (s t : List ℕ) → Goes v s ≡ Goes w t → v ≡ w
+unfolding node_of
+same_node v w s t h = ap (node_of v) h
+
+-- an event that was taken
+record WasTaken {N : ℕ} (v : LiveView N) (text : List ℕ) (e : Event) (es : List Event) (w : LiveView N) (t : List ℕ) : Type 0 where
+  pub known : is_of_cluster v e ≡ true
+  pub now : allowed v e ≡ true
+  pub then : fold step_on (Goes (told v e) (text ++ answer (told v e) e)) es ≡ Goes w t
+
+taken : {N : ℕ} (v : LiveView N) (text : List ℕ) (e : Event) (es : List Event) (w : LiveView N) (t : List ℕ) → fold step_on (Goes v text) (e ∷ es) ≡ Goes w t → WasTaken v text e es w t
+taken {N} v text e es w t h = elim (cases_Bool (is_of_cluster v e)) [
+  | inr unknown ↦ absurd (stays unknown_rule es w t (sym (ap (λ (s : Step N). fold step_on (behind text s) es) (cond-false (is_of_cluster v e) _ _ unknown)) ∙ h))
+  | inl known ↦ elim (cases_Bool (allowed v e)) [
+    | inr late ↦ absurd (stays not_now_rule es w t (sym (ap (λ (s : Step N). fold step_on (behind text s) es) (cond-true (is_of_cluster v e) _ _ known ∙ cond-false (allowed v e) _ _ late)) ∙ h))
+    | inl now ↦ record { known = known; now = now; then = sym (ap (λ (s : Step N). fold step_on s es) (goes v text e known now)) ∙ h }
+  ]
+]
+
+both : (b : Bool) → b ≡ true → b ≡ false → ⊥
+both b t f = cc
+
+-- ---- between periods
+
+-- the restarts and readings at the front, and what is behind them
+front : List Event → List Event
+front (Restart ∷ es) = Restart ∷ front es
+front (Reading c x ∷ es) = Reading c x ∷ front es
+front _ = []
+
+behind_front : List Event → List Event
+behind_front (Restart ∷ es) = behind_front es
+behind_front (Reading c x ∷ es) = behind_front es
+behind_front es = es
+
+parts_of : (es : List Event) → es ≡ front es ++ behind_front es
+unfolding front behind_front
+parts_of [] = refl
+parts_of (Restart ∷ es) = ap (λ (xs : List Event). Restart ∷ xs) (parts_of es)
+parts_of (Reading c x ∷ es) = ap (λ (xs : List Event). Reading c x ∷ xs) (parts_of es)
+parts_of (Begin o ∷ es) = refl
+parts_of (Deliver from tick bytes ∷ es) = refl
+parts_of (End ∷ es) = refl
+parts_of (Ahead j x ∷ es) = refl
+
+shorter : (es : List Event) → length (behind_front es) ≤ length es
+unfolding behind_front
+shorter [] = omega arith
+shorter (Restart ∷ es) = let l = shorter es in omega (arith, l)
+shorter (Reading c x ∷ es) = let l = shorter es in omega (arith, l)
+shorter (Begin o ∷ es) = omega arith
+shorter (Deliver from tick bytes ∷ es) = omega arith
+shorter (End ∷ es) = omega arith
+shorter (Ahead j x ∷ es) = omega arith
+
+module _ {N : ℕ} (w : LiveView N) (t : List ℕ) where
+  front_comes : (v : LiveView N) (text : List ℕ) (es : List Event) → v.node.phase.is_open ≡ false → fold step_on (Goes v text) es ≡ Goes w t → All (ComesBefore v.scenario v.id) (front es)
+  unfolding front
+  front_comes v text [] shut h = All-nil (ComesBefore v.scenario v.id)
+  front_comes v text (Restart ∷ es) shut h =
+      All-cons (ComesBefore v.scenario v.id) Restart (front es) tt (front_comes (told v Restart) (text ++ []) es shut (taken v text Restart es w t h).then)
+  front_comes v text (Reading c x ∷ es) shut h =
+      let k = taken v text (Reading c x) es w t h in
+      All-cons (ComesBefore v.scenario v.id) (Reading c x) (front es) (is_less c (length v.scenario.config.channels.items) k.known) (front_comes (told v (Reading c x)) (text ++ []) es shut k.then)
+  front_comes v text (Begin o ∷ es) shut h = All-nil (ComesBefore v.scenario v.id)
+  front_comes v text (Deliver from tick bytes ∷ es) shut h = All-nil (ComesBefore v.scenario v.id)
+  front_comes v text (End ∷ es) shut h = All-nil (ComesBefore v.scenario v.id)
+  front_comes v text (Ahead j x ∷ es) shut h = All-nil (ComesBefore v.scenario v.id)
+
+  -- behind them stands nothing, or a begin
+  behind_begins : (v : LiveView N) (text : List ℕ) (es : List Event) → v.node.phase.is_open ≡ false → fold step_on (Goes v text) (behind_front es) ≡ Goes w t
+      → (behind_front es ≡ []) ⊎ ((o : Option ℕ) × (xs : List Event) × (behind_front es ≡ Begin o ∷ xs))
+  unfolding behind_front
+  behind_begins v text [] shut h = inl refl
+  behind_begins v text (Restart ∷ es) shut h = behind_begins v text es shut h
+  behind_begins v text (Reading c x ∷ es) shut h = behind_begins v text es shut h
+  behind_begins v text (Begin o ∷ es) shut h = inr (o, es, refl)
+  behind_begins v text (Deliver from tick bytes ∷ es) shut h = absurd (both v.node.phase.is_open (taken v text (Deliver from tick bytes) es w t h).now shut)
+  behind_begins v text (End ∷ es) shut h = absurd (both v.node.phase.is_open (taken v text End es w t h).now shut)
+  behind_begins v text (Ahead j x ∷ es) shut h = absurd (both v.node.phase.is_open (taken v text (Ahead j x) es w t h).now shut)
+
+-- ---- in a slot
+
+-- what stands before the first end, and behind it
+in_front : List Event → List Event
+in_front [] = []
+in_front (End ∷ es) = []
+in_front (e ∷ es) = e ∷ in_front es
+
+behind_end : List Event → List Event
+behind_end [] = []
+behind_end (End ∷ es) = es
+behind_end (e ∷ es) = behind_end es
+
+less_behind : (es : List Event) → length (behind_end es) ≤ length es
+unfolding behind_end
+less_behind [] = omega arith
+less_behind (End ∷ es) = omega arith
+less_behind (Begin o ∷ es) = let l = less_behind es in omega (arith, l)
+less_behind (Deliver from tick bytes ∷ es) = let l = less_behind es in omega (arith, l)
+less_behind (Restart ∷ es) = let l = less_behind es in omega (arith, l)
+less_behind (Reading c x ∷ es) = let l = less_behind es in omega (arith, l)
+less_behind (Ahead j x ∷ es) = let l = less_behind es in omega (arith, l)
+
+-- behind so many ends
+behind_ends : List Event → ℕ → List Event
+behind_ends es zero = es
+behind_ends es (suc t) = behind_end (behind_ends es t)
+
+fewer_behind : (es : List Event) (t : ℕ) → length (behind_ends es t) ≤ length es
+unfolding behind_ends
+fewer_behind es zero = omega arith
+fewer_behind es (suc t) = let l = fewer_behind es t in let k = less_behind (behind_ends es t) in omega (arith, l, k)
+
+slot_in : List Event → ℕ → List Event
+slot_in es t = in_front (behind_ends es t)
+
+other_told : (nodes id j : ℕ) → (nat_lt j nodes && not (j == id)) ≡ true → (j < nodes) × (j ≢ id)
+other_told nodes id j h = let k = and_parts (nat_lt j nodes) (not (j == id)) h in (is_less j nodes k.0, eqb-false j id (not-true (j == id) k.1))
+
+-- an open slot that is shut in the end has an end
+record Ends {N : ℕ} (u : LiveView N) (es : List Event) : Type 0 where
+  pub are : es ≡ in_front es ++ End ∷ behind_end es
+  pub within : All (ComesWithin u.scenario u.id) (in_front es)
+
+module _ {N : ℕ} (w : LiveView N) (t : List ℕ) (shut : w.node.phase.is_open ≡ false) where
+  ends : (u : LiveView N) (text : List ℕ) (es : List Event) → u.node.phase.is_open ≡ true → fold step_on (Goes u text) es ≡ Goes w t → Ends u es
+  unfolding in_front behind_end
+  ends u text [] still h = absurd (both u.node.phase.is_open still (ap (λ (x : LiveView N). x.node.phase.is_open) (same_node u w text t h) ∙ shut))
+  ends u text (End ∷ es) still h = record { are = refl; within = All-nil (ComesWithin u.scenario u.id) }
+  ends u text (Deliver from tick bytes ∷ es) still h =
+      let k = taken u text (Deliver from tick bytes) es w t h in
+      let on = ends (told u (Deliver from tick bytes)) (text ++ []) es still k.then in
+      record {
+        are = ap (λ (xs : List Event). Deliver from tick bytes ∷ xs) on.are;
+        within = All-cons (ComesWithin u.scenario u.id) (Deliver from tick bytes) (in_front es) (other_told u.scenario.config.nodes u.id from k.known) on.within;
+      }
+  ends u text (Ahead j x ∷ es) still h =
+      let k = taken u text (Ahead j x) es w t h in
+      let on = ends (told u (Ahead j x)) (text ++ []) es still k.then in
+      let parts = and_parts (is_other u j) (is_some u.scenario.clock) k.known in
+      let o = other_told u.scenario.config.nodes u.id j parts.0 in
+      record {
+        are = ap (λ (xs : List Event). Ahead j x ∷ xs) on.are;
+        within = All-cons (ComesWithin u.scenario u.id) (Ahead j x) (in_front es) (o.0, o.1, parts.1) on.within;
+      }
+  ends u text (Begin o ∷ es) still h = absurd (both u.node.phase.is_open still (not-true u.node.phase.is_open (and_parts (not u.node.phase.is_open) (may_begin u o) (taken u text (Begin o) es w t h).now).0))
+  ends u text (Restart ∷ es) still h = absurd (both u.node.phase.is_open still (not-true u.node.phase.is_open (taken u text Restart es w t h).now))
+  ends u text (Reading c x ∷ es) still h = absurd (both u.node.phase.is_open still (not-true u.node.phase.is_open (taken u text (Reading c x) es w t h).now))
