@@ -2,7 +2,7 @@
 use Rattle.std.proofs.Common.{ℕ, zero, suc, ◌≡◌, ◌≢◌, ◌<◌, ◌≤◌, ◌+◌, ◌*◌, ◌^◌, ◌==◌, ◌&&◌, ◌||◌, ◌⊎◌, Bool, true, false, not, List, [], ◌∷◌, ◌++◌, length, refl, sym, ap, ap₂, subst, ◌∙◌, inl, inr, arith, eqb-true, Option, None, Some}
 use Rattle.std.specs.Prelude.{All, nat_lt, is_some}
 use Rattle.std.specs.List.{fold, flat_map, range_with_len}
-use Rattle.std.proofs.lemmas.Bool.{cases_Bool, cond-true, cond-false, and_parts, or_cases, not-true, eqb-false}
+use Rattle.std.proofs.lemmas.Bool.{cases_Bool, cases_lt, cond-true, cond-false, and_parts, or_cases, not-true, eqb-false}
 use Rattle.std.proofs.lemmas.Bool.Decides.{nat_tests}
 use Rattle.std.proofs.lemmas.List.{append_assoc, append-nil}
 use Rattle.std.proofs.lemmas.List.Elements.{All-nil, All-cons}
@@ -184,3 +184,169 @@ module _ {N : ℕ} (w : LiveView N) (t : List ℕ) (shut : w.node.phase.is_open 
   ends u text (Begin o ∷ es) still h = absurd (both u.node.phase.is_open still (not-true u.node.phase.is_open (and_parts (not u.node.phase.is_open) (may_begin u o) (taken u text (Begin o) es w t h).now).0))
   ends u text (Restart ∷ es) still h = absurd (both u.node.phase.is_open still (not-true u.node.phase.is_open (taken u text Restart es w t h).now))
   ends u text (Reading c x ∷ es) still h = absurd (both u.node.phase.is_open still (not-true u.node.phase.is_open (taken u text (Reading c x) es w t h).now))
+
+-- ---- a period
+
+module _ (law : PeriodLaw) {N : ℕ} (w : LiveView N) (t : List ℕ) (shut : w.node.phase.is_open ≡ false) where
+  -- the events begin with those of a period, and the node behind it takes the others
+  record Begins (v : LiveView N) (r : Rest) (es : List Event) : Type 0 where
+    pub period : PeriodEvents
+    pub left : List Event
+    pub are : es ≡ events_of v.scenario.config.m period ++ left
+    pub may : IsAllowed v.scenario v.id (slot_count v.scenario.config.m) r period
+    pub less : length left < length es
+    pub answered : List ℕ
+    pub on : fold step_on (Goes (after_all v r period) answered) left ≡ Goes w t
+
+  module _ (v : LiveView N) (r : Rest) (is : IsScenario v.scenario) (at : Rests v.scenario v.id r v) (text : List ℕ) (es : List Event) (h : fold step_on (Goes v text) es ≡ Goes w t) where
+    count : ℕ
+    count = 2 * v.scenario.config.m + 4
+
+    abbrev before : List Event
+    before = front es
+
+    comes : All (ComesBefore v.scenario v.id) before
+    comes = front_comes w t v text es at.between.shut h
+
+    abbrev u : LiveView N
+    u = rested v before
+
+    rested_shut : (b : Bool) → (restarted_if b v.node).phase.is_open ≡ false
+    rested_shut true = at.between.shut
+    rested_shut false = at.between.shut
+
+    behind_on : fold step_on (Goes u text) (behind_front es) ≡ Goes w t
+    behind_on =
+        sym (ap (fold step_on (Goes v text)) (parts_of es) ∙ fold-append step_on (Goes v text) before (behind_front es)
+        ∙ ap (λ (s : Step N). fold step_on s (behind_front es)) (rests v text before at.between.shut comes)) ∙ h
+
+    -- where a begin is behind its front
+    module _ (o : Option ℕ) (xs : List Event) (begins : behind_front es ≡ Begin o ∷ xs) where
+      abbrev q : PeriodEvents
+      q = record { before = before; number = o; slots = slot_in xs }
+
+      begin_on : fold step_on (Goes u text) (Begin o ∷ xs) ≡ Goes w t
+      begin_on = ap (fold step_on (Goes u text)) (sym begins) ∙ behind_on
+
+      may_then : (o : Option ℕ) → may_begin u o ≡ true → MayBegin v.scenario v.id r q o
+      may_then None e = let l = is_less v.next (2 ^ 32) e in let k = at.next in omega (arith, l, k)
+      may_then (Some n) e = elim (or_cases (n == v.next) _ e) [
+        | inl here ↦ inl (eqb-true n v.next here ∙ at.next)
+        | inr later ↦
+            let k = and_parts (restarts_in before || v.forgot) (nat_lt v.next n) later in
+            inr (elim (or_cases (restarts_in before) v.forgot k.0) [ | inl y ↦ y | inr f ↦ absurd (both v.forgot f at.forgot) ], let l = is_less v.next n k.1 in let e = at.next in omega (arith, l, e))
+      ]
+
+      number : MayBegin v.scenario v.id r q o
+      number = may_then o (and_parts (not u.node.phase.is_open) (may_begin u o) (taken u text (Begin o) xs w t begin_on).now).1
+
+      -- the slots that are over
+      record Over (n : ℕ) : Type 0 where
+        pub answered : List ℕ
+        pub on : fold step_on (Goes (live_at v r q n) answered) (behind_ends xs n) ≡ Goes w t
+        pub are : xs ≡ flat_map (in_slot v r q) (range_with_len 0 n) ++ behind_ends xs n
+        pub within : (s : ℕ) → s < n → All (ComesWithin v.scenario v.id) (slot_in xs s)
+
+      opened : fold step_on (Goes (live_at v r q 0) (text ++ lines v r q 1)) xs ≡ Goes w t
+      opened =
+          sym (ap (λ (ys : List Event). fold step_on (Goes v text) ys) (parts_of es ∙ ap (λ (ys : List Event). before ++ ys) begins ∙ sym (append_assoc before (Begin o ∷ []) xs))
+          ∙ fold-append step_on (Goes v text) (before ++ Begin o ∷ []) xs
+          ∙ ap (λ (s : Step N). fold step_on s xs) (to_begin v r q is law at text comes number)) ∙ h
+
+      -- a slot that is open has an end
+      module _ (n : ℕ) (low : n < 2 * v.scenario.config.m + 4) (so_far : Over n) where
+        end : Ends (live_at v r q n) (behind_ends xs n)
+        end = ends w t shut (live_at v r q n) so_far.answered (behind_ends xs n) ((through v r q is law at).opens n low) so_far.on
+
+        split : behind_ends xs n ≡ in_slot v r q n ++ behind_ends xs (suc n)
+        unfolding slot_in behind_ends
+        split = end.are ∙ sym (append_assoc (in_front (behind_ends xs n)) (End ∷ []) (behind_end (behind_ends xs n)))
+
+        within_here : All (ComesWithin v.scenario v.id) (slot_in xs n)
+        unfolding slot_in
+        within_here = end.within
+
+        within_upto : (s : ℕ) → s < suc n → All (ComesWithin v.scenario v.id) (slot_in xs s)
+        within_upto s l = elim (cases_lt s n) [
+          | inl less ↦ so_far.within s less
+          | inr more ↦ subst (λ (k : ℕ). All (ComesWithin v.scenario v.id) (slot_in xs k)) (let e : n ≡ s = omega arith in e) within_here
+        ]
+
+        pushed : xs ≡ flat_map (in_slot v r q) (range_with_len 0 (suc n)) ++ behind_ends xs (suc n)
+        pushed =
+            so_far.are ∙ ap (λ (ys : List Event). flat_map (in_slot v r q) (range_with_len 0 n) ++ ys) split
+            ∙ sym (append_assoc (flat_map (in_slot v r q) (range_with_len 0 n)) (in_slot v r q n) (behind_ends xs (suc n)))
+            ∙ ap (λ (ys : List Event). ys ++ behind_ends xs (suc n))
+            (ap (λ (k : ℕ). flat_map (in_slot v r q) (range_with_len 0 n) ++ in_slot v r q k) (let e : n ≡ 0 + n = omega arith in e) ∙ sym (flat_push (in_slot v r q) 0 n))
+
+        ended_on : (next : LiveView N) (more : List ℕ) → fold step_on (Goes (live_at v r q n) so_far.answered) (in_slot v r q n) ≡ Goes next more → fold step_on (Goes next more) (behind_ends xs (suc n)) ≡ Goes w t
+        ended_on next more e =
+            sym (ap (fold step_on (Goes (live_at v r q n) so_far.answered)) split
+            ∙ fold-append step_on (Goes (live_at v r q n) so_far.answered) (in_slot v r q n) (behind_ends xs (suc n)) ∙ ap (λ (s : Step N). fold step_on s (behind_ends xs (suc n))) e) ∙ so_far.on
+
+      over : (n : ℕ) → n < 2 * v.scenario.config.m + 4 → Over n
+      unfolding behind_ends
+      over zero low = record { answered = text ++ lines v r q 1; on = opened; are = refl; within = λ s l. absurd (omega arith) }
+      over (suc n) low =
+          let so_far : Over n = over n (omega arith) in
+          record {
+            answered = _;
+            on = ended_on n (omega arith) so_far _ _ (one_slot v r q is law at n so_far.answered low (within_here n (omega arith) so_far));
+            are = pushed n (omega arith) so_far;
+            within = within_upto n (omega arith) so_far;
+          }
+
+      begins_period : Begins v r es
+      begins_period =
+          let n : ℕ = 2 * v.scenario.config.m + 3 in
+          let all : suc n ≡ 2 * v.scenario.config.m + 4 = omega arith in
+          let so_far : Over n = over n (omega arith) in
+          record {
+            period = q;
+            left = behind_ends xs (suc n);
+            are = parts_of es ∙ ap (λ (ys : List Event). before ++ ys) (begins ∙ ap (λ (ys : List Event). Begin o ∷ ys) (pushed n (omega arith) so_far))
+                ∙ sym (append_assoc before (Begin o ∷ flat_map (in_slot v r q) (range_with_len 0 (suc n))) (behind_ends xs (suc n)))
+                ∙ ap (λ (k : ℕ). part_of q k ++ behind_ends xs (suc n)) all;
+            may = record { before = comes; number = number; within = λ s l. within_upto n (omega arith) so_far s (omega (arith, l)) };
+            less = let a = shorter es in let b : length (behind_front es) ≡ suc (length xs) = ap length begins in let c = fewer_behind xs (suc n) in omega (arith, a, b, c);
+            answered = _;
+            on = ended_on n (omega arith) so_far _ _ (last_slot v r q is law at n all so_far.answered (within_here n (omega arith) so_far));
+          }
+
+    one : All (ComesBefore v.scenario v.id) es ⊎ Begins v r es
+    one = elim (behind_begins w t u text es (rested_shut (restarts_in before)) behind_on) [
+      | inl none ↦ inl (subst (All (ComesBefore v.scenario v.id)) (sym (parts_of es ∙ ap (λ (ys : List Event). before ++ ys) none ∙ append-nil before)) comes)
+      | inr b ↦ inr (begins_period b.0 b.1 b.2)
+    ]
+
+  -- ---- all periods
+
+  none : (v : LiveView N) (r : Rest) (es : List Event) → All (ComesBefore v.scenario v.id) es → ArePeriodsOf v.scenario v.id r es
+  unfolding AreAllowed
+  none v r es rest = record { periods = []; left = es; are = refl; allowed = tt; before = rest }
+
+  further : (v : LiveView N) (r : Rest) (es : List Event) (b : Begins v r es) → ArePeriodsOf v.scenario v.id (after_period v.scenario v.id r b.period) b.left → ArePeriodsOf v.scenario v.id r es
+  unfolding AreAllowed
+  further v r es b on = record {
+    periods = b.period ∷ on.periods;
+    left = on.left;
+    are = b.are ∙ ap (λ (ys : List Event). events_of v.scenario.config.m b.period ++ ys) on.are ∙ sym (append_assoc (events_of v.scenario.config.m b.period) (flat_map (events_of v.scenario.config.m) on.periods) on.left);
+    allowed = (b.may, on.allowed);
+    before = on.before;
+  }
+
+  parsed : (most : ℕ) (v : LiveView N) (r : Rest) (text : List ℕ) (es : List Event) → length es ≤ most → IsScenario v.scenario → Rests v.scenario v.id r v → fold step_on (Goes v text) es ≡ Goes w t → ArePeriodsOf v.scenario v.id r es
+  parsed zero v r text es low is at h = elim (one v r is at text es h) [
+    | inl rest ↦ none v r es rest
+    | inr b ↦ absurd (let l = b.less in omega (arith, l, low))
+  ]
+  parsed (suc most) v r text es low is at h = elim (one v r is at text es h) [
+    | inl rest ↦ none v r es rest
+    | inr b ↦ further v r es b (parsed most (after_all v r b.period) (after_period v.scenario v.id r b.period) b.answered b.left (let l = b.less in omega (arith, l, low)) is (rests_after v r b.period is law at) b.on)
+  ]
+
+pub events_law : PeriodLaw → LiveEventsLaw
+events_law law N sc id r v w es text is at takes shut =
+    subst (λ (s : ScenarioView N). IsScenario s → Rests s id r v → ArePeriodsOf s id r es) at.is_of
+    (subst (λ (i : ℕ). IsScenario v.scenario → Rests v.scenario i r v → ArePeriodsOf v.scenario i r es) at.is_node
+    (λ is at. parsed law w text shut (length es) v r [] es (omega arith) is at takes)) is at

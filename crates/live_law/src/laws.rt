@@ -2,7 +2,7 @@
 
 ghost use Rattle.live_law.specs.Cluster.{LiveClusterLaw, LivePromiseLaw};
 ghost use Rattle.live_law.specs.Events.{LiveLinesLaw};
-ghost use Rattle.live_law.specs.Living.{NewLiveLaw, LiveSayLaw, LiveLifeLaw};
+ghost use Rattle.live_law.specs.Living.{NewLiveLaw, LiveEventsLaw, LiveSayLaw, LiveLifeLaw};
 ghost use Rattle.live_law.specs.Periods.{AnyPeriodsLaw};
 ghost use Rattle.live_law.specs.Run.{LiveRunLaw};
 
@@ -26,6 +26,14 @@ pub fn lines()
 pub fn new_live()
     ensures { NewLiveLaw }
 {}
+
+/// All events that a live node takes, where they leave no slot open, are those of periods, one after another, and behind them
+/// restarts and readings.
+pub fn events()
+    ensures { LiveEventsLaw }
+{
+    period();
+}
 
 /// In each slot of a period a live node has said what the protocol says of what it was told so far.
 pub fn says()
