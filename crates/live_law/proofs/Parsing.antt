@@ -17,13 +17,23 @@ use Rattle.live_node.specs.Event.Event.{Begin, Deliver, End, Restart, Reading, A
 use Rattle.live_node.specs.Live.{LiveView, Step, is_of_cluster, allowed, may_begin, is_other, told, answer, event_step, unknown_rule, not_now_rule}
 use Rattle.live_node.specs.Live.Step.{Goes, Refuses}
 use Rattle.live_law.specs.Events.{behind, step_on, all_steps, PeriodEvents, part_of, events_of, restarts_in}
-use Rattle.live_law.specs.Living.{Rest, Rests, ComesBefore, ComesWithin, MayBegin, IsAllowed, AreAllowed, ArePeriodsOf, LiveEventsLaw, after_period}
+use Rattle.live_law.specs.Living.{Rest, Rests, ComesBefore, ComesWithin, MayBegin, IsAllowed, AreAllowed, AnswersLife, IsLife, LiveEventsLaw, after_period, life_text, after_life}
 use Rattle.live_law.proofs.Lists.{flat_push}
+use Rattle.live_law.proofs.Lives.{between_restarted}
+use Rattle.live_law.proofs.LiveLife.{live_life}
 use Rattle.live_law.proofs.Spans.{live_at, after_all, lines, in_slot, shown, through, to_begin, one_slot, last_slot, rests_after}
 use Rattle.live_law.proofs.Steps.{goes, rested, rests}
 
 is_less : (a b : ℕ) → nat_lt a b ≡ true → a < b
 is_less a b h = grind (arith, nat_tests)
+
+-- events are those of periods, and behind them restarts and readings
+record ArePeriodsOf {N : ℕ} (sc : ScenarioView N) (id : ℕ) (r : Rest) (es : List Event) : Type 0 where
+  pub periods : List PeriodEvents
+  pub left : List Event
+  pub are : es ≡ flat_map (events_of sc.config.m) periods ++ left
+  pub allowed : AreAllowed sc id r periods
+  pub before : All (ComesBefore sc id) left
 
 -- ---- a refusal stays, so what was taken was known and allowed
 
@@ -345,8 +355,38 @@ module _ (law : PeriodLaw) {N : ℕ} (w : LiveView N) (t : List ℕ) (shut : w.n
     | inr b ↦ further v r es b (parsed most (after_all v r b.period) (after_period v.scenario v.id r b.period) b.answered b.left (let l = b.less in omega (arith, l, low)) is (rests_after v r b.period is law at) b.on)
   ]
 
+answered : {N : ℕ} → Step N → List ℕ
+answered (Goes w text) = text
+answered (Refuses rule) = []
+
+same_text : {N : ℕ} (v w : LiveView N) (s t : List ℕ) → Goes v s ≡ Goes w t → s ≡ t
+unfolding answered
+same_text v w s t h = ap answered h
+
 pub events_law : PeriodLaw → LiveEventsLaw
 events_law law N sc id r v w es text is at takes shut =
-    subst (λ (s : ScenarioView N). IsScenario s → Rests s id r v → ArePeriodsOf s id r es) at.is_of
-    (subst (λ (i : ℕ). IsScenario v.scenario → Rests v.scenario i r v → ArePeriodsOf v.scenario i r es) at.is_node
-    (λ is at. parsed law w text shut (length es) v r [] es (omega arith) is at takes)) is at
+    let p : ArePeriodsOf sc id r es =
+        subst (λ (s : ScenarioView N). IsScenario s → Rests s id r v → ArePeriodsOf s id r es) at.is_of
+        (subst (λ (i : ℕ). IsScenario v.scenario → Rests v.scenario i r v → ArePeriodsOf v.scenario i r es) at.is_node
+        (λ is at. parsed law w text shut (length es) v r [] es (omega arith) is at takes)) is at
+    in
+    let l : AnswersLife sc id r v p.periods = live_life law N sc id r v p.periods is at p.allowed in
+    let u : LiveView N = rested l.to p.left in
+    let same : Goes u (life_text sc id r p.periods) ≡ Goes w text =
+        sym (ap (all_steps v) p.are ∙ fold-append step_on (Goes v []) (flat_map (events_of sc.config.m) p.periods) p.left
+        ∙ ap (λ (s : Step N). fold step_on s p.left) l.takes
+        ∙ rests l.to (life_text sc id r p.periods) p.left l.rests.between.shut
+        (subst (λ (s : ScenarioView N). All (ComesBefore s l.to.id) p.left) (sym l.rests.is_of) (subst (λ (i : ℕ). All (ComesBefore sc i) p.left) (sym l.rests.is_node) p.before))) ∙ takes
+    in
+    let here : u ≡ w = same_node u w (life_text sc id r p.periods) text same in
+    record {
+      periods = p.periods;
+      left = p.left;
+      are = p.are;
+      allowed = p.allowed;
+      before = p.before;
+      answers = sym (same_text u w (life_text sc id r p.periods) text same);
+      keeps = ap (λ (x : LiveView N). x.node.kept) (sym here) ∙ (between_restarted sc.config id (restarts_in p.left) (after_life sc id r p.periods).kept l.to.node l.rests.between).keeps;
+      next = ap (λ (x : LiveView N). x.next) (sym here) ∙ l.rests.next;
+      run = ap (λ (x : LiveView N). x.run) (sym here) ∙ l.rests.run;
+    }

@@ -6,7 +6,7 @@ use Rattle.slot_plan.specs.Slots.{slot_count}
 use Rattle.agreed_state.specs.declared.config.Inputs.{Inputs}
 use Rattle.protocol.specs.Clocks.{corrects}
 use Rattle.protocol.specs.Run.{members_in}
-use Rattle.protocol.specs.View.{Kept, View, first_kept, channel_room}
+use Rattle.protocol.specs.View.{Kept, View, first_kept, opened, channel_room}
 use Rattle.protocol.specs.Configured.{setting_of}
 use Rattle.node_steps.specs.Stages.{outcome_of}
 use Rattle.node_steps.specs.Steps.{frame_of}
@@ -140,20 +140,6 @@ module _ {N : ℕ} (sc : ScenarioView N) (id : ℕ) where
     pub slot : to.node.phase.slot ≡ slots
     pub frame : frame_of to.node ≡ frame_told r q slots
 
-  -- events are those of periods, one after another, and behind them restarts and readings
-  pub record ArePeriodsOf (r : Rest) (es : List Event) : Type 0 where
-    pub periods : List PeriodEvents
-    pub left : List Event
-    pub are : es ≡ flat_map (events_of sc.config.m) periods ++ left
-    pub allowed : AreAllowed r periods
-    pub before : All ComesBefore left
-
--- Law: so are all events that a live node that rests takes, where they leave no slot open
-abbrev pub LiveEventsLaw : Type 0
-LiveEventsLaw =
-    (N : ℕ) (sc : ScenarioView N) (id : ℕ) (r : Rest) (v w : LiveView N) (es : List Event) (text : List ℕ)
-    → IsScenario sc → Rests sc id r v → all_steps v es ≡ Goes w text → w.node.phase.is_open ≡ false → ArePeriodsOf sc id r es
-
 -- Law: a new live node rests with what the protocol gives it first, and period 0 is its first
 abbrev pub NewLiveLaw : Type 0
 NewLiveLaw =
@@ -171,3 +157,22 @@ abbrev pub LiveLifeLaw : Type 0
 LiveLifeLaw =
     (N : ℕ) (sc : ScenarioView N) (id : ℕ) (r : Rest) (v : LiveView N) (qs : List PeriodEvents)
     → IsScenario sc → Rests sc id r v → AreAllowed sc id r qs → AnswersLife sc id r v qs
+
+-- events are those of periods, one after another, and behind them restarts and readings; what was answered to them is the protocol's text
+-- of the periods, and so is what the node keeps, which number comes next and how many periods were run
+pub record IsLife {N : ℕ} (sc : ScenarioView N) (id : ℕ) (r : Rest) (es : List Event) (w : LiveView N) (text : List ℕ) : Type 0 where
+  pub periods : List PeriodEvents
+  pub left : List Event
+  pub are : es ≡ flat_map (events_of sc.config.m) periods ++ left
+  pub allowed : AreAllowed sc id r periods
+  pub before : All (ComesBefore sc id) left
+  pub answers : text ≡ life_text sc id r periods
+  pub keeps : w.node.kept ≡ opened (setting_of sc.config) (restarts_in left) (after_life sc id r periods).kept
+  pub next : w.next ≡ (after_life sc id r periods).next
+  pub run : w.run ≡ (after_life sc id r periods).run
+
+-- Law: so it is with all events that a live node that rests takes, where they leave no slot open
+abbrev pub LiveEventsLaw : Type 0
+LiveEventsLaw =
+    (N : ℕ) (sc : ScenarioView N) (id : ℕ) (r : Rest) (v w : LiveView N) (es : List Event) (text : List ℕ)
+    → IsScenario sc → Rests sc id r v → all_steps v es ≡ Goes w text → w.node.phase.is_open ≡ false → IsLife sc id r es w text

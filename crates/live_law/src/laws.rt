@@ -28,7 +28,7 @@ pub fn new_live()
 {}
 
 /// All events that a live node takes, where they leave no slot open, are those of periods, one after another, and behind them
-/// restarts and readings.
+/// restarts and readings. What it answered is the protocol's text of these periods.
 pub fn events()
     ensures { LiveEventsLaw }
 {
