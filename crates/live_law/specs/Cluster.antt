@@ -6,8 +6,12 @@ use Rattle.fault_classes.specs.Plan.{restarts_at}
 use Rattle.fault_link.specs.Arrival.{delivered_of}
 use Rattle.slot_plan.specs.Slots.{slot_count}
 use Rattle.agreed_state.specs.declared.config.Inputs.{Inputs}
+use Rattle.agreed_state.specs.Config.{IsInputs}
+use Rattle.protocol.specs.Accepted.{IsAccepted, IsClose}
 use Rattle.protocol.specs.Cluster.{kept}
-use Rattle.protocol.specs.Run.{run}
+use Rattle.protocol.specs.Configured.{setting_of}
+use Rattle.protocol.specs.Run.{run, classes}
+use Rattle.protocol.specs.Safe.{Safe}
 use Rattle.node_steps.specs.Steps.{frame_of}
 use Rattle.scenario.specs.Scenario.{ScenarioView, IsScenario, inputs_of}
 use Rattle.cluster_periods.specs.Laws.{IsClaimed, Promises}
@@ -93,3 +97,21 @@ pub record IsPromised {N : ℕ} (sc : ScenarioView N) (c : LiveControllers N) (p
 -- Law: so it is in each period that the run claims
 abbrev pub LivePromiseLaw : Type 0
 LivePromiseLaw = (N : ℕ) (sc : ScenarioView N) (c : LiveControllers N) (p : ℕ) → IsScenario sc → AreLinked sc (inputs_of sc) c → IsClaimed sc p → IsPromised sc c p
+
+-- nodes that are given what the rules of a scenario allow: run times and readings in range, and readings of one sensor in one period
+-- within its delta of each other
+pub record AreGiven {N : ℕ} (sc : ScenarioView N) (inputs : ℕ → ℕ → Inputs) : Type 0 where
+  pub each : (i p : ℕ) → i < sc.config.nodes → IsInputs sc.config.graph i (inputs i p)
+  pub close : IsClose (setting_of sc.config) inputs
+
+-- what controllers answer that are given this is the run's, whose period is safe. All laws of accepted systems speak of the run
+pub record IsSafeGiven {N : ℕ} (sc : ScenarioView N) (inputs : ℕ → ℕ → Inputs) (c : LiveControllers N) (p : ℕ) : Type 0 where
+  pub answers : (i : ℕ) → i < sc.config.nodes → 0 < c.ran i p → IsLiveRun sc inputs c i p
+  pub accepted : IsAccepted (system_given sc inputs)
+  pub safe : Safe (run (system_given sc inputs)) (classes (system_given sc inputs)) p
+
+-- Law: so it is in each period that the run claims, where nodes are told readings
+abbrev pub LiveGivenLaw : Type 0
+LiveGivenLaw =
+    (N : ℕ) (sc : ScenarioView N) (inputs : ℕ → ℕ → Inputs) (c : LiveControllers N) (p : ℕ) → IsScenario sc → AreGiven sc inputs → AreLinked sc inputs c
+    → (run_record sc inputs p).claim ≡ true → IsSafeGiven sc inputs c p

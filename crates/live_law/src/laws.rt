@@ -1,6 +1,6 @@
 //! What a live controller does, over the definitions alone. Each function's promise is its law.
 
-ghost use Rattle.live_law.specs.Cluster.{LiveClusterLaw, LivePromiseLaw};
+ghost use Rattle.live_law.specs.Cluster.{LiveClusterLaw, LivePromiseLaw, LiveGivenLaw};
 ghost use Rattle.live_law.specs.Events.{LiveLinesLaw};
 ghost use Rattle.live_law.specs.Living.{NewLiveLaw, LiveEventsLaw, LiveSayLaw, LiveLifeLaw};
 ghost use Rattle.live_law.specs.Periods.{AnyPeriodsLaw};
@@ -77,4 +77,14 @@ pub fn promises()
 {
     cluster();
     cluster_periods::laws::promises();
+}
+
+/// Where controllers are told readings of their own, each period that the run with these readings claims is safe, as long as the
+/// readings are in range and near each other.
+pub fn given()
+    ensures { LiveGivenLaw }
+{
+    cluster();
+    cluster_periods::laws::claims();
+    safety::laws::runs::runs();
 }
