@@ -1,12 +1,10 @@
 -- The nodes of the controllers of a cluster, without what they are told and answer.
 use Rattle.std.specs.Prelude.{◌≡◌, ◌≢◌, ◌<◌, ◌≤◌, ◌⊎◌, ℕ, zero, suc, ◌+◌, ◌*◌, true, List, []}
-use Rattle.node_grid.specs.Capacity.{IsCapacity}
 use Rattle.error_detect.specs.Multiset.{Arriving, from_sender}
 use Rattle.fault_classes.specs.Line.{effect_at}
 use Rattle.fault_classes.specs.Plan.{restarts_at}
 use Rattle.fault_link.specs.Arrival.{delivered_of}
 use Rattle.agreed_state.specs.declared.config.Inputs.{Inputs}
-use Rattle.agreed_state.specs.Config.{IsConfig}
 use Rattle.protocol.specs.View.{Kept, first_kept}
 use Rattle.protocol.specs.Cluster.{kept, begins, view}
 use Rattle.protocol.specs.Run.{run, sent}

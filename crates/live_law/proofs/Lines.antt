@@ -1,8 +1,8 @@
 -- Lines that tell events do what the events do.
-use Rattle.std.proofs.Common.{ℕ, ◌≡◌, List, [], ◌∷◌, map, refl, ap, ap₂, ◌∙◌, Option, Some}
+use Rattle.std.proofs.Common.{ℕ, ◌≡◌, List, [], ◌∷◌, map, refl, ap, ◌∙◌, Option, Some}
 use Rattle.std.specs.List.{fold}
 use Rattle.live_node.specs.Event.{Event, event_of}
-use Rattle.live_node.specs.Live.{LiveView, Step, step_of}
+use Rattle.live_node.specs.Live.{Step, step_of}
 use Rattle.live_node.specs.Live.Step.{Goes, Refuses}
 use Rattle.live_law.specs.Events.{behind, step_on, line_on, LiveLinesLaw}
 

@@ -1,10 +1,9 @@
 -- Controllers that are linked by a network go through the periods of the run of its plan.
-use Rattle.std.proofs.Common.{ℕ, zero, suc, ◌≡◌, ◌≢◌, ◌<◌, ◌≤◌, ◌+◌, ◌*◌, ◌⊎◌, Bool, true, false, if◌then◌else◌, List, refl, sym, ap, ap₂, subst, ◌∙◌, inl, inr, arith}
+use Rattle.std.proofs.Common.{ℕ, zero, suc, ◌≡◌, ◌≢◌, ◌<◌, ◌+◌, ◌*◌, Bool, true, if◌then◌else◌, List, refl, sym, ap, ap₂, subst, ◌∙◌, inl, inr, arith}
 use Rattle.std.specs.Prelude.{nat_lt}
 use Rattle.std.proofs.lemmas.Bool.{cases_Bool, cases_lt, cond-true, cond-false}
 use Rattle.std.proofs.lemmas.Bool.Decides.{nat_tests}
 use Rattle.node_grid.specs.Capacity.{IsCapacity}
-use Rattle.error_detect.specs.Finding.{Delivery}
 use Rattle.error_detect.specs.Multiset.{Arriving, from_sender}
 use Rattle.fault_classes.specs.Line.{effect_at}
 use Rattle.fault_classes.specs.Plan.{restarts_at}
@@ -26,7 +25,7 @@ use Rattle.cluster_periods.specs.Slots.{arrivals}
 use Rattle.cluster_periods.proofs.Arriving.{from_each}
 use Rattle.live_law.specs.Periods.{IsBetween}
 use Rattle.live_law.specs.Run.{system_given, IsDelivered}
-use Rattle.live_law.proofs.Controllers.{Controllers, said, in_slot, Continues, BeginsAnew, Hears, AreLinked, IsOfRun}
+use Rattle.live_law.proofs.Controllers.{Controllers, said, Hears, AreLinked, IsOfRun}
 use Rattle.live_law.proofs.Lives.{between_restarted}
 use Rattle.live_law.proofs.OfRun.{through_run, says_sent, between_runs}
 

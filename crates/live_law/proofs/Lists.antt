@@ -1,5 +1,5 @@
 -- Lists by ranges, and what is told last of each place of a table.
-use Rattle.std.proofs.Common.{ℕ, zero, suc, ◌≡◌, ◌≢◌, ◌<◌, ◌≤◌, ◌+◌, ◌==◌, Bool, true, false, if◌then◌else◌, List, [], ◌∷◌, ◌++◌, map, replicate, set, refl, sym, ap, ap₂, ◌∙◌, arith, eq-eqb, ne_eqb, Option, None, Some, ℤ}
+use Rattle.std.proofs.Common.{ℕ, zero, suc, ◌≡◌, ◌≤◌, ◌+◌, ◌==◌, if◌then◌else◌, List, [], ◌∷◌, ◌++◌, map, replicate, set, refl, sym, ap, ap₂, ◌∙◌, arith, eq-eqb, ne_eqb, Option, None, Some, ℤ}
 use Rattle.std.specs.List.{range_with_len, flat_map, fold}
 use Rattle.std.specs.Option.{option_or}
 use Rattle.std.proofs.lemmas.Bool.{cond-true, cond-false}

@@ -1,14 +1,12 @@
 -- A live node that is told what a run gives it answers as the run's record shows.
-use Rattle.std.proofs.Common.{ℕ, zero, suc, ◌≡◌, ◌<◌, ◌≤◌, ◌+◌, ◌*◌, ◌==◌, ◌&&◌, Bool, true, false, not, if◌then◌else◌, List, [], ◌∷◌, ◌++◌, map, get_or, filter, refl, sym, ap, ap₂, subst, ◌∙◌, arith, eq-eqb, eqb-true, lt-ltb, inl, inr, Option, None, Some, ℤ, pos}
-use Rattle.std.specs.Prelude.{nat_lt, is_some, unwrap_or, slice_get, slice_index_or}
+use Rattle.std.proofs.Common.{ℕ, zero, suc, ◌≡◌, ◌<◌, ◌+◌, ◌*◌, ◌==◌, ◌&&◌, Bool, true, not, if◌then◌else◌, List, [], ◌∷◌, ◌++◌, map, filter, refl, sym, ap, ap₂, subst, ◌∙◌, arith, eqb-true, lt-ltb, inl, inr, Option, None, Some, ℤ, pos}
+use Rattle.std.specs.Prelude.{nat_lt, is_some, unwrap_or, slice_index_or}
 use Rattle.std.specs.List.{flat_map, range_with_len, filter_map, cons_option}
 use Rattle.std.proofs.lemmas.Bool.{cases_Bool, cond-true, cond-false, or_cases, or_left, or_right}
 use Rattle.std.proofs.lemmas.Bool.Decides.{nat_tests}
 use Rattle.std.proofs.lemmas.List.FromFn.{get_or-map-range_with_len}
 use Rattle.std.proofs.Math.ListN.{get_or-map}
-use Rattle.node_grid.specs.Capacity.{IsCapacity}
-use Rattle.node_grid.specs.NodeSet.{ids_below, ids_where, has_id}
-use Rattle.node_grid.specs.NodeSetLaws.{passes_where}
+use Rattle.node_grid.specs.NodeSet.{ids_below, has_id}
 use Rattle.slot_plan.specs.Slots.{slot_count}
 use Rattle.error_detect.specs.Multiset.{Arriving}
 use Rattle.fault_classes.specs.Plan.{restarts_at}
@@ -33,7 +31,7 @@ use Rattle.node_steps.specs.Parts.{NodeView}
 use Rattle.node_steps.specs.Sending.{GoesThrough, PeriodLaw}
 use Rattle.node_steps.specs.Stages.{outcome_of}
 use Rattle.scenario.specs.Scenario.{ScenarioView, IsScenario}
-use Rattle.cluster_periods.specs.Record.{PeriodView, ClockShown, frame_at, period_record, by_node}
+use Rattle.cluster_periods.specs.Record.{frame_at, period_record}
 use Rattle.cluster_periods.specs.RecordLaws.{recorded}
 use Rattle.run_text.specs.PeriodText.{alone_text}
 use Rattle.live_node.specs.Live.{LiveView}
@@ -41,8 +39,8 @@ use Rattle.live_node.specs.Live.Step.{Goes}
 use Rattle.live_node.specs.Text.{say_text, correct_text}
 use Rattle.live_law.specs.Received.{received}
 use Rattle.live_law.specs.Periods.{IsBetween, Next, begins_next, view_next, frame_next}
-use Rattle.live_law.specs.Run.{system_given, IsDelivered, sent_text, recorded_alone, corrected_text, record_text, run_record, BeginsAsRun, ToldClocks, AnswersAsRun, LiveRunLaw}
-use Rattle.live_law.specs.Events.{PeriodEvents, arrivals_in, restarts_in, aheads_told, last_told, ahead_of}
+use Rattle.live_law.specs.Run.{system_given, IsDelivered, recorded_alone, corrected_text, record_text, run_record, BeginsAsRun, ToldClocks, AnswersAsRun, LiveRunLaw}
+use Rattle.live_law.specs.Events.{PeriodEvents, arrivals_in, restarts_in, last_told, ahead_of}
 use Rattle.live_law.specs.Living.{Rest, Rests, IsAllowed, next_told, view_told, frame_told, inputs_told, ahead_told, correction_told, period_text}
 use Rattle.live_law.proofs.Lives.{goes_next, between_restarted}
 use Rattle.live_law.proofs.LiveLife.{Takes, takes_period}
@@ -172,7 +170,7 @@ module _ {N : ℕ} (sc : ScenarioView N) (inputs : ℕ → ℕ → Inputs) (is :
   in_use : (j : ℕ) → has_id sync j ≡ true → j < config.nodes
   in_use j on =
       let l = within (λ j. not (j == i) && is_good (((run sys).received i p).sync j)) j 0 config.nodes
-          (ap (λ (xs : List ℕ). has_id xs j) (sym (synced_from sys.setting i p (inputs i p) (begins (run sys) i p) ((run sys).received i p) (begins (run sys) i p).state)) ∙ on)
+      (ap (λ (xs : List ℕ). has_id xs j) (sym (synced_from sys.setting i p (inputs i p) (begins (run sys) i p) ((run sys).received i p) (begins (run sys) i p).state)) ∙ on)
       in omega (arith, l)
 
   abbrev ahead : List (Option ℤ)

@@ -29,7 +29,7 @@ module _ (law : PeriodLaw) where
   lives {N} v r (q ∷ qs) text is at may =
       let w : LiveView N = after_all v r q in
       let rest : LivesFrom (text ++ period_text v.scenario v.id r q) (after_period v.scenario v.id r q) w qs =
-          lives w (after_period v.scenario v.id r q) qs (text ++ period_text v.scenario v.id r q) is (rests_after v r q is law at) may.1 in
+      lives w (after_period v.scenario v.id r q) qs (text ++ period_text v.scenario v.id r q) is (rests_after v r q is law at) may.1 in
       record {
         to = rest.to;
         takes = fold-append step_on (Goes v text) (events_of v.scenario.config.m q) (flat_map (events_of v.scenario.config.m) qs)

@@ -1,8 +1,6 @@
 -- Linked live controllers are linked nodes, and so the run.
-use Rattle.std.proofs.Common.{ℕ, zero, suc, ◌≡◌, ◌≢◌, ◌<◌, ◌≤◌, ◌+◌, ◌*◌, ◌⊎◌, Bool, List, refl, sym, ap, ap₂, subst, ◌∙◌, inl, inr, arith}
-use Rattle.node_grid.specs.NodeSet.{ids_below}
+use Rattle.std.proofs.Common.{ℕ, zero, suc, ◌≡◌, ◌<◌, ◌+◌, ◌*◌, ◌⊎◌, Bool, sym, ap, ap₂, subst, ◌∙◌, inl, inr, arith}
 use Rattle.slot_plan.specs.Slots.{slot_count}
-use Rattle.error_detect.specs.Multiset.{Arriving, from_sender}
 use Rattle.fault_classes.specs.Line.{effect_at}
 use Rattle.fault_classes.specs.Plan.{restarts_at}
 use Rattle.fault_link.specs.Arrival.{delivered_of}
@@ -10,26 +8,23 @@ use Rattle.agreed_state.specs.declared.config.Config.{Config}
 use Rattle.agreed_state.specs.declared.config.Inputs.{Inputs}
 use Rattle.protocol.specs.Cluster.{begins}
 use Rattle.protocol.specs.Configured.{setting_of}
-use Rattle.protocol.specs.Run.{System, run, sent}
+use Rattle.protocol.specs.Run.{System, run}
 use Rattle.protocol.specs.View.{Kept, first_kept, opened}
 use Rattle.safety.specs.Talk.{DeliveryLaw, SayingLaw}
-use Rattle.node_steps.specs.Parts.{NodeView}
 use Rattle.node_steps.specs.Steps.{frame_of}
-use Rattle.node_steps.specs.Living.{restarted_if}
-use Rattle.node_steps.specs.Period.{slots_run}
 use Rattle.node_steps.specs.Sending.{PeriodLaw}
 use Rattle.scenario.specs.Scenario.{ScenarioView, IsScenario}
 use Rattle.cluster_periods.specs.Record.{frame_at}
 use Rattle.live_node.specs.Live.{LiveView, Step}
 use Rattle.live_node.specs.Live.Step.{Goes}
 use Rattle.live_node.specs.Text.{say_text}
-use Rattle.live_law.specs.Periods.{IsBetween, Next, begun_next, after_next, frame_next}
-use Rattle.live_law.specs.Run.{system_given, run_record, sent_text, AnswersAsRun, BeginsAsRun, ToldClocks}
+use Rattle.live_law.specs.Periods.{Next, after_next, frame_next}
+use Rattle.live_law.specs.Run.{system_given, run_record, AnswersAsRun}
 use Rattle.live_law.proofs.Controllers.{Controllers, IsOfRun, said, AreLinked as AreLinkedNodes, Hears as NodesHear}
 use Rattle.live_law.proofs.Controllers as nodes
-use Rattle.live_law.specs.Events.{PeriodEvents, arrivals_in, restarts_in, all_steps, events_of, part_of}
+use Rattle.live_law.specs.Events.{arrivals_in, restarts_in}
 use Rattle.live_law.specs.Living.{Rest, rest_of, Rests, IsAllowed, SaysSlots, next_told, inputs_told, frame_told, after_period}
-use Rattle.live_law.specs.Cluster.{LiveControllers, AreLinked, TakesPart, Carries, BeginsAnew, AnswersSlots, IsLiveRun, LiveClusterLaw, reached, after_events, said_live}
+use Rattle.live_law.specs.Cluster.{LiveControllers, AreLinked, TakesPart, AnswersSlots, IsLiveRun, LiveClusterLaw, reached, after_events, said_live}
 use Rattle.live_law.proofs.Lives.{goes_next, between_restarted}
 use Rattle.live_law.proofs.Linked.{link_law}
 use Rattle.live_law.proofs.OfRun.{next_of}
@@ -159,7 +154,7 @@ module _ {N : ℕ} (sc : ScenarioView N) (inputs : ℕ → ℕ → Inputs) (c : 
       whole = λ all clocks.
           let h = runs i p low some in
           let a : AnswersAsRun sc inputs i p (r i p) (c.live i p) (c.told i p) =
-              live_run_law law delivery saying N sc inputs i p (r i p) (c.live i p) (c.told i p) is low (at i p low some) (all_may i p low some all) h.as_run goes_in (of_run.delivered all) clocks in
+          live_run_law law delivery saying N sc inputs i p (r i p) (c.live i p) (c.told i p) is low (at i p low some) (all_may i p low some all) h.as_run goes_in (of_run.delivered all) clocks in
           record { to = a.to; takes = a.takes; rests = a.rests };
     }
 

@@ -4,7 +4,7 @@ use Rattle.node_grid.specs.Capacity.{IsCapacity}
 use Rattle.agreed_state.specs.declared.config.Config.{Config}
 use Rattle.agreed_state.specs.Config.{IsConfig}
 use Rattle.protocol.specs.View.{Kept, nothing, opened}
-use Rattle.protocol.specs.ViewLaws.{IsValid, opened_valid, kept_valid}
+use Rattle.protocol.specs.ViewLaws.{opened_valid, kept_valid}
 use Rattle.protocol.specs.Configured.{setting_of}
 use Rattle.node_steps.specs.Parts.{NodeView}
 use Rattle.node_steps.specs.Living.{restarted_if}

@@ -1,5 +1,5 @@
 -- A node that is delivered what a run delivers goes through its period as the run says.
-use Rattle.std.proofs.Common.{ℕ, suc, ◌≡◌, ◌≢◌, ◌<◌, ◌+◌, ◌*◌, List, [], length, refl, sym, ap, ap₂, ◌∙◌, arith, Some}
+use Rattle.std.proofs.Common.{ℕ, suc, ◌≡◌, ◌≢◌, ◌<◌, ◌+◌, ◌*◌, List, [], length, sym, ap, ap₂, ◌∙◌, arith, Some}
 use Rattle.node_grid.specs.Capacity.{IsCapacity}
 use Rattle.frames.specs.Spelling.{spelling}
 use Rattle.error_detect.specs.Finding.{Delivery}
@@ -20,7 +20,7 @@ use Rattle.safety.specs.Talk.{DeliveryLaw, SayingLaw}
 use Rattle.node_steps.specs.Parts.{NodeView}
 use Rattle.node_steps.specs.Steps.{begun, frame_of}
 use Rattle.node_steps.specs.Stages.{due_of}
-use Rattle.node_steps.specs.Period.{slots_run, goes, Told, IsOver}
+use Rattle.node_steps.specs.Period.{slots_run, goes, Told}
 use Rattle.node_steps.specs.Sending.{GoesThrough, PeriodLaw}
 use Rattle.scenario.specs.Scenario.{ScenarioView}
 use Rattle.live_law.specs.Periods.{IsBetween, Next}

@@ -1,5 +1,5 @@
 -- Events that a live node takes are those of periods.
-use Rattle.std.proofs.Common.{ℕ, zero, suc, ◌≡◌, ◌≢◌, ◌<◌, ◌≤◌, ◌+◌, ◌*◌, ◌^◌, ◌==◌, ◌&&◌, ◌||◌, ◌⊎◌, Bool, true, false, not, List, [], ◌∷◌, ◌++◌, length, refl, sym, ap, ap₂, subst, ◌∙◌, inl, inr, arith, eqb-true, Option, None, Some}
+use Rattle.std.proofs.Common.{ℕ, zero, suc, ◌≡◌, ◌≢◌, ◌<◌, ◌≤◌, ◌+◌, ◌*◌, ◌^◌, ◌==◌, ◌&&◌, ◌||◌, ◌⊎◌, Bool, true, false, not, List, [], ◌∷◌, ◌++◌, length, refl, sym, ap, subst, ◌∙◌, inl, inr, arith, eqb-true, Option, None, Some}
 use Rattle.std.specs.Prelude.{All, nat_lt, is_some}
 use Rattle.std.specs.List.{fold, flat_map, range_with_len}
 use Rattle.std.proofs.lemmas.Bool.{cases_Bool, cases_lt, cond-true, cond-false, and_parts, or_cases, not-true, eqb-false}
@@ -8,20 +8,19 @@ use Rattle.std.proofs.lemmas.List.{append_assoc, append-nil}
 use Rattle.std.proofs.lemmas.List.Elements.{All-nil, All-cons}
 use Rattle.std.proofs.lemmas.List.Sums.{fold-append}
 use Rattle.slot_plan.specs.Slots.{slot_count}
-use Rattle.node_steps.specs.Parts.{NodeView}
 use Rattle.node_steps.specs.Living.{restarted_if}
 use Rattle.node_steps.specs.Sending.{PeriodLaw}
 use Rattle.scenario.specs.Scenario.{ScenarioView, IsScenario}
 use Rattle.live_node.specs.Event.{Event}
 use Rattle.live_node.specs.Event.Event.{Begin, Deliver, End, Restart, Reading, Ahead}
-use Rattle.live_node.specs.Live.{LiveView, Step, is_of_cluster, allowed, may_begin, is_other, told, answer, event_step, unknown_rule, not_now_rule}
+use Rattle.live_node.specs.Live.{LiveView, Step, is_of_cluster, allowed, may_begin, is_other, told, answer, unknown_rule, not_now_rule}
 use Rattle.live_node.specs.Live.Step.{Goes, Refuses}
 use Rattle.live_law.specs.Events.{behind, step_on, all_steps, PeriodEvents, part_of, events_of, restarts_in}
-use Rattle.live_law.specs.Living.{Rest, Rests, ComesBefore, ComesWithin, MayBegin, IsAllowed, AreAllowed, AnswersLife, IsLife, LiveEventsLaw, after_period, life_text, after_life}
+use Rattle.live_law.specs.Living.{Rest, Rests, ComesBefore, ComesWithin, MayBegin, IsAllowed, AreAllowed, AnswersLife, LiveEventsLaw, after_period, life_text, after_life}
 use Rattle.live_law.proofs.Lists.{flat_push}
 use Rattle.live_law.proofs.Lives.{between_restarted}
 use Rattle.live_law.proofs.LiveLife.{live_life}
-use Rattle.live_law.proofs.Spans.{live_at, after_all, lines, in_slot, shown, through, to_begin, one_slot, last_slot, rests_after}
+use Rattle.live_law.proofs.Spans.{live_at, after_all, lines, in_slot, through, to_begin, one_slot, last_slot, rests_after}
 use Rattle.live_law.proofs.Steps.{goes, rested, rests}
 
 is_less : (a b : ℕ) → nat_lt a b ≡ true → a < b
@@ -244,7 +243,7 @@ module _ (law : PeriodLaw) {N : ℕ} (w : LiveView N) (t : List ℕ) (shut : w.n
         | inl here ↦ inl (eqb-true n v.next here ∙ at.next)
         | inr later ↦
             let k = and_parts (restarts_in before || v.forgot) (nat_lt v.next n) later in
-            inr (elim (or_cases (restarts_in before) v.forgot k.0) [ | inl y ↦ y | inr f ↦ absurd (both v.forgot f at.forgot) ], let l = is_less v.next n k.1 in let e = at.next in omega (arith, l, e))
+            inr (elim (or_cases (restarts_in before) v.forgot k.0) [ inl y ↦ y | inr f ↦ absurd (both v.forgot f at.forgot) ], let l = is_less v.next n k.1 in let e = at.next in omega (arith, l, e))
       ]
 
       number : MayBegin v.scenario v.id r q o
@@ -366,17 +365,17 @@ same_text v w s t h = ap answered h
 pub events_law : PeriodLaw → LiveEventsLaw
 events_law law N sc id r v w es text is at takes shut =
     let p : ArePeriodsOf sc id r es =
-        subst (λ (s : ScenarioView N). IsScenario s → Rests s id r v → ArePeriodsOf s id r es) at.is_of
-        (subst (λ (i : ℕ). IsScenario v.scenario → Rests v.scenario i r v → ArePeriodsOf v.scenario i r es) at.is_node
-        (λ is at. parsed law w text shut (length es) v r [] es (omega arith) is at takes)) is at
+    subst (λ (s : ScenarioView N). IsScenario s → Rests s id r v → ArePeriodsOf s id r es) at.is_of
+    (subst (λ (i : ℕ). IsScenario v.scenario → Rests v.scenario i r v → ArePeriodsOf v.scenario i r es) at.is_node
+    (λ is at. parsed law w text shut (length es) v r [] es (omega arith) is at takes)) is at
     in
     let l : AnswersLife sc id r v p.periods = live_life law N sc id r v p.periods is at p.allowed in
     let u : LiveView N = rested l.to p.left in
     let same : Goes u (life_text sc id r p.periods) ≡ Goes w text =
-        sym (ap (all_steps v) p.are ∙ fold-append step_on (Goes v []) (flat_map (events_of sc.config.m) p.periods) p.left
-        ∙ ap (λ (s : Step N). fold step_on s p.left) l.takes
-        ∙ rests l.to (life_text sc id r p.periods) p.left l.rests.between.shut
-        (subst (λ (s : ScenarioView N). All (ComesBefore s l.to.id) p.left) (sym l.rests.is_of) (subst (λ (i : ℕ). All (ComesBefore sc i) p.left) (sym l.rests.is_node) p.before))) ∙ takes
+    sym (ap (all_steps v) p.are ∙ fold-append step_on (Goes v []) (flat_map (events_of sc.config.m) p.periods) p.left
+    ∙ ap (λ (s : Step N). fold step_on s p.left) l.takes
+    ∙ rests l.to (life_text sc id r p.periods) p.left l.rests.between.shut
+    (subst (λ (s : ScenarioView N). All (ComesBefore s l.to.id) p.left) (sym l.rests.is_of) (subst (λ (i : ℕ). All (ComesBefore sc i) p.left) (sym l.rests.is_node) p.before))) ∙ takes
     in
     let here : u ≡ w = same_node u w (life_text sc id r p.periods) text same in
     record {

@@ -1,40 +1,36 @@
 -- A period of a live node, event by event.
-use Rattle.std.proofs.Common.{ℕ, zero, suc, ◌≡◌, ◌<◌, ◌≤◌, ◌+◌, ◌*◌, ◌^◌, ◌==◌, ◌&&◌, ◌||◌, ◌⊎◌, Bool, true, false, not, if◌then◌else◌, List, [], ◌∷◌, ◌++◌, map, replicate, length, refl, sym, ap, ap₂, subst, ◌∙◌, inl, inr, arith, eq-eqb, Option, None, Some, ℤ, pos}
+use Rattle.std.proofs.Common.{ℕ, zero, suc, ◌≡◌, ◌<◌, ◌+◌, ◌*◌, ◌^◌, ◌==◌, ◌&&◌, ◌||◌, Bool, true, false, not, if◌then◌else◌, List, [], ◌∷◌, ◌++◌, map, replicate, refl, sym, ap, ap₂, subst, ◌∙◌, inl, inr, arith, eq-eqb, Option, None, Some, ℤ, pos}
 use Rattle.std.specs.Prelude.{All, nat_lt, is_some, unwrap_or, slice_index_or}
 use Rattle.std.specs.List.{fold, filter, flat_map, range_with_len}
 use Rattle.std.proofs.lemmas.Bool.{cond-true, cond-false, or_left, or_right}
 use Rattle.std.proofs.lemmas.Bool.Decides.{nat_tests}
 use Rattle.std.proofs.lemmas.List.{append_assoc, append-nil}
 use Rattle.std.proofs.lemmas.List.Sums.{fold-append}
-use Rattle.node_grid.specs.NodeSet.{ids_below}
-use Rattle.slot_plan.specs.Slots.{slot_count}
 use Rattle.error_detect.specs.Multiset.{Arriving, all_delivered}
 use Rattle.agreed_state.specs.declared.config.Config.{Config}
 use Rattle.agreed_state.specs.declared.config.Inputs.{Inputs}
 use Rattle.protocol.specs.Clocks.{corrects}
-use Rattle.protocol.specs.Run.{members_in}
-use Rattle.protocol.specs.View.{Kept, channel_room}
-use Rattle.protocol.specs.Configured.{setting_of}
+use Rattle.protocol.specs.View.{channel_room}
 use Rattle.node_steps.specs.Outcome.{Outcome}
 use Rattle.node_steps.specs.Parts.{NodeView}
-use Rattle.node_steps.specs.Steps.{begun, after_slot, frame_of}
+use Rattle.node_steps.specs.Steps.{begun, after_slot}
 use Rattle.node_steps.specs.FixedLaws.{slots_period}
 use Rattle.node_steps.specs.Living.{restarted_if}
 use Rattle.node_steps.specs.Period.{slots_run}
-use Rattle.node_steps.specs.Sending.{Fixed, fixed, fixed_of, GoesThrough, PeriodLaw}
+use Rattle.node_steps.specs.Sending.{Fixed, GoesThrough, PeriodLaw}
 use Rattle.node_steps.specs.Stages.{outcome_of}
 use Rattle.node_steps.proofs.Turns.{IsAt, turned}
-use Rattle.scenario.specs.Scenario.{ScenarioView, IsScenario, inputs_of}
+use Rattle.scenario.specs.Scenario.{IsScenario, inputs_of}
 use Rattle.run_text.specs.PeriodText.{alone_text}
 use Rattle.live_node.specs.Event.{Event}
 use Rattle.live_node.specs.Event.Event.{Begin, End}
-use Rattle.live_node.specs.Live.{LiveView, Step, told, answer, allowed, may_begin, slot_answer, run_text, inputs_given, replaced, period_begun}
+use Rattle.live_node.specs.Live.{LiveView, Step, told, may_begin, slot_answer, replaced}
 use Rattle.live_node.specs.Live.Step.{Goes}
 use Rattle.live_node.specs.Text.{say_text, correct_text}
 use Rattle.live_law.specs.Received.{received}
-use Rattle.live_law.specs.Periods.{IsBetween, Next, begins_next, begun_next, after_next}
-use Rattle.live_law.specs.Events.{step_on, PeriodEvents, part_of, events_of, restarts_in, arrivals_in, readings_told}
-use Rattle.live_law.specs.Living.{Rest, Rests, IsAllowed, SaysSlots, MayBegin, ComesBefore, ComesWithin, number_told, next_told, inputs_told, frame_told, ahead_told, view_told, period_text, after_period}
+use Rattle.live_law.specs.Periods.{Next, begins_next, begun_next}
+use Rattle.live_law.specs.Events.{step_on, PeriodEvents, part_of, events_of, restarts_in}
+use Rattle.live_law.specs.Living.{Rest, Rests, IsAllowed, SaysSlots, MayBegin, ComesBefore, ComesWithin, number_told, next_told, frame_told, ahead_told, view_told, period_text, after_period}
 use Rattle.live_law.proofs.Lists.{flat_push}
 use Rattle.live_law.proofs.Lives.{goes_next, between_after}
 use Rattle.live_law.proofs.Steps.{goes, rested, rests, readings_are, heard, hears, put_ahead, put_reading, aheads_are}

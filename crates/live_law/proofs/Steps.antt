@@ -1,6 +1,6 @@
 -- What events make of a live node between periods and in a slot.
-use Rattle.std.proofs.Common.{ℕ, ◌≡◌, ◌≢◌, ◌<◌, ◌+◌, ◌==◌, ◌&&◌, ◌||◌, Bool, true, false, not, if◌then◌else◌, List, [], ◌∷◌, ◌++◌, map, length, set, replicate, refl, sym, ap, ap₂, ◌∙◌, arith, ne_eqb, Option, None, Some, ℤ}
-use Rattle.std.specs.Prelude.{All, nat_lt, is_some}
+use Rattle.std.proofs.Common.{ℕ, ◌≡◌, ◌≢◌, ◌<◌, ◌+◌, ◌==◌, ◌&&◌, ◌||◌, Bool, true, false, not, if◌then◌else◌, List, [], ◌∷◌, ◌++◌, map, length, set, replicate, refl, ap, ap₂, ◌∙◌, arith, ne_eqb, Option, None, Some, ℤ}
+use Rattle.std.specs.Prelude.{All, nat_lt}
 use Rattle.std.specs.List.{fold}
 use Rattle.std.specs.Option.{option_or}
 use Rattle.std.proofs.lemmas.Bool.{cond-true}
@@ -10,7 +10,6 @@ use Rattle.std.proofs.lemmas.List.Elements.{All-head, All-tail}
 use Rattle.node_grid.specs.NodeSet.{ids_below}
 use Rattle.error_detect.specs.Multiset.{all_delivered}
 use Rattle.protocol.specs.View.{channel_room}
-use Rattle.node_steps.specs.Parts.{NodeView}
 use Rattle.node_steps.specs.Living.{restarted_if}
 use Rattle.live_node.specs.Event.{Event}
 use Rattle.live_node.specs.Event.Event.{Begin, Deliver, End, Restart, Reading, Ahead}

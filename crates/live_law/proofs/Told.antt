@@ -1,7 +1,6 @@
 -- What is delivered to a node in the slots of a period is what the protocol says that it has of the frames.
-use Rattle.std.proofs.Common.{ℕ, suc, ◌≡◌, ◌≤◌, ◌+◌, List, length, refl, sym, ap, ap₂, ◌∙◌, arith, Option, None, Some}
+use Rattle.std.proofs.Common.{ℕ, suc, ◌≡◌, ◌+◌, List, length, refl, sym, ap, ap₂, ◌∙◌, arith, Option, None, Some}
 use Rattle.node_grid.specs.Capacity.{IsCapacity}
-use Rattle.node_grid.specs.NodeSet.{IsIdSet}
 use Rattle.frames.specs.Bound.{IsGreatest}
 use Rattle.error_detect.specs.Watching.{of_sender}
 use Rattle.error_detect.specs.Multiset.{Arriving, from_sender}
@@ -19,7 +18,7 @@ use Rattle.protocol.specs.Configured.{setting_of}
 use Rattle.node_steps.specs.Stages.{due_of}
 use Rattle.node_steps.specs.Period.{expect_at, goes, Told}
 use Rattle.node_steps.specs.Sending.{IsServed}
-use Rattle.live_law.specs.Received.{had_to_sync, members, had_to_done, received, view_by, nothing_had}
+use Rattle.live_law.specs.Received.{had_to_sync, members, had_to_done, received, view_by}
 
 module _ {N : ℕ} (config : Config N) (i p : ℕ) (g : Inputs) (k : Kept) where
   -- ---- what is given of a period

@@ -19,7 +19,7 @@ use Rattle.live_node.specs.Live.{LiveView, IsNewLive, Step}
 use Rattle.live_node.specs.Live.Step.{Goes, Refuses}
 use Rattle.live_law.specs.Run.{system_given, run_record, sent_text, record_text, BeginsAsRun, ToldClocks}
 use Rattle.live_law.specs.Events.{PeriodEvents, part_of, events_of, all_steps, arrivals_in}
-use Rattle.live_law.specs.Living.{Rest, rest_of, Rests, IsAllowed}
+use Rattle.live_law.specs.Living.{rest_of, Rests, IsAllowed}
 
 -- a live node behind a step, which is the one before where the step is refused
 abbrev pub reached : {N : ℕ} → LiveView N → Step N → LiveView N
@@ -44,7 +44,8 @@ module _ {N : ℕ} (sc : ScenarioView N) (inputs : ℕ → ℕ → Inputs) (c : 
   -- a controller begins its first period as a new one, and a later one as it came out of the whole of the period before
   abbrev pub Continues : ℕ → ℕ → Type 0
   Continues i zero = IsNewLive sc i (c.live i 0)
-  Continues i (suc p) = (c.ran i p ≡ slot_count sc.config.m) × (c.live i (suc p) ≡ after_events sc.config.m (c.live i p) (c.told i p))
+  Continues i (suc p) =
+      (c.ran i p ≡ slot_count sc.config.m) × (c.live i (suc p) ≡ after_events sc.config.m (c.live i p) (c.told i p))
 
   -- or it is any that rests, a new one too, and the plan says that the node restarts
   pub record BeginsAnew (i p : ℕ) : Type 0 where
@@ -61,13 +62,16 @@ module _ {N : ℕ} (sc : ScenarioView N) (inputs : ℕ → ℕ → Inputs) (c : 
   -- what the controller of node i is delivered of node j's frame in a slot: what the plan makes of what that node's controller says
   -- there; and nothing where that one doesn't run, of which the plan tells by a line that loses the frame, whatever it is
   pub record Carries (i j p t : ℕ) : Type 0 where
-    pub spoken : t < c.ran j p → from_sender j (arrivals_in ((c.told i p).slots t)) ≡ delivered_of (effect_at sc.plan.lines p t j i) (said_live (c.live j p) (c.told j p) t)
-    pub silent : c.ran j p ≤ t → (from_sender j (arrivals_in ((c.told i p).slots t)) ≡ []) × ((frame : List ℕ) → delivered_of (effect_at sc.plan.lines p t j i) frame ≡ [])
+    pub spoken : t < c.ran j p
+        → from_sender j (arrivals_in ((c.told i p).slots t)) ≡ delivered_of (effect_at sc.plan.lines p t j i) (said_live (c.live j p) (c.told j p) t)
+    pub silent : c.ran j p ≤ t
+        → (from_sender j (arrivals_in ((c.told i p).slots t)) ≡ []) × ((frame : List ℕ) → delivered_of (effect_at sc.plan.lines p t j i) frame ≡ [])
 
   -- controllers that are linked by a network in which befalls the frames what the plan says
   pub record AreLinked : Type 0 where
     pub runs : (i p : ℕ) → i < sc.config.nodes → 0 < c.ran i p → TakesPart i p
-    pub hear : (i j p t : ℕ) → i < sc.config.nodes → j < sc.config.nodes → j ≢ i → t < slot_count sc.config.m → t < c.ran i p → Carries i j p t
+    pub hear : (i j p t : ℕ) → i < sc.config.nodes → j < sc.config.nodes → j ≢ i → t < slot_count sc.config.m → t < c.ran i p
+        → Carries i j p t
 
   -- what a controller answers in so many slots and in a whole period is what the record of the run's period shows of its node
   pub record AnswersSlots (i p slots : ℕ) : Type 0 where
@@ -96,7 +100,9 @@ pub record IsPromised {N : ℕ} (sc : ScenarioView N) (c : LiveControllers N) (p
 
 -- Law: so it is in each period that the run claims
 abbrev pub LivePromiseLaw : Type 0
-LivePromiseLaw = (N : ℕ) (sc : ScenarioView N) (c : LiveControllers N) (p : ℕ) → IsScenario sc → AreLinked sc (inputs_of sc) c → IsClaimed sc p → IsPromised sc c p
+LivePromiseLaw =
+    (N : ℕ) (sc : ScenarioView N) (c : LiveControllers N) (p : ℕ)
+    → IsScenario sc → AreLinked sc (inputs_of sc) c → IsClaimed sc p → IsPromised sc c p
 
 -- nodes that are given what the rules of a scenario allow: run times and readings in range, and readings of one sensor in one period
 -- within its delta of each other
@@ -113,5 +119,5 @@ pub record IsSafeGiven {N : ℕ} (sc : ScenarioView N) (inputs : ℕ → ℕ →
 -- Law: so it is in each period that the run claims, where nodes are told readings
 abbrev pub LiveGivenLaw : Type 0
 LiveGivenLaw =
-    (N : ℕ) (sc : ScenarioView N) (inputs : ℕ → ℕ → Inputs) (c : LiveControllers N) (p : ℕ) → IsScenario sc → AreGiven sc inputs → AreLinked sc inputs c
-    → (run_record sc inputs p).claim ≡ true → IsSafeGiven sc inputs c p
+    (N : ℕ) (sc : ScenarioView N) (inputs : ℕ → ℕ → Inputs) (c : LiveControllers N) (p : ℕ)
+    → IsScenario sc → AreGiven sc inputs → AreLinked sc inputs c → (run_record sc inputs p).claim ≡ true → IsSafeGiven sc inputs c p

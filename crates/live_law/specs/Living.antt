@@ -1,5 +1,5 @@
 -- What a live node is and answers, by the protocol, from what it is told.
-use Rattle.std.specs.Prelude.{◌≡◌, ◌≢◌, ◌<◌, ◌⊎◌, ℕ, suc, ◌+◌, ◌^◌, ℤ, pos, Bool, true, false, All, List, [], ◌∷◌, ◌++◌, map, length, replicate, Option, None, Some, is_some, unwrap_or, if◌then◌else◌, slice_index_or}
+use Rattle.std.specs.Prelude.{◌≡◌, ◌≢◌, ◌<◌, ◌⊎◌, ℕ, suc, ◌+◌, ◌^◌, ℤ, pos, true, false, All, List, [], ◌∷◌, ◌++◌, map, length, replicate, Option, None, Some, is_some, unwrap_or, if◌then◌else◌, slice_index_or}
 use Rattle.std.specs.List.{filter, flat_map}
 use Rattle.node_grid.specs.NodeSet.{ids_below}
 use Rattle.slot_plan.specs.Slots.{slot_count}
@@ -13,7 +13,7 @@ use Rattle.node_steps.specs.Steps.{frame_of}
 use Rattle.scenario.specs.Scenario.{ScenarioView, IsScenario, inputs_of}
 use Rattle.run_text.specs.PeriodText.{alone_text}
 use Rattle.live_node.specs.Event.{Event}
-use Rattle.live_node.specs.Event.Event.{Begin, Deliver, End, Restart, Reading, Ahead}
+use Rattle.live_node.specs.Event.Event.{Deliver, Restart, Reading, Ahead}
 use Rattle.live_node.specs.Live.{LiveView, IsNewLive, replaced}
 use Rattle.live_node.specs.Live.Step.{Goes}
 use Rattle.live_node.specs.Text.{say_text, correct_text}
@@ -43,7 +43,12 @@ module _ {N : ℕ} (sc : ScenarioView N) (id : ℕ) where
     number_told = unwrap_or q.number r.next
 
     abbrev pub next_told : Next
-    next_told = record { period = number_told; restarts = restarts_in q.before; inputs = inputs_told number_told q.before; slots = λ t. arrivals_in (q.slots t) }
+    next_told = record {
+      period = number_told;
+      restarts = restarts_in q.before;
+      inputs = inputs_told number_told q.before;
+      slots = λ t. arrivals_in (q.slots t);
+    }
 
     -- its view of it
     abbrev pub view_told : View
@@ -64,13 +69,18 @@ module _ {N : ℕ} (sc : ScenarioView N) (id : ℕ) where
     -- by how much it corrects its clock: by the clocks of the members whose frame in the sync slot was good, of those that it was told of
     abbrev pub correction_told : ℤ
     correction_told =
-        corrects sc.config.m id (map (λ o. unwrap_or o (pos 0)) ahead_told) (members_in view_told.before) (filter (λ j. is_some (slice_index_or ahead_told j None)) view_told.sync) view_told.mode
+        corrects sc.config.m id (map (λ o. unwrap_or o (pos 0)) ahead_told) (members_in view_told.before)
+        (filter (λ j. is_some (slice_index_or ahead_told j None)) view_told.sync) view_told.mode
 
-    -- all that it answers: a line for each slot, and the lines of the period
+    -- the lines of the period
+    abbrev pub shown_text : List ℕ
+    shown_text =
+        alone_text number_told id sc.config.nodes sc.config.policy.retire (outcome_of view_told)
+        ++ (if is_some sc.clock then correct_text correction_told else [])
+
+    -- all that it answers: a line for each slot, and these
     abbrev pub period_text : List ℕ
-    period_text =
-        said_text (slot_count sc.config.m)
-        ++ (alone_text number_told id sc.config.nodes sc.config.policy.retire (outcome_of view_told) ++ (if is_some sc.clock then correct_text correction_told else []))
+    period_text = said_text (slot_count sc.config.m) ++ shown_text
 
     abbrev pub after_period : Rest
     after_period = record { kept = view_told.kept; next = number_told + 1; run = r.run + 1 }

@@ -1,5 +1,5 @@
 -- A live node that is told what a run gives it: what it answers is what the record of the run's period shows of the node.
-use Rattle.std.specs.Prelude.{◌≡◌, ◌≢◌, ◌<◌, ℕ, suc, ◌+◌, ℤ, pos, true, List, [], ◌++◌, Option, None, Some, slice_get, slice_index_or}
+use Rattle.std.specs.Prelude.{◌≡◌, ◌≢◌, ◌<◌, ℕ, suc, ◌+◌, pos, true, List, [], ◌++◌, Option, None, Some, slice_get, slice_index_or}
 use Rattle.std.specs.List.{flat_map}
 use Rattle.node_grid.specs.NodeSet.{ids_below, has_id}
 use Rattle.slot_plan.specs.Slots.{slot_count}
@@ -49,7 +49,8 @@ system_given sc inputs = record (system_of sc) { inputs = inputs }
 
 -- in each slot of period p node i is delivered what the run delivers to it, the frames of different nodes in any order
 pub record IsDelivered (sys : System) (i p : ℕ) (ds : ℕ → List Arriving) : Type 0 where
-  pub each : (t j : ℕ) → t < slot_count sys.setting.config.m → j < sys.setting.config.nodes → j ≢ i → from_sender j (ds t) ≡ deliveries sys p t j i
+  pub each : (t j : ℕ) → t < slot_count sys.setting.config.m → j < sys.setting.config.nodes → j ≢ i
+      → from_sender j (ds t) ≡ deliveries sys p t j i
 
 module _ {N : ℕ} (sc : ScenarioView N) (inputs : ℕ → ℕ → Inputs) where
   -- the period of the run
@@ -65,7 +66,8 @@ module _ {N : ℕ} (sc : ScenarioView N) (inputs : ℕ → ℕ → Inputs) where
   -- of the clock of each node whose frame in the sync slot was good it's told last how far the run's clock is ahead
   pub record ToldClocks (i p : ℕ) (q : PeriodEvents) : Type 0 where
     pub each : (c : ClockView) → sc.clock ≡ Some c → (j : ℕ) → has_id (view (run (system_given sc inputs)) i p).sync j ≡ true
-        → last_told (ahead_of j) (flat_map q.slots (ids_below (slot_count sc.config.m))) ≡ Some (reading_at c (offsets (run (system_given sc inputs)) c p) p i j)
+        → last_told (ahead_of j) (flat_map q.slots (ids_below (slot_count sc.config.m)))
+        ≡ Some (reading_at c (offsets (run (system_given sc inputs)) c p) p i j)
 
   -- it takes the events, answers with what the run's record shows of node i, and keeps what node i keeps
   pub record AnswersAsRun (i p : ℕ) (r : Rest) (v : LiveView N) (q : PeriodEvents) : Type 0 where
@@ -79,4 +81,5 @@ LiveRunLaw =
     (N : ℕ) (sc : ScenarioView N) (inputs : ℕ → ℕ → Inputs) (i p : ℕ) (r : Rest) (v : LiveView N) (q : PeriodEvents)
     → IsScenario sc → i < sc.config.nodes → Rests sc i r v → IsAllowed sc i (slot_count sc.config.m) r q → BeginsAsRun sc inputs i p r q
     → opened (setting_of sc.config) (restarts_at sc.plan i p) r.kept ≡ begins (run (system_given sc inputs)) i p
-    → IsDelivered (system_given sc inputs) i p (λ t. arrivals_in (q.slots t)) → ToldClocks sc inputs i p q → AnswersAsRun sc inputs i p r v q
+    → IsDelivered (system_given sc inputs) i p (λ t. arrivals_in (q.slots t)) → ToldClocks sc inputs i p q
+    → AnswersAsRun sc inputs i p r v q
