@@ -11,3 +11,4 @@ mod LiveAsRun
 mod LiveLinked
 mod Lines
 mod Parsing
+mod Planned

@@ -68,12 +68,12 @@ unfolding through
 synced_joined s i p g k x None = refl
 synced_joined s i p g k x (Some a) = refl
 
-synced_from : (s : Setting) (i p : ℕ) (g : Inputs) (k : Kept) (x : Received) (o : Option AgreedView) → (view_from s i p g k x o).sync ≡ synced_by s i x
+pub synced_from : (s : Setting) (i p : ℕ) (g : Inputs) (k : Kept) (x : Received) (o : Option AgreedView) → (view_from s i p g k x o).sync ≡ synced_by s i x
 unfolding through
 synced_from s i p g k x (Some a) = refl
 synced_from s i p g k x None = synced_joined s i p g k x (adopted_by s i x.sync)
 
-within : (f : ℕ → Bool) (j a n : ℕ) → has_id (filter f (range_with_len a n)) j ≡ true → j < a + n
+pub within : (f : ℕ → Bool) (j a n : ℕ) → has_id (filter f (range_with_len a n)) j ≡ true → j < a + n
 within f j a zero h = absurd (cc)
 within f j a (suc n) h = elim (cases_Bool (f a)) [
   | inl y ↦ elim (or_cases (a == j) (has_id (filter f (range_with_len (a + 1) n)) j) (ap (λ (xs : List ℕ). has_id xs j) (sym (cond-true (f a) (a ∷ filter f (range_with_len (a + 1) n)) (filter f (range_with_len (a + 1) n)) y)) ∙ h)) [

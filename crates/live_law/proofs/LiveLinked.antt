@@ -32,7 +32,7 @@ use Rattle.live_law.proofs.LiveLife.{Takes, takes_period, say_law, new_law}
 use Rattle.live_law.proofs.LiveAsRun.{live_run_law, flat_below, frame_shown}
 
 -- a live node that rests so rests as it says of itself
-rests_itself : {N : ℕ} (sc : ScenarioView N) (i : ℕ) (r : Rest) (v : LiveView N) → Rests sc i r v → Rests sc i (rest_of v) v
+pub rests_itself : {N : ℕ} (sc : ScenarioView N) (i : ℕ) (r : Rest) (v : LiveView N) → Rests sc i r v → Rests sc i (rest_of v) v
 rests_itself {N} sc i r v at =
     subst (λ (y : Rest). Rests sc i y v) (ap₂ (λ (k : Kept) (n : ℕ). record { kept = k; next = n; run = r.run }) (sym at.between.keeps) (sym at.next) ∙ ap (λ (n : ℕ). record { kept = v.node.kept; next = v.next; run = n }) (sym at.run)) at
 

@@ -1,5 +1,5 @@
 -- Live controllers of all nodes of a cluster, each told what the others say, over a faulty network.
-use Rattle.std.specs.Prelude.{◌≡◌, ◌≢◌, ◌<◌, ◌≤◌, ◌⊎◌, ℕ, zero, suc, ◌+◌, true, List, []}
+use Rattle.std.specs.Prelude.{◌≡◌, ◌≢◌, ◌<◌, ◌≤◌, ◌⊎◌, ℕ, zero, suc, ◌+◌, ◌^◌, true, List, []}
 use Rattle.error_detect.specs.Multiset.{from_sender}
 use Rattle.fault_classes.specs.Line.{effect_at}
 use Rattle.fault_classes.specs.Plan.{restarts_at}
@@ -121,3 +121,17 @@ abbrev pub LiveGivenLaw : Type 0
 LiveGivenLaw =
     (N : ℕ) (sc : ScenarioView N) (inputs : ℕ → ℕ → Inputs) (c : LiveControllers N) (p : ℕ)
     → IsScenario sc → AreGiven sc inputs → AreLinked sc inputs c → (run_record sc inputs p).claim ≡ true → IsSafeGiven sc inputs c p
+
+-- controllers that begin as these new ones, are linked, run each period that has a number, and are told the run's clocks
+pub record RunAsPlanned {N : ℕ} (sc : ScenarioView N) (first : ℕ → LiveView N) : Type 0 where
+  pub controllers : LiveControllers N
+  pub begin : (i : ℕ) → controllers.live i 0 ≡ first i
+  pub linked : AreLinked sc (inputs_of sc) controllers
+  pub whole : (i p : ℕ) → p < 2 ^ 32 → controllers.ran i p ≡ slot_count sc.config.m
+  pub clocks : (i p : ℕ) → i < sc.config.nodes → p < 2 ^ 32 → ToldClocks sc (inputs_of sc) i p (controllers.told i p)
+
+-- Law: there are such controllers for each scenario. So each of its runs is one of live controllers
+abbrev pub LivePlanLaw : Type 0
+LivePlanLaw =
+    (N : ℕ) (sc : ScenarioView N) (first : ℕ → LiveView N)
+    → IsScenario sc → ((i : ℕ) → i < sc.config.nodes → IsNewLive sc i (first i)) → RunAsPlanned sc first

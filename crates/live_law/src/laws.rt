@@ -1,6 +1,6 @@
 //! What a live controller does, over the definitions alone. Each function's promise is its law.
 
-ghost use Rattle.live_law.specs.Cluster.{LiveClusterLaw, LivePromiseLaw, LiveGivenLaw};
+ghost use Rattle.live_law.specs.Cluster.{LiveClusterLaw, LivePlanLaw, LivePromiseLaw, LiveGivenLaw};
 ghost use Rattle.live_law.specs.Events.{LiveLinesLaw};
 ghost use Rattle.live_law.specs.Living.{NewLiveLaw, LiveEventsLaw, LiveSayLaw, LiveLifeLaw};
 ghost use Rattle.live_law.specs.Periods.{AnyPeriodsLaw};
@@ -65,6 +65,16 @@ pub fn runs()
 /// lost from then on, and one that is started anew a node that restarts.
 pub fn cluster()
     ensures { LiveClusterLaw }
+{
+    period();
+    delivery();
+    saying();
+}
+
+/// There are such controllers for each scenario, from any new ones on: those that are told what its run gives and delivers. So
+/// each run of a scenario is one of live controllers.
+pub fn planned()
+    ensures { LivePlanLaw }
 {
     period();
     delivery();
