@@ -200,30 +200,29 @@ module _ {N : ℕ} (sc : ScenarioView N) (inputs : ℕ → ℕ → Inputs) (is :
         ∙ ap (corrects_by o) (filter_all (λ j. is_some (slice_index_or ahead j None)) sync (λ j on. ap (λ (y : Option ℤ). is_some y) (told_each j on)))
         ∙ corrects_same config.m (members_in (view (run sys) i p).before) sync (map (λ y. unwrap_or y (pos 0)) ahead) (readings_at sys.setting c (offsets (run sys) c p) p i) read_each i (view (run sys) i p).mode
 
-  corrected : (clocks : ToldClocks sc inputs i p q) (y : Option ClockView) → sc.clock ≡ y → (if is_some y then correct_text (correction_told sc i r q) else []) ≡ corrected_text i (period_record sys y p).clock
-  corrected clocks None has = refl
-  corrected clocks (Some c) has =
-      let few = is.system.config.few_nodes in
-      let f = λ (j : ℕ). correction_at (run sys) c (offsets (run sys) c p) p j in
-      ap correct_text (correction_is clocks c has ∙ sym (get_or-map-range_with_len (λ j. if nat_lt j config.nodes then f j else pos 0) 0 N i i (pos 0) (omega (arith, low, few)) (omega arith) ∙ cond-true (nat_lt i config.nodes) (f i) (pos 0) (lt-ltb i config.nodes low)))
+  corrected : (y : Option ClockView) (by : ℤ) → (if is_some y then correct_text by else []) ≡ corrected_text by (period_record sys y p).clock
+  corrected None by = refl
+  corrected (Some c) by = refl
 
   -- ---- its text
 
-  text_is : ToldClocks sc inputs i p q → period_text sc i r q ≡ record_text (run_record sc inputs p) i
-  text_is clocks =
+  text_is : period_text sc i r q ≡ record_text (run_record sc inputs p) i (correction_told sc i r q)
+  text_is =
       ap₂ ◌++◌ (flat_below (λ t. say_text t (frame_told sc i r q t)) (λ t. say_text t (frame_at (run_record sc inputs p) t i)) 0 count (λ t l. ap (say_text t) (frame_is t (omega arith) ∙ sym (frame_shown sc inputs i p t low (omega arith)))))
       (ap₂ ◌++◌
       (ap₂ (λ (n : ℕ) (y : Outcome). alone_text n i config.nodes config.policy.retire y) begin.number outcome_is ∙ ap (recorded_alone (run_record sc inputs p) i) (sym (recorded (λ j. outcome_of (view (run sys) j p)) config.nodes i low)))
-      (corrected clocks sc.clock refl))
+      (corrected sc.clock (correction_told sc i r q)))
 
-  pub answers : ToldClocks sc inputs i p q → AnswersAsRun sc inputs i p r v q
-  answers clocks =
+  pub answers : AnswersAsRun sc inputs i p r v q
+  answers =
       let t : Takes sc i r v q = takes_period law sc i r v q is at may in
       record {
         to = t.to;
-        takes = t.takes ∙ ap (Goes t.to) (text_is clocks);
+        by = correction_told sc i r q;
+        takes = t.takes ∙ ap (Goes t.to) text_is;
+        corrects = λ clocks c has. correction_is clocks c has;
         rests = subst (λ (y : Rest). Rests sc i y t.to) (ap₂ (λ (y : Kept) (n : ℕ). record { kept = y; next = n + 1; run = r.run + 1 }) keeps_then begin.number) t.rests;
       }
 
 pub live_run_law : PeriodLaw → DeliveryLaw → SayingLaw → LiveRunLaw
-live_run_law law delivery saying N sc inputs i p r v q is low at may begin goes_in come clocks = answers sc inputs is law delivery saying i p low r v q at may begin goes_in come clocks
+live_run_law law delivery saying N sc inputs i p r v q is low at may begin goes_in come = answers sc inputs is law delivery saying i p low r v q at may begin goes_in come

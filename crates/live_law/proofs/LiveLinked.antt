@@ -151,11 +151,11 @@ module _ {N : ℕ} (sc : ScenarioView N) (inputs : ℕ → ℕ → Inputs) (c : 
     pub is_live_run : IsLiveRun sc inputs c i p
     is_live_run = record {
       slots = λ t slot up. answers_slots t slot up;
-      whole = λ all clocks.
+      whole = λ all.
           let h = runs i p low some in
           let a : AnswersAsRun sc inputs i p (r i p) (c.live i p) (c.told i p) =
-          live_run_law law delivery saying N sc inputs i p (r i p) (c.live i p) (c.told i p) is low (at i p low some) (all_may i p low some all) h.as_run goes_in (of_run.delivered all) clocks in
-          record { to = a.to; takes = a.takes; rests = a.rests };
+          live_run_law law delivery saying N sc inputs i p (r i p) (c.live i p) (c.told i p) is low (at i p low some) (all_may i p low some all) h.as_run goes_in (of_run.delivered all) in
+          record { to = a.to; by = a.by; takes = a.takes; corrects = a.corrects; rests = a.rests };
     }
 
 pub live_cluster_law : PeriodLaw → DeliveryLaw → SayingLaw → LiveClusterLaw

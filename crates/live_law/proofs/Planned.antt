@@ -265,7 +265,7 @@ module _ {N : ℕ} (sc : ScenarioView N) (first : ℕ → LiveView N) where
       rests_at zero i low few = new_law N sc i (first i) is (new i low)
       rests_at (suc p) i low few =
           let a : AnswersAsRun sc (inputs_of sc) i p (r i p) (cs.live i p) (told i p) =
-          live_run_law law delivery saying N sc (inputs_of sc) i p (r i p) (cs.live i p) (told i p) is low (rests_at p i low (omega arith)) (allowed i p count (r i p) (omega arith)) (begins_as i p (r i p) refl) refl (is_delivered i p) (told_clocks i p)
+          live_run_law law delivery saying N sc (inputs_of sc) i p (r i p) (cs.live i p) (told i p) is low (rests_at p i low (omega arith)) (allowed i p count (r i p) (omega arith)) (begins_as i p (r i p) refl) refl (is_delivered i p)
           in
           subst (λ (n : ℕ). Rests sc i (record { kept = kept (run sys) i (suc p); next = n; run = n }) (cs.live i (suc p))) (let e : p + 1 ≡ suc p = omega arith in e)
           (subst (λ (v : LiveView N). Rests sc i (record { kept = kept (run sys) i (suc p); next = p + 1; run = p + 1 }) v) (sym (ap (reached (cs.live i p)) a.takes)) a.rests)

@@ -1,5 +1,5 @@
 -- Live controllers of all nodes of a cluster, each told what the others say, over a faulty network.
-use Rattle.std.specs.Prelude.{◌≡◌, ◌≢◌, ◌<◌, ◌≤◌, ◌⊎◌, ℕ, zero, suc, ◌+◌, ◌^◌, true, List, []}
+use Rattle.std.specs.Prelude.{◌≡◌, ◌≢◌, ◌<◌, ◌≤◌, ◌⊎◌, ℕ, zero, suc, ◌+◌, ◌^◌, ℤ, true, List, []}
 use Rattle.error_detect.specs.Multiset.{from_sender}
 use Rattle.fault_classes.specs.Line.{effect_at}
 use Rattle.fault_classes.specs.Plan.{restarts_at}
@@ -17,7 +17,7 @@ use Rattle.scenario.specs.Scenario.{ScenarioView, IsScenario, inputs_of}
 use Rattle.cluster_periods.specs.Laws.{IsClaimed, Promises}
 use Rattle.live_node.specs.Live.{LiveView, IsNewLive, Step}
 use Rattle.live_node.specs.Live.Step.{Goes, Refuses}
-use Rattle.live_law.specs.Run.{system_given, run_record, sent_text, record_text, BeginsAsRun, ToldClocks}
+use Rattle.live_law.specs.Run.{system_given, run_record, sent_text, record_text, BeginsAsRun, ToldClocks, CorrectsAsRun}
 use Rattle.live_law.specs.Events.{PeriodEvents, part_of, events_of, all_steps, arrivals_in}
 use Rattle.live_law.specs.Living.{rest_of, Rests, IsAllowed}
 
@@ -73,19 +73,22 @@ module _ {N : ℕ} (sc : ScenarioView N) (inputs : ℕ → ℕ → Inputs) (c : 
     pub hear : (i j p t : ℕ) → i < sc.config.nodes → j < sc.config.nodes → j ≢ i → t < slot_count sc.config.m → t < c.ran i p
         → Carries i j p t
 
-  -- what a controller answers in so many slots and in a whole period is what the record of the run's period shows of its node
+  -- what a controller answers in so many slots and in a whole period is what the record of the run's period shows of its node; where it
+  -- is told the run's clocks, it corrects its own as the run does
   pub record AnswersSlots (i p slots : ℕ) : Type 0 where
     pub to : LiveView N
     pub takes : all_steps (c.live i p) (part_of (c.told i p) slots) ≡ Goes to (sent_text (run_record sc inputs p) i (suc slots))
 
   pub record AnswersPeriod (i p : ℕ) : Type 0 where
     pub to : LiveView N
-    pub takes : all_steps (c.live i p) (events_of sc.config.m (c.told i p)) ≡ Goes to (record_text (run_record sc inputs p) i)
+    pub by : ℤ
+    pub takes : all_steps (c.live i p) (events_of sc.config.m (c.told i p)) ≡ Goes to (record_text (run_record sc inputs p) i by)
+    pub corrects : ToldClocks sc inputs i p (c.told i p) → CorrectsAsRun sc inputs i p by
     pub rests : Rests sc i (record { kept = kept (run (system_given sc inputs)) i (suc p); next = p + 1; run = (c.live i p).run + 1 }) to
 
   pub record IsLiveRun (i p : ℕ) : Type 0 where
     pub slots : (t : ℕ) → t < slot_count sc.config.m → t < c.ran i p → AnswersSlots i p t
-    pub whole : c.ran i p ≡ slot_count sc.config.m → ToldClocks sc inputs i p (c.told i p) → AnswersPeriod i p
+    pub whole : c.ran i p ≡ slot_count sc.config.m → AnswersPeriod i p
 
 -- Law: linked live controllers are the run of the plan, in each period in which they run, for however many periods
 abbrev pub LiveClusterLaw : Type 0

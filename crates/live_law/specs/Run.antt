@@ -1,5 +1,5 @@
 -- A live node that is told what a run gives it: what it answers is what the record of the run's period shows of the node.
-use Rattle.std.specs.Prelude.{◌≡◌, ◌≢◌, ◌<◌, ℕ, suc, ◌+◌, pos, true, List, [], ◌++◌, Option, None, Some, slice_get, slice_index_or}
+use Rattle.std.specs.Prelude.{◌≡◌, ◌≢◌, ◌<◌, ℕ, suc, ◌+◌, ℤ, true, List, [], ◌++◌, Option, None, Some, slice_get}
 use Rattle.std.specs.List.{flat_map}
 use Rattle.node_grid.specs.NodeSet.{ids_below, has_id}
 use Rattle.slot_plan.specs.Slots.{slot_count}
@@ -9,7 +9,7 @@ use Rattle.clock_skew.specs.Clock.{ClockView}
 use Rattle.clock_skew.specs.Reading.{reading_at}
 use Rattle.agreed_state.specs.declared.config.Inputs.{Inputs}
 use Rattle.protocol.specs.Cluster.{kept, begins, view}
-use Rattle.protocol.specs.Clocks.{offsets}
+use Rattle.protocol.specs.Clocks.{correction_at, offsets}
 use Rattle.protocol.specs.Configured.{setting_of}
 use Rattle.protocol.specs.Run.{System, run, deliveries}
 use Rattle.protocol.specs.View.{opened}
@@ -34,12 +34,14 @@ abbrev pub recorded_alone : PeriodView → ℕ → Option Outcome → List ℕ
 recorded_alone t i None = []
 recorded_alone t i (Some o) = alone_text t.period i t.nodes t.retire o
 
-abbrev pub corrected_text : ℕ → Option ClockShown → List ℕ
-corrected_text i None = []
-corrected_text i (Some c) = correct_text (slice_index_or c.correction i (pos 0))
+-- with clocks, by how much it corrects its own
+abbrev pub corrected_text : ℤ → Option ClockShown → List ℕ
+corrected_text by None = []
+corrected_text by (Some c) = correct_text by
 
-abbrev pub record_text : PeriodView → ℕ → List ℕ
-record_text t i = sent_text t i (slot_count t.m) ++ (recorded_alone t i (slice_get t.records i) ++ corrected_text i t.clock)
+-- all of it, where it corrects its clock by so much
+abbrev pub record_text : PeriodView → ℕ → ℤ → List ℕ
+record_text t i by = sent_text t i (slot_count t.m) ++ (recorded_alone t i (slice_get t.records i) ++ corrected_text by t.clock)
 
 -- ---- what is told
 
@@ -69,10 +71,17 @@ module _ {N : ℕ} (sc : ScenarioView N) (inputs : ℕ → ℕ → Inputs) where
         → last_told (ahead_of j) (flat_map q.slots (ids_below (slot_count sc.config.m)))
         ≡ Some (reading_at c (offsets (run (system_given sc inputs)) c p) p i j)
 
-  -- it takes the events, answers with what the run's record shows of node i, and keeps what node i keeps
+  -- so much is by how much the run corrects the clock of node i after period p, where there are clocks
+  abbrev pub CorrectsAsRun : ℕ → ℕ → ℤ → Type 0
+  CorrectsAsRun i p by = (c : ClockView) → sc.clock ≡ Some c → by ≡ correction_at (run (system_given sc inputs)) c (offsets (run (system_given sc inputs)) c p) p i
+
+  -- it takes the events, answers with what the run's record shows of node i, and keeps what node i keeps; where it is told the run's
+  -- clocks, it corrects its own as the run does
   pub record AnswersAsRun (i p : ℕ) (r : Rest) (v : LiveView N) (q : PeriodEvents) : Type 0 where
     pub to : LiveView N
-    pub takes : all_steps v (events_of sc.config.m q) ≡ Goes to (record_text (run_record p) i)
+    pub by : ℤ
+    pub takes : all_steps v (events_of sc.config.m q) ≡ Goes to (record_text (run_record p) i by)
+    pub corrects : ToldClocks i p q → CorrectsAsRun i p by
     pub rests : Rests sc i (record { kept = kept (run (system_given sc inputs)) i (suc p); next = p + 1; run = r.run + 1 }) to
 
 -- Law: where a live node goes into a period with what the run says, and is told what the run gives it, what it answers is the run's
@@ -81,5 +90,4 @@ LiveRunLaw =
     (N : ℕ) (sc : ScenarioView N) (inputs : ℕ → ℕ → Inputs) (i p : ℕ) (r : Rest) (v : LiveView N) (q : PeriodEvents)
     → IsScenario sc → i < sc.config.nodes → Rests sc i r v → IsAllowed sc i (slot_count sc.config.m) r q → BeginsAsRun sc inputs i p r q
     → opened (setting_of sc.config) (restarts_at sc.plan i p) r.kept ≡ begins (run (system_given sc inputs)) i p
-    → IsDelivered (system_given sc inputs) i p (λ t. arrivals_in (q.slots t)) → ToldClocks sc inputs i p q
-    → AnswersAsRun sc inputs i p r v q
+    → IsDelivered (system_given sc inputs) i p (λ t. arrivals_in (q.slots t)) → AnswersAsRun sc inputs i p r v q
