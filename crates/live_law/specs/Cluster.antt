@@ -101,7 +101,7 @@ pub record IsPromised {N : ℕ} (sc : ScenarioView N) (c : LiveControllers N) (p
   pub answers : (i : ℕ) → i < sc.config.nodes → 0 < c.ran i p → IsLiveRun sc (inputs_of sc) c i p
   pub promises : Promises sc p
 
--- Law: so it is in each period that the run claims
+-- Law: what linked live controllers answer in a period that the run claims is the run's, and all holds that is promised of the period
 abbrev pub LivePromiseLaw : Type 0
 LivePromiseLaw =
     (N : ℕ) (sc : ScenarioView N) (c : LiveControllers N) (p : ℕ)
@@ -119,7 +119,8 @@ pub record IsSafeGiven {N : ℕ} (sc : ScenarioView N) (inputs : ℕ → ℕ →
   pub accepted : IsAccepted (system_given sc inputs)
   pub safe : Safe (run (system_given sc inputs)) (classes (system_given sc inputs)) p
 
--- Law: so it is in each period that the run claims, where nodes are told readings
+-- Law: where linked live controllers are told readings that are in range and near each other, each period that the run with these
+-- readings claims is safe
 abbrev pub LiveGivenLaw : Type 0
 LiveGivenLaw =
     (N : ℕ) (sc : ScenarioView N) (inputs : ℕ → ℕ → Inputs) (c : LiveControllers N) (p : ℕ)

@@ -162,7 +162,7 @@ LiveSayLaw =
     (N : ℕ) (sc : ScenarioView N) (id : ℕ) (r : Rest) (v : LiveView N) (q : PeriodEvents) (slots : ℕ)
     → IsScenario sc → Rests sc id r v → IsAllowed sc id slots r q → slots < slot_count sc.config.m → SaysSlots sc id r v q slots
 
--- Law: so does each live node, through any periods and whatever it is told in them
+-- Law: a live node answers to the events of any periods with the protocol's text, whatever it is told in them
 abbrev pub LiveLifeLaw : Type 0
 LiveLifeLaw =
     (N : ℕ) (sc : ScenarioView N) (id : ℕ) (r : Rest) (v : LiveView N) (qs : List PeriodEvents)
@@ -181,7 +181,8 @@ pub record IsLife {N : ℕ} (sc : ScenarioView N) (id : ℕ) (r : Rest) (es : Li
   pub next : w.next ≡ (after_life sc id r periods).next
   pub run : w.run ≡ (after_life sc id r periods).run
 
--- Law: so it is with all events that a live node that rests takes, where they leave no slot open
+-- Law: all events that a live node that rests takes, where they leave no slot open, are those of periods, and are answered with the
+-- protocol's text
 abbrev pub LiveEventsLaw : Type 0
 LiveEventsLaw =
     (N : ℕ) (sc : ScenarioView N) (id : ℕ) (r : Rest) (v w : LiveView N) (es : List Event) (text : List ℕ)

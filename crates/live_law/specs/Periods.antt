@@ -65,7 +65,7 @@ module _ {N : ℕ} (config : Config N) (i : ℕ) where
       GoesThrough config i q.period q.inputs (begins_next k q) (received config i q.period q.inputs (begins_next k q) q.slots) q.slots (restarted_if q.restarts v)
       × GoesThroughAll (view_next k q).kept (after_next v q) qs
 
--- Law: so does each node, through any periods, whatever is delivered to it
+-- Law: so does each node, through any periods and whatever is delivered to it in their slots
 abbrev pub AnyPeriodsLaw : Type 0
 AnyPeriodsLaw =
     (N : ℕ) (config : Config N) (i : ℕ) (k : Kept) (v : NodeView N) (qs : List Next)
