@@ -1,6 +1,6 @@
 -- What a live node is and answers, by the protocol, from what it is told.
-use Rattle.std.specs.Prelude.{◌≡◌, ◌≢◌, ◌<◌, ◌⊎◌, ℕ, suc, ◌+◌, ◌^◌, ℤ, pos, true, false, All, List, [], ◌∷◌, ◌++◌, map, length, replicate, Option, None, Some, is_some, unwrap_or, if◌then◌else◌, slice_index_or}
-use Rattle.std.specs.List.{filter, flat_map}
+use Rattle.std.specs.Prelude.{◌≡◌, ◌≢◌, ◌<◌, ◌⊎◌, ℕ, suc, ◌+◌, ◌^◌, ℤ, true, false, All, List, [], ◌∷◌, ◌++◌, length, replicate, Option, None, Some, is_some, unwrap_or, if◌then◌else◌}
+use Rattle.std.specs.List.{flat_map}
 use Rattle.node_grid.specs.NodeSet.{ids_below}
 use Rattle.slot_plan.specs.Slots.{slot_count}
 use Rattle.agreed_state.specs.declared.config.Inputs.{Inputs}
@@ -14,7 +14,7 @@ use Rattle.scenario.specs.Scenario.{ScenarioView, IsScenario, inputs_of}
 use Rattle.run_text.specs.PeriodText.{alone_text}
 use Rattle.live_node.specs.Event.{Event}
 use Rattle.live_node.specs.Event.Event.{Deliver, Restart, Reading, Ahead}
-use Rattle.live_node.specs.Live.{LiveView, IsNewLive, replaced}
+use Rattle.live_node.specs.Live.{LiveView, IsNewLive, replaced, good_told, told_numbers}
 use Rattle.live_node.specs.Live.Step.{Goes}
 use Rattle.live_node.specs.Text.{say_text, correct_text}
 use Rattle.live_law.specs.Periods.{IsBetween, Next, view_next, frame_next}
@@ -68,9 +68,7 @@ module _ {N : ℕ} (sc : ScenarioView N) (id : ℕ) where
 
     -- by how much it corrects its clock: by the clocks of the members whose frame in the sync slot was good, of those that it was told of
     abbrev pub correction_told : ℤ
-    correction_told =
-        corrects sc.config.m id (map (λ o. unwrap_or o (pos 0)) ahead_told) (members_in view_told.before)
-        (filter (λ j. is_some (slice_index_or ahead_told j None)) view_told.sync) view_told.mode
+    correction_told = corrects sc.config.m id (told_numbers ahead_told) (members_in view_told.before) (good_told view_told.sync ahead_told) view_told.mode
 
     -- the lines of the period
     abbrev pub shown_text : List ℕ
