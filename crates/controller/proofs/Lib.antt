@@ -1,5 +1,4 @@
 pub mod Calling
-pub mod Gathering
 pub mod Courses
 pub mod Writing
 pub mod Steps

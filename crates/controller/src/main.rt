@@ -7,9 +7,6 @@
 //! number of the status of `control`.
 #![tactic(auto)]
 
-ghost use Rattle.std.specs.Prelude.{◌≡◌, drop, IfOk};
-ghost use Rattle.std.specs.Vec.Iter.{into_iter_items};
-
 mod control;
 pub mod laws;
 mod session;
@@ -17,27 +14,11 @@ mod status;
 mod words;
 
 pub use control::{control, run};
+use program_words::words_after_name;
 use span_io::{StdSink, StdSource};
 pub use status::Status;
-use std::alloc::{AllocError, Global};
-use std::env::{self, Args};
+use std::env;
 use std::process::ExitCode;
-
-/// The words after the first, which is the program's name.
-///
-/// # Errors
-/// `AllocError` may come at any time: no word is left out.
-fn words_after_name(alloc: Global, arguments: Args) -> Result<Vec<String>, AllocError>
-    ensures { IfOk result (λ words. words.items ≡ drop 1 (into_iter_items arguments)) }
-{
-    let mut words = Vec::new(alloc);
-    let mut rest = arguments;
-    let _name = rest.next();
-    while let Some(word) = rest.next() {
-        words.push(word)?;
-    }
-    Ok(words)
-}
 
 fn main(rt: HostRuntime) -> ExitCode {
     let Ok(arguments) = env::args(&rt) else {
