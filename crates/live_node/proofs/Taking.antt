@@ -12,7 +12,7 @@ use Rattle.node_steps.specs.Steps.{frame_of}
 use Rattle.live_node.specs.Event as spec
 use Rattle.live_node.specs.Event.Event.{Begin, Deliver, End, Restart, Reading, Ahead}
 use Rattle.live_node.specs.Event.{event_of}
-use Rattle.live_node.specs.Live.{LiveView, Step, is_open, is_of_cluster, allowed, told, answer, step_of, line_step, unknown_rule, not_now_rule, run_text, slot_answer, correction}
+use Rattle.live_node.specs.Live.{LiveView, Step, is_open, is_of_cluster, allowed, told, answer, step_of, line_step, unknown_rule, not_now_rule, period_answer, slot_answer, correction}
 use Rattle.live_node.specs.Live.Step.{Goes, Refuses}
 use Rattle.live_node.specs.Text.{say_text, correct_text}
 use Rattle.live_node.specs.Taking.{Takes, refusal_by}
@@ -90,18 +90,18 @@ module _ {N : ℕ} (v w : LiveView N) (same : v ≡ w) where
       ∙ ap (λ (x : LiveView N). period_lines x) same
 
 module _ {N : ℕ} (w : LiveView N) where
-  pub with_clock : is_some w.scenario.clock ≡ true → period_lines w ++ correct_text (correction w) ≡ run_text w
+  pub with_clock : is_some w.scenario.clock ≡ true → period_lines w ++ correct_text (correction w) ≡ period_answer w
   with_clock e = ap (λ (b : Bool). period_lines w ++ (if b then correct_text (correction w) else [])) (sym e)
 
-  pub without_clock : is_some w.scenario.clock ≡ false → period_lines w ≡ run_text w
+  pub without_clock : is_some w.scenario.clock ≡ false → period_lines w ≡ period_answer w
   without_clock e = sym (append-nil (period_lines w)) ∙ ap (λ (b : Bool). period_lines w ++ (if b then correct_text (correction w) else [])) (sym e)
 
   -- ---- an answer
 
   pub said : (slot : ℕ) → slot ≡ w.node.phase.slot → is_open w ≡ true → say_text slot (frame_of w.node) ≡ slot_answer w
-  said slot at opened = ap (λ t. say_text t (frame_of w.node)) at ∙ sym (if_true {A = List ℕ} (λ xs. xs) (is_open w) _ (run_text w) opened)
+  said slot at opened = ap (λ t. say_text t (frame_of w.node)) at ∙ sym (if_true {A = List ℕ} (λ xs. xs) (is_open w) _ (period_answer w) opened)
 
-  pub ran : is_open w ≡ false → run_text w ≡ slot_answer w
+  pub ran : is_open w ≡ false → period_answer w ≡ slot_answer w
   ran shut = sym (if_false {A = List ℕ} (λ xs. xs) (is_open w) (say_text w.node.phase.slot (frame_of w.node)) _ shut)
 
 -- the front of a text failed

@@ -118,14 +118,14 @@ abbrev pub correction : {N : ℕ} → LiveView N → ℤ
 correction v = corrects v.scenario.config.m v.id (readings v) v.node.outcome.members (clocks_read v) v.node.outcome.mode
 
 -- the lines of the period that was run last
-abbrev pub run_text : {N : ℕ} → LiveView N → List ℕ
-run_text v =
+abbrev pub period_answer : {N : ℕ} → LiveView N → List ℕ
+period_answer v =
     alone_text v.node.phase.period v.id v.scenario.config.nodes v.scenario.config.policy.retire v.node.outcome
     ++ (if is_some v.scenario.clock then correct_text (correction v) else [])
 
 -- after a slot was opened, what the node says in it; after a period's last slot ended, the lines of the period
 abbrev pub slot_answer : {N : ℕ} → LiveView N → List ℕ
-slot_answer v = if is_open v then say_text v.node.phase.slot (frame_of v.node) else run_text v
+slot_answer v = if is_open v then say_text v.node.phase.slot (frame_of v.node) else period_answer v
 
 -- what the node answers to an event that made this of it
 abbrev pub answer : {N : ℕ} → LiveView N → Event → List ℕ

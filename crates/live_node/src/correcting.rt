@@ -38,8 +38,8 @@ fn told_numbers<const N: usize>(ahead: &[Option<i64>; N]) -> [i64; N]
     numbers
 }
 
-/// By how much node `id` corrects its clock after a period, by its record of it and by what it was told of the other
-/// clocks.
+/// By how much node `id` corrects its clock after a period, by its record of the period and by what
+/// it was told of the other clocks.
 pub(crate) fn correction_by<const N: usize>(
     outcome: &NodeRecord<N>,
     ahead: &[Option<i64>; N],
@@ -49,7 +49,8 @@ pub(crate) fn correction_by<const N: usize>(
     requires capacity { IsCapacity N }
     requires values { All (λ o. IfSome o IsValue) ahead.now }
     requires own { slice_index_or ahead.now id None ≡ None }
-    ensures { result ≡ corrects m id (told_numbers ahead.now) outcome.now.members (good_told outcome.now.sync ahead.now) outcome.now.mode }
+    ensures { result ≡ corrects m id (told_numbers ahead.now) outcome.now.members
+        (good_told outcome.now.sync ahead.now) outcome.now.mode }
 {
     let good = good_told(&outcome.sync, ahead);
     let readings = told_numbers(ahead);

@@ -1,7 +1,9 @@
 //! The events that a node is told, read from lines.
 
-ghost use Rattle.std.specs.Prelude.{◌≡◌, ◌+◌, ◌*◌, ◌≤◌, ℕ, List, IfSome, length, option_map};
-ghost use Rattle.live_node.specs.Event.{event_of, of_one_word, of_two_words, of_three_words, of_four_words};
+ghost use Rattle.std.specs.Prelude.{◌≡◌, ◌+◌, ◌*◌, ◌≤◌, ℕ, List, IfSome};
+ghost use Rattle.std.specs.Prelude.{length, option_map};
+ghost use Rattle.live_node.specs.Event.{event_of, of_one_word, of_two_words};
+ghost use Rattle.live_node.specs.Event.{of_three_words, of_four_words};
 ghost use Rattle.live_node.specs.Seen.{event_in, FitsIn};
 
 use crate::words::{bytes_in, number_in, split, value_in};
@@ -12,7 +14,8 @@ use slot_plan::LAST_TICK;
 pub(crate) enum Event {
     /// The next period begins, or this one.
     Begin(Option<u32>),
-    /// A frame arrives in the open slot: from a node, at a tick, and so many bytes at the front of a room.
+    /// A frame arrives in the open slot: from a node, at a tick, and so many bytes at the front of
+    /// a room.
     Deliver { from: u8, tick: u8, size: usize },
     /// The open slot ends.
     End,
@@ -26,7 +29,8 @@ pub(crate) enum Event {
 
 /// The event that one word is.
 fn of_one_word(word: &[u8]) -> Option<Event>
-    ensures event { (room : List ℕ) → option_map (event_in room) result ≡ of_one_word word.now }
+    ensures event { (room : List ℕ)
+        → option_map (event_in room) result ≡ of_one_word word.now }
     ensures fits { (room : ℕ) → IfSome result (FitsIn room) }
 {
     if word == b"begin".as_slice() {
@@ -42,7 +46,8 @@ fn of_one_word(word: &[u8]) -> Option<Event>
 
 /// The event that two words are.
 fn of_two_words(word: &[u8], second: &[u8]) -> Option<Event>
-    ensures event { (room : List ℕ) → option_map (event_in room) result ≡ of_two_words word.now second.now }
+    ensures event { (room : List ℕ)
+        → option_map (event_in room) result ≡ of_two_words word.now second.now }
     ensures fits { (room : ℕ) → IfSome result (FitsIn room) }
 {
     if word != b"begin".as_slice() {
@@ -54,7 +59,8 @@ fn of_two_words(word: &[u8], second: &[u8]) -> Option<Event>
 
 /// The event that three words are.
 fn of_three_words(word: &[u8], second: &[u8], third: &[u8]) -> Option<Event>
-    ensures event { (room : List ℕ) → option_map (event_in room) result ≡ of_three_words word.now second.now third.now }
+    ensures event { (room : List ℕ)
+        → option_map (event_in room) result ≡ of_three_words word.now second.now third.now }
     ensures fits { (room : ℕ) → IfSome result (FitsIn room) }
 {
     if word == b"reading".as_slice() {
@@ -79,7 +85,8 @@ fn of_four_words(
     room: &mut [u8],
 ) -> Option<Event>
     requires fits { length fourth.now ≤ 2 * length room.old + 1 }
-    ensures event { option_map (event_in room.new) result ≡ of_four_words word.now second.now third.now fourth.now }
+    ensures event { option_map (event_in room.new) result
+        ≡ of_four_words word.now second.now third.now fourth.now }
     ensures fits { IfSome result (FitsIn (length room.old)) }
     ensures room { length room.new ≡ length room.old }
 {
@@ -92,7 +99,8 @@ fn of_four_words(
     Some(Event::Deliver { from, tick, size })
 }
 
-/// The event that a line tells, if any. The bytes of a frame that arrives are put at the front of the room.
+/// The event that a line tells, if any. The bytes of a frame that arrives are put at the front of
+/// the room.
 pub(crate) fn event_of(line: &[u8], room: &mut [u8]) -> Option<Event>
     requires fits { length line.now ≤ 2 * length room.old + 1 }
     ensures event { option_map (event_in room.new) result ≡ event_of line.now }

@@ -1,11 +1,14 @@
 //! A node that is told events.
 
-ghost use Rattle.std.specs.Prelude.{◌≡◌, ◌+◌, ◌*◌, ◌<◌, ◌≤◌, ℕ, None, true, false, List, All, IfOk, length, replicate, unwrap_or};
+ghost use Rattle.std.specs.Prelude.{◌≡◌, ◌+◌, ◌*◌, ◌<◌, ◌≤◌, ℕ, None, true, false, List};
+ghost use Rattle.std.specs.Prelude.{All, IfOk, length, replicate, unwrap_or};
 ghost use Rattle.frames.specs.Content.{IsValue};
 ghost use Rattle.node_grid.specs.Capacity.{IsCapacity};
 ghost use Rattle.node_steps.specs.Steps.{after_slot, frame_of};
 ghost use Rattle.span_io.specs.Causes.{Writes};
-ghost use Rattle.live_node.specs.Live.{is_of_cluster, is_other, may_begin, allowed, is_open, period_begun, slot_ended, told, inputs_given, correction, run_text, slot_answer, answer, replaced, IsNewLive};
+ghost use Rattle.live_node.specs.Live.{is_of_cluster, is_other, may_begin, allowed, is_open};
+ghost use Rattle.live_node.specs.Live.{period_begun, slot_ended, told, inputs_given};
+ghost use Rattle.live_node.specs.Live.{correction, period_answer, answer, replaced, IsNewLive};
 ghost use Rattle.live_node.specs.Seen.{event_in, FitsIn, IsAnswered};
 ghost use Rattle.live_node.specs.Standing.{IsLive};
 ghost use Rattle.live_node.specs.Text.{say_text, correct_text};
@@ -301,7 +304,8 @@ impl<'s, const N: usize> EventNode<'s, N> {
         requires open { self.old.node.phase.is_open ≡ true }
         requires slot { slot ≡ self.old.node.phase.slot }
         ensures same { self.new ≡ self.old }
-        ensures wrote { Writes (K.written sink.old) (K.written sink.new) (K.faults sink.old) (K.faults sink.new) (say_text slot (frame_of self.old.node)) result }
+        ensures wrote { Writes (K.written sink.old) (K.written sink.new)
+            (K.faults sink.old) (K.faults sink.new) (say_text slot (frame_of self.old.node)) result }
     {
         self.node.say(&mut self.frame);
         spell_say(slot, self.frame.as_slice(), &mut self.text);
@@ -317,7 +321,8 @@ impl<'s, const N: usize> EventNode<'s, N> {
         requires capacity { IsCapacity N }
         requires outcome { outcome.now ≡ self.old.node.outcome }
         ensures same { self.new ≡ self.old }
-        ensures wrote { Writes (K.written sink.old) (K.written sink.new) (K.faults sink.old) (K.faults sink.new) (correct_text (correction self.old)) result }
+        ensures wrote { Writes (K.written sink.old) (K.written sink.new)
+            (K.faults sink.old) (K.faults sink.new) (correct_text (correction self.old)) result }
     {
         let by = correction_by(outcome, &self.told.ahead, self.id, self.scenario.config().m);
         spell_correct(by, &mut self.text);
@@ -330,7 +335,8 @@ impl<'s, const N: usize> EventNode<'s, N> {
         requires closed { is_open self.old ≡ false }
         requires some { 0 < self.old.next }
         ensures same { self.new ≡ self.old }
-        ensures wrote { Writes (K.written sink.old) (K.written sink.new) (K.faults sink.old) (K.faults sink.new) (run_text self.old) result }
+        ensures wrote { Writes (K.written sink.old) (K.written sink.new)
+            (K.faults sink.old) (K.faults sink.new) (period_answer self.old) result }
     {
         let config = self.scenario.config();
         let outcome = self.node.record();
@@ -350,7 +356,9 @@ impl<'s, const N: usize> EventNode<'s, N> {
         requires capacity { IsCapacity N }
         requires some { IsAnswered event → 0 < self.old.next }
         ensures same { self.new ≡ self.old }
-        ensures wrote { (room : List ℕ) → Writes (K.written sink.old) (K.written sink.new) (K.faults sink.old) (K.faults sink.new) (answer self.old (event_in room event)) result }
+        ensures wrote { (room : List ℕ)
+            → Writes (K.written sink.old) (K.written sink.new)
+            (K.faults sink.old) (K.faults sink.new) (answer self.old (event_in room event)) result }
     {
         match event {
             Event::Begin(_) | Event::End => match self.slot {

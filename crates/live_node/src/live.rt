@@ -30,8 +30,8 @@ pub enum Refusal {
 
 /// A node that is told one event after another, by lines of text, and answers with text.
 ///
-/// Contracts see the scenario and the node's number, the node, which period begins next, how many were run, and what was
-/// told for the next period and of other clocks.
+/// Contracts see the scenario and the node's number, the node, which period begins next, how many
+/// were run, and what was told for the next period and of other clocks.
 #[derive(Drop)]
 pub struct Live<'s, const N: usize> {
     node: EventNode<'s, N>,
@@ -51,8 +51,8 @@ impl<'s, const N: usize> Model for Live<'s, N> {
 }
 
 impl<'s, const N: usize> Live<'s, N> {
-    /// Node `id` of the scenario, below its number of nodes, before it was told anything; for lines of at most `longest`
-    /// bytes. No other call takes memory.
+    /// Node `id` of the scenario, below its number of nodes, before it was told anything; for lines
+    /// of at most `longest` bytes. No other call takes memory.
     ///
     /// # Errors
     ///
@@ -96,12 +96,13 @@ impl<'s, const N: usize> Live<'s, N> {
     /// # Errors
     ///
     /// - `Unknown` and `NotNow`: nothing was written, and the node is as before.
-    /// - `WriteFault` comes only where the sink's count of faults rose. The line was taken, and a prefix of the answer was
-    ///   written then.
+    /// - `WriteFault` comes only where the sink's count of faults rose. The line was taken, and a
+    ///   prefix of the answer was written then.
     pub fn take<K: Sink>(&mut self, line: &[u8], sink: &mut K) -> Result<(), Refusal>
         requires capacity { IsCapacity N }
         requires short { length line.now ≤ self.old.longest }
-        ensures { Takes K.written K.faults self.old sink.old self.new sink.new (line_step self.old line.now) result }
+        ensures { Takes K.written K.faults self.old sink.old self.new sink.new
+            (line_step self.old line.now) result }
     {
         let Some(event) = event_of(line, self.arrived.as_mut_slice()) else {
             return Err(Refusal::Unknown);

@@ -1,6 +1,7 @@
 //! The words of a line: where they stand, and the numbers, values and bytes that they are.
 
-ghost use Rattle.std.specs.Prelude.{◌≡◌, ◌+◌, ◌-◌, ◌*◌, ◌^◌, ◌<◌, ◌≤◌, ◌∷◌, IfSome, length, min, option_map, take};
+ghost use Rattle.std.specs.Prelude.{◌≡◌, ◌+◌, ◌-◌, ◌*◌, ◌^◌, ◌<◌, ◌≤◌, ◌∷◌, IfSome};
+ghost use Rattle.std.specs.Prelude.{length, min, option_map, take};
 ghost use Rattle.frames.specs.Content.{IsValue};
 ghost use Rattle.live_node.specs.Event.{words, of_digits, number_in, value_in, bytes_in};
 ghost use Rattle.live_node.specs.Seen.{words_behind};
@@ -12,9 +13,11 @@ use memchr::memchr;
 /// How far from 0 a value may be.
 const VALUE_LIMIT: u64 = 1 << 42;
 
-/// The first word of a line, and what stands behind the space after it: nothing where it is the only one.
+/// The first word of a line, and what stands behind the space after it: nothing where it is the
+/// only one.
 pub(crate) fn split(line: &[u8]) -> (&[u8], Option<&[u8]>)
-    ensures words { words line.now ≡ result.0.now ∷ words_behind (option_map (λ r. r.now) result.1) }
+    ensures words { words line.now
+        ≡ result.0.now ∷ words_behind (option_map (λ r. r.now) result.1) }
     ensures short { length result.0.now ≤ length line.now }
     ensures rest { IfSome result.1 (λ r. length r.now ≤ length line.now) }
 {
@@ -70,7 +73,8 @@ pub(crate) fn value_in(word: &[u8]) -> Option<i64>
     }
 }
 
-/// Puts the bytes that a word is in hexadecimal at the front of the room, and answers how many they are.
+/// Puts the bytes that a word is in hexadecimal at the front of the room, and answers how many they
+/// are.
 pub(crate) fn bytes_in(word: &[u8], room: &mut [u8]) -> Option<usize>
     requires fits { length word.now ≤ 2 * length room.old + 1 }
     ensures bytes { option_map (λ n. take n room.new) result ≡ bytes_in word.now }

@@ -2,7 +2,7 @@ use Rattle.std.proofs.Common.{◌≡◌, ◌<◌, ◌≤◌, true, false, not, s
 use Rattle.std.specs.Prelude.{is_some, vec_capacity}
 use Rattle.run_print.specs.declared.WriteFault.{WriteFault}
 use Rattle.run_text.specs.PeriodText.{alone_text}
-use Rattle.live_node.specs.Live.{LiveView, is_open, correction, run_text}
+use Rattle.live_node.specs.Live.{LiveView, is_open, correction, period_answer}
 use Rattle.live_node.specs.Standing.{IsHeld}
 use Rattle.live_node.specs.Text.{correct_text}
 use Rattle.live_node.proofs.Splitting.{is_some_map}
@@ -54,7 +54,7 @@ returns-in_default-clause-wrote g c =
     let some : 0 < v.next = let next = ap (λ (x : LiveView g.row.N). x.next) same in let some' = c.requires.some in omega (arith, next, some') in
     let lines : alone_text (c.self.inside.next - 1) c.self.inside.id c.config-config.result.now.nodes c.config-config.result.now.policy.retire c.record-outcome.result ≡ period_lines c.args.self.now =
     lines_are v c.args.self.now same (c.self.inside.next - 1) c.config-config.result.now c.record-outcome.result (omega (arith, some)) (held.live.period some) c.config-config.ensures.config c.record-outcome.ensures in
-    front_failed (Unit {0}) (Unit {0}) WriteFault WriteFault (g.K.Sink.written c.args.sink.now) (g.K.Sink.written c.write_alone.new.sink) (g.K.Sink.faults c.args.sink.now) (g.K.Sink.faults c.write_alone.new.sink) (alone_text (c.self.inside.next - 1) c.self.inside.id c.config-config.result.now.nodes c.config-config.result.now.policy.retire c.record-outcome.result) (if is_some c.args.self.now.scenario.clock then correct_text (correction c.args.self.now) else []) (run_text c.args.self.now) c.write_alone.result c.in_default.field-0 _
+    front_failed (Unit {0}) (Unit {0}) WriteFault WriteFault (g.K.Sink.written c.args.sink.now) (g.K.Sink.written c.write_alone.new.sink) (g.K.Sink.faults c.args.sink.now) (g.K.Sink.faults c.write_alone.new.sink) (alone_text (c.self.inside.next - 1) c.self.inside.id c.config-config.result.now.nodes c.config-config.result.now.policy.retire c.record-outcome.result) (if is_some c.args.self.now.scenario.clock then correct_text (correction c.args.self.now) else []) (period_answer c.args.self.now) c.write_alone.result c.in_default.field-0 _
     c.in_default.is (ap (λ xs. xs ++ (if is_some c.args.self.now.scenario.clock then correct_text (correction c.args.self.now) else [])) lines) c.write_alone.ensures
 
 pub returns-then-is_none-clause-wrote : goal.returns-then-is_none-clause-wrote
@@ -67,7 +67,7 @@ returns-then-is_none-clause-wrote g c =
     lines_are v c.args.self.now same (c.self.inside.next - 1) c.config-config.result.now c.record-outcome.result (omega (arith, some)) (held.live.period some) c.config-config.ensures.config c.record-outcome.ensures in
     let clock : is_some c.args.self.now.scenario.clock ≡ false =
     sym (ap (λ (x : LiveView g.row.N). is_some x.scenario.clock) same) ∙ sym (ap is_some c.clock.ensures.clock) ∙ is_some_map _ c.clock.result ∙ c.is_none.ensures ∙ ap not c.if-is_none.true in
-    front_all (Unit {0}) (Unit {0}) WriteFault WriteFault (g.K.Sink.written c.args.sink.now) (g.K.Sink.written c.write_alone.new.sink) (g.K.Sink.faults c.args.sink.now) (g.K.Sink.faults c.write_alone.new.sink) (alone_text (c.self.inside.next - 1) c.self.inside.id c.config-config.result.now.nodes c.config-config.result.now.policy.retire c.record-outcome.result) (run_text c.args.self.now) c.write_alone.result c.in-Ok.field-0 tt c.in-Ok.is (lines ∙ without_clock c.args.self.now clock) c.write_alone.ensures
+    front_all (Unit {0}) (Unit {0}) WriteFault WriteFault (g.K.Sink.written c.args.sink.now) (g.K.Sink.written c.write_alone.new.sink) (g.K.Sink.faults c.args.sink.now) (g.K.Sink.faults c.write_alone.new.sink) (alone_text (c.self.inside.next - 1) c.self.inside.id c.config-config.result.now.nodes c.config-config.result.now.policy.retire c.record-outcome.result) (period_answer c.args.self.now) c.write_alone.result c.in-Ok.field-0 tt c.in-Ok.is (lines ∙ without_clock c.args.self.now clock) c.write_alone.ensures
 
 pub returns-clause-same : goal.returns-clause-same
 returns-clause-same g c =
@@ -84,4 +84,4 @@ returns-clause-wrote g c =
     let clock : is_some c.args.self.now.scenario.clock ≡ true =
     sym (ap (λ (x : LiveView g.row.N). is_some x.scenario.clock) same) ∙ sym (ap is_some c.clock.ensures.clock) ∙ is_some_map _ c.clock.result ∙ c.is_none.ensures ∙ ap not c.if-is_none.false in
     front_and_rest (Unit {0}) WriteFault (g.K.Sink.written c.args.sink.now) (g.K.Sink.written c.write_alone.new.sink) (g.K.Sink.written c.write_correct.new.sink) (g.K.Sink.faults c.args.sink.now) (g.K.Sink.faults c.write_alone.new.sink) (g.K.Sink.faults c.write_correct.new.sink)
-    (alone_text (c.self.inside.next - 1) c.self.inside.id c.config-config.result.now.nodes c.config-config.result.now.policy.retire c.record-outcome.result) (correct_text (correction c.args.self.now)) (run_text c.args.self.now) c.write_alone.result c.write_correct.result c.in-Ok.field-0 c.in-Ok.is (ap (λ xs. xs ++ correct_text (correction c.args.self.now)) lines ∙ with_clock c.args.self.now clock) c.write_alone.ensures c.write_correct.ensures.wrote
+    (alone_text (c.self.inside.next - 1) c.self.inside.id c.config-config.result.now.nodes c.config-config.result.now.policy.retire c.record-outcome.result) (correct_text (correction c.args.self.now)) (period_answer c.args.self.now) c.write_alone.result c.write_correct.result c.in-Ok.field-0 c.in-Ok.is (ap (λ xs. xs ++ correct_text (correction c.args.self.now)) lines ∙ with_clock c.args.self.now clock) c.write_alone.ensures c.write_correct.ensures.wrote
