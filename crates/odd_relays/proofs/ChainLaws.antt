@@ -19,7 +19,7 @@ use Rattle.omh_paths.specs.PathLists.{length-outside}
 use Rattle.node_grid.specs.ListLaws.{has_push}
 use Rattle.omh.specs.Omh.{World, ear, own_term, settled_within, counted_nodes}
 use Rattle.omh.specs.Counting.{TermFits, majority_of_terms, more_outside, enough_longer}
-use Rattle.odd_relays.specs.Chains.{IsPassedOn, is_idle, AreFew, chain_within}
+use Rattle.odd_relays.specs.Chains.{IsPassedOn, relays_nothing, AreFew, chain_within}
 use Rattle.odd_relays.specs.Laws.{ChainLaw, RegularLaw, ToldLaw}
 
 -- ---- the classes of the members as one receiver sees them: it trusts itself
@@ -52,7 +52,7 @@ weight false false false = omega arith
 
 weights : {V : Type 0} (w : World V) (odd : List ℕ) (i : ℕ) (qs : List ℕ)
     → 2 * count (λ q. is_asymmetric (seat w odd i q)) qs + 2 * count (λ q. is_symmetric (seat w odd i q)) qs + count (λ q. is_silent (seat w odd i q)) qs
-    ≤ 2 * count (λ q. has_id odd q) qs + count (λ q. is_idle w odd q) qs
+    ≤ 2 * count (λ q. has_id odd q) qs + count (λ q. relays_nothing w odd q) qs
 unfolding seat
 weights w odd i [] = omega arith
 weights w odd i (q ∷ qs) = let here = weight (has_id odd q) (not (q == i)) (w.is_full q) in let rest = weights w odd i qs in omega arith

@@ -14,7 +14,7 @@ use Rattle.omh_paths.specs.PathLaws.{map_alike, all_outside}
 use Rattle.omh.specs.Omh.{World, ear, own_term}
 use Rattle.equivocation.specs.Conviction.{is_convicted}
 use Rattle.odd_relays.specs.Chains.{IsPassedOn, chain_within}
-use Rattle.odd_relays.specs.Telling.{Telling, heard_from, world_of, settled_item, convicts_commander, HasFewOdd}
+use Rattle.odd_relays.specs.Telling.{Telling, telling_heard, telling_world, settled_item, convicts_commander, HasFewOdd}
 use Rattle.odd_relays.specs.Direct.{direct_world}
 use Rattle.odd_relays.proofs.ChainLaws.{chain_term, chain_now, chain_later, chain_base, chain_odd, chain_law, told_law, chain_common}
 use Rattle.odd_relays.proofs.Tellings.{each_telling_passes}
@@ -24,7 +24,7 @@ module _ {V : Type 0} (t : Telling V) where
   direct = direct_world t
 
   abbrev whole : World V
-  whole = world_of t
+  whole = telling_world t
 
   -- both have this for the path
   abbrev AreSame : List ℕ → Type 0
@@ -33,7 +33,7 @@ module _ {V : Type 0} (t : Telling V) where
   same_root : (c : ℕ) → AreSame (c ∷ [])
   same_root c k = refl
 
-  same_back : (back : List ℕ) (q k : ℕ) → 0 < length back → has_id t.odd q ≡ true → heard_from t k (q ∷ back) ≡ t.says k (reverse (q ∷ back))
+  same_back : (back : List ℕ) (q k : ℕ) → 0 < length back → has_id t.odd q ≡ true → telling_heard t k (q ∷ back) ≡ t.says k (reverse (q ∷ back))
   same_back [] q k some on = absurd (omega arith)
   same_back (b ∷ back) q k some on = cond-true _ _ _ on
 
@@ -44,7 +44,7 @@ module _ {V : Type 0} (t : Telling V) where
       cond-false (length p == 1) (slice_index_or t.told k (Fault 0)) (t.says k p) (ne_eqb (length p) 1 (λ e. omega (arith, length_push path q)))
       ∙ ap (t.says k) (sym (reverse-reverse p)) ∙ ap (λ (xs : List ℕ). t.says k (reverse xs)) turned
       ∙ sym (same_back (reverse path) q k (omega (arith, length-reverse path)) on)
-      ∙ ap (heard_from t k) (sym turned)
+      ∙ ap (telling_heard t k) (sym turned)
 
   same_own : (q : ℕ) (path : List ℕ) → AreSame path → own_term (ear direct q) path ≡ own_term (ear whole q) path
   same_own q path same = ap (λ (v : Wrapped V). if has_id t.full q then wrapped v else Fault 0) (same q)
@@ -148,7 +148,7 @@ count_idle (x ∷ xs) full odd =
 -- ---- what is relayed of the commander directly
 
 pub relay_of : {V : Type 0} → Telling V → ℕ → ℕ → Wrapped V
-relay_of t i q = (world_of t).heard i (t.commander ∷ q ∷ [])
+relay_of t i q = (telling_world t).heard i (t.commander ∷ q ∷ [])
 
 pub relay_odd : {V : Type 0} (t : Telling V) (i q : ℕ) → has_id t.odd q ≡ true → relay_of t i q ≡ t.says i (t.commander ∷ q ∷ [])
 unfolding relay_of
@@ -164,4 +164,4 @@ pub convicts_by : {V : Type 0} (eq : V → V → Bool) (t : Telling V) (i : ℕ)
 unfolding relay_of
 convicts_by eq t i own relays counted a b d =
     ap₂ (λ o rs. is_convicted eq o rs counted t.rounds) a b
-    ∙ ap (λ k. is_convicted eq (slice_index_or t.told i (Fault 0)) (map (λ q. (world_of t).heard i (t.commander ∷ q ∷ [])) (outside t.members (t.commander ∷ i ∷ []))) k t.rounds) d
+    ∙ ap (λ k. is_convicted eq (slice_index_or t.told i (Fault 0)) (map (λ q. (telling_world t).heard i (t.commander ∷ q ∷ [])) (outside t.members (t.commander ∷ i ∷ []))) k t.rounds) d

@@ -14,8 +14,8 @@ use Rattle.omh_paths.specs.Paths.{outside, IsPath}
 use Rattle.omh_paths.specs.PathLaws.{map_alike, all_outside, IsPath-push, off_from, off_longer}
 use Rattle.omh.specs.Omh.{World, ear, own_term, settled}
 use Rattle.odd_relays.specs.Laws.{ViewsLaw}
-use Rattle.odd_relays.specs.Chains.{IsPassedOn, is_idle, AreFew, chain_within, AreOdd}
-use Rattle.odd_relays.specs.Telling.{Telling, world_of, settled_item, convicts_commander, HasFewOdd}
+use Rattle.odd_relays.specs.Chains.{IsPassedOn, relays_nothing, AreFew, chain_within, AreOdd}
+use Rattle.odd_relays.specs.Telling.{Telling, telling_world, settled_item, convicts_commander, HasFewOdd}
 use Rattle.odd_relays.specs.Direct.{direct_world}
 use Rattle.odd_relays.specs.ItemLaws.{IsTellingOf, ItemLaw, ItemConvictsLaw}
 use Rattle.equivocation.specs.Conviction.{is_convicted, relays_of, convicts}
@@ -102,7 +102,7 @@ module _ {V : Type 0} (eq : V → V → Bool) (t : Telling V) (is_full : ℕ →
   settles : IsExact eq → HasFewOdd t → has_id t.members t.commander ≡ true → (i : ℕ) → is_awake i ≡ true → t.commander ≢ i → settled eq w i (t.commander ∷ []) ≡ settled_item eq t i
   settles exact few member i awake ne =
       let c : ℕ = t.commander in
-      let idle = count_members (λ q. is_idle w t.odd q) (λ q. not (has_id t.odd q) && not (has_id t.full q)) t.members (λ q on. ap (λ (b : Bool). not (has_id t.odd q) && not b) (item.full_are q on)) in
+      let idle = count_members (λ q. relays_nothing w t.odd q) (λ q. not (has_id t.odd q) && not (has_id t.full q)) t.members (λ q on. ap (λ (b : Bool). not (has_id t.odd q) && not b) (item.full_are q on)) in
       let fewer : AreFew w t.odd = omega (arith, few, idle) in
       chain_law eq exact w c t.odd is_awake passed fewer member i awake ne
       ∙ same_chain i awake t.rounds [] (root c member) (omega arith) (or_from _ _ (ne_eqb c i ne) refl) (no_odd t.odd) same_root
@@ -112,7 +112,7 @@ module _ {V : Type 0} (eq : V → V → Bool) (t : Telling V) (is_full : ℕ →
 
   module _ (member : has_id t.members t.commander ≡ true) (i : ℕ) (awake : is_awake i ≡ true) (ne : t.commander ≢ i) where
     abbrev whole : World V
-    whole = world_of t
+    whole = telling_world t
 
     -- node i counts itself in both or in neither
     counts_alike : (is_full i && has_id t.members i) ≡ (has_id t.full i && has_id t.members i)

@@ -1,10 +1,9 @@
 -- The terms of a majority, laid one after another behind those of shorter paths.
-use Rattle.std.proofs.Common.{ℕ, ◌≡◌, ◌≢◌, ◌<◌, ◌≤◌, ◌+◌, ◌-◌, ◌==◌, ◌||◌, Bool, true, false, not, List, [], ◌∷◌, ◌++◌, map, take, drop, set, get_or, length, refl, sym, ap, ap₂, subst, ◌∙◌, inl, inr, arith, append_assoc, append-nil, eq-eqb, eqb-true}
+use Rattle.std.proofs.Common.{ℕ, ◌≡◌, ◌≢◌, ◌<◌, ◌≤◌, ◌+◌, ◌==◌, ◌||◌, Bool, true, false, not, List, [], ◌∷◌, ◌++◌, map, take, set, get_or, length, refl, sym, ap, ap₂, subst, ◌∙◌, inl, inr, arith, append_assoc, append-nil, eq-eqb, eqb-true}
 use Rattle.std.specs.Prelude.{slice_get, None, Some}
 use Rattle.std.proofs.lemmas.Bool.{cases_Bool, cond-true, cond-false, cases_eq, not-true, or_cases, or_left, or_right, both_ways}
-use Rattle.std.proofs.lemmas.List.{map-append, get_or-set_same, get_or-set_other, take_more_set, take-take, take_at, drop_at, drop-take, length-take-le, length-append}
-use Rattle.node_grid.specs.NodeSet.{has_id, with_id, without_id, IsIdSet}
-use Rattle.node_grid.specs.NodeSetLaws.{passes_where}
+use Rattle.std.proofs.lemmas.List.{map-append, get_or-set_same, get_or-set_other, take_more_set, length-append}
+use Rattle.node_grid.specs.NodeSet.{has_id, without_id, IsIdSet}
 use Rattle.node_grid.specs.ListLaws.{has_push}
 use Rattle.omh_paths.specs.Paths.{outside}
 use Rattle.omh_paths.specs.PathLists.{has-without, has-without-left}
@@ -19,19 +18,6 @@ laid_more {W} term ys q start was kept now end v terms same room puts is =
     ∙ ap₂ (λ (xs : List W) (u : W). xs ++ u ∷ []) (same ∙ terms) is
     ∙ append_assoc start (map term ys) (term q ∷ [])
     ∙ ap (λ (xs : List W). start ++ xs) (sym (map-append term ys (q ∷ [])))
-
--- what lies behind the start at the end
-pub laid_behind : {W : Type 0} (term : ℕ → W) (ys : List ℕ) (was now : List W) (from end : ℕ) → from ≤ length was → from ≤ end → take end now ≡ take from was ++ map term ys
-    → take (end - from) (drop from now) ≡ map term ys
-laid_behind {W} term ys was now from end low up terms =
-    let e : from + (end - from) ≡ end = omega arith in
-    sym (drop-take from (end - from) now) ∙ ap (λ (k : ℕ). drop from (take k now)) e ∙ ap (drop from) terms ∙ drop_at (take from was) (map term ys) from (length-take-le from was low)
-
--- and what lies before it
-pub laid_before : {W : Type 0} (term : ℕ → W) (ys : List ℕ) (was now : List W) (from end : ℕ) → from ≤ length was → from ≤ end → take end now ≡ take from was ++ map term ys
-    → take from now ≡ take from was
-laid_before term ys was now from end low up terms =
-    sym (take-take from end now up) ∙ ap (take from) terms ∙ take_at (take from was) (map term ys) from (length-take-le from was low)
 
 -- ---- the members outside a path, one after another
 
@@ -79,9 +65,6 @@ each_more P ys q before here i on = elim (or_cases (has_id ys i) (q == i) (sym (
   | inl was ↦ before i was
   | inr is ↦ subst P (eqb-true q i is) here
 ]
-
-pub each_of : (P : ℕ → Type 0) (all ys left : List ℕ) → all ≡ ys ++ left → left ≡ [] → ((i : ℕ) → has_id ys i ≡ true → P i) → (i : ℕ) → has_id all i ≡ true → P i
-each_of P all ys left split none before i on = before i (ap (λ (xs : List ℕ). has_id xs i) (sym (split_all all ys left split none)) ∙ on)
 
 pub laid_each : {W : Type 0} (want : ℕ → W) (ys : List ℕ) (q : ℕ) (was now : List W) (v d : W) → ((i : ℕ) → has_id ys i ≡ true → get_or was i d ≡ want i) → q < length was → now ≡ set was q v → v ≡ want q
     → (i : ℕ) → has_id (ys ++ q ∷ []) i ≡ true → get_or now i d ≡ want i
@@ -137,16 +120,3 @@ none_of (x ∷ xs) i h = absurd (cc)
 pub first_on : (xs : List ℕ) (q : ℕ) → slice_get xs 0 ≡ Some q → has_id xs q ≡ true
 first_on [] q h = absurd (cc)
 first_on (x ∷ xs) q h = let e : x ≡ q = cc in or_left (x == q) (has_id xs q) (eq-eqb x q e)
-
--- nodes that were gone through are none of the others
-pub off_done : (nodes done ys left : List ℕ) (c : ℕ) → nodes ≡ ys ++ left → ((k : ℕ) → has_id done k ≡ true → has_id ys k ≡ true) → has_id nodes c ≡ false → has_id done c ≡ false
-off_done nodes done ys left c split through off = elim (cases_Bool (has_id done c)) [
-  | inr n ↦ n
-  | inl y ↦ absurd (both_ways _ off (ap (λ (xs : List ℕ). has_id xs c) split ∙ has_front ys left c (through c y)))
-]
-
-pub done_more : (n : ℕ) (done now ys : List ℕ) (q : ℕ) → ((k : ℕ) → has_id done k ≡ true → has_id ys k ≡ true) → now ≡ with_id n done q → (k : ℕ) → has_id now k ≡ true → has_id (ys ++ q ∷ []) k ≡ true
-done_more n done now ys q through is k on = elim (or_cases (k == q) (has_id done k) (passes_where (λ x. (x == q) || has_id done x) n k (ap (λ (xs : List ℕ). has_id xs k) (sym is) ∙ on))) [
-  | inl here ↦ has_push ys q k ∙ or_right (has_id ys k) (q == k) (eq-eqb q k (sym (eqb-true k q here)))
-  | inr was ↦ has_push ys q k ∙ or_left (has_id ys k) (q == k) (through k was)
-]

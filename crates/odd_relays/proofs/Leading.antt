@@ -6,7 +6,7 @@ use Rattle.node_grid.specs.NodeSet.{has_id, with_id}
 use Rattle.node_grid.specs.NodeSetLaws.{passes_where, has-with_id}
 use Rattle.node_grid.specs.ListLaws.{has_push}
 use Rattle.odd_relays.specs.Telling.{Telling}
-use Rattle.odd_relays.specs.Work.{AreAlike, IsLedBy}
+use Rattle.odd_relays.specs.Work.{HearAlike, IsLedBy}
 
 -- a leader is one of those before, or the node that was gone through last
 pub leader_within : (leaders ys : List ℕ) (i x : ℕ) → ((j : ℕ) → has_id leaders j ≡ true → has_id ys j ≡ true) → (x ≢ i → has_id leaders x ≡ true) → has_id (ys ++ i ∷ []) x ≡ true
@@ -27,7 +27,7 @@ module _ {V : Type 0} (t : Telling V) (n : ℕ) (leaders more : List ℕ) (x : �
   led_still : (i j : ℕ) → IsLedBy t leaders i j → IsLedBy t more i j
   led_still i j led = record { among = ap (λ (s : List ℕ). has_id s j) is ∙ has-with_id n leaders x j (low j led.among) ∙ or_right (j == x) (has_id leaders j) led.among; alike = led.alike }
 
-  pub led_more : (ys was now : List ℕ) (q : ℕ) → ((i : ℕ) → has_id ys i ≡ true → IsLedBy t leaders i (get_or was i 0)) → q < length was → now ≡ set was q x → x < n → (q ≡ x) ⊎ AreAlike t q x
+  pub led_more : (ys was now : List ℕ) (q : ℕ) → ((i : ℕ) → has_id ys i ≡ true → IsLedBy t leaders i (get_or was i 0)) → q < length was → now ≡ set was q x → x < n → (q ≡ x) ⊎ HearAlike t q x
       → (i : ℕ) → has_id (ys ++ q ∷ []) i ≡ true → IsLedBy t more i (get_or now i 0)
   led_more ys was now q before fits puts here alike i on = elim (cases_eq i q) [
     | inl e ↦

@@ -16,8 +16,8 @@ use Rattle.omh_paths.specs.PathLists.{outside_nothing}
 use Rattle.omh.specs.Omh.{World, ear, own_term}
 use Rattle.equivocation.specs.Conviction.{is_present, disagrees, tolerated, convicts}
 use Rattle.equivocation.specs.ConvictionLaws.{agrees-wrapped, unrelayed}
-use Rattle.odd_relays.specs.Chains.{IsPassedOn, is_idle, AreFew, IsToldAlike}
-use Rattle.odd_relays.specs.Laws.{SparedLaw}
+use Rattle.odd_relays.specs.Chains.{IsPassedOn, relays_nothing, AreFew, IsToldAlike}
+use Rattle.odd_relays.specs.Laws.{ToldSparedLaw}
 use Rattle.odd_relays.proofs.ChainLaws.{root}
 
 -- whether q is Full and not odd
@@ -59,7 +59,7 @@ kinds true f = refl
 kinds false true = refl
 kinds false false = refl
 
-all_kinds : {V : Type 0} (w : World V) (odd qs : List ℕ) → count (λ q. has_id odd q) qs + count (λ q. is_idle w odd q) qs + count (passes_on w odd) qs ≡ length qs
+all_kinds : {V : Type 0} (w : World V) (odd qs : List ℕ) → count (λ q. has_id odd q) qs + count (λ q. relays_nothing w odd q) qs + count (passes_on w odd) qs ≡ length qs
 unfolding passes_on
 all_kinds w odd [] = refl
 all_kinds w odd (q ∷ qs) = let here = kinds (has_id odd q) (w.is_full q) in let rest = all_kinds w odd qs in omega arith
@@ -137,5 +137,5 @@ module _ {V : Type 0} (eq : V → V → Bool) (exact : IsExact eq) (w : World V)
     | inr none ↦ unrelayed eq own (map relay voices) (w.is_full i && has_id w.members i) w.rounds (omega arith)
   ]
 
-pub spared_law : {V : Type 0} (eq : V → V → Bool) → IsExact eq → SparedLaw eq
+pub spared_law : {V : Type 0} (eq : V → V → Bool) → IsExact eq → ToldSparedLaw eq
 spared_law eq exact w c odd is_awake passed few member v alike i awake ne = spared eq exact w c odd is_awake passed few i v member alike awake ne

@@ -6,12 +6,12 @@ use Rattle.std.proofs.lemmas.List.{reverse-append, length-reverse}
 use Rattle.node_grid.specs.NodeSet.{has_id}
 use Rattle.omh_paths.specs.declared.wrapped.Wrapped.TheVariants.{Fault}
 use Rattle.omh_paths.specs.Wrapped.{wrapped}
-use Rattle.odd_relays.specs.Telling.{Telling, heard_from}
+use Rattle.odd_relays.specs.Telling.{Telling, telling_heard}
 use Rattle.odd_relays.specs.ItemLaws.{EachTellingIsPassedOn}
 
 -- what a member that isn't odd passes on, given from the path's last node back
 passes : {V : Type 0} (t : Telling V) (i q : ℕ) (back : List ℕ) → 0 < length back → has_id t.odd q ≡ false
-    → heard_from t i (q ∷ back) ≡ (if has_id t.full q then wrapped (heard_from t q back) else Fault 0)
+    → telling_heard t i (q ∷ back) ≡ (if has_id t.full q then wrapped (telling_heard t q back) else Fault 0)
 passes t i q [] some regular = absurd (omega arith)
 passes t i q (b ∷ back) some regular = cond-false _ _ _ regular
 
@@ -20,5 +20,5 @@ each_telling_passes V t is_awake distinct full = record {
   distinct = distinct;
   full = full;
   relays = λ front q i grown regular awake off.
-      ap (heard_from t i) (reverse-append (t.commander ∷ front) (q ∷ [])) ∙ passes t i q (reverse (t.commander ∷ front)) (omega (arith, length-reverse (t.commander ∷ front))) regular;
+      ap (telling_heard t i) (reverse-append (t.commander ∷ front) (q ∷ [])) ∙ passes t i q (reverse (t.commander ∷ front)) (omega (arith, length-reverse (t.commander ∷ front))) regular;
 }

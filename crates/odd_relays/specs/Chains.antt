@@ -18,12 +18,12 @@ pub record IsPassedOn {V : Type 0} (w : World V) (c : ℕ) (odd : List ℕ) (is_
       → w.heard i (c ∷ (front ++ q ∷ [])) ≡ own_term (ear w q) (c ∷ front)
 
 -- whether the relays of q are as they should be, and say nothing
-abbrev pub is_idle : {V : Type 0} → World V → List ℕ → ℕ → Bool
-is_idle w odd q = not (has_id odd q) && not (w.is_full q)
+abbrev pub relays_nothing : {V : Type 0} → World V → List ℕ → ℕ → Bool
+relays_nothing w odd q = not (has_id odd q) && not (w.is_full q)
 
 -- n > 2o + z + m: of n members o are odd, and z of the others aren't Full
 abbrev pub AreFew : {V : Type 0} → World V → List ℕ → Type 0
-AreFew w odd = 2 * count (λ q. has_id odd q) w.members + count (λ q. is_idle w odd q) w.members + w.rounds < length w.members
+AreFew w odd = 2 * count (λ q. has_id odd q) w.members + count (λ q. relays_nothing w odd q) w.members + w.rounds < length w.members
 
 -- member c told all other nodes that are awake this of its item
 abbrev pub IsToldAlike : {V : Type 0} → World V → (ℕ → Bool) → ℕ → Wrapped V → Type 0

@@ -7,7 +7,7 @@ use Rattle.omh_paths.specs.Paths.{IsPath}
 use Rattle.omh.specs.Omh.{World, ear, settled}
 use Rattle.equivocation.specs.Conviction.{convicts}
 use Rattle.odd_relays.specs.Chains.{IsPassedOn, AreOdd}
-use Rattle.odd_relays.specs.Telling.{Telling, world_of, settled_item, convicts_commander, HasFewOdd}
+use Rattle.odd_relays.specs.Telling.{Telling, telling_world, settled_item, convicts_commander, HasFewOdd}
 
 -- in a world, this is what the nodes that are awake hear of the commander itself, and for paths of odd members behind it
 pub record IsTellingOf {V : Type 0} (w : World V) (is_awake : ℕ → Bool) (t : Telling V) : Type 0 where
@@ -38,4 +38,4 @@ abbrev pub EachTellingIsPassedOn : Type 0 → Type 0
 EachTellingIsPassedOn V =
     (t : Telling V) (is_awake : ℕ → Bool) → Distinct t.members
     → ((q : ℕ) → has_id t.members q ≡ true → has_id t.full q ≡ true → is_awake q ≡ true)
-    → IsPassedOn (world_of t) t.commander t.odd is_awake
+    → IsPassedOn (telling_world t) t.commander t.odd is_awake

@@ -30,8 +30,8 @@ ToldLaw {V} eq =
     → settled eq w i (c ∷ []) ≡ v
 
 -- and nobody convicts it
-abbrev pub SparedLaw : {V : Type 0} → (V → V → Bool) → Type 0
-SparedLaw {V} eq =
+abbrev pub ToldSparedLaw : {V : Type 0} → (V → V → Bool) → Type 0
+ToldSparedLaw {V} eq =
     (w : World V) (c : ℕ) (odd : List ℕ) (is_awake : ℕ → Bool) → IsPassedOn w c odd is_awake → AreFew w odd
     → has_id w.members c ≡ true → (v : Wrapped V) → IsToldAlike w is_awake c v → (i : ℕ) → is_awake i ≡ true → c ≢ i
     → convicts eq (ear w i) c ≡ false

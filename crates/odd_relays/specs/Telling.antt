@@ -34,25 +34,25 @@ telling says x = record {
 }
 
 -- what node i hears for a path of q and the nodes before it, given from the last one back
-abbrev pub heard_back : {V : Type 0} → Telling V → ℕ → ℕ → List ℕ → Wrapped V
-heard_back t i q [] = slice_index_or t.told i (Fault 0)
-heard_back t i q (b ∷ back) =
-    if has_id t.odd q then t.says i (reverse (q ∷ b ∷ back)) else if has_id t.full q then wrapped (heard_back t q b back) else Fault 0
+abbrev pub telling_back : {V : Type 0} → Telling V → ℕ → ℕ → List ℕ → Wrapped V
+telling_back t i q [] = slice_index_or t.told i (Fault 0)
+telling_back t i q (b ∷ back) =
+    if has_id t.odd q then t.says i (reverse (q ∷ b ∷ back)) else if has_id t.full q then wrapped (telling_back t q b back) else Fault 0
 
-abbrev pub heard_from : {V : Type 0} → Telling V → ℕ → List ℕ → Wrapped V
-heard_from t i [] = Fault 0
-heard_from t i (q ∷ back) = heard_back t i q back
+abbrev pub telling_heard : {V : Type 0} → Telling V → ℕ → List ℕ → Wrapped V
+telling_heard t i [] = Fault 0
+telling_heard t i (q ∷ back) = telling_back t i q back
 
 -- the world of it
-abbrev pub world_of : {V : Type 0} → Telling V → World V
-world_of t = record { rounds = t.rounds; members = t.members; is_full = λ q. has_id t.full q; heard = λ i path. heard_from t i (reverse path) }
+abbrev pub telling_world : {V : Type 0} → Telling V → World V
+telling_world t = record { rounds = t.rounds; members = t.members; is_full = λ q. has_id t.full q; heard = λ i path. telling_heard t i (reverse path) }
 
 -- what node i settles for the item, and whether it convicts its commander
 abbrev pub settled_item : {V : Type 0} → (V → V → Bool) → Telling V → ℕ → Wrapped V
-settled_item eq t i = settled eq (world_of t) i (t.commander ∷ [])
+settled_item eq t i = settled eq (telling_world t) i (t.commander ∷ [])
 
 abbrev pub convicts_commander : {V : Type 0} → (V → V → Bool) → Telling V → ℕ → Bool
-convicts_commander eq t i = convicts eq (ear (world_of t) i) t.commander
+convicts_commander eq t i = convicts eq (ear (telling_world t) i) t.commander
 
 -- n > 2o + z + m: of n members o are odd, and z of the others aren't Full
 abbrev pub HasFewOdd : {V : Type 0} → Telling V → Type 0

@@ -15,7 +15,7 @@ abbrev pub KeepsBelow : {V : Type 0} → ℕ → List (Wrapped V) → List (Wrap
 KeepsBelow from old new = (k : ℕ) → k < from → slice_index_or new k (Fault 0) ≡ slice_index_or old k (Fault 0)
 
 -- nodes i and j aren't odd, and odd members pass on the same to both in the last round
-pub record AreAlike {V : Type 0} (t : Telling V) (i j : ℕ) : Type 0 where
+pub record HearAlike {V : Type 0} (t : Telling V) (i j : ℕ) : Type 0 where
   pub relayed : 0 < t.rounds
   pub first : has_id t.odd i ≡ false
   pub second : has_id t.odd j ≡ false
@@ -24,4 +24,4 @@ pub record AreAlike {V : Type 0} (t : Telling V) (i j : ℕ) : Type 0 where
 -- node i settles what node j does, one of these
 pub record IsLedBy {V : Type 0} (t : Telling V) (leaders : List ℕ) (i j : ℕ) : Type 0 where
   pub among : has_id leaders j ≡ true
-  pub alike : (i ≡ j) ⊎ AreAlike t i j
+  pub alike : (i ≡ j) ⊎ HearAlike t i j

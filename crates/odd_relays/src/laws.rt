@@ -2,7 +2,7 @@
 
 ghost use Rattle.omh_paths.specs.Wrapped.{IsExact};
 ghost use Rattle.odd_relays.specs.ItemLaws.{ItemLaw, ItemConvictsLaw, EachTellingIsPassedOn};
-ghost use Rattle.odd_relays.specs.Laws.{ChainLaw, RegularLaw, ViewsLaw, ToldLaw, SparedLaw};
+ghost use Rattle.odd_relays.specs.Laws.{ChainLaw, RegularLaw, ViewsLaw, ToldLaw, ToldSparedLaw};
 
 /// Chain law: what a node settles for another member's item, it settles from paths of odd members
 /// alone.
@@ -17,7 +17,7 @@ pub fn chains<V: Copy + Eq>()
 pub fn told<V: Copy + Eq>()
     requires { IsExact V.eq }
     ensures settles { ToldLaw V.eq }
-    ensures spared { SparedLaw V.eq }
+    ensures spared { ToldSparedLaw V.eq }
 {}
 
 /// The laws speak of something: whatever is told, and whatever odd members pass on, there is a

@@ -6,7 +6,7 @@ ghost use Rattle.node_grid.specs.NodeSet.{has_id};
 ghost use Rattle.omh_paths.specs.declared.wrapped.Wrapped.TheVariants.{Fault};
 ghost use Rattle.omh_paths.specs.Wrapped.{IsExact};
 ghost use Rattle.odd_relays.specs.Telling.{telling, IsTelling, HasFewOdd, settled_item};
-ghost use Rattle.odd_relays.specs.Work.{AreAlike, IsLedBy};
+ghost use Rattle.odd_relays.specs.Work.{HearAlike, IsLedBy};
 
 use crate::chains::WORK;
 use crate::item::{Item, Relays};
@@ -62,7 +62,7 @@ impl<'a, V: Copy + Eq, S: Relays<V>, const N: usize> Item<'a, V, S, N> {
         requires relayed { 0 < self.now.phase.rounds }
         requires regular { has_id self.now.odd i ≡ false }
         ensures node { IfSome result (λ j. has_id nodes.now j ≡ true) }
-        ensures alike { IfSome result (AreAlike (telling S.says self.now) i) }
+        ensures alike { IfSome result (HearAlike (telling S.says self.now) i) }
     {
         for j in nodes.iter() {
             if !self.odd.has(j) && self.relays.is_alike(i, j, self.phase.rounds + 1) {
@@ -77,7 +77,7 @@ impl<'a, V: Copy + Eq, S: Relays<V>, const N: usize> Item<'a, V, S, N> {
     fn find_leader(&self, leaders: &NodeSet<N>, i: u8) -> u8
         requires item { IsTelling N (telling S.says self.now) }
         ensures among { result ≢ i → has_id leaders.now result ≡ true }
-        ensures alike { (i ≡ result) ⊎ AreAlike (telling S.says self.now) i result }
+        ensures alike { (i ≡ result) ⊎ HearAlike (telling S.says self.now) i result }
     {
         if self.phase.rounds == 0 || self.odd.has(i) {
             return i;

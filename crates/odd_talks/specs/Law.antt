@@ -10,8 +10,8 @@ use Rattle.protocol.specs.Accepted.{IsAccepted}
 use Rattle.odd_relays.specs.Chains.{IsPassedOn}
 
 -- all nodes in the slots of one kind of item, by what each has of them
-abbrev pub world_of : {V : Type 0} → System → ℕ → List ℕ → (ℕ → Rounds V) → World V
-world_of sys p members x = record { rounds = sys.setting.config.m; members = members; is_full = full_at sys p (goes_in sys p); heard = λ i. heard (x i) }
+abbrev pub received_world : {V : Type 0} → System → ℕ → List ℕ → (ℕ → Rounds V) → World V
+received_world sys p members x = record { rounds = sys.setting.config.m; members = members; is_full = full_at sys p (goes_in sys p); heard = λ i. heard (x i) }
 
 -- what node i has of node j's relay frame of round r says of the item of c what j puts into its own majorities
 abbrev pub SaysOwnTerms : {V : Type 0} → World V → (ℕ → Rounds V) → ℕ → ℕ → ℕ → ℕ → Type 0
@@ -27,18 +27,18 @@ pub record IsRelayed {V : Type 0} (sys : System) (p first : ℕ) (x : ℕ → Ro
   pub full : (q : ℕ) → has_id members q ≡ true → full_at sys p (goes_in sys p) q ≡ true → is_awake q ≡ true
   pub goes : (i : ℕ) → is_awake i ≡ true → members_of sys p (goes_in sys p) i ≡ members
   pub regular : (r j i : ℕ) → 0 < r → r ≤ sys.setting.config.m → has_id members j ≡ true → has_id odd j ≡ false → is_awake i ≡ true → j ≢ i
-      → (change_at sys p (first + r) j i ≡ None) ⊎ SaysOwnTerms (world_of sys p members x) x c r j i
+      → (change_at sys p (first + r) j i ≡ None) ⊎ SaysOwnTerms (received_world sys p members x) x c r j i
 
 -- Law: so the claim of c is passed on
-abbrev pub ClaimsLaw : Type 0
-ClaimsLaw =
+abbrev pub ClaimPassedOnLaw : Type 0
+ClaimPassedOnLaw =
     (sys : System) → IsAccepted sys → (p : ℕ) (members : List ℕ) (c : ℕ) (odd : List ℕ) (is_awake : ℕ → Bool)
     → IsRelayed sys p 1 (λ i. ((run sys).received i p).done) members c odd is_awake
-    → IsPassedOn (world_of sys p members (λ i. ((run sys).received i p).done)) c odd is_awake
+    → IsPassedOn (received_world sys p members (λ i. ((run sys).received i p).done)) c odd is_awake
 
 -- Law: and its row
-abbrev pub RowsLaw : Type 0
-RowsLaw =
+abbrev pub RowPassedOnLaw : Type 0
+RowPassedOnLaw =
     (sys : System) → IsAccepted sys → (p : ℕ) (members : List ℕ) (c : ℕ) (odd : List ℕ) (is_awake : ℕ → Bool)
     → IsRelayed sys p (sys.setting.config.m + 3) (λ i. ((run sys).received i p).report) members c odd is_awake
-    → IsPassedOn (world_of sys p members (λ i. ((run sys).received i p).report)) c odd is_awake
+    → IsPassedOn (received_world sys p members (λ i. ((run sys).received i p).report)) c odd is_awake

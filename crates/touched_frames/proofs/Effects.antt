@@ -1,15 +1,14 @@
 -- What is found of a frame by what befalls it.
-use Rattle.std.proofs.Common.{ℕ, ◌≡◌, ◌<◌, ◌≤◌, ◌+◌, ◌-◌, ◌==◌, Bool, true, false, List, [], ◌∷◌, ◌++◌, length, take, refl, sym, ap, ap₂, ◌∙◌, arith, eqb-true, Option, Some, None, Vec, Global}
-use Rattle.std.specs.Prelude.{if◌then◌else◌}
-use Rattle.std.proofs.lemmas.Bool.{cond-true, cond-false, cases_Bool}
+use Rattle.std.proofs.Common.{ℕ, ◌≡◌, ◌<◌, ◌≤◌, ◌+◌, ◌-◌, true, false, List, [], ◌∷◌, length, take, refl, sym, ap, ap₂, ◌∙◌, arith, eqb-true, Option, Some, None, Vec, Global}
+use Rattle.std.proofs.lemmas.Bool.{cond-true, cond-false}
 use Rattle.std.proofs.lemmas.List.{take_all}
 use Rattle.slot_plan.specs.Ticks.{is_in_window}
-use Rattle.node_grid.specs.Kinds.{missing, malformed, timing, cold}
-use Rattle.frames.specs.Content.{Content, Expectation, State, Done0, DoneRelay, Data, Report0, ReportRelay, Cold, kind, is_cold}
+use Rattle.node_grid.specs.Kinds.{malformed, timing, cold}
+use Rattle.frames.specs.Content.{Content, Expectation, State, Done0, DoneRelay, Data, Report0, ReportRelay, Cold, is_cold}
 use Rattle.frames.specs.Spelling.{spelling, body_spelling, head_of, IsInRange}
 use Rattle.frames.specs.Reading.{reading}
 use Rattle.frames.specs.ReadingLaws.{has_no_front, body_length}
-use Rattle.error_detect.specs.Finding.{Delivery, finding, told, found_of, told_of, kind_of}
+use Rattle.error_detect.specs.Finding.{finding, told, found_of, told_of, kind_of}
 use Rattle.error_detect.specs.declared.finding.Finding.{Finding}
 use Rattle.error_detect.specs.declared.finding.Finding.TheVariants as found
 use Rattle.fault_classes.specs.declared.effect.Effect.{Effect}
@@ -19,8 +18,7 @@ use Rattle.frames.specs.declared.frame.Head.{Head}
 use Rattle.frames.specs.Writing.{pasted}
 use Rattle.frames.specs.PieceLaws.{take-pasted}
 use Rattle.fault_classes.specs.Change.Change.{Drop, Cut, Twice, Time, Set, Raw}
-use Rattle.fault_link.specs.Arrival.{delivered_of}
-use Rattle.protocol.specs.Arrival.{Arrival, arrival, arrived, read_as}
+use Rattle.protocol.specs.Arrival.{arrival, arrived}
 use Rattle.protocol.specs.Arrival.Arrival.{Bad, Good}
 use Rattle.protocol.specs.Talk.{arrives, frame_by}
 use Rattle.touched_frames.specs.Arrived.{arrived_as, needs_bytes, replaced, part_of, IsSentAs, PartsLaw}

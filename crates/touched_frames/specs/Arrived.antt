@@ -1,5 +1,5 @@
 -- What a receiver has of a whole frame.
-use Rattle.std.specs.Prelude.{ℕ, ◌≡◌, Bool, true, false, ◌==◌, List, Option, Some, None}
+use Rattle.std.specs.Prelude.{ℕ, ◌≡◌, Bool, true, false, ◌==◌, List, Option, Some}
 use Rattle.slot_plan.specs.Ticks.{is_in_window}
 use Rattle.frames.specs.Content.{Content, Expectation}
 use Rattle.frames.specs.Seen.{content}

@@ -26,13 +26,7 @@ pub fn unread_kind(effect: &Effect) -> Option<u8>
     match effect {
         Effect::Drop => Some(MISSING),
         Effect::Twice => Some(MALFORMED),
-        Effect::Cut(count) => {
-            if *count > 0 {
-                Some(MALFORMED)
-            } else {
-                None
-            }
-        }
+        Effect::Cut(count) => { if *count > 0 { Some(MALFORMED) } else { None } }
         Effect::Time(tick) => {
             if is_in_window(*tick) {
                 None

@@ -10,12 +10,12 @@ mixed k [] = k
 mixed k (q ∷ path) = mixed ((7 * k + q) % 251) path
 
 -- the value of a number
-abbrev pub value_of : ℕ → Wrapped ℕ
-value_of k = if nat_lt (k % 5) 2 then Fault (k % 5) else Plain (k % 5)
+abbrev pub drawn_value : ℕ → Wrapped ℕ
+drawn_value k = if nat_lt (k % 5) 2 then Fault (k % 5) else Plain (k % 5)
 
 -- which of its accounts a receiver is given: with thirds, one of three in the last round
 abbrev pub account_of : Lies → ℕ → ℕ → ℕ
 account_of s to len = if s.by_thirds && (len == s.last) then to % 3 else to
 
-abbrev pub lie_of : Lies → ℕ → List ℕ → Wrapped ℕ
-lie_of s to path = value_of (mixed ((s.seed + 31 * account_of s to (length path)) % 251) path)
+abbrev pub drawn_lie : Lies → ℕ → List ℕ → Wrapped ℕ
+drawn_lie s to path = drawn_value (mixed ((s.seed + 31 * account_of s to (length path)) % 251) path)

@@ -4,7 +4,7 @@ ghost use Rattle.std.specs.Prelude.{◌≡◌, ◌≢◌, ◌<◌, ◌≤◌, �
 ghost use Rattle.node_grid.specs.NodeSet.{has_id};
 ghost use Rattle.omh_paths.specs.declared.wrapped.Wrapped.TheVariants.{Fault};
 
-use crate::lies::{Lies, value_of};
+use crate::lies::{Lies, drawn_value};
 use node_grid::NodeSet;
 use omh_paths::Wrapped;
 
@@ -106,10 +106,10 @@ impl Draws {
     fn told(&mut self) -> [Wrapped<u8>; 16]
         ensures { All (λ v. v ≢ Fault 255) result }
     {
-        let mut told = [value_of(self.below(5) as u32); 16];
+        let mut told = [drawn_value(self.below(5) as u32); 16];
         if self.below(3) > 0 {
             for k in 0..16 {
-                told[k] = value_of(self.below(5) as u32);
+                told[k] = drawn_value(self.below(5) as u32);
             }
         }
         told

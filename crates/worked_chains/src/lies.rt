@@ -2,7 +2,7 @@
 
 ghost use Rattle.std.specs.Prelude.{ℕ, ◌≡◌, ◌≢◌, ◌+◌, ◌*◌, ◌<◌, ◌≤◌, ◌%◌, length, true, List, drop, take};
 ghost use Rattle.omh_paths.specs.declared.wrapped.Wrapped.TheVariants.{Fault};
-ghost use Rattle.worked_chains.specs.Lies.{mixed, value_of, account_of, lie_of};
+ghost use Rattle.worked_chains.specs.Lies.{mixed, drawn_value, account_of, drawn_lie};
 
 use odd_relays::Relays;
 use omh_paths::{Path, Wrapped};
@@ -30,8 +30,8 @@ fn mix(k: u32, q: u8) -> u32
 }
 
 /// The value of a number.
-pub fn value_of(k: u32) -> Wrapped<u8>
-    ensures value { result ≡ value_of k }
+pub fn drawn_value(k: u32) -> Wrapped<u8>
+    ensures value { result ≡ drawn_value k }
     ensures known { result ≢ Fault 255 }
 {
     let rest = (k % 5) as u8;
@@ -57,7 +57,7 @@ impl Lies {
     /// What a receiver is told for these nodes of a path.
     pub fn told(&self, to: u8, nodes: &[u8]) -> Wrapped<u8>
         requires { length nodes.now ≤ 4 }
-        ensures told { result ≡ lie_of self.now to nodes.now }
+        ensures told { result ≡ drawn_lie self.now to nodes.now }
         ensures known { result ≢ Fault 255 }
     {
         let account = self.account(to, nodes.len() as u8);
@@ -65,7 +65,7 @@ impl Lies {
         for q in nodes {
             k = mix(k, *q);
         }
-        value_of(k)
+        drawn_value(k)
     }
 }
 
@@ -81,7 +81,7 @@ fn nodes_of(path: &Path) -> [u8; 4]
 }
 
 impl Relays<u8> for Lies {
-    ghost says = { lie_of };
+    ghost says = { drawn_lie };
 
     fn said(&self, to: u8, path: &Path) -> Wrapped<u8> {
         let nodes = nodes_of(path);

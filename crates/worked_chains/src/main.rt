@@ -9,7 +9,7 @@ mod plain;
 ghost use Rattle.std.specs.Prelude.{◌≡◌, ℕ, length, true};
 ghost use Rattle.node_grid.specs.NodeSet.{has_id};
 ghost use Rattle.odd_relays.specs.Telling.{telling, IsTelling, HasFewOdd};
-ghost use Rattle.worked_chains.specs.Lies.{lie_of};
+ghost use Rattle.worked_chains.specs.Lies.{drawn_lie};
 
 use draws::{Drawn, Draws};
 use lies::Lies;
@@ -56,8 +56,8 @@ fn settle_each(
     work: &mut [Wrapped<u8>],
     all: &mut [Wrapped<u8>],
 )
-    requires item { IsTelling 16 (telling lie_of item.now) }
-    requires few { HasFewOdd (telling lie_of item.now) }
+    requires item { IsTelling 16 (telling drawn_lie item.now) }
+    requires few { HasFewOdd (telling drawn_lie item.now) }
     requires room { length work.old ≡ WORK }
     requires places { length all.old ≡ 16 }
     ensures room { length work.new ≡ WORK }
@@ -78,7 +78,7 @@ fn are_convicting(
     awake: &NodeSet<16>,
     work: &mut [Wrapped<u8>],
 ) -> bool
-    requires item { IsTelling 16 (telling lie_of item.now) }
+    requires item { IsTelling 16 (telling drawn_lie item.now) }
     requires room { length work.old ≡ WORK }
     ensures room { length work.new ≡ WORK }
 {
@@ -98,8 +98,8 @@ fn count_settled(
     awake: &NodeSet<16>,
     work: &mut [Wrapped<u8>],
 )
-    requires item { IsTelling 16 (telling lie_of item.now) }
-    requires few { HasFewOdd (telling lie_of item.now) }
+    requires item { IsTelling 16 (telling drawn_lie item.now) }
+    requires few { HasFewOdd (telling drawn_lie item.now) }
     requires full { (q : ℕ) → has_id item.now.phase.full q ≡ true → has_id awake.now q ≡ true }
     requires room { length work.old ≡ WORK }
     ensures room { length work.new ≡ WORK }

@@ -1,4 +1,4 @@
-use Rattle.std.proofs.Common.{ℕ, List, take, sym, ap, ◌∙◌, None, Option}
+use Rattle.std.proofs.Common.{ℕ, List, take, sym, ap, ◌∙◌}
 use Rattle.std.specs.Prelude.{is_none}
 use Rattle.frames.specs.Seen.{content, expected}
 use Rattle.fault_classes.specs.Change.{change_of}
