@@ -3,11 +3,14 @@
 
 mod charges;
 mod draws;
+mod largest;
 mod lies;
 mod tables;
 
 fn main(rt: HostRuntime) -> anyhow::Result<()> {
     charges::print(&rt)?;
     tables::print(&rt)?;
-    lies::print(&rt)
+    lies::print(&rt)?;
+    largest::print(&rt)?;
+    Ok(())
 }

@@ -1,4 +1,4 @@
-//! Plans that a rule refuses, and the most lines.
+//! Plans that a rule refuses, the most lines, and the largest plan.
 
 use fault_classes::{Effect, FaultLine, FaultPlan, PlanError, Restart};
 use node_grid::NodeSet;
@@ -158,8 +158,27 @@ fn of_many(rt: &HostRuntime) -> anyhow::Result<()> {
     plan(rt, "4097 lines", many, &[])
 }
 
+fn of_sixteen(rt: &HostRuntime) -> anyhow::Result<()> {
+    let (lines, restarts) = (Vec::new(rt.alloc()), Vec::new(rt.alloc()));
+    let made: Result<FaultPlan<16>, PlanError> = FaultPlan::new(
+        rt.alloc(),
+        16,
+        3,
+        1024,
+        lines,
+        restarts,
+    );
+    row(
+        rt,
+        "a plan of sixteen nodes in 1024 periods can be had",
+        made.is_ok(),
+    )?;
+    Ok(())
+}
+
 pub fn print(rt: &HostRuntime) -> anyhow::Result<()> {
     of_lines(rt)?;
     of_restarts(rt)?;
-    of_many(rt)
+    of_many(rt)?;
+    of_sixteen(rt)
 }
