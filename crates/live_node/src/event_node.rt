@@ -191,7 +191,8 @@ impl<'s, const N: usize> EventNode<'s, N> {
         }
     }
 
-    /// Whether a period may begin now: the next one, or a later one where the node has forgotten all.
+    /// Whether a period may begin now: the next one, or a later one where the node has forgotten
+    /// all.
     fn may_begin(&self, named: Option<u32>) -> bool
         ensures { result ≡ may_begin self.now named }
     {
@@ -305,7 +306,8 @@ impl<'s, const N: usize> EventNode<'s, N> {
         requires slot { slot ≡ self.old.node.phase.slot }
         ensures same { self.new ≡ self.old }
         ensures wrote { Writes (K.written sink.old) (K.written sink.new)
-            (K.faults sink.old) (K.faults sink.new) (say_text slot (frame_of self.old.node)) result }
+            (K.faults sink.old) (K.faults sink.new)
+            (say_text slot (frame_of self.old.node)) result }
     {
         self.node.say(&mut self.frame);
         spell_say(slot, self.frame.as_slice(), &mut self.text);

@@ -46,8 +46,8 @@ pub(crate) fn spell_correct(by: i64, text: &mut Vec<u8>)
 
 /// Writes a line.
 pub(crate) fn write<K: Sink>(line: &[u8], sink: &mut K) -> Result<(), WriteFault>
-    ensures { Writes (K.written sink.old) (K.written sink.new) (K.faults sink.old) (K.faults sink.new)
-        line.now result }
+    ensures { Writes (K.written sink.old) (K.written sink.new)
+        (K.faults sink.old) (K.faults sink.new) line.now result }
 {
     match write_all(sink, line) {
         Ok(()) => Ok(()),
