@@ -9,6 +9,7 @@ answered by `killed`. All else is answered by a line that begins with `agent: `.
 from __future__ import annotations
 
 import contextlib
+import dataclasses
 import hashlib
 import hmac
 import os
@@ -25,7 +26,7 @@ from .plan import WordsError
 VARIABLE = "MAFT_AGENT_TOKEN"
 LEAST_TOKEN = 16
 LONGEST_REQUEST = 200
-PATIENCE_SECONDS, LOOK_SECONDS = 10.0, 0.5
+PATIENCE_SECONDS, LOOK_SECONDS = 10.0, 0.2
 KILLED, GONE = b"killed\n", b"agent: no such controller runs\n"
 _REQUEST = re.compile(rb"(?:node ([0-9]|1[0-5])|(kill)) ([0-9a-f]{16})\.([0-9a-f]{64})\n")
 
@@ -72,6 +73,21 @@ def _first_line(connection: socket.socket) -> bytes:
     return line
 
 
+@dataclasses.dataclass
+class Running:
+    """A controller and its connection."""
+
+    process: subprocess.Popen[bytes]
+    connection: socket.socket
+
+    def end(self) -> None:
+        """Kills it, and ends its input."""
+        self.process.kill()
+        with contextlib.suppress(OSError):
+            self.connection.shutdown(socket.SHUT_RDWR)
+        self.process.wait()
+
+
 class Agent:
     """The controllers that run for a bench. `say` is told who begins, is killed and ends."""
 
@@ -79,9 +95,14 @@ class Agent:
         self.controller, self.token, self.say = controller, token, say
         self.lock = threading.Lock()
         # the controllers that run, by name, and all names that there ever were
-        self.running: dict[str, subprocess.Popen[bytes]] = {}
+        self.running: dict[str, Running] = {}
         self.names: set[str] = set()
-        self.is_over = False
+        # whether it is to end, and whether no controller begins any more
+        self.is_stopped = self.is_over = False
+
+    def stop(self, *_: object) -> None:
+        """Has it end, as soon as it looks."""
+        self.is_stopped = True
 
     def serve(self, connection: socket.socket) -> None:
         """Does what a connection asks for, to its end."""
@@ -124,8 +145,9 @@ class Agent:
             with self.lock:
                 if self.is_over:
                     return
-                process = self.running[name] = subprocess.Popen([self.controller, node], stdin=connection,
-                                                                stdout=connection, start_new_session=True)
+                process = subprocess.Popen([self.controller, node], stdin=connection, stdout=connection,
+                                           start_new_session=True)
+                self.running[name] = Running(process, connection)
         except OSError as error:
             self.say(f"node {node}: the controller can't be run: {error.strerror}")
             connection.sendall(b"agent: the controller can't be run\n")
@@ -138,10 +160,9 @@ class Agent:
 
     def _kill(self, name: str) -> None:
         with self.lock:
-            process = self.running.get(name)
-        if process is not None:
-            process.kill()
-            process.wait()
+            running = self.running.get(name)
+        if running is not None:
+            running.end()
 
     def end(self) -> None:
         """Kills all that still run; none begins any more."""
@@ -164,14 +185,9 @@ def listen(address: str) -> socket.socket:
 
 def run(server: socket.socket, agent: Agent) -> None:
     """Serves connections, each by a thread of its own, until it is stopped; then nothing runs any more."""
-    # the system may hand a signal to any thread, so the main one looks every now and then
     server.settimeout(LOOK_SECONDS)
-    try:
-        while True:
-            try:
-                connection, _ = server.accept()
-            except socket.timeout:
-                continue
+    while not agent.is_stopped:
+        with contextlib.suppress(socket.timeout):
+            connection, _ = server.accept()
             threading.Thread(target=agent.serve, args=(connection,), daemon=True).start()
-    finally:
-        agent.end()
+    agent.end()

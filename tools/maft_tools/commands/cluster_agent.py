@@ -36,9 +36,13 @@ def main() -> int:
             with lock:
                 say(NAME, words)
 
-    signal.signal(signal.SIGTERM, signal.default_int_handler)
+    made = agent.Agent(controller, token, told)
+    # no exception, which might come anywhere
+    for it in (signal.SIGTERM, signal.SIGINT):
+        signal.signal(it, made.stop)
     with agent.listen(given.listen) as server:
         host, port = server.getsockname()[:2]
         print(f"listening on {f'[{host}]' if ':' in host else host}:{port}", flush=True)
-        agent.run(server, agent.Agent(controller, token, told))
-    return 0
+        agent.run(server, made)
+    told("stopped")
+    return 130
