@@ -33,7 +33,8 @@ struct FirstLine {
 
 /// Reads the first line: up to its line feed, or to the end of the input.
 fn read_first<S: Source>(alloc: Global, source: &mut S) -> Result<FirstLine, Status>
-    ensures { ReadsFirst (source_seen S.left S.given S.faults source.old) (source_seen S.left S.given S.faults source.new) result }
+    ensures { ReadsFirst (source_seen S.left S.given S.faults source.old)
+        (source_seen S.left S.given S.faults source.new) result }
 {
     let Ok(mut lines) = Lines::open(alloc, SCENARIO_LIMIT) else {
         return Err(Status::NoMemory);
@@ -94,7 +95,8 @@ fn answer<S: Source, K: Sink>(
 ) -> Status
     requires short { length first.lines.line ≤ scenario_limit }
     requires rest { IsTrue first.ends_input → first.lines.rest ≡ [] }
-    ensures { AnswersFirst first id (source_seen S.left S.given S.faults source.old) (source_seen S.left S.given S.faults source.new)
+    ensures { AnswersFirst first id (source_seen S.left S.given S.faults source.old)
+        (source_seen S.left S.given S.faults source.new)
         (sink_seen K.written K.faults sink.old) (sink_seen K.written K.faults sink.new) result }
 {
     let scenario = match read::<CAPACITY>(alloc, first.lines.line()) {
@@ -118,8 +120,9 @@ fn answer<S: Source, K: Sink>(
 
 /// Runs a node by what the source gives, and writes its answers into the sink.
 ///
-/// The words are the node's number. The first line is its scenario, and each further line tells it an event, which is
-/// answered before more is read. What each status says is told at `Status`, and clause by clause at `IsStatusOf`.
+/// The words are the node's number. The first line is its scenario, and each further line tells it
+/// an event, which is answered before more is read. What each status says is told at `Status`, and
+/// clause by clause at `IsStatusOf`.
 pub fn control<S: Source, K: Sink>(
     alloc: Global,
     words: &[String],
@@ -127,8 +130,14 @@ pub fn control<S: Source, K: Sink>(
     sink: &mut K,
 ) -> Status
     ensures { IsStatusOf (texts words.now)
-        (record { source = source_seen S.left S.given S.faults source.old; sink = sink_seen K.written K.faults sink.old })
-        (record { source = source_seen S.left S.given S.faults source.new; sink = sink_seen K.written K.faults sink.new })
+        (record {
+          source = source_seen S.left S.given S.faults source.old;
+          sink = sink_seen K.written K.faults sink.old;
+        })
+        (record {
+          source = source_seen S.left S.given S.faults source.new;
+          sink = sink_seen K.written K.faults sink.new;
+        })
         result }
 {
     let Some(id) = node_of(words) else {
@@ -143,8 +152,14 @@ pub fn control<S: Source, K: Sink>(
 /// Answers the words as [`control`] does, with the number of its status.
 pub fn run<S: Source, K: Sink>(alloc: Global, words: &[String], source: &mut S, sink: &mut K) -> u8
     ensures { (status : SpecStatus) × (result ≡ number_of status) × IsStatusOf (texts words.now)
-        (record { source = source_seen S.left S.given S.faults source.old; sink = sink_seen K.written K.faults sink.old })
-        (record { source = source_seen S.left S.given S.faults source.new; sink = sink_seen K.written K.faults sink.new })
+        (record {
+          source = source_seen S.left S.given S.faults source.old;
+          sink = sink_seen K.written K.faults sink.old;
+        })
+        (record {
+          source = source_seen S.left S.given S.faults source.new;
+          sink = sink_seen K.written K.faults sink.new;
+        })
         status }
 {
     control(alloc, words, source, sink).number()

@@ -1,10 +1,11 @@
-//! One node of a running cluster: its scenario is read, and then one event after another, each answered before the next
-//! read.
+//! One node of a running cluster: its scenario is read, and then one event after another, each
+//! answered before the next read.
 //!
-//! The theorem is the contract of [`control`]: what is written is the text of the bytes that were read, whatever the
-//! pieces in which they came. That text folds one definition over the lines behind the first, `line_step` of live_node,
-//! from a node that was told nothing yet. `main` makes the devices and leaves with what [`run`] answers, which is the
-//! number of the status of `control`.
+//! The theorem is the contract of [`control`]: what is written is the text of the bytes that were
+//! read, whatever the pieces in which they came. That text folds one definition over the lines
+//! behind the first, `line_step` of live_node, from a node that was told nothing yet. `main` makes
+//! the devices and leaves with what [`run`] answers, which is the number of the status of
+//! `control`.
 #![tactic(auto)]
 
 mod control;

@@ -1,7 +1,6 @@
 //! A node that takes the lines of a source, and answers each before the next read.
 ghost use Rattle.std.specs.Prelude.{◌≡◌, ◌≤◌, length, OnOk};
 ghost use Rattle.run_text.specs.PeriodText.{refused_text};
-ghost use Rattle.live_node.specs.Live.{LiveView};
 ghost use Rattle.controller.specs.Input.{event_limit};
 ghost use Rattle.controller.specs.Course.{closing};
 ghost use Rattle.controller.specs.Session.{sink_seen, source_seen, line_status, WritesSome, AnswersLine, TakesLines, Rounds, Concludes, Runs, IsReady, stand};
@@ -35,7 +34,8 @@ pub(crate) fn status_of(error: LineError) -> Status
 /// Writes the line of a refusal. A fault of the output changes no status.
 pub(crate) fn refuse<K: Sink>(rule: u8, place: u64, sink: &mut K) -> Status
     ensures status { result ≡ Status.Refused }
-    ensures wrote { WritesSome (sink_seen K.written K.faults sink.old) (sink_seen K.written K.faults sink.new) (refused_text rule place) }
+    ensures wrote { WritesSome (sink_seen K.written K.faults sink.old)
+        (sink_seen K.written K.faults sink.new) (refused_text rule place) }
 {
     let _ = write_refused(rule, place, sink);
     Status::Refused
@@ -49,7 +49,8 @@ fn answer_line<K: Sink>(
     sink: &mut K,
 ) -> Result<(), Status>
     requires short { length line.now ≤ live.old.longest }
-    ensures answers { AnswersLine live.old live.new line.now number (sink_seen K.written K.faults sink.old) (sink_seen K.written K.faults sink.new) result }
+    ensures answers { AnswersLine live.old live.new line.now number
+        (sink_seen K.written K.faults sink.old) (sink_seen K.written K.faults sink.new) result }
     ensures longest { OnOk result (live.new.longest ≡ live.old.longest) }
 {
     match live.take(line, sink) {
@@ -84,7 +85,8 @@ impl<'s> Session<'s> {
     /// Takes all whole lines that were read, and writes their answers.
     fn take_lines<K: Sink>(&mut self, sink: &mut K) -> Result<(), Status>
         requires { IsReady self.old }
-        ensures takes { TakesLines (stand self.old) (stand self.new) (sink_seen K.written K.faults sink.old) (sink_seen K.written K.faults sink.new) result }
+        ensures takes { TakesLines (stand self.old) (stand self.new)
+            (sink_seen K.written K.faults sink.old) (sink_seen K.written K.faults sink.new) result }
         ensures ready { OnOk result (IsReady self.new) }
     {
         'lines: loop {
@@ -100,11 +102,14 @@ impl<'s> Session<'s> {
         }
     }
 
-    /// Reads once, and then takes all whole lines that were read and writes their answers. Tells whether there was more.
+    /// Reads once, and then takes all whole lines that were read and writes their answers. Tells
+    /// whether there was more.
     fn round<S: Source, K: Sink>(&mut self, source: &mut S, sink: &mut K) -> Result<bool, Status>
         requires ready { IsReady self.old }
         requires short { length self.old.lines.rest ≤ event_limit }
-        ensures rounds { Rounds (stand self.old) (stand self.new) (source_seen S.left S.given S.faults source.old) (source_seen S.left S.given S.faults source.new)
+        ensures rounds { Rounds (stand self.old) (stand self.new)
+            (source_seen S.left S.given S.faults source.old)
+            (source_seen S.left S.given S.faults source.new)
             (sink_seen K.written K.faults sink.old) (sink_seen K.written K.faults sink.new) result }
         ensures ready { OnOk result (IsReady self.new) }
     {
@@ -122,7 +127,8 @@ impl<'s> Session<'s> {
     /// Ends the text of a node whose input is over.
     pub(crate) fn finish<K: Sink>(&mut self, sink: &mut K) -> Status
         requires { length self.old.lines.rest ≤ event_limit }
-        ensures { Concludes (closing self.old.live self.old.number self.old.lines.rest) (sink_seen K.written K.faults sink.old) (sink_seen K.written K.faults sink.new) result }
+        ensures { Concludes (closing self.old.live self.old.number self.old.lines.rest)
+            (sink_seen K.written K.faults sink.old) (sink_seen K.written K.faults sink.new) result }
     {
         if self.lines.take_rest() {
             return refuse(20, self.number, sink);
@@ -139,7 +145,9 @@ impl<'s> Session<'s> {
     /// Takes the lines that were read, and reads on to the end of the input.
     pub(crate) fn run<S: Source, K: Sink>(&mut self, source: &mut S, sink: &mut K) -> Status
         requires { IsReady self.old }
-        ensures { Runs (stand self.old) (source_seen S.left S.given S.faults source.old) (source_seen S.left S.given S.faults source.new)
+        ensures { Runs (stand self.old)
+            (source_seen S.left S.given S.faults source.old)
+            (source_seen S.left S.given S.faults source.new)
             (sink_seen K.written K.faults sink.old) (sink_seen K.written K.faults sink.new) result }
     {
         if let Err(status) = self.take_lines(sink) {

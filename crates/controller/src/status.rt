@@ -10,8 +10,8 @@ pub enum Status {
     Usage,
     /// The first line is no JSON text. Nothing was written.
     Unreadable,
-    /// A rule refuses the scenario, a line or the end of the input. The answers before it were written and the rule's
-    /// line, or a prefix of it where the output failed.
+    /// A rule refuses the scenario, a line or the end of the input. The answers before it were
+    /// written and the rule's line, or a prefix of it where the output failed.
     Refused,
     /// The input failed. The answers to all lines that it gave were written.
     ReadFault,
@@ -19,7 +19,8 @@ pub enum Status {
     WriteFault,
     /// There was no memory. Nothing was written.
     NoMemory,
-    /// A line is too long, or the input has 2^64 - 1 bytes. The answers to the lines before were written.
+    /// A line is too long, or the input has 2^64 - 1 bytes. The answers to the lines before were
+    /// written.
     TooLong,
 }
 

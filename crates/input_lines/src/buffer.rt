@@ -1,6 +1,5 @@
 //! The room in which lines come to be whole.
-ghost use Rattle.std.specs.Prelude.{◌≡◌, ◌+◌, ◌<◌, ◌≤◌, ◌++◌, [], length, drop, take, slice_range, IfOk, OnOk, OnErr, MatchResult};
-ghost use Rattle.std.specs.Io.KnownBytes.{Keeps, Consumes, IsAtEnd};
+ghost use Rattle.std.specs.Prelude.{◌≡◌, ◌+◌, ◌<◌, ◌≤◌, [], length, IfOk, OnOk, OnErr};
 ghost use Rattle.span_io.specs.Causes.{HasCause, CountsGiven};
 ghost use Rattle.input_lines.specs.Buffer.{unread, IsBuffer, FindsFeed, IsGrown, Gives};
 
@@ -144,7 +143,8 @@ impl Buffer {
         requires buffer { IsBuffer self.old }
         requires room { self.old.end < length self.old.bytes.items }
         ensures buffer { IsBuffer self.new }
-        ensures bytes { Gives (unread self.old) (unread self.new) (S.left source.old) (S.left source.new) result }
+        ensures bytes { Gives (unread self.old) (unread self.new)
+            (S.left source.old) (S.left source.new) result }
         ensures given { CountsGiven (S.given source.old) (S.given source.new) result }
         ensures cause { HasCause (S.faults source.old) (S.faults source.new) result }
         ensures room { length self.new.bytes.items ≡ length self.old.bytes.items }

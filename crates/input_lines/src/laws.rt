@@ -1,7 +1,8 @@
 //! What holds of the lines of bytes, over the definitions alone.
 ghost use Rattle.input_lines.specs.Laws.{SplitLaw, FrontLaw};
 
-/// The lines, each with its line feed, and the rest are the bytes. There is no other way to split them so.
+/// The lines, each with its line feed, and the rest are the bytes. There is no other way to split
+/// them so.
 pub fn split()
     ensures { SplitLaw }
 {}

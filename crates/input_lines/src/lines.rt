@@ -65,7 +65,8 @@ impl Model for Lines {
       room = length l.buffer.bytes.items;
     } };
 
-    ghost invariant = { λ l. IsBuffer l.buffer × (l.from ≤ l.to) × (l.to ≤ length l.buffer.bytes.items) };
+    ghost invariant = { λ l. IsBuffer l.buffer
+        × (l.from ≤ l.to) × (l.to ≤ length l.buffer.bytes.items) };
 }
 
 impl Lines {
@@ -74,7 +75,8 @@ impl Lines {
     /// # Errors
     /// `NoMemory` where there is none for the first 65,536 bytes.
     pub fn open(alloc: Global, limit: usize) -> Result<Lines, NoMemory>
-        ensures { IfOk result (λ lines. lines ≡ record { rest = []; line = []; limit = limit; room = 65536 }) }
+        ensures { IfOk result (λ lines.
+            lines ≡ record { rest = []; line = []; limit = limit; room = 65536 }) }
     {
         let buffer = Buffer::open(alloc)?;
         Ok(Lines {
@@ -85,8 +87,8 @@ impl Lines {
         })
     }
 
-    /// From now on a line may have at most `limit` bytes, and there is room for one and its line feed. So where all
-    /// lines are taken before each read, no read wants memory.
+    /// From now on a line may have at most `limit` bytes, and there is room for one and its line
+    /// feed. So where all lines are taken before each read, no read wants memory.
     ///
     /// # Errors
     /// `NoMemory` where there is none. Nothing changes then.
@@ -102,9 +104,8 @@ impl Lines {
 
     /// Takes the next line of what was read, and tells whether there is one.
     ///
-    /// # Errors
-    /// `TooLong`, and no other, where more bytes than the limit come before the next line feed, or come and there is
-    /// none. Nothing is taken then.
+    /// # Errors `TooLong`, and no other, where more bytes than the limit come before the next line
+    /// feed, or come and there is none. Nothing is taken then.
     pub fn take(&mut self) -> Result<bool, LineError>
         ensures { Takes self.old self.new result }
     {
@@ -143,16 +144,23 @@ impl Lines {
         &self.buffer.bytes[self.from..self.to]
     }
 
-    /// Reads more, and tells whether more was given; no more is the end of the input. The line that was taken last is
-    /// forgotten.
+    /// Reads more, and tells whether more was given; no more is the end of the input. The line that
+    /// was taken last is forgotten.
     ///
-    /// # Errors
-    /// `Failed` where the source failed. `NoMemory` where there is none and the rest fills the room: nothing was read
-    /// then.
+    /// # Errors `Failed` where the source failed. `NoMemory` where there is none and the rest fills
+    /// the room: nothing was read then.
     pub fn read<S: Source>(&mut self, source: &mut S) -> Result<bool, LineError>
         ensures { Reads self.old self.new
-            (record { left = S.left source.old; given = S.given source.old; faults = S.faults source.old })
-            (record { left = S.left source.new; given = S.given source.new; faults = S.faults source.new })
+            (record {
+              left = S.left source.old;
+              given = S.given source.old;
+              faults = S.faults source.old;
+            })
+            (record {
+              left = S.left source.new;
+              given = S.given source.new;
+              faults = S.faults source.new;
+            })
             result }
     {
         self.from = 0;
