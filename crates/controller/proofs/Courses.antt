@@ -6,7 +6,7 @@ use Rattle.live_node.specs.Event.Event.{Begin, Deliver, End, Restart, Reading, A
 use Rattle.live_node.specs.Live.{LiveView, Step, is_of_cluster, allowed, told, answer, step_of, line_step, unknown_rule, not_now_rule}
 use Rattle.live_node.specs.Live.Step.{Goes, Refuses}
 use Rattle.controller.specs.Input.{event_limit}
-use Rattle.controller.specs.Course.{Course, Ending, next_number, number_behind, ending_behind, behind, refusal, after_step, course}
+use Rattle.controller.specs.Course.{Course, Ending, next_number, number_behind, ending_behind, behind, line_refusal, after_step, course}
 use Rattle.controller.specs.Course.Course.{Stands, Ends}
 use Rattle.controller.specs.declared.status.Status.TheVariants.{TooLong}
 
@@ -113,7 +113,7 @@ line_taken v n line short =
 pub line_goes : {N : ℕ} (v w : LiveView N) (n : ℕ) (line text : List ℕ) → length line ≤ event_limit → line_step v line ≡ Goes w text → course v n (line ∷ []) ≡ Stands w text
 line_goes v w n line text short h = line_taken v n line short ∙ ap (after_step n (λ u. Stands u [])) h ∙ ap (Stands w) (append-nil text)
 
-pub line_refused : {N : ℕ} (v : LiveView N) (n : ℕ) (line : List ℕ) (rule : ℕ) → length line ≤ event_limit → line_step v line ≡ Refuses rule → course v n (line ∷ []) ≡ Ends (refusal rule n)
+pub line_refused : {N : ℕ} (v : LiveView N) (n : ℕ) (line : List ℕ) (rule : ℕ) → length line ≤ event_limit → line_step v line ≡ Refuses rule → course v n (line ∷ []) ≡ Ends (line_refusal rule n)
 line_refused v n line rule short h = line_taken v n line short ∙ ap (after_step n (λ u. Stands u [])) h
 
 pub line_long : {N : ℕ} (v : LiveView N) (n : ℕ) (line : List ℕ) (lines : List (List ℕ)) → event_limit < length line → course v n (line ∷ lines) ≡ Ends (record { status = TooLong; text = [] })

@@ -6,7 +6,7 @@ use Rattle.input_lines.specs.Reading.{IsLong}
 use Rattle.input_lines.specs.Splits.{lines_begun, rest_begun, all_begun, read_more}
 use Rattle.live_node.specs.Live.{LiveView}
 use Rattle.controller.specs.Input.{event_limit, first_line}
-use Rattle.controller.specs.Course.{Course, Ending, number_behind, ending_behind, behind, refusal, course, closing, course_end, ending_of}
+use Rattle.controller.specs.Course.{Course, Ending, number_behind, ending_behind, behind, line_refusal, course, closing, course_end, ending_of}
 use Rattle.controller.specs.Course.Course.{Stands, Ends}
 use Rattle.controller.specs.Session.{Stand, Took}
 use Rattle.controller.specs.declared.status.Status.TheVariants.{TooLong}
@@ -33,7 +33,7 @@ at_refusal from lines rest more e b h =
 
 long_closing : {N : ℕ} (v : LiveView N) (n : ℕ) (rest : List ℕ) → event_limit < length rest → closing v n rest ≡ record { status = TooLong; text = [] }
 long_closing v n [] h = absurd (omega arith)
-long_closing v n (c ∷ rest) h = ap (λ b. cond b (record { status = TooLong; text = [] }) (refusal 20 n)) (lt-ltb event_limit (length (c ∷ rest)) h)
+long_closing v n (c ∷ rest) h = ap (λ b. cond b (record { status = TooLong; text = [] }) (line_refusal 20 n)) (lt-ltb event_limit (length (c ∷ rest)) h)
 
 -- so does a node that stands so before a line that is too long, whatever comes behind it
 long_end : {N : ℕ} (w : LiveView N) (n : ℕ) (bytes : List ℕ) → event_limit < length (first_line bytes) → ending_of w n bytes ≡ record { status = TooLong; text = [] }

@@ -2,7 +2,7 @@
 use Rattle.std.proofs.Common.{◌≡◌, ℕ, ◌≤◌, List, [], ◌∷◌, ◌++◌, length}
 use Rattle.input_lines.specs.Lines.{line_feed, IsUnbroken}
 use Rattle.controller.specs.Input.{event_limit}
-use Rattle.controller.specs.Course.{next_number, refusal}
+use Rattle.controller.specs.Course.{next_number, line_refusal}
 use Rattle.controller.specs.Session.{Stand, SinkView, WritesAll, StopsAtLine, Stops, Took}
 use Rattle.controller.specs.declared.status.Status.{Status}
 use Rattle.controller.specs.declared.status.Status.TheVariants.{Done, Usage, Unreadable, Refused, ReadFault, WriteFault, NoMemory, TooLong}
@@ -14,7 +14,7 @@ pub stops_taken : (status : Status) (from to : Stand) (lines : List (List ℕ)) 
     → length line ≤ event_limit → WritesAll old mid text → StopsAtLine status to.node line to.number mid new → Stops status from old new
 stops_taken Refused from to lines text line rest old mid new t splits unbroken short wrote a =
     let taken = took_refused from to lines text line rest a.0 t splits unbroken short a.1 in
-    (rest, lines ++ line ∷ [], text ++ (refusal a.0 to.number).text, taken.0, taken.1, all_some old mid new text (refusal a.0 to.number).text wrote a.2)
+    (rest, lines ++ line ∷ [], text ++ (line_refusal a.0 to.number).text, taken.0, taken.1, all_some old mid new text (line_refusal a.0 to.number).text wrote a.2)
 stops_taken WriteFault from to lines text line rest old mid new t splits unbroken short wrote a = (
   record { node = a.0; number = next_number to.number; rest = rest },
   lines ++ line ∷ [],

@@ -3,13 +3,13 @@ use Rattle.std.proofs.Common.{◌≡◌, ℕ, ◌≤◌, List, [], ◌∷◌, �
 use Rattle.std.specs.Prelude.{flat_map}
 use Rattle.std.proofs.lemmas.List.Concat.{flat_map-append}
 use Rattle.std.proofs.lemmas.List.Elements.{All-append}
-use Rattle.input_lines.specs.Lines.{line_feed, ended, IsUnbroken}
+use Rattle.input_lines.specs.Lines.{line_feed, with_feed, IsUnbroken}
 use Rattle.input_lines.specs.Laws.{Begins}
 use Rattle.input_lines.specs.Splits.{begin, take_line}
 use Rattle.live_node.specs.Live.{LiveView, line_step}
 use Rattle.live_node.specs.Live.Step.{Goes, Refuses}
 use Rattle.controller.specs.Input.{event_limit}
-use Rattle.controller.specs.Course.{next_number, number_behind, behind, refusal, course}
+use Rattle.controller.specs.Course.{next_number, number_behind, behind, line_refusal, course}
 use Rattle.controller.specs.Course.Course.{Ends}
 use Rattle.controller.specs.Outcome.{capacity}
 use Rattle.controller.specs.Session.{Stand, Took, with_more}
@@ -31,17 +31,17 @@ took_line from to lines text line rest more w t splits unbroken short goes = rec
 -- a line that a rule refuses
 pub took_refused : (from to : Stand) (lines : List (List ℕ)) (text line rest : List ℕ) (rule : ℕ) → Took from to lines text → to.rest ≡ line ++ line_feed ∷ rest → IsUnbroken line
     → length line ≤ event_limit → line_step to.node line ≡ Refuses rule → Begins from.rest (lines ++ line ∷ []) rest
-    × (course from.node from.number (lines ++ line ∷ []) ≡ Ends (record { status = Refused; text = text ++ (refusal rule to.number).text }))
+    × (course from.node from.number (lines ++ line ∷ []) ≡ Ends (record { status = Refused; text = text ++ (line_refusal rule to.number).text }))
 took_refused from to lines text line rest rule t splits unbroken short refuses = (
   take_line from.rest lines to.rest line rest t.begins splits unbroken,
   course_both from.node to.node from.number lines (line ∷ []) text t.stands ∙ ap (behind text) (line_refused to.node (number_behind from.number lines) line rule short refuses)
-      ∙ ap (λ n. Ends (record { status = Refused; text = text ++ (refusal rule n).text })) (sym t.number),
+      ∙ ap (λ n. Ends (record { status = Refused; text = text ++ (line_refusal rule n).text })) (sym t.number),
 )
 
 pub begins_both : (bytes more last : List ℕ) (lines others : List (List ℕ)) (rest : List ℕ) → Begins bytes lines rest → Begins (rest ++ more) others last → Begins (bytes ++ more) (lines ++ others) last
 begins_both bytes more last lines others rest a b = record {
-  whole = ap (λ x. x ++ more) a.whole ∙ append_assoc (flat_map ended lines) rest more ∙ ap (λ x. flat_map ended lines ++ x) b.whole
-      ∙ sym (append_assoc (flat_map ended lines) (flat_map ended others) last) ∙ ap (λ x. x ++ last) (sym (flat_map-append ended lines others));
+  whole = ap (λ x. x ++ more) a.whole ∙ append_assoc (flat_map with_feed lines) rest more ∙ ap (λ x. flat_map with_feed lines ++ x) b.whole
+      ∙ sym (append_assoc (flat_map with_feed lines) (flat_map with_feed others) last) ∙ ap (λ x. x ++ last) (sym (flat_map-append with_feed lines others));
   each = All-append IsUnbroken lines others a.each b.each;
 }
 

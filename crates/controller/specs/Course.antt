@@ -36,13 +36,13 @@ behind text (Stands v more) = Stands v (text ++ more)
 behind text (Ends e) = Ends (ending_behind text e)
 
 -- a rule refuses line n
-abbrev pub refusal : ℕ → ℕ → Ending
-refusal rule n = record { status = Refused; text = refused_text rule n }
+abbrev pub line_refusal : ℕ → ℕ → Ending
+line_refusal rule n = record { status = Refused; text = refused_text rule n }
 
 -- what follows the step of line n, from the node that it leads to
 abbrev pub after_step : {N : ℕ} → ℕ → (LiveView N → Course N) → Step N → Course N
 after_step n follow (Goes w text) = behind text (follow w)
-after_step n follow (Refuses rule) = Ends (refusal rule n)
+after_step n follow (Refuses rule) = Ends (line_refusal rule n)
 
 -- the course of a node over lines, the first of which has this number
 abbrev pub course : {N : ℕ} → LiveView N → ℕ → List (List ℕ) → Course N
@@ -57,9 +57,9 @@ open_rule = 22
 
 -- The end of the input behind all whole lines, where this stands behind the last line feed, as line n. It must be nothing, and no slot open
 abbrev pub closing : {N : ℕ} → LiveView N → ℕ → List ℕ → Ending
-closing v n [] = if is_open v then refusal open_rule n else record { status = Done; text = end_text v.run }
+closing v n [] = if is_open v then line_refusal open_rule n else record { status = Done; text = end_text v.run }
 closing v n (c ∷ rest) =
-    if nat_lt event_limit (length (c ∷ rest)) then record { status = TooLong; text = [] } else refusal unknown_rule n
+    if nat_lt event_limit (length (c ∷ rest)) then record { status = TooLong; text = [] } else line_refusal unknown_rule n
 
 abbrev pub course_end : {N : ℕ} → ℕ → List ℕ → Course N → Ending
 course_end n rest (Stands v text) = ending_behind text (closing v n rest)

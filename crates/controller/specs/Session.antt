@@ -10,7 +10,7 @@ use Rattle.live_node.specs.Live.Step.{Goes, Refuses}
 use Rattle.input_lines.specs.declared.lines.LineError.{LineError}
 use Rattle.input_lines.specs.declared.lines.LineError.TheVariants as lines
 use Rattle.controller.specs.Input.{event_limit, told_left}
-use Rattle.controller.specs.Course.{Ending, course, number_behind, refusal, ending_of}
+use Rattle.controller.specs.Course.{Ending, course, number_behind, line_refusal, ending_of}
 use Rattle.controller.specs.Course.Course.{Stands, Ends}
 use Rattle.controller.specs.Outcome.{capacity}
 use Rattle.controller.specs.declared.session.Session.{Session}
@@ -65,7 +65,7 @@ line_status lines.NoMemory = NoMemory
 
 -- a call that takes line n ends with this status, which is no success
 abbrev pub StopsAtLine : Status → LiveView capacity → List ℕ → ℕ → SinkView → SinkView → Type 0
-StopsAtLine Refused v line n old new = (rule : ℕ) × (line_step v line ≡ Refuses rule) × WritesSome old new (refusal rule n).text
+StopsAtLine Refused v line n old new = (rule : ℕ) × (line_step v line ≡ Refuses rule) × WritesSome old new (line_refusal rule n).text
 StopsAtLine WriteFault v line n old new = (w : LiveView capacity) × (text : List ℕ) × (line_step v line ≡ Goes w text) × WritesFront old new text
 StopsAtLine _ v line n old new = ⊥
 

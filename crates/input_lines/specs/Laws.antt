@@ -1,10 +1,10 @@
 -- What holds of the lines of bytes.
 use Rattle.std.specs.Prelude.{◌≡◌, ℕ, List, ◌++◌, All, flat_map}
-use Rattle.input_lines.specs.Lines.{ended, IsUnbroken, lines_of, rest_of}
+use Rattle.input_lines.specs.Lines.{with_feed, IsUnbroken, lines_of, rest_of}
 
 -- the bytes begin with these lines, each with its line feed, and this rest stands behind them
 pub record Begins (bytes : List ℕ) (lines : List (List ℕ)) (rest : List ℕ) : Type 0 where
-  pub whole : bytes ≡ flat_map ended lines ++ rest
+  pub whole : bytes ≡ flat_map with_feed lines ++ rest
   pub each : All IsUnbroken lines
 
 -- bytes are their lines and their rest, which are the one way to split them

@@ -6,8 +6,8 @@ abbrev pub line_feed : ℕ
 line_feed = 10
 
 -- a line with its line feed
-abbrev pub ended : List ℕ → List ℕ
-ended line = line ++ line_feed ∷ []
+abbrev pub with_feed : List ℕ → List ℕ
+with_feed line = line ++ line_feed ∷ []
 
 -- there is no line feed in the bytes
 abbrev pub IsUnbroken : List ℕ → Type 0

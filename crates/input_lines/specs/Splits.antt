@@ -4,7 +4,7 @@ use Rattle.std.specs.Prelude.{All, flat_map, ◌≢◌, ◌||◌, ◌==◌}
 use Rattle.std.proofs.lemmas.Bool.{cases_Bool, eqb-false}
 use Rattle.std.proofs.lemmas.List.Concat.{flat_map-append}
 use Rattle.std.proofs.lemmas.List.Elements.{All-nil, All-cons, All-head, All-tail, All-push}
-use Rattle.input_lines.specs.Lines.{line_feed, ended, IsUnbroken, before_first, lines_of, has_feed, rest_of}
+use Rattle.input_lines.specs.Lines.{line_feed, with_feed, IsUnbroken, before_first, lines_of, has_feed, rest_of}
 use Rattle.input_lines.specs.Laws.{Begins, SplitLaw, FrontLaw}
 
 -- ---- one line, or none
@@ -43,18 +43,18 @@ all_rest (c ∷ bytes) h = ap (λ b. cond b (rest_of bytes) (c ∷ bytes)) (no_f
 
 -- ---- lines, one after another
 
-regroup : (line : List ℕ) (lines : List (List ℕ)) (rest : List ℕ) → flat_map ended (line ∷ lines) ++ rest ≡ line ++ line_feed ∷ (flat_map ended lines ++ rest)
-regroup line lines rest = append_assoc (ended line) (flat_map ended lines) rest ∙ append_assoc line (line_feed ∷ []) (flat_map ended lines ++ rest)
+regroup : (line : List ℕ) (lines : List (List ℕ)) (rest : List ℕ) → flat_map with_feed (line ∷ lines) ++ rest ≡ line ++ line_feed ∷ (flat_map with_feed lines ++ rest)
+regroup line lines rest = append_assoc (with_feed line) (flat_map with_feed lines) rest ∙ append_assoc line (line_feed ∷ []) (flat_map with_feed lines ++ rest)
 
-begun_lines : (lines : List (List ℕ)) (rest : List ℕ) → All IsUnbroken lines → lines_of (flat_map ended lines ++ rest) ≡ lines ++ lines_of rest
+begun_lines : (lines : List (List ℕ)) (rest : List ℕ) → All IsUnbroken lines → lines_of (flat_map with_feed lines ++ rest) ≡ lines ++ lines_of rest
 begun_lines [] rest h = refl
 begun_lines (line ∷ lines) rest h =
-    ap lines_of (regroup line lines rest) ∙ lines_behind line (flat_map ended lines ++ rest) (All-head IsUnbroken line lines h)
+    ap lines_of (regroup line lines rest) ∙ lines_behind line (flat_map with_feed lines ++ rest) (All-head IsUnbroken line lines h)
     ∙ ap (λ later. line ∷ later) (begun_lines lines rest (All-tail IsUnbroken line lines h))
 
-begun_rest : (lines : List (List ℕ)) (rest : List ℕ) → rest_of (flat_map ended lines ++ rest) ≡ rest_of rest
+begun_rest : (lines : List (List ℕ)) (rest : List ℕ) → rest_of (flat_map with_feed lines ++ rest) ≡ rest_of rest
 begun_rest [] rest = refl
-begun_rest (line ∷ lines) rest = ap rest_of (regroup line lines rest) ∙ rest_behind line (flat_map ended lines ++ rest) ∙ begun_rest lines rest
+begun_rest (line ∷ lines) rest = ap rest_of (regroup line lines rest) ∙ rest_behind line (flat_map with_feed lines ++ rest) ∙ begun_rest lines rest
 
 -- the lines that bytes begin with are the first of theirs, and the others are those of the rest
 pub lines_begun : (bytes : List ℕ) (lines : List (List ℕ)) (rest : List ℕ) → Begins bytes lines rest → lines_of bytes ≡ lines ++ lines_of rest
@@ -76,14 +76,14 @@ begin bytes = record { whole = refl; each = All-nil IsUnbroken }
 -- one more line is taken
 pub take_line : (bytes : List ℕ) (lines : List (List ℕ)) (old line rest : List ℕ) → Begins bytes lines old → old ≡ line ++ line_feed ∷ rest → IsUnbroken line → Begins bytes (lines ++ line ∷ []) rest
 take_line bytes lines old line rest b e h = record {
-  whole = b.whole ∙ ap (λ r. flat_map ended lines ++ r) (e ∙ sym (append_assoc line (line_feed ∷ []) rest)) ∙ sym (append_assoc (flat_map ended lines) (ended line) rest)
-      ∙ ap (λ front. front ++ rest) (ap (λ last. flat_map ended lines ++ last) (sym (append-nil (ended line))) ∙ sym (flat_map-append ended lines (line ∷ [])));
+  whole = b.whole ∙ ap (λ r. flat_map with_feed lines ++ r) (e ∙ sym (append_assoc line (line_feed ∷ []) rest)) ∙ sym (append_assoc (flat_map with_feed lines) (with_feed line) rest)
+      ∙ ap (λ front. front ++ rest) (ap (λ last. flat_map with_feed lines ++ last) (sym (append-nil (with_feed line))) ∙ sym (flat_map-append with_feed lines (line ∷ [])));
   each = All-push IsUnbroken lines line b.each h;
 }
 
 -- more bytes come
 pub read_more : (bytes : List ℕ) (lines : List (List ℕ)) (rest more : List ℕ) → Begins bytes lines rest → Begins (bytes ++ more) lines (rest ++ more)
-read_more bytes lines rest more b = record { whole = ap (λ front. front ++ more) b.whole ∙ append_assoc (flat_map ended lines) rest more; each = b.each }
+read_more bytes lines rest more b = record { whole = ap (λ front. front ++ more) b.whole ∙ append_assoc (flat_map with_feed lines) rest more; each = b.each }
 
 -- ---- the laws
 
