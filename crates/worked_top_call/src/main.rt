@@ -9,7 +9,10 @@ mod asking;
 mod devices;
 mod rooms;
 
+use run_print::WriteFault;
+
 fn main(rt: HostRuntime) -> anyhow::Result<()> {
     devices::print(&rt)?;
+    println!(rt; "a text that isn't written whole: {}", WriteFault)?;
     rooms::print(&rt)
 }
