@@ -95,13 +95,13 @@ def touched(scenario: Json, period: int) -> dict[int, Touched]:
 
 def spans(periods: list[int]) -> list[list[int]]:
     """Ascending periods as spans, each its first and last one."""
-    spans: list[list[int]] = []
+    found: list[list[int]] = []
     for period in periods:
-        if spans and spans[-1][1] == period - 1:
-            spans[-1][1] = period
+        if found and found[-1][1] == period - 1:
+            found[-1][1] = period
         else:
-            spans.append([period, period])
-    return spans
+            found.append([period, period])
+    return found
 
 
 def fault_lines(happened: Mapping[Link, Effect], nodes: int, slots: int) -> list[Json]:
