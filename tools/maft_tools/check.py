@@ -426,7 +426,7 @@ def _change(path: str, effect: Any) -> Iterator[str]:
     if key == "cut":
         yield from within(f"{path}.cut", value, 1, 4096)
     elif key == "time":
-        if not (0 <= value < 10 or 20 < value <= 30):
+        if not plan.is_untimely(value):
             yield f"{path}.time is {value}, and must be a tick outside the window, from 0 to 9 or from 21 to 30"
     elif key == "set":
         yield from within(f"{path}.set.at", value["at"], 0, 4095)

@@ -16,7 +16,7 @@ from .hearing import Heard
 from .plan import Json, WordsError, kind_names
 from .trace import Arrived, Slice
 
-WINDOW = range(10, 21)
+WINDOW = range(plan.FIRST_IN_TIME, plan.LAST_IN_TIME + 1)
 MISSING, MALFORMED, TIMING, COLD, STATE = range(5)
 EQUIVOCATE = 8
 # the kinds that a node notes by its frames alone

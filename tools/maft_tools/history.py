@@ -75,7 +75,7 @@ class History:
         """A lie about a clock in the periods in which its node was not dead."""
         first, last = lie["periods"]
         alive = [it for it in range(first, min(last + 1, periods)) if (it, lie["from"]) not in self.dead]
-        return [{**lie, "periods": span} for span in links.spans(alive)]
+        return [{**lie, "periods": span} for span in plan.spans(alive)]
 
     def log_of(self, scenario: Json, node: int) -> str:
         """The log of a node, for the scenario that the run was; raises WordsError where it is too long."""

@@ -93,17 +93,6 @@ def touched(scenario: Json, period: int) -> dict[int, Touched]:
     return found
 
 
-def spans(periods: list[int]) -> list[list[int]]:
-    """Ascending periods as spans, each its first and last one."""
-    found: list[list[int]] = []
-    for period in periods:
-        if found and found[-1][1] == period - 1:
-            found[-1][1] = period
-        else:
-            found.append([period, period])
-    return found
-
-
 def fault_lines(happened: Mapping[Link, Effect], nodes: int, slots: int) -> list[Json]:
     """Fault lines that say what happened on each link, put together by receivers, then by slots, then by periods."""
     by_to: dict[tuple[int, int, int, str], list[int]] = defaultdict(list)
@@ -117,5 +106,5 @@ def fault_lines(happened: Mapping[Link, Effect], nodes: int, slots: int) -> list
         by_period[sender, to_all, tuple(sorted(in_slots)), word].append(period)
     lines = [{"from": sender, "to": "all" if len(to_all) == nodes - 1 else list(to_all), "periods": span,
               "slots": "all" if len(of) == slots else list(of), "effect": json.loads(word)}
-             for (sender, to_all, of, word), periods in by_period.items() for span in spans(sorted(periods))]
+             for (sender, to_all, of, word), periods in by_period.items() for span in plan.spans(sorted(periods))]
     return sorted(lines, key=lambda it: (it["periods"], it["from"], str(it["slots"]), str(it["to"])))

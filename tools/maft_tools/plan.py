@@ -4,6 +4,7 @@ The same facts stand in docs/FORMATS.md; this module is the one place of the too
 """
 from __future__ import annotations
 
+from collections.abc import Iterable
 from typing import Any, Dict
 
 # a scenario, or a part of it, as JSON has it
@@ -20,6 +21,22 @@ FIRST_IN_TIME, LAST_IN_TIME, LAST_TICK = 10, 20, 30
 
 class WordsError(Exception):
     """What is wrong, in words for the user."""
+
+
+def is_untimely(tick: int) -> bool:
+    """Whether this is a tick outside the window."""
+    return 0 <= tick < FIRST_IN_TIME or LAST_IN_TIME < tick <= LAST_TICK
+
+
+def spans(periods: Iterable[int]) -> list[list[int]]:
+    """Ascending periods as spans, each its first and last one."""
+    found: list[list[int]] = []
+    for period in periods:
+        if found and found[-1][1] == period - 1:
+            found[-1][1] = period
+        else:
+            found.append([period, period])
+    return found
 
 
 def slots(m: int) -> int:

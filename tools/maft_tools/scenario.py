@@ -140,7 +140,7 @@ class Scenario:
     def late(self, node: int, periods: Span, to: Iterable[int] | None = None, slots: Iterable[int] | None = None,
              tick: int = 25) -> None:
         """Frames at a tick outside the window."""
-        if not (0 <= tick < 10 or 20 < tick <= 30):
+        if not plan.is_untimely(tick):
             raise WordsError(f"a frame at tick {tick} isn't late: outside the window are ticks 0 to 9 and 21 to 30")
         self.fault(node, {"time": tick}, periods, to, slots)
 

@@ -6,6 +6,7 @@ import dataclasses
 import io
 from collections.abc import Iterable
 
+from . import plan
 from .plan import kind_names
 from .text import CLASSES, Period, Text
 
@@ -215,13 +216,7 @@ def summarise(text: Text, m: int | None = None, retire: int = 0) -> Summary:
 
 def spans(periods: Iterable[int]) -> str:
     """Periods in words: `1-3, 5`."""
-    out: list[list[int]] = []
-    for it in sorted(periods):
-        if out and out[-1][1] == it - 1:
-            out[-1][1] = it
-        else:
-            out.append([it, it])
-    return ", ".join(str(a) if a == b else f"{a}-{b}" for a, b in out)
+    return ", ".join(str(a) if a == b else f"{a}-{b}" for a, b in plan.spans(sorted(periods)))
 
 
 def by_kind(charged: dict[int, list[str]]) -> str:
