@@ -1,0 +1,4 @@
+pub mod Firsts
+pub mod Completion
+pub mod PartedBeliefs
+pub mod GroupSteps

@@ -1,0 +1,32 @@
+use Rattle.std.proofs.Common.{ℕ, ◌≡◌, ◌<◌, ◌+◌, ◌==◌, false, List, get_or, sym, ap, subst, ◌∙◌, arith, eq-eqb}
+use Rattle.std.proofs.lemmas.Bool.{false≢true}
+use Rattle.shared_states.specs.declared.belief.Belief.{Belief}
+use Rattle.grouped_nodes.specs.Grouping.{first_of}
+use Rattle.grouped_nodes.proofs.PartedBeliefs.{AreParted, parted_put, parted_skip}
+use Rattle.grouped_nodes.proofs.parting.part.Goals.{then-is_first+then-first-i, else-is_first, else-is_first-via-then-is_first+else-first-i, else-is_first-via-else-is_first}
+use Rattle.grouped_nodes.proofs.parting.part.Goals as goal
+
+pub loop-i-preserved : goal.loop-i-preserved
+loop-i-preserved g c =
+    let before : List ℕ = c.args.before.now in
+    let groups : List ℕ = c.args.groups.now in
+    let old : List (Belief g.row.N) = c.args.beliefs.now in
+    let bs : List (Belief g.row.N) = c.loop-i.beliefs in
+    let i : ℕ = c.loop-i.i in
+    let low : i < g.row.N = c.loop-i-test.true in
+    let is : c.of-first.result ≡ first_of before i = c.of-first.ensures.first in
+    let within : first_of before i < g.row.N = (let e = c.of-first.ensures.early in omega arith) in
+    elim c.if-is_first.branch [
+      | then-is_first+then-first-i w ↦
+          subst (AreParted before groups old (i + 1)) (sym w.beliefs-is)
+          (parted_put before groups old i bs w.copy_of.result w.index-beliefs-first.result low (λ e. w.if-first-i.true (is ∙ e)) within (ap (first_of before) (sym is) ∙ c.of-first.ensures.own ∙ is) c.loop-i.invariant
+          (w.copy_of.ensures ∙ ap (λ (k : ℕ). get_or bs k w.index-beliefs-first.result) is))
+      | else-is_first w ↦
+          let stays : first_of groups i ≡ i → first_of before i ≡ i = elim w.else-is_first.branch [
+            | else-is_first-via-then-is_first+else-first-i u ↦ λ own. sym is ∙ u.if-first-i.false
+            | else-is_first-via-else-is_first u ↦
+                let no : (first_of groups i == i) ≡ false = sym c.is_first.ensures ∙ u.if-is_first.false in
+                λ own. absurd (false≢true (sym no ∙ eq-eqb (first_of groups i) i own))
+          ] in
+          subst (AreParted before groups old (i + 1)) (sym w.beliefs-is) (parted_skip before groups old i bs stays c.loop-i.invariant)
+    ]

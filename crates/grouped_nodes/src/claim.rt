@@ -1,0 +1,41 @@
+//! A node's own claim.
+
+ghost use Rattle.std.specs.Prelude.{◌≡◌, ◌<◌, IfSome};
+ghost use Rattle.node_grid.specs.Capacity.{IsCapacity};
+ghost use Rattle.agreed_state.specs.declared.config.Inputs.{Inputs};
+ghost use Rattle.protocol.specs.View.{claim_at, own_claim};
+
+use agreed_state::Agreed;
+use node_grid::NO_CLAIM;
+
+/// The task that a node claims by what it works at, from the task's run time on, or NO_CLAIM for
+/// none.
+fn claim_at(work: Option<(u8, u16)>, run: &[u16; 32]) -> u8
+    requires { IfSome work (λ w. w.0 < 32) }
+    ensures { result ≡ claim_at run.now work }
+{
+    match work {
+        None => NO_CLAIM,
+        Some((task, periods)) => {
+            if run[task as usize] <= periods {
+                task
+            } else {
+                NO_CLAIM
+            }
+        }
+    }
+}
+
+/// The task that node `me` claims, which goes through a period with this state; NO_CLAIM where it
+/// claims none, as a node that is no member. By task `run` has for how many periods it runs it.
+pub fn own_claim<const N: usize>(state: &Agreed<N>, me: u8, run: &[u16; 32]) -> u8
+    requires capacity { IsCapacity N }
+    requires me { me < N }
+    ensures { (g : Inputs) → g.run ≡ run.now → result ≡ own_claim me g state.now }
+{
+    if state.members.has(me) {
+        claim_at(state.copies.running(me), run)
+    } else {
+        NO_CLAIM
+    }
+}

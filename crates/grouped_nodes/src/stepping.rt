@@ -1,0 +1,66 @@
+//! The states after a period.
+
+ghost use Rattle.std.specs.Prelude.{◌≡◌, ℕ, ◌<◌, length, None, Some};
+ghost use Rattle.node_grid.specs.Capacity.{IsCapacity};
+ghost use Rattle.agreed_state.specs.Config.{IsConfig};
+ghost use Rattle.agreed_state.specs.Agreed.{AgreedView, IsAgreed, agreed_after};
+ghost use Rattle.shared_states.specs.declared.belief.Belief.{Belief};
+ghost use Rattle.shared_states.specs.Sharing.{state_at, AreAgreed};
+ghost use Rattle.grouped_nodes.specs.Shared.{AreShared, belief_of};
+
+use crate::Groups;
+use agreed_state::{Agreed, Config};
+use shared_states::{Belief, SharedStates};
+
+/// The state after a period, by what its nodes believe.
+fn state_after<const N: usize>(
+    config: &Config<N>,
+    period: u32,
+    state: &Agreed<N>,
+    belief: &Belief<N>,
+) -> Agreed<N>
+    requires capacity { IsCapacity N }
+    requires config { IsConfig N config.now }
+    requires agreed { IsAgreed N config.now state.now }
+    ensures after { result ≡ agreed_after N config.now period state.now belief.now.done
+        belief.now.rows }
+    ensures agreed { IsAgreed N config.now result }
+{
+    let mut after = *state;
+    after.step(config, period, &belief.done, &belief.rows);
+    after
+}
+
+/// Gives each node the state after a period, worked out once for each group of nodes that went
+/// through it with one state and settled the claims and the rows alike. What they settled stands in
+/// the belief at the group's first.
+pub fn step<const N: usize>(
+    config: &Config<N>,
+    period: u32,
+    states: &mut SharedStates<N>,
+    groups: &Groups<N>,
+    beliefs: &[Belief<N>],
+)
+    requires capacity { IsCapacity N }
+    requires config { IsConfig N config.now }
+    requires agreed { AreAgreed config.now states.old }
+    requires shared { AreShared N groups.now states.old }
+    requires many { length beliefs.now ≡ N }
+    ensures stepped { (i : ℕ) (a : AgreedView) (d : Belief N) → i < N →
+        state_at states.old i ≡ Some a → state_at states.new i ≡ Some (agreed_after N config.now period a
+        (belief_of d beliefs.now groups.now i).done (belief_of d beliefs.now groups.now i).rows) }
+    ensures cold { (i : ℕ) → i < N → state_at states.old i ≡ None → state_at states.new i ≡ None }
+    ensures agreed { AreAgreed config.now states.new }
+{
+    // Proofs need here that firsts are firsts of their own.
+    let _ = groups.of(0);
+    for first in 0..N as u8 {
+        if groups.is_first(first) {
+            if let Some(state) = states.get(first) {
+                let after = state_after(config, period, state, &beliefs[first as usize]);
+                states.replace(&groups.members_of(first), &after);
+            }
+        }
+    }
+    states.join();
+}

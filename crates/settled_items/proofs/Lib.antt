@@ -1,0 +1,6 @@
+pub mod Clipping
+pub mod Relaying
+pub mod Worlds
+pub mod Walking
+pub mod Listening
+pub mod Finding

@@ -1,0 +1,12 @@
+pub mod Relaying
+pub mod Relayed
+pub mod Listening
+pub mod Laws
+pub use Rattle.node_grid.specs.Count
+pub use Rattle.omh_paths.specs.Wrapped
+pub use Rattle.omh_paths.specs.Paths
+pub use Rattle.omh.specs.Omh
+pub use Rattle.omh.specs.Written
+pub use Rattle.equivocation.specs.Conviction
+pub use Rattle.settled_paths.specs.Passing
+pub use Rattle.settled_paths.specs.Rooms

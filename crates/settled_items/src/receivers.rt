@@ -1,0 +1,170 @@
+ghost use Rattle.std.specs.Prelude.{◌≡◌, ◌≢◌, ℕ, ◌∷◌, [], All, length, slice_index_or, true, false};
+ghost use Rattle.node_grid.specs.NodeSet.{has_id};
+ghost use Rattle.omh_paths.specs.declared.wrapped.Wrapped.TheVariants.{Fault};
+ghost use Rattle.omh_paths.specs.Wrapped.{IsExact};
+ghost use Rattle.omh.specs.Omh.{ear, settled};
+ghost use Rattle.equivocation.specs.Conviction.{convicts};
+ghost use Rattle.settled_paths.specs.Passing.{or_passed};
+ghost use Rattle.settled_items.specs.Relaying.{AreFewOdd};
+ghost use Rattle.settled_items.specs.Relayed.{relayed_world, IsRelayed};
+
+use crate::relayed::{Relayed, has_few_odd};
+use crate::values::are_alike;
+use node_grid::NodeSet;
+use odd_relays::{Item, Phase, WORK};
+use omh_paths::Wrapped;
+use settled_paths::Touched;
+
+impl<'a, V: Copy + Eq, T: Touched<V>, const N: usize> Relayed<'a, V, T, N> {
+    /// What each awake node settles for the item of another member, by paths of odd members, laid
+    /// at the node's place in `all`. It is laid by node what the commander told each of them.
+    fn settle_told(&self, told: &[Wrapped<V>], work: &mut [Wrapped<V>], all: &mut [Wrapped<V>])
+        requires exact { IsExact V.eq }
+        requires item { IsRelayed T.says self.now }
+        requires few { AreFewOdd self.now.exchange.rounds self.now.exchange.members
+            self.now.exchange.full self.now.odd }
+        requires told { (i : ℕ) → has_id self.now.exchange.awake i ≡ true →
+            slice_index_or told.now i (Fault 0) ≡
+            or_passed (T.says self.now.touched.now i (self.now.exchange.commander ∷ []))
+            self.now.own.now }
+        requires nodes { length told.now ≡ N }
+        requires known { All (λ v. v ≢ Fault 255) told.now }
+        requires room { length work.old ≡ WORK }
+        requires places { length all.old ≡ N }
+        ensures settled { (i : ℕ) → has_id self.now.exchange.awake i ≡ true →
+            self.now.exchange.commander ≢ i → slice_index_or all.new i (Fault 0) ≡
+            settled V.eq (relayed_world T.says self.now) i (self.now.exchange.commander ∷ []) }
+        ensures room { length work.new ≡ WORK }
+        ensures places { length all.new ≡ N }
+    {
+        let _ = self.exchange.members.len();
+        let phase = Phase {
+            rounds: self.exchange.rounds,
+            members: self.exchange.members,
+            full: self.exchange.full,
+        };
+        let item = Item {
+            phase,
+            commander: self.exchange.commander,
+            odd: self.odd,
+            told,
+            relays: self,
+        };
+        item.settle_all(&self.exchange.awake, work, all);
+    }
+
+    /// Whether all these nodes were told the same and few members are odd, so that none of them
+    /// convicts the commander.
+    fn is_spared(&self, nodes: &NodeSet<N>, told: &[Wrapped<V>]) -> bool
+        requires exact { IsExact V.eq }
+        requires item { IsRelayed T.says self.now }
+        requires nodes { (i : ℕ) → has_id self.now.exchange.awake i ≡ true →
+            self.now.exchange.commander ≢ i → has_id nodes.now i ≡ true }
+        requires told { (i : ℕ) → has_id self.now.exchange.awake i ≡ true →
+            slice_index_or told.now i (Fault 0) ≡
+            or_passed (T.says self.now.touched.now i (self.now.exchange.commander ∷ []))
+            self.now.own.now }
+        requires places { length told.now ≡ N }
+        ensures { result ≡ true → (i : ℕ) → has_id self.now.exchange.awake i ≡ true →
+            self.now.exchange.commander ≢ i →
+            convicts V.eq (ear (relayed_world T.says self.now) i) self.now.exchange.commander
+            ≡ false }
+    {
+        let _ = self.exchange.members.len();
+        let Some(first) = nodes.least() else {
+            return false;
+        };
+        are_alike(told, nodes, first) && has_few_odd(&self.exchange, &self.odd)
+    }
+
+    /// The awake nodes that convict the commander, which is another node. It is laid by node what
+    /// the commander told each of them.
+    fn convict_told(&self, told: &[Wrapped<V>], work: &mut [Wrapped<V>]) -> NodeSet<N>
+        requires exact { IsExact V.eq }
+        requires item { IsRelayed T.says self.now }
+        requires told { (i : ℕ) → has_id self.now.exchange.awake i ≡ true →
+            slice_index_or told.now i (Fault 0) ≡
+            or_passed (T.says self.now.touched.now i (self.now.exchange.commander ∷ []))
+            self.now.own.now }
+        requires nodes { length told.now ≡ N }
+        requires known { All (λ v. v ≢ Fault 255) told.now }
+        requires room { length work.old ≡ WORK }
+        ensures convicts { (i : ℕ) → has_id self.now.exchange.awake i ≡ true →
+            self.now.exchange.commander ≢ i → has_id result i ≡
+            convicts V.eq (ear (relayed_world T.says self.now) i) self.now.exchange.commander }
+        ensures within { (i : ℕ) → has_id result i ≡ true →
+            (has_id self.now.exchange.awake i ≡ true) × (self.now.exchange.commander ≢ i) }
+        ensures room { length work.new ≡ WORK }
+    {
+        let _ = self.exchange.members.len();
+        let nodes = self.exchange.awake.without(self.exchange.commander);
+        let mut convicting = NodeSet::empty();
+        if self.is_spared(&nodes, told) {
+            return convicting;
+        }
+        let phase = Phase {
+            rounds: self.exchange.rounds,
+            members: self.exchange.members,
+            full: self.exchange.full,
+        };
+        let item = Item {
+            phase,
+            commander: self.exchange.commander,
+            odd: self.odd,
+            told,
+            relays: self,
+        };
+        for i in nodes.iter() {
+            if item.convicts(i, work) {
+                convicting.put(i);
+            }
+        }
+        let _ = convicting.len();
+        convicting
+    }
+
+    /// What each awake node settles for the item of another member, by paths of odd members, laid
+    /// at the node's place in `all`. `told` and `work` are left with no meaning.
+    pub(crate) fn settle_few(
+        &self,
+        told: &mut [Wrapped<V>],
+        work: &mut [Wrapped<V>],
+        all: &mut [Wrapped<V>],
+    )
+        requires exact { IsExact V.eq }
+        requires item { IsRelayed T.says self.now }
+        requires few { AreFewOdd self.now.exchange.rounds self.now.exchange.members
+            self.now.exchange.full self.now.odd }
+        requires nodes { length told.old ≡ N }
+        requires room { length work.old ≡ WORK }
+        requires places { length all.old ≡ N }
+        ensures settled { (i : ℕ) → has_id self.now.exchange.awake i ≡ true →
+            self.now.exchange.commander ≢ i → slice_index_or all.new i (Fault 0) ≡
+            settled V.eq (relayed_world T.says self.now) i (self.now.exchange.commander ∷ []) }
+        ensures nodes { length told.new ≡ N }
+        ensures room { length work.new ≡ WORK }
+        ensures places { length all.new ≡ N }
+    {
+        self.lay_told(told);
+        self.settle_told(told, work, all);
+    }
+
+    /// The awake nodes that convict the commander, which is another node. `told` and `work` are
+    /// left with no meaning.
+    pub(crate) fn convicting(&self, told: &mut [Wrapped<V>], work: &mut [Wrapped<V>]) -> NodeSet<N>
+        requires exact { IsExact V.eq }
+        requires item { IsRelayed T.says self.now }
+        requires nodes { length told.old ≡ N }
+        requires room { length work.old ≡ WORK }
+        ensures convicts { (i : ℕ) → has_id self.now.exchange.awake i ≡ true →
+            self.now.exchange.commander ≢ i → has_id result i ≡
+            convicts V.eq (ear (relayed_world T.says self.now) i) self.now.exchange.commander }
+        ensures within { (i : ℕ) → has_id result i ≡ true →
+            (has_id self.now.exchange.awake i ≡ true) × (self.now.exchange.commander ≢ i) }
+        ensures nodes { length told.new ≡ N }
+        ensures room { length work.new ≡ WORK }
+    {
+        self.lay_told(told);
+        self.convict_told(told, work)
+    }
+}

@@ -1,0 +1,3 @@
+mod SameStates
+mod Free
+mod Views

@@ -1,0 +1,3 @@
+pub mod Sharing
+pub mod Places
+pub use Rattle.agreed_state.specs.Agreed

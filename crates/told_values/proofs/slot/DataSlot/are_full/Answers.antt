@@ -1,0 +1,15 @@
+use Rattle.std.proofs.Common.{ℕ, ◌≡◌, Bool, true, false, not, List, refl, sym, ap, ◌∙◌}
+use Rattle.node_grid.specs.NodeSet.{has_id, minus_of}
+use Rattle.node_grid.specs.NodeSetLaws.{has-filter}
+use Rattle.told_values.proofs.slot.DataSlot.are_full.Goals as goal
+
+none_left : (b : Bool) → not b ≡ false → b ≡ true
+none_left true h = refl
+none_left false h = cc
+
+pub returns : goal.returns
+returns g c = λ yes j low.
+    let full : List ℕ = c.args.self.now.full in
+    none_left (has_id full j)
+    (sym (has-filter (λ k. not (has_id full k)) c.args.self.now.config.now.nodes j low)
+    ∙ ap (λ (s : List ℕ). has_id s j) (sym (ap (λ (s : List ℕ). minus_of s full) c.full-all.ensures) ∙ sym c.minus.ensures ∙ c.is_empty.ensures.0 yes))

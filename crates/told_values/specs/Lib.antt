@@ -1,0 +1,12 @@
+pub mod Slot
+pub mod Heard
+pub mod Clean
+pub mod Within
+pub mod Law
+pub use Rattle.fault_classes.specs.Plan
+pub use Rattle.error_reports.specs.Notes
+pub use Rattle.protocol.specs.Arrival
+pub use Rattle.protocol.specs.View
+pub use Rattle.protocol.specs.Run
+pub use Rattle.protocol.specs.Accepted
+pub use Rattle.data_slot.specs.Told

@@ -1,0 +1,80 @@
+//! The votes on the due channels, and who is off.
+
+ghost use Rattle.std.specs.Prelude.{◌≡◌, ◌≢◌, ℕ, ◌<◌, All, length};
+ghost use Rattle.node_grid.specs.Capacity.{IsCapacity};
+ghost use Rattle.node_grid.specs.NodeSet.{has_id, ids_where};
+ghost use Rattle.agreed_state.specs.Agreed.{IsAgreed};
+ghost use Rattle.agreed_state.specs.Config.{IsConfig};
+ghost use Rattle.protocol.specs.Configured.{setting_of};
+ghost use Rattle.protocol.specs.View.{Received, deviates, votes_on};
+ghost use Rattle.data_slot.specs.Votes.{is_off};
+ghost use Rattle.told_values.specs.Slot.{slot_of, own_of, IsDataSlot, IsTold};
+
+use crate::dues::Dues;
+use crate::slot::DataSlot;
+use agreed_state::{Agreed, Config};
+use data_slot::{is_off, vote_due};
+use node_grid::NodeSet;
+use omh_paths::Wrapped;
+
+/// The nodes that told a value of a due channel which is too far from the vote.
+fn nodes_off<const N: usize>(
+    config: &Config<N>,
+    due: &[u8],
+    told: &[Option<[i64; 8]>; N],
+    votes: &[Option<i64>; 8],
+) -> NodeSet<N>
+    requires capacity { IsCapacity N }
+    requires config { IsConfig N config.now }
+    requires channels { All (λ c. c < length config.now.channels.items) due.now }
+    ensures { result ≡ ids_where (is_off config.now due.now told.now votes.now) config.now.nodes }
+{
+    let mut off = NodeSet::empty();
+    for node in 0..config.nodes {
+        if is_off(config, due, told, votes, node) {
+            off.put(node);
+        }
+    }
+    off
+}
+
+impl<'a, D: Dues<N>, const N: usize> DataSlot<'a, D, N> {
+    /// The votes by channel over these values, with none on channels that aren't due to node `i`.
+    ///
+    /// They are those of each node to which the same channels are due and to which these values
+    /// were told, where it goes through the period with this agreed state and settles these claims.
+    pub fn vote(
+        &self,
+        i: u8,
+        agreed: &Agreed<N>,
+        claims: &[Wrapped<u8>; N],
+        told: &[Option<[i64; 8]>; N],
+    ) -> [Option<i64>; 8]
+        requires capacity { IsCapacity N }
+        requires slot { IsDataSlot (slot_of D.dues self.now) }
+        requires node { i < self.now.config.now.nodes }
+        requires agreed { IsAgreed N self.now.config.now agreed.now }
+        ensures { let d = slot_of D.dues self.now in (j : ℕ) (y : Received) →
+            d.due j ≡ d.due i → IsTold d j y told.now → result ≡
+            votes_on (setting_of d.config) j (has_id d.full j) agreed.now claims.now (d.due j)
+            (own_of d j) y }
+    {
+        vote_due(self.config, agreed, claims, told, self.dues.due(i))
+    }
+
+    /// The nodes of which a value of a channel that is due to node `i` is too far from the vote.
+    ///
+    /// They are those of each node to which the same channels are due and to which these values
+    /// were told, but for that node itself.
+    pub fn off(&self, i: u8, told: &[Option<[i64; 8]>; N], votes: &[Option<i64>; 8]) -> NodeSet<N>
+        requires capacity { IsCapacity N }
+        requires slot { IsDataSlot (slot_of D.dues self.now) }
+        requires node { i < self.now.config.now.nodes }
+        ensures { let d = slot_of D.dues self.now in (j : ℕ) (y : Received) →
+            d.due j ≡ d.due i → IsTold d j y told.now →
+            (q : ℕ) → q < d.config.nodes → q ≢ j → has_id result q ≡
+            deviates (setting_of d.config) (d.due j) votes.now y q }
+    {
+        nodes_off(self.config, self.dues.due(i), told, votes)
+    }
+}

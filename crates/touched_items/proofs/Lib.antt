@@ -1,0 +1,4 @@
+pub mod Overlays
+pub mod Cells
+pub mod Patches
+pub mod Coming

@@ -1,0 +1,11 @@
+pub mod Overlaid
+pub mod OverlaidLaws
+pub mod Items
+pub mod ItemLaws
+pub mod Patched
+pub use Rattle.frames.specs.Content
+pub use Rattle.frames.specs.Spelling
+pub use Rattle.fault_classes.specs.Change
+pub use Rattle.protocol.specs.Arrival
+pub use Rattle.protocol.specs.Talk
+pub use Rattle.protocol.specs.Run

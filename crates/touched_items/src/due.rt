@@ -1,0 +1,37 @@
+//! How many entries a receiver expects of a relay frame.
+
+ghost use Rattle.std.specs.Prelude.{◌≡◌, ◌≤◌};
+ghost use Rattle.node_grid.specs.Capacity.{IsCapacity};
+ghost use Rattle.frames.specs.Content.{entries_due, round_in};
+ghost use Rattle.frames.specs.Seen.{expected};
+
+use frames::Expect;
+use omh_paths::count_paths;
+
+/// The relay round of the slot.
+pub(crate) fn round_of<const N: usize>(expect: &Expect<N>) -> u8
+    requires { expect.now.m ≤ 3 }
+    ensures { result ≡ round_in expect.now.m expect.now.slot }
+{
+    if expect.slot <= expect.m + 1 {
+        expect.slot.saturating_sub(1)
+    } else {
+        expect.slot.saturating_sub(expect.m + 3)
+    }
+}
+
+/// The number of entries of a relay frame: one for each path of as many members, without the
+/// sender, as its round.
+pub(crate) fn entries_due<const N: usize>(expect: &Expect<N>) -> usize
+    requires capacity { IsCapacity N }
+    requires rounds { expect.now.m ≤ 3 }
+    requires round { round_in expect.now.m expect.now.slot ≤ 3 }
+    ensures number { result ≡ entries_due (expected expect.now) }
+    ensures few { result ≤ 4096 }
+{
+    if expect.members.has(expect.sender) {
+        count_paths(expect.members.len().saturating_sub(1), round_of(expect))
+    } else {
+        0
+    }
+}
