@@ -1,0 +1,12 @@
+pub mod Slot
+pub mod Calm
+pub mod Told
+pub mod Hearing
+pub use Rattle.agreed_state.specs.Agreed
+pub use Rattle.error_reports.specs.Notes
+pub use Rattle.protocol.specs.Accepted
+pub use Rattle.protocol.specs.Arrival
+pub use Rattle.protocol.specs.Configured
+pub use Rattle.protocol.specs.Run
+pub use Rattle.protocol.specs.View
+pub use Rattle.shared_states.specs.Sharing

@@ -1,0 +1,4 @@
+pub mod Finding
+pub mod Correcting
+pub mod Ending
+pub mod Placing
