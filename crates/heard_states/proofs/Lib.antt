@@ -6,3 +6,4 @@ mod Clean
 mod Slots
 mod Sendings
 mod Given
+mod Leaders

@@ -2,6 +2,7 @@ pub mod Slot
 pub mod Calm
 pub mod Told
 pub mod Hearing
+pub mod Leading
 pub use Rattle.agreed_state.specs.Agreed
 pub use Rattle.error_reports.specs.Notes
 pub use Rattle.protocol.specs.Accepted

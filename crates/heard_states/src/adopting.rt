@@ -1,18 +1,45 @@
 //! The state that a node without one adopts.
 
-ghost use Rattle.std.specs.Prelude.{◌≡◌, ◌≢◌, ℕ, ◌<◌, ◌≤◌, map, IfSome};
-ghost use Rattle.node_grid.specs.NodeSet.{ids_below};
+ghost use Rattle.std.specs.Prelude.{◌≡◌, ◌≢◌, ℕ, ◌<◌, ◌≤◌, true, map, IfSome};
+ghost use Rattle.node_grid.specs.NodeSet.{ids_below, has_id};
 ghost use Rattle.agreed_state.specs.Agreed.{IsAgreed};
 ghost use Rattle.agreed_state.specs.Given.{bytes_in};
 ghost use Rattle.protocol.specs.View.{adopted_by};
 ghost use Rattle.protocol.specs.Configured.{setting_of};
 ghost use Rattle.heard_states.specs.Hearing.{told_by, body_at, IsSending};
+ghost use Rattle.heard_states.specs.Leading.{IsTeller, IsLeader};
 
 use crate::sending::{Sending, Told};
 use agreed_state::Agreed;
 use frames::StateBody;
+use node_grid::NodeSet;
 
 impl<const N: usize> Sending<'_, N> {
+    /// The full nodes that are known to have the state of this one, where no line touches a frame
+    /// of theirs.
+    fn tellers(&self, leader: u8) -> NodeSet<N>
+        requires { IsSending self.now }
+        ensures { (j : ℕ) → has_id result j ≡ true → IsTeller self.now leader j }
+    {
+        let plain = self.senders.full.minus(&self.senders.touched);
+        let others = plain.minus(&self.states.sharers(leader));
+        plain.minus(&others)
+    }
+
+    /// A node whose state more than half of all nodes tell every node without one, where places
+    /// show it. None says nothing.
+    pub(crate) fn leader(&self) -> Option<u8>
+        requires { IsSending self.now }
+        ensures { IfSome result (λ j. IsLeader self.now j) }
+    {
+        for leader in 0..self.slot.config.nodes {
+            if 2 * self.tellers(leader).len() > self.slot.config.nodes {
+                return Some(leader);
+            }
+        }
+        None
+    }
+
     /// The state that node `to` is told by node `from`, if any.
     fn body_told(&self, from: u8, to: u8) -> Option<StateBody>
         requires sending { IsSending self.now }

@@ -88,8 +88,32 @@ impl<const N: usize> SyncSlot<'_, N> {
         others
     }
 
-    /// Gives node `i` the state that it adopts, if any, from what these nodes say.
+    /// Gives node `i` the state that it adopts, if any, from what these nodes say: that of a
+    /// leader where there is one.
     fn adopt_at(&self, i: u8, senders: &Senders<N>, states: &mut SharedStates<N>)
+        requires slot { IsSyncSlot self.now }
+        requires senders { AreSenders self.now senders.now states.old }
+        requires node { i < self.now.config.now.nodes }
+        requires none { state_at states.old i ≡ None }
+        ensures own { state_at states.new i ≡
+            adopted_by (setting_of self.now.config.now) i (told_in self.now senders.now.full states.old i) }
+        ensures others { (j : ℕ) → j ≢ i → state_at states.new j ≡ state_at states.old j }
+        ensures long { length states.new ≡ N }
+        ensures agreed { AreAgreed self.now.config.now states.new }
+    {
+        let sending = Sending {
+            slot: *self,
+            senders: *senders,
+            states,
+        };
+        match sending.leader() {
+            Some(leader) => states.share(i, leader),
+            None => self.adopt_told(i, senders, states),
+        }
+    }
+
+    /// The same by all that the node is told.
+    fn adopt_told(&self, i: u8, senders: &Senders<N>, states: &mut SharedStates<N>)
         requires slot { IsSyncSlot self.now }
         requires senders { AreSenders self.now senders.now states.old }
         requires node { i < self.now.config.now.nodes }
