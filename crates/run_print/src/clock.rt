@@ -57,7 +57,7 @@ impl<const ROOM: usize> Printer<ROOM> {
     }
 
     /// Prints the line of clocks with these offsets.
-    fn clock_line<K: Sink, const N: usize>(
+    pub(crate) fn clock_line<K: Sink, const N: usize>(
         &mut self,
         sink: &mut K,
         nodes: u8,

@@ -18,9 +18,9 @@ const SETTLED: usize = 1024;
 
 /// A sink that takes nothing.
 #[derive(Drop)]
-struct Nowhere {
+pub(crate) struct Nowhere {
     /// How often something was written; the number stands still at the end of its type.
-    faults: u64,
+    pub faults: u64,
 }
 
 impl Sink for Nowhere {

@@ -5,7 +5,7 @@ use std::marker::Model;
 
 /// At most `ROOM` bytes, one after another. They are forgotten at no cost, since what lies behind them is never read.
 #[derive(Drop)]
-pub(crate) struct Gathered<const ROOM: usize> {
+pub struct Gathered<const ROOM: usize> {
     /// The bytes, and then what was there before.
     bytes: [u8; ROOM],
     /// How many bytes there are.

@@ -17,7 +17,7 @@ use span_io::Sink;
 
 impl<const ROOM: usize> Printer<ROOM> {
     /// Prints how often each node left, where nodes retire.
-    fn left<K: Sink, const N: usize>(
+    pub(crate) fn left<K: Sink, const N: usize>(
         &mut self,
         sink: &mut K,
         nodes: u8,

@@ -17,7 +17,7 @@ use span_io::Sink;
 
 impl<const ROOM: usize> Printer<ROOM> {
     /// Prints the members of a period by class.
-    fn budget<K: Sink>(&mut self, sink: &mut K, budget: &Budget)
+    pub(crate) fn budget<K: Sink>(&mut self, sink: &mut K, budget: &Budget)
         ensures { Prints K.written K.faults self.old sink.old self.new sink.new (budget_text budget.now) }
     {
         self.labelled(sink, b" n ", budget.n as u64);

@@ -37,7 +37,7 @@ fn vote_of(votes: &[Option<i64>; 8], channel: u8) -> Option<i64>
 
 impl<const ROOM: usize> Printer<ROOM> {
     /// Prints the separator before the item at place `k`.
-    fn separator<K: Sink>(&mut self, sink: &mut K, k: usize, separator: u8)
+    pub(crate) fn separator<K: Sink>(&mut self, sink: &mut K, k: usize, separator: u8)
         ensures { Prints K.written K.faults self.old sink.old self.new sink.new (separator_at (separator ∷ []) k) }
     {
         if k > 0 {
@@ -125,7 +125,7 @@ impl<const ROOM: usize> Printer<ROOM> {
     }
 
     /// Prints the task that a node runs.
-    fn run<K: Sink>(&mut self, sink: &mut K, run: Option<(u8, u16)>)
+    pub(crate) fn run<K: Sink>(&mut self, sink: &mut K, run: Option<(u8, u16)>)
         ensures { Prints K.written K.faults self.old sink.old self.new sink.new (running_text run) }
     {
         match run {

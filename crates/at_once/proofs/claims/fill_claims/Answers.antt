@@ -1,0 +1,20 @@
+use Rattle.std.proofs.Common.{ℕ, ◌≡◌, ◌<◌, ◌+◌, ◌==◌, Bool, true, false, List, length, refl, sym, ap, subst, ◌∙◌, arith, eq-eqb}
+use Rattle.std.proofs.lemmas.Bool.{false≢true}
+use Rattle.omh_paths.specs.declared.wrapped.Wrapped.{Wrapped}
+use Rattle.shared_states.specs.declared.belief.Belief.{Belief}
+use Rattle.grouped_nodes.specs.Grouping.{first_of}
+use Rattle.at_once.specs.Phases.{node_claims}
+use Rattle.at_once.proofs.FilledBeliefs.{AreFilled, filled_none, filled_put, filled_skip}
+use Rattle.at_once.proofs.claims.fill_claims.Goals as goal
+
+pub loop-first-init : goal.loop-first-init
+loop-first-init g c = filled_none c.args.phase.now.awake c.args.groups.now (λ f b. record b { done = node_claims c.args.phase.now c.args.claims.now f }) c.args.beliefs.now c.requires.many
+
+pub returns-clause-done : goal.returns-clause-done
+returns-clause-done g c f b low on own = ap (λ (y : Belief g.row.N). y.done) (c.loop-first.invariant.so_far f b (let t = c.loop-first-test.false in omega arith) on own)
+
+pub returns-clause-others : goal.returns-clause-others
+returns-clause-others g c f b off = c.loop-first.invariant.others f b off
+
+pub returns-clause-many : goal.returns-clause-many
+returns-clause-many g c = c.loop-first.invariant.wide

@@ -1,0 +1,14 @@
+pub mod Agreeing
+pub mod Frames
+pub mod Lengths
+pub mod Looking
+pub mod Runs
+pub mod Sending
+pub mod Laying
+pub mod Ears
+pub mod Standing
+pub mod Tables
+pub mod Places
+pub mod Sets
+pub mod Saying
+pub mod TalkLaws

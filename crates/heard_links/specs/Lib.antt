@@ -1,0 +1,12 @@
+pub mod Talks
+pub mod Coming
+pub mod Hearing
+pub mod Passing
+pub mod TalkLaws
+pub use Rattle.omh_paths.specs.Paths
+pub use Rattle.omh.specs.Omh
+pub use Rattle.omh.specs.Written
+pub use Rattle.settled_paths.specs.Laws
+pub use Rattle.protocol.specs.Run
+pub use Rattle.protocol.specs.Talk
+pub use Rattle.touched_items.specs.Items
