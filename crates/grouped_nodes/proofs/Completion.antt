@@ -85,6 +85,7 @@ pub record AreDone {N : ℕ} (config : Config N) (states : List (Option AgreedVi
       → (get_or bs j d).due.items ≡ due_channels (setting_of config) a (get_or old j d).done
   pub kept : (j : ℕ) (d : Belief N) → j < N → get_or bs j d ≡ record (get_or old j d) { due = (get_or bs j d).due }
   pub rest : (j : ℕ) (d : Belief N) → f ≤ j → get_or bs j d ≡ get_or old j d
+  pub none : (j : ℕ) (d : Belief N) → state_at states j ≡ None → get_or bs j d ≡ get_or old j d
 
 pub record AreJudged {N : ℕ} (config : Config N) (states : List (Option AgreedView)) (groups : List ℕ) (old : List (Belief N)) (notes : List Notes) (f : ℕ) (ns : List Notes) : Type 0 where
   pub many : length ns ≡ N
@@ -94,7 +95,7 @@ pub record AreJudged {N : ℕ} (config : Config N) (states : List (Option Agreed
 
 module _ {N : ℕ} (config : Config N) (states : List (Option AgreedView)) (groups : List ℕ) (firsts : AreFirsts N groups) (old : List (Belief N)) (many : length old ≡ N) (notes : List Notes) where
   pub done_none : AreDone config states groups old 0 old
-  done_none = record { wide = many; due = λ j a d low. absurd (omega arith); kept = λ j d low. refl; rest = λ j d high. refl }
+  done_none = record { wide = many; due = λ j a d low. absurd (omega arith); kept = λ j d low. refl; rest = λ j d high. refl; none = λ j d is. refl }
 
   pub done_skip : (f : ℕ) (bs : List (Belief N)) → (first_of groups f ≡ f → state_at states f ≡ None) → AreDone config states groups old f bs → AreDone config states groups old (f + 1) bs
   done_skip f bs none m = record {
@@ -107,6 +108,7 @@ module _ {N : ℕ} (config : Config N) (states : List (Option AgreedView)) (grou
     ];
     kept = m.kept;
     rest = λ j d high. m.rest j d (omega arith);
+    none = m.none;
   }
 
   pub done_put : (f : ℕ) (bs : List (Belief N)) (a : AgreedView) (d b : Belief N) → f < N → state_at states f ≡ Some a → AreDone config states groups old f bs
@@ -131,6 +133,10 @@ module _ {N : ℕ} (config : Config N) (states : List (Option AgreedView)) (grou
           at ∙ m.kept j d' within ∙ ap (λ (z : Belief N). record (get_or old j d') { due = z.due }) (sym at)
     ];
     rest = λ j d' high. let ne : j ≢ f = omega arith in get_or-set_other bs f j b d' ne ∙ m.rest j d' (omega arith);
+    none = λ j d' is. elim (cases_eq j f) [
+      | inl e ↦ absurd (let clash : None ≡ Some a = sym is ∙ ap (state_at states) e ∙ here in cc)
+      | inr ne ↦ get_or-set_other bs f j b d' ne ∙ m.none j d' is
+    ];
   }
     where
       room : f < length bs

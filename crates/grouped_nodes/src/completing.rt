@@ -120,6 +120,8 @@ pub fn complete<const N: usize>(
         due_channels (setting_of config.now) a (belief_of d beliefs.old groups.now i).done }
     ensures kept { (j : ℕ) (d : Belief N) → j < N → slice_index_or beliefs.new j d ≡
         record (slice_index_or beliefs.old j d) { due = (slice_index_or beliefs.new j d).due } }
+    ensures nothing { (j : ℕ) (d : Belief N) → state_at states.now j ≡ None →
+        slice_index_or beliefs.new j d ≡ slice_index_or beliefs.old j d }
     ensures noted { (i : ℕ) (a : AgreedView) (d : Belief N) → i < N →
         state_at states.now i ≡ Some a → notes_at notes.new i ≡ also_noted N (notes_at notes.old i) (by_verdicts (verdicts N
         config.now.graph a.standing.members a.copies (belief_of d beliefs.old groups.now i).done)) }

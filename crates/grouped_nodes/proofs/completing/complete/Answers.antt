@@ -118,3 +118,6 @@ returns-clause-cold g c i low is =
     let d : Belief g.row.N = record { done = []; due = record { items = [] }; votes = []; rows = [] } in
     none_noted c.args.config.now c.args.states.now c.args.groups.now c.of.ensures.all c.args.beliefs.now c.requires.many_beliefs c.args.notes.now c.requires.shared c.loop-first.first c.loop-first.notes d
     (let t = c.loop-first-test.false in omega arith) c.loop-first.invariant.1 i low is
+
+pub returns-clause-nothing : goal.returns-clause-nothing
+returns-clause-nothing g c j d is = c.loop-first.invariant.0.none j d is
