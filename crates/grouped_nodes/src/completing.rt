@@ -65,7 +65,8 @@ fn blames_any<const N: usize>(judged: &[Verdict; N]) -> bool
 fn note_on<const N: usize>(notes: &mut [RowBuilder<N>], nodes: &NodeSet<N>, judged: &[Verdict; N])
     requires capacity { IsCapacity N }
     requires many { length notes.old ≡ N }
-    requires kinds { (i : ℕ) → i < N → (notes_at notes.old i).kinds ≤ 16 }
+    requires kinds { (i : ℕ) → i < N → has_id nodes.now i ≡ true →
+        (notes_at notes.old i).kinds ≤ 16 }
     ensures notes { (i : ℕ) → i < N → notes_at notes.new i ≡ (if has_id nodes.now i
         then also_noted N (notes_at notes.old i) (by_verdicts judged.now)
         else notes_at notes.old i) }
@@ -82,7 +83,8 @@ fn note_on<const N: usize>(notes: &mut [RowBuilder<N>], nodes: &NodeSet<N>, judg
 fn note_all<const N: usize>(notes: &mut [RowBuilder<N>], nodes: &NodeSet<N>, judged: &[Verdict; N])
     requires capacity { IsCapacity N }
     requires many { length notes.old ≡ N }
-    requires kinds { (i : ℕ) → i < N → (notes_at notes.old i).kinds ≤ 16 }
+    requires kinds { (i : ℕ) → i < N → has_id nodes.now i ≡ true →
+        (notes_at notes.old i).kinds ≤ 16 }
     requires within { (i : ℕ) → i < N → has_id nodes.now i ≡ true →
         IsWithin N (notes_at notes.old i) }
     ensures notes { (i : ℕ) → i < N → notes_at notes.new i ≡ (if has_id nodes.now i
@@ -112,7 +114,8 @@ pub fn complete<const N: usize>(
     requires shared { AreShared N groups.now states.now }
     requires many_beliefs { length beliefs.old ≡ N }
     requires many_notes { length notes.old ≡ N }
-    requires kinds { (i : ℕ) → i < N → (notes_at notes.old i).kinds ≤ 16 }
+    requires kinds { (i : ℕ) (a : AgreedView) → i < N → state_at states.now i ≡ Some a →
+        (notes_at notes.old i).kinds ≤ 16 }
     requires within { (i : ℕ) (a : AgreedView) → i < N → state_at states.now i ≡ Some a →
         IsWithin N (notes_at notes.old i) }
     ensures due { (i : ℕ) (a : AgreedView) (d : Belief N) → i < N → state_at states.now i ≡ Some a →

@@ -48,7 +48,10 @@ note_all-requires g c =
             (
               m.many,
               (
-                λ i low. subst (λ (k : ℕ). k ≤ 16) (sym (judged_kinds c.args.config.now states groups c.of.ensures.all c.args.beliefs.now c.requires.many_beliefs c.args.notes.now f ns d m i low)) (c.requires.kinds i low),
+                λ i low on.
+                    let e = own i low on in
+                    subst (λ (k : ℕ). k ≤ 16) (sym (judged_kinds c.args.config.now states groups c.of.ensures.all c.args.beliefs.now c.requires.many_beliefs c.args.notes.now f ns d m i low))
+                    (c.requires.kinds i c.in-Some.state.now low (sym (c.requires.shared i low) ∙ ap (state_at states) e ∙ here)),
                 λ i low on.
                     let e = own i low on in
                     let late : f ≤ first_of groups i = omega (arith, e) in
