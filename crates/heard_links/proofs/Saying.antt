@@ -30,7 +30,7 @@ use Rattle.heard_links.specs.Talks.{members_at}
 use Rattle.heard_links.specs.Coming.{is_untouched}
 use Rattle.heard_links.specs.Hearing.{is_even, is_asked, says_in, IsCame, IsAsked, IsAlikeFrom, IsHeard, item_of, came_at, talk_in, source, passed_on}
 use Rattle.heard_links.specs.Passing.{own_in, world_in, says_of, ArePassedOn}
-use Rattle.heard_links.proofs.Ears.{last_push, says_even, says_heard, asked_if, asked_parts, says_alike}
+use Rattle.heard_links.proofs.Ears.{last_push, says_even, says_heard, asked_if, AskedParts, asked_parts, says_alike}
 use Rattle.heard_links.proofs.Places.{placed_in, source_same, split_off, split_distinct, front_last}
 use Rattle.heard_links.proofs.Runs.{heard_few, heard_even, heard_relay_even, known}
 use Rattle.heard_links.proofs.Sets.{few_nodes, few_m, in_use, front_on}
@@ -65,6 +65,19 @@ module _ {V : Type 0} (t : Talk V) (m : ℕ) (awake : List ℕ) where
   says_unasked i path lacks =
       cond-false (is_asked t m awake i path && not (is_even t (length path - 1) (last_node path) i)) (Some (heard (rounds_upto t m i) path)) None
       (ap (λ (b : Bool). b && not (is_even t (length path - 1) (last_node path) i)) lacks)
+
+  no_more : (b : Bool) → (b && not true) ≡ false
+  no_more true = refl
+  no_more false = refl
+
+  -- nothing is said of a path where what is said in its round comes as it is said
+  pub says_untouched : (i : ℕ) (path : List ℕ) → (AskedParts t m awake i path → is_even t (length path - 1) (last_node path) i ≡ true) → says_in t m awake i path ≡ None
+  says_untouched i path even = elim (cases_Bool (is_asked t m awake i path)) [
+    | inl asks ↦
+        cond-false (is_asked t m awake i path && not (is_even t (length path - 1) (last_node path) i)) (Some (heard (rounds_upto t m i) path)) None
+        (ap (λ (b : Bool). is_asked t m awake i path && not b) (even (asked_parts t m awake i path asks)) ∙ no_more (is_asked t m awake i path))
+    | inr lacks ↦ says_unasked i path lacks
+  ]
 
   -- a node hears itself as it passes on
   instead_none : (i q : ℕ) (path : List ℕ) → (i ≢ q → says_in t m awake i (path ++ q ∷ []) ≡ None) → instead (says_in t m awake) i path q ≡ None

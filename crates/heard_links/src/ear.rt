@@ -185,6 +185,19 @@ impl<V: Item<N>, const N: usize> Links<V, N> {
         true
     }
 
+    /// Whether all nodes hear what is passed on, for all paths of so many nodes.
+    fn is_untouched(&self, phase: &Phase<'_, N>, len: u8) -> bool
+        requires heard { IsHeard V.form V.first_slot V.tells phase.now self.now
+            (phase.now.config.now.m + 1) }
+        ensures { result ≡ true → (i : ℕ) (path : List ℕ) → length path ≡ len →
+            says_of V.form phase.now self.now i path ≡ None }
+    {
+        if len == 0 || len > phase.config.m + 1 {
+            return false;
+        }
+        self.touched(phase, len - 1).is_empty()
+    }
+
     /// Whether two nodes surely hear the same for all paths of so many nodes, in place of what is
     /// passed on.
     fn is_alike(&self, phase: &Phase<'_, N>, i: u8, j: u8, len: u8) -> bool
@@ -214,5 +227,9 @@ impl<'a, 'p, V: Item<N>, const N: usize> Touched<V> for Ear<'a, 'p, V, N> {
 
     fn is_alike(&self, i: u8, j: u8, len: u8) -> bool {
         self.links.is_alike(self.phase, i, j, len)
+    }
+
+    fn is_untouched(&self, len: u8) -> bool {
+        self.links.is_untouched(self.phase, len)
     }
 }

@@ -5,3 +5,4 @@ pub mod Folds
 pub mod Layers
 pub mod Rooms
 pub mod Worlds
+pub mod Untouched

@@ -1,6 +1,7 @@
 //! What is passed on of an item, laid once for all receivers.
 
-ghost use Rattle.std.specs.Prelude.{◌≡◌, ◌≢◌, ℕ, ◌+◌, ◌-◌, ◌*◌, ◌<◌, ◌≤◌, ◌∷◌, ◌++◌, ◌⊎◌, [], length, slice_index_or, true, if◌then◌else◌};
+ghost use Rattle.std.specs.Prelude.{◌≡◌, ◌≢◌, ℕ, ◌+◌, ◌-◌, ◌*◌, ◌<◌, ◌≤◌, ◌∷◌, ◌++◌, ◌⊎◌, [], List, Option, length, slice_index_or, true, if◌then◌else◌};
+ghost use Rattle.omh_paths.specs.declared.wrapped.Wrapped.{Wrapped};
 ghost use Rattle.node_grid.specs.NodeSet.{has_id};
 ghost use Rattle.omh_paths.specs.declared.wrapped.Wrapped.TheVariants.{Fault};
 ghost use Rattle.omh_paths.specs.Paths.{outside, path_count, index_in};
@@ -9,7 +10,7 @@ ghost use Rattle.settled_paths.specs.Passing.{passes};
 ghost use Rattle.settled_paths.specs.Levels.{level_at, IsExchange, AreLaid, AreSmall};
 
 use crate::exchange::Exchange;
-use crate::touched::{Touched, heard};
+use crate::touched::{Touched, Untouched, heard};
 use crate::values::{set_value, value_at};
 use omh::outside;
 use omh_paths::{Path, Wrapped};
@@ -59,6 +60,38 @@ impl<const N: usize> Exchange<N> {
         }
     }
 
+    /// Lays what is passed on of all paths of so many relays, where that of shorter ones is laid, by
+    /// what is said in place of what is passed on of these.
+    fn lay_level<V: Copy + Eq, T: Touched<V>>(
+        &self,
+        relays: u8,
+        touched: &T,
+        laid: &mut [Wrapped<V>],
+    )
+        requires exchange { IsExchange N self.now.rounds self.now.members self.now.commander }
+        requires shorter { relays < self.now.rounds }
+        requires small { AreSmall self.now.members relays laid.old }
+        requires room { level_at (length self.now.members - 1) (self.now.rounds + 1) ≤ length laid.old }
+        ensures laid { (own : Wrapped V) (says : ℕ → List ℕ → Option (Wrapped V)) →
+            ((i : ℕ) (path : List ℕ) → length path ≡ relays + 1 →
+            says i path ≡ T.says touched.now i path) →
+            AreLaid self.now.members self.now.full own says
+            (index_in self.now.members self.now.commander) relays laid.old →
+            AreLaid self.now.members self.now.full own says
+            (index_in self.now.members self.now.commander) (relays + 1) laid.new }
+        ensures small { AreSmall self.now.members (relays + 1) laid.new }
+        ensures room { length laid.new ≡ length laid.old }
+    {
+        let level = self.level(relays);
+        let width = (self.members.len() - 1).saturating_sub(relays) as usize;
+        let next = level.begins + level.paths;
+        for k in 0..level.paths {
+            let path = self.path(relays, &level, k);
+            let passed = value_at(laid, level.begins + k);
+            self.lay_behind(&path, passed, touched, next + k * width, laid);
+        }
+    }
+
     /// Lays what is passed on of all paths of so many relays, where that of shorter ones is laid.
     fn lay_longer<V: Copy + Eq, T: Touched<V>>(
         &self,
@@ -74,13 +107,10 @@ impl<const N: usize> Exchange<N> {
         ensures small { AreSmall self.now.members (relays + 1) laid.new }
         ensures room { length laid.new ≡ length laid.old }
     {
-        let level = self.level(relays);
-        let width = (self.members.len() - 1).saturating_sub(relays) as usize;
-        let next = level.begins + level.paths;
-        for k in 0..level.paths {
-            let path = self.path(relays, &level, k);
-            let passed = value_at(laid, level.begins + k);
-            self.lay_behind(&path, passed, touched, next + k * width, laid);
+        if touched.is_untouched(relays + 1) {
+            self.lay_level(relays, &Untouched, laid);
+        } else {
+            self.lay_level(relays, touched, laid);
         }
     }
 

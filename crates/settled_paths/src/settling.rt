@@ -13,7 +13,7 @@ ghost use Rattle.settled_paths.specs.Passing.{or_passed, instead, HearAlike, pas
 ghost use Rattle.settled_paths.specs.Levels.{level_at, EachEar, IsExchange, AreLaid, AreOwnTerms, AreLastTerms};
 
 use crate::exchange::Exchange;
-use crate::touched::{Touched, heard, term};
+use crate::touched::{Touched, Untouched, heard, term};
 use crate::values::{copy_front, part, set_value, settled_from_terms, value_at};
 use node_grid::NodeSet;
 use omh::outside;
@@ -45,9 +45,9 @@ impl<const N: usize> Exchange<N> {
         }
     }
 
-    /// Settles the paths of m nodes from what node `i` hears in the last round. Each node for which
-    /// the same is changed in that round settles them so.
-    fn settle_longest<V: Copy + Eq, T: Touched<V>>(
+    /// Settles the paths of m nodes from what is laid and what node `i` hears in the last round in
+    /// place of that.
+    fn settle_level<V: Copy + Eq, T: Touched<V>>(
         &self,
         i: u8,
         touched: &T,
@@ -75,6 +75,33 @@ impl<const N: usize> Exchange<N> {
             self.lay_terms(i, &path, touched, part(laid, from, width), terms);
             let settled = settled_from_terms(terms, 0, width);
             set_value(longest, k, settled);
+        }
+    }
+
+    /// Settles the paths of m nodes from what node `i` hears in the last round. Each node for which
+    /// the same is changed in that round settles them so.
+    fn settle_longest<V: Copy + Eq, T: Touched<V>>(
+        &self,
+        i: u8,
+        touched: &T,
+        laid: &[Wrapped<V>],
+        longest: &mut [Wrapped<V>],
+        terms: &mut [Wrapped<V>],
+    )
+        requires exact { IsExact V.eq }
+        requires exchange { IsExchange N self.now.rounds self.now.members self.now.commander }
+        requires some { 0 < self.now.rounds }
+        requires laid { level_at (length self.now.members - 1) (self.now.rounds + 1) ≤ length laid.now }
+        requires longest { level_at (length self.now.members - 1) self.now.rounds ≤ length longest.old }
+        requires terms { 16 ≤ length terms.old }
+        ensures settled { (me : ℕ) → EachEar self.now.rounds self.now.members me (λ x. AreLastTerms V.eq x (index_in self.now.members self.now.commander) i (T.says touched.now) (self.now.rounds - 1) laid.now → AreSettled V.eq x (index_in self.now.members self.now.commander) (self.now.rounds - 1) longest.new) }
+        ensures longest { length longest.new ≡ length longest.old }
+        ensures terms { length terms.new ≡ length terms.old }
+    {
+        if touched.is_untouched(self.rounds + 1) {
+            self.settle_level(i, &Untouched, laid, longest, terms);
+        } else {
+            self.settle_level(i, touched, laid, longest, terms);
         }
     }
 

@@ -1,4 +1,4 @@
-ghost use Rattle.std.specs.Prelude.{◌≡◌, ◌≢◌, ℕ, ◌+◌, ◌<◌, ◌≤◌, ◌++◌, ◌∷◌, [], List, Option, length, true, false, IfSome};
+ghost use Rattle.std.specs.Prelude.{◌≡◌, ◌≢◌, ℕ, ◌+◌, ◌<◌, ◌≤◌, ◌++◌, ◌∷◌, [], List, Option, None, length, true, false, IfSome};
 ghost use Rattle.node_grid.specs.NodeSet.{has_id};
 ghost use Rattle.omh_paths.specs.declared.wrapped.Wrapped.{Wrapped};
 ghost use Rattle.omh.specs.Written.{IsSmall};
@@ -20,6 +20,31 @@ pub trait Touched<V: Copy + Eq> {
     /// nodes. It may say false of any two.
     fn is_alike(&self, i: u8, j: u8, len: u8) -> bool
         ensures { result ≡ true → HearAlike (says self.now) i j len };
+
+    /// Whether all nodes hear what is passed on, for all paths of so many nodes. It may say false.
+    fn is_untouched(&self, len: u8) -> bool
+        ensures { result ≡ true → (i : ℕ) (path : List ℕ) → length path ≡ len →
+            says self.now i path ≡ None };
+}
+
+/// Nothing was touched: all nodes hear what is passed on.
+#[derive(Drop)]
+pub(crate) struct Untouched;
+
+impl<V: Copy + Eq> Touched<V> for Untouched {
+    ghost says = { λ u i path. None };
+
+    fn said(&self, _to: u8, _path: &Path) -> Option<Wrapped<V>> {
+        None
+    }
+
+    fn is_alike(&self, _i: u8, _j: u8, _len: u8) -> bool {
+        true
+    }
+
+    fn is_untouched(&self, _len: u8) -> bool {
+        true
+    }
 }
 
 /// What a node hears for a path whose last node passes this on.

@@ -59,4 +59,8 @@ impl Touched<u8> for Lies {
     fn is_alike(&self, i: u8, j: u8, len: u8) -> bool {
         i == j || len > self.longest
     }
+
+    fn is_untouched(&self, len: u8) -> bool {
+        len > self.longest
+    }
 }
