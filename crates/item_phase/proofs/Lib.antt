@@ -1,0 +1,10 @@
+pub mod RoundNotes
+pub mod OfRun
+pub mod Placing
+pub mod Sharing
+pub mod Standing
+pub mod Against
+pub mod Accounts
+pub mod Hearers
+pub mod Marking
+pub mod Agreed

@@ -1,0 +1,67 @@
+use Rattle.std.proofs.Common.{rules, ℕ, ◌≡◌, ◌<◌, List, Option, inl, inr, arith, lit<, sym, ap, ap₂, ◌∙◌}
+use Rattle.node_grid.specs.NodeSet.{has_id}
+use Rattle.omh_paths.specs.declared.wrapped.Wrapped.{Wrapped}
+use Rattle.omh_paths.specs.MemberLaws.{member-lt}
+use Rattle.settled_paths.specs.declared.exchange.Exchange.{Exchange}
+use Rattle.heard_links.specs.declared.links.Links.{Links}
+use Rattle.heard_links.specs.declared.phase.Phase.{Phase}
+use Rattle.heard_links.specs.Passing.{says_of}
+use Rattle.heard_links.proofs.Sets.{node_low}
+use Rattle.item_phase.proofs.Sharing.{relayed_as, convicts_told}
+use Rattle.item_phase.proofs.told.Told.convicting.Goals as goal
+
+pub own-own-requires : goal.own-own-requires
+own-own-requires g c =
+    let a = c.args.self.now in
+    let t = c.requires.told in (
+      lit< tt,
+      (
+        elim t.heard.set.capacity [ inl e ↦ rw e (lit< tt) | inr e ↦ rw e (lit< tt) ],
+        node_low a.phase.now t.heard.set a.commander (member-lt a.phase.now.config.now.nodes a.members.now a.commander t.all.ids t.member),
+      ),
+    )
+
+pub convicting-requires : goal.convicting-requires
+convicting-requires g c =
+    let a = c.args.self.now in
+    let x = a.phase.now in
+    let t = c.requires.told in
+    let ear = c.listen-ear.result in
+    let heard = c.listen-ear.ensures in
+    let said : ℕ → List ℕ → Option (Wrapped g.row.V.Denot) = says_of g.V.Item.form ear.1 ear.0 in
+    let said_is : said ≡ says_of g.V.Item.form x a.links.now = ap₂ (λ (l : Links g.row.V.Denot g.row.N) (p : Phase g.row.N). says_of g.V.Item.form p l) heard.links heard.phase in
+    let r =
+    relayed_as g.V.PartialEq.eq g.V.Item.form x a.links.now a.members.now t.heard.set t.all a.commander t.member heard.even heard.small c.exchange.result a.odd.now c.own-own.result said t.odd_are
+    c.exchange.ensures c.own-own.ensures said_is in (
+      lit< tt,
+      (
+        lit< tt,
+        (
+          lit< tt,
+          (
+            g.met.V.Item.exact,
+            record {
+              capacity_ok = t.heard.set.capacity;
+              rounds_ok = r.rounds_ok;
+              member = r.member;
+              awake = r.awake;
+              own_small = r.own_small;
+              said_small = r.said_small;
+              odd_heard = r.odd_heard;
+            },
+          ),
+        ),
+      ),
+    )
+
+pub returns-clause-convicts : goal.returns-clause-convicts
+returns-clause-convicts g c = λ i on ne.
+    let a = c.args.self.now in
+    let x = a.phase.now in
+    let t = c.requires.told in
+    let ear = c.listen-ear.result in
+    let heard = c.listen-ear.ensures in
+    let said : ℕ → List ℕ → Option (Wrapped g.row.V.Denot) = says_of g.V.Item.form ear.1 ear.0 in
+    let said_is : said ≡ says_of g.V.Item.form x a.links.now = ap₂ (λ (l : Links g.row.V.Denot g.row.N) (p : Phase g.row.N). says_of g.V.Item.form p l) heard.links heard.phase in
+    convicts_told g.V.PartialEq.eq g.V.Item.form x a.links.now a.members.now t.all a.commander t.member heard.passed_on c.exchange.result c.own-own.result said
+    c.exchange.ensures c.own-own.ensures said_is c.convicting.result c.convicting.ensures.convicts i on ne

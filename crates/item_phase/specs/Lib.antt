@@ -1,0 +1,4 @@
+pub mod Settled
+pub mod Noted
+pub mod Listening
+pub mod Laws
