@@ -1,5 +1,5 @@
 -- What one node settles by what it hears for the paths that are asked for.
-use Rattle.std.proofs.Common.{ℕ, ◌≡◌, ◌≢◌, ◌≤◌, ◌+◌, arith, Bool, true, List, [], ◌∷◌, not, sym, ap, ap₂, ◌∙◌, ne_eqb}
+use Rattle.std.proofs.Common.{ℕ, ◌≡◌, ◌≢◌, ◌≤◌, ◌+◌, arith, Bool, true, List, [], ◌∷◌, not, ap, ap₂, ◌∙◌, ne_eqb}
 use Rattle.std.proofs.lemmas.Bool.{cond-true, and_from}
 use Rattle.std.specs.Prelude.{length, nat_le}
 use Rattle.std.proofs.lemmas.Bool.Decides.{nat_tests}

@@ -1,8 +1,8 @@
 -- What a node hears in a phase of a run is what it hears in the run.
-use Rattle.std.proofs.Common.{ℕ, ◌≡◌, ◌≢◌, ◌<◌, ◌≤◌, ◌==◌, ◌&&◌, ◌||◌, Bool, true, false, List, [], ◌∷◌, refl, sym, ap, ap₂, ◌∙◌, inl, inr, arith, eqb-true, eq-eqb, ne_eqb}
+use Rattle.std.proofs.Common.{ℕ, ◌≡◌, ◌<◌, ◌==◌, ◌&&◌, ◌||◌, Bool, true, List, [], ◌∷◌, refl, sym, ap, ap₂, ◌∙◌, inl, inr, arith, eq-eqb, ne_eqb}
 use Rattle.std.specs.Prelude.{if◌then◌else◌}
 use Rattle.std.specs.List.{list_any, range_with_len}
-use Rattle.std.proofs.lemmas.Bool.{cases_Bool, cases_eq, cond-true, cond-false, or_cases}
+use Rattle.std.proofs.lemmas.Bool.{cases_Bool, cases_eq, cond-true, cond-false}
 use Rattle.node_grid.specs.NodeSet.{has_id}
 use Rattle.omh_paths.specs.declared.wrapped.Wrapped.{Wrapped}
 use Rattle.omh_paths.specs.declared.wrapped.Wrapped.TheVariants.{Fault}
@@ -12,7 +12,7 @@ use Rattle.equivocation.specs.Conviction.{convicts}
 use Rattle.equivocation.specs.ConvictionLaws.{convicts_alike}
 use Rattle.protocol.specs.Arrival.{Arrival, ItemForm, is_bad}
 use Rattle.protocol.specs.FurtherKinds.{convicts_member}
-use Rattle.protocol.specs.Heard.{Rounds, heard, rounds_bad}
+use Rattle.protocol.specs.Heard.{heard, rounds_bad}
 use Rattle.protocol.specs.Talk.{Talk, rounds_upto}
 use Rattle.protocol.specs.Run.{System}
 use Rattle.protocol.specs.Accepted.{IsAccepted}
@@ -25,8 +25,7 @@ use Rattle.heard_links.specs.Hearing.{item_of, talk_in}
 use Rattle.heard_links.proofs.Runs.{heard_is, first_is, relay_same}
 use Rattle.heard_links.proofs.Sets.{in_use}
 use Rattle.item_phase.specs.Settled.{listener}
-use Rattle.item_phase.specs.Noted.{rounds_of}
-use Rattle.item_phase.specs.Laws.{heard_in, IsOfRun, OfRunLaw}
+use Rattle.item_phase.specs.Laws.{heard_in, IsOfRun}
 use Rattle.item_phase.proofs.Accounts.{one_within, two_within}
 
 any_alike : (f g : ℕ → Bool) (xs : List ℕ) → ((r : ℕ) → f r ≡ g r) → list_any f xs ≡ list_any g xs

@@ -1,7 +1,7 @@
 -- What is noted round by round.
-use Rattle.std.proofs.Common.{ℕ, zero, suc, ◌≡◌, ◌≢◌, ◌<◌, ◌≤◌, ◌+◌, ◌==◌, ◌||◌, Bool, true, false, if◌then◌else◌, List, Option, None, Some, refl, sym, ap, ◌∙◌, inl, inr, arith, eq-eqb, ne_eqb}
+use Rattle.std.proofs.Common.{ℕ, zero, suc, ◌≡◌, ◌≢◌, ◌<◌, ◌≤◌, ◌+◌, ◌==◌, ◌||◌, Bool, true, false, Option, None, refl, sym, ap, ◌∙◌, arith, ne_eqb}
 use Rattle.std.specs.List.{list_any, range_with_len}
-use Rattle.std.proofs.lemmas.Bool.{cond-true, cond-false}
+use Rattle.std.proofs.lemmas.Bool.{cond-false}
 use Rattle.error_reports.specs.Notes.{Notes, is_kind, also_noted, also_carried}
 use Rattle.error_reports.specs.NoteLaws.{noted_alike, noted_twice, carried_alike}
 use Rattle.protocol.specs.Arrival.{Arrival, is_bad}

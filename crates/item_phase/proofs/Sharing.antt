@@ -1,5 +1,5 @@
 -- What all nodes settle of an item, where those that are awake have the same members.
-use Rattle.std.proofs.Common.{ℕ, suc, ◌≡◌, ◌≢◌, ◌<◌, ◌≤◌, ◌+◌, ◌==◌, Bool, true, false, List, [], ◌∷◌, ◌++◌, length, Option, None, refl, sym, ap, ap₂, subst, ◌∙◌, inl, inr, arith, eq-eqb}
+use Rattle.std.proofs.Common.{ℕ, suc, ◌≡◌, ◌≢◌, ◌<◌, ◌≤◌, ◌+◌, Bool, true, false, List, [], ◌∷◌, ◌++◌, length, Option, None, refl, sym, ap, ap₂, subst, ◌∙◌, arith, eq-eqb}
 use Rattle.std.specs.Prelude.{◌*◌, slice_index_or, if◌then◌else◌, IfSome}
 use Rattle.std.proofs.lemmas.Bool.{or_right}
 use Rattle.std.proofs.lemmas.List.{length_push}
@@ -8,14 +8,12 @@ use Rattle.node_grid.specs.ListLaws.{has_push}
 use Rattle.omh_paths.specs.declared.wrapped.Wrapped.{Wrapped}
 use Rattle.omh_paths.specs.declared.wrapped.Wrapped.TheVariants.{Plain, Fault}
 use Rattle.omh_paths.specs.Wrapped.{IsExact}
-use Rattle.omh_paths.specs.Paths.{IsPath}
 use Rattle.omh_paths.specs.PathLaws.{off_longer}
 use Rattle.omh_paths.specs.MemberLaws.{Distinct-ids, member-lt}
 use Rattle.omh.specs.Omh.{World, Ear, ear, settled, settled_at}
 use Rattle.omh.specs.Written.{IsSmall}
 use Rattle.equivocation.specs.Conviction.{convicts}
 use Rattle.settled_paths.specs.Passing.{passing_world}
-use Rattle.settled_paths.specs.Laws.{IsPassedOn}
 use Rattle.settled_paths.proofs.Worlds.{passing_law}
 use Rattle.settled_items.specs.Relaying.{AreOddHeard, AreFewOdd}
 use Rattle.settled_items.specs.Laws.{IsToldAsIs}
@@ -26,11 +24,11 @@ use Rattle.protocol.specs.Settled.{ear_of}
 use Rattle.protocol.specs.Talk.{rounds_upto}
 use Rattle.heard_links.specs.declared.links.Links.{Links}
 use Rattle.heard_links.specs.declared.phase.Phase.{Phase}
-use Rattle.heard_links.specs.Talks.{members_at, IsSet}
+use Rattle.heard_links.specs.Talks.{IsSet}
 use Rattle.heard_links.specs.Hearing.{item_of, talk_in, is_even}
 use Rattle.heard_links.specs.Passing.{own_in, world_in, says_of, ArePassedOn}
 use Rattle.heard_links.proofs.Sets.{few_m}
-use Rattle.item_phase.specs.Settled.{listener, IsOfAll, AreOdd, IsPlain, IsLaid, IsTold}
+use Rattle.item_phase.specs.Settled.{listener, IsOfAll, AreOdd, IsPlain, IsLaid}
 
 -- nothing is said of frames that come as they were sent
 abbrev pub IsSaidOfOdd : {V : Type 0} {N : ℕ} → ItemForm V → Phase N → Links V N → Type 0

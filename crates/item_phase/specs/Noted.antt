@@ -1,5 +1,5 @@
 -- What is found of the frames of the rounds, one after the other.
-use Rattle.std.specs.Prelude.{ℕ, zero, suc, ◌≡◌, ◌≤◌, Bool, false, List}
+use Rattle.std.specs.Prelude.{ℕ, zero, suc, ◌≡◌, ◌≤◌, Bool, false}
 use Rattle.error_reports.specs.Notes.{Notes, also_noted, also_carried}
 use Rattle.agreed_state.specs.declared.config.Config.{Config}
 use Rattle.protocol.specs.Heard.{Rounds, rounds_bad}

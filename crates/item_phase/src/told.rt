@@ -31,11 +31,11 @@ impl<'a, 'p, V: Item<N>, const N: usize> Told<'a, 'p, V, N> {
     /// Who tells it, who passes it on, and who hears it.
     fn exchange(&self) -> Exchange<N>
         ensures { result ≡ record {
-            rounds = self.now.phase.now.config.now.m;
-            members = self.now.members.now;
-            full = self.now.phase.now.full;
-            awake = self.now.phase.now.awake;
-            commander = self.now.commander;
+          rounds = self.now.phase.now.config.now.m;
+          members = self.now.members.now;
+          full = self.now.phase.now.full;
+          awake = self.now.phase.now.awake;
+          commander = self.now.commander;
         } }
     {
         Exchange {
@@ -52,8 +52,8 @@ impl<'a, 'p, V: Item<N>, const N: usize> Told<'a, 'p, V, N> {
         requires told { IsTold V.form V.first_slot V.tells self.now.phase.now self.now.links.now
             self.now.members.now self.now.odd.now self.now.commander }
         requires room { settling.old ≡ record {
-            nodes = self.now.phase.now.config.now.nodes;
-            rounds = self.now.phase.now.config.now.m;
+          nodes = self.now.phase.now.config.now.nodes;
+          rounds = self.now.phase.now.config.now.m;
         } }
         requires places { length row.old ≡ N }
         ensures settled { (i : ℕ) → has_id self.now.phase.now.awake i ≡ true →

@@ -1,10 +1,10 @@
-use Rattle.std.proofs.Common.{rules, ℕ, ◌≡◌, ◌≢◌, ◌<◌, ◌≤◌, ◌+◌, true, false, List, [], refl, sym, ap, subst, ◌∙◌, inl, inr, arith, lit<}
+use Rattle.std.proofs.Common.{ℕ, ◌≡◌, ◌≢◌, true, false, sym, ap, subst, ◌∙◌, inl, inr, arith}
 use Rattle.std.proofs.lemmas.Bool.{cases_eq, both_ways}
 use Rattle.node_grid.specs.NodeSet.{has_id}
 use Rattle.heard_links.proofs.Sets.{node_low}
 use Rattle.item_phase.specs.declared.item_phase.ItemPhase.{ItemPhase}
 use Rattle.item_phase.specs.Settled.{IsLaid}
-use Rattle.item_phase.proofs.Agreed.{still_heard, settled_as_one}
+use Rattle.item_phase.proofs.Agreed.{settled_as_one}
 use Rattle.item_phase.proofs.item_phase.ItemPhase.agree_among.Goals as goal
 use Rattle.item_phase.proofs.item_phase.ItemPhase.agree_among.Goals.{then-has+then-not-has, else-has, else-has-via-then-has+else-not-has, else-has-via-else-has}
 

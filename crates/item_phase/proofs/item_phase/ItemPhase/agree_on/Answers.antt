@@ -1,4 +1,4 @@
-use Rattle.std.proofs.Common.{ℕ, ◌≡◌, ◌≢◌, ◌<◌, ◌≤◌, ◌+◌, ◌*◌, List, [], length, refl, sym, ap, ◌∙◌, arith, get_or, get_or-set_same, get_or-set_other}
+use Rattle.std.proofs.Common.{ℕ, ◌≡◌, ◌<◌, ◌+◌, ◌*◌, List, [], length, refl, sym, ap, ◌∙◌, arith, get_or, get_or-set_same, get_or-set_other}
 use Rattle.std.proofs.lemmas.List.{with_items_is}
 use Rattle.std.proofs.lemmas.Nat.{mul-le}
 use Rattle.node_grid.specs.CapacityLaws.{capacity-le}

@@ -1,4 +1,4 @@
-use Rattle.std.proofs.Common.{ℕ, ◌≡◌, sym, ◌∙◌, arith}
+use Rattle.std.proofs.Common.{sym, ◌∙◌, arith}
 use Rattle.heard_links.specs.Hearing.{frame_kind}
 use Rattle.item_phase.specs.Noted.{rounds_of}
 use Rattle.item_phase.proofs.RoundNotes.{carried_quiet}

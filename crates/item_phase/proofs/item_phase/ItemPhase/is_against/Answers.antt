@@ -1,5 +1,5 @@
-use Rattle.std.proofs.Common.{rules, ◌≡◌, ◌<◌, ◌+◌, List, ℕ, Bool, [], true, false, not, length, inl, inr, arith, sym, ap, ◌∙◌, get_or}
-use Rattle.std.proofs.lemmas.Bool.{cases_Bool, both_ways}
+use Rattle.std.proofs.Common.{rules, ◌≡◌, ◌<◌, List, ℕ, [], true, false, not, length, inl, inr, arith, sym, ap, ◌∙◌}
+use Rattle.std.proofs.lemmas.Bool.{cases_Bool}
 use Rattle.std.proofs.lemmas.List.{get_or_default}
 use Rattle.node_grid.specs.NodeSet.{has_id}
 use Rattle.heard_links.specs.Talks.{members_at}

@@ -1,4 +1,4 @@
-use Rattle.std.proofs.Common.{ℕ, ◌≡◌, ◌≢◌, ◌<◌, ◌+◌, ◌*◌, Bool, true, false, List, [], length, sym, ap, ◌∙◌, inl, inr, arith, get_or, set, get_or-set_same, get_or-set_other}
+use Rattle.std.proofs.Common.{ℕ, ◌<◌, ◌+◌, ◌*◌, List, [], length, sym, ap, ◌∙◌, inl, inr, arith, get_or, set, get_or-set_same, get_or-set_other}
 use Rattle.std.proofs.lemmas.Bool.{cases_eq}
 use Rattle.std.proofs.lemmas.List.{get_or_default}
 use Rattle.node_grid.specs.NodeSet.{has_id, with_id}

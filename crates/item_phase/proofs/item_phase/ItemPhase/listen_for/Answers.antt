@@ -1,11 +1,10 @@
-use Rattle.std.proofs.Common.{rules, ℕ, ◌≡◌, ◌≢◌, ◌<◌, ◌≤◌, ◌+◌, ◌⊎◌, true, false, List, [], refl, sym, ap, subst, ◌∙◌, inl, inr, arith, lit<}
+use Rattle.std.proofs.Common.{ℕ, ◌≡◌, ◌≢◌, true, List, refl, sym, ap, subst, ◌∙◌, inl, inr, arith}
 use Rattle.std.proofs.lemmas.Bool.{cases_eq, both_ways}
 use Rattle.node_grid.specs.NodeSet.{has_id}
 use Rattle.heard_links.specs.Talks.{members_at}
 use Rattle.heard_links.proofs.Sets.{node_low}
 use Rattle.item_phase.specs.declared.item_phase.ItemPhase.{ItemPhase}
 use Rattle.item_phase.specs.Settled.{IsLaid}
-use Rattle.item_phase.proofs.Agreed.{still_heard}
 use Rattle.item_phase.proofs.item_phase.ItemPhase.listen_for.Goals.{then-has+then-me-commander+then-has-2, else-has, else-has-via-then-has+then-me-commander+else-has-2, else-has-via-then-has+else-me-commander, else-has-via-else-has}
 use Rattle.item_phase.proofs.item_phase.ItemPhase.listen_for.Goals as goal
 

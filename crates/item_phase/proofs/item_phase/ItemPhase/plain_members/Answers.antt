@@ -1,6 +1,5 @@
-use Rattle.std.proofs.Common.{ℕ, ◌≡◌, true, false, List, [], sym, ap, subst, ◌∙◌, arith}
+use Rattle.std.proofs.Common.{ℕ, List, sym, ap, ◌∙◌, arith}
 use Rattle.node_grid.specs.NodeSet.{has_id}
-use Rattle.settled_items.specs.Relaying.{AreFewOdd}
 use Rattle.heard_links.proofs.Saying.{says_none, are_passed_on}
 use Rattle.heard_links.proofs.Sets.{few_m}
 use Rattle.item_phase.proofs.Marking.{in_minus}

@@ -1,4 +1,4 @@
-use Rattle.std.proofs.Common.{rules, ◌≡◌, ◌<◌, ◌+◌, ◌*◌, false, true, length, inl, inr, arith, lit<, sym, ◌∙◌, eq-eqb}
+use Rattle.std.proofs.Common.{rules, ◌<◌, ◌+◌, ◌*◌, length, inl, inr, arith, lit<, sym, ◌∙◌, eq-eqb}
 use Rattle.std.proofs.lemmas.Bool.{both_ways}
 use Rattle.std.proofs.lemmas.List.{get_or_read}
 use Rattle.omh_paths.specs.declared.wrapped.Wrapped.TheVariants.{Fault}
