@@ -15,6 +15,6 @@ returns g c none i path long =
     let some : 0 < c.args.len = omega (arith, c.if-len-eq0.false) in
     says_untouched t x.config.now.m x.awake i path
     (λ a.
-        let on = a.within (last_node path) (last_has path (omega (arith, long, some))) in
-        ap (λ (n : ℕ). is_even t (n - 1) (last_node path) i) long
-        ∙ c.touched.ensures (last_node path) i (ap (λ (ns : List ℕ). has_id ns (last_node path)) (c.is_empty.ensures.0 none)) (in_use x s i (last_node path) on) a.on a.other)
+    let on = a.within (last_node path) (last_has path (omega (arith, long, some))) in
+    ap (λ (n : ℕ). is_even t (n - 1) (last_node path) i) long
+    ∙ c.touched.ensures (last_node path) i (ap (λ (ns : List ℕ). has_id ns (last_node path)) (c.is_empty.ensures.0 none)) (in_use x s i (last_node path) on) a.on a.other)
