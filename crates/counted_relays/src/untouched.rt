@@ -23,7 +23,7 @@ fn is_untouched<V: Copy + Eq, T: Touched<V>>(touched: &T, rounds: u8) -> bool
     requires rounds { rounds ≤ 3 }
     ensures { result ≡ true → IsUntouched rounds (T.says touched.now) }
 {
-    for before in 0..=rounds {
+    for before in 0..rounds + 1 {
         if !touched.is_untouched(before + 1) {
             return false;
         }
