@@ -9,6 +9,7 @@ ghost use Rattle.settled_items.specs.Relayed.{relayed_world, IsRelayed};
 
 use crate::relayed::{Relayed, has_few_odd};
 use crate::values::blank;
+use counted_relays::settle_untouched;
 use node_grid::{NoMemory, NodeSet};
 use odd_relays::WORK;
 use omh_paths::Wrapped;
@@ -74,7 +75,7 @@ impl<V: Copy + Eq + Drop, const N: usize> Settling<V, N> {
     {
         if has_few_odd(&item.exchange, &item.odd) {
             item.settle_few(self.told.as_mut_slice(), self.work.as_mut_slice(), all);
-        } else {
+        } else if !settle_untouched(&item.exchange, item.own(), item.touched, all) {
             self.laid
                 .settle_all(&item.exchange, item.own(), item.touched, all);
         }
