@@ -2,6 +2,7 @@
 //! are settled alike both ways at each receiver.
 #![tactic(auto)]
 
+mod counted;
 mod draws;
 mod lies;
 mod plain;
@@ -10,9 +11,9 @@ ghost use Rattle.std.specs.Prelude.{◌≡◌, ◌<◌, ◌≤◌, true};
 ghost use Rattle.node_grid.specs.NodeSet.{has_id};
 ghost use Rattle.omh.specs.Written.{IsSmall};
 
+use crate::counted::count_counted;
 use crate::draws::Draws;
 use crate::lies::Lies;
-use node_grid::NodeSet;
 use omh::Table;
 use omh_paths::Wrapped;
 use settled_paths::{Exchange, Laid};
@@ -20,7 +21,7 @@ use std::alloc::AllocError;
 use worked_rows::row;
 
 /// How many items are drawn for each number of rounds.
-const DRAWN: u32 = 60;
+pub const DRAWN: u32 = 60;
 
 /// Whether each receiver settles the item alike both ways.
 fn are_alike(
@@ -69,16 +70,7 @@ fn count_alike(rt: &HostRuntime, rounds: u8, longest: u8) -> anyhow::Result<u32>
     let mut draws = Draws::new(11);
     let mut alike = 0u32;
     for _ in 0..DRAWN {
-        let commander = (draws.next() % 8) as u8;
-        let mut members = draws.nodes();
-        members.put(commander);
-        let exchange = Exchange {
-            rounds,
-            members,
-            full: draws.nodes(),
-            awake: draws.nodes(),
-            commander,
-        };
+        let exchange = draws.exchange(rounds);
         let lies = Lies::draw(&mut draws, longest);
         if are_alike(&mut laid, &mut table, &exchange, Wrapped::Plain(9), &lies) {
             alike = alike.saturating_add(1);
@@ -107,5 +99,13 @@ fn main(rt: HostRuntime) -> anyhow::Result<()> {
         "  three rounds, no lie in the last",
         count_alike(&rt, 3, 3)?,
     )?;
+    row(
+        &rt,
+        "  settled alike at once and by a count where nobody lies, no rounds",
+        count_counted(&rt, 0)?,
+    )?;
+    row(&rt, "  one round", count_counted(&rt, 1)?)?;
+    row(&rt, "  two rounds", count_counted(&rt, 2)?)?;
+    row(&rt, "  three rounds", count_counted(&rt, 3)?)?;
     Ok(())
 }
