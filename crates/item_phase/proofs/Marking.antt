@@ -41,9 +41,18 @@ pub set_here : (sets now : List (List ℕ)) (c : ℕ) (more : List ℕ) → now 
 set_here sets now c more is room = ap (λ (those : List (List ℕ)). get_or those c []) is ∙ get_or-set_same sets c more [] room
 
 -- a node that is in one set and not in another
+pub has_minus : (these those : List ℕ) (q : ℕ) → has_id (minus_of these those) q ≡ (not (has_id those q) && has_id these q)
+has_minus these those q = any-filter_same (λ y. y == q) (λ j. not (has_id those j)) (not (has_id those q)) (λ j e. ap (λ (n : ℕ). not (has_id those n)) (eqb-true j q e)) these
+
 pub in_minus : (these those : List ℕ) (q : ℕ) → has_id (minus_of these those) q ≡ true → (has_id these q ≡ true) × (has_id those q ≡ false)
 in_minus these those q on =
-    let is : has_id (minus_of these those) q ≡ (not (has_id those q) && has_id these q) =
-    any-filter_same (λ y. y == q) (λ j. not (has_id those j)) (not (has_id those q)) (λ j e. ap (λ (n : ℕ). not (has_id those n)) (eqb-true j q e)) these in
-    let parts = and_parts (not (has_id those q)) (has_id these q) (sym is ∙ on) in
+    let parts = and_parts (not (has_id those q)) (has_id these q) (sym (has_minus these those q) ∙ on) in
     (parts.1, not-true (has_id those q) parts.0)
+
+-- all nodes of one set are in another
+pub all_in : (these those : List ℕ) (q : ℕ) → minus_of these those ≡ [] → has_id these q ≡ true → has_id those q ≡ true
+all_in these those q none = left_out (has_id those q) (has_id these q) (sym (has_minus these those q) ∙ ap (λ (s : List ℕ). has_id s q) none)
+  where
+    left_out : (a b : Bool) → (not a && b) ≡ false → b ≡ true → a ≡ true
+    left_out true b off on = refl
+    left_out false b off on = cc

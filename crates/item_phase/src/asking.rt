@@ -96,6 +96,9 @@ impl<V: Item<N>, const N: usize> ItemPhase<V, N> {
         ensures { (c : ℕ) → c ≢ i →
             has_id result c ≡ convicts_member V.eq (listener V.form phase.now self.now.links i) c }
     {
+        if members_of(phase, i).minus(&self.plain).is_empty() {
+            return NodeSet::empty();
+        }
         let mut convicted = NodeSet::empty();
         for c in 0..phase.config.nodes {
             if c != i && self.is_against(phase, i, c) {

@@ -8,6 +8,8 @@ use Rattle.std.proofs.lemmas.Bool.{eqb-true}
 use Rattle.std.proofs.lemmas.Bool.Decides.{Decides-int_eq}
 use Rattle.omh_paths.specs.declared.wrapped.Wrapped.{Wrapped}
 use Rattle.node_steps.specs.Outcome.{Outcome}
+use Rattle.shared_states.specs.declared.belief.Belief.{Belief}
+use Rattle.shown_period.specs.Whole.{Believes}
 use Rattle.run_text.specs.Text.{separated, done_item, rows_item, votes_text}
 use Rattle.run_text.specs.NodeText.{settled_text}
 use Rattle.run_print.specs.Common.{AreSettledAlike}
@@ -54,7 +56,7 @@ int_exact x y h = search (rules, Decides-int_eq x y, h)
 pub numbers_same : (xs ys : List ℕ) → pointwise nat_eq xs ys ≡ true → xs ≡ ys
 numbers_same xs ys h = same_text xs ys (sym h)
 
-text_of : ℕ → List ℕ → List (Option (List ℕ)) → List (Wrapped ℕ) → List ℕ → List (Option ℤ) → List ℕ
+abbrev pub text_of : ℕ → List ℕ → List (Option (List ℕ)) → List (Wrapped ℕ) → List ℕ → List (Option ℤ) → List ℕ
 text_of nodes members rows done due votes =
     codes "\n  done " ++ separated (codes " ") (map (done_item done) members)
     ++ codes "\n  rows " ++ separated (codes " ") (map (rows_item nodes rows) members)
@@ -62,13 +64,22 @@ text_of nodes members rows done due votes =
 
 -- nodes that settled and voted the same have one text
 pub settled_same : (nodes : ℕ) (one other : Outcome) → AreSettledAlike one other → settled_text nodes one ≡ settled_text nodes other
-unfolding text_of
 settled_same nodes one other h =
     ap (λ (x : List ℕ). text_of nodes x one.rows one.done one.due one.votes) h.members
     ∙ ap (λ (x : List (Option (List ℕ))). text_of nodes other.members x one.done one.due one.votes) h.rows
     ∙ ap (λ (x : List (Wrapped ℕ)). text_of nodes other.members other.rows x one.due one.votes) h.done
     ∙ ap (λ (x : List ℕ). text_of nodes other.members other.rows other.done x one.votes) h.due
     ∙ ap (λ (x : List (Option ℤ)). text_of nodes other.members other.rows other.done other.due x) h.votes
+
+-- by what a node believes, and its members
+pub settled_by : {N : ℕ} (nodes : ℕ) (o : Outcome) (b : Belief N) (members : List ℕ) → Believes o b → members ≡ o.members
+    → text_of nodes members b.rows b.done b.due.items b.votes ≡ settled_text nodes o
+settled_by nodes o b members h same =
+    ap (λ (x : List ℕ). text_of nodes x b.rows b.done b.due.items b.votes) same
+    ∙ ap (λ (x : List (Option (List ℕ))). text_of nodes o.members x b.done b.due.items b.votes) (sym h.rows)
+    ∙ ap (λ (x : List (Wrapped ℕ)). text_of nodes o.members o.rows x b.due.items b.votes) (sym h.done)
+    ∙ ap (λ (x : List ℕ). text_of nodes o.members o.rows o.done x b.votes) (sym h.due)
+    ∙ ap (λ (x : List (Option ℤ)). text_of nodes o.members o.rows o.done o.due x) (sym h.votes)
 
 pub votes_same : (xs ys : List (Option ℤ)) → pointwise (option_eq int_eq) xs ys ≡ true → xs ≡ ys
 votes_same = lists_same (option_eq int_eq) (options_same int_eq int_exact)

@@ -1,10 +1,12 @@
 -- Texts that are printed one after the other.
-use Rattle.std.proofs.Common.{◌≡◌, ℕ, List, [], ◌∷◌, ◌++◌, length, refl, sym, ap, subst, ◌∙◌, append_assoc, append-nil, Option, Some, Result, false}
+use Rattle.std.proofs.Common.{◌≡◌, ℕ, List, [], ◌∷◌, ◌++◌, length, refl, sym, ap, subst, ◌∙◌, append_assoc, append-nil, Option, Some, Result, Err, true, false}
 use Rattle.std.specs.List.{flat_map}
 use Rattle.std.proofs.lemmas.Grind.{flat_map-append}
 use Rattle.std.proofs.KnownBytes.{Appends-nil}
 use Rattle.std.specs.Io.KnownBytes.{Appends}
-use Rattle.run_print.specs.Printing.{Gathers, Printed, PrintedIf, Prints, Finishes, WritesText}
+use Rattle.span_io.specs.Causes.{Writes}
+use Rattle.span_io.specs.Progress.{front}
+use Rattle.run_print.specs.Printing.{Gathers, Fails, Printed, PrintedIf, Prints, Finishes, WritesText}
 use Rattle.run_print.specs.declared.printer.Printer.{Printer}
 use Rattle.run_text.specs.Text.{separated, separator_at}
 
@@ -19,6 +21,15 @@ appends_none : (old now : Option (List ℕ)) (front : List ℕ) → old ≡ Some
 appends_none old now front e f h =
     let same : [] ≡ front = subst (λ o. Appends (Some []) o front) f (subst (λ o. Appends o now front) e h) in
     sym same
+
+-- nothing is printed yet
+pub begun : {S : Type 0} {room : ℕ} (written : S → Option (List ℕ)) (faults : S → ℕ) (a : Printer room) (s : S) → a.gathered ≡ [] → a.failed ≡ false
+    → Printed (written s) (faults s) [] a (written s) (faults s)
+begun written faults a s empty going =
+    let v : Option (List ℕ) = written s in
+    let k : ℕ = faults s in
+    let gathers : Gathers v v k k a.gathered [] = record { front = []; splits = empty; written = Appends-nil v; same = refl } in
+    subst (λ b. PrintedIf b v v k k a.gathered []) (sym going) gathers
 
 module _ {S : Type 0} {room : ℕ} {written : S → Option (List ℕ)} {faults : S → ℕ} where
   -- one text after the other
@@ -43,10 +54,14 @@ module _ {S : Type 0} {room : ℕ} {written : S → Option (List ℕ)} {faults :
   pub finished : {T E : Type 0} {a b : Printer room} {r s t : S} {text : List ℕ} {result : Result T E} → a.gathered ≡ [] → a.failed ≡ false
       → Prints written faults a r b s text → Finishes written faults b s t result → WritesText written faults r t text result
   finished {T} {E} {a} {b} {r} {s} {t} {text} {result} empty going prints finishes =
-      let v : Option (List ℕ) = written r in
-      let k : ℕ = faults r in
-      let gathers : Gathers v v k k a.gathered [] = record { front = []; splits = empty; written = Appends-nil v; same = refl } in
-      finishes v k text (prints.goes_on v k [] (subst (λ b. PrintedIf b v v k k a.gathered []) (sym going) gathers))
+      finishes (written r) (faults r) text (prints.goes_on (written r) (faults r) [] (begun written faults a r empty going))
+
+-- where the sink failed, the rest of a text is of no account
+pub broken : {T E : Type 0} {room : ℕ} (old now : Option (List ℕ)) (before count : ℕ) (text rest : List ℕ) (p : Printer room) (e : E)
+    → Printed old before text p now count → p.failed ≡ true → Writes {T = T} old now before count (text ++ rest) (Err e)
+broken old now before count text rest p e printed failed =
+    let fails : Fails old now before count text = subst (λ b. PrintedIf b old now before count p.gathered text) failed printed in
+    record { whole = tt; prefix = front old now text rest fails.prefix; later = fails.later; faultless = tt; failed = fails.rose }
 
 -- where nothing can be written, the text is gathered
 pub all_gathered : {S : Type 0} {room : ℕ} (written : S → Option (List ℕ)) (faults : S → ℕ) (a b : Printer room) (r t : S) (text : List ℕ)

@@ -3,3 +3,4 @@ pub mod Lists
 pub mod Sending
 pub mod Ranges
 pub mod Alike
+pub mod Zeros

@@ -1,5 +1,7 @@
 pub mod Printing
 pub mod Common
+pub mod Example
+pub mod ExampleLaws
 pub use Rattle.span_io.specs.Causes
 pub use Rattle.fault_classes.specs.Line
 pub use Rattle.fault_classes.specs.Plan
@@ -7,3 +9,6 @@ pub use Rattle.fault_link.specs.Arrival
 pub use Rattle.agreed_state.specs.Agreed
 pub use Rattle.node_steps.specs.Outcome
 pub use Rattle.cluster_periods.specs.Record
+pub use Rattle.shared_states.specs.Sharing
+pub use Rattle.shown_period.specs.Outcomes
+pub use Rattle.shown_period.specs.Whole

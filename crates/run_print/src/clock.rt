@@ -2,7 +2,8 @@
 ghost use Rattle.std.specs.Prelude.{◌≡◌, ◌≤◌, None, length, take};
 ghost use Rattle.run_print.specs.Printing.{Prints};
 ghost use Rattle.node_grid.specs.Class.{is_sound};
-ghost use Rattle.run_text.specs.ClockText.{sound_numbers, range_of, widened, spread_text, clock_line, clock_text};
+ghost use Rattle.run_text.specs.ClockText.{sound_numbers, range_of, widened, spread_text};
+ghost use Rattle.run_text.specs.ClockText.{clock_line, clock_text};
 
 use crate::printer::Printer;
 use cluster_record::PeriodRecord;
@@ -48,7 +49,8 @@ impl<const ROOM: usize> Printer<ROOM> {
     /// Prints how far the least and the greatest number of a sound node are apart.
     fn spread<K: Sink>(&mut self, sink: &mut K, classes: &[Class], numbers: &[i64])
         requires { length classes.now ≡ length numbers.now }
-        ensures { Prints K.written K.faults self.old sink.old self.new sink.new (spread_text (range_of (sound_numbers classes.now numbers.now))) }
+        ensures { Prints K.written K.faults self.old sink.old self.new sink.new
+            (spread_text (range_of (sound_numbers classes.now numbers.now))) }
     {
         match sound_range(classes, numbers) {
             None => self.byte(sink, b'-'),
@@ -57,7 +59,7 @@ impl<const ROOM: usize> Printer<ROOM> {
     }
 
     /// Prints the line of clocks with these offsets.
-    fn clock_line<K: Sink, const N: usize>(
+    pub(crate) fn clock_line<K: Sink, const N: usize>(
         &mut self,
         sink: &mut K,
         nodes: u8,
@@ -65,7 +67,8 @@ impl<const ROOM: usize> Printer<ROOM> {
         offset: &[i64; N],
     )
         requires { nodes ≤ N }
-        ensures { Prints K.written K.faults self.old sink.old self.new sink.new (clock_line nodes classes.now offset.now) }
+        ensures { Prints K.written K.faults self.old sink.old self.new sink.new
+            (clock_line nodes classes.now offset.now) }
     {
         let offsets = &offset[..nodes as usize];
         self.text(sink, b"clock skew ");
@@ -78,7 +81,8 @@ impl<const ROOM: usize> Printer<ROOM> {
     /// Prints the line of a period's clocks, where it has some.
     pub(crate) fn clock<K: Sink, const N: usize>(&mut self, sink: &mut K, shown: &PeriodRecord<N>)
         requires { shown.now.nodes ≤ N }
-        ensures { Prints K.written K.faults self.old sink.old self.new sink.new (clock_text shown.now shown.now.clock) }
+        ensures { Prints K.written K.faults self.old sink.old self.new sink.new
+            (clock_text shown.now shown.now.clock) }
     {
         if let Some(clock) = &shown.clock {
             self.clock_line(sink, shown.nodes, &shown.classes, &clock.offset);

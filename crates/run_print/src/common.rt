@@ -18,9 +18,9 @@ const SETTLED: usize = 1024;
 
 /// A sink that takes nothing.
 #[derive(Drop)]
-struct Nowhere {
+pub(crate) struct Nowhere {
     /// How often something was written; the number stands still at the end of its type.
-    faults: u64,
+    pub faults: u64,
 }
 
 impl Sink for Nowhere {
@@ -46,11 +46,13 @@ pub(crate) struct Common<'a, const N: usize> {
     pub settled: Printer<SETTLED>,
 }
 
-/// Gathers the members, penalty counts and streaks of a node; where there are none, or no room for them, the printer fails.
+/// Gathers the members, penalty counts and streaks of a node; where there are none, or no room for
+/// them, the printer fails.
 fn standing_of<const N: usize>(nodes: u8, shown: &NodeRecord<N>) -> Printer<STANDING>
     requires capacity { IsCapacity N }
     requires nodes { nodes ≤ N }
-    ensures { result.failed ≡ false → (a : AgreedView) → shown.now.agreed ≡ Some a → result.gathered ≡ standing_text nodes a }
+    ensures { result.failed ≡ false → (a : AgreedView) → shown.now.agreed ≡ Some a
+        → result.gathered ≡ standing_text nodes a }
 {
     let mut nowhere = Nowhere { faults: 0 };
     let mut printer = Printer::new();

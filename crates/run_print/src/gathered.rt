@@ -1,11 +1,13 @@
 //! Bytes that are gathered in a room of fixed size.
-ghost use Rattle.std.specs.Prelude.{◌≡◌, ◌+◌, ◌<◌, ◌≤◌, ◌↔◌, true, false, IsTrue, [], ◌∷◌, ◌++◌, length};
+ghost use Rattle.std.specs.Prelude.{◌≡◌, ◌+◌, ◌<◌, ◌≤◌, ◌↔◌, true, false, IsTrue, [], ◌∷◌, ◌++◌};
+ghost use Rattle.std.specs.Prelude.{length};
 
 use std::marker::Model;
 
-/// At most `ROOM` bytes, one after another. They are forgotten at no cost, since what lies behind them is never read.
+/// At most `ROOM` bytes, one after another. They are forgotten at no cost, since what lies behind
+/// them is never read.
 #[derive(Drop)]
-pub(crate) struct Gathered<const ROOM: usize> {
+pub struct Gathered<const ROOM: usize> {
     /// The bytes, and then what was there before.
     bytes: [u8; ROOM],
     /// How many bytes there are.
@@ -48,7 +50,8 @@ impl<const ROOM: usize> Gathered<ROOM> {
         true
     }
 
-    /// Appends bytes, and tells whether there was room for them all. Where there is none, nothing changes.
+    /// Appends bytes, and tells whether there was room for them all. Where there is none, nothing
+    /// changes.
     pub(crate) fn extend(&mut self, bytes: &[u8]) -> bool
         ensures room { IsTrue result ↔ (length self.old + length bytes.now ≤ ROOM) }
         ensures extended { result ≡ true → self.new ≡ self.old ++ bytes.now }

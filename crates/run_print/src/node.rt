@@ -3,7 +3,8 @@ ghost use Rattle.std.specs.Prelude.{◌≡◌, ◌≤◌, ◌++◌, false, codes
 ghost use Rattle.node_grid.specs.Capacity.{IsCapacity};
 ghost use Rattle.run_print.specs.Printing.{Prints, WritesText};
 ghost use Rattle.run_text.specs.Text.{mode_text};
-ghost use Rattle.run_text.specs.NodeText.{left_text, standing_text, state_text, settled_text, beliefs_text};
+ghost use Rattle.run_text.specs.NodeText.{left_text, standing_text, state_text, settled_text};
+ghost use Rattle.run_text.specs.NodeText.{beliefs_text};
 ghost use Rattle.run_print.specs.Common.{IsCommon};
 ghost use Rattle.run_text.specs.PeriodText.{alone_text};
 
@@ -17,7 +18,7 @@ use span_io::Sink;
 
 impl<const ROOM: usize> Printer<ROOM> {
     /// Prints how often each node left, where nodes retire.
-    fn left<K: Sink, const N: usize>(
+    pub(crate) fn left<K: Sink, const N: usize>(
         &mut self,
         sink: &mut K,
         nodes: u8,
@@ -25,7 +26,8 @@ impl<const ROOM: usize> Printer<ROOM> {
         left: &Left<N>,
     )
         requires { nodes ≤ N }
-        ensures { Prints K.written K.faults self.old sink.old self.new sink.new (left_text nodes retire left.now.times) }
+        ensures { Prints K.written K.faults self.old sink.old self.new sink.new
+            (left_text nodes retire left.now.times) }
     {
         if retire != 0 {
             self.text(sink, b" left ");
@@ -41,7 +43,8 @@ impl<const ROOM: usize> Printer<ROOM> {
         agreed: &Agreed<N>,
     )
         requires { nodes ≤ N }
-        ensures { Prints K.written K.faults self.old sink.old self.new sink.new (standing_text nodes agreed.now) }
+        ensures { Prints K.written K.faults self.old sink.old self.new sink.new
+            (standing_text nodes agreed.now) }
     {
         let counts = &agreed.counts;
         self.text(sink, b" members ");
@@ -61,8 +64,10 @@ impl<const ROOM: usize> Printer<ROOM> {
         common: &Common<'_, N>,
     )
         requires nodes { nodes ≤ N }
-        requires common { IsCommon nodes common.now.shown.now common.now.standing common.now.settled }
-        ensures { Prints K.written K.faults self.old sink.old self.new sink.new (standing_text nodes agreed.now) }
+        requires common { IsCommon nodes common.now.shown.now common.now.standing
+            common.now.settled }
+        ensures { Prints K.written K.faults self.old sink.old self.new sink.new
+            (standing_text nodes agreed.now) }
     {
         if common.stands(nodes, agreed) {
             self.text(sink, common.standing.gathered.as_slice());
@@ -82,8 +87,10 @@ impl<const ROOM: usize> Printer<ROOM> {
     )
         requires capacity { IsCapacity N }
         requires nodes { nodes ≤ N }
-        requires common { IsCommon nodes common.now.shown.now common.now.standing common.now.settled }
-        ensures { Prints K.written K.faults self.old sink.old self.new sink.new (state_text nodes retire agreed.now) }
+        requires common { IsCommon nodes common.now.shown.now common.now.standing
+            common.now.settled }
+        ensures { Prints K.written K.faults self.old sink.old self.new sink.new
+            (state_text nodes retire agreed.now) }
     {
         self.standing_so(sink, nodes, agreed, common);
         self.text(sink, b" run ");
@@ -100,7 +107,8 @@ impl<const ROOM: usize> Printer<ROOM> {
     )
         requires capacity { IsCapacity N }
         requires nodes { nodes ≤ N }
-        ensures { Prints K.written K.faults self.old sink.old self.new sink.new (settled_text nodes shown.now) }
+        ensures { Prints K.written K.faults self.old sink.old self.new sink.new
+            (settled_text nodes shown.now) }
     {
         self.text(sink, b"\n  done ");
         self.done(sink, &shown.done, &shown.members);
@@ -121,8 +129,10 @@ impl<const ROOM: usize> Printer<ROOM> {
     )
         requires capacity { IsCapacity N }
         requires nodes { nodes ≤ N }
-        requires common { IsCommon nodes common.now.shown.now common.now.standing common.now.settled }
-        ensures { Prints K.written K.faults self.old sink.old self.new sink.new (settled_text nodes shown.now) }
+        requires common { IsCommon nodes common.now.shown.now common.now.standing
+            common.now.settled }
+        ensures { Prints K.written K.faults self.old sink.old self.new sink.new
+            (settled_text nodes shown.now) }
     {
         if common.settles(nodes, shown) {
             self.text(sink, common.settled.gathered.as_slice());
@@ -133,7 +143,8 @@ impl<const ROOM: usize> Printer<ROOM> {
 
     /// Prints the number of node `i`, whose class is told by a letter.
     pub(crate) fn named<K: Sink>(&mut self, sink: &mut K, i: u8, letter: &[u8])
-        ensures { Prints K.written K.faults self.old sink.old self.new sink.new (codes "node " ++ decimal i ++ codes " " ++ letter.now ++ codes " ") }
+        ensures { Prints K.written K.faults self.old sink.old self.new sink.new
+            (codes "node " ++ decimal i ++ codes " " ++ letter.now ++ codes " ") }
     {
         self.labelled(sink, b"node ", i as u64);
         self.byte(sink, b' ');
@@ -152,8 +163,10 @@ impl<const ROOM: usize> Printer<ROOM> {
     )
         requires capacity { IsCapacity N }
         requires nodes { nodes ≤ N }
-        requires common { IsCommon nodes common.now.shown.now common.now.standing common.now.settled }
-        ensures { Prints K.written K.faults self.old sink.old self.new sink.new (beliefs_text nodes retire shown.now shown.now.agreed) }
+        requires common { IsCommon nodes common.now.shown.now common.now.standing
+            common.now.settled }
+        ensures { Prints K.written K.faults self.old sink.old self.new sink.new
+            (beliefs_text nodes retire shown.now shown.now.agreed) }
     {
         match &shown.agreed {
             None => self.text(sink, b"cold\n"),
@@ -171,7 +184,8 @@ impl<const ROOM: usize> Printer<ROOM> {
 /// `nodes` must be at most `N`. It and `retire` are those of the configuration.
 ///
 /// # Errors
-/// `WriteFault` comes only where the sink's count of faults rose. A prefix of the lines was written then.
+/// `WriteFault` comes only where the sink's count of faults rose. A prefix of the lines was written
+/// then.
 pub fn write_alone<const N: usize, K: Sink>(
     period: u32,
     id: u8,
@@ -182,7 +196,8 @@ pub fn write_alone<const N: usize, K: Sink>(
 ) -> Result<(), WriteFault>
     requires capacity { IsCapacity N }
     requires nodes { nodes ≤ N }
-    ensures { WritesText K.written K.faults sink.old sink.new (alone_text period id nodes retire shown.now) result }
+    ensures { WritesText K.written K.faults sink.old sink.new
+        (alone_text period id nodes retire shown.now) result }
 {
     let mut printer = Printer::<SMALL>::new();
     printer.labelled(sink, b"period ", period as u64);

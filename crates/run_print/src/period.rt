@@ -5,7 +5,8 @@ ghost use Rattle.run_print.specs.Printing.{Prints, WritesText};
 ghost use Rattle.run_print.specs.Common.{IsCommon};
 ghost use Rattle.run_text.specs.Text.{class_text};
 ghost use Rattle.run_text.specs.TraceText.{IsPlanOf, period_text};
-ghost use Rattle.run_text.specs.PeriodText.{budget_text, head_text, recorded_text, nodes_text, end_text, refused_text};
+ghost use Rattle.run_text.specs.PeriodText.{budget_text, head_text, recorded_text, nodes_text};
+ghost use Rattle.run_text.specs.PeriodText.{end_text, refused_text};
 
 use crate::WriteFault;
 use crate::common::Common;
@@ -17,8 +18,9 @@ use span_io::Sink;
 
 impl<const ROOM: usize> Printer<ROOM> {
     /// Prints the members of a period by class.
-    fn budget<K: Sink>(&mut self, sink: &mut K, budget: &Budget)
-        ensures { Prints K.written K.faults self.old sink.old self.new sink.new (budget_text budget.now) }
+    pub(crate) fn budget<K: Sink>(&mut self, sink: &mut K, budget: &Budget)
+        ensures { Prints K.written K.faults self.old sink.old self.new sink.new
+            (budget_text budget.now) }
     {
         self.labelled(sink, b" n ", budget.n as u64);
         self.labelled(sink, b" a ", budget.a as u64);
@@ -28,7 +30,8 @@ impl<const ROOM: usize> Printer<ROOM> {
 
     /// Prints the period line.
     fn head<K: Sink, const N: usize>(&mut self, sink: &mut K, shown: &PeriodRecord<N>)
-        ensures { Prints K.written K.faults self.old sink.old self.new sink.new (head_text shown.now) }
+        ensures { Prints K.written K.faults self.old sink.old self.new sink.new
+            (head_text shown.now) }
     {
         self.labelled(sink, b"period ", shown.period as u64);
         self.text(sink, b" members ");
@@ -52,8 +55,10 @@ impl<const ROOM: usize> Printer<ROOM> {
         requires capacity { IsCapacity N }
         requires nodes { shown.now.nodes ≤ N }
         requires node { i < shown.now.nodes }
-        requires common { IsCommon shown.now.nodes common.now.shown.now common.now.standing common.now.settled }
-        ensures { Prints K.written K.faults self.old sink.old self.new sink.new (recorded_text shown.now i (slice_get shown.now.records i)) }
+        requires common { IsCommon shown.now.nodes common.now.shown.now common.now.standing
+            common.now.settled }
+        ensures { Prints K.written K.faults self.old sink.old self.new sink.new
+            (recorded_text shown.now i (slice_get shown.now.records i)) }
     {
         self.named(sink, i, letter(shown.classes[i as usize]));
         self.beliefs(sink, shown.nodes, shown.retire, shown.node(i), common);
@@ -63,7 +68,8 @@ impl<const ROOM: usize> Printer<ROOM> {
     fn nodes<K: Sink, const N: usize>(&mut self, sink: &mut K, shown: &PeriodRecord<N>)
         requires capacity { IsCapacity N }
         requires nodes { shown.now.nodes ≤ N }
-        ensures { Prints K.written K.faults self.old sink.old self.new sink.new (nodes_text shown.now) }
+        ensures { Prints K.written K.faults self.old sink.old self.new sink.new
+            (nodes_text shown.now) }
     {
         // naming a field tells the checker the types of all of them
         let _ = &shown.classes;
@@ -87,12 +93,21 @@ impl<const ROOM: usize> Printer<ROOM> {
         requires capacity { IsCapacity N }
         requires nodes { shown.now.nodes ≤ N }
         requires planned { trace ≡ true → IsPlanOf plan.now shown.now }
-        ensures { Prints K.written K.faults self.old sink.old self.new sink.new (period_text plan.now trace shown.now) }
+        ensures { Prints K.written K.faults self.old sink.old self.new sink.new
+            (period_text plan.now trace shown.now) }
     {
         self.head(sink, shown);
         self.nodes(sink, shown);
         self.clock(sink, shown);
         self.traced(sink, shown, plan, trace);
+    }
+
+    /// Prints the last line of a run of so many periods.
+    pub fn end<K: Sink>(&mut self, sink: &mut K, periods: u64)
+        ensures { Prints K.written K.faults self.old sink.old self.new sink.new (end_text periods) }
+    {
+        self.labelled(sink, b"end ", periods);
+        self.byte(sink, b'\n');
     }
 }
 
@@ -125,7 +140,8 @@ fn example<const N: usize>(shown: &PeriodRecord<N>) -> u8
 /// Writes the period line alone.
 ///
 /// # Errors
-/// `WriteFault` comes only where the sink's count of faults rose. A prefix of the line was written then.
+/// `WriteFault` comes only where the sink's count of faults rose. A prefix of the line was written
+/// then.
 pub fn write_head<const N: usize, K: Sink>(
     shown: &PeriodRecord<N>,
     sink: &mut K,
@@ -145,15 +161,16 @@ fn write_untraced<const N: usize, K: Sink>(
 ) -> Result<(), WriteFault>
     requires capacity { IsCapacity N }
     requires nodes { shown.now.nodes ≤ N }
-    ensures { WritesText K.written K.faults sink.old sink.new (period_text plan.now false shown.now) result }
+    ensures { WritesText K.written K.faults sink.old sink.new
+        (period_text plan.now false shown.now) result }
 {
     let mut printer = Printer::<SMALL>::new();
     printer.period(sink, shown, plan, false);
     printer.finish(sink)
 }
 
-/// Writes all lines of a period, with those of its frames. It stays a function of its own, since it takes much room on the
-/// stack, which other periods don't need.
+/// Writes all lines of a period, with those of its frames. It stays a function of its own, since it
+/// takes much room on the stack, which other periods don't need.
 #[inline(never)]
 fn write_traced<const N: usize, K: Sink>(
     shown: &PeriodRecord<N>,
@@ -163,21 +180,23 @@ fn write_traced<const N: usize, K: Sink>(
     requires capacity { IsCapacity N }
     requires nodes { shown.now.nodes ≤ N }
     requires planned { IsPlanOf plan.now shown.now }
-    ensures { WritesText K.written K.faults sink.old sink.new (period_text plan.now true shown.now) result }
+    ensures { WritesText K.written K.faults sink.old sink.new
+        (period_text plan.now true shown.now) result }
 {
     let mut printer = Printer::<LARGE>::new();
     printer.period(sink, shown, plan, true);
     printer.finish(sink)
 }
 
-/// Writes all lines of a period, the period line first: the lines of each node, the line of the clocks where the period
-/// has clocks, and with `trace` the line of each frame that is delivered.
+/// Writes all lines of a period, the period line first: the lines of each node, the line of the
+/// clocks where the period has clocks, and with `trace` the line of each frame that is delivered.
 ///
-/// The record must be one of at most `N` nodes, as those of a cluster are. With `trace`, the plan must be made for its
-/// nodes and relay rounds, and for more periods than its number.
+/// The record must be one of at most `N` nodes, as those of a cluster are. With `trace`, the plan
+/// must be made for its nodes and relay rounds, and for more periods than its number.
 ///
 /// # Errors
-/// `WriteFault` comes only where the sink's count of faults rose. A prefix of the lines was written then.
+/// `WriteFault` comes only where the sink's count of faults rose. A prefix of the lines was written
+/// then.
 pub fn write_period<const N: usize, K: Sink>(
     shown: &PeriodRecord<N>,
     plan: &FaultPlan<N>,
@@ -187,7 +206,8 @@ pub fn write_period<const N: usize, K: Sink>(
     requires capacity { IsCapacity N }
     requires nodes { shown.now.nodes ≤ N }
     requires planned { trace ≡ true → IsPlanOf plan.now shown.now }
-    ensures { WritesText K.written K.faults sink.old sink.new (period_text plan.now trace shown.now) result }
+    ensures { WritesText K.written K.faults sink.old sink.new
+        (period_text plan.now trace shown.now) result }
 {
     if trace {
         write_traced(shown, plan, sink)
@@ -199,20 +219,21 @@ pub fn write_period<const N: usize, K: Sink>(
 /// Writes the last line of a run of so many periods.
 ///
 /// # Errors
-/// `WriteFault` comes only where the sink's count of faults rose. A prefix of the line was written then.
+/// `WriteFault` comes only where the sink's count of faults rose. A prefix of the line was written
+/// then.
 pub fn write_end<K: Sink>(periods: u64, sink: &mut K) -> Result<(), WriteFault>
     ensures { WritesText K.written K.faults sink.old sink.new (end_text periods) result }
 {
     let mut printer = Printer::<SMALL>::new();
-    printer.labelled(sink, b"end ", periods);
-    printer.byte(sink, b'\n');
+    printer.end(sink, periods);
     printer.finish(sink)
 }
 
 /// Writes the line of a scenario that a rule refuses at a place.
 ///
 /// # Errors
-/// `WriteFault` comes only where the sink's count of faults rose. A prefix of the line was written then.
+/// `WriteFault` comes only where the sink's count of faults rose. A prefix of the line was written
+/// then.
 pub fn write_refused<K: Sink>(rule: u8, place: u64, sink: &mut K) -> Result<(), WriteFault>
     ensures { WritesText K.written K.faults sink.old sink.new (refused_text rule place) result }
 {

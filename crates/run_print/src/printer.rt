@@ -11,13 +11,14 @@ use span_io::{Sink, write_all};
 pub(crate) const SMALL: usize = 4096;
 
 /// Room for the lines of frames, which are many and long.
-pub(crate) const LARGE: usize = 65536;
+pub const LARGE: usize = 65536;
 
 /// Gathers the small pieces of a text before they go to a sink.
 ///
-/// After a fault of the sink it drops what comes, and tells of the fault in the end. It takes no memory.
+/// After a fault of the sink it drops what comes, and tells of the fault in the end. It takes no
+/// memory.
 #[derive(Drop)]
-pub(crate) struct Printer<const ROOM: usize> {
+pub struct Printer<const ROOM: usize> {
     /// What isn't written yet.
     pub gathered: Gathered<ROOM>,
     /// Whether the sink failed.
@@ -26,7 +27,7 @@ pub(crate) struct Printer<const ROOM: usize> {
 
 impl<const ROOM: usize> Printer<ROOM> {
     /// A printer that has gathered nothing.
-    pub(crate) fn new() -> Self
+    pub fn new() -> Self
         ensures gathered { result.gathered ≡ [] }
         ensures failed { result.failed ≡ false }
     {
@@ -77,7 +78,8 @@ impl<const ROOM: usize> Printer<ROOM> {
 
     /// Prints a label and the number behind it.
     pub(crate) fn labelled<K: Sink>(&mut self, sink: &mut K, label: &[u8], n: u64)
-        ensures { Prints K.written K.faults self.old sink.old self.new sink.new (label.now ++ decimal n) }
+        ensures { Prints K.written K.faults self.old sink.old self.new sink.new
+            (label.now ++ decimal n) }
     {
         self.text(sink, label);
         self.number(sink, n);
@@ -92,7 +94,7 @@ impl<const ROOM: usize> Printer<ROOM> {
     }
 
     /// Writes what is gathered, and tells whether the whole text reached the sink.
-    pub(crate) fn finish<K: Sink>(&mut self, sink: &mut K) -> Result<(), WriteFault>
+    pub fn finish<K: Sink>(&mut self, sink: &mut K) -> Result<(), WriteFault>
         ensures { Finishes K.written K.faults self.old sink.old sink.new result }
     {
         self.flush(sink);
@@ -110,8 +112,8 @@ impl<const ROOM: usize> Printer<ROOM> {
         self.gathered.clear();
     }
 
-    /// Prints a piece for which there is no room. It stays a function of its own, so that the short way of most pieces is
-    /// written out where they are printed.
+    /// Prints a piece for which there is no room. It stays a function of its own, so that the short
+    /// way of most pieces is written out where they are printed.
     #[inline(never)]
     fn text_behind<K: Sink>(&mut self, sink: &mut K, bytes: &[u8])
         ensures { Prints K.written K.faults self.old sink.old self.new sink.new bytes.now }

@@ -40,13 +40,26 @@ impl<const N: usize> Model for StormSum<N> {
 
     ghost Value = { StormView };
 
-    ghost view = { λ s. record { seed = s.seed; periods = s.periods; claimed = s.claimed; lines = s.lines; restarts = s.restarts; excluded = s.excluded; readmitted = s.readmitted; members = s.members; counts = s.counts.counts; nodes = s.nodes } };
+    ghost view = { λ s. record {
+      seed = s.seed;
+      periods = s.periods;
+      claimed = s.claimed;
+      lines = s.lines;
+      restarts = s.restarts;
+      excluded = s.excluded;
+      readmitted = s.readmitted;
+      members = s.members;
+      counts = s.counts.counts;
+      nodes = s.nodes;
+    } };
 }
 
 impl<const ROOM: usize> Printer<ROOM> {
-    /// Prints the first lines of a summary: its number, periods, lines and restarts, exclusions and readmissions.
+    /// Prints the first lines of a summary: its number, periods, lines and restarts, exclusions and
+    /// readmissions.
     fn sums<K: Sink, const N: usize>(&mut self, sink: &mut K, sum: &StormSum<N>)
-        ensures { Prints K.written K.faults self.old sink.old self.new sink.new (sums_text sum.now) }
+        ensures { Prints K.written K.faults self.old sink.old self.new sink.new
+            (sums_text sum.now) }
     {
         self.labelled(sink, b"storm ", sum.seed);
         self.labelled(sink, b"\nperiods ", sum.periods as u64);
@@ -60,7 +73,8 @@ impl<const ROOM: usize> Printer<ROOM> {
     /// Prints the last lines of a summary: members and counts, and the end.
     fn outcome<K: Sink, const N: usize>(&mut self, sink: &mut K, sum: &StormSum<N>)
         requires { sum.now.nodes ≤ N }
-        ensures { Prints K.written K.faults self.old sink.old self.new sink.new (outcome_text sum.now) }
+        ensures { Prints K.written K.faults self.old sink.old self.new sink.new
+            (outcome_text sum.now) }
     {
         self.text(sink, b"\nmembers ");
         self.set(sink, &sum.members);
@@ -74,7 +88,8 @@ impl<const ROOM: usize> Printer<ROOM> {
 /// Writes the six lines of a storm's summary.
 ///
 /// # Errors
-/// `WriteFault` comes only where the sink's count of faults rose. A prefix of the lines was written then.
+/// `WriteFault` comes only where the sink's count of faults rose. A prefix of the lines was written
+/// then.
 pub fn write_storm<const N: usize, K: Sink>(
     sum: &StormSum<N>,
     sink: &mut K,

@@ -1,12 +1,15 @@
 //! The printed texts of values.
-ghost use Rattle.std.specs.Prelude.{◌≡◌, ◌≤◌, ◌<◌, ◌∷◌, ◌++◌, [], None, codes, decimal, length, take, map, slice_index_or};
+ghost use Rattle.std.specs.Prelude.{◌≡◌, ◌≤◌, ◌<◌, ◌∷◌, ◌++◌, [], None, codes, decimal, length};
+ghost use Rattle.std.specs.Prelude.{take, map, slice_index_or};
 ghost use Rattle.node_grid.specs.Capacity.{IsCapacity};
 ghost use Rattle.omh_paths.specs.declared.wrapped.Wrapped.TheVariants.{Fault};
 ghost use Rattle.list_scheduler.specs.Copies.{works};
 ghost use Rattle.node_core.specs.Modes.{mode_of};
 ghost use Rattle.run_print.specs.Printing.{Prints};
 ghost use Rattle.run_text.specs.ClockText.{signed_text};
-ghost use Rattle.run_text.specs.Text.{separated, numbers_text, set_text, separator_at, yes_no, mode_text, running_text, runs_text, vote_text, vote_item, votes_text, claim_text, row_text, done_item, rows_item};
+ghost use Rattle.run_text.specs.Text.{separated, numbers_text, set_text, separator_at, yes_no};
+ghost use Rattle.run_text.specs.Text.{mode_text, running_text, runs_text, vote_text, vote_item};
+ghost use Rattle.run_text.specs.Text.{votes_text, claim_text, row_text, done_item, rows_item};
 
 use crate::printer::Printer;
 use list_scheduler::Copies;
@@ -37,8 +40,9 @@ fn vote_of(votes: &[Option<i64>; 8], channel: u8) -> Option<i64>
 
 impl<const ROOM: usize> Printer<ROOM> {
     /// Prints the separator before the item at place `k`.
-    fn separator<K: Sink>(&mut self, sink: &mut K, k: usize, separator: u8)
-        ensures { Prints K.written K.faults self.old sink.old self.new sink.new (separator_at (separator ∷ []) k) }
+    pub(crate) fn separator<K: Sink>(&mut self, sink: &mut K, k: usize, separator: u8)
+        ensures { Prints K.written K.faults self.old sink.old self.new sink.new
+            (separator_at (separator ∷ []) k) }
     {
         if k > 0 {
             self.byte(sink, separator);
@@ -47,7 +51,8 @@ impl<const ROOM: usize> Printer<ROOM> {
 
     /// Prints a number behind a separator.
     fn number_behind<K: Sink>(&mut self, sink: &mut K, separator: u8, n: u64)
-        ensures { Prints K.written K.faults self.old sink.old self.new sink.new (separator ∷ decimal n) }
+        ensures { Prints K.written K.faults self.old sink.old self.new sink.new
+            (separator ∷ decimal n) }
     {
         if n < 10 {
             self.pair(sink, [separator, b'0' + n as u8]);
@@ -59,7 +64,8 @@ impl<const ROOM: usize> Printer<ROOM> {
 
     /// Prints the number at place `k` of some, behind a separator where it isn't the first.
     fn number_at<K: Sink>(&mut self, sink: &mut K, k: usize, separator: u8, n: u64)
-        ensures { Prints K.written K.faults self.old sink.old self.new sink.new (separator_at (separator ∷ []) k ++ decimal n) }
+        ensures { Prints K.written K.faults self.old sink.old self.new sink.new
+            (separator_at (separator ∷ []) k ++ decimal n) }
     {
         if k > 0 {
             self.number_behind(sink, separator, n);
@@ -70,7 +76,8 @@ impl<const ROOM: usize> Printer<ROOM> {
 
     /// Prints numbers, joined by commas.
     pub(crate) fn numbers<K: Sink>(&mut self, sink: &mut K, numbers: &[u16])
-        ensures { Prints K.written K.faults self.old sink.old self.new sink.new (numbers_text numbers.now) }
+        ensures { Prints K.written K.faults self.old sink.old self.new sink.new
+            (numbers_text numbers.now) }
     {
         for (k, n) in numbers.iter().enumerate() {
             self.number_at(sink, k, b',', *n as u64);
@@ -79,7 +86,8 @@ impl<const ROOM: usize> Printer<ROOM> {
 
     /// Prints numbers with signs, joined by commas.
     pub(crate) fn signed_numbers<K: Sink>(&mut self, sink: &mut K, numbers: &[i64])
-        ensures { Prints K.written K.faults self.old sink.old self.new sink.new (signed_text numbers.now) }
+        ensures { Prints K.written K.faults self.old sink.old self.new sink.new
+            (signed_text numbers.now) }
     {
         for (k, n) in numbers.iter().enumerate() {
             self.separator(sink, k, b',');
@@ -115,7 +123,8 @@ impl<const ROOM: usize> Printer<ROOM> {
 
     /// Prints how a node goes through a period.
     pub(crate) fn mode<K: Sink>(&mut self, sink: &mut K, mode: Mode)
-        ensures { Prints K.written K.faults self.old sink.old self.new sink.new (mode_text (mode_of mode)) }
+        ensures { Prints K.written K.faults self.old sink.old self.new sink.new
+            (mode_text (mode_of mode)) }
     {
         match mode {
             Mode::Full => self.text(sink, b"full"),
@@ -125,7 +134,7 @@ impl<const ROOM: usize> Printer<ROOM> {
     }
 
     /// Prints the task that a node runs.
-    fn run<K: Sink>(&mut self, sink: &mut K, run: Option<(u8, u16)>)
+    pub(crate) fn run<K: Sink>(&mut self, sink: &mut K, run: Option<(u8, u16)>)
         ensures { Prints K.written K.faults self.old sink.old self.new sink.new (running_text run) }
     {
         match run {
@@ -143,7 +152,8 @@ impl<const ROOM: usize> Printer<ROOM> {
     )
         requires capacity { IsCapacity N }
         requires nodes { nodes ≤ N }
-        ensures { Prints K.written K.faults self.old sink.old self.new sink.new (runs_text nodes copies.now) }
+        ensures { Prints K.written K.faults self.old sink.old self.new sink.new
+            (runs_text nodes copies.now) }
     {
         for node in 0..nodes {
             self.separator(sink, node as usize, b',');
@@ -163,7 +173,8 @@ impl<const ROOM: usize> Printer<ROOM> {
 
     /// Prints a channel with its vote.
     fn vote_item<K: Sink>(&mut self, sink: &mut K, votes: &[Option<i64>; 8], channel: u8)
-        ensures { Prints K.written K.faults self.old sink.old self.new sink.new (vote_item votes.now channel) }
+        ensures { Prints K.written K.faults self.old sink.old self.new sink.new
+            (vote_item votes.now channel) }
     {
         self.number(sink, channel as u64);
         self.byte(sink, b'=');
@@ -172,7 +183,8 @@ impl<const ROOM: usize> Printer<ROOM> {
 
     /// Prints the votes on the due channels.
     pub(crate) fn votes<K: Sink>(&mut self, sink: &mut K, votes: &[Option<i64>; 8], due: &[u8])
-        ensures { Prints K.written K.faults self.old sink.old self.new sink.new (votes_text votes.now due.now) }
+        ensures { Prints K.written K.faults self.old sink.old self.new sink.new
+            (votes_text votes.now due.now) }
     {
         if due.is_empty() {
             self.byte(sink, b'-');
@@ -202,7 +214,8 @@ impl<const ROOM: usize> Printer<ROOM> {
         done: &[Wrapped<u8>; N],
         member: u8,
     )
-        ensures { Prints K.written K.faults self.old sink.old self.new sink.new (done_item done.now member) }
+        ensures { Prints K.written K.faults self.old sink.old self.new sink.new
+            (done_item done.now member) }
     {
         self.number(sink, member as u64);
         self.byte(sink, b'=');
@@ -216,7 +229,8 @@ impl<const ROOM: usize> Printer<ROOM> {
         done: &[Wrapped<u8>; N],
         members: &NodeSet<N>,
     )
-        ensures { Prints K.written K.faults self.old sink.old self.new sink.new (separated (codes " ") (map (done_item done.now) members.now)) }
+        ensures { Prints K.written K.faults self.old sink.old self.new sink.new
+            (separated (codes " ") (map (done_item done.now) members.now)) }
     {
         let mut printed: usize = 0;
         for member in members.iter() {
@@ -236,7 +250,8 @@ impl<const ROOM: usize> Printer<ROOM> {
     )
         requires capacity { IsCapacity N }
         requires nodes { nodes ≤ N }
-        ensures { Prints K.written K.faults self.old sink.old self.new sink.new (rows_item nodes rows.now member) }
+        ensures { Prints K.written K.faults self.old sink.old self.new sink.new
+            (rows_item nodes rows.now member) }
     {
         self.number(sink, member as u64);
         self.byte(sink, b'=');
@@ -256,7 +271,8 @@ impl<const ROOM: usize> Printer<ROOM> {
     )
         requires capacity { IsCapacity N }
         requires nodes { nodes ≤ N }
-        ensures { Prints K.written K.faults self.old sink.old self.new sink.new (separated (codes " ") (map (rows_item nodes rows.now) members.now)) }
+        ensures { Prints K.written K.faults self.old sink.old self.new sink.new
+            (separated (codes " ") (map (rows_item nodes rows.now) members.now)) }
     {
         let mut printed: usize = 0;
         for member in members.iter() {

@@ -1,5 +1,6 @@
 //! The printed frames of a period.
-ghost use Rattle.std.specs.Prelude.{◌≡◌, ℕ, true, [], ◌++◌, if◌then◌else◌, ◌≢◌, ◌+◌, ◌*◌, ◌≤◌, ◌<◌, codes, decimal, length, replicate, slice_index};
+ghost use Rattle.std.specs.Prelude.{◌≡◌, ℕ, true, [], ◌++◌, if◌then◌else◌, ◌≢◌, ◌+◌, ◌*◌, ◌≤◌, ◌<◌};
+ghost use Rattle.std.specs.Prelude.{codes, decimal, length, replicate, slice_index};
 ghost use Rattle.arrayvec.specs.ArrayVec.{array_vec_len};
 ghost use Rattle.std.specs.List.{flat_map};
 ghost use Rattle.hex.specs.Hex.{encode_lower, lower_digits};
@@ -9,7 +10,9 @@ ghost use Rattle.fault_classes.specs.Line.{effect_at};
 ghost use Rattle.fault_link.specs.Arrival.{delivered_of};
 ghost use Rattle.cluster_periods.specs.Record.{frame_at};
 ghost use Rattle.run_print.specs.Printing.{Prints};
-ghost use Rattle.run_text.specs.TraceText.{IsPlanOf, bytes_text, start_text, arrival_text, frame_text, link_text, sender_text, slot_text, frames_text};
+ghost use Rattle.run_text.specs.TraceText.{IsPlanOf, bytes_text, start_text, arrival_text};
+ghost use Rattle.run_text.specs.TraceText.{frame_text, link_text, sender_text, slot_text};
+ghost use Rattle.run_text.specs.TraceText.{frames_text};
 
 use crate::printer::Printer;
 use arrayvec::ArrayVec;
@@ -120,7 +123,8 @@ fn start_of(period: u32, slot: u8, from: u8) -> Start
 /// The length of the longest frame of a slot.
 fn longest<const N: usize>(shown: &PeriodRecord<N>, slot: u8) -> usize
     requires slot { slot < slot_count shown.now.m }
-    ensures each { (from : ℕ) → from < shown.now.nodes → length (frame_at shown.now slot from) ≤ result }
+    ensures each { (from : ℕ) → from < shown.now.nodes
+        → length (frame_at shown.now slot from) ≤ result }
     ensures short { result ≤ 90104 }
 {
     // naming a field tells the checker the types of all of them
@@ -136,7 +140,8 @@ impl<const ROOM: usize> Printer<ROOM> {
     /// Prints a few bytes in hexadecimal.
     fn piece<K: Sink>(&mut self, sink: &mut K, bytes: &[u8])
         requires { length bytes.now ≤ 512 }
-        ensures { Prints K.written K.faults self.old sink.old self.new sink.new (encode_lower bytes.now) }
+        ensures { Prints K.written K.faults self.old sink.old self.new sink.new
+            (encode_lower bytes.now) }
     {
         let mut digits = [0; 2 * PIECE];
         let room = &mut digits[..2 * bytes.len()];
@@ -146,7 +151,8 @@ impl<const ROOM: usize> Printer<ROOM> {
 
     /// Prints bytes in hexadecimal.
     fn bytes<K: Sink>(&mut self, sink: &mut K, bytes: &[u8])
-        ensures { Prints K.written K.faults self.old sink.old self.new sink.new (bytes_text bytes.now) }
+        ensures { Prints K.written K.faults self.old sink.old self.new sink.new
+            (bytes_text bytes.now) }
     {
         if bytes.is_empty() {
             self.byte(sink, b'-');
@@ -163,7 +169,8 @@ impl<const ROOM: usize> Printer<ROOM> {
 
     /// Prints the line of one frame up to its bytes, by the start of the line.
     fn arrival<K: Sink>(&mut self, sink: &mut K, start: &[u8], to: u8, tick: u8)
-        ensures { Prints K.written K.faults self.old sink.old self.new sink.new (arrival_text start.now to tick) }
+        ensures { Prints K.written K.faults self.old sink.old self.new sink.new
+            (arrival_text start.now to tick) }
     {
         self.text(sink, start);
         self.number(sink, to as u64);
@@ -172,9 +179,11 @@ impl<const ROOM: usize> Printer<ROOM> {
         self.byte(sink, b' ');
     }
 
-    /// Prints the line of one frame that arrives as it was sent, by the start and the rest of the line.
+    /// Prints the line of one frame that arrives as it was sent, by the start and the rest of the
+    /// line.
     fn untouched<K: Sink>(&mut self, sink: &mut K, start: &[u8], to: u8, rest: &[u8])
-        ensures { Prints K.written K.faults self.old sink.old self.new sink.new (start.now ++ decimal to ++ rest.now) }
+        ensures { Prints K.written K.faults self.old sink.old self.new sink.new
+            (start.now ++ decimal to ++ rest.now) }
     {
         self.text(sink, start);
         self.number(sink, to as u64);
@@ -183,7 +192,8 @@ impl<const ROOM: usize> Printer<ROOM> {
 
     /// Prints the line of one frame that arrives.
     fn frame<K: Sink>(&mut self, sink: &mut K, start: &[u8], to: u8, tick: u8, bytes: &[u8])
-        ensures { Prints K.written K.faults self.old sink.old self.new sink.new (frame_text start.now to (tick, bytes.now)) }
+        ensures { Prints K.written K.faults self.old sink.old self.new sink.new
+            (frame_text start.now to (tick, bytes.now)) }
     {
         self.arrival(sink, start, to, tick);
         self.bytes(sink, bytes);
@@ -192,15 +202,17 @@ impl<const ROOM: usize> Printer<ROOM> {
 
     /// Prints what arrives at one receiver.
     fn copies<K: Sink>(&mut self, sink: &mut K, start: &[u8], to: u8, delivered: &Delivered<'_>)
-        ensures { Prints K.written K.faults self.old sink.old self.new sink.new (flat_map (frame_text start.now to) (replicate delivered.now.copies (delivered.now.tick, delivered.now.bytes.now))) }
+        ensures { Prints K.written K.faults self.old sink.old self.new sink.new
+            (flat_map (frame_text start.now to)
+            (replicate delivered.now.copies (delivered.now.tick, delivered.now.bytes.now))) }
     {
         for _copy in 0..delivered.copies {
             self.frame(sink, start, to, delivered.tick, delivered.bytes);
         }
     }
 
-    /// Prints what arrives at each receiver of a sender's frame, with room for the frame in hexadecimal
-    /// and for its bytes as a fault line changes them.
+    /// Prints what arrives at each receiver of a sender's frame, with room for the frame in
+    /// hexadecimal and for its bytes as a fault line changes them.
     fn receivers<K: Sink, const N: usize>(
         &mut self,
         sink: &mut K,
@@ -214,7 +226,8 @@ impl<const ROOM: usize> Printer<ROOM> {
         requires slot { slot < slot_count shown.now.m }
         requires from { from < shown.now.nodes }
         requires room { 3 * length (frame_at shown.now slot from) + 5 ≤ length room.old }
-        ensures { Prints K.written K.faults self.old sink.old self.new sink.new (sender_text plan.now shown.now slot from) }
+        ensures { Prints K.written K.faults self.old sink.old self.new sink.new
+            (sender_text plan.now shown.now slot from) }
     {
         // naming a field tells the checker the types of all of them
         let _ = &shown.classes;
@@ -247,8 +260,10 @@ impl<const ROOM: usize> Printer<ROOM> {
     )
         requires planned { IsPlanOf plan.now shown.now }
         requires slot { slot < slot_count shown.now.m }
-        requires room { (from : ℕ) → from < shown.now.nodes → 3 * length (frame_at shown.now slot from) + 5 ≤ length room.old }
-        ensures { Prints K.written K.faults self.old sink.old self.new sink.new (slot_text plan.now shown.now slot) }
+        requires room { (from : ℕ) → from < shown.now.nodes
+            → 3 * length (frame_at shown.now slot from) + 5 ≤ length room.old }
+        ensures { Prints K.written K.faults self.old sink.old self.new sink.new
+            (slot_text plan.now shown.now slot) }
     {
         // naming a field tells the checker the types of all of them
         let _ = &shown.classes;
@@ -257,8 +272,9 @@ impl<const ROOM: usize> Printer<ROOM> {
         }
     }
 
-    /// Prints all frames that arrive in a slot, with this much room for the longest of them. It stays a function of its own,
-    /// since the room for long frames is large on the stack, and short frames don't need it.
+    /// Prints all frames that arrive in a slot, with this much room for the longest of them. It
+    /// stays a function of its own, since the room for long frames is large on the stack, and short
+    /// frames don't need it.
     #[inline(never)]
     fn slot_within<K: Sink, const N: usize, const BYTES: usize>(
         &mut self,
@@ -270,8 +286,10 @@ impl<const ROOM: usize> Printer<ROOM> {
         requires planned { IsPlanOf plan.now shown.now }
         requires slot { slot < slot_count shown.now.m }
         requires few { BYTES ≤ 270317 }
-        requires room { (from : ℕ) → from < shown.now.nodes → 3 * length (frame_at shown.now slot from) + 5 ≤ BYTES }
-        ensures { Prints K.written K.faults self.old sink.old self.new sink.new (slot_text plan.now shown.now slot) }
+        requires room { (from : ℕ) → from < shown.now.nodes
+            → 3 * length (frame_at shown.now slot from) + 5 ≤ BYTES }
+        ensures { Prints K.written K.faults self.old sink.old self.new sink.new
+            (slot_text plan.now shown.now slot) }
     {
         let mut room = [0; BYTES];
         self.senders(sink, shown, plan, slot, &mut room);
@@ -287,7 +305,8 @@ impl<const ROOM: usize> Printer<ROOM> {
     )
         requires planned { IsPlanOf plan.now shown.now }
         requires slot { slot < slot_count shown.now.m }
-        ensures { Prints K.written K.faults self.old sink.old self.new sink.new (slot_text plan.now shown.now slot) }
+        ensures { Prints K.written K.faults self.old sink.old self.new sink.new
+            (slot_text plan.now shown.now slot) }
     {
         if longest(shown, slot) <= SHORT_FRAME {
             self.slot_within::<K, N, SHORT_ROOM>(sink, shown, plan, slot);
@@ -304,7 +323,8 @@ impl<const ROOM: usize> Printer<ROOM> {
         plan: &FaultPlan<N>,
     )
         requires planned { IsPlanOf plan.now shown.now }
-        ensures { Prints K.written K.faults self.old sink.old self.new sink.new (frames_text plan.now shown.now) }
+        ensures { Prints K.written K.faults self.old sink.old self.new sink.new
+            (frames_text plan.now shown.now) }
     {
         // naming a field tells the checker the types of all of them
         let _ = &shown.classes;
@@ -322,7 +342,8 @@ impl<const ROOM: usize> Printer<ROOM> {
         trace: bool,
     )
         requires planned { trace ≡ true → IsPlanOf plan.now shown.now }
-        ensures { Prints K.written K.faults self.old sink.old self.new sink.new (if trace then frames_text plan.now shown.now else []) }
+        ensures { Prints K.written K.faults self.old sink.old self.new sink.new
+            (if trace then frames_text plan.now shown.now else []) }
     {
         if trace {
             self.frames(sink, shown, plan);

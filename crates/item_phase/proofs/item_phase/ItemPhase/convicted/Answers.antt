@@ -1,13 +1,28 @@
 use Rattle.std.proofs.Common.{ℕ, ◌≡◌, ◌<◌, ◌⊎◌, Bool, false, List, sym, ap, ◌∙◌, inl, inr, arith}
-use Rattle.std.proofs.lemmas.Bool.{cases_lt}
-use Rattle.node_grid.specs.NodeSet.{has_id}
+use Rattle.std.proofs.lemmas.Bool.{cases_Bool, cases_lt}
+use Rattle.node_grid.specs.NodeSet.{has_id, minus_of}
 use Rattle.protocol.specs.FurtherKinds.{convicts_member}
+use Rattle.heard_links.specs.Talks.{members_at}
 use Rattle.heard_links.proofs.Sets.{node_low}
 use Rattle.item_phase.specs.Settled.{listener}
 use Rattle.item_phase.proofs.Against.{put_here, put_behind, left_here}
-use Rattle.item_phase.proofs.Standing.{none_behind}
+use Rattle.item_phase.proofs.Marking.{all_in}
+use Rattle.item_phase.proofs.Standing.{against_stranger, against_plain, none_behind}
 use Rattle.item_phase.proofs.item_phase.ItemPhase.convicted.Goals.{then-c-i+then-is_against, else-c-i, else-c-i-via-then-c-i+else-is_against, else-c-i-via-else-c-i}
 use Rattle.item_phase.proofs.item_phase.ItemPhase.convicted.Goals as goal
+
+pub returns-then-is_empty : goal.returns-then-is_empty
+returns-then-is_empty g c = λ k ne.
+    let a = c.args in
+    let members : List ℕ = members_at a.phase.now a.i in
+    let plain : List ℕ = a.self.now.plain in
+    let none : minus_of members plain ≡ [] = ap (λ (s : List ℕ). minus_of s plain) (sym c.members_of.ensures) ∙ sym c.minus.ensures ∙ c.is_empty.ensures.0 c.if-is_empty.true in
+    ap (λ (s : List ℕ). has_id s k) c.empty.ensures
+    ∙ elim (cases_Bool (has_id members k)) [
+      | inl member ↦
+          against_plain g.V.PartialEq.eq g.V.Item.form g.V.Item.first_slot g.V.Item.tells a.phase.now a.self.now c.requires.settled a.i c.requires.node k member ne (all_in members plain k none member)
+      | inr off ↦ against_stranger g.V.PartialEq.eq g.V.Item.form g.V.Item.first_slot g.V.Item.tells a.phase.now a.self.now c.requires.settled a.i c.requires.node k off
+    ]
 
 pub loop-c-preserved : goal.loop-c-preserved
 loop-c-preserved g c =

@@ -1,0 +1,15 @@
+use Rattle.std.proofs.Common.{◌≡◌, ◌+◌, ◌<◌, ℕ, [], ◌∷◌, ◌++◌, refl, sym, ap, subst}
+use Rattle.std.specs.Prelude.{codes, decimal}
+use Rattle.std.proofs.lemmas.Fmt.{decimal_digit}
+use Rattle.run_print.specs.Printing.{Prints}
+use Rattle.run_print.proofs.printer.Printer.front.Goals as goal
+
+-- the front with a number of one digit
+digit_front : (i letter : ℕ) → i < 10 → codes "node " ++ decimal i ++ codes " " ++ (letter ∷ []) ++ codes " " ≡ 110 ∷ 111 ∷ 100 ∷ 101 ∷ 32 ∷ (48 + i) ∷ 32 ∷ letter ∷ 32 ∷ []
+digit_front i letter low = rw (decimal_digit i low) refl
+
+pub returns-then-i-lt10 : goal.returns-then-i-lt10
+returns-then-i-lt10 g c = rw (c.letter_of-letter.ensures, digit_front c.args.i c.letter_of-letter.result c.if-i-lt10.true) c.text.ensures
+
+pub returns-else-i-lt10 : goal.returns-else-i-lt10
+returns-else-i-lt10 g c = rw c.letter_of-letter.ensures c.named.ensures
