@@ -1,2 +1,0 @@
-pub mod Law
-pub use Rattle.calm_period.specs.Calm
