@@ -4,7 +4,7 @@ use Rattle.std.specs.Prelude.{codes, decimal, min}
 use Rattle.std.specs.List.{flat_map}
 use Rattle.std.proofs.lemmas.List.{length-take}
 use Rattle.std.proofs.lemmas.Fmt.{decimal_digit}
-use Rattle.run_text.specs.Text.{separated, numbers_text}
+use Rattle.run_text.specs.Text.{numbers_text}
 
 -- a comma and a zero, so often
 abbrev further_zeros : ℕ → List ℕ

@@ -1,9 +1,8 @@
 -- Lemmas for callers: the text of a period without a trace, and what holds of each period of a run.
-use Rattle.std.proofs.Common.{◌≡◌, ◌<◌, ◌≤◌, ℕ, false, None, Some, List, [], length, refl, sym, ap, subst, ◌∙◌, append-nil, arith}
+use Rattle.std.proofs.Common.{◌≡◌, ℕ, false, length, ap, append-nil, arith}
 use Rattle.std.proofs.lemmas.List.{get_or_past}
 use Rattle.node_grid.specs.NodeSet.{has_id}
 use Rattle.task_graph.specs.Graph.{GraphView, TaskView, task_at, no_task}
-use Rattle.list_scheduler.specs.declared.copies.CopyState.{CopyState}
 use Rattle.list_scheduler.specs.Copies.{CopyTable, IsCopies, running}
 use Rattle.fault_classes.specs.Plan.{Plan}
 use Rattle.cluster_periods.specs.Record.{PeriodView}

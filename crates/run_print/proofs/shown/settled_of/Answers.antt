@@ -1,4 +1,4 @@
-use Rattle.std.proofs.Common.{refl, lit<}
+use Rattle.std.proofs.Common.{refl}
 use Rattle.run_text.specs.NodeText.{settled_text}
 use Rattle.shown_period.specs.Outcomes.{outcome_at}
 use Rattle.run_print.proofs.Joining.{all_gathered}

@@ -1,4 +1,4 @@
-use Rattle.std.proofs.Common.{◌≡◌, refl, sym, subst, ◌∙◌, lit<, true≢false}
+use Rattle.std.proofs.Common.{◌≡◌, refl, subst, ◌∙◌, true≢false}
 use Rattle.run_text.specs.NodeText.{state_text}
 use Rattle.run_print.proofs.Joining.{all_gathered}
 use Rattle.run_print.proofs.Alike.{some_same}

@@ -1,4 +1,3 @@
-use Rattle.std.proofs.Common.{lit<}
 use Rattle.run_print.proofs.Joining.{finished}
 use Rattle.run_print.proofs.shown.write_shown.Goals as goal
 

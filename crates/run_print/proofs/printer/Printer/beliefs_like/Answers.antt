@@ -1,4 +1,4 @@
-use Rattle.std.proofs.Common.{sym, inl, inr, lit<}
+use Rattle.std.proofs.Common.{sym}
 use Rattle.run_print.proofs.Joining.{then}
 use Rattle.run_print.proofs.printer.Printer.beliefs_like.Goals as goal
 

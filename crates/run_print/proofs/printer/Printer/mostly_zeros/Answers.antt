@@ -1,5 +1,4 @@
-use Rattle.std.proofs.Common.{◌≡◌, ◌+◌, ◌*◌, ◌-◌, ℕ, List, length, take, replicate, subst, ap, sym, ◌∙◌}
-use Rattle.std.specs.Prelude.{codes}
+use Rattle.std.proofs.Common.{◌≡◌, ℕ, List, length, replicate, subst, ap, sym, ◌∙◌}
 use Rattle.run_text.specs.Text.{numbers_text}
 use Rattle.run_print.specs.Printing.{Prints}
 use Rattle.run_print.proofs.Zeros.{zeros_text}

@@ -12,10 +12,13 @@ pub byte-requires-in-None : goal.byte-requires-in-None
 byte-requires-in-None g c = assumption
 
 pub mostly_zeros-requires : goal.mostly_zeros-requires
-mostly_zeros-requires g c = (assumption, elim c.requires.capacity [
-  | inl e ↦ taken_few c.args.nodes c.row.inside.masks g.row.N c.requires.nodes (rw e (omega arith))
-  | inr e ↦ taken_few c.args.nodes c.row.inside.masks g.row.N c.requires.nodes (rw e (omega arith))
-])
+mostly_zeros-requires g c = (
+  assumption,
+  elim c.requires.capacity [
+    | inl e ↦ taken_few c.args.nodes c.row.inside.masks g.row.N c.requires.nodes (rw e (omega arith))
+    | inr e ↦ taken_few c.args.nodes c.row.inside.masks g.row.N c.requires.nodes (rw e (omega arith))
+  ],
+)
 
 pub get-requires : goal.get-requires
 get-requires g c =

@@ -1,4 +1,4 @@
-use Rattle.std.proofs.Common.{subst, List, ℕ, inl, inr, lit<}
+use Rattle.std.proofs.Common.{subst, List, ℕ}
 use Rattle.shown_period.specs.Outcomes.{outcome_at}
 use Rattle.run_print.specs.Printing.{Prints}
 use Rattle.run_print.proofs.Joining.{then}

@@ -1,4 +1,4 @@
-use Rattle.std.proofs.Common.{sym, arith, lit<}
+use Rattle.std.proofs.Common.{arith, lit<}
 use Rattle.shown_period.specs.WholeLaws.{shown_at}
 use Rattle.run_print.proofs.Joining.{then}
 use Rattle.run_print.proofs.printer.Printer.shown_node.Goals as goal

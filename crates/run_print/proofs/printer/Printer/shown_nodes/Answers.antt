@@ -1,7 +1,5 @@
-use Rattle.std.proofs.Common.{◌≡◌, ◌<◌, ◌≤◌, ℕ, inl, inr, ap, sym, subst, ◌∙◌, arith, lit<}
+use Rattle.std.proofs.Common.{subst}
 use Rattle.std.specs.Prelude.{slice_get}
-use Rattle.std.specs.List.{flat_map}
-use Rattle.node_grid.specs.NodeSet.{ids_below}
 use Rattle.run_text.specs.PeriodText.{recorded_text}
 use Rattle.shown_period.specs.declared.shown.Shown.{Shown}
 use Rattle.shown_period.specs.Whole.{record_of}

@@ -1,4 +1,4 @@
-use Rattle.std.proofs.Common.{lit<, List, ℕ, subst, ◌∙◌}
+use Rattle.std.proofs.Common.{List, ℕ, subst, ◌∙◌}
 use Rattle.run_print.specs.Printing.{Prints}
 use Rattle.run_print.proofs.printer.Printer.state_like.Goals as goal
 

@@ -1,4 +1,4 @@
-use Rattle.std.proofs.Common.{sym, lit<}
+use Rattle.std.proofs.Common.{sym}
 use Rattle.run_print.proofs.Joining.{then}
 use Rattle.run_print.proofs.printer.Printer.whole_state.Goals as goal
 
