@@ -1,0 +1,45 @@
+use Rattle.std.proofs.Common.{ℕ, ◌≡◌, ◌<◌, ◌+◌, ◌==◌, Bool, true, false, List, length, get_or, refl, sym, ap, subst, ◌∙◌, arith, eq-eqb, eqb-true}
+use Rattle.std.proofs.lemmas.Bool.{false≢true}
+use Rattle.node_grid.specs.NodeSet.{has_id}
+use Rattle.omh_paths.specs.declared.wrapped.Wrapped.{Wrapped}
+use Rattle.shared_states.specs.declared.belief.Belief.{Belief}
+use Rattle.grouped_nodes.specs.Grouping.{first_of}
+use Rattle.at_once.specs.Phases.{node_claims}
+use Rattle.at_once.proofs.FilledBeliefs.{AreFilled, filled_none, filled_put, filled_skip}
+use Rattle.at_once.proofs.claims.fill_claims.Goals.{then-has+then-is_first, else-has, else-has-via-then-has+else-is_first, else-has-via-else-has}
+use Rattle.at_once.proofs.claims.fill_claims.Goals as goal
+
+pub loop-first-init : goal.loop-first-init
+loop-first-init g c = filled_none c.args.phase.now.awake c.args.groups.now (λ f b. record b { done = node_claims c.args.phase.now c.args.claims.now f }) c.args.beliefs.now c.requires.many
+
+pub loop-first-preserved : goal.loop-first-preserved
+loop-first-preserved g c =
+    let nodes : List ℕ = c.args.phase.now.awake in
+    let groups : List ℕ = c.args.groups.now in
+    let value : ℕ → Belief g.row.N → Belief g.row.N = λ f b. record b { done = node_claims c.args.phase.now c.args.claims.now f } in
+    let old : List (Belief g.row.N) = c.args.beliefs.now in
+    let xs : List (Belief g.row.N) = c.loop-first.beliefs in
+    let f : ℕ = c.loop-first.first in
+    elim c.if-has.branch [
+      | then-has+then-is_first w ↦
+          subst (AreFilled nodes groups value old (f + 1)) (sym w.beliefs-is)
+          (filled_put nodes groups value old f xs w.index-beliefs-first.result _ c.loop-first-test.true (sym c.has.ensures ∙ w.if-has.true) c.loop-first.invariant
+          (ap (λ (done : List (Wrapped ℕ)). record (get_or xs f w.index-beliefs-first.result) { done = done }) w.claims_settled.ensures))
+      | else-has w ↦
+          subst (AreFilled nodes groups value old (f + 1)) (sym w.beliefs-is)
+          (filled_skip nodes groups value old f xs
+          (λ on own. elim w.else-has.branch [
+            | else-has-via-then-has+else-is_first w' ↦ false≢true (sym w'.if-is_first.false ∙ w'.is_first.ensures ∙ eq-eqb (first_of groups f) f own)
+            | else-has-via-else-has w' ↦ false≢true (sym w'.if-has.false ∙ c.has.ensures ∙ on)
+          ])
+          c.loop-first.invariant)
+    ]
+
+pub returns-clause-done : goal.returns-clause-done
+returns-clause-done g c f b low on own = ap (λ (y : Belief g.row.N). y.done) (c.loop-first.invariant.so_far f b (let t = c.loop-first-test.false in omega arith) on own)
+
+pub returns-clause-others : goal.returns-clause-others
+returns-clause-others g c f b off = c.loop-first.invariant.others f b off
+
+pub returns-clause-many : goal.returns-clause-many
+returns-clause-many g c = c.loop-first.invariant.wide

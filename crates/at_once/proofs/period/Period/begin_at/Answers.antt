@@ -1,0 +1,11 @@
+use Rattle.std.proofs.Common.{◌∙◌, sym, ap, arith}
+use Rattle.fault_classes.specs.Plan.{Plan, restarts_at}
+use Rattle.at_once.proofs.Beginnings.{begun_anew}
+use Rattle.at_once.proofs.period.Period.begin_at.Goals as goal
+
+pub returns-then-restarts : goal.returns-then-restarts
+returns-then-restarts g c =
+    begun_anew c.args.self.now.scenario.now c.args.self.now.number c.args.i c.args.states.now c.args.keeping.now c.forget.new.self c.forget-then-restarts.new.self
+    (ap (λ (x : Plan). restarts_at x c.args.i c.args.self.now.number) (sym c.plan.ensures.plan) ∙ sym c.restarts.ensures ∙ c.if-restarts.true)
+    c.requires.there c.awake.ensures.length c.requires.many (omega arith) (omega arith)
+    c.forget.ensures c.forget-then-restarts.ensures.notes c.forget-then-restarts.ensures.votes c.forget-then-restarts.ensures.owns

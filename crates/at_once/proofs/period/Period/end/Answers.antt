@@ -1,0 +1,60 @@
+use Rattle.std.proofs.Common.{ℕ, ◌≡◌, ◌<◌, ◌≤◌, List, Option, Some, length, sym, ap, subst, ◌∙◌, lit<, inl, inr, arith}
+use Rattle.node_grid.specs.Capacity.{IsCapacity}
+use Rattle.agreed_state.specs.Config.{IsConfig}
+use Rattle.agreed_state.specs.declared.config.Config.{Config}
+use Rattle.agreed_state.specs.Agreed.{AgreedView, agreed_after}
+use Rattle.shared_states.specs.declared.belief.Belief.{Belief}
+use Rattle.shared_states.specs.Sharing.{state_at, AreAgreed}
+use Rattle.grouped_nodes.specs.Shared.{belief_of}
+use Rattle.at_once.proofs.Endings.{made_whole, believed_still, kept_on}
+use Rattle.at_once.proofs.period.Period.end.Goals as goal
+
+pub step-requires : goal.step-requires
+step-requires g c =
+    let cap : IsCapacity g.row.N = c.requires.capacity in
+    let config : IsConfig g.row.N c.config-config.result.now = subst (λ (x : Config g.row.N). IsConfig g.row.N x) (sym c.config-config.ensures.config) c.config-config.ensures.scenario.system.config in
+    let agreed : AreAgreed c.config-config.result.now c.args.made.now.states =
+        subst (λ (x : Config g.row.N). AreAgreed x c.args.made.now.states) (sym c.config-config.ensures.config) c.requires.reported.1.going.used.agreed in
+    let many : length c.as_slice.result.now ≡ g.row.N = ap length c.as_slice.ensures.value ∙ c.requires.reported.1.going.many in
+    (elim cap [ inl e ↦ rw e (lit< tt) | inr e ↦ rw e (lit< tt) ],
+    (elim cap [ inl e ↦ rw e (lit< tt) | inr e ↦ rw e (lit< tt) ],
+    (elim cap [ inl e ↦ rw e (lit< tt) | inr e ↦ rw e (lit< tt) ],
+    (elim cap [ inl e ↦ rw e (lit< tt) | inr e ↦ rw e (lit< tt) ],
+    (cap, (config, (agreed, (c.requires.reported.1.claimed.shared, many))))))))
+
+pub returns-clause-made : goal.returns-clause-made
+returns-clause-made g c =
+    let sc = c.args.self.now.scenario.now in
+    let few = c.config-config.ensures.scenario.system.config.few_nodes in
+    let stepped : (i : ℕ) (a : AgreedView) (d : Belief g.row.N) → i < g.row.N → state_at c.args.made.now.states i ≡ Some a
+            → state_at c.step.new.states i ≡ Some (agreed_after g.row.N c.config-config.result.now c.args.self.now.number a
+              (belief_of d c.args.made.now.beliefs.items c.args.groups.now i).done (belief_of d c.args.made.now.beliefs.items c.args.groups.now i).rows) =
+        λ i a d low is. c.step.ensures.stepped i a d low is
+            ∙ ap (λ (xs : List (Belief g.row.N)). Some (agreed_after g.row.N c.config-config.result.now c.args.self.now.number a (belief_of d xs c.args.groups.now i).done (belief_of d xs c.args.groups.now i).rows)) c.as_slice.ensures.value in
+    made_whole sc c.args.self.now.number c.requires.reported.0 c.args.made.now c.args.keeping.now c.args.groups.now c.requires.reported.1 few c.requires.firsts c.requires.grouped
+    c.config-config.result.now c.config-config.ensures.config c.step.new.states stepped c.step.ensures.cold
+
+pub returns-clause-beliefs : goal.returns-clause-beliefs
+returns-clause-beliefs g c =
+    let sc = c.args.self.now.scenario.now in
+    let few = c.config-config.ensures.scenario.system.config.few_nodes in
+    let stepped : (i : ℕ) (a : AgreedView) (d : Belief g.row.N) → i < g.row.N → state_at c.args.made.now.states i ≡ Some a
+            → state_at c.step.new.states i ≡ Some (agreed_after g.row.N c.config-config.result.now c.args.self.now.number a
+              (belief_of d c.args.made.now.beliefs.items c.args.groups.now i).done (belief_of d c.args.made.now.beliefs.items c.args.groups.now i).rows) =
+        λ i a d low is. c.step.ensures.stepped i a d low is
+            ∙ ap (λ (xs : List (Belief g.row.N)). Some (agreed_after g.row.N c.config-config.result.now c.args.self.now.number a (belief_of d xs c.args.groups.now i).done (belief_of d xs c.args.groups.now i).rows)) c.as_slice.ensures.value in
+    believed_still sc c.args.self.now.number c.requires.reported.0 c.args.made.now c.args.keeping.now c.args.groups.now c.requires.reported.1 few c.requires.firsts c.requires.grouped
+    c.config-config.result.now c.config-config.ensures.config c.step.new.states stepped c.step.ensures.cold c.requires.capacity
+
+pub returns-clause-kept : goal.returns-clause-kept
+returns-clause-kept g c =
+    let sc = c.args.self.now.scenario.now in
+    let few = c.config-config.ensures.scenario.system.config.few_nodes in
+    let stepped : (i : ℕ) (a : AgreedView) (d : Belief g.row.N) → i < g.row.N → state_at c.args.made.now.states i ≡ Some a
+            → state_at c.step.new.states i ≡ Some (agreed_after g.row.N c.config-config.result.now c.args.self.now.number a
+              (belief_of d c.args.made.now.beliefs.items c.args.groups.now i).done (belief_of d c.args.made.now.beliefs.items c.args.groups.now i).rows) =
+        λ i a d low is. c.step.ensures.stepped i a d low is
+            ∙ ap (λ (xs : List (Belief g.row.N)). Some (agreed_after g.row.N c.config-config.result.now c.args.self.now.number a (belief_of d xs c.args.groups.now i).done (belief_of d xs c.args.groups.now i).rows)) c.as_slice.ensures.value in
+    kept_on sc c.args.self.now.number c.requires.reported.0 c.args.made.now c.args.keeping.now c.args.groups.now c.requires.reported.1 few c.requires.firsts c.requires.grouped
+    c.config-config.result.now c.config-config.ensures.config c.step.new.states stepped c.step.ensures.cold
+    c.awake-awake.result c.forget_cold.new.keeping c.awake-awake.ensures.nodes c.forget_cold.ensures c.step.ensures.agreed c.awake.ensures.length

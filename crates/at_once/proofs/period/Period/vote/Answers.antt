@@ -1,0 +1,181 @@
+use Rattle.std.proofs.Common.{ℕ, ℤ, ◌≡◌, ◌<◌, List, [], length, drop, take_at, Option, Some, refl, sym, ap, ap₂, subst, ◌∙◌, inl, inr, lit<, arith}
+use Rattle.std.specs.Prelude.{slice_index_or}
+use Rattle.node_grid.specs.Capacity.{IsCapacity}
+use Rattle.node_grid.specs.NodeSet.{has_id}
+use Rattle.fault_classes.specs.Plan.{Plan}
+use Rattle.error_reports.specs.Notes.{Notes}
+use Rattle.agreed_state.specs.declared.config.Config.{Config}
+use Rattle.agreed_state.specs.Agreed.{AgreedView}
+use Rattle.agreed_state.specs.Config.{IsConfig}
+use Rattle.scenario.specs.Scenario.{ScenarioView, IsScenario}
+use Rattle.shared_states.specs.declared.belief.Belief.{Belief}
+use Rattle.shared_states.specs.Sharing.{AreAgreed}
+use Rattle.shown_period.specs.declared.made.Made.{Made}
+use Rattle.told_values.specs.Slot.{DataView}
+use Rattle.told_values.specs.Within.{IsWithin}
+use Rattle.at_once.specs.Parts.{through, has}
+use Rattle.at_once.specs.Kept.{notes_at, of_node, AreShaped}
+use Rattle.at_once.specs.Values.{done_at, HearEach, IsVoteOf, IsNotedOf}
+use Rattle.at_once.proofs.Voted.{slot_with, slot_by, slot_same, slot_by_is, AreOwns, each_hears, votes_now, notes_now, own_now, within_now, awake_now, owns_now}
+use Rattle.at_once.proofs.period.Period.vote.Goals as goal
+
+pub of-dues-requires : goal.of-dues-requires
+of-dues-requires g c =
+    let cap : IsCapacity g.row.N = c.requires.capacity in
+    let config_is : c.config-config.result.now ≡ c.args.self.now.scenario.now.config = c.config-config.ensures.config in
+    let n_is : c.config-config.result.now.nodes ≡ c.args.self.now.scenario.now.config.nodes = ap (λ (cf : Config g.row.N). cf.nodes) config_is in
+    let few = c.config-config.ensures.scenario.system.config.few_nodes in (
+      elim cap [ inl e ↦ rw e (lit< tt) | inr e ↦ rw e (lit< tt) ],
+      (
+        elim cap [ inl e ↦ rw e (lit< tt) | inr e ↦ rw e (lit< tt) ],
+        (lit< tt, (cap, (omega (arith, n_is, few), ap length c.as_slice.ensures.value ∙ c.requires.settled.going.many))),
+      ),
+    )
+
+pub touched_senders-requires : goal.touched_senders-requires
+touched_senders-requires g c =
+    let cap : IsCapacity g.row.N = c.requires.capacity in
+    let sc : ScenarioView g.row.N = c.args.self.now.scenario.now in
+    let cf : Config g.row.N = c.config-config.result.now in
+    let plan : Plan = c.plan-plan.result.now in
+    let scenario : IsScenario sc = c.config-config.ensures.scenario in
+    let config_is : cf ≡ sc.config = c.config-config.ensures.config in
+    let plan_is : plan ≡ sc.plan = c.plan-plan.ensures.plan in
+    let config : IsConfig g.row.N cf = subst (λ (x : Config g.row.N). IsConfig g.row.N x) (sym config_is) scenario.system.config in
+    let nodes : plan.nodes ≡ cf.nodes = ap (λ (x : Plan). x.nodes) plan_is ∙ scenario.system.plan_nodes ∙ sym (ap (λ (x : Config g.row.N). x.nodes) config_is) in
+    let rounds : plan.rounds ≡ cf.m = ap (λ (x : Plan). x.rounds) plan_is ∙ scenario.system.plan_rounds ∙ sym (ap (λ (x : Config g.row.N). x.m) config_is) in
+    let periods : plan.periods ≡ sc.periods = ap (λ (x : Plan). x.periods) plan_is ∙ scenario.plan_periods in
+    let in_run : c.args.self.now.number < sc.periods = c.requires.in_run in (
+      elim cap [ inl e ↦ rw e (lit< tt) | inr e ↦ rw e (lit< tt) ],
+      (lit< tt, (lit< tt, (cap, (config, (nodes, (rounds, omega (arith, periods, in_run))))))),
+    )
+
+pub vote_each-requires : goal.vote_each-requires
+vote_each-requires g c =
+    let cap : IsCapacity g.row.N = c.requires.capacity in
+    let sc : ScenarioView g.row.N = c.args.self.now.scenario.now in
+    let p : ℕ = c.args.self.now.number in
+    let full : List ℕ = c.args.full.now in
+    let made : Made g.row.N = c.args.made.now in
+    let notes : List Notes = c.args.keeping.now.notes.items in
+    let groups : List ℕ = c.args.groups.now in
+    let scenario : IsScenario sc = c.config-config.ensures.scenario in
+    let settled = c.requires.settled in
+    let config_is : c.config-config.result.now ≡ sc.config = c.config-config.ensures.config in
+    let plan_is : c.plan-plan.result.now ≡ sc.plan = c.plan-plan.ensures.plan in
+    let dues_are : c.of-dues.result ≡ (groups, made.beliefs.items) =
+    ap₂ (λ (a : List ℕ) (b : List (Belief g.row.N)). (a, b)) c.of-dues.ensures.groups (c.of-dues.ensures.beliefs ∙ c.as_slice.ensures.value) in (
+      lit< tt,
+      (
+        elim cap [ inl e ↦ rw e (lit< tt) | inr e ↦ rw e (lit< tt) ],
+        (
+          elim cap [ inl e ↦ rw e (lit< tt) | inr e ↦ rw e (lit< tt) ],
+          (
+            elim cap [ inl e ↦ rw e (lit< tt) | inr e ↦ rw e (lit< tt) ],
+            (
+              elim cap [ inl e ↦ rw e (lit< tt) | inr e ↦ rw e (lit< tt) ],
+              (
+                lit< tt,
+                (
+                  cap,
+                  (
+                    slot_by_is c.hears.ensures c.through.ensures c.cold.ensures sc p full made notes groups scenario settled c.requires.in_run c.config-config.result.now c.plan-plan.result.now c.of-dues.result c.touched_senders.result c.value_all.new.owns
+                        config_is plan_is dues_are c.touched_senders.ensures,
+                    (
+                      subst (λ (x : Config g.row.N). AreAgreed x made.states) (sym config_is) settled.going.used.agreed,
+                      (settled.claimed.shared, settled.going.many),
+                    ),
+                  ),
+                ),
+              ),
+            ),
+          ),
+        ),
+      ),
+    )
+
+pub note_each-requires : goal.note_each-requires
+note_each-requires g c =
+    let cap : IsCapacity g.row.N = c.requires.capacity in
+    let sc : ScenarioView g.row.N = c.args.self.now.scenario.now in
+    let p : ℕ = c.args.self.now.number in
+    let full : List ℕ = c.args.full.now in
+    let made : Made g.row.N = c.args.made.now in
+    let notes : List Notes = c.args.keeping.now.notes.items in
+    let groups : List ℕ = c.args.groups.now in
+    let scenario : IsScenario sc = c.config-config.ensures.scenario in
+    let settled = c.requires.settled in
+    let config_is : c.config-config.result.now ≡ sc.config = c.config-config.ensures.config in
+    let n_is : c.config-config.result.now.nodes ≡ sc.config.nodes = ap (λ (x : Config g.row.N). x.nodes) config_is in
+    let plan_is : c.plan-plan.result.now ≡ sc.plan = c.plan-plan.ensures.plan in
+    let dues_are : c.of-dues.result ≡ (groups, made.beliefs.items) =
+    ap₂ (λ (a : List ℕ) (b : List (Belief g.row.N)). (a, b)) c.of-dues.ensures.groups (c.of-dues.ensures.beliefs ∙ c.as_slice.ensures.value) in (
+      lit< tt,
+      (
+        lit< tt,
+        (
+          elim cap [ inl e ↦ rw e (lit< tt) | inr e ↦ rw e (lit< tt) ],
+          (
+            elim cap [ inl e ↦ rw e (lit< tt) | inr e ↦ rw e (lit< tt) ],
+            (
+              cap,
+              (
+                slot_by_is c.hears.ensures c.through.ensures c.cold.ensures sc p full made notes groups scenario settled c.requires.in_run c.config-config.result.now c.plan-plan.result.now c.of-dues.result c.touched_senders.result c.value_all.new.owns
+                    config_is plan_is dues_are c.touched_senders.ensures,
+                (
+                  subst (λ (xs : List Notes). AreShaped c.config-config.result.now xs) (sym c.as_mut_slice.ensures.value) (subst (λ (x : Config g.row.N). AreShaped x notes) (sym config_is) settled.shaped),
+                  λ i low on. subst (λ (xs : List Notes). IsWithin g.row.N (notes_at xs i)) (sym c.as_mut_slice.ensures.value) (within_now c.hears.ensures c.through.ensures c.cold.ensures sc p full made notes groups scenario settled i (omega (arith, n_is, low)) (ap (λ (m : List ℕ). has_id m i) (sym c.awake.ensures.nodes) ∙ on)),
+                ),
+              ),
+            ),
+          ),
+        ),
+      ),
+    )
+
+pub returns : goal.returns
+returns g c =
+    let sc : ScenarioView g.row.N = c.args.self.now.scenario.now in
+    let p : ℕ = c.args.self.now.number in
+    let full : List ℕ = c.args.full.now in
+    let made : Made g.row.N = c.args.made.now in
+    let notes : List Notes = c.args.keeping.now.notes.items in
+    let groups : List ℕ = c.args.groups.now in
+    let scenario : IsScenario sc = c.config-config.ensures.scenario in
+    let settled = c.requires.settled in
+    let hears_law = c.hears.ensures in
+    let view_law = c.through.ensures in
+    let cold_law = c.cold.ensures in
+    let touched : List ℕ = c.touched_senders.result in
+    let owns : List (List (Option ℤ)) = c.value_all.new.owns in
+    let votes : List (List (Option ℤ)) = c.vote_each.new.votes in
+    let off : List (List ℕ) = c.vote_each.new.off in
+    let d : DataView g.row.N = slot_by hears_law view_law cold_law sc p full made notes groups scenario settled c.config-config.result.now c.plan-plan.result.now c.of-dues.result touched owns in
+    let s : DataView g.row.N = slot_with hears_law view_law cold_law sc p full made notes groups scenario settled touched owns in
+    let d_is : d ≡ s =
+    slot_same hears_law view_law cold_law sc p full made notes groups scenario settled c.config-config.result.now c.plan-plan.result.now c.of-dues.result touched owns
+    c.config-config.ensures.config c.plan-plan.ensures.plan (ap₂ (λ (a : List ℕ) (b : List (Belief g.row.N)). (a, b)) c.of-dues.ensures.groups (c.of-dues.ensures.beliefs ∙ c.as_slice.ensures.value)) in
+    let n_is : c.config-config.result.now.nodes ≡ sc.config.nodes = ap (λ (cf : Config g.row.N). cf.nodes) c.config-config.ensures.config in
+    let are : AreOwns hears_law view_law cold_law sc p full made notes groups scenario settled owns =
+    owns_now hears_law view_law cold_law sc p full made notes groups scenario settled c.args.keeping.now c.args.keeping.now.votes c.args.keeping.now.owns owns refl refl c.requires.unvoted
+    (λ i low state carried. c.value_all.ensures i state carried low) in
+    let voted : (i : ℕ) (a : AgreedView) → i < sc.config.nodes → through sc p i ≡ Some a → IsVoteOf s a (done_at groups made.beliefs.items i) i (has sc p i) (of_node votes i) (slice_index_or off i []) =
+    λ i a low is. subst (λ (v : DataView g.row.N). IsVoteOf v a (done_at groups made.beliefs.items i) i (has sc p i) (of_node votes i) (slice_index_or off i [])) d_is
+    (c.vote_each.ensures (λ j. has sc p j)
+    (subst (λ (v : DataView g.row.N). HearEach v (λ j. has sc p j)) (sym d_is) (each_hears hears_law view_law cold_law sc p full made notes groups scenario settled touched owns are))
+    i a (omega (arith, n_is, low)) (settled.going.states i low ∙ is)) in
+    let value : c.as_mut_slice.result.now ≡ notes = c.as_mut_slice.ensures.value in
+    let long : length c.note_each.new.notes ≡ c.args.keeping.now.notes.len = c.note_each.ensures.shaped.many ∙ sym settled.shaped.many ∙ ap length (sym value) ∙ c.as_mut_slice.ensures.len in
+    let back = take_at c.note_each.new.notes (drop (length c.note_each.new.notes) notes) c.args.keeping.now.notes.len long in
+    record {
+      shaped = subst (λ (xs : List Notes). AreShaped sc.config xs) (sym back) (subst (λ (cf : Config g.row.N). AreShaped cf c.note_each.new.notes) c.config-config.ensures.config c.note_each.ensures.shaped);
+      notes = λ i a low is.
+          ap (λ (xs : List Notes). notes_at xs i) back
+          ∙ notes_now hears_law view_law cold_law sc p full made notes groups scenario settled touched owns are i a low is (of_node votes i) (slice_index_or off i []) (notes_at c.note_each.new.notes i) (voted i a low is)
+          (subst (λ (v : DataView g.row.N). IsNotedOf v i (slice_index_or off i []) (notes_at notes i) (notes_at c.note_each.new.notes i)) d_is
+          (subst (λ (xs : List Notes). IsNotedOf d i (slice_index_or off i []) (notes_at xs i) (notes_at c.note_each.new.notes i)) value
+          (c.note_each.ensures.noted i (omega (arith, n_is, low))
+          (ap (λ (m : List ℕ). has_id m i) c.awake.ensures.nodes ∙ awake_now hears_law view_law cold_law sc p full made notes groups scenario settled i a low is))));
+      votes = λ i a low is. votes_now hears_law view_law cold_law sc p full made notes groups scenario settled touched owns are i a low is (of_node votes i) (slice_index_or off i []) (voted i a low is);
+      owns = λ i a low is. own_now hears_law view_law cold_law sc p full made notes groups scenario settled touched owns are i a low is;
+    }

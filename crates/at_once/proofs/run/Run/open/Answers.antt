@@ -1,0 +1,62 @@
+use Rattle.std.proofs.Common.{ℕ, ◌≡◌, ◌≤◌, sym, ap, subst, ◌∙◌, inl, inr, lit<, arith}
+use Rattle.std.proofs.lemmas.Result.{IfOk-from_err}
+use Rattle.settled_paths.specs.Rooms.{Room}
+use Rattle.node_grid.specs.Capacity.{IsCapacity}
+use Rattle.agreed_state.specs.declared.config.Config.{Config}
+use Rattle.agreed_state.specs.Config.{IsConfig}
+use Rattle.agreed_state.specs.ConfigLaws.{few_rounds}
+use Rattle.at_once.specs.Kept.{IsBlank}
+use Rattle.at_once.specs.Run.{RunView}
+use Rattle.at_once.proofs.Openings.{kept_first}
+use Rattle.at_once.proofs.run.Run.open.Goals as goal
+
+-- room for so many nodes and rounds
+abbrev room_of : {N : ℕ} → Config N → Room
+room_of x = record { nodes = x.nodes; rounds = x.m }
+
+pub invariant_of-result : goal.invariant_of-result
+invariant_of-result g c =
+    let sc = c.args.scenario.now in
+    let is = c.config-config.ensures.config in
+    let ok : IsConfig g.row.N sc.config = c.config-config.ensures.scenario.system.config in
+    let blank : IsBlank sc.config c.in_ok-keeping.keeping = subst (λ (x : Config g.row.N). IsBlank x c.in_ok-keeping.keeping) is c.in_ok-keeping.ensures in
+    let room : room_of c.config-config.result.now ≡ room_of sc.config = ap (λ (x : Config g.row.N). room_of x) is in
+    record {
+      scenario = c.config-config.ensures.scenario;
+      in_run = omega arith;
+      kept = kept_first sc ok c.in_ok-keeping.keeping blank c.in_ok-shown.shown.made.states c.in_ok-shown.ensures.states;
+      beliefs = c.in_ok-shown.ensures.beliefs;
+      before = c.in_ok-shown.ensures.before;
+      claims_room = c.in_ok-claims.ensures ∙ room;
+      rows_room = c.in_ok-rows.ensures ∙ room;
+      last = λ q e. absurd (omega (arith, e));
+    }
+
+pub open-requires : goal.open-requires
+open-requires g c =
+    (elim c.requires [ inl e ↦ rw e (lit< tt) | inr e ↦ rw e (lit< tt) ],
+    (elim c.requires [ inl e ↦ rw e (lit< tt) | inr e ↦ rw e (lit< tt) ],
+    (c.requires, subst (λ (x : Config g.row.N). IsConfig g.row.N x) (sym c.config-config.ensures.config) c.config-config.ensures.scenario.system.config)))
+
+pub open-requires-2 : goal.open-requires-2
+open-requires-2 g c =
+    let ok : IsConfig g.row.N c.config-config.result.now =
+        subst (λ (x : Config g.row.N). IsConfig g.row.N x) (sym c.config-config.ensures.config) c.config-config.ensures.scenario.system.config in
+    (elim c.requires [ inl e ↦ rw e (lit< tt) | inr e ↦ rw e (lit< tt) ],
+    (c.requires, (ok.few_nodes, few_rounds g.row.N c.config-config.result.now ok)))
+
+pub open-requires-3 : goal.open-requires-3
+open-requires-3 g c =
+    let ok : IsConfig g.row.N c.config-config.result.now =
+        subst (λ (x : Config g.row.N). IsConfig g.row.N x) (sym c.config-config.ensures.config) c.config-config.ensures.scenario.system.config in
+    (elim c.requires [ inl e ↦ rw e (lit< tt) | inr e ↦ rw e (lit< tt) ],
+    (c.requires, (ok.few_nodes, few_rounds g.row.N c.config-config.result.now ok)))
+
+pub zero-requires : goal.zero-requires
+zero-requires g c = (elim c.requires [ inl e ↦ rw e (lit< tt) | inr e ↦ rw e (lit< tt) ], c.requires)
+
+pub open-requires-4 : goal.open-requires-4
+open-requires-4 g c =
+    (elim c.requires [ inl e ↦ rw e (lit< tt) | inr e ↦ rw e (lit< tt) ],
+    (elim c.requires [ inl e ↦ rw e (lit< tt) | inr e ↦ rw e (lit< tt) ],
+    c.requires))

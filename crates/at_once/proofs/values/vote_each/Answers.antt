@@ -1,0 +1,65 @@
+use Rattle.std.proofs.Common.{ℕ, ℤ, ◌≡◌, ◌<◌, ◌+◌, List, [], length, set, get_or, Option, sym, ap, subst, ◌∙◌, inl, inr, lit<, arith}
+use Rattle.node_grid.specs.Capacity.{IsCapacity}
+use Rattle.omh_paths.specs.declared.wrapped.Wrapped.{Wrapped}
+use Rattle.agreed_state.specs.Agreed.{AgreedView}
+use Rattle.shared_states.specs.declared.belief.Belief.{Belief}
+use Rattle.told_values.specs.Slot.{DataView, slot_of}
+use Rattle.at_once.specs.Kept.{of_node}
+use Rattle.at_once.specs.Values.{no_belief, done_at, IsVoteOf}
+use Rattle.at_once.proofs.Voting.{same_at, AreVotes, votes_skip, votes_put, taken_over}
+use Rattle.at_once.proofs.values.vote_each.Goals.{in-Some+then-first-i+then-hears_alike, in-Some+else-first-i, in_default}
+use Rattle.at_once.proofs.values.vote_each.Goals as goal
+
+pub vote_at-voted-requires : goal.vote_at-voted-requires
+vote_at-voted-requires g c =
+    let cap : IsCapacity g.row.N = c.requires.capacity in (
+      lit< tt,
+      (
+        elim cap [ inl e ↦ rw e (lit< tt) | inr e ↦ rw e (lit< tt) ],
+        (
+          elim cap [ inl e ↦ rw e (lit< tt) | inr e ↦ rw e (lit< tt) ],
+          (lit< tt, (cap, (c.requires.slot, (c.loop-i-test.true, c.requires.agreed c.loop-i.i c.in-Some.state.now (sym c.in-Some.ensures))))),
+        ),
+      ),
+    )
+
+pub loop-i-preserved : goal.loop-i-preserved
+loop-i-preserved g c =
+    let d : DataView g.row.N = slot_of g.D.Dues.dues c.args.slot.now in
+    let groups : List ℕ = c.args.groups.now in
+    let states : List (Option AgreedView) = c.args.made.now.states in
+    let beliefs : List (Belief g.row.N) = c.args.made.now.beliefs.items in
+    let i : ℕ = c.loop-i.i in
+    let votes : List (List (Option ℤ)) = c.loop-i.votes in
+    let off : List (List ℕ) = c.loop-i.off in
+    let was = c.loop-i.invariant in
+    let used = c.loop-i-test.true in
+    let low : i < g.row.N = (let t = c.loop-i-test.true in let f = c.requires.slot.config.few_nodes in omega arith) in
+    elim c.match-get.branch [
+      | in-Some+then-first-i+then-hears_alike w ↦
+          let a : AgreedView = w.in-Some.state.now in
+          let f : ℕ = w.of-first.result in
+          let room : f < length off = (let e = w.of-first.ensures.early in let wide = was.wide_off in omega arith) in
+          let o : List ℕ = get_or off f w.index-off-first.result in
+          let o_is : o ≡ get_or off f [] = same_at off f w.index-off-first.result [] room in
+          subst (λ (vs : List (List (Option ℤ))). AreVotes d groups states beliefs (i + 1) vs c.match-get.off) (sym w.votes-is)
+          (subst (λ (os : List (List ℕ)). AreVotes d groups states beliefs (i + 1) (set votes i (of_node votes f)) os) (sym w.off-is)
+          (votes_put d groups states beliefs i votes off a (of_node votes f) o low used (sym w.in-Some.ensures) was
+          (λ x hears. subst (λ (s : List ℕ). IsVoteOf d a (done_at groups beliefs i) i (x i) (of_node votes f) s) (sym o_is)
+          (taken_over d groups states beliefs i f votes off a w.of-first.ensures.all c.requires.shared low used w.of-first.ensures.first w.if-first-i.true (sym w.in-Some.ensures) (w.hears_alike.ensures w.if-hears_alike.true) was x hears))))
+      | in-Some+else-first-i w ↦
+          let a : AgreedView = w.in-Some.state.now in
+          let f : ℕ = w.of-first.result in
+          let b : Belief g.row.N = w.index.result.now in
+          let room : f < length beliefs = (let e = w.of-first.ensures.early in let many = c.requires.many in omega arith) in
+          let done_is : b.done ≡ done_at groups beliefs i =
+          ap (λ (y : Belief g.row.N). y.done) (w.index.ensures ∙ same_at beliefs f b no_belief room) ∙ ap (λ (m : ℕ). (get_or beliefs m no_belief).done) w.of-first.ensures.first in
+          subst (λ (vs : List (List (Option ℤ))). AreVotes d groups states beliefs (i + 1) vs c.match-get.off) (sym w.votes-is)
+          (subst (λ (os : List (List ℕ)). AreVotes d groups states beliefs (i + 1) (set votes i w.vote_at-voted.result.votes) os) (sym w.off-is)
+          (votes_put d groups states beliefs i votes off a w.vote_at-voted.result.votes w.vote_at-voted.result.off low used (sym w.in-Some.ensures) was
+          (λ x hears. subst (λ (done : List (Wrapped ℕ)). IsVoteOf d a done i (x i) w.vote_at-voted.result.votes w.vote_at-voted.result.off) done_is (w.vote_at-voted.ensures (x i) (hears i used)))))
+      | in_default w ↦
+          subst (λ (vs : List (List (Option ℤ))). AreVotes d groups states beliefs (i + 1) vs c.match-get.off) (sym w.votes-is)
+          (subst (λ (os : List (List ℕ)). AreVotes d groups states beliefs (i + 1) votes os) (sym w.off-is)
+          (votes_skip d groups states beliefs i votes off (sym w.in_default.ensures) was))
+    ]

@@ -1,0 +1,204 @@
+//! The data slot of a period.
+
+ghost use Rattle.std.specs.Prelude.{◌≡◌, ◌<◌, ◌≤◌, ℕ, List, Option, true, Some, [], length, replicate};
+ghost use Rattle.std.specs.Prelude.{slice_index_or, if◌then◌else◌};
+ghost use Rattle.node_grid.specs.Capacity.{IsCapacity};
+ghost use Rattle.node_grid.specs.NodeSet.{has_id};
+ghost use Rattle.agreed_state.specs.Agreed.{AgreedView, IsAgreed};
+ghost use Rattle.protocol.specs.Configured.{setting_of};
+ghost use Rattle.protocol.specs.View.{Received, own_values};
+ghost use Rattle.scenario.specs.Scenario.{inputs_of};
+ghost use Rattle.shared_states.specs.Sharing.{state_at, AreAgreed};
+ghost use Rattle.grouped_nodes.specs.Shared.{AreShared};
+ghost use Rattle.told_values.specs.Slot.{slot_of, Hears, IsDataSlot};
+ghost use Rattle.told_values.specs.Within.{IsWithin};
+ghost use Rattle.at_once.specs.Kept.{notes_at, of_node, AreShaped};
+ghost use Rattle.at_once.specs.Course.{IsUnvoted, AreSettled, AreVoted};
+ghost use Rattle.at_once.specs.Values.{done_at, HearEach, IsVoteOf, IsNotedOf};
+
+use crate::dues::GroupDues;
+use crate::keeping::Keeping;
+use crate::period::Period;
+use agreed_state::Agreed;
+use data_slot::own_values;
+use error_reports::RowBuilder;
+use grouped_nodes::Groups;
+use node_grid::{NodeSet, Row};
+use omh_paths::Wrapped;
+use shown_period::Made;
+use told_values::laws::hears;
+use told_values::{DataSlot, Dues, touched_senders};
+use view_law::{cold, through};
+
+/// What a node votes on each channel, and the nodes of which a value is too far from that.
+#[derive(Clone, Copy)]
+struct Voted<const N: usize> {
+    votes: [Option<i64>; 8],
+    off: NodeSet<N>,
+}
+
+/// What a node votes that goes through the period with this state and settles these claims.
+fn vote_at<D: Dues<N>, const N: usize>(
+    slot: &DataSlot<'_, D, N>,
+    i: u8,
+    state: &Agreed<N>,
+    claims: &[Wrapped<u8>; N],
+) -> Voted<N>
+    requires capacity { IsCapacity N }
+    requires slot { IsDataSlot (slot_of D.dues slot.now) }
+    requires node { i < slot.now.config.now.nodes }
+    requires agreed { IsAgreed N slot.now.config.now state.now }
+    ensures { (x : Received) → Hears (slot_of D.dues slot.now) i x →
+        IsVoteOf (slot_of D.dues slot.now) state.now claims.now i x result.votes result.off }
+{
+    let told = slot.told(i);
+    let votes = slot.vote(i, state, claims, &told);
+    let off = slot.off(i, &told, &votes);
+    Voted { votes, off }
+}
+
+/// What each node votes that has a state, and the nodes that are off at it. What the first of a
+/// group votes serves each node of the group that hears as it does.
+fn vote_each<D: Dues<N>, const N: usize>(
+    slot: &DataSlot<'_, D, N>,
+    groups: &Groups<N>,
+    made: &Made<N>,
+    votes: &mut [[Option<i64>; 8]; N],
+    off: &mut [NodeSet<N>; N],
+)
+    requires capacity { IsCapacity N }
+    requires slot { IsDataSlot (slot_of D.dues slot.now) }
+    requires agreed { AreAgreed slot.now.config.now made.now.states }
+    requires shared { AreShared N groups.now made.now.states }
+    requires many { length made.now.beliefs.items ≡ N }
+    ensures { (x : ℕ → Received) → HearEach (slot_of D.dues slot.now) x →
+        (i : ℕ) (a : AgreedView) → i < slot.now.config.now.nodes →
+        state_at made.now.states i ≡ Some a →
+        IsVoteOf (slot_of D.dues slot.now) a (done_at groups.now made.now.beliefs.items i) i (x i)
+        (of_node votes.new i) (slice_index_or off.new i []) }
+{
+    for i in 0..slot.config.nodes {
+        if let Some(state) = made.states.get(i) {
+            let first = groups.of(i);
+            if first != i && slot.hears_alike(first, i) {
+                let same = votes[first as usize];
+                votes[i as usize] = same;
+                off[i as usize] = off[first as usize];
+            } else {
+                let voted = vote_at(slot, i, state, &made.beliefs[first as usize].done);
+                let own = voted.votes;
+                votes[i as usize] = own;
+                off[i as usize] = voted.off;
+            }
+        }
+    }
+}
+
+/// Notes what each of these nodes finds of the values, and who is off at it.
+fn note_each<D: Dues<N>, const N: usize>(
+    slot: &DataSlot<'_, D, N>,
+    awake: &NodeSet<N>,
+    off: &[NodeSet<N>; N],
+    notes: &mut [RowBuilder<N>],
+)
+    requires capacity { IsCapacity N }
+    requires slot { IsDataSlot (slot_of D.dues slot.now) }
+    requires shaped { AreShaped slot.now.config.now notes.old }
+    requires within { (i : ℕ) → i < slot.now.config.now.nodes → has_id awake.now i ≡ true →
+        IsWithin N (notes_at notes.old i) }
+    ensures noted { (i : ℕ) → i < slot.now.config.now.nodes → has_id awake.now i ≡ true →
+        IsNotedOf (slot_of D.dues slot.now) i (slice_index_or off.now i [])
+        (notes_at notes.old i) (notes_at notes.new i) }
+    ensures shaped { AreShaped slot.now.config.now notes.new }
+{
+    for i in 0..slot.config.nodes {
+        if awake.has(i) {
+            slot.note(i, &off[i as usize], &mut notes[i as usize]);
+        }
+    }
+}
+
+impl<const N: usize> Period<'_, N> {
+    /// The own values of all nodes in use, by their last votes and own values.
+    fn value_all(&self, votes: &[[Option<i64>; 8]; N], owns: &mut [[Option<i64>; 8]; N])
+        requires capacity { IsCapacity N }
+        ensures { (i : ℕ) (state : Option AgreedView) (carried : List ℕ) →
+            i < self.now.scenario.now.config.nodes → of_node owns.new i ≡
+            own_values (setting_of self.now.scenario.now.config) i self.now.number
+            (inputs_of self.now.scenario.now i self.now.number) (record {
+              state = state;
+              carried = carried;
+              votes = of_node votes.now i;
+              owns = of_node owns.old i;
+            }) }
+    {
+        let config = self.scenario.config();
+        for i in 0..config.nodes {
+            let inputs = self.scenario.inputs(i, self.number);
+            let at = i as usize;
+            owns[at] = own_values(config, i, self.number, &inputs, &votes[at], &owns[at]);
+        }
+    }
+
+    /// Votes on the due channels, and notes who is off.
+    pub(crate) fn vote(
+        &self,
+        full: &NodeSet<N>,
+        groups: &Groups<N>,
+        made: &Made<N>,
+        keeping: &mut Keeping<N>,
+    )
+        requires capacity { IsCapacity N }
+        requires in_run { self.now.number < self.now.scenario.now.periods }
+        requires settled { AreSettled self.now.scenario.now self.now.number full.now made.now
+            keeping.old.notes.items groups.now }
+        requires unvoted { IsUnvoted self.now.scenario.now self.now.number keeping.old }
+        ensures { AreVoted self.now.scenario.now self.now.number keeping.new }
+    {
+        // Proofs need the laws of the data slot and of views.
+        hears();
+        through();
+        cold();
+        let config = self.scenario.config();
+        let plan = self.scenario.plan();
+        self.value_all(&keeping.votes, &mut keeping.owns);
+        let dues = GroupDues::of(groups, made.beliefs.as_slice(), config.nodes);
+        let slot = DataSlot {
+            config,
+            plan,
+            period: self.number,
+            touched: touched_senders(config, plan, self.number),
+            full: *full,
+            dues: &dues,
+            owns: &keeping.owns,
+        };
+        let mut off = [NodeSet::empty(); N];
+        vote_each(&slot, groups, made, &mut keeping.votes, &mut off);
+        note_each(
+            &slot,
+            &made.states.awake(),
+            &off,
+            keeping.notes.as_mut_slice(),
+        );
+    }
+}
+
+/// The rows of all nodes; a node that joins accuses nobody.
+pub(crate) fn find_rows<const N: usize>(
+    full: &NodeSet<N>,
+    keeping: &Keeping<N>,
+    found: &mut [Row<N>; N],
+)
+    requires capacity { IsCapacity N }
+    requires many { length keeping.now.notes.items ≡ N }
+    ensures { (i : ℕ) → i < N → slice_index_or found.new i [] ≡ (if has_id full.now i
+        then (notes_at keeping.now.notes.items i).row else replicate N 0) }
+{
+    for i in 0..N as u8 {
+        found[i as usize] = if full.has(i) {
+            keeping.notes[i as usize].row()
+        } else {
+            Row::zero()
+        };
+    }
+}
