@@ -1,16 +1,20 @@
 -- One period more, and all of them.
-use Rattle.std.proofs.Common.{◌≡◌, ℕ, suc, Bool, ◌+◌, ◌-◌, ◌<◌, ◌≤◌, List, length, Option, Some, sym, ap, ◌∙◌, subst, arith}
+use Rattle.std.proofs.Common.{◌≡◌, ℕ, suc, ◌+◌, ◌-◌, ◌<◌, ◌≤◌, List, length, Option, Some, sym, ap, ◌∙◌, subst, arith}
 use Rattle.node_grid.specs.Count.{bit}
 use Rattle.node_grid.specs.ListLaws.{bit_le}
 use Rattle.clock_skew.specs.Clock.{ClockView}
+use Rattle.agreed_state.specs.Agreed.{AgreedView}
 use Rattle.protocol.specs.Run.{System, members_in}
 use Rattle.scenario.specs.Scenario.{ScenarioView, system_of}
 use Rattle.run_text.specs.StormText.{StormView}
-use Rattle.cluster_periods.specs.Record.{PeriodView, without_frames, Shows, period_record}
-use Rattle.cluster_periods.specs.RecordLaws.{shows_rest}
+use Rattle.cluster_periods.specs.Record.{PeriodView, without_frames, period_record}
 use Rattle.cluster_record.proofs.Members.{reference_low}
+use Rattle.shown_period.specs.declared.shown.Shown.{Shown}
+use Rattle.shown_period.specs.Outcomes.{outcome_at}
+use Rattle.shown_period.specs.Whole.{record_of}
+use Rattle.shown_period.specs.WholeLaws.{shown_at}
 use Rattle.storm_sum.specs.declared.sums.Sums.{Sums}
-use Rattle.storm_sum.specs.Summary.{how_many, total, state_after, excluded, readmitted, counts_in, is_claimed_at, excluded_at, readmitted_at, state_at, summary_of}
+use Rattle.storm_sum.specs.Summary.{how_many, total, agreed_of, agreed_by, state_after, excluded, readmitted, counts_in, is_claimed_at, excluded_at, readmitted_at, state_at, summary_of}
 use Rattle.storm_sum.specs.Summing.{AreSums}
 use Rattle.storm_sum.proofs.Totals.{how_many_more, how_many_none, total_more, total_none}
 
@@ -39,10 +43,9 @@ sums_first sys s a b d = record {
 same_period : (p q : ℕ) → p + 1 ≡ suc q → p ≡ q
 same_period p q e = omega arith
 
-pub sums_more : (sys : System) (clock : Option ClockView) (p : ℕ) (frames : Bool) (old new : Sums) (shown : PeriodView) → Shows frames shown (period_record sys clock p) → Adds old new shown → AreSums sys p old → AreSums sys (p + 1) new
+pub sums_more : (sys : System) (clock : Option ClockView) (p : ℕ) (old new : Sums) (shown : PeriodView) → shown ≡ without_frames (period_record sys clock p) → Adds old new shown → AreSums sys p old → AreSums sys (p + 1) new
 unfolding is_claimed_at excluded_at readmitted_at state_at
-sums_more sys clock p frames old new shown shows a s =
-    let is : without_frames shown ≡ without_frames (period_record sys clock p) = shows_rest frames shown (period_record sys clock p) shows in
+sums_more sys clock p old new shown is a s =
     let here : bit shown.claim ≡ bit (is_claimed_at sys p) = ap (λ (r : PeriodView). bit r.claim) is in
     let gone : excluded shown ≡ excluded_at sys p = ap excluded is in
     let back : readmitted shown ≡ readmitted_at sys p = ap readmitted is in
@@ -66,10 +69,14 @@ sums_more sys clock p frames old new shown shows a s =
     }
 
 -- the reference node of a period is in use
-pub reference_shown : (sys : System) (clock : Option ClockView) (p : ℕ) (frames : Bool) (shown : PeriodView) → Shows frames shown (period_record sys clock p) → (r : ℕ) → shown.reference ≡ Some r → r < shown.nodes
-reference_shown sys clock p frames shown shows r e =
-    let is : without_frames shown ≡ without_frames (period_record sys clock p) = shows_rest frames shown (period_record sys clock p) shows in
+pub reference_shown : (sys : System) (clock : Option ClockView) (p : ℕ) (shown : PeriodView) → shown ≡ without_frames (period_record sys clock p) → (r : ℕ) → shown.reference ≡ Some r → r < shown.nodes
+reference_shown sys clock p shown is r e =
     subst (λ (v : PeriodView). r < v.nodes) (sym is) (reference_low sys p r (sym (ap (λ (v : PeriodView). v.reference) is) ∙ e))
+
+-- the state that is shown of the reference node is its state after the period
+pub after_shown : (shown : Shown 8) (r : ℕ) (agreed : Option AgreedView) → shown.head.reference ≡ Some r → r < shown.head.nodes → agreed ≡ (outcome_at shown.made r).agreed
+    → state_after (record_of shown) ≡ agreed
+after_shown shown r agreed e low is = ap (agreed_by (record_of shown).records) e ∙ ap agreed_of (shown_at shown r low) ∙ sym is
 
 -- ---- all periods
 

@@ -1,4 +1,4 @@
-//! The summary of a storm: its cluster is run, and what befalls its members is summed up.
+//! The summary of a storm: it is run, and what befalls its members is summed up.
 #![tactic(auto)]
 
 ghost use Rattle.std.specs.Prelude.{◌≡◌, IfOk};
@@ -9,7 +9,7 @@ pub mod laws;
 mod sums;
 
 use crate::sums::Sums;
-use cluster_step::Cluster;
+use at_once::Run;
 use node_grid::NoMemory;
 use run_print::StormSum;
 use scenario::Scenario;
@@ -19,11 +19,11 @@ use std::alloc::Global;
 fn run(alloc: Global, scenario: &Scenario<8>, seed: u64) -> Result<StormSum<8>, NoMemory>
     ensures { IfOk result (λ s. s ≡ summary_of seed scenario.now) }
 {
-    let mut cluster = Cluster::open(alloc, scenario, false)?;
+    let mut run = Run::open(alloc, scenario)?;
     let mut sums = Sums::none();
     let periods = scenario.periods();
     for _period in 0..periods {
-        sums.add_next(&mut cluster);
+        sums.add_next(&mut run);
     }
     let plan = scenario.plan();
     let config = scenario.config();

@@ -4,13 +4,14 @@ ghost use Rattle.node_grid.specs.NodeSet.{has_id};
 ghost use Rattle.node_grid.specs.Count.{bit};
 ghost use Rattle.protocol.specs.Run.{members_in};
 ghost use Rattle.scenario.specs.Scenario.{system_of};
+ghost use Rattle.shown_period.specs.Whole.{record_of};
 ghost use Rattle.storm_sum.specs.Summary.{lost, state_after, excluded, readmitted, counts_in};
 ghost use Rattle.storm_sum.specs.Summing.{AreSums};
 
-use cluster_record::PeriodRecord;
-use cluster_step::Cluster;
+use at_once::Run;
 use node_grid::NodeSet;
 use penalty::Counts;
+use shown_period::Shown;
 
 /// What is summed up of the periods that were run, and what the last of them leaves.
 #[derive(Clone, Copy)]
@@ -27,16 +28,17 @@ pub struct Sums {
     pub counts: Counts<8>,
 }
 
-/// What the agreed state of the reference node is after the period: its members and counts, none and 0 without a state.
-fn state_after(shown: &PeriodRecord<8>) -> (NodeSet<8>, Counts<8>)
-    requires { (r : ℕ) → shown.now.reference ≡ Some r → r < shown.now.nodes }
-    ensures members { result.0 ≡ members_in (state_after shown.now) }
-    ensures counts { result.1.counts ≡ counts_in (state_after shown.now) }
+/// What the agreed state of the reference node is after the period: its members and counts, none
+/// and 0 without a state.
+fn state_after(shown: &Shown<8>) -> (NodeSet<8>, Counts<8>)
+    requires { (r : ℕ) → shown.now.head.reference ≡ Some r → r < shown.now.head.nodes }
+    ensures members { result.0 ≡ members_in (state_after (record_of shown.now)) }
+    ensures counts { result.1.counts ≡ counts_in (state_after (record_of shown.now)) }
 {
-    let Some(node) = shown.reference else {
+    let Some(node) = shown.head.reference else {
         return (NodeSet::empty(), Counts::zero());
     };
-    match &shown.node(node).agreed {
+    match shown.agreed(node) {
         None => (NodeSet::empty(), Counts::zero()),
         Some(agreed) => (agreed.members, agreed.counts),
     }
@@ -81,40 +83,42 @@ impl Sums {
     }
 
     /// Adds a period.
-    fn add(&mut self, shown: &PeriodRecord<8>)
-        requires nodes { shown.now.nodes ≤ 8 }
-        requires reference { (r : ℕ) → shown.now.reference ≡ Some r → r < shown.now.nodes }
+    fn add(&mut self, shown: &Shown<8>)
+        requires nodes { shown.now.head.nodes ≤ 8 }
+        requires reference { (r : ℕ) → shown.now.head.reference ≡ Some r → r < shown.now.head.nodes }
         requires few_claimed { self.old.claimed ≤ 1024 }
         requires few_excluded { self.old.excluded ≤ 8192 }
         requires few_readmitted { self.old.readmitted ≤ 8192 }
-        ensures claimed { self.new.claimed ≡ self.old.claimed + bit shown.now.claim }
-        ensures excluded { self.new.excluded ≡ self.old.excluded + excluded shown.now }
-        ensures readmitted { self.new.readmitted ≡ self.old.readmitted + readmitted shown.now }
+        ensures claimed { self.new.claimed ≡ self.old.claimed + bit shown.now.head.claim }
+        ensures excluded { self.new.excluded ≡ self.old.excluded + excluded (record_of shown.now) }
+        ensures readmitted { self.new.readmitted
+            ≡ self.old.readmitted + readmitted (record_of shown.now) }
         ensures few_excluded { self.new.excluded ≤ self.old.excluded + 8 }
         ensures few_readmitted { self.new.readmitted ≤ self.old.readmitted + 8 }
-        ensures members { self.new.members ≡ members_in (state_after shown.now) }
-        ensures counts { self.new.counts.counts ≡ counts_in (state_after shown.now) }
+        ensures members { self.new.members ≡ members_in (state_after (record_of shown.now)) }
+        ensures counts { self.new.counts.counts ≡ counts_in (state_after (record_of shown.now)) }
     {
+        let head = &shown.head;
         let (members, counts) = state_after(shown);
-        if shown.claim {
+        if head.claim {
             self.claimed += 1;
         }
-        self.excluded += lost(shown.nodes, &shown.members, &members);
-        self.readmitted += lost(shown.nodes, &members, &shown.members);
+        self.excluded += lost(head.nodes, &head.members, &members);
+        self.readmitted += lost(head.nodes, &members, &head.members);
         self.members = members;
         self.counts = counts;
     }
 
-    /// Runs the next period of a cluster, and adds it.
-    pub fn add_next(&mut self, cluster: &mut Cluster<'_, 8>)
-        requires more { cluster.old.run < cluster.old.scenario.periods }
-        requires few { cluster.old.run < 1024 }
-        requires nodes { cluster.old.scenario.config.nodes ≤ 8 }
-        requires sums { AreSums (system_of cluster.old.scenario) cluster.old.run self.old }
-        ensures ran { cluster.new ≡ record cluster.old { run = cluster.old.run + 1 } }
-        ensures sums { AreSums (system_of cluster.old.scenario) (cluster.old.run + 1) self.new }
+    /// Runs the next period, and adds it.
+    pub fn add_next(&mut self, run: &mut Run<'_, 8>)
+        requires more { run.old.run < run.old.scenario.periods }
+        requires few { run.old.run < 1024 }
+        requires nodes { run.old.scenario.config.nodes ≤ 8 }
+        requires sums { AreSums (system_of run.old.scenario) run.old.run self.old }
+        ensures ran { run.new ≡ record run.old { run = run.old.run + 1 } }
+        ensures sums { AreSums (system_of run.old.scenario) (run.old.run + 1) self.new }
     {
-        let shown = cluster.period();
+        let shown = run.period();
         self.add(shown);
     }
 }

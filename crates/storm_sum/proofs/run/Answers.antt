@@ -2,14 +2,14 @@ use Rattle.std.proofs.Common.{◌≡◌, length, ap, ◌∙◌, arith}
 use Rattle.fault_classes.specs.Plan.{Plan}
 use Rattle.agreed_state.specs.declared.config.Config.{Config}
 use Rattle.scenario.specs.Scenario.{system_of}
-use Rattle.cluster_step.specs.Stepped.{ClusterView}
+use Rattle.at_once.specs.Run.{RunView}
 use Rattle.storm_sum.proofs.Summing.{sums_first, all_summed}
 use Rattle.storm_sum.proofs.run.Goals as goal
 
 pub loop-period-init : goal.loop-period-init
 loop-period-init c = record {
-  run = ap (λ (v : ClusterView 8). v.run) c.in_ok-cluster.ensures;
-  scenario = ap (λ (v : ClusterView 8). v.scenario) c.in_ok-cluster.ensures;
+  run = ap (λ (v : RunView 8). v.run) c.in_ok-run.ensures;
+  scenario = ap (λ (v : RunView 8). v.scenario) c.in_ok-run.ensures;
   sums = sums_first (system_of c.args.scenario.now) c.none-sums.result c.none-sums.ensures.claimed c.none-sums.ensures.excluded c.none-sums.ensures.readmitted;
 }
 

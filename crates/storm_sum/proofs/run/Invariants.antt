@@ -5,7 +5,7 @@ use Rattle.storm_sum.proofs.run.Given as goal
 
 abbrev pub invariant-loop-period : goal.invariant-loop-period
 invariant-loop-period l = record {
-  run : l.cluster.run ≡ l._period;
-  scenario : l.cluster.scenario ≡ l.scenario;
+  run : l.run.run ≡ l._period;
+  scenario : l.run.scenario ≡ l.scenario;
   sums : AreSums (system_of l.scenario) l._period l.sums;
 }

@@ -1,5 +1,0 @@
-use Rattle.std.proofs.Common.{inl, inr, lit<}
-use Rattle.storm_sum.proofs.node_core++node++Node+Destruct.drop.Goals as goal
-
-pub drop-requires : goal.drop-requires
-drop-requires g c = elim c.drop.invariant.capacity [ inl e ↦ rw e (lit< tt) | inr e ↦ rw e (lit< tt) ]
