@@ -46,14 +46,14 @@ module _ {N : ℕ} (sc : ScenarioView N) (p i : ℕ) (states : List (Option Agre
     many = ap length notes-are ∙ length-set k.notes.items i _ ∙ notes-many;
     state = ap (λ (xs : List (Option AgreedView)). state_at xs i) state-is ∙ without_own N states i low ∙ sym (cond-true (restarts_at sc.plan i p) None (state_at states i) restarts);
     notes =
-      ap (λ (xs : List Notes). notes_at xs i) notes-are ∙ get_or-set_same k.notes.items i _ _ (let w = notes-many in omega arith)
-      ∙ sym (ap (λ (b : Bool). notes_opened N b (notes_at k.notes.items i)) restarts);
+        ap (λ (xs : List Notes). notes_at xs i) notes-are ∙ get_or-set_same k.notes.items i _ _ (let w = notes-many in omega arith)
+        ∙ sym (ap (λ (b : Bool). notes_opened N b (notes_at k.notes.items i)) restarts);
     votes =
-      ap (λ (xs : List (List (Option ℤ))). of_node xs i) votes-are ∙ get_or-set_same k.votes i (replicate 8 None) [] (let w = votes-many in omega arith)
-      ∙ sym (cond-true (restarts_at sc.plan i p) (replicate 8 None) (of_node k.votes i) restarts);
+        ap (λ (xs : List (List (Option ℤ))). of_node xs i) votes-are ∙ get_or-set_same k.votes i (replicate 8 None) [] (let w = votes-many in omega arith)
+        ∙ sym (cond-true (restarts_at sc.plan i p) (replicate 8 None) (of_node k.votes i) restarts);
     owns =
-      ap (λ (xs : List (List (Option ℤ))). of_node xs i) owns-are ∙ get_or-set_same k.owns i (replicate 8 None) [] (let w = owns-many in omega arith)
-      ∙ sym (cond-true (restarts_at sc.plan i p) (replicate 8 None) (of_node k.owns i) restarts);
+        ap (λ (xs : List (List (Option ℤ))). of_node xs i) owns-are ∙ get_or-set_same k.owns i (replicate 8 None) [] (let w = owns-many in omega arith)
+        ∙ sym (cond-true (restarts_at sc.plan i p) (replicate 8 None) (of_node k.owns i) restarts);
     other_state = λ j ne. ap (λ (xs : List (Option AgreedView)). state_at xs j) state-is ∙ without_other N states i j many ne;
     other_notes = λ j ne. ap (λ (xs : List Notes). notes_at xs j) notes-are ∙ get_or-set_other k.notes.items i j _ _ ne;
     other_votes = λ j ne. ap (λ (xs : List (List (Option ℤ))). of_node xs j) votes-are ∙ get_or-set_other k.votes i j _ _ ne;
@@ -67,14 +67,14 @@ module _ {N : ℕ} (sc : ScenarioView N) (p i : ℕ) (states : List (Option Agre
     many = ap length notes-are ∙ length-set k.notes.items i _ ∙ notes-many;
     state = ap (λ (xs : List (Option AgreedView)). state_at xs i) state-is ∙ sym (cond-false (restarts_at sc.plan i p) None (state_at states i) goes-on);
     notes =
-      ap (λ (xs : List Notes). notes_at xs i) notes-are ∙ get_or-set_same k.notes.items i _ _ (let w = notes-many in omega arith)
-      ∙ sym (ap (λ (b : Bool). notes_opened N b (notes_at k.notes.items i)) goes-on);
+        ap (λ (xs : List Notes). notes_at xs i) notes-are ∙ get_or-set_same k.notes.items i _ _ (let w = notes-many in omega arith)
+        ∙ sym (ap (λ (b : Bool). notes_opened N b (notes_at k.notes.items i)) goes-on);
     votes =
-      ap (λ (xs : List (List (Option ℤ))). of_node xs i) votes-are
-      ∙ sym (cond-false (restarts_at sc.plan i p) (replicate 8 None) (of_node k.votes i) goes-on);
+        ap (λ (xs : List (List (Option ℤ))). of_node xs i) votes-are
+        ∙ sym (cond-false (restarts_at sc.plan i p) (replicate 8 None) (of_node k.votes i) goes-on);
     owns =
-      ap (λ (xs : List (List (Option ℤ))). of_node xs i) owns-are
-      ∙ sym (cond-false (restarts_at sc.plan i p) (replicate 8 None) (of_node k.owns i) goes-on);
+        ap (λ (xs : List (List (Option ℤ))). of_node xs i) owns-are
+        ∙ sym (cond-false (restarts_at sc.plan i p) (replicate 8 None) (of_node k.owns i) goes-on);
     other_state = λ j ne. ap (λ (xs : List (Option AgreedView)). state_at xs j) state-is;
     other_notes = λ j ne. ap (λ (xs : List Notes). notes_at xs j) notes-are ∙ get_or-set_other k.notes.items i j _ _ ne;
     other_votes = λ j ne. ap (λ (xs : List (List (Option ℤ))). of_node xs j) votes-are;
@@ -224,17 +224,17 @@ module _ {N : ℕ} (sc : ScenarioView N) (p : ℕ) (old : List (Option AgreedVie
     used = used_still;
     shaped = shaped_still;
     states_are = λ i low.
-      (m.so_far i low).state ∙ ap (or_nothing (restarts_at sc.plan i p) None) (kept.states_are i low)
-      ∙ opened_state (system_of sc).setting (restarts_at sc.plan i p) (kept_before sc p i) ∙ ap (λ (x : Kept). x.state) (sym (goes-as i));
+        (m.so_far i low).state ∙ ap (or_nothing (restarts_at sc.plan i p) None) (kept.states_are i low)
+        ∙ opened_state (system_of sc).setting (restarts_at sc.plan i p) (kept_before sc p i) ∙ ap (λ (x : Kept). x.state) (sym (goes-as i));
     notes = λ i low.
-      (m.so_far i low).notes
-      ∙ opened_notes sc.config (system_of sc).setting i (restarts_at sc.plan i p) (kept_before sc p i) (notes_at k.notes.items i) refl
+        (m.so_far i low).notes
+        ∙ opened_notes sc.config (system_of sc).setting i (restarts_at sc.plan i p) (kept_before sc p i) (notes_at k.notes.items i) refl
         (kept.shaped.nodes i low) (kept.shaped.me i low) (kept.shaped.kinds i low) (kept.carried i low)
-      ∙ ap (notes_begun sc.config i) (sym (goes-as i));
+        ∙ ap (notes_begun sc.config i) (sym (goes-as i));
     votes = λ i low.
-      (m.so_far i low).votes ∙ ap (or_nothing (restarts_at sc.plan i p) (replicate 8 None)) (kept.votes i low)
-      ∙ opened_votes (system_of sc).setting (restarts_at sc.plan i p) (kept_before sc p i) ∙ ap (λ (x : Kept). x.votes) (sym (goes-as i));
+        (m.so_far i low).votes ∙ ap (or_nothing (restarts_at sc.plan i p) (replicate 8 None)) (kept.votes i low)
+        ∙ opened_votes (system_of sc).setting (restarts_at sc.plan i p) (kept_before sc p i) ∙ ap (λ (x : Kept). x.votes) (sym (goes-as i));
     owns = λ i low.
-      (m.so_far i low).owns ∙ ap (or_nothing (restarts_at sc.plan i p) (replicate 8 None)) (kept.owns i low)
-      ∙ opened_owns (system_of sc).setting (restarts_at sc.plan i p) (kept_before sc p i) ∙ ap (λ (x : Kept). x.owns) (sym (goes-as i));
+        (m.so_far i low).owns ∙ ap (or_nothing (restarts_at sc.plan i p) (replicate 8 None)) (kept.owns i low)
+        ∙ opened_owns (system_of sc).setting (restarts_at sc.plan i p) (kept_before sc p i) ∙ ap (λ (x : Kept). x.owns) (sym (goes-as i));
   }

@@ -118,10 +118,10 @@ module _ {N : ℕ} (law : OfRunLaw N nat_eq claim_form (λ m. 1) claim_told) (sc
       ∙ cond-true (has_id x.awake i) (also_noted N (notes_at old i) (blames nat_eq (listener claim_form x s.links i))) (notes_at old i) (d.awake i a low is)
       ∙ noted_alike N (notes_at old i) (blames nat_eq (listener claim_form x s.links i)) (of_each (blamed_in sc p i a).convicted equivocate)
       (λ j e wide used other kind.
-          ap (λ (b : Bool). b && e == equivocate)
-          (convicts_same nat_eq claim_form (λ m. 1) claim_told law sc p x s d i a low is j (λ h. other (h ∙ sym (shaped.me i low)))
-          ∙ sym (blamed_was sc p i a j ∙ has_where (convicts_member nat_eq (claims_ear sc p i a)) sc.config.nodes j
-          ∙ ap (λ (b : Bool). b && convicts_member nat_eq (claims_ear sc p i a) j) (lt-ltb j sc.config.nodes (let n = shaped.nodes i low in omega arith)))))
+      ap (λ (b : Bool). b && e == equivocate)
+      (convicts_same nat_eq claim_form (λ m. 1) claim_told law sc p x s d i a low is j (λ h. other (h ∙ sym (shaped.me i low)))
+      ∙ sym (blamed_was sc p i a j ∙ has_where (convicts_member nat_eq (claims_ear sc p i a)) sc.config.nodes j
+      ∙ ap (λ (b : Bool). b && convicts_member nat_eq (claims_ear sc p i a) j) (lt-ltb j sc.config.nodes (let n = shaped.nodes i low in omega arith)))))
       ∙ ap (λ (y : Notes). also_noted N y (of_each (blamed_in sc p i a).convicted equivocate)) (noted i a low is)
       ∙ sym (convicted_is sc p i a)
 

@@ -204,16 +204,16 @@ module _ {N : ℕ} (law : OfRunLaw N nat_eq claim_form (λ m. 1) claim_told) (sc
   pub all_settled : (made' : Made N) → made' ≡ record made { beliefs = made'.beliefs } → made'.beliefs.items ≡ completed → AreSettled sc p full made' convicted groups
   all_settled made' made-is are = record {
     going = going_with sc p full made made' going made-is (ap length are ∙ c.many)
-      (λ j b none.
-      ap (λ (bs : List (Belief N)). get_or bs j b) are ∙ c.nothing j b none ∙ c.others j b (ap (λ (q : List ℕ). has_id q j) at.awake ∙ not_awake N made.states j none));
+        (λ j b none.
+        ap (λ (bs : List (Belief N)). get_or bs j b) are ∙ c.nothing j b none ∙ c.others j b (ap (λ (q : List ℕ). has_id q j) at.awake ∙ not_awake N made.states j none));
     shaped = shaped_more sc.config few x.awake (λ i. blames nat_eq (listener claim_form x s.links i)) judged convicted shaped_judged c.many_convicted c.convicted_are;
     claimed = group_claimed law sc p full made going few x s d groups c.firsts c.shared c.cold c.among c.alike filled c.done config config-is made' (ap (λ (m : Made N). m.states) made-is)
-      (λ j b low. subst (λ (bs : List (Belief N)). get_or bs j b ≡ record (get_or filled j b) { due = (get_or bs j b).due }) (sym are) (c.kept j b low))
-      (λ i a b low is. ap (λ (bs : List (Belief N)). (belief_of b bs groups i).due.items) are ∙ c.due i a b low is) at.awake;
+        (λ j b low. subst (λ (bs : List (Belief N)). get_or bs j b ≡ record (get_or filled j b) { due = (get_or bs j b).due }) (sym are) (c.kept j b low))
+        (λ i a b low is. ap (λ (bs : List (Belief N)). (belief_of b bs groups i).due.items) are ∙ c.due i a b low is) at.awake;
     notes_are = convicted_notes law sc p x s d few judged convicted shaped_judged c.convicted_are
-      (judged_notes sc p framed judged done_of (λ i a low is. settled_of i a no_belief low is)
-      (λ i a low is.
-      c.judged_are i a no_belief (omega arith) (going.states i low ∙ is)
-      ∙ ap (λ (y : Config N). also_noted N (notes_at framed i) (by_verdicts (verdicts N y.graph a.standing.members a.copies (done_of i)))) config-is)
-      (claimed_notes law sc p x s d few begun framed shaped c.framed_are noted));
+        (judged_notes sc p framed judged done_of (λ i a low is. settled_of i a no_belief low is)
+        (λ i a low is.
+        c.judged_are i a no_belief (omega arith) (going.states i low ∙ is)
+        ∙ ap (λ (y : Config N). also_noted N (notes_at framed i) (by_verdicts (verdicts N y.graph a.standing.members a.copies (done_of i)))) config-is)
+        (claimed_notes law sc p x s d few begun framed shaped c.framed_are noted));
   }

@@ -151,18 +151,18 @@ module _ {N : ℕ} (sc : ScenarioView N) (p : ℕ) (full : List ℕ) (made : Mad
     cold_part i low none stepped =
         let own : first_of groups i ≡ i = r.claimed.cold i low none in
         let b : IsNothing (belief_of (nothing_believed N) made.beliefs.items groups i) =
-            subst (λ (f : ℕ). IsNothing (get_or made.beliefs.items f (nothing_believed N))) (sym own) (r.going.nothing i (nothing_believed N) low none) in record {
-      mode = ap mode_of (mode_now i low ∙ ap (mode_with (has_id full i)) none);
-      agreed = stepped;
-      members = members_now i low ∙ ap members_in none;
-      believes = believed i low;
-      done = b.done;
-      rows = b.rows;
-      due = b.due;
-      votes = b.votes;
-      found = r.going.no_row i low none;
-      sync = r.going.sync i low;
-    }
+        subst (λ (f : ℕ). IsNothing (get_or made.beliefs.items f (nothing_believed N))) (sym own) (r.going.nothing i (nothing_believed N) low none) in record {
+          mode = ap mode_of (mode_now i low ∙ ap (mode_with (has_id full i)) none);
+          agreed = stepped;
+          members = members_now i low ∙ ap members_in none;
+          believes = believed i low;
+          done = b.done;
+          rows = b.rows;
+          due = b.due;
+          votes = b.votes;
+          found = r.going.no_row i low none;
+          sync = r.going.sync i low;
+        }
 
     view_through : (i : ℕ) (a : AgreedView) → through sc p i ≡ Some a → view (run (system_of sc)) i p ≡ view_made (goes sc p i) a (parts_in sc p i a)
     view_through i a goes-by = view_is through_is sc p i a goes-by
@@ -197,19 +197,19 @@ module _ {N : ℕ} (sc : ScenarioView N) (p : ℕ) (full : List ℕ) (made : Mad
         keeps_at i low (Some a) goes-by =
             let v = view_through i a goes-by in
             let kept = forgot.others i (awake-are i low ∙ ap is_some goes-by) in record {
-          state_is = stepped i a low goes-by ∙ ap (λ (w : View). w.kept.state) (sym v);
-          carried = ap (λ (x : Notes). x.carried) (kept.notes ∙ r.notes i a low goes-by) ∙ ap (λ (w : View). w.kept.carried) (sym v);
-          votes = kept.votes ∙ r.votes i a low goes-by ∙ ap (λ (w : View). w.kept.votes) (sym v);
-          owns = kept.owns ∙ r.owns i a low goes-by ∙ ap (λ (w : View). w.kept.owns) (sym v);
-        }
+              state_is = stepped i a low goes-by ∙ ap (λ (w : View). w.kept.state) (sym v);
+              carried = ap (λ (x : Notes). x.carried) (kept.notes ∙ r.notes i a low goes-by) ∙ ap (λ (w : View). w.kept.carried) (sym v);
+              votes = kept.votes ∙ r.votes i a low goes-by ∙ ap (λ (w : View). w.kept.votes) (sym v);
+              owns = kept.owns ∙ r.owns i a low goes-by ∙ ap (λ (w : View). w.kept.owns) (sym v);
+            }
         keeps_at i low None none =
             let v = view_cold i none in
             let lost = forgot.cold i low (awake-are i low ∙ ap is_some none) in record {
-          state_is = cold i low none ∙ ap (λ (w : View). w.kept.state) (sym v);
-          carried = ap (λ (x : Notes). x.carried) lost.notes ∙ ap (λ (w : View). w.kept.carried) (sym v);
-          votes = lost.votes ∙ ap (λ (w : View). w.kept.votes) (sym v);
-          owns = lost.owns ∙ ap (λ (w : View). w.kept.owns) (sym v);
-        }
+              state_is = cold i low none ∙ ap (λ (w : View). w.kept.state) (sym v);
+              carried = ap (λ (x : Notes). x.carried) lost.notes ∙ ap (λ (w : View). w.kept.carried) (sym v);
+              votes = lost.votes ∙ ap (λ (w : View). w.kept.votes) (sym v);
+              owns = lost.owns ∙ ap (λ (w : View). w.kept.owns) (sym v);
+            }
 
         same_shape : (f : Notes → ℕ) → ((x : Notes) → f (no_longer N x) ≡ f x) → (j : ℕ) → j < sc.config.nodes → f (notes_at l.notes.items j) ≡ f (notes_at k.notes.items j)
         same_shape f same j low = elim (cases_Bool (has_id awake j)) [
@@ -251,15 +251,15 @@ module _ {N : ℕ} (sc : ScenarioView N) (p : ℕ) (full : List ℕ) (made : Mad
     (r : AreReported sc p full made k groups) (room : sc.config.nodes ≤ N) (firsts : AreFirsts N groups) (grouped : made.group ≡ groups)
     (config : Config N) (config-is : config ≡ sc.config) (states : List (Option AgreedView))
     (stepped : (i : ℕ) (a : AgreedView) (d : Belief N) → i < N → state_at made.states i ≡ Some a
-        → state_at states i ≡ Some (agreed_after N config p a (belief_of d made.beliefs.items groups i).done (belief_of d made.beliefs.items groups i).rows))
+    → state_at states i ≡ Some (agreed_after N config p a (belief_of d made.beliefs.items groups i).done (belief_of d made.beliefs.items groups i).rows))
     (cold : (i : ℕ) → i < N → state_at made.states i ≡ None → state_at states i ≡ None) where
   stepped_on : (i : ℕ) (a : AgreedView) → i < sc.config.nodes → through sc p i ≡ Some a → state_at states i ≡ Some (after_in sc p i a)
   stepped_on i a low goes-by =
       stepped i a (nothing_believed N) (omega arith) (r.going.states i low ∙ goes-by)
       ∙ ap Some
-        (ap (λ (c : Config N). agreed_after N c p a (belief_of (nothing_believed N) made.beliefs.items groups i).done (belief_of (nothing_believed N) made.beliefs.items groups i).rows) config-is
-        ∙ ap₂ (agreed_after N sc.config p a) (r.claimed.done i a (nothing_believed N) low goes-by) (r.rows i a (nothing_believed N) low goes-by)
-        ∙ sym (after_is sc p i a))
+      (ap (λ (c : Config N). agreed_after N c p a (belief_of (nothing_believed N) made.beliefs.items groups i).done (belief_of (nothing_believed N) made.beliefs.items groups i).rows) config-is
+      ∙ ap₂ (agreed_after N sc.config p a) (r.claimed.done i a (nothing_believed N) low goes-by) (r.rows i a (nothing_believed N) low goes-by)
+      ∙ sym (after_is sc p i a))
 
   cold_still : (i : ℕ) → i < sc.config.nodes → through sc p i ≡ None → state_at states i ≡ None
   cold_still i low none = cold i (omega arith) (r.going.states i low ∙ none)

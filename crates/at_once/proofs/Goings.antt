@@ -52,8 +52,8 @@ module _ {N : ℕ} (sc : ScenarioView N) (p : ℕ) (full : List ℕ) (made : Mad
     many = going.many;
     nothing = going.nothing;
     no_row = λ i low none.
-      found-are i (omega arith)
-      ∙ cond-false (has_id full i) (notes_at notes i).row (replicate N 0)
+        found-are i (omega arith)
+        ∙ cond-false (has_id full i) (notes_at notes i).row (replicate N 0)
         (full_now i low ∙ not_full (setting sc p i) i (has sc p i) (goes sc p i).state none);
   }
 

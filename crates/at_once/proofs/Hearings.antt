@@ -84,7 +84,7 @@ module _ {N : ℕ} (old : Made N) where
     stays_there : (j : ℕ) (d : Belief N) → length made.beliefs.items ≡ N → j < N → j ≢ i → get_or made'.beliefs.items j d ≡ get_or made.beliefs.items j d
     stays_there j d wide within ne =
         let e : Some (get_or made'.beliefs.items j d) ≡ Some (get_or made.beliefs.items j d) =
-            sym (slice_get-get_or made'.beliefs.items j d (omega arith)) ∙ places j ne ∙ slice_get-get_or made.beliefs.items j d (omega arith) in cc
+        sym (slice_get-get_or made'.beliefs.items j d (omega arith)) ∙ places j ne ∙ slice_get-get_or made.beliefs.items j d (omega arith) in cc
 
     placed_still : ((j : ℕ) → j < N → slice_index made.group j < N) → (j : ℕ) → j < N → slice_index made'.group j < N
     placed_still placed j within = elim (cases_eq j i) [

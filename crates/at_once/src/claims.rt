@@ -3,7 +3,8 @@
 ghost use Rattle.std.specs.Prelude.{◌≡◌, ◌≢◌, ◌<◌, ℕ, nat_eq, true, false, length, map, slice_index_or, if◌then◌else◌};
 ghost use Rattle.node_grid.specs.Capacity.{IsCapacity};
 ghost use Rattle.node_grid.specs.NodeSet.{has_id};
-ghost use Rattle.error_reports.specs.Notes.{also_noted};
+ghost use Rattle.node_grid.specs.Kinds.{equivocate};
+ghost use Rattle.error_reports.specs.Notes.{also_noted, of_each};
 ghost use Rattle.protocol.specs.Arrival.{claim_form};
 ghost use Rattle.protocol.specs.Heard.{rounds_bad};
 ghost use Rattle.protocol.specs.Settled.{plain};
@@ -87,7 +88,9 @@ impl<const N: usize> Period<'_, N> {
         requires noted { AreNotedAs self.now.scenario.now self.now.number
             (notes_synced self.now.scenario.now self.now.number) notes.old }
         requires room { claims.old.settling ≡ record {
-          nodes = self.now.scenario.now.config.nodes; rounds = self.now.scenario.now.config.m } }
+          nodes = self.now.scenario.now.config.nodes;
+          rounds = self.now.scenario.now.config.m;
+        } }
         ensures settled { AreSettled self.now.scenario.now self.now.number full.now made.new
             notes.new result }
         ensures room { claims.new.settling ≡ claims.old.settling }
@@ -145,13 +148,23 @@ fn note_frames<const N: usize>(
     ensures many { length notes.new ≡ N }
     ensures notes { (i : ℕ) → i < N → notes_at notes.new i ≡ (if has_id phase.now.awake i
         then also_noted N (notes_at notes.old i) (rounds_bad phase.now.config.now.m
-          (rounds_of claim_form phase.now claims.now.links i))
+        (rounds_of claim_form phase.now claims.now.links i))
         else notes_at notes.old i) }
 {
     for i in 0..N as u8 {
         if phase.awake.has(i) {
             claims.note(phase, i, &mut notes[i as usize]);
         }
+    }
+}
+
+/// Notes these nodes as convicted; mostly there are none.
+fn note_against<const N: usize>(against: &NodeSet<N>, notes: &mut RowBuilder<N>)
+    requires { IsWithin N notes.old }
+    ensures { notes.new ≡ also_noted N notes.old (of_each against.now equivocate) }
+{
+    if !against.is_empty() {
+        notes.note_all(against, EQUIVOCATE);
     }
 }
 
@@ -169,7 +182,7 @@ fn note_convicted<const N: usize>(
     ensures many { length notes.new ≡ N }
     ensures notes { (i : ℕ) → i < N → notes_at notes.new i ≡ (if has_id phase.now.awake i
         then also_noted N (notes_at notes.old i)
-          (blames nat_eq (listener claim_form phase.now claims.now.links i))
+        (blames nat_eq (listener claim_form phase.now claims.now.links i))
         else notes_at notes.old i) }
 {
     if phase.config.version == 1 {
@@ -177,7 +190,7 @@ fn note_convicted<const N: usize>(
     }
     for i in 0..N as u8 {
         if phase.awake.has(i) {
-            notes[i as usize].note_all(&claims.convicted(phase, i), EQUIVOCATE);
+            note_against(&claims.convicted(phase, i), &mut notes[i as usize]);
         }
     }
 }

@@ -4,8 +4,9 @@ ghost use Rattle.std.specs.Prelude.{◌≡◌, ◌<◌, ◌==◌, ℕ, [], true,
 ghost use Rattle.std.specs.Cmp.Lexicographic.{pointwise};
 ghost use Rattle.node_grid.specs.Capacity.{IsCapacity};
 ghost use Rattle.node_grid.specs.NodeSet.{has_id};
+ghost use Rattle.node_grid.specs.Kinds.{equivocate};
 ghost use Rattle.node_grid.specs.Version.{kind_count};
-ghost use Rattle.error_reports.specs.Notes.{also_carried};
+ghost use Rattle.error_reports.specs.Notes.{also_carried, of_each};
 ghost use Rattle.protocol.specs.Arrival.{row_form};
 ghost use Rattle.protocol.specs.Heard.{rounds_bad};
 ghost use Rattle.touched_items.specs.ItemLaws.{row_told};
@@ -58,6 +59,16 @@ fn rows_settled<const N: usize>(
     settled
 }
 
+/// Carries over that these nodes are convicted; mostly there are none.
+fn carry_against<const N: usize>(against: &NodeSet<N>, notes: &mut RowBuilder<N>)
+    requires { IsCarriedWithin N notes.old }
+    ensures { notes.new ≡ also_carried N notes.old (of_each against.now equivocate) }
+{
+    if !against.is_empty() {
+        notes.carry_all(against, EQUIVOCATE);
+    }
+}
+
 /// Carries over to the next period what was found of the frames of rows, and whom each node
 /// convicts over the rows, where rows have room for that.
 fn carry<const N: usize>(
@@ -104,7 +115,7 @@ fn carry_at<const N: usize>(
 {
     rows.carry(phase, i, notes);
     if phase.config.version != 1 {
-        notes.carry_all(&rows.convicted(phase, i), EQUIVOCATE);
+        carry_against(&rows.convicted(phase, i), notes);
     }
 }
 

@@ -121,9 +121,13 @@ impl<const N: usize> Period<'_, N> {
         requires begun { AreBegun self.now.scenario.now self.now.number made.old.states keeping.old }
         requires beliefs { HasBeliefs made.old }
         requires claims_room { claims.old.settling ≡ record {
-          nodes = self.now.scenario.now.config.nodes; rounds = self.now.scenario.now.config.m } }
+          nodes = self.now.scenario.now.config.nodes;
+          rounds = self.now.scenario.now.config.m;
+        } }
         requires rows_room { rows.old.settling ≡ record {
-          nodes = self.now.scenario.now.config.nodes; rounds = self.now.scenario.now.config.m } }
+          nodes = self.now.scenario.now.config.nodes;
+          rounds = self.now.scenario.now.config.m;
+        } }
         ensures made { AreMade self.now.scenario.now self.now.number made.new }
         ensures beliefs { HasBeliefs made.new }
         ensures kept { AreKept self.now.scenario.now (self.now.number + 1) made.new.states keeping.new }

@@ -4,6 +4,7 @@ use Rattle.node_grid.specs.Capacity.{IsCapacity}
 use Rattle.node_grid.specs.NodeSet.{has_id}
 use Rattle.error_reports.specs.Notes.{Notes, also_noted}
 use Rattle.protocol.specs.Arrival.{claim_form}
+use Rattle.view_law.specs.Laws.{IsWithin}
 use Rattle.item_phase.specs.Settled.{listener}
 use Rattle.at_once.specs.Kept.{notes_at}
 use Rattle.at_once.specs.Phases.{blames}
@@ -16,6 +17,16 @@ pub convicted-requires : goal.convicted-requires
 convicted-requires g c =
     let cap : IsCapacity g.row.N = c.requires.capacity in
     (elim cap [ inl e ↦ rw e (lit< tt) | inr e ↦ rw e (lit< tt) ], (elim cap [ inl e ↦ rw e (lit< tt) | inr e ↦ rw e (lit< tt) ], (lit< tt, (c.requires.settled, (sym c.has.ensures ∙ c.if-has.true, c.if-phase-eq1.false)))))
+
+pub note_against-requires : goal.note_against-requires
+note_against-requires g c =
+    let i : ℕ = c.loop-i.i in
+    let xs : List Notes = c.loop-i.notes in
+    let low : i < g.row.N = c.loop-i-test.true in
+    let room : i < length xs = (let w = c.loop-i.invariant.wide in omega arith) in
+    let at : get_or xs i c.index-notes-i.result ≡ notes_at xs i = same_at xs i c.index-notes-i.result (record { nodes = 0; me = 0; kinds = 0; row = []; carried = [] }) room in
+    let cap : IsCapacity g.row.N = c.requires.capacity in
+    (lit< tt, (elim cap [ inl e ↦ rw e (lit< tt) | inr e ↦ rw e (lit< tt) ], subst (IsWithin g.row.N) (sym (at ∙ c.loop-i.invariant.rest i (omega arith))) (c.requires.within i low (sym c.has.ensures ∙ c.if-has.true))))
 
 pub returns-then-phase-eq1-clause-notes : goal.returns-then-phase-eq1-clause-notes
 returns-then-phase-eq1-clause-notes g c i low =
@@ -43,10 +54,10 @@ loop-i-preserved g c =
           let at : was ≡ n = same_at xs i w.index-notes-i.result (record { nodes = 0; me = 0; kinds = 0; row = []; carried = [] }) room in
           let me : n.me ≡ i = ap (λ (y : Notes). y.me) (c.loop-i.invariant.rest i (omega arith)) ∙ c.requires.shaped.me i (c.requires.settled.heard.set.awake i on) in
           subst (AreMore g.row.N nodes step old (i + 1)) (sym w.notes-is)
-          (more_put g.row.N nodes step old i xs w.note_all.new.self low on c.loop-i.invariant
-          (w.note_all.ensures
+          (more_put g.row.N nodes step old i xs w.note_against.new.notes low on c.loop-i.invariant
+          (w.note_against.ensures
           ∙ blamed_same g.row.N was nat_eq (listener claim_form c.args.phase.now c.args.claims.now.links i) w.convicted.result
-            (λ k other. w.convicted.ensures k (λ e. other (e ∙ sym (ap (λ (y : Notes). y.me) at ∙ me))))
+          (λ k other. w.convicted.ensures k (λ e. other (e ∙ sym (ap (λ (y : Notes). y.me) at ∙ me))))
           ∙ ap (step i) at))
       | else-has w ↦ subst (AreMore g.row.N nodes step old (i + 1)) (sym w.notes-is) (more_skip g.row.N nodes step old i xs (sym c.has.ensures ∙ w.if-has.false) c.loop-i.invariant)
     ]

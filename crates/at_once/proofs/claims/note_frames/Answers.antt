@@ -31,7 +31,7 @@ note-requires g c =
             (
               on,
               subst (IsNoter config i) (sym (same_at xs i c.index-notes-i.result (record { nodes = 0; me = 0; kinds = 0; row = []; carried = [] }) room ∙ c.loop-i.invariant.rest i (omega arith)))
-              (noter config old i (c.requires.settled.heard.set.awake i on) c.requires.shaped (c.requires.within i low on)),
+                  (noter config old i (c.requires.settled.heard.set.awake i on) c.requires.shaped (c.requires.within i low on)),
             ),
           ),
         ),

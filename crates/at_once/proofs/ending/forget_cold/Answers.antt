@@ -16,19 +16,19 @@ loop-i-preserved g c =
     elim c.if-not-has.branch [
       | then-not-has w ↦
           let off : has_id c.args.awake.now i ≡ false = sym c.has.ensures ∙ w.if-not-has.true in record {
-          forgetting = subst (λ (l : Keeping g.row.N). AreForgetting c.args.awake.now c.args.keeping.now (i + 1) l) (sym w.keeping-is)
-            (cold_forgets c.args.awake.now c.args.keeping.now i c.loop-i.keeping w.forget.new.self (omega arith) m.votes m.owns
-            w.forget.ensures.notes w.forget.ensures.votes w.forget.ensures.owns off m.forgetting);
-          votes = ap (λ (l : Keeping g.row.N). length l.votes) w.keeping-is ∙ ap length w.forget.ensures.votes ∙ length-set c.loop-i.keeping.votes i _ ∙ m.votes;
-          owns = ap (λ (l : Keeping g.row.N). length l.owns) w.keeping-is ∙ ap length w.forget.ensures.owns ∙ length-set c.loop-i.keeping.owns i _ ∙ m.owns;
-        }
+            forgetting = subst (λ (l : Keeping g.row.N). AreForgetting c.args.awake.now c.args.keeping.now (i + 1) l) (sym w.keeping-is)
+                (cold_forgets c.args.awake.now c.args.keeping.now i c.loop-i.keeping w.forget.new.self (omega arith) m.votes m.owns
+                w.forget.ensures.notes w.forget.ensures.votes w.forget.ensures.owns off m.forgetting);
+            votes = ap (λ (l : Keeping g.row.N). length l.votes) w.keeping-is ∙ ap length w.forget.ensures.votes ∙ length-set c.loop-i.keeping.votes i _ ∙ m.votes;
+            owns = ap (λ (l : Keeping g.row.N). length l.owns) w.keeping-is ∙ ap length w.forget.ensures.owns ∙ length-set c.loop-i.keeping.owns i _ ∙ m.owns;
+          }
       | else-not-has w ↦
           let on : has_id c.args.awake.now i ≡ true = sym c.has.ensures ∙ w.if-not-has.false in record {
-          forgetting = subst (λ (l : Keeping g.row.N). AreForgetting c.args.awake.now c.args.keeping.now (i + 1) l) (sym w.keeping-is)
-            (awake_keeps c.args.awake.now c.args.keeping.now i c.loop-i.keeping on m.forgetting);
-          votes = ap (λ (l : Keeping g.row.N). length l.votes) w.keeping-is ∙ m.votes;
-          owns = ap (λ (l : Keeping g.row.N). length l.owns) w.keeping-is ∙ m.owns;
-        }
+            forgetting = subst (λ (l : Keeping g.row.N). AreForgetting c.args.awake.now c.args.keeping.now (i + 1) l) (sym w.keeping-is)
+                (awake_keeps c.args.awake.now c.args.keeping.now i c.loop-i.keeping on m.forgetting);
+            votes = ap (λ (l : Keeping g.row.N). length l.votes) w.keeping-is ∙ m.votes;
+            owns = ap (λ (l : Keeping g.row.N). length l.owns) w.keeping-is ∙ m.owns;
+          }
     ]
 
 pub returns : goal.returns

@@ -19,19 +19,19 @@ loop-i-preserved g c =
     let m = c.loop-i.invariant in
     elim c.if-not-has.branch [
       | then-not-has w ↦ record {
-          left = subst (λ (x : Made g.row.N). AreLeft (i + 1) old x) (sym w.made-is)
+        left = subst (λ (x : Made g.row.N). AreLeft (i + 1) old x) (sym w.made-is)
             (cold_left old i c.loop-i.made w.leave.new.self (omega arith) m.groups m.rows w.leave.ensures.nothing w.leave.ensures.group w.leave.ensures.found w.leave.ensures.places
             w.leave.ensures.many w.leave.ensures.states w.leave.ensures.modes w.leave.ensures.members w.leave.ensures.sync m.left);
-          groups = ap (λ (x : Made g.row.N). length x.group) w.made-is ∙ ap length w.leave.ensures.group ∙ length-set c.loop-i.made.group i _ ∙ m.groups;
-          rows = ap (λ (x : Made g.row.N). length x.found) w.made-is ∙ ap length w.leave.ensures.found ∙ length-set c.loop-i.made.found i _ ∙ m.rows;
-        }
+        groups = ap (λ (x : Made g.row.N). length x.group) w.made-is ∙ ap length w.leave.ensures.group ∙ length-set c.loop-i.made.group i _ ∙ m.groups;
+        rows = ap (λ (x : Made g.row.N). length x.found) w.made-is ∙ ap length w.leave.ensures.found ∙ length-set c.loop-i.made.found i _ ∙ m.rows;
+      }
       | else-not-has w ↦
           let on : is_some (state_at old.states i) ≡ true =
-              sym (has-filter (λ j. is_some (state_at old.states j)) g.row.N i (omega arith)) ∙ ap (λ (xs : List ℕ). has_id xs i) (sym c.requires.awake) ∙ sym c.has.ensures ∙ w.if-not-has.false in record {
-          left = subst (λ (x : Made g.row.N). AreLeft (i + 1) old x) (sym w.made-is) (awake_stays old i c.loop-i.made on m.left);
-          groups = ap (λ (x : Made g.row.N). length x.group) w.made-is ∙ m.groups;
-          rows = ap (λ (x : Made g.row.N). length x.found) w.made-is ∙ m.rows;
-        }
+          sym (has-filter (λ j. is_some (state_at old.states j)) g.row.N i (omega arith)) ∙ ap (λ (xs : List ℕ). has_id xs i) (sym c.requires.awake) ∙ sym c.has.ensures ∙ w.if-not-has.false in record {
+            left = subst (λ (x : Made g.row.N). AreLeft (i + 1) old x) (sym w.made-is) (awake_stays old i c.loop-i.made on m.left);
+            groups = ap (λ (x : Made g.row.N). length x.group) w.made-is ∙ m.groups;
+            rows = ap (λ (x : Made g.row.N). length x.found) w.made-is ∙ m.rows;
+          }
     ]
 
 pub returns : goal.returns

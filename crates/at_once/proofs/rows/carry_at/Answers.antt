@@ -1,4 +1,4 @@
-use Rattle.std.proofs.Common.{ℕ, ◌≡◌, ◌≤◌, ◌==◌, Bool, List, sym, ap, ◌∙◌, lit<, inl, inr, arith, eq-eqb}
+use Rattle.std.proofs.Common.{ℕ, ◌≡◌, ◌≤◌, ◌==◌, Bool, List, sym, ap, subst, ◌∙◌, lit<, inl, inr, arith, eq-eqb}
 use Rattle.std.specs.Cmp.Lexicographic.{pointwise}
 use Rattle.std.proofs.lemmas.Bool.{cond-true}
 use Rattle.node_grid.specs.Capacity.{IsCapacity}
@@ -7,6 +7,7 @@ use Rattle.protocol.specs.Arrival.{row_form}
 use Rattle.protocol.specs.Heard.{rounds_bad}
 use Rattle.item_phase.specs.Settled.{listener}
 use Rattle.item_phase.specs.Noted.{rounds_of, IsCarrier}
+use Rattle.view_law.specs.Laws.{IsCarriedWithin}
 use Rattle.view_law.proofs.Rows.{carried_more}
 use Rattle.omh.specs.Omh.{Ear}
 use Rattle.at_once.specs.Phases.{blames}
@@ -29,12 +30,19 @@ convicted-requires g c =
     let cap : IsCapacity g.row.N = c.requires.capacity in
     (elim cap [ inl e ↦ rw e (lit< tt) | inr e ↦ rw e (lit< tt) ], (elim cap [ inl e ↦ rw e (lit< tt) | inr e ↦ rw e (lit< tt) ], (lit< tt, (c.requires.settled, (c.requires.node, c.if-phase-ne1.true)))))
 
+pub carry_against-requires : goal.carry_against-requires
+carry_against-requires g c =
+    let bad : ℕ → ℕ → Bool = rounds_bad c.args.phase.now.config.now.m (rounds_of row_form c.args.phase.now c.args.rows.now.links c.args.i) in
+    let few : c.args.notes.now.kinds ≤ 16 = (let e = c.requires.kinds in let f = few_kinds c.args.phase.now.config.now.version in omega arith) in
+    let cap : IsCapacity g.row.N = c.requires.capacity in
+    (lit< tt, (elim cap [ inl e ↦ rw e (lit< tt) | inr e ↦ rw e (lit< tt) ], subst (IsCarriedWithin g.row.N) (sym c.carry.ensures) (carried_more g.row.N c.args.notes.now bad few)))
+
 pub returns-then-phase-ne1 : goal.returns-then-phase-ne1
 returns-then-phase-ne1 g c =
     let n : Notes = c.carry.new.notes in
     let ear : Ear (List ℕ) = listener row_form c.args.phase.now c.args.rows.now.links c.args.i in
     let me : n.me ≡ c.args.i = ap (λ (y : Notes). y.me) c.carry.ensures ∙ c.requires.me in
-    c.carry_all.ensures ∙ carried_same g.row.N n (pointwise ◌==◌) ear c.convicted.result (λ k other. c.convicted.ensures k (λ e. other (e ∙ sym me)))
+    c.carry_against.ensures ∙ carried_same g.row.N n (pointwise ◌==◌) ear c.convicted.result (λ k other. c.convicted.ensures k (λ e. other (e ∙ sym me)))
     ∙ ap (λ (y : Notes). also_carried g.row.N y (blames (pointwise ◌==◌) ear)) c.carry.ensures
 
 pub returns-else-phase-ne1 : goal.returns-else-phase-ne1

@@ -19,11 +19,11 @@ returns-in-None-clause-counts c =
 pub returns-in-Some-agreed-clause-members : goal.returns-in-Some-agreed-clause-members
 returns-in-Some-agreed-clause-members c =
     let some : state_after (record_of c.args.shown.now) ≡ Some c.in-Some-agreed.agreed.now =
-        after_shown c.args.shown.now c.in-Some.node (Some c.in-Some-agreed.agreed.now) c.in-Some.is (c.requires _ c.in-Some.is) (rw c.in-Some-agreed.is at c.agreed.ensures) in
+    after_shown c.args.shown.now c.in-Some.node (Some c.in-Some-agreed.agreed.now) c.in-Some.is (c.requires _ c.in-Some.is) (rw c.in-Some-agreed.is at c.agreed.ensures) in
     ap (λ (a : AgreedView). members_in (Some a)) c.agreed-in-Some-agreed.view_is ∙ sym (ap members_in some)
 
 pub returns-in-Some-agreed-clause-counts : goal.returns-in-Some-agreed-clause-counts
 returns-in-Some-agreed-clause-counts c =
     let some : state_after (record_of c.args.shown.now) ≡ Some c.in-Some-agreed.agreed.now =
-        after_shown c.args.shown.now c.in-Some.node (Some c.in-Some-agreed.agreed.now) c.in-Some.is (c.requires _ c.in-Some.is) (rw c.in-Some-agreed.is at c.agreed.ensures) in
+    after_shown c.args.shown.now c.in-Some.node (Some c.in-Some-agreed.agreed.now) c.in-Some.is (c.requires _ c.in-Some.is) (rw c.in-Some-agreed.is at c.agreed.ensures) in
     ap (λ (a : AgreedView). counts_in (Some a)) c.agreed-in-Some-agreed.view_is ∙ sym (ap counts_in some)

@@ -14,23 +14,30 @@ step-requires g c =
     let cap : IsCapacity g.row.N = c.requires.capacity in
     let config : IsConfig g.row.N c.config-config.result.now = subst (λ (x : Config g.row.N). IsConfig g.row.N x) (sym c.config-config.ensures.config) c.config-config.ensures.scenario.system.config in
     let agreed : AreAgreed c.config-config.result.now c.args.made.now.states =
-        subst (λ (x : Config g.row.N). AreAgreed x c.args.made.now.states) (sym c.config-config.ensures.config) c.requires.reported.1.going.used.agreed in
-    let many : length c.as_slice.result.now ≡ g.row.N = ap length c.as_slice.ensures.value ∙ c.requires.reported.1.going.many in
-    (elim cap [ inl e ↦ rw e (lit< tt) | inr e ↦ rw e (lit< tt) ],
-    (elim cap [ inl e ↦ rw e (lit< tt) | inr e ↦ rw e (lit< tt) ],
-    (elim cap [ inl e ↦ rw e (lit< tt) | inr e ↦ rw e (lit< tt) ],
-    (elim cap [ inl e ↦ rw e (lit< tt) | inr e ↦ rw e (lit< tt) ],
-    (cap, (config, (agreed, (c.requires.reported.1.claimed.shared, many))))))))
+    subst (λ (x : Config g.row.N). AreAgreed x c.args.made.now.states) (sym c.config-config.ensures.config) c.requires.reported.1.going.used.agreed in
+    let many : length c.as_slice.result.now ≡ g.row.N = ap length c.as_slice.ensures.value ∙ c.requires.reported.1.going.many in (
+      elim cap [ inl e ↦ rw e (lit< tt) | inr e ↦ rw e (lit< tt) ],
+      (
+        elim cap [ inl e ↦ rw e (lit< tt) | inr e ↦ rw e (lit< tt) ],
+        (
+          elim cap [ inl e ↦ rw e (lit< tt) | inr e ↦ rw e (lit< tt) ],
+          (
+            elim cap [ inl e ↦ rw e (lit< tt) | inr e ↦ rw e (lit< tt) ],
+            (cap, (config, (agreed, (c.requires.reported.1.claimed.shared, many)))),
+          ),
+        ),
+      ),
+    )
 
 pub returns-clause-made : goal.returns-clause-made
 returns-clause-made g c =
     let sc = c.args.self.now.scenario.now in
     let few = c.config-config.ensures.scenario.system.config.few_nodes in
     let stepped : (i : ℕ) (a : AgreedView) (d : Belief g.row.N) → i < g.row.N → state_at c.args.made.now.states i ≡ Some a
-            → state_at c.step.new.states i ≡ Some (agreed_after g.row.N c.config-config.result.now c.args.self.now.number a
-              (belief_of d c.args.made.now.beliefs.items c.args.groups.now i).done (belief_of d c.args.made.now.beliefs.items c.args.groups.now i).rows) =
-        λ i a d low is. c.step.ensures.stepped i a d low is
-            ∙ ap (λ (xs : List (Belief g.row.N)). Some (agreed_after g.row.N c.config-config.result.now c.args.self.now.number a (belief_of d xs c.args.groups.now i).done (belief_of d xs c.args.groups.now i).rows)) c.as_slice.ensures.value in
+    → state_at c.step.new.states i ≡ Some (agreed_after g.row.N c.config-config.result.now c.args.self.now.number a
+    (belief_of d c.args.made.now.beliefs.items c.args.groups.now i).done (belief_of d c.args.made.now.beliefs.items c.args.groups.now i).rows) =
+    λ i a d low is. c.step.ensures.stepped i a d low is
+    ∙ ap (λ (xs : List (Belief g.row.N)). Some (agreed_after g.row.N c.config-config.result.now c.args.self.now.number a (belief_of d xs c.args.groups.now i).done (belief_of d xs c.args.groups.now i).rows)) c.as_slice.ensures.value in
     made_whole sc c.args.self.now.number c.requires.reported.0 c.args.made.now c.args.keeping.now c.args.groups.now c.requires.reported.1 few c.requires.firsts c.requires.grouped
     c.config-config.result.now c.config-config.ensures.config c.step.new.states stepped c.step.ensures.cold
 
@@ -39,10 +46,10 @@ returns-clause-beliefs g c =
     let sc = c.args.self.now.scenario.now in
     let few = c.config-config.ensures.scenario.system.config.few_nodes in
     let stepped : (i : ℕ) (a : AgreedView) (d : Belief g.row.N) → i < g.row.N → state_at c.args.made.now.states i ≡ Some a
-            → state_at c.step.new.states i ≡ Some (agreed_after g.row.N c.config-config.result.now c.args.self.now.number a
-              (belief_of d c.args.made.now.beliefs.items c.args.groups.now i).done (belief_of d c.args.made.now.beliefs.items c.args.groups.now i).rows) =
-        λ i a d low is. c.step.ensures.stepped i a d low is
-            ∙ ap (λ (xs : List (Belief g.row.N)). Some (agreed_after g.row.N c.config-config.result.now c.args.self.now.number a (belief_of d xs c.args.groups.now i).done (belief_of d xs c.args.groups.now i).rows)) c.as_slice.ensures.value in
+    → state_at c.step.new.states i ≡ Some (agreed_after g.row.N c.config-config.result.now c.args.self.now.number a
+    (belief_of d c.args.made.now.beliefs.items c.args.groups.now i).done (belief_of d c.args.made.now.beliefs.items c.args.groups.now i).rows) =
+    λ i a d low is. c.step.ensures.stepped i a d low is
+    ∙ ap (λ (xs : List (Belief g.row.N)). Some (agreed_after g.row.N c.config-config.result.now c.args.self.now.number a (belief_of d xs c.args.groups.now i).done (belief_of d xs c.args.groups.now i).rows)) c.as_slice.ensures.value in
     believed_still sc c.args.self.now.number c.requires.reported.0 c.args.made.now c.args.keeping.now c.args.groups.now c.requires.reported.1 few c.requires.firsts c.requires.grouped
     c.config-config.result.now c.config-config.ensures.config c.step.new.states stepped c.step.ensures.cold c.requires.capacity
 
@@ -51,10 +58,10 @@ returns-clause-kept g c =
     let sc = c.args.self.now.scenario.now in
     let few = c.config-config.ensures.scenario.system.config.few_nodes in
     let stepped : (i : ℕ) (a : AgreedView) (d : Belief g.row.N) → i < g.row.N → state_at c.args.made.now.states i ≡ Some a
-            → state_at c.step.new.states i ≡ Some (agreed_after g.row.N c.config-config.result.now c.args.self.now.number a
-              (belief_of d c.args.made.now.beliefs.items c.args.groups.now i).done (belief_of d c.args.made.now.beliefs.items c.args.groups.now i).rows) =
-        λ i a d low is. c.step.ensures.stepped i a d low is
-            ∙ ap (λ (xs : List (Belief g.row.N)). Some (agreed_after g.row.N c.config-config.result.now c.args.self.now.number a (belief_of d xs c.args.groups.now i).done (belief_of d xs c.args.groups.now i).rows)) c.as_slice.ensures.value in
+    → state_at c.step.new.states i ≡ Some (agreed_after g.row.N c.config-config.result.now c.args.self.now.number a
+    (belief_of d c.args.made.now.beliefs.items c.args.groups.now i).done (belief_of d c.args.made.now.beliefs.items c.args.groups.now i).rows) =
+    λ i a d low is. c.step.ensures.stepped i a d low is
+    ∙ ap (λ (xs : List (Belief g.row.N)). Some (agreed_after g.row.N c.config-config.result.now c.args.self.now.number a (belief_of d xs c.args.groups.now i).done (belief_of d xs c.args.groups.now i).rows)) c.as_slice.ensures.value in
     kept_on sc c.args.self.now.number c.requires.reported.0 c.args.made.now c.args.keeping.now c.args.groups.now c.requires.reported.1 few c.requires.firsts c.requires.grouped
     c.config-config.result.now c.config-config.ensures.config c.step.new.states stepped c.step.ensures.cold
     c.awake-awake.result c.forget_cold.new.keeping c.awake-awake.ensures.nodes c.forget_cold.ensures c.step.ensures.agreed c.awake.ensures.length

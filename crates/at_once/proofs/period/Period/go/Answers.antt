@@ -12,17 +12,34 @@ use Rattle.at_once.proofs.period.Period.go.Goals as goal
 
 pub hear-requires : goal.hear-requires
 hear-requires g c =
-    let cap : IsCapacity g.row.N = c.requires.capacity in
-    (lit< tt,
-    (lit< tt,
-    (elim cap [ inl e ↦ rw e (lit< tt) | inr e ↦ rw e (lit< tt) ],
-    (elim cap [ inl e ↦ rw e (lit< tt) | inr e ↦ rw e (lit< tt) ],
-    (cap,
-    (c.requires.in_run,
-    (c.requires.begun,
-    (c.awake-full.ensures.nodes,
-    (c.awake-full.ensures.length,
-    c.requires.beliefs)))))))))
+    let cap : IsCapacity g.row.N = c.requires.capacity in (
+      lit< tt,
+      (
+        lit< tt,
+        (
+          elim cap [ inl e ↦ rw e (lit< tt) | inr e ↦ rw e (lit< tt) ],
+          (
+            elim cap [ inl e ↦ rw e (lit< tt) | inr e ↦ rw e (lit< tt) ],
+            (
+              cap,
+              (
+                c.requires.in_run,
+                (
+                  c.requires.begun,
+                  (
+                    c.awake-full.ensures.nodes,
+                    (
+                      c.awake-full.ensures.length,
+                      c.requires.beliefs,
+                    ),
+                  ),
+                ),
+              ),
+            ),
+          ),
+        ),
+      ),
+    )
 
 pub settle_claims-groups-requires : goal.settle_claims-groups-requires
 settle_claims-groups-requires g c =
@@ -30,19 +47,40 @@ settle_claims-groups-requires g c =
     let p : ℕ = c.args.self.now.number in
     let cap : IsCapacity g.row.N = c.requires.capacity in
     let synced = c.hear.ensures.synced in
-    let value = c.as_mut_slice.ensures.value in
-    (lit< tt,
-    (lit< tt,
-    (elim cap [ inl e ↦ rw e (lit< tt) | inr e ↦ rw e (lit< tt) ],
-    (elim cap [ inl e ↦ rw e (lit< tt) | inr e ↦ rw e (lit< tt) ],
-    (elim cap [ inl e ↦ rw e (lit< tt) | inr e ↦ rw e (lit< tt) ],
-    (elim cap [ inl e ↦ rw e (lit< tt) | inr e ↦ rw e (lit< tt) ],
-    (cap,
-    (c.requires.in_run,
-    (synced.going,
-    (subst (λ (xs : List Notes). AreShaped {N = g.row.N} sc.config xs) (sym value) synced.shaped,
-    (subst (λ (xs : List Notes). AreNotedAs sc p (notes_synced sc p) xs) (sym value) synced.notes,
-    c.requires.claims_room)))))))))))
+    let value = c.as_mut_slice.ensures.value in (
+      lit< tt,
+      (
+        lit< tt,
+        (
+          elim cap [ inl e ↦ rw e (lit< tt) | inr e ↦ rw e (lit< tt) ],
+          (
+            elim cap [ inl e ↦ rw e (lit< tt) | inr e ↦ rw e (lit< tt) ],
+            (
+              elim cap [ inl e ↦ rw e (lit< tt) | inr e ↦ rw e (lit< tt) ],
+              (
+                elim cap [ inl e ↦ rw e (lit< tt) | inr e ↦ rw e (lit< tt) ],
+                (
+                  cap,
+                  (
+                    c.requires.in_run,
+                    (
+                      synced.going,
+                      (
+                        subst (λ (xs : List Notes). AreShaped {N = g.row.N} sc.config xs) (sym value) synced.shaped,
+                        (
+                          subst (λ (xs : List Notes). AreNotedAs sc p (notes_synced sc p) xs) (sym value) synced.notes,
+                          c.requires.claims_room,
+                        ),
+                      ),
+                    ),
+                  ),
+                ),
+              ),
+            ),
+          ),
+        ),
+      ),
+    )
 
 pub vote-requires : goal.vote-requires
 vote-requires g c =
@@ -51,25 +89,47 @@ vote-requires g c =
     let cap : IsCapacity g.row.N = c.requires.capacity in
     let unvoted = c.hear.ensures.synced.unvoted in
     let noted : (with_items c.hear.new.keeping.notes c.settle_claims-groups.new.notes).items ≡ c.settle_claims-groups.new.notes =
-        with_items_is c.hear.new.keeping.notes c.settle_claims-groups.new.notes (c.settle_claims-groups.auto.notes ∙ c.as_mut_slice.ensures.len) in
-    (lit< tt,
-    (lit< tt,
-    (elim cap [ inl e ↦ rw e (lit< tt) | inr e ↦ rw e (lit< tt) ],
-    (elim cap [ inl e ↦ rw e (lit< tt) | inr e ↦ rw e (lit< tt) ],
-    (elim cap [ inl e ↦ rw e (lit< tt) | inr e ↦ rw e (lit< tt) ],
-    (cap,
-    (c.requires.in_run,
-    (subst (λ (xs : List Notes). AreSettled sc p c.awake-full.result c.settle_claims-groups.new.made xs c.settle_claims-groups.result) (sym noted) c.settle_claims-groups.ensures.settled,
-    record { votes = unvoted.votes; owns = unvoted.owns }))))))))
+    with_items_is c.hear.new.keeping.notes c.settle_claims-groups.new.notes (c.settle_claims-groups.auto.notes ∙ c.as_mut_slice.ensures.len) in (
+      lit< tt,
+      (
+        lit< tt,
+        (
+          elim cap [ inl e ↦ rw e (lit< tt) | inr e ↦ rw e (lit< tt) ],
+          (
+            elim cap [ inl e ↦ rw e (lit< tt) | inr e ↦ rw e (lit< tt) ],
+            (
+              elim cap [ inl e ↦ rw e (lit< tt) | inr e ↦ rw e (lit< tt) ],
+              (
+                cap,
+                (
+                  c.requires.in_run,
+                  (
+                    subst (λ (xs : List Notes). AreSettled sc p c.awake-full.result c.settle_claims-groups.new.made xs c.settle_claims-groups.result) (sym noted) c.settle_claims-groups.ensures.settled,
+                    record { votes = unvoted.votes; owns = unvoted.owns },
+                  ),
+                ),
+              ),
+            ),
+          ),
+        ),
+      ),
+    )
 
 pub find_rows-requires : goal.find_rows-requires
 find_rows-requires g c =
-    let cap : IsCapacity g.row.N = c.requires.capacity in
-    (lit< tt,
-    (elim cap [ inl e ↦ rw e (lit< tt) | inr e ↦ rw e (lit< tt) ],
-    (elim cap [ inl e ↦ rw e (lit< tt) | inr e ↦ rw e (lit< tt) ],
-    (elim cap [ inl e ↦ rw e (lit< tt) | inr e ↦ rw e (lit< tt) ],
-    (cap, c.vote.ensures.shaped.many)))))
+    let cap : IsCapacity g.row.N = c.requires.capacity in (
+      lit< tt,
+      (
+        elim cap [ inl e ↦ rw e (lit< tt) | inr e ↦ rw e (lit< tt) ],
+        (
+          elim cap [ inl e ↦ rw e (lit< tt) | inr e ↦ rw e (lit< tt) ],
+          (
+            elim cap [ inl e ↦ rw e (lit< tt) | inr e ↦ rw e (lit< tt) ],
+            (cap, c.vote.ensures.shaped.many),
+          ),
+        ),
+      ),
+    )
 
 pub settle_rows-finer-requires : goal.settle_rows-finer-requires
 settle_rows-finer-requires g c =
@@ -81,32 +141,70 @@ settle_rows-finer-requires g c =
     let notes : List Notes = c.vote.new.keeping.notes.items in
     let cap : IsCapacity g.row.N = c.requires.capacity in
     let room : sc.config.nodes ≤ g.row.N = few_nodes sc.config notes c.vote.ensures.shaped in
-    let settled = c.settle_claims-groups.ensures.settled in
-    (lit< tt,
-    (lit< tt,
-    (elim cap [ inl e ↦ rw e (lit< tt) | inr e ↦ rw e (lit< tt) ],
-    (elim cap [ inl e ↦ rw e (lit< tt) | inr e ↦ rw e (lit< tt) ],
-    (elim cap [ inl e ↦ rw e (lit< tt) | inr e ↦ rw e (lit< tt) ],
-    (elim cap [ inl e ↦ rw e (lit< tt) | inr e ↦ rw e (lit< tt) ],
-    (elim cap [ inl e ↦ rw e (lit< tt) | inr e ↦ rw e (lit< tt) ],
-    (cap,
-    (c.requires.in_run,
-    (going_found sc p full made found notes room c.find_rows.ensures settled.going,
-    (claimed_found sc p made found c.settle_claims-groups.result settled.claimed,
-    (c.vote.ensures,
-    (rows_found sc p full made found notes room c.find_rows.ensures settled.going c.vote.ensures.notes,
-    c.requires.rows_room)))))))))))))
+    let settled = c.settle_claims-groups.ensures.settled in (
+      lit< tt,
+      (
+        lit< tt,
+        (
+          elim cap [ inl e ↦ rw e (lit< tt) | inr e ↦ rw e (lit< tt) ],
+          (
+            elim cap [ inl e ↦ rw e (lit< tt) | inr e ↦ rw e (lit< tt) ],
+            (
+              elim cap [ inl e ↦ rw e (lit< tt) | inr e ↦ rw e (lit< tt) ],
+              (
+                elim cap [ inl e ↦ rw e (lit< tt) | inr e ↦ rw e (lit< tt) ],
+                (
+                  elim cap [ inl e ↦ rw e (lit< tt) | inr e ↦ rw e (lit< tt) ],
+                  (
+                    cap,
+                    (
+                      c.requires.in_run,
+                      (
+                        going_found sc p full made found notes room c.find_rows.ensures settled.going,
+                        (
+                          claimed_found sc p made found c.settle_claims-groups.result settled.claimed,
+                          (
+                            c.vote.ensures,
+                            (
+                              rows_found sc p full made found notes room c.find_rows.ensures settled.going c.vote.ensures.notes,
+                              c.requires.rows_room,
+                            ),
+                          ),
+                        ),
+                      ),
+                    ),
+                  ),
+                ),
+              ),
+            ),
+          ),
+        ),
+      ),
+    )
 
 pub end-requires : goal.end-requires
 end-requires g c =
     let sc = c.args.self.now.scenario.now in
     let p : ℕ = c.args.self.now.number in
-    let cap : IsCapacity g.row.N = c.requires.capacity in
-    (lit< tt,
-    (elim cap [ inl e ↦ rw e (lit< tt) | inr e ↦ rw e (lit< tt) ],
-    (elim cap [ inl e ↦ rw e (lit< tt) | inr e ↦ rw e (lit< tt) ],
-    (elim cap [ inl e ↦ rw e (lit< tt) | inr e ↦ rw e (lit< tt) ],
-    (cap,
-    (c.requires.in_run,
-    ((c.awake-full.result, reported_grouped sc p c.awake-full.result c.settle_rows-finer.new.made c.by_node-made.result c.settle_rows-finer.new.keeping c.settle_rows-finer.result c.settle_rows-finer.ensures.reported),
-    (c.by_node-made.ensures.firsts, c.by_node-made.ensures.each))))))))
+    let cap : IsCapacity g.row.N = c.requires.capacity in (
+      lit< tt,
+      (
+        elim cap [ inl e ↦ rw e (lit< tt) | inr e ↦ rw e (lit< tt) ],
+        (
+          elim cap [ inl e ↦ rw e (lit< tt) | inr e ↦ rw e (lit< tt) ],
+          (
+            elim cap [ inl e ↦ rw e (lit< tt) | inr e ↦ rw e (lit< tt) ],
+            (
+              cap,
+              (
+                c.requires.in_run,
+                (
+                  (c.awake-full.result, reported_grouped sc p c.awake-full.result c.settle_rows-finer.new.made c.by_node-made.result c.settle_rows-finer.new.keeping c.settle_rows-finer.result c.settle_rows-finer.ensures.reported),
+                  (c.by_node-made.ensures.firsts, c.by_node-made.ensures.each),
+                ),
+              ),
+            ),
+          ),
+        ),
+      ),
+    )

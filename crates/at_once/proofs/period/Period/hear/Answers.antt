@@ -19,28 +19,48 @@ hear-made-requires g c =
     let sc = c.args.self.now.scenario.now in
     let slot : SyncSlot g.row.N = record { config = c.config-config.result; plan = c.plan.result; period = c.args.self.now.number } in
     let cap : IsCapacity g.row.N = c.requires.capacity in
-    let ok = c.config-config.ensures.scenario in
-    (lit< tt,
-    (elim cap [ inl e ↦ rw e (lit< tt) | inr e ↦ rw e (lit< tt) ],
-    (elim cap [ inl e ↦ rw e (lit< tt) | inr e ↦ rw e (lit< tt) ],
-    (elim cap [ inl e ↦ rw e (lit< tt) | inr e ↦ rw e (lit< tt) ],
-    (lit< tt,
-    (is_slot sc slot cap ok c.config-config.ensures.config c.plan.ensures.plan c.requires.in_run,
-    subst (λ (xs : List Notes). AreReady slot c.args.made.now.states xs) (sym c.as_mut_slice.ensures.value)
-      (are_ready sc slot cap ok c.config-config.ensures.config c.plan.ensures.plan c.args.made.now.states c.args.keeping.now c.requires.begun c.requires.long)))))))
+    let ok = c.config-config.ensures.scenario in (
+      lit< tt,
+      (
+        elim cap [ inl e ↦ rw e (lit< tt) | inr e ↦ rw e (lit< tt) ],
+        (
+          elim cap [ inl e ↦ rw e (lit< tt) | inr e ↦ rw e (lit< tt) ],
+          (
+            elim cap [ inl e ↦ rw e (lit< tt) | inr e ↦ rw e (lit< tt) ],
+            (
+              lit< tt,
+              (
+                is_slot sc slot cap ok c.config-config.ensures.config c.plan.ensures.plan c.requires.in_run,
+                subst (λ (xs : List Notes). AreReady slot c.args.made.now.states xs) (sym c.as_mut_slice.ensures.value)
+                    (are_ready sc slot cap ok c.config-config.ensures.config c.plan.ensures.plan c.args.made.now.states c.args.keeping.now c.requires.begun c.requires.long),
+              ),
+            ),
+          ),
+        ),
+      ),
+    )
 
 pub leave_cold-requires : goal.leave_cold-requires
 leave_cold-requires g c =
     let cap : IsCapacity g.row.N = c.requires.capacity in
     let nodes : c.config-config.result.now.nodes ≡ c.args.self.now.scenario.now.config.nodes = ap (λ (x : Config g.row.N). x.nodes) c.config-config.ensures.config in
-    let few = c.config-config.ensures.scenario.system.config.few_nodes in
-    (lit< tt,
-    (elim cap [ inl e ↦ rw e (lit< tt) | inr e ↦ rw e (lit< tt) ],
-    (cap,
-    (omega (arith, nodes, few),
-    (c.awake-awake.ensures.nodes,
-    subst (λ (m : Made g.row.N). HasBeliefs m) (sym c.go_through.ensures)
-      (record { capacity = c.requires.beliefs.capacity; many = c.requires.beliefs.many; placed = c.requires.beliefs.placed }))))))
+    let few = c.config-config.ensures.scenario.system.config.few_nodes in (
+      lit< tt,
+      (
+        elim cap [ inl e ↦ rw e (lit< tt) | inr e ↦ rw e (lit< tt) ],
+        (
+          cap,
+          (
+            omega (arith, nodes, few),
+            (
+              c.awake-awake.ensures.nodes,
+              subst (λ (m : Made g.row.N). HasBeliefs m) (sym c.go_through.ensures)
+                  (record { capacity = c.requires.beliefs.capacity; many = c.requires.beliefs.many; placed = c.requires.beliefs.placed }),
+            ),
+          ),
+        ),
+      ),
+    )
 
 pub returns-clause-synced : goal.returns-clause-synced
 returns-clause-synced g c =
@@ -57,9 +77,9 @@ returns-clause-synced g c =
     let ready : AreReady slot c.hear-made.new.states l.notes.items = subst (λ (xs : List Notes). AreReady slot c.hear-made.new.states xs) (sym noted) c.hear-made.ensures.ready in
     let of : IsSlotOf slot old k.notes.items (system_of sc) = of_run sc slot cap ok c.config-config.ensures.config c.plan.ensures.plan old k c.requires.begun in
     let heard : AreHeard slot (system_of sc) k.notes.items c.hear-made.new.states l.notes.items c.hear-made.result =
-        subst (λ (xs : List Notes). AreHeard slot (system_of sc) k.notes.items c.hear-made.new.states xs c.hear-made.result) (sym noted)
-        (subst (λ (xs : List Notes). AreHeard slot (system_of sc) xs c.hear-made.new.states c.hear-made.new.notes c.hear-made.result) value
-        (c.hear-made.ensures.heard (system_of sc) (subst (λ (xs : List Notes). IsSlotOf slot old xs (system_of sc)) (sym value) of))) in
+    subst (λ (xs : List Notes). AreHeard slot (system_of sc) k.notes.items c.hear-made.new.states xs c.hear-made.result) (sym noted)
+    (subst (λ (xs : List Notes). AreHeard slot (system_of sc) xs c.hear-made.new.states c.hear-made.new.notes c.hear-made.result) value
+    (c.hear-made.ensures.heard (system_of sc) (subst (λ (xs : List Notes). IsSlotOf slot old xs (system_of sc)) (sym value) of))) in
     all_synced sc slot cap ok c.config-config.ensures.config c.plan.ensures.plan old k c.requires.begun c.args.full.now c.requires.full c.hear-made.new.states l c.hear-made.result
     ready heard
     many refl refl c.go_through.new.self c.leave_cold.new.made

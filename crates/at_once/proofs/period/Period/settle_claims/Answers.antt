@@ -77,7 +77,7 @@ complete-requires g c =
     let given : IsScenario sc = c.config-config.ensures.scenario in
     let bad : ℕ → ℕ → ℕ → Bool = λ j. rounds_bad x.config.now.m (rounds_of claim_form x c.agree.new.self.links j) in
     let framed : AreShaped {N = g.row.N} sc.config c.note_frames.new.notes =
-        shaped_more sc.config given.system.config.few_nodes x.awake bad c.args.notes.now c.note_frames.new.notes c.requires.shaped c.note_frames.ensures.many c.note_frames.ensures.notes in
+    shaped_more sc.config given.system.config.few_nodes x.awake bad c.args.notes.now c.note_frames.new.notes c.requires.shaped c.note_frames.ensures.many c.note_frames.ensures.notes in
     let made : Made g.row.N = c.args.made.now in
     let filled : List (Belief g.row.N) = c.fill_claims.new.beliefs in
     let long : length filled ≡ made.beliefs.len = c.fill_claims.ensures.many ∙ sym c.requires.going.many ∙ ap length (sym c.as_mut_slice.ensures.value) ∙ c.as_mut_slice.ensures.len in
@@ -86,9 +86,9 @@ complete-requires g c =
     let many = ap length (c.as_mut_slice-2.ensures.value ∙ with_items_is made.beliefs filled long) ∙ c.fill_claims.ensures.many in
     let awake = state_awake sc p c.args.full.now c.args.made.now c.requires.going given c.requires.in_run x c.phase-phase.ensures in
     let kinds = λ (i : ℕ) (a : AgreedView) (low : i < g.row.N) (is : state_at made.states i ≡ Some a).
-        few_noted sc p c.args.full.now c.args.made.now c.requires.going given c.requires.in_run x c.phase-phase.ensures c.note_frames.new.notes framed i (awake i a low is) in
+    few_noted sc p c.args.full.now c.args.made.now c.requires.going given c.requires.in_run x c.phase-phase.ensures c.note_frames.new.notes framed i (awake i a low is) in
     let within = λ (i : ℕ) (a : AgreedView) (low : i < g.row.N) (is : state_at made.states i ≡ Some a).
-        more_within sc p c.args.full.now c.args.made.now c.requires.going given c.requires.in_run x c.phase-phase.ensures c.args.notes.now c.note_frames.new.notes bad framed c.note_frames.ensures.notes i low (awake i a low is) in
+    more_within sc p c.args.full.now c.args.made.now c.requires.going given c.requires.in_run x c.phase-phase.ensures c.args.notes.now c.note_frames.new.notes bad framed c.note_frames.ensures.notes i low (awake i a low is) in
     (elim cap [ inl e ↦ rw e (lit< tt) | inr e ↦ rw e (lit< tt) ], (elim cap [ inl e ↦ rw e (lit< tt) | inr e ↦ rw e (lit< tt) ], (elim cap [ inl e ↦ rw e (lit< tt) | inr e ↦ rw e (lit< tt) ], (elim cap [ inl e ↦ rw e (lit< tt) | inr e ↦ rw e (lit< tt) ], (elim cap [ inl e ↦ rw e (lit< tt) | inr e ↦ rw e (lit< tt) ], (cap, (config, (agreed, (c.group_by_claims-groups.ensures.shared, (many, (c.note_frames.ensures.many, (kinds, within))))))))))))
 
 pub note_convicted-requires : goal.note_convicted-requires
@@ -100,13 +100,13 @@ note_convicted-requires g c =
     let given : IsScenario sc = c.config-config.ensures.scenario in
     let bad : ℕ → ℕ → ℕ → Bool = λ j. rounds_bad x.config.now.m (rounds_of claim_form x c.agree.new.self.links j) in
     let framed : AreShaped {N = g.row.N} sc.config c.note_frames.new.notes =
-        shaped_more sc.config given.system.config.few_nodes x.awake bad c.args.notes.now c.note_frames.new.notes c.requires.shaped c.note_frames.ensures.many c.note_frames.ensures.notes in
+    shaped_more sc.config given.system.config.few_nodes x.awake bad c.args.notes.now c.note_frames.new.notes c.requires.shaped c.note_frames.ensures.many c.note_frames.ensures.notes in
     let more : ℕ → AgreedView → ℕ → ℕ → Bool =
-        λ j a. by_verdicts (verdicts g.row.N c.config-config.result.now.graph a.standing.members a.copies (belief_of no_belief c.as_mut_slice-2.result.now c.group_by_claims-groups.result j).done) in
+    λ j a. by_verdicts (verdicts g.row.N c.config-config.result.now.graph a.standing.members a.copies (belief_of no_belief c.as_mut_slice-2.result.now c.group_by_claims-groups.result j).done) in
     let noted = λ (j : ℕ) (a : AgreedView) (low : j < g.row.N) (is : state_at c.args.made.now.states j ≡ Some a). c.complete.ensures.noted j a no_belief low is in
     let shaped =
-        subst (λ (y : Config g.row.N). AreShaped {N = g.row.N} y c.complete.new.notes) (sym c.phase-phase.ensures.config)
-        (judged_shaped sc p c.args.full.now c.args.made.now c.requires.going given c.requires.in_run x c.phase-phase.ensures c.note_frames.new.notes c.complete.new.notes more framed c.complete.ensures.many_notes noted c.complete.ensures.cold) in
+    subst (λ (y : Config g.row.N). AreShaped {N = g.row.N} y c.complete.new.notes) (sym c.phase-phase.ensures.config)
+    (judged_shaped sc p c.args.full.now c.args.made.now c.requires.going given c.requires.in_run x c.phase-phase.ensures c.note_frames.new.notes c.complete.new.notes more framed c.complete.ensures.many_notes noted c.complete.ensures.cold) in
     let within = judged_within sc p c.args.full.now c.args.made.now c.requires.going given c.requires.in_run x c.phase-phase.ensures c.note_frames.new.notes c.complete.new.notes more framed c.complete.ensures.many_notes noted c.complete.ensures.cold in
     (elim cap [ inl e ↦ rw e (lit< tt) | inr e ↦ rw e (lit< tt) ], (elim cap [ inl e ↦ rw e (lit< tt) | inr e ↦ rw e (lit< tt) ], (elim cap [ inl e ↦ rw e (lit< tt) | inr e ↦ rw e (lit< tt) ], (cap, (c.agree.ensures.settled, (shaped, within))))))
 

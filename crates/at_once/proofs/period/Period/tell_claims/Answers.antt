@@ -37,7 +37,7 @@ loop-i-preserved g c =
           let a : AgreedView = w.in-Some.state.now in
           let here : state_at made.states i ≡ Some a = sym w.in-Some.ensures in
           let is : told i ≡ w.own_claim.result =
-              full_claim sc p full made c.requires.going i on a here ∙ sym (w.own_claim.ensures (inputs_of sc i p) (sym (ap (λ (y : Inputs). y.run) w.inputs-inputs.ensures))) in
+          full_claim sc p full made c.requires.going i on a here ∙ sym (w.own_claim.ensures (inputs_of sc i p) (sym (ap (λ (y : Inputs). y.run) w.inputs-inputs.ensures))) in
           subst (λ (y : ItemPhase ℕ g.row.N). ((j : ℕ) → j < i + 1 → has_id full j ≡ true → told j ≡ item_of y.links j) × (y.settling ≡ c.args.claims.now.settling)) (sym w.claims-is) (
             told_more told full i old (item_of w.tell.new.self.links) w.own_claim.result w.tell.ensures.told is c.loop-i.invariant.0,
             w.tell.ensures.room ∙ c.loop-i.invariant.1,

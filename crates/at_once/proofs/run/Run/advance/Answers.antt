@@ -12,45 +12,75 @@ use Rattle.at_once.proofs.run.Run.advance.Goals as goal
 pub begin-requires : goal.begin-requires
 begin-requires g c =
     let cap : IsCapacity g.row.N = c.requires.capacity in
-    let more : c.self.inside.run < c.self.inside.scenario.now.periods = subst (λ (v : RunView g.row.N). v.run < v.scenario.periods) (sym c.self.view_is) c.requires.more in
-    (lit< tt,
-    (elim cap [ inl e ↦ rw e (lit< tt) | inr e ↦ rw e (lit< tt) ],
-    (elim cap [ inl e ↦ rw e (lit< tt) | inr e ↦ rw e (lit< tt) ],
-    (cap, (more, c.self.invariant.kept)))))
+    let more : c.self.inside.run < c.self.inside.scenario.now.periods = subst (λ (v : RunView g.row.N). v.run < v.scenario.periods) (sym c.self.view_is) c.requires.more in (
+      lit< tt,
+      (
+        elim cap [ inl e ↦ rw e (lit< tt) | inr e ↦ rw e (lit< tt) ],
+        (
+          elim cap [ inl e ↦ rw e (lit< tt) | inr e ↦ rw e (lit< tt) ],
+          (cap, (more, c.self.invariant.kept)),
+        ),
+      ),
+    )
 
 pub begin-requires-2 : goal.begin-requires-2
 begin-requires-2 g c =
     let cap : IsCapacity g.row.N = c.requires.capacity in
     let sc : ScenarioView g.row.N = c.self.inside.scenario.now in
-    let more : c.self.inside.run < sc.periods = subst (λ (v : RunView g.row.N). v.run < v.scenario.periods) (sym c.self.view_is) c.requires.more in
-    (elim cap [ inl e ↦ rw e (lit< tt) | inr e ↦ rw e (lit< tt) ],
-    (elim cap [ inl e ↦ rw e (lit< tt) | inr e ↦ rw e (lit< tt) ],
-    (cap, (more, (c.self.invariant.before, begun_in_run sc c.self.inside.run c.begin.new.states c.begin.new.keeping c.begin.ensures)))))
+    let more : c.self.inside.run < sc.periods = subst (λ (v : RunView g.row.N). v.run < v.scenario.periods) (sym c.self.view_is) c.requires.more in (
+      elim cap [ inl e ↦ rw e (lit< tt) | inr e ↦ rw e (lit< tt) ],
+      (
+        elim cap [ inl e ↦ rw e (lit< tt) | inr e ↦ rw e (lit< tt) ],
+        (cap, (more, (c.self.invariant.before, begun_in_run sc c.self.inside.run c.begin.new.states c.begin.new.keeping c.begin.ensures))),
+      ),
+    )
 
 pub go-requires : goal.go-requires
 go-requires g c =
     let cap : IsCapacity g.row.N = c.requires.capacity in
     let sc : ScenarioView g.row.N = c.self.inside.scenario.now in
     let more : c.self.inside.run < sc.periods = subst (λ (v : RunView g.row.N). v.run < v.scenario.periods) (sym c.self.view_is) c.requires.more in
-    let made = c.begin-2.ensures.made in
-    (lit< tt,
-    (elim cap [ inl e ↦ rw e (lit< tt) | inr e ↦ rw e (lit< tt) ],
-    (elim cap [ inl e ↦ rw e (lit< tt) | inr e ↦ rw e (lit< tt) ],
-    (elim cap [ inl e ↦ rw e (lit< tt) | inr e ↦ rw e (lit< tt) ],
-    (elim cap [ inl e ↦ rw e (lit< tt) | inr e ↦ rw e (lit< tt) ],
-    (elim cap [ inl e ↦ rw e (lit< tt) | inr e ↦ rw e (lit< tt) ],
-    (cap,
-    (more,
-    (subst (λ (m : Made g.row.N). AreBegun sc c.self.inside.run m.states c.begin.new.keeping) (sym made) c.begin.ensures,
-    (subst (λ (m : Made g.row.N). HasBeliefs m) (sym made) (beliefs_stay c.self.inside.shown.made c.begin.new.states c.self.invariant.beliefs),
-    (c.self.invariant.claims_room, c.self.invariant.rows_room)))))))))))
+    let made = c.begin-2.ensures.made in (
+      lit< tt,
+      (
+        elim cap [ inl e ↦ rw e (lit< tt) | inr e ↦ rw e (lit< tt) ],
+        (
+          elim cap [ inl e ↦ rw e (lit< tt) | inr e ↦ rw e (lit< tt) ],
+          (
+            elim cap [ inl e ↦ rw e (lit< tt) | inr e ↦ rw e (lit< tt) ],
+            (
+              elim cap [ inl e ↦ rw e (lit< tt) | inr e ↦ rw e (lit< tt) ],
+              (
+                elim cap [ inl e ↦ rw e (lit< tt) | inr e ↦ rw e (lit< tt) ],
+                (
+                  cap,
+                  (
+                    more,
+                    (
+                      subst (λ (m : Made g.row.N). AreBegun sc c.self.inside.run m.states c.begin.new.keeping) (sym made) c.begin.ensures,
+                      (
+                        subst (λ (m : Made g.row.N). HasBeliefs m) (sym made) (beliefs_stay c.self.inside.shown.made c.begin.new.states c.self.invariant.beliefs),
+                        (c.self.invariant.claims_room, c.self.invariant.rows_room),
+                      ),
+                    ),
+                  ),
+                ),
+              ),
+            ),
+          ),
+        ),
+      ),
+    )
 
 pub end-requires : goal.end-requires
 end-requires g c =
-    let cap : IsCapacity g.row.N = c.requires.capacity in
-    (elim cap [ inl e ↦ rw e (lit< tt) | inr e ↦ rw e (lit< tt) ],
-    (elim cap [ inl e ↦ rw e (lit< tt) | inr e ↦ rw e (lit< tt) ],
-    (cap, (c.begin-2.ensures.begun, c.go.ensures.made))))
+    let cap : IsCapacity g.row.N = c.requires.capacity in (
+      elim cap [ inl e ↦ rw e (lit< tt) | inr e ↦ rw e (lit< tt) ],
+      (
+        elim cap [ inl e ↦ rw e (lit< tt) | inr e ↦ rw e (lit< tt) ],
+        (cap, (c.begin-2.ensures.begun, c.go.ensures.made)),
+      ),
+    )
 
 pub overflow_add-self : goal.overflow_add-self
 overflow_add-self g c =

@@ -33,30 +33,38 @@ invariant_of-result g c =
     }
 
 pub open-requires : goal.open-requires
-open-requires g c =
-    (elim c.requires [ inl e ↦ rw e (lit< tt) | inr e ↦ rw e (lit< tt) ],
-    (elim c.requires [ inl e ↦ rw e (lit< tt) | inr e ↦ rw e (lit< tt) ],
-    (c.requires, subst (λ (x : Config g.row.N). IsConfig g.row.N x) (sym c.config-config.ensures.config) c.config-config.ensures.scenario.system.config)))
+open-requires g c = (
+  elim c.requires [ inl e ↦ rw e (lit< tt) | inr e ↦ rw e (lit< tt) ],
+  (
+    elim c.requires [ inl e ↦ rw e (lit< tt) | inr e ↦ rw e (lit< tt) ],
+    (c.requires, subst (λ (x : Config g.row.N). IsConfig g.row.N x) (sym c.config-config.ensures.config) c.config-config.ensures.scenario.system.config),
+  ),
+)
 
 pub open-requires-2 : goal.open-requires-2
 open-requires-2 g c =
     let ok : IsConfig g.row.N c.config-config.result.now =
-        subst (λ (x : Config g.row.N). IsConfig g.row.N x) (sym c.config-config.ensures.config) c.config-config.ensures.scenario.system.config in
-    (elim c.requires [ inl e ↦ rw e (lit< tt) | inr e ↦ rw e (lit< tt) ],
-    (c.requires, (ok.few_nodes, few_rounds g.row.N c.config-config.result.now ok)))
+    subst (λ (x : Config g.row.N). IsConfig g.row.N x) (sym c.config-config.ensures.config) c.config-config.ensures.scenario.system.config in (
+      elim c.requires [ inl e ↦ rw e (lit< tt) | inr e ↦ rw e (lit< tt) ],
+      (c.requires, (ok.few_nodes, few_rounds g.row.N c.config-config.result.now ok)),
+    )
 
 pub open-requires-3 : goal.open-requires-3
 open-requires-3 g c =
     let ok : IsConfig g.row.N c.config-config.result.now =
-        subst (λ (x : Config g.row.N). IsConfig g.row.N x) (sym c.config-config.ensures.config) c.config-config.ensures.scenario.system.config in
-    (elim c.requires [ inl e ↦ rw e (lit< tt) | inr e ↦ rw e (lit< tt) ],
-    (c.requires, (ok.few_nodes, few_rounds g.row.N c.config-config.result.now ok)))
+    subst (λ (x : Config g.row.N). IsConfig g.row.N x) (sym c.config-config.ensures.config) c.config-config.ensures.scenario.system.config in (
+      elim c.requires [ inl e ↦ rw e (lit< tt) | inr e ↦ rw e (lit< tt) ],
+      (c.requires, (ok.few_nodes, few_rounds g.row.N c.config-config.result.now ok)),
+    )
 
 pub zero-requires : goal.zero-requires
 zero-requires g c = (elim c.requires [ inl e ↦ rw e (lit< tt) | inr e ↦ rw e (lit< tt) ], c.requires)
 
 pub open-requires-4 : goal.open-requires-4
-open-requires-4 g c =
-    (elim c.requires [ inl e ↦ rw e (lit< tt) | inr e ↦ rw e (lit< tt) ],
-    (elim c.requires [ inl e ↦ rw e (lit< tt) | inr e ↦ rw e (lit< tt) ],
-    c.requires))
+open-requires-4 g c = (
+  elim c.requires [ inl e ↦ rw e (lit< tt) | inr e ↦ rw e (lit< tt) ],
+  (
+    elim c.requires [ inl e ↦ rw e (lit< tt) | inr e ↦ rw e (lit< tt) ],
+    c.requires,
+  ),
+)
