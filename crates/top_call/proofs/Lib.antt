@@ -1,5 +1,6 @@
 pub mod Deciding
 pub mod Printed
+pub mod AtOnce
 pub mod Rest
 pub mod Words
 pub mod Rooms

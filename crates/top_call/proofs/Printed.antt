@@ -1,16 +1,16 @@
 -- What is written of a period is its printed text.
-use Rattle.std.proofs.Common.{◌≡◌, ℕ, ◌<◌, ◌≤◌, Bool, true, false, List, Option, refl, sym, ap, subst, ◌∙◌, arith, Result, Ok, Err}
+use Rattle.std.proofs.Common.{◌≡◌, ℕ, ◌<◌, ◌≤◌, true, List, Option, refl, sym, ap, subst, ◌∙◌, arith, Result, Ok, Err}
 use Rattle.std.specs.Prelude.{OnOk, IsErrOf, MatchResult}
 use Rattle.std.specs.Io.KnownBytes.{Appends}
 use Rattle.span_io.specs.Causes.{Writes, AppendsPrefix, Rose}
 use Rattle.fault_classes.specs.Plan.{Plan}
 use Rattle.scenario.specs.Scenario.{ScenarioView, system_of, IsScenario}
-use Rattle.cluster_periods.specs.Record.{PeriodView, Shows, period_record}
+use Rattle.cluster_periods.specs.Record.{PeriodView, period_record}
 use Rattle.agreed_state.specs.declared.config.Config.{Config}
 use Rattle.node_steps.specs.Outcome.{Outcome}
 use Rattle.node_steps.specs.Stages.{outcome_of}
 use Rattle.run_text.specs.PeriodText.{alone_text}
-use Rattle.run_text.specs.TraceText.{IsPlanOf}
+use Rattle.run_text.specs.TraceText.{IsPlanOf, period_text}
 use Rattle.cluster_record.proofs.Planned.{planned_periods, planned_rounds, planned_nodes}
 use Rattle.node_alone.specs.Log.{RecordView}
 use Rattle.node_alone.specs.Stepping.{AloneView}
@@ -19,34 +19,31 @@ use Rattle.top_call.specs.declared.form.Form.{Form}
 use Rattle.top_call.specs.declared.form.Form.TheVariants.{Replay, Trace, Check}
 use Rattle.top_call.specs.declared.replay.ReplayError.{ReplayError}
 use Rattle.top_call.specs.declared.replay.ReplayError.TheVariants.{WriteFault, NoMemory}
-use Rattle.top_call.specs.Run.{has_frames, printed, shown_text}
+use Rattle.top_call.specs.Run.{has_frames, printed}
 use Rattle.top_call.specs.Alone.{log_printed}
 
-same_shown : (f form : Form) (plan q : Plan) (t u : PeriodView) → form ≡ f → plan ≡ q → t ≡ u → shown_text f plan t ≡ shown_text form q u
-same_shown f form plan q t u e g h = rw (e, g, h) refl
+-- the one form with frames
+pub is_trace : (form : Form) → has_frames form ≡ true → Trace ≡ form
+is_trace Trace e = refl
+is_trace Replay e = cc
+is_trace Check e = cc
 
--- what a form prints of a record that shows frames where the form prints them
-shown_so : (f : Form) (plan : Plan) (t r : PeriodView) → Shows (has_frames f) t r → shown_text f plan t ≡ shown_text f plan r
-shown_so Replay plan t r h = ap (shown_text Replay plan) h
-shown_so Trace plan t r h = ap (shown_text Trace plan) h
-shown_so Check plan t r h = ap (shown_text Check plan) h
-
-pub printed_is : {N : ℕ} (form f : Form) (sc run : ScenarioView N) (plan : Plan) (frames : Bool) (t : PeriodView) (p : ℕ)
-    → form ≡ f → run ≡ sc → plan ≡ sc.plan → frames ≡ has_frames form → Shows frames t (period_record (system_of run) run.clock p) → shown_text f plan t ≡ printed form sc p
+-- what is printed with frames of a period's record
+pub traced_is : {N : ℕ} (sc run : ScenarioView N) (plan : Plan) (t : PeriodView) (p : ℕ)
+    → run ≡ sc → plan ≡ sc.plan → t ≡ period_record (system_of run) run.clock p → period_text plan true t ≡ printed Trace sc p
 unfolding printed
-printed_is {N} form f sc run plan frames t p e same g framed h =
-    shown_so f plan t (period_record (system_of run) run.clock p) (subst (λ (b : Bool). Shows b t (period_record (system_of run) run.clock p)) (framed ∙ ap has_frames e) h)
-    ∙ same_shown f form plan sc.plan (period_record (system_of run) run.clock p) (period_record (system_of sc) sc.clock p) e g (ap (λ (s : ScenarioView N). period_record (system_of s) s.clock p) same)
+traced_is {N} sc run plan t p same lent is =
+    ap (period_text plan true) (is ∙ ap (λ (s : ScenarioView N). period_record (system_of s) s.clock p) same)
+    ∙ ap (λ (q : Plan). period_text q true (period_record (system_of sc) sc.clock p)) lent
 
--- what a shown record keeps of its period: the nodes, for which there is room, and that the scenario's plan is made for it
-parts_shown : (frames : Bool) (t r : PeriodView) → Shows frames t r → (t.nodes ≡ r.nodes) × (t.m ≡ r.m) × (t.period ≡ r.period)
-parts_shown true t r h = (ap (λ (v : PeriodView). v.nodes) h, ap (λ (v : PeriodView). v.m) h, ap (λ (v : PeriodView). v.period) h)
-parts_shown false t r h = (ap (λ (v : PeriodView). v.nodes) h, ap (λ (v : PeriodView). v.m) h, ap (λ (v : PeriodView). v.period) h)
-
-module _ {N : ℕ} (sc run : ScenarioView N) (frames : Bool) (t : PeriodView) (p : ℕ) (same : run ≡ sc) (is : IsScenario sc) (h : Shows frames t (period_record (system_of run) run.clock p)) where
+-- what a record keeps of its period: the nodes, for which there is room, and that the scenario's plan is made for it
+module _ {N : ℕ} (sc run : ScenarioView N) (t : PeriodView) (p : ℕ) (same : run ≡ sc) (is : IsScenario sc) (h : t ≡ period_record (system_of run) run.clock p) where
   kept : (t.nodes ≡ sc.config.nodes) × (t.m ≡ sc.config.m) × (t.period ≡ p)
-  kept = let k = parts_shown frames t (period_record (system_of run) run.clock p) h in
-      (k.0 ∙ ap (λ (s : ScenarioView N). s.config.nodes) same, k.1 ∙ ap (λ (s : ScenarioView N). s.config.m) same, k.2)
+  kept = (
+    ap (λ (v : PeriodView). v.nodes) h ∙ ap (λ (s : ScenarioView N). s.config.nodes) same,
+    ap (λ (v : PeriodView). v.m) h ∙ ap (λ (s : ScenarioView N). s.config.m) same,
+    ap (λ (v : PeriodView). v.period) h,
+  )
 
   pub shown_few : t.nodes ≤ N
   shown_few = subst (λ (n : ℕ). n ≤ N) (sym kept.0) is.system.config.few_nodes
