@@ -37,3 +37,9 @@ print_all-requires g c =
       elim c.requires.capacity [ inl e ↦ rw e (lit< tt) | inr e ↦ rw e (lit< tt) ],
       (c.requires.capacity, (fresh, (c.requires.frames, c.periods-periods.ensures.periods ∙ sym same))),
     )
+
+pub open-requires : goal.open-requires
+open-requires g c = (
+  elim c.requires.capacity [ inl e ↦ rw e (lit< tt) | inr e ↦ rw e (lit< tt) ],
+  (elim c.requires.capacity [ inl e ↦ rw e (lit< tt) | inr e ↦ rw e (lit< tt) ], c.requires.capacity),
+)
