@@ -9,7 +9,6 @@ ghost use Rattle.node_steps.specs.Sound.{IsSound};
 ghost use Rattle.node_steps.specs.Steps.{restarted, given_frame, frame_of};
 ghost use Rattle.node_core.specs.Telling.{SaysAsGuessed};
 
-mod calm;
 mod claims;
 mod data;
 mod ending;

@@ -1,4 +1,0 @@
-mod Members
-mod RowOf
-mod Said
-mod Votes

@@ -1,3 +1,0 @@
-pub mod Calm
-pub mod Judged
-pub mod Made
