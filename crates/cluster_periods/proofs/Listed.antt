@@ -1,31 +1,27 @@
 -- A period over the list of all nodes.
-use Rattle.std.proofs.Common.{ℕ, ◌≡◌, ◌<◌, ◌≤◌, ◌+◌, List, map, length, refl, sym, ap, subst, ◌∙◌, arith, false, if◌then◌else◌}
+use Rattle.std.proofs.Common.{ℕ, ◌≡◌, ◌<◌, ◌≤◌, ◌+◌, List, map, length, sym, ap, subst, ◌∙◌, arith, false, if◌then◌else◌}
 use Rattle.std.specs.Prelude.{All}
 use Rattle.std.proofs.lemmas.List.FromFn.{length-map-range_with_len}
 use Rattle.node_grid.specs.NodeSet.{ids_below}
 use Rattle.slot_plan.specs.Slots.{slot_count}
 use Rattle.frames.specs.Bound.{IsGreatest}
-use Rattle.frames.specs.Spelling.{spelling}
 use Rattle.error_detect.specs.Multiset.{Arriving}
 use Rattle.fault_classes.specs.Plan.{restarts_at}
-use Rattle.agreed_state.specs.Agreed.{AgreedView}
 use Rattle.agreed_state.specs.Body.{state_len}
 use Rattle.protocol.specs.Cluster.{begins}
 use Rattle.protocol.specs.Run.{System, sent, run}
 use Rattle.safety.specs.Talk.{DeliveryLaw, SayingLaw}
-use Rattle.node_steps.specs.Parts.{Phase, NodeView}
+use Rattle.node_steps.specs.Parts.{NodeView}
 use Rattle.node_steps.specs.Steps.{begun, restarted}
 use Rattle.node_steps.specs.Period.{slot_run, slots_run}
 use Rattle.node_steps.specs.Sending.{Fixed, GoesThrough, PeriodLaw}
-use Rattle.node_steps.specs.Late.{slots_from as node_slots_from, GoesOn, LateLaw}
 use Rattle.node_steps.specs.FixedLaws.{slots_period}
 use Rattle.scenario.specs.Scenario.{ScenarioView, inputs_of, system_of, IsScenario}
 use Rattle.cluster_periods.specs.Slots.{arrivals}
-use Rattle.cluster_periods.specs.Periods.{begun_by, begun_all, IsResting, IsBefore, AreBefore, GoesOver, IsPeriod, PeriodsLaw}
-use Rattle.cluster_periods.specs.Late.{IsDataOpen, AreDataOpen, LatesLaw}
+use Rattle.cluster_periods.specs.Periods.{begun_by, begun_all, IsResting, IsBefore, AreBefore, IsPeriod, PeriodsLaw}
 use Rattle.cluster_periods.proofs.AllSlots.{map_ids, all_ids, EachGoes, goes_over}
 use Rattle.cluster_periods.proofs.Handing.{map_map}
-use Rattle.cluster_periods.proofs.Nodes.{ds, woken_is, served_there, frames_there, through_there}
+use Rattle.cluster_periods.proofs.Nodes.{ds, woken_is, frames_there, through_there}
 
 module _ {N : ℕ} (sc : ScenarioView N) (is : IsScenario sc) (room : ℕ) (greatest : IsGreatest sc.config.nodes sc.config.m (state_len sc.config) 8 room) (delivery : DeliveryLaw) (saying : SayingLaw) (p : ℕ) where
   abbrev sys : System
@@ -37,8 +33,6 @@ module _ {N : ℕ} (sc : ScenarioView N) (is : IsScenario sc) (room : ℕ) (grea
   -- what is delivered to node i
   abbrev served : ℕ → ℕ → List Arriving
   served i = ds sc is.system.capacity is.system.config room within greatest delivery p i
-
-  -- ---- from the begin
 
   module _ (law : PeriodLaw) (node : ℕ → NodeView N) (before : (i : ℕ) → i < sc.config.nodes → IsBefore sc room i p (node i)) where
     abbrev start : ℕ → NodeView N
@@ -70,47 +64,14 @@ module _ {N : ℕ} (sc : ScenarioView N) (is : IsScenario sc) (room : ℕ) (grea
     pub period_is : IsPeriod sc room p (map node (ids_below sc.config.nodes))
     period_is = goes_over sc room p 0 (slot_count sc.config.m) y within is.system.plan_nodes each_goes (begun_all sc p (map node (ids_below sc.config.nodes))) begun_there
 
-  -- ---- from the open data slot on
-
-  module _ (law : LateLaw) (a : AgreedView) (node : ℕ → NodeView N) (at : (i : ℕ) → i < sc.config.nodes → IsDataOpen sc room p a i (node i)) where
-    abbrev z : ℕ → ℕ → NodeView N
-    z t i = node_slots_from (served i) (sc.config.m + 2) t (node i)
-
-    goes_on : (i : ℕ) → i < sc.config.nodes → GoesOn sc.config i p (inputs_of sc i p) (begins (run sys) i p) ((run sys).received i p) (served i) (node i)
-    goes_on i l =
-        law N sc.config i p (inputs_of sc i p) (begins (run sys) i p) ((run sys).received i p) room (served i) a (node i)
-        (served_there sc is.system.capacity is.system.config room within greatest delivery p i) (at i l).goes_with (at i l).stands
-
-    each_goes_on : EachGoes sc room p (sc.config.m + 2) (sc.config.m + 2) z
-    each_goes_on = record {
-      next = λ t i l. refl;
-      frames = λ t i low l.
-          (goes_on i l).frames t low
-          ∙ ap (spelling sc.config.nodes (record { version = sc.config.version; period = p; sender = i; slot = sc.config.m + 2 + t })) (sym (saying sys p i (sc.config.m + 2 + t) (omega arith)));
-      opens = λ t i low l. (goes_on i l).opens t low;
-      stays = λ t i l. (goes_on i l).stays t ∙ (at i l).stands.same;
-      period = λ t i l. slots_period (λ r. served i (sc.config.m + 2 + r)) t (node i) ∙ ap (λ (h : Phase). h.period) (at i l).stands.phase;
-      over = λ i l. (goes_on i l).over;
-    }
-
-    pub late_is : GoesOver sc room p (sc.config.m + 2) (sc.config.m + 2) (map node (ids_below sc.config.nodes))
-    late_is = goes_over sc room p (sc.config.m + 2) (sc.config.m + 2) z within is.system.plan_nodes each_goes_on (map node (ids_below sc.config.nodes)) refl
-
 pub periods_law : PeriodLaw → DeliveryLaw → SayingLaw → PeriodsLaw
 periods_law law delivery saying N sc room p vs is greatest before =
     subst (IsPeriod sc room p) (sym before.are) (period_is sc is room greatest delivery saying p law before.node before.each)
-
-pub lates_law : LateLaw → DeliveryLaw → SayingLaw → LatesLaw
-lates_law law delivery saying N sc room p a vs is greatest at =
-    subst (GoesOver sc room p (sc.config.m + 2) (sc.config.m + 2)) (sym at.are) (late_is sc is room greatest delivery saying p law a at.node at.each)
 
 -- ---- all nodes before a period
 
 pub many_nodes : {N : ℕ} (sc : ScenarioView N) (room p : ℕ) (vs : List (NodeView N)) → AreBefore sc room p vs → length vs ≡ sc.config.nodes
 many_nodes {N} sc room p vs h = ap length h.are ∙ length-map-range_with_len h.node 0 sc.config.nodes
-
-pub many_open : {N : ℕ} (sc : ScenarioView N) (room p : ℕ) (a : AgreedView) (vs : List (NodeView N)) → AreDataOpen sc room p a vs → length vs ≡ sc.config.nodes
-many_open {N} sc room p a vs h = ap length h.are ∙ length-map-range_with_len h.node 0 sc.config.nodes
 
 pub all_resting : {N : ℕ} (sc : ScenarioView N) → IsScenario sc → (p room : ℕ) (vs : List (NodeView N)) → AreBefore sc room p vs → All (IsResting sc.plan) vs
 all_resting {N} sc is p room vs h =

@@ -1,10 +1,9 @@
 //! What the periods of all nodes amount to, over the definitions alone. Each function's promise is its law.
 
 ghost use Rattle.cluster_periods.specs.Periods.{PeriodsLaw};
-ghost use Rattle.cluster_periods.specs.Late.{LatesLaw};
 ghost use Rattle.cluster_periods.specs.Laws.{ClaimLaw, SafeLaw, ConvictionLaw, CopyLaw, ClockLaw, LifetimeLaw, PromiseLaw, OrderLaw};
 
-use node_steps::laws::{late, period};
+use node_steps::laws::period;
 use safety::laws::convergence::{skew, skew_from_start, starts, values};
 use safety::laws::lifetime::{
     exclusion, light, manifest, manifest_exclusion, recovery, remaining, returning, silence,
@@ -18,15 +17,6 @@ pub fn periods()
     ensures { PeriodsLaw }
 {
     period();
-    delivery();
-    saying();
-}
-
-/// From their open data slot on the nodes of a scenario go through a period of its run.
-pub fn lates()
-    ensures { LatesLaw }
-{
-    late();
     delivery();
     saying();
 }

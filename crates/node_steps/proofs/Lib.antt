@@ -5,7 +5,6 @@ pub mod Arrived
 pub mod PeriodStages
 pub mod FramesOwed
 pub mod PeriodFrames
-pub mod LatePart
 pub mod Lives
 pub mod Ordering
 pub mod SaidInRange

@@ -6,7 +6,6 @@ pub mod Stages
 pub mod Period
 pub mod Owed
 pub mod Sending
-pub mod Late
 pub mod Living
 pub mod Order
 pub mod Sound

@@ -3,7 +3,6 @@
 ghost use Rattle.node_steps.specs.Period.{FoldIsView};
 ghost use Rattle.node_steps.specs.Owed.{FramesAreOwed};
 ghost use Rattle.node_steps.specs.Sending.{PeriodLaw};
-ghost use Rattle.node_steps.specs.Late.{LateLaw};
 ghost use Rattle.node_steps.specs.Living.{LifeLaw};
 ghost use Rattle.node_steps.specs.Order.{OrderIsFree};
 ghost use Rattle.node_steps.specs.SoundLaws.{StaysSound, SaysInRange};
@@ -25,13 +24,6 @@ pub fn frames_are_owed()
 /// A node goes through each period: it sends what the protocol says, ends with its view, and its numbers stay.
 pub fn period()
     ensures { PeriodLaw }
-{
-    finds_each();
-}
-
-/// From its open data slot on a node goes through a period, whatever its tables say of the slots before.
-pub fn late()
-    ensures { LateLaw }
 {
     finds_each();
 }
