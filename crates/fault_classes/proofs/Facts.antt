@@ -31,7 +31,7 @@ other i j b ne h = elim (or_cases (i == j) b h) [
   | inr e ↦ e
 ]
 
-frame_at : (plan : Plan) (is : _) (p s j i : ℕ) → each_frame plan is p j ≡ true → s < slot_count plan.rounds → i < plan.nodes → i ≢ j → is (effect_at plan.lines p s j i) ≡ true
+pub frame_at : (plan : Plan) (is : _) (p s j i : ℕ) → each_frame plan is p j ≡ true → s < slot_count plan.rounds → i < plan.nodes → i ≢ j → is (effect_at plan.lines p s j i) ≡ true
 frame_at plan is p s j i h hs hi ne =
     other i j _ ne (each_id (λ k. k == j || is (effect_at plan.lines p s j k)) plan.nodes i hi (each_id (each_in_slot plan is p j) (slot_count plan.rounds) s hs h))
 

@@ -13,3 +13,4 @@ pub mod Loops
 pub mod Classing
 pub mod Sets
 pub mod Facts
+pub mod CleanClass

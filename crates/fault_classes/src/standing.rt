@@ -242,7 +242,7 @@ fn is_stray<const N: usize>(
     other != node && !good.has(other) && !is_manifest(index.effect(period, 0, other, node))
 }
 
-/// The class of a node.
+/// The class of a node; one that isn't sound, but that no line touches, is symmetric.
 fn class_in<const N: usize>(
     index: &PlanIndex<N>,
     period: u32,
@@ -263,6 +263,8 @@ fn class_in<const N: usize>(
         Class::N
     } else if joins(index, period, node, clean, good) {
         Class::J
+    } else if clean.has(node) {
+        Class::S
     } else if is_benign(index, period, node) {
         Class::B
     } else if is_symmetric(index, period, node) {

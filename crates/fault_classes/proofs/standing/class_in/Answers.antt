@@ -1,8 +1,9 @@
 use Rattle.std.proofs.Common.{sym, ◌∙◌}
-use Rattle.fault_classes.specs.Plan.{sound_before, steady}
+use Rattle.fault_classes.specs.Plan.{sound_before, steady, is_clean}
 use Rattle.fault_classes.specs.ClassLaws.{class_by}
 use Rattle.fault_classes.proofs.Classing.{class_N, class_J, class_B, class_S, class_A}
 use Rattle.fault_classes.proofs.Sets.{has_in}
+use Rattle.fault_classes.proofs.CleanClass.{clean_benign, clean_symmetric, some_other}
 use Rattle.fault_classes.proofs.standing.class_in.Goals as goal
 
 pub returns-then-has : goal.returns-then-has
@@ -18,6 +19,18 @@ returns-then-joins g c =
     let p = c.args.period in
     let good = has_in c.args.good.now (steady plan p (sound_before plan p)) plan.nodes c.args.node c.requires.good c.requires.node in
     sym (class_by plan p c.args.node c.requires.node ∙ class_J _ _ _ _ (sym (c.has.ensures ∙ good) ∙ c.if-has.false) (sym c.joins.ensures ∙ c.if-joins.true))
+
+pub returns-then-has-1 : goal.returns-then-has-1
+returns-then-has-1 g c =
+    let plan = c.args.index.now in
+    let p = c.args.period in
+    let j = c.args.node in
+    let good = has_in c.args.good.now (steady plan p (sound_before plan p)) plan.nodes j c.requires.good c.requires.node in
+    let clean = sym (has_in c.args.clean.now (is_clean plan p) plan.nodes j c.requires.clean c.requires.node) ∙ sym c.has-1.ensures ∙ c.if-has-1.true in
+    let other = some_other plan.nodes j c.requires.some in
+    sym (class_by plan p j c.requires.node
+    ∙ class_S _ _ _ _ (sym (c.has.ensures ∙ good) ∙ c.if-has.false) (sym c.joins.ensures ∙ c.if-joins.false)
+    (clean_benign plan p j clean other.0 other.1.0 other.1.1) (clean_symmetric plan p j clean))
 
 pub returns-then-is_benign : goal.returns-then-is_benign
 returns-then-is_benign g c =
