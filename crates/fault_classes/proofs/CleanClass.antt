@@ -1,5 +1,5 @@
 -- A node that no line touches and that isn't sound is symmetric: nothing tells its frames apart, and none is manifestly faulty.
-use Rattle.std.proofs.Common.{◌≡◌, ◌≢◌, ℕ, ◌<◌, ◌≤◌, Bool, true, false, ◌||◌, None, refl, sym, ap, ap₂, ◌∙◌, inl, inr, arith, eqb-true}
+use Rattle.std.proofs.Common.{◌≡◌, ◌≢◌, ℕ, ◌<◌, ◌≤◌, true, false, ◌||◌, None, sym, ap, ap₂, inl, inr, arith, eqb-true}
 use Rattle.std.specs.Prelude.{◌==◌}
 use Rattle.std.proofs.lemmas.Bool.{cases_Bool, or_left, or_right, eqb-false}
 use Rattle.node_grid.specs.NodeSetLaws.{not_all_ids}
@@ -7,7 +7,7 @@ use Rattle.slot_plan.specs.Slots.{slot_count}
 use Rattle.fault_classes.specs.Change.{is_untouched, is_manifest, same_effect}
 use Rattle.fault_classes.specs.ChangeLaws.{untouched_is}
 use Rattle.fault_classes.specs.Line.{effect_at}
-use Rattle.fault_classes.specs.Plan.{Plan, nodes_of, is_clean, each_in_slot, each_frame, is_symmetric_at, is_symmetric_in}
+use Rattle.fault_classes.specs.Plan.{Plan, is_clean, each_in_slot, each_frame, is_symmetric_at, is_symmetric_in}
 use Rattle.fault_classes.proofs.Facts.{frame_at}
 use Rattle.fault_classes.proofs.Loops.{all_ids, other_fails}
 
@@ -26,9 +26,9 @@ module _ (plan : Plan) (p j : ℕ) (clean : is_clean plan p j ≡ true) where
   alike s i h hs hi hh = elim (cases_Bool (i == j)) [
     | inl e ↦ or_left (i == j) _ e
     | inr e ↦ or_right (i == j) _ (elim (cases_Bool (h == j)) [
-        | inl f ↦ or_left (h == j) _ f
-        | inr f ↦ or_right (h == j) _ (ap₂ same_effect (nothing s i hs hi (apart i e)) (nothing s h hs hh (apart h f)))
-      ])
+      | inl f ↦ or_left (h == j) _ f
+      | inr f ↦ or_right (h == j) _ (ap₂ same_effect (nothing s i hs hi (apart i e)) (nothing s h hs hh (apart h f)))
+    ])
   ]
     where
       apart : (k : ℕ) → (k == j) ≡ false → k ≢ j
@@ -41,9 +41,6 @@ module _ (plan : Plan) (p j : ℕ) (clean : is_clean plan p j ≡ true) where
 -- the least node but this one
 pub some_other : (n j : ℕ) → 2 ≤ n → (i : ℕ) × ((i < n) × (i ≢ j))
 some_other n j h = elim (cases_Bool (j == 0)) [
-  | inl e ↦ (1, (omega (arith, h), λ same. one_not (same ∙ eqb-true j 0 e)))
+  | inl e ↦ (1, (omega (arith, h), λ same. let zero : j ≡ 0 = eqb-true j 0 e in omega (arith, same, zero)))
   | inr e ↦ (0, (omega (arith, h), λ same. eqb-false j 0 e (sym same)))
 ]
-  where
-    one_not : 1 ≢ 0
-    one_not = λ e. cc

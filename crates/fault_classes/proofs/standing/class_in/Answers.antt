@@ -20,13 +20,13 @@ returns-then-joins g c =
     let good = has_in c.args.good.now (steady plan p (sound_before plan p)) plan.nodes c.args.node c.requires.good c.requires.node in
     sym (class_by plan p c.args.node c.requires.node ∙ class_J _ _ _ _ (sym (c.has.ensures ∙ good) ∙ c.if-has.false) (sym c.joins.ensures ∙ c.if-joins.true))
 
-pub returns-then-has-1 : goal.returns-then-has-1
-returns-then-has-1 g c =
+pub returns-then-has-2 : goal.returns-then-has-2
+returns-then-has-2 g c =
     let plan = c.args.index.now in
     let p = c.args.period in
     let j = c.args.node in
     let good = has_in c.args.good.now (steady plan p (sound_before plan p)) plan.nodes j c.requires.good c.requires.node in
-    let clean = sym (has_in c.args.clean.now (is_clean plan p) plan.nodes j c.requires.clean c.requires.node) ∙ sym c.has-1.ensures ∙ c.if-has-1.true in
+    let clean = sym (has_in c.args.clean.now (is_clean plan p) plan.nodes j c.requires.clean c.requires.node) ∙ sym c.has-else-joins.ensures ∙ c.if-has-2.true in
     let other = some_other plan.nodes j c.requires.some in
     sym (class_by plan p j c.requires.node
     ∙ class_S _ _ _ _ (sym (c.has.ensures ∙ good) ∙ c.if-has.false) (sym c.joins.ensures ∙ c.if-joins.false)
