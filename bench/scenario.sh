@@ -3,7 +3,7 @@
 # 1,024 rows, and 4,096 fault lines, every fourth with 1,350 bytes of its own. Each is timed in 15 processes by turns, since
 # the program reads one scenario, and the least counts.
 #
-#   scenario.sh [PROGRAM]      another build of crates/bench_scenario than `rt run` makes
+#   scenario.sh [PROGRAM]      another build of crates/bench_parts than `rt run` makes
 set -eu
 top=$(cd "$(dirname "$0")/.." && pwd)
 work=$(mktemp -d)
@@ -30,8 +30,8 @@ awk 'BEGIN {
     print "]}"
 }' >"$work/input.json"
 
-program=${1:-$top/crates/bench_scenario/out/bench_scenario}
-[ $# -gt 0 ] || (cd "$top/crates/bench_scenario" && rt run </dev/null)
+program=${1:-$top/crates/bench_parts/out/bench_parts}
+[ $# -gt 0 ] || (cd "$top/crates/bench_parts" && rt run </dev/null)
 
 for _ in 1 2 3 4 5 6 7 8 9 10 11 12 13 14 15; do
     for word in json judged; do

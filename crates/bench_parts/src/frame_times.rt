@@ -1,0 +1,105 @@
+//! The writing and the reading of the longest relay frame of eight nodes, beside a copy of its bytes.
+
+ghost use Rattle.std.specs.Prelude.{◌≡◌};
+
+use frames::{Expect, decode, encode};
+use node_grid::NodeSet;
+use std::io;
+use std::time::Instant;
+
+/// The number of bytes of the frame: a header of 14, and 42 entries of 17 bytes.
+const LENGTH: usize = 728;
+
+/// How often each is done.
+const TURNS: u32 = 200_000;
+
+/// What is expected in the last slot of a period of eight nodes with two relay rounds.
+fn expect() -> Expect<8>
+    ensures nodes { result.nodes ≡ 8 }
+    ensures rounds { result.m ≡ 2 }
+{
+    Expect {
+        version: 1,
+        nodes: 8,
+        m: 2,
+        period: 0,
+        slot: 7,
+        sender: 0,
+        members: NodeSet::full(8),
+        state_len: 34,
+        tasks: 0,
+        due: 0,
+    }
+}
+
+/// A frame whose rows accuse nobody.
+fn frame() -> [u8; LENGTH] {
+    let mut bytes = [0; LENGTH];
+    bytes[..14].copy_from_slice(&[0x4d, 0x46, 1, 6, 0, 0, 0, 0, 0, 7, 0, 0, 2, 0xca]);
+    bytes
+}
+
+/// Changes a mask of the frame in each turn, so that no turn can be left out.
+fn touch(bytes: &mut [u8; LENGTH], turn: u32) {
+    bytes[16] = (turn % 256) as u8;
+}
+
+/// The nanoseconds of a turn.
+fn per_turn(start: &Instant, rt: &HostRuntime) -> io::Result<u128> {
+    Ok(start.elapsed(rt)?.as_nanos() / TURNS as u128)
+}
+
+fn copying(rt: &HostRuntime) -> io::Result<(u128, u64)> {
+    let mut bytes = frame();
+    let mut copy = [0; LENGTH];
+    let mut seen = 0u64;
+    let start = Instant::now(rt)?;
+    for turn in 0..TURNS {
+        touch(&mut bytes, turn);
+        copy.copy_from_slice(&bytes);
+        seen = seen.wrapping_add(copy[(turn % 728) as usize] as u64);
+    }
+    Ok((per_turn(&start, rt)?, seen))
+}
+
+fn reading(rt: &HostRuntime) -> io::Result<(u128, u64)> {
+    let mut bytes = frame();
+    let expect = expect();
+    let mut seen = 0u64;
+    let start = Instant::now(rt)?;
+    for turn in 0..TURNS {
+        touch(&mut bytes, turn);
+        if decode(&expect, &bytes).is_some() {
+            seen = seen.wrapping_add(1);
+        }
+    }
+    Ok((per_turn(&start, rt)?, seen))
+}
+
+fn writing(rt: &HostRuntime) -> io::Result<(u128, u64)> {
+    let bytes = frame();
+    let expect = expect();
+    let mut out = [0; LENGTH];
+    let mut seen = 0u64;
+    let Some(shown) = decode(&expect, &bytes) else {
+        return Ok((0, 0));
+    };
+    let start = Instant::now(rt)?;
+    for turn in 0..TURNS {
+        touch(&mut out, turn);
+        let size = encode(&shown, 8, &mut out);
+        seen = seen.wrapping_add(size as u64 + out[16] as u64);
+    }
+    Ok((per_turn(&start, rt)?, seen))
+}
+
+/// Prints what a copy, a reading and a writing of the frame take.
+pub fn measure(rt: &HostRuntime) -> io::Result<()> {
+    let (copy, copied) = copying(rt)?;
+    let (read, frames) = reading(rt)?;
+    let (written, bytes) = writing(rt)?;
+    println!(rt; "copy {copy} ns ({copied})")?;
+    println!(rt; "decode {read} ns ({frames} frames)")?;
+    println!(rt; "encode {written} ns ({bytes} bytes)")?;
+    Ok(())
+}

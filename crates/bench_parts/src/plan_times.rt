@@ -1,0 +1,201 @@
+//! The making of a full fault plan, a million look-ups of effects beside as many loads, and the judging of 60,000 lines.
+
+ghost use Rattle.std.specs.Prelude.{◌≡◌, ◌≢◌, ◌<◌, ◌≤◌, ◌+◌, ◌*◌, ◌^◌};
+
+use fault_classes::{Effect, FaultLine, FaultPlan, PlanError};
+use node_grid::NodeSet;
+use std::alloc::{AllocError, Global};
+use std::io;
+use std::time::Instant;
+
+/// The nodes, slots and periods of the plans.
+const NODES: u8 = 8;
+
+const SLOTS: u8 = 8;
+
+const PERIODS: u32 = 1024;
+
+/// The lines of the full plan, and the look-ups in it.
+const LINES: u32 = 4096;
+
+const LOOKUPS: u32 = 1_000_000;
+
+/// The lines that are judged and refused for their number.
+const JUDGED: u32 = 60_000;
+
+/// A frame of a plan.
+#[derive(Clone, Copy)]
+struct Place {
+    period: u32,
+    slot: u8,
+    from: u8,
+    to: u8,
+}
+
+/// All other nodes.
+fn others(node: u8) -> NodeSet<8>
+    requires { node < 8 }
+{
+    let mut set = NodeSet::full(NODES);
+    set.cut(node);
+    set
+}
+
+/// One of several effects.
+fn effect_of(alloc: Global, number: u32) -> Result<Effect, AllocError> {
+    Ok(match number % 6 {
+        0 => Effect::Drop,
+        1 => Effect::Cut(7),
+        2 => Effect::Twice,
+        3 => Effect::Time(25),
+        4 => Effect::Set {
+            at: 14,
+            bytes: Vec::from_array(alloc, [0, 2, 0, 0])?,
+        },
+        _ => Effect::Raw(Vec::from_array(alloc, [1, 2, 3, 4, 5])?),
+    })
+}
+
+/// Lines that touch all frames of four nodes in each period.
+fn full_lines(alloc: Global) -> Result<Vec<FaultLine<8>>, AllocError> {
+    let mut lines = Vec::with_capacity(alloc, LINES as usize)?;
+    for number in 0..LINES {
+        let period = number / 4;
+        let from = (number % 4 * 2 + period % 2) as u8;
+        lines.push(FaultLine {
+            from,
+            to: others(from),
+            first: period,
+            last: period,
+            slots: 0xff,
+            effect: effect_of(alloc, number)?,
+        })?;
+    }
+    Ok(lines)
+}
+
+/// Lines of one frame each, no two of them the same.
+fn single_lines(alloc: Global) -> Result<Vec<FaultLine<8>>, AllocError> {
+    let mut lines = Vec::with_capacity(alloc, JUDGED as usize)?;
+    for number in 0..JUDGED {
+        let place = number % 448;
+        let link = place / 8;
+        let from = (link / 7) as u8;
+        let mut to = NodeSet::empty();
+        to.put((from + 1 + (link % 7) as u8) % NODES);
+        lines.push(FaultLine {
+            from,
+            to,
+            first: number / 448,
+            last: number / 448,
+            slots: 1 << (place % 8),
+            effect: Effect::Drop,
+        })?;
+    }
+    Ok(lines)
+}
+
+/// Pseudo-random frames.
+fn places(alloc: Global) -> Result<Vec<Place>, AllocError> {
+    let mut state: u64 = 1;
+    let mut found = Vec::with_capacity(alloc, LOOKUPS as usize)?;
+    for _ in 0..LOOKUPS {
+        state = state
+            .wrapping_mul(6_364_136_223_846_793_005)
+            .wrapping_add(1_442_695_040_888_963_407);
+        let draw = (state >> 33) as u32;
+        let from = (draw >> 13) % 8;
+        found.push(Place {
+            period: draw % PERIODS,
+            slot: ((draw >> 10) % 8) as u8,
+            from: from as u8,
+            to: ((from + 1 + (draw >> 16) % 7) % 8) as u8,
+        })?;
+    }
+    Ok(found)
+}
+
+/// How many of these frames a line touches.
+fn touched(plan: &FaultPlan<8>, places: &[Place]) -> u32
+    requires nodes { plan.now.nodes ≡ 8 }
+    requires rounds { plan.now.rounds ≡ 2 }
+    requires periods { plan.now.periods ≡ 1024 }
+{
+    let mut count: u32 = 0;
+    for place in places {
+        if place.period < PERIODS
+            && place.slot < SLOTS
+            && place.from < NODES
+            && place.to < NODES
+            && place.from != place.to
+            && plan
+                .effect(place.period, place.slot, place.from, place.to)
+                .is_some()
+        {
+            count = count.wrapping_add(1);
+        }
+    }
+    count
+}
+
+/// The sum of a table's entries at these frames.
+fn loaded(table: &[u16], places: &[Place]) -> u32 {
+    let mut sum: u32 = 0;
+    for place in places {
+        let row = (place.period as usize % 1024 * 8 + place.from as usize) * 8
+            + place.slot as usize;
+        let cell = row * 8 + place.to as usize;
+        if cell < table.len() {
+            sum = sum.wrapping_add(table[cell] as u32);
+        }
+    }
+    sum
+}
+
+/// Makes the full plan and looks effects up in it.
+fn measure_plan(rt: &HostRuntime) -> io::Result<()> {
+    let alloc = rt.alloc();
+    let lines = full_lines(alloc)?;
+    if lines.len() > 100_000 {
+        return Ok(());
+    }
+    let start = Instant::now(rt)?;
+    let made = FaultPlan::new(alloc, NODES, 2, PERIODS, lines, Vec::new(alloc));
+    let making = start.elapsed(rt)?.as_micros();
+    let Ok(plan) = made else {
+        println!(rt; "no plan")?;
+        return Ok(());
+    };
+    println!(rt; "a plan of {LINES} lines over {PERIODS} periods is made in {making} us")?;
+    let places = places(alloc)?;
+    let table = vec![in alloc; 1u16; 524_288]?;
+    let start = Instant::now(rt)?;
+    let sum = loaded(table.as_slice(), places.as_slice());
+    let loading = start.elapsed(rt)?.as_micros();
+    let start = Instant::now(rt)?;
+    let count = touched(&plan, places.as_slice());
+    let looking = start.elapsed(rt)?.as_micros();
+    println!(rt;
+        "{LOOKUPS} look-ups of effects take {looking} us, as many loads {loading} us ({count} touched, sum {sum})"
+    )
+}
+
+/// Judges many lines without overlap.
+fn measure_judging(rt: &HostRuntime) -> io::Result<()> {
+    let alloc = rt.alloc();
+    let lines = single_lines(alloc)?;
+    if lines.len() > 100_000 {
+        return Ok(());
+    }
+    let start = Instant::now(rt)?;
+    let made = FaultPlan::new(alloc, NODES, 2, PERIODS, lines, Vec::new(alloc));
+    let judging = start.elapsed(rt)?.as_micros();
+    let refused = matches!(made, Err(PlanError::TooMany));
+    println!(rt; "{JUDGED} lines are judged in {judging} us, refused for their number: {refused}")
+}
+
+/// Prints what plans and look-ups take.
+pub fn measure(rt: &HostRuntime) -> io::Result<()> {
+    measure_plan(rt)?;
+    measure_judging(rt)
+}

@@ -1,0 +1,63 @@
+//! The first reading of a scenario from standard input in a process: of its JSON alone, or of the whole.
+//!
+//! A process times one reading, since the program reads one scenario, in memory that it uses for the first time. As in the
+//! program, the memory of the JSON value is left until the process ends.
+
+use scenario::{Scenario, ScenarioError};
+use serde_json::Value;
+use span_io::{StdSource, read_all};
+use std::alloc::Global;
+use std::io;
+use std::mem::forget;
+use std::time::Instant;
+
+/// How many bytes an input may have.
+const LIMIT: usize = 4_194_304;
+
+/// Times the reading of the JSON.
+fn time_json(rt: &HostRuntime, bytes: &[u8]) -> io::Result<()> {
+    let start = Instant::now(rt)?;
+    let value = Value::from_slice(rt.alloc(), bytes);
+    let took = start.elapsed(rt)?.as_micros();
+    let read = value.is_ok();
+    forget(value);
+    if read {
+        println!(rt; "{took} us")
+    } else {
+        println!(rt; "unreadable")
+    }
+}
+
+/// The scenario in the bytes, read as the program does.
+fn scenario_of(alloc: Global, bytes: &[u8]) -> Result<Scenario<16>, ScenarioError> {
+    let Ok(value) = Value::from_slice(alloc, bytes) else {
+        return Err(ScenarioError::Unreadable);
+    };
+    let scenario = scenario_reading::from_value(alloc, &value);
+    forget(value);
+    scenario
+}
+
+/// Times the reading and judging of the scenario.
+fn time_judged(rt: &HostRuntime, bytes: &[u8]) -> io::Result<()> {
+    let start = Instant::now(rt)?;
+    let scenario = scenario_of(rt.alloc(), bytes);
+    let took = start.elapsed(rt)?.as_micros();
+    match scenario {
+        Ok(_) => println!(rt; "{took} us"),
+        Err(error) => println!(rt; "{error}"),
+    }
+}
+
+/// Reads standard input and prints what the reading of its JSON takes, or, where it is judged, that of the whole.
+pub fn measure(rt: &HostRuntime, is_judged: bool) -> io::Result<()> {
+    let mut source = StdSource::new(rt.stdin());
+    let Ok(bytes) = read_all(rt.alloc(), &mut source, LIMIT) else {
+        return Ok(());
+    };
+    if is_judged {
+        time_judged(rt, bytes.as_slice())
+    } else {
+        time_json(rt, bytes.as_slice())
+    }
+}
