@@ -1,5 +1,4 @@
-use Rattle.std.proofs.Common.{◌<◌, [], ap, ◌∙◌, arith}
-use Rattle.std.specs.Prelude.{slice_index_or}
+use Rattle.std.proofs.Common.{◌<◌, ap, ◌∙◌, arith}
 use Rattle.scenario.specs.Scenario.{ScenarioView, inputs_of}
 use Rattle.scenario.proofs.scenario.Scenario.run_times.Goals as goal
 
