@@ -1,4 +1,4 @@
-ghost use Rattle.std.specs.Prelude.{◌≡◌, ℕ, ◌^◌, ◌<◌, ◌≤◌, ◌⊎◌, true, not, None, Some, IfOk, MatchResult, IsTrue, map, length, option_map};
+ghost use Rattle.std.specs.Prelude.{◌≡◌, ℕ, ◌^◌, ◌<◌, ◌≤◌, ◌⊎◌, true, not, None, Some, IfOk, MatchResult, map, length, option_map, slice_index};
 ghost use Rattle.fault_classes.specs.Change.{change_of};
 ghost use Rattle.fault_classes.specs.Line.{line_of, effect_at, touches};
 ghost use Rattle.slot_plan.specs.Slots.{slot_count};
@@ -157,31 +157,20 @@ impl<const N: usize> PlanIndex<N> {
         self.restarts.len() as u32
     }
 
-    /// The number of the line that touches the frame: 0 for none, and 1 for the first line.
-    fn number(&self, period: u32, slot: u8, from: u8, to: u8) -> u16
+    /// For each receiver the number of the line that touches a node's frame in a slot: 0 for none, and 1 for the first
+    /// line.
+    pub fn numbers(&self, period: u32, slot: u8, from: u8) -> &[u16]
         requires period { period < self.now.periods }
         requires slot { slot < slot_count self.now.rounds }
         requires from { from < self.now.nodes }
-        requires to { to < self.now.nodes }
-        ensures { result ≡ entry_of (touches period slot from to) self.now.lines }
+        ensures long { length result.now ≡ self.now.nodes }
+        ensures entries { (to : ℕ) → to < self.now.nodes → slice_index result.now to ≡ entry_of (touches period slot from to) self.now.lines }
+        ensures alike { (one other : ℕ) → one < self.now.nodes → other < self.now.nodes → slice_index result.now one ≡ slice_index result.now other → effect_at self.now.lines period slot from one ≡ effect_at self.now.lines period slot from other }
     {
         let nodes = self.shape.nodes as usize;
         let block = self.touches.blocks.numbers[period as usize * nodes + from as usize];
         let row = block as usize * self.shape.slots as usize + slot as usize;
-        self.touches.cells[row * nodes + to as usize]
-    }
-
-    /// Whether one line touches a node's frames to two others in a slot, or none does.
-    pub fn is_same_line(&self, period: u32, slot: u8, from: u8, one: u8, other: u8) -> bool
-        requires period { period < self.now.periods }
-        requires slot { slot < slot_count self.now.rounds }
-        requires from { from < self.now.nodes }
-        requires one { one < self.now.nodes }
-        requires other { other < self.now.nodes }
-        ensures { IsTrue result → effect_at self.now.lines period slot from one ≡ effect_at self.now.lines period slot from other }
-    {
-        let _ = &self.shape;
-        self.number(period, slot, from, one) == self.number(period, slot, from, other)
+        &self.touches.cells[row * nodes..row * nodes + nodes]
     }
 
     /// The effect of the line that touches the frame.
@@ -192,7 +181,8 @@ impl<const N: usize> PlanIndex<N> {
         requires to { to < self.now.nodes }
         ensures { option_map (λ e. change_of e.now) result ≡ effect_at self.now.lines period slot from to }
     {
-        let number = self.number(period, slot, from, to);
+        let row = self.numbers(period, slot, from);
+        let number = row[to as usize];
         if number == 0 {
             None
         } else {

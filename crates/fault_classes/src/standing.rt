@@ -94,29 +94,6 @@ fn is_same(one: Option<&Effect>, other: Option<&Effect>) -> bool
     }
 }
 
-/// Whether the same befalls a node's frames to two others in a slot; where one line touches both, it does.
-fn is_same_at<const N: usize>(
-    index: &PlanIndex<N>,
-    period: u32,
-    slot: u8,
-    from: u8,
-    one: u8,
-    other: u8,
-) -> bool
-    requires period { period < index.now.periods }
-    requires slot { slot < slot_count index.now.rounds }
-    requires from { from < index.now.nodes }
-    requires one { one < index.now.nodes }
-    requires other { other < index.now.nodes }
-    ensures { result ≡ same_effect (effect_at index.now.lines period slot from one) (effect_at index.now.lines period slot from other) }
-{
-    index.is_same_line(period, slot, from, one, other)
-        || is_same(
-            index.effect(period, slot, from, one),
-            index.effect(period, slot, from, other),
-        )
-}
-
 /// The least node but this one.
 fn first_other(node: u8) -> u8
     ensures below { result ≤ 1 }
@@ -134,8 +111,15 @@ fn is_symmetric_at<const N: usize>(index: &PlanIndex<N>, period: u32, node: u8, 
     ensures { result ≡ is_symmetric_at index.now period node slot }
 {
     let first = first_other(node);
+    let row = index.numbers(period, slot, node);
     for to in 0..index.nodes() {
-        if to != node && !is_same_at(index, period, slot, node, first, to) {
+        if to != node
+            && row[to as usize] != row[first as usize]
+            && !is_same(
+                index.effect(period, slot, node, first),
+                index.effect(period, slot, node, to),
+            )
+        {
             return false;
         }
     }

@@ -1,4 +1,5 @@
 use Rattle.std.proofs.Common.{◌≡◌, ◌≢◌, ◌-◌, ◌<◌, List, map, length, get_or, Some, sym, ap, ◌∙◌, arith}
+use Rattle.std.specs.Prelude.{slice_index}
 use Rattle.std.specs.List.{position_or_len}
 use Rattle.std.proofs.lemmas.List.{length-map}
 use Rattle.fault_classes.specs.Line.{Line, touches, line_of, effect_at}
@@ -10,16 +11,7 @@ use Rattle.fault_classes.proofs.index.PlanIndex.effect.Goals as goal
 
 pub returns-then-number-eq0 : goal.returns-then-number-eq0
 returns-then-number-eq0 g c =
-    sym (effect_none c.args.period c.args.slot c.args.from c.args.to c.args.self.now.lines (sym c.number-number.ensures ∙ c.if-number-eq0.true))
-
-pub index-requires : goal.index-requires
-index-requires g c =
-    let xs : List Line = map line_of c.self.inside.lines.items in
-    let lines : xs ≡ c.args.self.now.lines = ap (λ (p : Plan). p.lines) c.self.view_is in
-    let test = touches c.args.period c.args.slot c.args.from c.args.to in
-    let number : c.number-number.result ≡ entry_of test xs = c.number-number.ensures ∙ ap (entry_of test) (sym lines) in
-    let place = entry_place test xs c.self.invariant.few (λ z. c.if-number-eq0.false (number ∙ z)) in
-    omega (arith, place.0, place.1, number, length-map c.self.inside.lines.items (line_of {n = g.row.N}), c.self.inside.lines.ok)
+    sym (effect_none c.args.period c.args.slot c.args.from c.args.to c.args.self.now.lines (sym (c.numbers-row.ensures.entries c.args.to c.requires.to) ∙ c.if-number-eq0.true))
 
 pub returns-else-number-eq0 : goal.returns-else-number-eq0
 returns-else-number-eq0 g c =
@@ -28,10 +20,11 @@ returns-else-number-eq0 g c =
     let lines : xs ≡ c.args.self.now.lines = ap (λ (p : Plan). p.lines) c.self.view_is in
     let test = touches c.args.period c.args.slot c.args.from c.args.to in
     let r = c.index.result.now in
-    let number : c.number-number.result ≡ entry_of test xs = c.number-number.ensures ∙ ap (entry_of test) (sym lines) in
+    let m = slice_index c.numbers-row.result.now c.args.to in
+    let number : m ≡ entry_of test xs = c.numbers-row.ensures.entries c.args.to c.requires.to ∙ ap (entry_of test) (sym lines) in
     let some : entry_of test xs ≢ 0 = λ z. c.if-number-eq0.false (number ∙ z) in
     let place = entry_place test xs c.self.invariant.few some in
-    let at : c.number-number.result - 1 ≡ position_or_len test xs = omega (arith, place.1, number) in
+    let at : m - 1 ≡ position_or_len test xs = omega (arith, place.1, number) in
     let read : r ≡ get_or items (position_or_len test xs) r = c.index.ensures ∙ ap (λ k. get_or items k r) at in
     let within : position_or_len test xs < length items = omega (arith, place.0, length-map items (line_of {n = g.row.N})) in
     let line : get_or xs (position_or_len test xs) (line_of r) ≡ line_of r = line_at items (position_or_len test xs) r within read in
