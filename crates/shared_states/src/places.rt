@@ -140,10 +140,16 @@ fn join_at<const N: usize>(
     ensures placed { ArePlaced N nodes.now places.new }
     ensures alike { LeadAlike states.now nodes.now places.old places.new }
 {
+    // The places whose states are known to be other ones.
+    let mut apart: NodeSet<N> = NodeSet::empty();
     for node in 0..N as u8 {
         let own = places[node as usize];
-        if nodes.has(node) && own != place && has_equal(states, own, place) {
-            places[node as usize] = place;
+        if nodes.has(node) && own != place && !apart.has(own) {
+            if has_equal(states, own, place) {
+                places[node as usize] = place;
+            } else {
+                apart.put(own);
+            }
         }
     }
 }
