@@ -6,4 +6,6 @@ pub mod Places
 pub mod Columns
 pub mod Leading
 pub mod Direct
+pub mod Voices
+pub mod Finding
 pub mod ItemLaws
