@@ -11,8 +11,8 @@ use Rattle.heard_links.specs.Hearing.{IsCame, link_at, talk_in, is_even}
 use Rattle.heard_links.proofs.Laying.{came_alike, laid_here, laid_beside, laid_apart, heard_beside, untouched_even}
 use Rattle.heard_links.proofs.Sets.{node_low}
 use Rattle.heard_links.proofs.Tables.{same_talk, not_touched}
-use Rattle.heard_links.proofs.links.Links.hear_frames.Goals as goal
-use Rattle.heard_links.proofs.links.Links.hear_frames.Goals.{then-has+then-to-from, then-is_touched, else-is_touched, else-has, else-has-via-then-has+else-to-from, else-has-via-else-has}
+use Rattle.heard_links.proofs.links.Links.judge_frames.Goals as goal
+use Rattle.heard_links.proofs.links.Links.judge_frames.Goals.{then-has+then-to-from, then-is_touched, else-is_touched, else-has, else-has-via-then-has+else-to-from, else-has-via-else-has}
 
 pub judge-came-requires : goal.judge-came-requires
 judge-came-requires g c = (

@@ -6,7 +6,7 @@ use Rattle.heard_links.specs.Hearing.{is_even, talk_in}
 use Rattle.heard_links.proofs.Places.{last_has}
 use Rattle.heard_links.proofs.Saying.{asked_is, even_is, said_none, said_heard, heard_small_at}
 use Rattle.heard_links.proofs.Sets.{few_m, node_low, in_use}
-use Rattle.heard_links.proofs.links.Links.said.Goals as goal
+use Rattle.heard_links.proofs.links.Links.said_by.Goals as goal
 
 pub came-requires : goal.came-requires
 came-requires g c =
