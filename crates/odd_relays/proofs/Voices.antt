@@ -81,7 +81,7 @@ count_without test (x ∷ xs) i d =
           omega arith
     ]
 
-has_kept : (f : ℕ → Bool) (xs : List ℕ) (q : ℕ) → has_id (filter f xs) q ≡ (has_id xs q && f q)
+pub has_kept : (f : ℕ → Bool) (xs : List ℕ) (q : ℕ) → has_id (filter f xs) q ≡ (has_id xs q && f q)
 has_kept f [] q = refl
 has_kept f (x ∷ xs) q =
     let rest = has_kept f xs q in

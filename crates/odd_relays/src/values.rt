@@ -77,6 +77,14 @@ pub(crate) fn is_same<V: Copy + Eq>(values: &[Wrapped<V>], i: u8, j: u8) -> bool
     values[i as usize] == values[j as usize]
 }
 
+/// Whether these are one value.
+pub(crate) fn are_one<V: Copy + Eq>(one: &Wrapped<V>, other: &Wrapped<V>) -> bool
+    requires { IsExact V.eq }
+    ensures { result ≡ true → one.now ≡ other.now }
+{
+    *one == *other
+}
+
 /// Whether all these nodes have the same value as this one.
 pub(crate) fn are_alike<V: Copy + Eq, const N: usize>(
     values: &[Wrapped<V>],
