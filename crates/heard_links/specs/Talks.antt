@@ -1,5 +1,6 @@
 -- The slots of one kind of item in a period, by what the code has of them.
-use Rattle.std.specs.Prelude.{ℕ, ◌≡◌, ◌≤◌, ◌<◌, ◌+◌, ◌≢◌, true, false, List, [], None, slice_index_or}
+use Rattle.std.specs.Prelude.{ℕ, ◌≡◌, ◌≤◌, ◌<◌, ◌+◌, ◌≢◌, ◌==◌, ◌||◌, not, true, false, List, [], None, slice_index_or}
+use Rattle.std.specs.Cmp.Lexicographic.{pointwise}
 use Rattle.node_grid.specs.Capacity.{IsCapacity}
 use Rattle.node_grid.specs.NodeSet.{has_id, IsIdSet}
 use Rattle.slot_plan.specs.Slots.{slot_count}
@@ -50,6 +51,11 @@ pub record IsPhaseOf {V : Type 0} {N : ℕ} (form : ItemForm V) (first : ℕ →
   pub members : (i : ℕ) → i < x.config.now.nodes → members_of sys x.period (goes_in sys x.period) i ≡ members_at x i
   pub full : (i : ℕ) → i < x.config.now.nodes → full_at sys x.period (goes_in sys x.period) i ≡ has_id x.full i
   pub told : (i : ℕ) → i < x.config.now.nodes → has_id x.full i ≡ true → tells sys x.period i ≡ item i
+
+-- nothing befalls the frame of a round from node j to node i, and i reads it by the members by which it was sent
+pub record IsEvenTo {N : ℕ} (x : Phase N) (r j i : ℕ) : Type 0 where
+  pub whole : effect_at x.plan.now.lines x.period (x.first + r) j i ≡ None
+  pub read_alike : (r == 0 || (not (has_id x.full j) || pointwise ◌==◌ (members_at x j) (members_at x i))) ≡ true
 
 -- only frames of these nodes may come otherwise than they were sent
 pub record IsJudged {N : ℕ} (x : Phase N) (judged : List ℕ) : Type 0 where

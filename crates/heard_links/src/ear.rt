@@ -109,8 +109,9 @@ impl<V: Item<N>, const N: usize> Links<V, N> {
         }
     }
 
-    /// What node `to` hears for a path in place of what the path's last node passes on.
-    fn said(&self, phase: &Phase<'_, N>, to: u8, path: &Path) -> Option<Wrapped<V>>
+    /// What node `to` hears for a path in place of what the path's last node passes on, by what
+    /// came of that node's frame.
+    fn said_by(&self, phase: &Phase<'_, N>, to: u8, path: &Path) -> Option<Wrapped<V>>
         requires heard { IsHeard V.form V.first_slot V.tells phase.now self.now
             (phase.now.config.now.m + 1) }
         ensures is { result ≡ says_of V.form phase.now self.now to path.now }
@@ -124,6 +125,21 @@ impl<V: Item<N>, const N: usize> Links<V, N> {
             return None;
         }
         Some(self.heard(phase, to, path))
+    }
+
+    /// What node `to` hears for a path in place of what the path's last node passes on.
+    fn said(&self, phase: &Phase<'_, N>, to: u8, path: &Path) -> Option<Wrapped<V>>
+        requires heard { IsHeard V.form V.first_slot V.tells phase.now self.now
+            (phase.now.config.now.m + 1) }
+        ensures is { result ≡ says_of V.form phase.now self.now to path.now }
+        ensures small { IfSome result (λ v. IsSmall 252 v) }
+    {
+        let last = path.len() - 1;
+        if self.has_touched(last, path.at(last)) {
+            self.said_by(phase, to, path)
+        } else {
+            None
+        }
     }
 
     /// Whether two other nodes hear the same of a node's own word in a round, in place of what it

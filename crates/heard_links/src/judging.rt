@@ -5,7 +5,7 @@ ghost use Rattle.std.specs.Cmp.Lexicographic.{pointwise};
 ghost use Rattle.node_grid.specs.Capacity.{IsCapacity};
 ghost use Rattle.node_grid.specs.NodeSet.{has_id};
 ghost use Rattle.fault_classes.specs.Change.{change_of};
-ghost use Rattle.heard_links.specs.Talks.{IsJudged, members_at};
+ghost use Rattle.heard_links.specs.Talks.{IsEvenTo, IsJudged, IsSet, members_at};
 ghost use Rattle.heard_links.specs.declared.came.Came.TheVariants as came;
 ghost use Rattle.heard_links.specs.Hearing.{ActsAs, IsCame, IsHeard, came_at, item_of, link_at, talk_in, is_even, frame_kind};
 ghost use Rattle.protocol.specs.Talk.{rounds_upto};
@@ -37,6 +37,35 @@ impl<'p, const N: usize> Phase<'p, N> {
             pointwise ◌==◌ (members_at self.now from) (members_at self.now to))) }
     {
         round == 0 || !self.full.has(from) || self.has_same_members(from, to)
+    }
+
+    /// Whether a frame of a round comes as it was sent, and is read by the members by which it was
+    /// sent.
+    fn is_even_to(&self, round: u8, from: u8, to: u8) -> bool
+        requires set { IsSet self.now }
+        requires round { round ≤ self.now.config.now.m }
+        requires from { from < self.now.config.now.nodes }
+        requires to { to < self.now.config.now.nodes }
+        requires link { from ≢ to }
+        ensures { result ≡ true → IsEvenTo self.now round from to }
+    {
+        self.effect(round, from, to).is_none() && self.is_read_alike(round, from, to)
+    }
+
+    /// Whether that holds of the frames of a node to all others that are awake.
+    fn is_even_to_all(&self, round: u8, from: u8) -> bool
+        requires set { IsSet self.now }
+        requires round { round ≤ self.now.config.now.m }
+        requires from { from < self.now.config.now.nodes }
+        ensures { result ≡ true → (i : ℕ) → has_id self.now.awake i ≡ true → i ≢ from →
+            IsEvenTo self.now round from i }
+    {
+        for to in 0..self.config.nodes {
+            if self.awake.has(to) && to != from && !self.is_even_to(round, from, to) {
+                return false;
+            }
+        }
+        true
     }
 }
 
@@ -157,8 +186,8 @@ impl<V: Item<N>, const N: usize> Links<V, N> {
         self.touched[round as usize] = senders;
     }
 
-    /// Lays down what comes of the frames of a node in a round.
-    fn hear_frames(&mut self, phase: &Phase<'_, N>, round: u8, from: u8)
+    /// Lays down what comes of the frames of a node in a round, each judged.
+    fn judge_frames(&mut self, phase: &Phase<'_, N>, round: u8, from: u8)
         requires heard { IsHeard V.form V.first_slot V.tells phase.now self.old round }
         requires few { round ≤ phase.now.config.now.m }
         requires from { from < phase.now.config.now.nodes }
@@ -184,6 +213,28 @@ impl<V: Item<N>, const N: usize> Links<V, N> {
         }
         if is_touched {
             self.touch(round, from);
+        }
+    }
+
+    /// Lays down what comes of the frames of a node in a round.
+    fn hear_frames(&mut self, phase: &Phase<'_, N>, round: u8, from: u8)
+        requires heard { IsHeard V.form V.first_slot V.tells phase.now self.old round }
+        requires few { round ≤ phase.now.config.now.m }
+        requires from { from < phase.now.config.now.nodes }
+        requires fresh { has_id (slice_index_or self.old.touched round []) from ≡ false }
+        ensures told { self.new.told.items ≡ self.old.told.items }
+        ensures blank { self.new.blank ≡ self.old.blank }
+        ensures here { (i : ℕ) → has_id phase.now.awake i ≡ true → i ≢ from →
+            IsCame (talk_in V.form phase.now self.old) phase.now.config.now.m round from i
+            (came_at self.new round from i) }
+        ensures others { (r j i : ℕ) → r ≤ 3 → j < N → i < N → (r ≢ round) ⊎ (j ≢ from) →
+            came_at self.new r j i ≡ came_at self.old r j i }
+        ensures touched { (r j : ℕ) → j < N → (r ≢ round) ⊎ (j ≢ from) →
+            has_id (slice_index_or self.new.touched r []) j ≡
+            has_id (slice_index_or self.old.touched r []) j }
+    {
+        if !phase.is_even_to_all(round, from) {
+            self.judge_frames(phase, round, from);
         }
     }
 }

@@ -1,6 +1,6 @@
 //! Opening the table, and looks at it.
 
-ghost use Rattle.std.specs.Prelude.{ℕ, ◌≡◌, ◌≢◌, ◌<◌, ◌≤◌, ◌+◌, ◌*◌, ◌==◌, true, false, length, replicate, slice_index_or, IfOk, if◌then◌else◌};
+ghost use Rattle.std.specs.Prelude.{ℕ, ◌≡◌, ◌≢◌, ◌<◌, ◌≤◌, ◌+◌, ◌*◌, ◌==◌, true, false, [], length, replicate, slice_index_or, IfOk, if◌then◌else◌};
 ghost use Rattle.node_grid.specs.Capacity.{IsCapacity};
 ghost use Rattle.node_grid.specs.NodeSet.{has_id};
 ghost use Rattle.omh_paths.specs.declared.wrapped.Wrapped.TheVariants.{Plain, Fault};
@@ -100,6 +100,15 @@ impl<V: Item<N>, const N: usize> Links<V, N> {
         } else {
             Came::Untouched
         }
+    }
+
+    /// Whether something is laid down for a node's frames of a round.
+    pub(crate) fn has_touched(&self, round: u8, from: u8) -> bool
+        requires capacity { IsCapacity N }
+        requires round { round ≤ 3 }
+        ensures { result ≡ has_id (slice_index_or self.now.touched round []) from }
+    {
+        self.touched[round as usize].has(from)
     }
 
     /// The kind of error of the frame of a round from one node to another that is awake; None

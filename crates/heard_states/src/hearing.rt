@@ -10,12 +10,15 @@ ghost use Rattle.protocol.specs.Arrival.Arrival.{Good};
 ghost use Rattle.protocol.specs.View.{other_body};
 ghost use Rattle.shared_states.specs.Sharing.{state_at, IsShared};
 ghost use Rattle.heard_states.specs.declared.hearing.Heard.TheVariants.{Bad, Same, Other};
-ghost use Rattle.heard_states.specs.Hearing.{told_by, heard_kind, is_heard_well, IsHeardAs, IsSending};
+ghost use Rattle.heard_states.specs.Told.{sent_by};
+ghost use Rattle.heard_states.specs.declared.sending.Told.TheVariants.{Sent};
+ghost use Rattle.heard_states.specs.Hearing.{told_as, told_by, heard_kind, is_heard_well, IsHeardAs, IsSending};
 
 use crate::sending::{Sending, Told};
 use error_reports::RowBuilder;
 use node_grid::NodeSet;
 use node_grid::kind::{COLD, STATE};
+use touched_frames::unread_kind;
 
 /// What a node makes of a frame of the slot.
 #[derive(Clone, Copy)]
@@ -71,8 +74,25 @@ impl<const N: usize> Sending<'_, N> {
         }
     }
 
-    /// What node `to` makes of the frame of node `from`, where these nodes have the state of `to`.
-    fn heard(&self, from: u8, to: u8, alike: &NodeSet<N>) -> Heard
+    /// What a node makes of a frame that comes as it was sent, where these nodes have the state of
+    /// the node.
+    fn heard_sent(&self, from: u8, alike: &NodeSet<N>) -> Heard
+        requires sending { IsSending self.now }
+        ensures { (i : ℕ) → (IsTrue (has_id alike.now from) ↔ IsShared self.now.states.now i from) →
+            told_as self.now.slot.config.now
+            (sent_by self.now.senders.full self.now.states.now from) Sent ≡ told_by self.now i from →
+            IsHeardAs self.now.slot.config.now (state_at self.now.states.now i) result
+            (told_by self.now i from) }
+    {
+        if self.senders.full.has(from) {
+            good_where(alike.has(from))
+        } else {
+            Heard::Bad(COLD)
+        }
+    }
+
+    /// What node `to` makes of the frame of node `from`, whatever befalls it.
+    fn heard_read(&self, from: u8, to: u8, alike: &NodeSet<N>) -> Heard
         requires sending { IsSending self.now }
         requires from { from < self.now.slot.config.now.nodes }
         requires to { to < self.now.slot.config.now.nodes }
@@ -83,11 +103,25 @@ impl<const N: usize> Sending<'_, N> {
         match self.told(from, to) {
             Told::Bad(kind) => Heard::Bad(kind),
             Told::Bytes(bytes) => good_where(self.is_own(to, bytes.as_slice())),
-            Told::Sent => if self.senders.full.has(from) {
-                good_where(alike.has(from))
-            } else {
-                Heard::Bad(COLD)
-            },
+            Told::Sent => self.heard_sent(from, alike),
+        }
+    }
+
+    /// The same, where no state is spelt if the frame doesn't come whole, once and in time.
+    fn heard(&self, from: u8, to: u8, alike: &NodeSet<N>) -> Heard
+        requires sending { IsSending self.now }
+        requires from { from < self.now.slot.config.now.nodes }
+        requires to { to < self.now.slot.config.now.nodes }
+        requires other { from ≢ to }
+        requires alike { IsTrue (has_id alike.now from) ↔ IsShared self.now.states.now to from }
+        ensures { IsHeardAs self.now.slot.config.now (state_at self.now.states.now to) result (told_by self.now to from) }
+    {
+        let Some(effect) = self.effect(from, to) else {
+            return self.heard_sent(from, alike);
+        };
+        match unread_kind(effect) {
+            Some(kind) => Heard::Bad(kind),
+            None => self.heard_read(from, to, alike),
         }
     }
 

@@ -1,10 +1,11 @@
 //! The frames of the slot, as they are sent and as they arrive.
 
-ghost use Rattle.std.specs.Prelude.{◌≡◌, ◌≢◌, ℕ, ◌<◌, ◌≤◌, true, length, Option, Some};
+ghost use Rattle.std.specs.Prelude.{◌≡◌, ◌≢◌, ℕ, ◌<◌, ◌≤◌, true, length, Option, Some, option_map};
 ghost use Rattle.node_grid.specs.Capacity.{IsCapacity};
 ghost use Rattle.node_grid.specs.NodeSet.{has_id};
 ghost use Rattle.frames.specs.Seen.{content};
 ghost use Rattle.fault_classes.specs.Change.{change_of};
+ghost use Rattle.fault_classes.specs.Line.{effect_at};
 ghost use Rattle.agreed_state.specs.Agreed.{AgreedView};
 ghost use Rattle.agreed_state.specs.Body.{body as body_of, state_len};
 ghost use Rattle.protocol.specs.Arrival.{read_as, body_said};
@@ -152,6 +153,22 @@ impl<const N: usize> Sending<'_, N> {
         }
     }
 
+    /// What befalls the frame of node `from` to node `to`.
+    pub(crate) fn effect(&self, from: u8, to: u8) -> Option<&Effect>
+        requires sending { IsSending self.now }
+        requires from { from < self.now.slot.config.now.nodes }
+        requires to { to < self.now.slot.config.now.nodes }
+        requires other { from ≢ to }
+        ensures { option_map (λ e. change_of e.now) result ≡
+            effect_at self.now.slot.plan.now.lines self.now.slot.period 0 from to }
+    {
+        if self.senders.touched.has(from) {
+            self.slot.plan.effect(self.slot.period, 0, from, to)
+        } else {
+            None
+        }
+    }
+
     /// What node `to` has of the frame of node `from`.
     pub(crate) fn told(&self, from: u8, to: u8) -> Told
         requires sending { IsSending self.now }
@@ -161,10 +178,7 @@ impl<const N: usize> Sending<'_, N> {
         ensures { told_as self.now.slot.config.now (sent_by self.now.senders.full self.now.states.now from) result ≡
             told_by self.now to from }
     {
-        if !self.senders.touched.has(from) {
-            return Told::Sent;
-        }
-        match self.slot.plan.effect(self.slot.period, 0, from, to) {
+        match self.effect(from, to) {
             Some(effect) => self.told_touched(from, effect),
             None => Told::Sent,
         }

@@ -37,7 +37,7 @@ by_silent true f h = absurd (cc)
 by_silent false true h = absurd (cc)
 by_silent false false h = (refl, refl)
 
-seat : {V : Type 0} → World V → List ℕ → ℕ → ℕ → Class
+pub seat : {V : Type 0} → World V → List ℕ → ℕ → ℕ → Class
 seat w odd i q = class_by (has_id odd q && not (q == i)) (w.is_full q)
 
 weight : (o m f : Bool) → 2 * bit (is_asymmetric (class_by (o && m) f)) + 2 * bit (is_symmetric (class_by (o && m) f)) + bit (is_silent (class_by (o && m) f)) ≤ 2 * bit o + bit (not o && not f)
@@ -86,7 +86,7 @@ left_out test f (x ∷ xs) y on off =
     ]
 
 -- so each path has enough members outside it
-enough_at : {V : Type 0} (w : World V) (odd : List ℕ) (i : ℕ) (front : List ℕ) (last r : ℕ) → Distinct w.members → AreFew w odd → IsPath w.members w.rounds (front ++ last ∷ [])
+pub enough_at : {V : Type 0} (w : World V) (odd : List ℕ) (i : ℕ) (front : List ℕ) (last r : ℕ) → Distinct w.members → AreFew w odd → IsPath w.members w.rounds (front ++ last ∷ [])
     → r + length (front ++ last ∷ []) ≡ w.rounds + 1 → IsEnough (seat w odd i) (counted_nodes w.members front last) r
 enough_at w odd i front last r distinct few path long =
     let p : List ℕ = front ++ last ∷ [] in
@@ -186,7 +186,7 @@ module _ {V : Type 0} (eq : V → V → Bool) (exact : IsExact eq) (w : World V)
   alike_regular : (back : List ℕ) (q : ℕ) → IsPath w.members w.rounds (c ∷ (back ++ q ∷ [])) → has_id odd q ≡ false → has_id (c ∷ (back ++ q ∷ [])) i ≡ false → IsAlike (c ∷ (back ++ q ∷ []))
   alike_regular back q grown regular off k ak ok = passed.relays back q k grown regular ak ok ∙ sym (passed.relays back q i grown regular awake off)
 
-  as_heard : (r : ℕ) (back : List ℕ) (last : ℕ) → IsPath w.members w.rounds (c ∷ back) → r + length (c ∷ back) ≡ w.rounds + 1 → has_id (c ∷ back) i ≡ false → IsAlike (c ∷ back)
+  pub as_heard : (r : ℕ) (back : List ℕ) (last : ℕ) → IsPath w.members w.rounds (c ∷ back) → r + length (c ∷ back) ≡ w.rounds + 1 → has_id (c ∷ back) i ≡ false → IsAlike (c ∷ back)
       → IsEnough (seat w odd i) (last ∷ outside w.members (c ∷ back)) r
       → settled_within eq (ear w i) r (c ∷ back) ≡ w.heard i (c ∷ back)
   unfolding seat
@@ -219,7 +219,7 @@ module _ {V : Type 0} (eq : V → V → Bool) (exact : IsExact eq) (w : World V)
       (let more = more_outside (seat w odd i) last (outside w.members p) r enough in omega arith))
       ∙ unwrapped-wrapped (w.heard i p)
 
-  by_chains : (r : ℕ) (back : List ℕ) (last : ℕ) → IsPath w.members w.rounds (c ∷ back) → r + length (c ∷ back) ≡ w.rounds + 1 → has_id (c ∷ back) i ≡ false
+  pub by_chains : (r : ℕ) (back : List ℕ) (last : ℕ) → IsPath w.members w.rounds (c ∷ back) → r + length (c ∷ back) ≡ w.rounds + 1 → has_id (c ∷ back) i ≡ false
       → IsEnough (seat w odd i) (last ∷ outside w.members (c ∷ back)) r
       → settled_within eq (ear w i) r (c ∷ back) ≡ chain_within eq w odd i r (c ∷ back)
   by_chains zero back last path long off enough = settled_now eq w i (c ∷ back) ∙ sym (chain_now eq w odd i (c ∷ back))

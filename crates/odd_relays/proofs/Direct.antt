@@ -20,14 +20,14 @@ use Rattle.odd_relays.proofs.ChainLaws.{chain_term, chain_now, chain_later, chai
 use Rattle.odd_relays.proofs.Tellings.{each_telling_passes}
 
 module _ {V : Type 0} (t : Telling V) where
-  abbrev direct : World V
+  abbrev pub direct : World V
   direct = direct_world t
 
-  abbrev whole : World V
+  abbrev pub whole : World V
   whole = telling_world t
 
   -- both have this for the path
-  abbrev AreSame : List ℕ → Type 0
+  abbrev pub AreSame : List ℕ → Type 0
   AreSame path = (k : ℕ) → direct.heard k path ≡ whole.heard k path
 
   same_root : (c : ℕ) → AreSame (c ∷ [])
@@ -37,7 +37,7 @@ module _ {V : Type 0} (t : Telling V) where
   same_back [] q k some on = absurd (omega arith)
   same_back (b ∷ back) q k some on = cond-true _ _ _ on
 
-  same_push : (path : List ℕ) (q : ℕ) → 0 < length path → has_id t.odd q ≡ true → AreSame (path ++ q ∷ [])
+  pub same_push : (path : List ℕ) (q : ℕ) → 0 < length path → has_id t.odd q ≡ true → AreSame (path ++ q ∷ [])
   same_push path q some on k =
       let p : List ℕ = path ++ q ∷ [] in
       let turned : reverse p ≡ q ∷ reverse path = reverse-append path (q ∷ []) in
@@ -49,7 +49,7 @@ module _ {V : Type 0} (t : Telling V) where
   same_own : (q : ℕ) (path : List ℕ) → AreSame path → own_term (ear direct q) path ≡ own_term (ear whole q) path
   same_own q path same = ap (λ (v : Wrapped V). if has_id t.full q then wrapped v else Fault 0) (same q)
 
-  same_chain : (eq : V → V → Bool) (i r : ℕ) (path : List ℕ) → 0 < length path → AreSame path → chain_within eq direct t.odd i r path ≡ chain_within eq whole t.odd i r path
+  pub same_chain : (eq : V → V → Bool) (i r : ℕ) (path : List ℕ) → 0 < length path → AreSame path → chain_within eq direct t.odd i r path ≡ chain_within eq whole t.odd i r path
   same_chain eq i zero path some same = chain_now eq direct t.odd i path ∙ same i ∙ sym (chain_now eq whole t.odd i path)
   same_chain eq i (suc r) path some same =
       let at : (q : ℕ) → has_id t.members q ≡ true → has_id path q ≡ false → chain_term eq direct t.odd r i path q ≡ chain_term eq whole t.odd r i path q =

@@ -6,4 +6,7 @@ pub mod Places
 pub mod Columns
 pub mod Leading
 pub mod Direct
+pub mod Cutting
+pub mod Voices
+pub mod Finding
 pub mod ItemLaws

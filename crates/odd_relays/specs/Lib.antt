@@ -1,4 +1,5 @@
 pub mod Telling
+pub mod Voices
 pub mod Chains
 pub mod Direct
 pub mod Work

@@ -6,10 +6,10 @@ ghost use Rattle.omh_paths.specs.declared.wrapped.Wrapped.TheVariants.{Fault};
 ghost use Rattle.omh_paths.specs.Wrapped.{IsExact};
 ghost use Rattle.odd_relays.specs.Direct.{direct_heard, direct_settled};
 ghost use Rattle.odd_relays.specs.Telling.{telling, IsTelling, HasFewOdd, settled_item};
-ghost use Rattle.odd_relays.specs.Work.{KeepsBelow};
+ghost use Rattle.odd_relays.specs.Work.{AreHeardAlike, IsChain, KeepsBelow};
 
 use crate::item::{Item, Relays};
-use crate::values::{copy_terms, fill_terms, set_value, settle_terms, value_at};
+use crate::values::{are_one, copy_terms, fill_terms, set_value, settle_terms, value_at};
 use node_grid::NodeSet;
 use omh::outside;
 use omh_paths::{Path, Wrapped};
@@ -40,6 +40,42 @@ impl<'a, V: Copy + Eq, S: Relays<V>, const N: usize> Item<'a, V, S, N> {
         }
     }
 
+    /// Whether all these nodes heard this for such a path.
+    fn have_heard(&self, nodes: &NodeSet<N>, path: &Path, value: &Wrapped<V>) -> bool
+        requires exact { IsExact V.eq }
+        requires item { IsTelling N (telling S.says self.now) }
+        ensures { result ≡ true → (k : ℕ) → has_id nodes.now k ≡ true →
+            direct_heard (telling S.says self.now) k path.now ≡ value.now }
+    {
+        for k in nodes.iter() {
+            let heard = self.heard(k, path);
+            if !are_one(&heard, value) {
+                return false;
+            }
+        }
+        true
+    }
+
+    /// Whether the receivers heard for such a path what all Full members outside it did.
+    fn is_heard_alike(&self, receivers: &NodeSet<N>, path: &Path) -> bool
+        requires exact { IsExact V.eq }
+        requires item { IsTelling N (telling S.says self.now) }
+        requires nodes { (q : ℕ) → has_id path.now q ≡ true → q < N }
+        ensures { result ≡ true →
+            AreHeardAlike (telling S.says self.now) receivers.now path.now }
+    {
+        let idle = self.phase.members.minus(&self.phase.full);
+        let voters = outside(&self.phase.members.minus(&idle), path);
+        let Some(first) = voters.least() else {
+            return false;
+        };
+        let value = self.heard(first, path);
+        if !self.have_heard(&voters, path, &value) {
+            return false;
+        }
+        self.have_heard(receivers, path, &value)
+    }
+
     /// What each receiver settles for such a path, laid by node from `from` on; what lies behind is
     /// worked on.
     fn settle_chain(
@@ -56,6 +92,9 @@ impl<'a, V: Copy + Eq, S: Relays<V>, const N: usize> Item<'a, V, S, N> {
         requires room { from + 272 * (self.now.phase.rounds + 1 - length path.now) + 16
             ≤ length work.old }
         requires small { length work.old ≤ WORK }
+        requires few { HasFewOdd (telling S.says self.now) }
+        requires chain { IsChain (telling S.says self.now) path.now }
+        requires off { (i : ℕ) → has_id receivers.now i ≡ true → has_id path.now i ≡ false }
         ensures settled { (i : ℕ) → has_id receivers.now i ≡ true →
             slice_index_or work.new (from + i) (Fault 0) ≡
             direct_settled V.eq (telling S.says self.now) i path.now }
@@ -64,6 +103,10 @@ impl<'a, V: Copy + Eq, S: Relays<V>, const N: usize> Item<'a, V, S, N> {
     {
         let _ = receivers.len();
         if path.len() > self.phase.rounds {
+            self.lay_heard(receivers, path, work, from);
+            return;
+        }
+        if self.is_heard_alike(receivers, path) {
             self.lay_heard(receivers, path, work, from);
             return;
         }

@@ -4,15 +4,12 @@ ghost use Rattle.std.specs.Prelude.{◌≡◌, ◌≢◌, ℕ, ◌<◌, ◌≤�
 ghost use Rattle.node_grid.specs.Capacity.{IsCapacity};
 ghost use Rattle.omh_paths.specs.declared.wrapped.Wrapped.{Wrapped};
 ghost use Rattle.omh_paths.specs.declared.wrapped.Wrapped.TheVariants.{Fault};
-ghost use Rattle.omh_paths.specs.Wrapped.{IsExact};
 ghost use Rattle.omh.specs.Omh.{ear, own_term};
 ghost use Rattle.odd_relays.specs.Direct.{direct_heard, direct_world};
-ghost use Rattle.odd_relays.specs.Telling.{telling, IsTelling, HasFewOdd, convicts_commander};
+ghost use Rattle.odd_relays.specs.Telling.{telling, IsTelling, HasFewOdd};
 
-use crate::chains::WORK;
-use crate::values::{convict_by, set_value, value_at};
+use crate::values::value_at;
 use node_grid::NodeSet;
-use omh::outside;
 use omh_paths::{Path, Wrapped};
 
 /// What odd members pass on of an item to each node.
@@ -98,41 +95,5 @@ impl<'a, V: Copy + Eq, S: Relays<V>, const N: usize> Item<'a, V, S, N> {
         } else {
             Wrapped::Fault(0)
         }
-    }
-
-    /// Whether node `i`, another one than the commander, convicts it. A commander that told all
-    /// alike is convicted by nobody where few members are odd, and need not be asked for.
-    ///
-    /// `work` has `WORK` places, and is left with no meaning.
-    pub fn convicts(&self, i: u8, work: &mut [Wrapped<V>]) -> bool
-        requires exact { IsExact V.eq }
-        requires item { IsTelling N (telling S.says self.now) }
-        requires node { i < N }
-        requires other { self.now.commander ≢ i }
-        requires room { length work.old ≡ WORK }
-        ensures convicts { result ≡ convicts_commander V.eq (telling S.says self.now) i }
-        ensures room { length work.new ≡ WORK }
-    {
-        let members = &self.phase.members;
-        let _ = members.len();
-        let path = Path::root(self.commander);
-        let mut end = 0;
-        for q in outside(members, &path.then(i)).iter() {
-            let relay = if self.odd.has(q) {
-                self.relays.said(i, &path.then(q))
-            } else {
-                self.passed(q, &path)
-            };
-            set_value(work, end, relay);
-            end += 1;
-        }
-        let counted = self.phase.full.has(i) && members.has(i);
-        convict_by(
-            value_at(self.told, i),
-            work,
-            end,
-            counted,
-            self.phase.rounds,
-        )
     }
 }

@@ -2,6 +2,7 @@
 #![tactic(auto)]
 
 mod chains;
+mod convicting;
 mod item;
 pub mod laws;
 mod receivers;

@@ -6,10 +6,8 @@ ghost use Rattle.node_grid.specs.NodeSet.{has_id};
 ghost use Rattle.omh_paths.specs.declared.wrapped.Wrapped.TheVariants.{Fault};
 ghost use Rattle.omh_paths.specs.Wrapped.{unwrapped, IsExact};
 ghost use Rattle.omh_paths.specs.Majority.{majority};
-ghost use Rattle.equivocation.specs.Conviction.{is_convicted};
 ghost use Rattle.odd_relays.specs.Work.{KeepsOthers, KeepsBelow};
 
-use equivocation::convict;
 use node_grid::NodeSet;
 use omh_paths::{Wrapped, majority};
 
@@ -69,7 +67,7 @@ pub(crate) fn copy_led<V: Copy + Eq, const N: usize>(
 }
 
 /// Whether two nodes have the same value.
-fn is_same<V: Copy + Eq>(values: &[Wrapped<V>], i: u8, j: u8) -> bool
+pub(crate) fn is_same<V: Copy + Eq>(values: &[Wrapped<V>], i: u8, j: u8) -> bool
     requires exact { IsExact V.eq }
     requires first { i < length values.now }
     requires second { j < length values.now }
@@ -77,6 +75,14 @@ fn is_same<V: Copy + Eq>(values: &[Wrapped<V>], i: u8, j: u8) -> bool
         slice_index_or values.now i (Fault 0) ≡ slice_index_or values.now j (Fault 0) }
 {
     values[i as usize] == values[j as usize]
+}
+
+/// Whether these are one value.
+pub(crate) fn are_one<V: Copy + Eq>(one: &Wrapped<V>, other: &Wrapped<V>) -> bool
+    requires { IsExact V.eq }
+    ensures { result ≡ true → one.now ≡ other.now }
+{
+    *one == *other
 }
 
 /// Whether all these nodes have the same value as this one.
@@ -187,21 +193,4 @@ fn settled_from_terms<V: Copy + Eq>(terms: &[Wrapped<V>], from: usize, end: usiz
     ensures { result ≡ unwrapped (majority V.eq (take (end - from) (drop from terms.now))) }
 {
     majority(&terms[from..end]).unwrap()
-}
-
-/// Whether a member is convicted by the first so many of these relays.
-pub(crate) fn convict_by<V: Copy + Eq>(
-    own: Wrapped<V>,
-    relays: &[Wrapped<V>],
-    count: usize,
-    counted: bool,
-    m: u8,
-) -> bool
-    requires exact { IsExact V.eq }
-    requires own { own ≢ Fault 255 }
-    requires within { count ≤ length relays.now }
-    requires few { count ≤ 15 }
-    ensures { result ≡ is_convicted V.eq own (take count relays.now) counted m }
-{
-    convict(own, &relays[..count], counted, m)
 }

@@ -3,4 +3,3 @@ pub mod Relaying
 pub mod Worlds
 pub mod Walking
 pub mod Listening
-pub mod Finding

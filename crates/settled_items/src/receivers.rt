@@ -79,7 +79,7 @@ impl<'a, V: Copy + Eq, T: Touched<V>, const N: usize> Relayed<'a, V, T, N> {
 
     /// The awake nodes that convict the commander, which is another node. It is laid by node what
     /// the commander told each of them.
-    fn convict_told(&self, told: &[Wrapped<V>], work: &mut [Wrapped<V>]) -> NodeSet<N>
+    fn convict_told(&self, told: &[Wrapped<V>]) -> NodeSet<N>
         requires exact { IsExact V.eq }
         requires item { IsRelayed T.says self.now }
         requires told { (i : ℕ) → has_id self.now.exchange.awake i ≡ true →
@@ -88,19 +88,16 @@ impl<'a, V: Copy + Eq, T: Touched<V>, const N: usize> Relayed<'a, V, T, N> {
             self.now.own.now }
         requires nodes { length told.now ≡ N }
         requires known { All (λ v. v ≢ Fault 255) told.now }
-        requires room { length work.old ≡ WORK }
         ensures convicts { (i : ℕ) → has_id self.now.exchange.awake i ≡ true →
             self.now.exchange.commander ≢ i → has_id result i ≡
             convicts V.eq (ear (relayed_world T.says self.now) i) self.now.exchange.commander }
         ensures within { (i : ℕ) → has_id result i ≡ true →
             (has_id self.now.exchange.awake i ≡ true) × (self.now.exchange.commander ≢ i) }
-        ensures room { length work.new ≡ WORK }
     {
         let _ = self.exchange.members.len();
         let nodes = self.exchange.awake.without(self.exchange.commander);
-        let mut convicting = NodeSet::empty();
         if self.is_spared(&nodes, told) {
-            return convicting;
+            return NodeSet::empty();
         }
         let phase = Phase {
             rounds: self.exchange.rounds,
@@ -114,13 +111,7 @@ impl<'a, V: Copy + Eq, T: Touched<V>, const N: usize> Relayed<'a, V, T, N> {
             told,
             relays: self,
         };
-        for i in nodes.iter() {
-            if item.convicts(i, work) {
-                convicting.put(i);
-            }
-        }
-        let _ = convicting.len();
-        convicting
+        item.convicting(&nodes)
     }
 
     /// What each awake node settles for the item of another member, by paths of odd members, laid
@@ -149,22 +140,20 @@ impl<'a, V: Copy + Eq, T: Touched<V>, const N: usize> Relayed<'a, V, T, N> {
         self.settle_told(told, work, all);
     }
 
-    /// The awake nodes that convict the commander, which is another node. `told` and `work` are
-    /// left with no meaning.
-    pub(crate) fn convicting(&self, told: &mut [Wrapped<V>], work: &mut [Wrapped<V>]) -> NodeSet<N>
+    /// The awake nodes that convict the commander, which is another node. `told` is left with no
+    /// meaning.
+    pub(crate) fn convicting(&self, told: &mut [Wrapped<V>]) -> NodeSet<N>
         requires exact { IsExact V.eq }
         requires item { IsRelayed T.says self.now }
         requires nodes { length told.old ≡ N }
-        requires room { length work.old ≡ WORK }
         ensures convicts { (i : ℕ) → has_id self.now.exchange.awake i ≡ true →
             self.now.exchange.commander ≢ i → has_id result i ≡
             convicts V.eq (ear (relayed_world T.says self.now) i) self.now.exchange.commander }
         ensures within { (i : ℕ) → has_id result i ≡ true →
             (has_id self.now.exchange.awake i ≡ true) × (self.now.exchange.commander ≢ i) }
         ensures nodes { length told.new ≡ N }
-        ensures room { length work.new ≡ WORK }
     {
         self.lay_told(told);
-        self.convict_told(told, work)
+        self.convict_told(told)
     }
 }

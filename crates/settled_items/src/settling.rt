@@ -92,6 +92,6 @@ impl<V: Copy + Eq + Drop, const N: usize> Settling<V, N> {
             (has_id item.now.exchange.awake i ≡ true) × (item.now.exchange.commander ≢ i) }
         ensures kept { self.new ≡ self.old }
     {
-        item.convicting(self.told.as_mut_slice(), self.work.as_mut_slice())
+        item.convicting(self.told.as_mut_slice())
     }
 }

@@ -71,19 +71,15 @@ fn settle_each(
     }
 }
 
-/// Whether each of these nodes convicts the commander where it should.
-fn are_convicting(
-    item: &Item<u8, Lies, 16>,
-    drawn: &Drawn,
-    awake: &NodeSet<16>,
-    work: &mut [Wrapped<u8>],
-) -> bool
+/// Whether those of these nodes convict the commander that should.
+fn are_convicting(item: &Item<u8, Lies, 16>, drawn: &Drawn, awake: &NodeSet<16>) -> bool
     requires item { IsTelling 16 (telling drawn_lie item.now) }
-    requires room { length work.old ≡ WORK }
-    ensures room { length work.new ≡ WORK }
 {
-    for i in awake.iter() {
-        if i != item.commander && item.convicts(i, work) != plain::convicts(drawn, i) {
+    let _ = item.phase.members.len();
+    let others = awake.without(item.commander);
+    let convicting = item.convicting(&others);
+    for i in others.iter() {
+        if convicting.has(i) != plain::convicts(drawn, i) {
             return false;
         }
     }
@@ -135,7 +131,7 @@ fn count_item(counts: &mut Counts, drawn: &Drawn, awake: &NodeSet<16>, work: &mu
     if has_few {
         count_settled(counts, &item, drawn, awake, work);
     }
-    let convicting = are_convicting(&item, drawn, awake, work);
+    let convicting = are_convicting(&item, drawn, awake);
     counts.convicted = count_if(counts.convicted, convicting);
 }
 

@@ -1,9 +1,23 @@
-use Rattle.std.proofs.Common.{sym, rules, arith}
-use Rattle.odd_relays.proofs.Laying.{low_of}
+use Rattle.std.proofs.Common.{List, ℕ, ap, ◌∙◌, rules, arith}
+use Rattle.node_grid.specs.NodeSet.{has_id}
+use Rattle.omh_paths.specs.MemberLaws.{member-lt}
+use Rattle.odd_relays.proofs.Laying.{not_rest}
 use Rattle.worked_chains.proofs.are_convicting.Goals as goal
 
-pub convicts-requires : goal.convicts-requires
-convicts-requires c =
-    let i = c.loop-i.invariant in
-    let low = low_of 16 c.args.awake.now c.loop-i.yielded c.next.new.self c.loop-i.i-iterator c.in-Some.i c.iter-i-items.ensures.ids i.split c.in-Some.ensures.steps in
-    (omega arith, (search rules, (c.requires.item, (low, ((λ e. c.if-i-item.true (sym e)), i.room)))))
+pub without-others-requires : goal.without-others-requires
+without-others-requires c = (omega arith, member-lt 16 c.args.item.now.phase.members c.args.item.now.commander c.len.ensures.ids c.requires.item.member)
+
+pub convicting-convicting-requires : goal.convicting-convicting-requires
+convicting-convicting-requires c = (
+  omega arith,
+  (
+    omega arith,
+    (search rules, (c.requires.item, ap (λ (s : List ℕ). has_id s c.args.item.now.commander) c.without-others.ensures ∙ not_rest c.args.awake.now c.args.item.now.commander)),
+  ),
+)
+
+pub loop-i-init : goal.loop-i-init
+loop-i-init c = record { can = tt; ends = tt }
+
+pub loop-i-preserved : goal.loop-i-preserved
+loop-i-preserved c = record { can = tt; ends = tt }

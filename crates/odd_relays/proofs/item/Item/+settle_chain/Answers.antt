@@ -1,5 +1,5 @@
 use Rattle.std.proofs.Common.{rules, ◌≡◌, ◌≢◌, ◌<◌, ◌≤◌, ◌+◌, ◌-◌, ◌*◌, suc, ◌==◌, ◌&&◌, Bool, true, false, not, length, take, drop, map, List, [], ◌∷◌, ◌++◌, ℕ, slice_index_or, sym, ap, ◌∙◌, inl, inr, arith, eq-eqb, eqb-true, ne_eqb}
-use Rattle.std.proofs.lemmas.Bool.{or_cases, cases_eq}
+use Rattle.std.proofs.lemmas.Bool.{or_cases, or_from, cases_eq}
 use Rattle.std.proofs.lemmas.List.{length_push}
 use Rattle.node_grid.specs.Capacity.{IsCapacity}
 use Rattle.node_grid.specs.NodeSet.{has_id, without_id, IsIdSet}
@@ -18,6 +18,7 @@ use Rattle.odd_relays.specs.Direct.{direct_world}
 use Rattle.odd_relays.proofs.ChainLaws.{chain_term, chain_now, chain_later, chain_base, chain_odd}
 use Rattle.odd_relays.proofs.Laying.{next_on, next_outside, next_short, split_more, split_all}
 use Rattle.odd_relays.proofs.Places.{row_is, row_more}
+use Rattle.odd_relays.proofs.Cutting.{alike_settles, chain_push}
 use Rattle.odd_relays.proofs.Columns.{filled_row, filled_here, filled_below, final_row, final_copied, final_own, final_below}
 use Rattle.odd_relays.proofs.item.Item.+settle_chain.Goals as goal
 use Rattle.odd_relays.proofs.item.Item.+settle_chain.Goals.{then-has, else-has}
@@ -54,6 +55,11 @@ on_others all others q i is on ne = ap (λ (s : List ℕ). has_id s i) is ∙ ha
 off_others : (all others : List ℕ) (q i : ℕ) → others ≡ without_id all q → has_id others i ≡ true → i ≢ q
 off_others all others q i is on = (has-without-left all q i (ap (λ (s : List ℕ). has_id s i) (sym is) ∙ on)).0
 
+off_longer_path : (all others path longer : List ℕ) (q i : ℕ) → others ≡ without_id all q → longer ≡ path ++ q ∷ [] → ((k : ℕ) → has_id all k ≡ true → has_id path k ≡ false) → has_id others i ≡ true → has_id longer i ≡ false
+off_longer_path all others path longer q i others_are is off on =
+    let parts = has-without-left all q i (ap (λ (s : List ℕ). has_id s i) (sym others_are) ∙ on) in
+    ap (λ (s : List ℕ). has_id s i) is ∙ has_push path q i ∙ or_from (has_id path i) (q == i) (off i parts.1) (ne_eqb q i (λ e. parts.0 (sym e)))
+
 pub returns-then-len-self-clause-settled : goal.returns-then-len-self-clause-settled
 returns-then-len-self-clause-settled g k c =
     let p = c.args.path.now in
@@ -62,10 +68,21 @@ returns-then-len-self-clause-settled g k c =
     let e : t.rounds + 1 - length p ≡ 0 = omega (arith, c.if-len-self.true, c.len-2.ensures.count) in
     λ i on. c.lay_heard.ensures.laid i on ∙ sym (chain_now g.V.PartialEq.eq w t.odd i p) ∙ sym (ap (λ (r : ℕ). chain_within g.V.PartialEq.eq w t.odd i r p) e)
 
+pub returns-then-is_heard_alike-clause-settled : goal.returns-then-is_heard_alike-clause-settled
+returns-then-is_heard_alike-clause-settled g k c = λ i on.
+    let t = telling g.S.Relays.says c.args.self.now in
+    c.lay_heard-then-is_heard_alike.ensures.laid i on
+    ∙ alike_settles t g.V.PartialEq.eq c.requires.exact c.requires.few i c.args.receivers.now c.args.path.now c.requires.chain on (c.requires.off i on) (c.is_heard_alike.ensures c.if-is_heard_alike.true)
+
 pub passed-own-requires : goal.passed-own-requires
 passed-own-requires g k c =
     let low = next_low g.row.N c.outside.result c.args.self.now.phase.members c.args.path.now c.loop-q.yielded c.next.new.self c.loop-q.q-iterator c.in-Some.q c.iter-q-items.ensures.ids c.outside.ensures c.loop-q.invariant.split c.in-Some.ensures.steps in
     (omega arith, (c.requires.item, low))
+
+pub without-others-requires : goal.without-others-requires
+without-others-requires g k c =
+    let low = next_low g.row.N c.outside.result c.args.self.now.phase.members c.args.path.now c.loop-q.yielded c.next.new.self c.loop-q.q-iterator c.in-Some.q c.iter-q-items.ensures.ids c.outside.ensures c.loop-q.invariant.split c.in-Some.ensures.steps in
+    (omega arith, low)
 
 pub then-requires-clause-off : goal.then-requires-clause-off
 then-requires-clause-off g k c = (next_outside c.args.self.now.phase.members c.args.path.now c.loop-q.yielded c.next.new.self c.loop-q.q-iterator c.in-Some.q c.loop-q.invariant.split c.in-Some.ensures.steps).1
@@ -77,7 +94,10 @@ settle_chain-requires g k c κs within =
     let low = next_low g.row.N c.outside.result c.args.self.now.phase.members p c.loop-q.yielded c.next.new.self c.loop-q.q-iterator q c.iter-q-items.ensures.ids c.outside.ensures c.loop-q.invariant.split c.in-Some.ensures.steps in
     let deep : length p ≤ c.args.self.now.phase.rounds = omega (arith, c.if-len-self.false, c.len-2.ensures.count) in
     let l : length c.then.result ≡ length p + 1 = ap length c.then.ensures ∙ length_push p q in
-    let long = c.fill_terms.ensures.room in (
+    let long = c.fill_terms.ensures.room in
+    let next = next_outside c.args.self.now.phase.members p c.loop-q.yielded c.next.new.self c.loop-q.q-iterator q c.loop-q.invariant.split c.in-Some.ensures.steps in
+    let chain = chain_push (telling g.S.Relays.says c.args.self.now) p c.then.result q c.requires.chain next.0 next.1 (sym c.has.ensures ∙ c.if-has.true) deep c.then.ensures in
+    let off : (i : ℕ) → has_id c.without-others.result i ≡ true → has_id c.then.result i ≡ false = λ i on. off_longer_path c.args.receivers.now c.without-others.result p c.then.result q i c.without-others.ensures c.then.ensures c.requires.off on in (
       omega (arith, c.decreases, l, deep),
       (
         search rules,
@@ -95,7 +115,7 @@ settle_chain-requires g k c κs within =
                     c.requires.item,
                     (
                       low_push g.row.N p c.then.result q c.requires.nodes low c.then.ensures,
-                      (omega (arith, l, deep), (omega (arith, l, deep, long, c.loop-q.invariant.long, c.requires.room), omega (arith, long, c.loop-q.invariant.long, c.requires.small))),
+                      (omega (arith, l, deep), (omega (arith, l, deep, long, c.loop-q.invariant.long, c.requires.room), (omega (arith, long, c.loop-q.invariant.long, c.requires.small), (c.requires.few, (chain, off))))),
                     ),
                   ),
                 ),

@@ -1,5 +1,6 @@
-use Rattle.std.proofs.Common.{◌≡◌, ◌<◌, ◌+◌, ◌-◌, ◌==◌, true, ℕ, List, [], ◌∷◌, length, slice_index_or, sym, ap, ◌∙◌, inl, inr, arith, eqb-true}
-use Rattle.std.proofs.lemmas.Bool.{or_cases}
+use Rattle.std.proofs.Common.{◌≡◌, ◌<◌, ◌+◌, ◌-◌, ◌==◌, true, ℕ, List, [], ◌∷◌, length, slice_index_or, false, refl, sym, ap, ◌∙◌, inl, inr, arith, eqb-true, ne_eqb}
+use Rattle.std.proofs.lemmas.Bool.{or_cases, or_from}
+use Rattle.odd_relays.proofs.Cutting.{chain_root}
 use Rattle.node_grid.specs.NodeSet.{has_id, IsIdSet}
 use Rattle.omh_paths.specs.MemberLaws.{Distinct-ids, member-lt}
 use Rattle.omh_paths.specs.declared.wrapped.Wrapped.TheVariants.{Fault}
@@ -18,7 +19,10 @@ root_low n members path c ids member is q on = elim (or_cases (c == q) _ (ap (λ
 
 pub settle_chain-requires : goal.settle_chain-requires
 settle_chain-requires g c =
-    let long = ap length c.root.ensures in (
+    let t = telling g.S.Relays.says c.args.self.now in
+    let long = ap length c.root.ensures in
+    let chain = chain_root t c.root.result (Distinct-ids g.row.N t.members c.len.ensures.ids) c.requires.item.member c.root.ensures in
+    let off : (i : ℕ) → has_id c.args.receivers.now i ≡ true → has_id c.root.result i ≡ false = λ i on. ap (λ (s : List ℕ). has_id s i) c.root.ensures ∙ or_from (t.commander == i) false (ne_eqb t.commander i (apart c.args.receivers.now t.commander i c.requires.others on)) refl in (
       omega arith,
       (
         omega arith,
@@ -28,7 +32,7 @@ settle_chain-requires g c =
             c.requires.item,
             (
               root_low g.row.N c.args.self.now.phase.members c.root.result c.args.self.now.commander c.len.ensures.ids c.requires.item.member c.root.ensures,
-              (omega (arith, long), (omega (arith, long, c.requires.room, c.requires.item.rounds_ok), omega (arith, c.requires.room))),
+              (omega (arith, long), (omega (arith, long, c.requires.room, c.requires.item.rounds_ok), (omega (arith, c.requires.room), (c.requires.few, (chain, off))))),
             ),
           ),
         ),

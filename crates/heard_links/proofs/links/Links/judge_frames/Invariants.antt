@@ -2,7 +2,7 @@ use Rattle.std.proofs.Common.{ℕ, ◌≡◌, ◌≢◌, ◌<◌, ◌≤◌, ◌
 use Rattle.node_grid.specs.NodeSet.{has_id}
 use Rattle.heard_links.specs.declared.came.Came.TheVariants as came
 use Rattle.heard_links.specs.Hearing.{IsCame, link_at, talk_in, is_even}
-use Rattle.heard_links.proofs.links.Links.hear_frames.Given as goal
+use Rattle.heard_links.proofs.links.Links.judge_frames.Given as goal
 
 abbrev pub invariant-loop-to : goal.invariant-loop-to
 invariant-loop-to g l = record {
