@@ -64,7 +64,7 @@ pub noter : {N : ℕ} (config : Config N) (notes : List Notes) (i : ℕ) → i <
 noter config notes i low shaped within = record {
   nodes = shaped.nodes i low;
   me = shaped.me i low;
-  kinds = let e = shaped.kinds i low in let f = few_kinds config.version in omega arith;
+  kinds = shaped.kinds i low;
   within = within;
 }
 

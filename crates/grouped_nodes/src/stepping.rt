@@ -12,23 +12,21 @@ use crate::Groups;
 use agreed_state::{Agreed, Config};
 use shared_states::{Belief, SharedStates};
 
-/// The state after a period, by what its nodes believe.
-fn state_after<const N: usize>(
+/// Takes a state through a period, by what its nodes believe.
+fn step_by<const N: usize>(
     config: &Config<N>,
     period: u32,
-    state: &Agreed<N>,
+    state: &mut Agreed<N>,
     belief: &Belief<N>,
-) -> Agreed<N>
+)
     requires capacity { IsCapacity N }
     requires config { IsConfig N config.now }
-    requires agreed { IsAgreed N config.now state.now }
-    ensures after { result ≡ agreed_after N config.now period state.now belief.now.done
+    requires agreed { IsAgreed N config.now state.old }
+    ensures after { state.new ≡ agreed_after N config.now period state.old belief.now.done
         belief.now.rows }
-    ensures agreed { IsAgreed N config.now result }
+    ensures agreed { IsAgreed N config.now state.new }
 {
-    let mut after = *state;
-    after.step(config, period, &belief.done, &belief.rows);
-    after
+    state.step(config, period, &belief.done, &belief.rows);
 }
 
 /// Gives each node the state after a period, worked out once for each group of nodes that went
@@ -57,7 +55,8 @@ pub fn step<const N: usize>(
     for first in 0..N as u8 {
         if groups.is_first(first) {
             if let Some(state) = states.get(first) {
-                let after = state_after(config, period, state, &beliefs[first as usize]);
+                let mut after = *state;
+                step_by(config, period, &mut after, &beliefs[first as usize]);
                 states.replace(&groups.members_of(first), &after);
             }
         }

@@ -8,3 +8,5 @@ pub mod Accounts
 pub mod Hearers
 pub mod Marking
 pub mod Agreed
+pub mod Kinding
+pub mod FrameKinds

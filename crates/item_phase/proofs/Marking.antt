@@ -1,9 +1,9 @@
 -- What is laid down for one node of one member's item.
 use Rattle.std.proofs.Common.{ℕ, ◌≡◌, ◌≢◌, ◌<◌, ◌+◌, ◌*◌, ◌==◌, ◌&&◌, ◌||◌, ◌⊎◌, Bool, true, false, not, List, [], length, refl, sym, ap, ◌∙◌, inl, inr, arith, eq-eqb, eqb-true, ne_eqb, get_or, set, get_or-set_same, get_or-set_other}
-use Rattle.std.proofs.lemmas.Bool.{cases_eq, or_left, and_parts, not-true}
+use Rattle.std.proofs.lemmas.Bool.{cases_eq, cases_lt, or_left, and_parts, not-true, both_ways}
 use Rattle.std.proofs.lemmas.Map.Views.{any-filter_same}
-use Rattle.node_grid.specs.NodeSet.{has_id, with_id, without_id, minus_of}
-use Rattle.node_grid.specs.NodeSetLaws.{has-with_id, has-without_id}
+use Rattle.node_grid.specs.NodeSet.{has_id, with_id, without_id, minus_of, ids_below}
+use Rattle.node_grid.specs.NodeSetLaws.{has-with_id, has-without_id, has-range, hasnt-above, filter_every}
 use Rattle.item_phase.proofs.Placing.{rows_apart}
 
 -- places by member and node
@@ -49,10 +49,24 @@ in_minus these those q on =
     let parts = and_parts (not (has_id those q)) (has_id these q) (sym (has_minus these those q) ∙ on) in
     (parts.1, not-true (has_id those q) parts.0)
 
--- all nodes of one set are in another
-pub all_in : (these those : List ℕ) (q : ℕ) → minus_of these those ≡ [] → has_id these q ≡ true → has_id those q ≡ true
-all_in these those q none = left_out (has_id those q) (has_id these q) (sym (has_minus these those q) ∙ ap (λ (s : List ℕ). has_id s q) none)
+-- a node of one set that isn't left without another one is in that
+pub taken_out : (these those : List ℕ) (q : ℕ) → has_id (minus_of these those) q ≡ false → has_id these q ≡ true → has_id those q ≡ true
+taken_out these those q out = left_out (has_id those q) (has_id these q) (sym (has_minus these those q) ∙ out)
   where
     left_out : (a b : Bool) → (not a && b) ≡ false → b ≡ true → a ≡ true
     left_out true b off on = refl
     left_out false b off on = cc
+
+-- all nodes of one set are in another
+pub all_in : (these those : List ℕ) (q : ℕ) → minus_of these those ≡ [] → has_id these q ≡ true → has_id those q ≡ true
+all_in these those q none = taken_out these those q (ap (λ (s : List ℕ). has_id s q) none)
+
+-- a node below a number is one of all below it, and no other is
+pub has_below : (n k : ℕ) → k < n → has_id (ids_below n) k ≡ true
+has_below n k low = has-range 0 n k (omega arith) (omega (arith, low))
+
+pub low_below : (n k : ℕ) → has_id (ids_below n) k ≡ true → k < n
+low_below n k on = elim (cases_lt k n) [
+  | inl low ↦ low
+  | inr high ↦ absurd (both_ways _ (hasnt-above n (ids_below n) k (sym (filter_every (has_id (ids_below n)) 0 n (λ i from to. has-range 0 n i from to))) high) on)
+]

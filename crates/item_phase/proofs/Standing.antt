@@ -37,14 +37,14 @@ module _ {V : Type 0} {N : ℕ} (eq : V → V → Bool) (form : ItemForm V) (fir
   pub as_own : (c : ℕ) → c ≡ i → own_in x s.links c ≡ settled_from eq (listener form x s.links i) own c
   as_own c e = ap (own_in x s.links) e ∙ sym (cond-true (c == i) (own_in x s.links i) (settled_at eq (listener form x s.links i) (c ∷ [])) (eq-eqb c i e))
 
-  pub as_said : (c : ℕ) → has_id (members_at x i) c ≡ true → has_id s.plain c ≡ true → own_in x s.links c ≡ settled_from eq (listener form x s.links i) own c
+  pub as_said : (c : ℕ) → has_id (members_at x i) c ≡ true → has_id s.seen.plain c ≡ true → own_in x s.links c ≡ settled_from eq (listener form x s.links i) own c
   as_said c member plain = elim (cases_eq c i) [
     | inl e ↦ as_own c e
     | inr ne ↦ (is.plain i c on member ne plain).settled ∙ sym (cond-false (c == i) (own_in x s.links i) (settled_at eq (listener form x s.links i) (c ∷ [])) (ne_eqb c i ne))
   ]
 
   -- another one
-  pub as_laid : (c : ℕ) → has_id (members_at x i) c ≡ true → c ≢ i → has_id s.plain c ≡ false → slice_index_or s.each.items (c * N + i) (Fault 0) ≡ settled_from eq (listener form x s.links i) own c
+  pub as_laid : (c : ℕ) → has_id (members_at x i) c ≡ true → c ≢ i → has_id s.seen.plain c ≡ false → slice_index_or s.each.items (c * N + i) (Fault 0) ≡ settled_from eq (listener form x s.links i) own c
   as_laid c member ne off =
       (is.laid i c on member ne off).settled ∙ sym (cond-false (c == i) (own_in x s.links i) (settled_at eq (listener form x s.links i) (c ∷ [])) (ne_eqb c i ne))
 
@@ -55,16 +55,16 @@ module _ {V : Type 0} {N : ℕ} (eq : V → V → Bool) (form : ItemForm V) (fir
   member_is : (c : ℕ) → has_id (members_at x i) c ≡ true → convicts eq (listener form x s.links i) c ≡ convicts_member eq (listener form x s.links i) c
   member_is c member = sym (ap (λ (b : Bool). b && convicts eq (listener form x s.links i) c) member)
 
-  pub against_plain : (c : ℕ) → has_id (members_at x i) c ≡ true → c ≢ i → has_id s.plain c ≡ true → false ≡ convicts_member eq (listener form x s.links i) c
+  pub against_plain : (c : ℕ) → has_id (members_at x i) c ≡ true → c ≢ i → has_id s.seen.plain c ≡ true → false ≡ convicts_member eq (listener form x s.links i) c
   against_plain c member ne plain = sym (is.plain i c on member ne plain).spared ∙ member_is c member
 
-  pub against_laid : (c : ℕ) → x.config.now.version ≢ 1 → has_id (members_at x i) c ≡ true → c ≢ i → has_id s.plain c ≡ false
+  pub against_laid : (c : ℕ) → x.config.now.version ≢ 1 → has_id (members_at x i) c ≡ true → c ≢ i → has_id s.seen.plain c ≡ false
       → has_id (slice_index_or s.convicting c []) i ≡ convicts_member eq (listener form x s.links i) c
   against_laid c two member ne off = (is.laid i c on member ne off).convicted two ∙ member_is c member
 
 -- two nodes with the same members settle an item as it is said
 pub alike_said : {V : Type 0} {N : ℕ} (eq : V → V → Bool) (form : ItemForm V) (first : ℕ → ℕ) (tells : System → ℕ → ℕ → V) (x : Phase N) (s : ItemPhase V N) → IsSettled eq form first tells x s
-    → (i j c : ℕ) → has_id x.awake i ≡ true → has_id x.awake j ≡ true → members_at x i ≡ members_at x j → has_id (members_at x i) c ≡ true → has_id s.plain c ≡ true
+    → (i j c : ℕ) → has_id x.awake i ≡ true → has_id x.awake j ≡ true → members_at x i ≡ members_at x j → has_id (members_at x i) c ≡ true → has_id s.seen.plain c ≡ true
     → settled_from eq (listener form x s.links i) (Plain (item_of s.links i)) c ≡ settled_from eq (listener form x s.links j) (Plain (item_of s.links j)) c
 alike_said eq form first tells x s is i j c on_i on_j same member plain =
     sym (as_said eq form first tells x s is i on_i c member plain)

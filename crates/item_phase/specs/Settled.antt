@@ -1,5 +1,5 @@
 -- What all nodes settle in a phase, by what is laid down of it.
-use Rattle.std.specs.Prelude.{ℕ, ◌≡◌, ◌≢◌, ◌<◌, ◌≤◌, ◌+◌, ◌*◌, Bool, true, false, List, [], ◌∷◌, slice_index_or}
+use Rattle.std.specs.Prelude.{ℕ, ◌≡◌, ◌≢◌, ◌<◌, ◌≤◌, ◌+◌, ◌*◌, Bool, true, false, List, [], ◌∷◌, None, slice_index_or}
 use Rattle.node_grid.specs.NodeSet.{has_id, IsIdSet}
 use Rattle.omh_paths.specs.declared.wrapped.Wrapped.{Wrapped}
 use Rattle.omh_paths.specs.declared.wrapped.Wrapped.TheVariants.{Fault}
@@ -12,9 +12,11 @@ use Rattle.protocol.specs.Run.{System}
 use Rattle.heard_links.specs.declared.phase.Phase.{Phase}
 use Rattle.heard_links.specs.declared.links.Links.{Links}
 use Rattle.heard_links.specs.Talks.{members_at}
-use Rattle.heard_links.specs.Hearing.{talk_in, is_even, IsHeard}
+use Rattle.heard_links.specs.Hearing.{talk_in, is_even, IsHeard, frame_kind}
 use Rattle.heard_links.specs.Passing.{own_in}
 use Rattle.item_phase.specs.declared.item_phase.ItemPhase.{ItemPhase}
+use Rattle.item_phase.specs.declared.item_phase.Seen.{Seen}
+use Rattle.item_phase.specs.Noted.{rounds_of}
 
 -- what node i knows of the items
 abbrev pub listener : {V : Type 0} {N : ℕ} → ItemForm V → Phase N → Links V N → ℕ → Ear V
@@ -47,8 +49,16 @@ pub record IsLaid {V : Type 0} {N : ℕ} (eq : V → V → Bool) (form : ItemFor
   pub settled : slice_index_or each (c * N + i) (Fault 0) ≡ settled_at eq (listener form x links i) (c ∷ [])
   pub convicted : x.config.now.version ≢ 1 → has_id (slice_index_or convicting c []) i ≡ convicts eq (listener form x links i) c
 
+-- what is said of all is so: all nodes that are awake have the same members, which all settle as they say it; and a node that isn't ill has no bad frame
+pub record IsSeen {V : Type 0} {N : ℕ} (form : ItemForm V) (x : Phase N) (links : Links V N) (seen : Seen N) : Type 0 where
+  pub same : seen.is_all ≡ true → (i j : ℕ) → has_id x.awake i ≡ true → has_id x.awake j ≡ true → members_at x i ≡ members_at x j
+  pub plain : seen.is_all ≡ true → (i c : ℕ) → has_id x.awake i ≡ true → has_id (members_at x i) c ≡ true → has_id seen.plain c ≡ true
+  pub used : (j : ℕ) → has_id seen.ill j ≡ true → j < x.config.now.nodes
+  pub well : (r j i : ℕ) → r ≤ x.config.now.m → j < x.config.now.nodes → has_id seen.ill j ≡ false → has_id x.awake i ≡ true → i ≢ j → frame_kind (rounds_of form x links i) r j ≡ None
+
 -- so it is of each node that is awake and each of its other members
 pub record IsSettled {V : Type 0} {N : ℕ} (eq : V → V → Bool) (form : ItemForm V) (first : ℕ → ℕ) (tells : System → ℕ → ℕ → V) (x : Phase N) (s : ItemPhase V N) : Type 0 where
   pub heard : IsHeard form first tells x s.links (x.config.now.m + 1)
-  pub plain : (i c : ℕ) → has_id x.awake i ≡ true → has_id (members_at x i) c ≡ true → c ≢ i → has_id s.plain c ≡ true → IsPlain eq form x s.links i c
-  pub laid : (i c : ℕ) → has_id x.awake i ≡ true → has_id (members_at x i) c ≡ true → c ≢ i → has_id s.plain c ≡ false → IsLaid eq form x s.links s.each.items s.convicting i c
+  pub plain : (i c : ℕ) → has_id x.awake i ≡ true → has_id (members_at x i) c ≡ true → c ≢ i → has_id s.seen.plain c ≡ true → IsPlain eq form x s.links i c
+  pub laid : (i c : ℕ) → has_id x.awake i ≡ true → has_id (members_at x i) c ≡ true → c ≢ i → has_id s.seen.plain c ≡ false → IsLaid eq form x s.links s.each.items s.convicting i c
+  pub seen : IsSeen form x s.links s.seen

@@ -1,13 +1,14 @@
 //! How all nodes settle the items.
 
-ghost use Rattle.std.specs.Prelude.{◌≡◌, ◌≢◌, ℕ, ◌<◌, ◌≤◌, ◌+◌, ◌*◌, true, false, [], length, slice_index_or, IfSome};
+ghost use Rattle.std.specs.Prelude.{◌≡◌, ◌≢◌, ℕ, ◌<◌, ◌≤◌, ◌+◌, ◌*◌, true, false, []};
+ghost use Rattle.std.specs.Prelude.{length, slice_index_or, IfSome};
 ghost use Rattle.node_grid.specs.NodeSet.{has_id};
 ghost use Rattle.heard_links.specs.Talks.{IsSet, members_at};
 ghost use Rattle.heard_links.specs.Hearing.{IsHeard, item_of};
 ghost use Rattle.item_phase.specs.Settled.{IsSettled, IsOfAll, AreOdd, IsTold, IsPlain, IsLaid};
 
 use crate::asking::members_of;
-use crate::item_phase::ItemPhase;
+use crate::item_phase::{ItemPhase, Seen};
 use crate::told::Told;
 use crate::values::lay_row;
 use heard_links::Phase;
@@ -75,7 +76,7 @@ impl<V: Item<N>, const N: usize> ItemPhase<V, N> {
         requires room { self.old.settling ≡
             record { nodes = phase.now.config.now.nodes; rounds = phase.now.config.now.m } }
         ensures links { self.new.links ≡ self.old.links }
-        ensures plain { self.new.plain ≡ self.old.plain }
+        ensures seen { self.new.seen ≡ self.old.seen }
         ensures room { self.new.settling ≡ self.old.settling }
         ensures here { (i : ℕ) → has_id phase.now.awake i ≡ true → commander ≢ i →
             IsLaid V.eq V.form phase.now self.new.links self.new.each.items self.new.convicting i
@@ -118,7 +119,9 @@ impl<V: Item<N>, const N: usize> ItemPhase<V, N> {
     {
         let odd = self.links.odd(phase);
         let plain = self.plain_members(phase, members, &odd);
-        self.plain = plain;
+        let is_all = members.minus(&plain).is_empty();
+        let ill = self.ill(phase, &odd);
+        self.seen = Seen { plain, is_all, ill };
         for commander in 0..phase.config.nodes {
             if members.has(commander) && !plain.has(commander) {
                 self.agree_on(phase, members, &odd, commander);

@@ -42,7 +42,7 @@ impl<V: Item<N>, const N: usize> ItemPhase<V, N> {
         ensures { result ≡ settled_from V.eq (listener V.form phase.now self.now.links i)
             (Plain (item_of self.now.links i)) c }
     {
-        if c == i || self.plain.has(c) {
+        if c == i || self.seen.plain.has(c) {
             self.links.own(phase, c)
         } else {
             self.each[c as usize * N + i as usize]
@@ -61,13 +61,16 @@ impl<V: Item<N>, const N: usize> ItemPhase<V, N> {
             ≡ settled_from V.eq (listener V.form phase.now self.now.links j)
             (Plain (item_of self.now.links j)) c }
     {
+        if self.seen.is_all {
+            return true;
+        }
         let members = members_of(phase, i);
         if members != members_of(phase, j) {
             return false;
         }
         for c in 0..phase.config.nodes {
             if members.has(c)
-                && !self.plain.has(c)
+                && !self.seen.plain.has(c)
                 && !is_same(self.settled(phase, i, c), self.settled(phase, j, c))
             {
                 return false;
@@ -85,7 +88,7 @@ impl<V: Item<N>, const N: usize> ItemPhase<V, N> {
         requires other { c ≢ i }
         ensures { result ≡ convicts_member V.eq (listener V.form phase.now self.now.links i) c }
     {
-        members_of(phase, i).has(c) && !self.plain.has(c) && self.convicting[c as usize].has(i)
+        members_of(phase, i).has(c) && !self.seen.plain.has(c) && self.convicting[c as usize].has(i)
     }
 
     /// Whom awake node `i` convicts, in version 2.
@@ -96,7 +99,7 @@ impl<V: Item<N>, const N: usize> ItemPhase<V, N> {
         ensures { (c : ℕ) → c ≢ i →
             has_id result c ≡ convicts_member V.eq (listener V.form phase.now self.now.links i) c }
     {
-        if members_of(phase, i).minus(&self.plain).is_empty() {
+        if members_of(phase, i).minus(&self.seen.plain).is_empty() {
             return NodeSet::empty();
         }
         let mut convicted = NodeSet::empty();

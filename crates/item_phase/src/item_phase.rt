@@ -12,6 +12,17 @@ use settled_items::{Settling, TERMS};
 use std::alloc::Global;
 use touched_items::Item;
 
+/// What is known of a phase before its items are settled.
+#[derive(Clone, Copy)]
+pub(crate) struct Seen<const N: usize> {
+    /// The members whose item all settle as they say it.
+    pub(crate) plain: NodeSet<N>,
+    /// True only where all awake nodes have the same members, each of which is one of these.
+    pub(crate) is_all: bool,
+    /// The nodes of whose frames one may be found bad.
+    pub(crate) ill: NodeSet<N>,
+}
+
 /// What all nodes settle of each other's items in the rounds of one kind of item.
 ///
 /// What is left in it from another phase means nothing.
@@ -21,8 +32,8 @@ pub struct ItemPhase<V, const N: usize> {
     pub(crate) links: Links<V, N>,
     /// Room for settling.
     pub(crate) settling: Settling<V, N>,
-    /// The members whose item all settle as they say it.
-    pub(crate) plain: NodeSet<N>,
+    /// What is known of the phase before its items are settled.
+    pub(crate) seen: Seen<N>,
     /// Room for what each node settles of one item, by node.
     pub(crate) row: Vec<Wrapped<V>>,
     /// What each node settles of the items of other members, by member and node.
@@ -63,7 +74,11 @@ impl<V: Item<N>, const N: usize> ItemPhase<V, N> {
         Ok(ItemPhase {
             links,
             settling,
-            plain: NodeSet::empty(),
+            seen: Seen {
+                plain: NodeSet::empty(),
+                is_all: false,
+                ill: NodeSet::empty(),
+            },
             row,
             each,
             work,

@@ -1,6 +1,7 @@
 //! How nodes that go by members of their own settle the items, each by itself.
 
-ghost use Rattle.std.specs.Prelude.{◌≡◌, ◌≢◌, ℕ, ◌<◌, ◌≤◌, ◌+◌, ◌*◌, ◌⊎◌, true, false, [], slice_index_or};
+ghost use Rattle.std.specs.Prelude.{◌≡◌, ◌≢◌, ℕ, ◌<◌, ◌≤◌, ◌+◌, ◌*◌, ◌⊎◌, true, false, []};
+ghost use Rattle.std.specs.Prelude.{slice_index_or};
 ghost use Rattle.node_grid.specs.NodeSet.{has_id};
 ghost use Rattle.omh_paths.specs.declared.wrapped.Wrapped.TheVariants.{Fault};
 ghost use Rattle.heard_links.specs.Talks.{members_at};
@@ -9,7 +10,7 @@ ghost use Rattle.item_phase.specs.Settled.{IsSettled, IsLaid};
 ghost use Rattle.item_phase.specs.Listening.{hears_in};
 
 use crate::asking::members_of;
-use crate::item_phase::ItemPhase;
+use crate::item_phase::{ItemPhase, Seen};
 use heard_links::{Links, Phase};
 use node_grid::NodeSet;
 use omh_paths::{Path, Wrapped};
@@ -54,7 +55,7 @@ impl<V: Item<N>, const N: usize> ItemPhase<V, N> {
         requires node { me < N }
         requires member { commander < N }
         ensures links { self.new.links ≡ self.old.links }
-        ensures plain { self.new.plain ≡ self.old.plain }
+        ensures seen { self.new.seen ≡ self.old.seen }
         ensures room { self.new.settling ≡ self.old.settling }
         ensures settled { slice_index_or self.new.each.items (commander * N + me) (Fault 0) ≡
             settled }
@@ -82,7 +83,7 @@ impl<V: Item<N>, const N: usize> ItemPhase<V, N> {
         requires member { has_id (members_at phase.now me) commander ≡ true }
         requires other { commander ≢ me }
         ensures links { self.new.links ≡ self.old.links }
-        ensures plain { self.new.plain ≡ self.old.plain }
+        ensures seen { self.new.seen ≡ self.old.seen }
         ensures room { self.new.settling ≡ self.old.settling }
         ensures here { IsLaid V.eq V.form phase.now self.new.links self.new.each.items
             self.new.convicting me commander }
@@ -115,7 +116,7 @@ impl<V: Item<N>, const N: usize> ItemPhase<V, N> {
             (phase.now.config.now.m + 1) }
         requires within { commander < phase.now.config.now.nodes }
         ensures links { self.new.links ≡ self.old.links }
-        ensures plain { self.new.plain ≡ self.old.plain }
+        ensures seen { self.new.seen ≡ self.old.seen }
         ensures room { self.new.settling ≡ self.old.settling }
         ensures here { (i : ℕ) → has_id phase.now.awake i ≡ true →
             has_id (members_at phase.now i) commander ≡ true → commander ≢ i →
@@ -142,7 +143,11 @@ impl<V: Item<N>, const N: usize> ItemPhase<V, N> {
         ensures links { self.new.links ≡ self.old.links }
         ensures room { self.new.settling ≡ self.old.settling }
     {
-        self.plain = NodeSet::empty();
+        let odd = self.links.odd(phase);
+        let plain = NodeSet::empty();
+        let ill = self.ill(phase, &odd);
+        let is_all = false;
+        self.seen = Seen { plain, is_all, ill };
         for commander in 0..phase.config.nodes {
             self.listen_for(phase, commander);
         }

@@ -20,7 +20,7 @@ carry-requires g c =
     let carrier : IsCarrier c.args.phase.now.config.now c.args.i c.args.notes.now = record {
       nodes = c.requires.nodes;
       me = c.requires.me;
-      kinds = let e = c.requires.kinds in let f = few_kinds c.args.phase.now.config.now.version in omega arith;
+      kinds = c.requires.kinds;
       within = c.requires.within;
     } in
     (elim cap [ inl e ↦ rw e (lit< tt) | inr e ↦ rw e (lit< tt) ], (elim cap [ inl e ↦ rw e (lit< tt) | inr e ↦ rw e (lit< tt) ], (elim cap [ inl e ↦ rw e (lit< tt) | inr e ↦ rw e (lit< tt) ], (c.requires.settled, (c.requires.node, carrier)))))

@@ -12,8 +12,8 @@ use Rattle.grouped_nodes.proofs.stepping.step.Goals as goal
 pub get-requires : goal.get-requires
 get-requires g c = let cap : IsCapacity g.row.N = c.requires.capacity in (elim cap [ inl e ↦ rw e (lit< tt) | inr e ↦ rw e (lit< tt) ], (elim cap [ inl e ↦ rw e (lit< tt) | inr e ↦ rw e (lit< tt) ], cap))
 
-pub state_after-after-requires : goal.state_after-after-requires
-state_after-after-requires g c =
+pub step_by-requires : goal.step_by-requires
+step_by-requires g c =
     let cap : IsCapacity g.row.N = c.requires.capacity in
     let here : state_at c.loop-first.states c.loop-first.first ≡ Some c.in-Some.state.now = sym c.in-Some.ensures in
     (elim cap [ inl e ↦ rw e (lit< tt) | inr e ↦ rw e (lit< tt) ], (elim cap [ inl e ↦ rw e (lit< tt) | inr e ↦ rw e (lit< tt) ], (elim cap [ inl e ↦ rw e (lit< tt) | inr e ↦ rw e (lit< tt) ], (cap, (c.requires.config, c.loop-first.invariant.agreed c.loop-first.first c.in-Some.state.now here)))))
@@ -46,12 +46,12 @@ loop-first-preserved g c =
           let a : AgreedView = w.in-Some.state.now in
           let own : first_of groups f ≡ f = eqb-true (first_of groups f) f (sym c.is_first.ensures ∙ w.if-is_first.true) in
           let here : state_at old f ≡ Some a = sym (first_state config p groups firsts beliefs many old shared f now low own m) ∙ sym w.in-Some.ensures in
-          let b : AgreedView = w.state_after-after.result in
+          let b : AgreedView = w.step_by.new.state in
           subst (AreStepped config p groups beliefs old (f + 1)) (sym w.states-is)
           (stepped_put config p groups firsts beliefs many old shared f now w.replace.new.self a b w.index-beliefs-first.result low here m
-          (w.state_after-after.ensures.after ∙ ap (λ (y : Belief g.row.N). agreed_after g.row.N config p a y.done y.rows) w.index-beliefs-first.is)
+          (w.step_by.ensures.after ∙ ap (λ (y : Belief g.row.N). agreed_after g.row.N config p a y.done y.rows) w.index-beliefs-first.is)
           (w.replace.ensures ∙ ap (λ (s : List ℕ). with_state g.row.N now s b) w.members_of.ensures)
-          w.state_after-after.ensures.agreed)
+          w.step_by.ensures.agreed)
       | then-is_first+in_default w ↦
           subst (AreStepped config p groups beliefs old (f + 1)) (sym w.states-is)
           (stepped_skip config p groups firsts beliefs many old shared f now (λ own. sym (first_state config p groups firsts beliefs many old shared f now low own m) ∙ sym w.in_default.ensures) m)

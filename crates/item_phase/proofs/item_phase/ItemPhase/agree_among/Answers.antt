@@ -4,7 +4,7 @@ use Rattle.node_grid.specs.NodeSet.{has_id}
 use Rattle.heard_links.proofs.Sets.{node_low}
 use Rattle.item_phase.specs.declared.item_phase.ItemPhase.{ItemPhase}
 use Rattle.item_phase.specs.Settled.{IsLaid}
-use Rattle.item_phase.proofs.Agreed.{settled_as_one}
+use Rattle.item_phase.proofs.Agreed.{seen_of_all, settled_as_one}
 use Rattle.item_phase.proofs.item_phase.ItemPhase.agree_among.Goals as goal
 use Rattle.item_phase.proofs.item_phase.ItemPhase.agree_among.Goals.{then-has+then-not-has, else-has, else-has-via-then-has+else-not-has, else-has-via-else-has}
 
@@ -13,7 +13,10 @@ returns-clause-settled g c =
     let inv = c.loop-commander.invariant in
     let end = c.loop-commander-test.false in
     settled_as_one g.V.PartialEq.eq g.V.Item.form g.V.Item.first_slot g.V.Item.tells c.args.phase.now c.args.self.now.links c.requires.heard c.loop-commander.self inv.links
-    c.args.members.now c.plain_members-plain.result c.requires.all inv.plain c.plain_members-plain.ensures
+    c.args.members.now (record { plain = c.plain_members-plain.result; is_all = c.is_empty-is_all.result; ill = c.ill-ill.result }) c.requires.all inv.seen
+    (seen_of_all g.V.Item.form c.args.phase.now c.args.self.now.links c.args.members.now c.requires.all (record { plain = c.plain_members-plain.result; is_all = c.is_empty-is_all.result; ill = c.ill-ill.result })
+    (λ all. sym c.minus.ensures ∙ c.is_empty-is_all.ensures.0 all) c.ill-ill.ensures.used c.ill-ill.ensures.well)
+    c.plain_members-plain.ensures
     (λ i k low on member off ne. inv.laid i k (omega arith) on member off ne)
 
 pub loop-commander-preserved : goal.loop-commander-preserved
@@ -29,7 +32,7 @@ loop-commander-preserved g c =
           let n = w.agree_on.new.self in
           record {
             links = ap (λ (s : ItemPhase g.row.V.Denot g.row.N). s.links) w.self-is ∙ e.links ∙ inv.links;
-            plain = ap (λ (s : ItemPhase g.row.V.Denot g.row.N). s.plain) w.self-is ∙ e.plain ∙ inv.plain;
+            seen = ap (λ (s : ItemPhase g.row.V.Denot g.row.N). s.seen) w.self-is ∙ e.seen ∙ inv.seen;
             room = ap (λ (s : ItemPhase g.row.V.Denot g.row.N). s.settling) w.self-is ∙ e.room ∙ inv.room;
             laid = λ i k low on member off ne.
                 subst (λ (s : ItemPhase g.row.V.Denot g.row.N). IsLaid g.V.PartialEq.eq g.V.Item.form x s.links s.each.items s.convicting i k) (sym w.self-is)
@@ -45,7 +48,7 @@ loop-commander-preserved g c =
           ] in
           record {
             links = ap (λ (s : ItemPhase g.row.V.Denot g.row.N). s.links) w.self-is ∙ inv.links;
-            plain = ap (λ (s : ItemPhase g.row.V.Denot g.row.N). s.plain) w.self-is ∙ inv.plain;
+            seen = ap (λ (s : ItemPhase g.row.V.Denot g.row.N). s.seen) w.self-is ∙ inv.seen;
             room = ap (λ (s : ItemPhase g.row.V.Denot g.row.N). s.settling) w.self-is ∙ inv.room;
             laid = λ i k low on member off ne.
                 let other = passed k member off in

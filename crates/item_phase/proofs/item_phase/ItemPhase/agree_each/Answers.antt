@@ -1,4 +1,4 @@
-use Rattle.std.proofs.Common.{rules, ℕ, ◌+◌, sym, ap, subst, ◌∙◌, inl, inr, arith, lit<}
+use Rattle.std.proofs.Common.{rules, ℕ, false, ◌+◌, sym, ap, subst, ◌∙◌, inl, inr, arith, lit<}
 use Rattle.std.proofs.lemmas.Bool.{cases_eq}
 use Rattle.node_grid.specs.NodeSet.{has_id}
 use Rattle.heard_links.specs.Talks.{members_at}
@@ -24,7 +24,7 @@ loop-commander-preserved g c =
     let e = c.listen_for.ensures in
     record {
       links = e.links ∙ inv.links;
-      plain = e.plain ∙ inv.plain;
+      seen = e.seen ∙ inv.seen;
       room = e.room ∙ inv.room;
       laid = λ i k low on member ne. elim (cases_eq k c.loop-commander.commander) [
         | inl here ↦
@@ -38,5 +38,6 @@ pub returns-clause-settled : goal.returns-clause-settled
 returns-clause-settled g c =
     let inv = c.loop-commander.invariant in
     let end = c.loop-commander-test.false in
-    settled_each g.V.PartialEq.eq g.V.Item.form g.V.Item.first_slot g.V.Item.tells c.args.phase.now c.args.self.now.links c.requires.heard c.loop-commander.self inv.links inv.plain
+    settled_each g.V.PartialEq.eq g.V.Item.form g.V.Item.first_slot g.V.Item.tells c.args.phase.now c.args.self.now.links c.requires.heard c.loop-commander.self inv.links
+    (record { plain = c.empty-plain.result; is_all = false; ill = c.ill-ill.result }) inv.seen (record { same = λ all. cc; plain = λ all. cc; used = c.ill-ill.ensures.used; well = c.ill-ill.ensures.well }) c.empty-plain.ensures
     (λ i k low on member ne. inv.laid i k (omega arith) on member ne)

@@ -8,6 +8,6 @@ use Rattle.item_phase.proofs.item_phase.ItemPhase.are_alike.Given as goal
 
 abbrev pub invariant-loop-c : goal.invariant-loop-c
 invariant-loop-c g l =
-    (k : ℕ) → k < l.c → has_id l.members k ≡ true → has_id l.self.plain k ≡ false
+    (k : ℕ) → k < l.c → has_id l.members k ≡ true → has_id l.self.seen.plain k ≡ false
     → settled_from g.V.PartialEq.eq (listener g.V.Item.form l.phase l.self.links l.i) (Plain (item_of l.self.links l.i)) k
     ≡ settled_from g.V.PartialEq.eq (listener g.V.Item.form l.phase l.self.links l.j) (Plain (item_of l.self.links l.j)) k

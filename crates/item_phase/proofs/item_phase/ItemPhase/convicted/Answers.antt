@@ -15,7 +15,7 @@ pub returns-then-is_empty : goal.returns-then-is_empty
 returns-then-is_empty g c = λ k ne.
     let a = c.args in
     let members : List ℕ = members_at a.phase.now a.i in
-    let plain : List ℕ = a.self.now.plain in
+    let plain : List ℕ = a.self.now.seen.plain in
     let none : minus_of members plain ≡ [] = ap (λ (s : List ℕ). minus_of s plain) (sym c.members_of.ensures) ∙ sym c.minus.ensures ∙ c.is_empty.ensures.0 c.if-is_empty.true in
     ap (λ (s : List ℕ). has_id s k) c.empty.ensures
     ∙ elim (cases_Bool (has_id members k)) [

@@ -11,7 +11,7 @@ use Rattle.item_phase.proofs.item_phase.ItemPhase.listen_for.Goals as goal
 pub loop-me-init : goal.loop-me-init
 loop-me-init g c = record {
   links = refl;
-  plain = refl;
+  seen = refl;
   room = refl;
   here = λ i low on member ne. absurd (omega arith);
   others = λ i k low ne is. is;
@@ -30,7 +30,7 @@ loop-me-preserved g c =
           let n = w.listen_to.new.self in
           record {
             links = ap (λ (s : ItemPhase g.row.V.Denot g.row.N). s.links) w.self-is ∙ e.links ∙ inv.links;
-            plain = ap (λ (s : ItemPhase g.row.V.Denot g.row.N). s.plain) w.self-is ∙ e.plain ∙ inv.plain;
+            seen = ap (λ (s : ItemPhase g.row.V.Denot g.row.N). s.seen) w.self-is ∙ e.seen ∙ inv.seen;
             room = ap (λ (s : ItemPhase g.row.V.Denot g.row.N). s.settling) w.self-is ∙ e.room ∙ inv.room;
             here = λ i low on member ne.
                 subst (λ (s : ItemPhase g.row.V.Denot g.row.N). IsLaid g.V.PartialEq.eq g.V.Item.form x s.links s.each.items s.convicting i q) (sym w.self-is)
@@ -51,7 +51,7 @@ loop-me-preserved g c =
           ] in
           record {
             links = ap (λ (s : ItemPhase g.row.V.Denot g.row.N). s.links) w.self-is ∙ inv.links;
-            plain = ap (λ (s : ItemPhase g.row.V.Denot g.row.N). s.plain) w.self-is ∙ inv.plain;
+            seen = ap (λ (s : ItemPhase g.row.V.Denot g.row.N). s.seen) w.self-is ∙ inv.seen;
             room = ap (λ (s : ItemPhase g.row.V.Denot g.row.N). s.settling) w.self-is ∙ inv.room;
             here = λ i low on member ne.
                 let other = passed i on member ne in

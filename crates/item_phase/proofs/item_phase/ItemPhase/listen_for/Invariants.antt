@@ -7,7 +7,7 @@ use Rattle.item_phase.proofs.item_phase.ItemPhase.listen_for.Given as goal
 abbrev pub invariant-loop-me : goal.invariant-loop-me
 invariant-loop-me g l = record {
   links : l.self.links ≡ l.initial.self.links;
-  plain : l.self.plain ≡ l.initial.self.plain;
+  seen : l.self.seen ≡ l.initial.self.seen;
   room : l.self.settling ≡ l.initial.self.settling;
   here : (i : ℕ) → i < l.me → has_id l.phase.awake i ≡ true → has_id (members_at l.phase i) l.commander ≡ true → l.commander ≢ i
       → IsLaid g.V.PartialEq.eq g.V.Item.form l.phase l.self.links l.self.each.items l.self.convicting i l.commander;

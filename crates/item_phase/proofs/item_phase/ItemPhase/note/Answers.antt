@@ -1,49 +1,87 @@
-use Rattle.std.proofs.Common.{ℕ, suc, ◌≡◌, ◌+◌, sym, ap, subst, ◌∙◌, inl, inr, lit<, arith}
-use Rattle.error_reports.specs.Notes.{Notes, is_kind, also_noted}
-use Rattle.heard_links.specs.Hearing.{frame_kind}
-use Rattle.item_phase.specs.Noted.{found_below, rounds_of, IsNoter}
-use Rattle.item_phase.proofs.RoundNotes.{noted_none, noted_more, noted_all, noter_more}
+use Rattle.std.proofs.Common.{ℕ, suc, ◌≡◌, List, true, sym, ap, subst, ◌∙◌, inl, inr, lit<, arith}
+use Rattle.node_grid.specs.NodeSet.{has_id}
+use Rattle.error_reports.specs.Notes.{Notes, also_noted}
+use Rattle.protocol.specs.Heard.{rounds_bad}
+use Rattle.odd_relays.proofs.Laying.{next_on, split_more, split_all}
+use Rattle.item_phase.specs.Noted.{of_node, rounds_of, IsNoter}
+use Rattle.item_phase.proofs.RoundNotes.{of_nodes, few_kinds, found_none, noted_start, noted_next, noted_me, noted_whole, noter_more}
 use Rattle.item_phase.proofs.item_phase.ItemPhase.note.Goals as goal
 
-pub loop-round-init : goal.loop-round-init
-loop-round-init g c = noted_none g.row.N c.args.notes.now (rounds_of g.V.Item.form c.args.phase.now c.args.self.now.links c.args.i) c.requires.notes.within
+pub loop-j-init : goal.loop-j-init
+loop-j-init g c = record {
+  can = tt;
+  ends = tt;
+  split = sym (c.into_iter-j-iterator.ensures.into_iter_gives ∙ c.iter-j-items.ensures.members);
+  notes = noted_start g.row.N c.args.notes.now (rounds_bad c.args.phase.now.config.now.m (rounds_of g.V.Item.form c.args.phase.now c.args.self.now.links c.args.i)) c.requires.notes.within;
+}
 
-pub note_round-requires : goal.note_round-requires
-note_round-requires g c =
+pub note_of-requires : goal.note_of-requires
+note_of-requires g c =
     let a = c.args in
-    let h = c.requires.settled.heard in
-    let x = rounds_of g.V.Item.form a.phase.now a.self.now.links a.i in (
-      elim h.set.capacity [ inl e ↦ rw e (lit< tt) | inr e ↦ rw e (lit< tt) ],
+    let x = a.phase.now in
+    let config = x.config.now in
+    let cap = c.requires.settled.heard.set.capacity in
+    let inv = c.loop-j.invariant in
+    let says = rounds_bad config.m (rounds_of g.V.Item.form x a.self.now.links a.i) in
+    let ill : List ℕ = a.self.now.seen.ill in
+    let at : has_id ill c.in-Some.j ≡ true = next_on ill c.loop-j.yielded c.next.new.self c.loop-j.j-iterator c.in-Some.j inv.split c.in-Some.ensures.steps in
+    let is : IsNoter config a.i c.loop-j.notes = subst (IsNoter config a.i) (sym inv.notes) (noter_more config a.i a.notes.now (of_nodes c.loop-j.yielded says) c.requires.notes) in (
+      elim cap [ inl e ↦ rw e (lit< tt) | inr e ↦ rw e (lit< tt) ],
       (
-        elim h.set.capacity [ inl e ↦ rw e (lit< tt) | inr e ↦ rw e (lit< tt) ],
+        elim cap [ inl e ↦ rw e (lit< tt) | inr e ↦ rw e (lit< tt) ],
         (
-          elim h.set.capacity [ inl e ↦ rw e (lit< tt) | inr e ↦ rw e (lit< tt) ],
-          (
-            c.requires.settled,
-            (
-              omega (arith, c.loop-round-test.true),
-              (
-                c.requires.node,
-                subst (IsNoter a.phase.now.config.now a.i) (sym c.loop-round.invariant) (noter_more a.phase.now.config.now a.i a.notes.now (found_below c.loop-round.round x) c.requires.notes),
-              ),
-            ),
-          ),
+          elim cap [ inl e ↦ rw e (lit< tt) | inr e ↦ rw e (lit< tt) ],
+          (c.requires.settled, (c.requires.node, (c.requires.settled.seen.used c.in-Some.j at, (c.if-j-i.true, is)))),
         ),
       ),
     )
 
-pub loop-round-preserved : goal.loop-round-preserved
-loop-round-preserved g c =
+pub loop-j-preserved-then-j-i : goal.loop-j-preserved-then-j-i
+loop-j-preserved-then-j-i g c =
     let a = c.args in
-    let r : ℕ = c.loop-round.round in
-    let x = rounds_of g.V.Item.form a.phase.now a.self.now.links a.i in
-    c.note_round.ensures ∙ ap (λ (n : Notes). also_noted g.row.N n (λ j e. is_kind (frame_kind x r j) e)) c.loop-round.invariant
-    ∙ noted_more g.row.N a.notes.now x r c.requires.notes.kinds
-    ∙ ap (λ (k : ℕ). also_noted g.row.N a.notes.now (found_below k x)) (let e : suc r ≡ r + 1 = omega arith in e)
+    let config = a.phase.now.config.now in
+    let inv = c.loop-j.invariant in
+    let says = rounds_bad config.m (rounds_of g.V.Item.form a.phase.now a.self.now.links a.i) in
+    let q : ℕ = c.in-Some.j in
+    let few = few_kinds config.version in
+    let kinds = c.requires.notes.kinds in
+    record {
+      can = tt;
+      ends = tt;
+      split = split_more a.self.now.seen.ill c.loop-j.yielded c.next.new.self c.loop-j.j-iterator q inv.split c.in-Some.ensures.steps;
+      notes =
+          c.note_of.ensures ∙ ap (λ (y : Notes). also_noted g.row.N y (of_node q says)) inv.notes
+          ∙ noted_next g.row.N a.notes.now says c.loop-j.yielded q (omega (arith, few, kinds));
+    }
+
+pub loop-j-preserved : goal.loop-j-preserved
+loop-j-preserved g c =
+    let a = c.args in
+    let inv = c.loop-j.invariant in
+    let says = rounds_bad a.phase.now.config.now.m (rounds_of g.V.Item.form a.phase.now a.self.now.links a.i) in
+    let q : ℕ = c.in-Some.j in
+    record {
+      can = tt;
+      ends = tt;
+      split = split_more a.self.now.seen.ill c.loop-j.yielded c.next.new.self c.loop-j.j-iterator q inv.split c.in-Some.ensures.steps;
+      notes = inv.notes ∙ noted_me g.row.N a.notes.now says c.loop-j.yielded q (c.if-j-i.false ∙ sym c.requires.notes.me);
+    }
 
 pub returns : goal.returns
 returns g c =
     let a = c.args in
-    c.loop-round.invariant
-    ∙ noted_all g.row.N a.notes.now (rounds_of g.V.Item.form a.phase.now a.self.now.links a.i) a.phase.now.config.now.m c.loop-round.round
-    (let e = c.loop-round.auto.round-end in let t = c.loop-round-test.false in omega arith)
+    let x = a.phase.now in
+    let config = x.config.now in
+    let m : ℕ = config.m in
+    let inv = c.loop-j.invariant in
+    let rounds = rounds_of g.V.Item.form x a.self.now.links a.i in
+    let ill : List ℕ = a.self.now.seen.ill in
+    let all : ill ≡ c.loop-j.yielded = split_all ill c.loop-j.yielded c.loop-j.j-iterator inv.split c.in-None.ensures.steps.0 in
+    inv.notes
+    ∙ noted_whole g.row.N a.notes.now (rounds_bad m rounds) c.loop-j.yielded
+    (λ k e used other off.
+    let nodes = c.requires.notes.nodes in
+    found_none rounds k e (suc m)
+    (λ r low.
+    c.requires.settled.seen.well r k a.i (omega (arith, low)) (omega (arith, used, nodes)) (ap (λ (s : List ℕ). has_id s k) all ∙ off) c.requires.node (λ same. other (sym same ∙ sym c.requires.notes.me)))
+    (suc m) (omega arith))
