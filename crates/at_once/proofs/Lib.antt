@@ -17,4 +17,5 @@ pub mod Endings
 mod Openings
 mod Goings
 mod Voting
+mod Alike
 mod Voted

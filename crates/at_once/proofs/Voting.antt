@@ -1,6 +1,7 @@
 -- The data slot node by node: own values, votes and who is off, and what is noted.
-use Rattle.std.proofs.Common.{ℕ, zero, suc, ℤ, ◌≡◌, ◌≢◌, ◌<◌, ◌≤◌, ◌+◌, true, false, List, [], ◌∷◌, length, length-set, set, get_or, get_or-set_other, get_or-set_same, Option, None, Some, refl, sym, ap, subst, ◌∙◌, inl, inr, arith}
+use Rattle.std.proofs.Common.{ℕ, zero, suc, ℤ, ◌≡◌, ◌≢◌, ◌<◌, ◌≤◌, ◌+◌, true, false, List, [], ◌∷◌, length, length-set, set, get_or, get_or-set_other, get_or-set_same, Option, None, Some, refl, sym, ap, subst, ◌∙◌, ◌⊎◌, inl, inr, arith}
 use Rattle.std.proofs.lemmas.Bool.{cases_eq}
+use Rattle.std.proofs.lemmas.List.{set-get_or}
 use Rattle.node_grid.specs.NodeSet.{has_id}
 use Rattle.error_reports.specs.Notes.{Notes}
 use Rattle.agreed_state.specs.Agreed.{AgreedView}
@@ -9,7 +10,7 @@ use Rattle.protocol.specs.View.{Received, own_values}
 use Rattle.scenario.specs.Scenario.{ScenarioView, inputs_of}
 use Rattle.shared_states.specs.declared.belief.Belief.{Belief}
 use Rattle.shared_states.specs.Sharing.{state_at}
-use Rattle.grouped_nodes.specs.Grouping.{first_of, AreFirsts}
+use Rattle.grouped_nodes.specs.Grouping.{first_of}
 use Rattle.grouped_nodes.specs.Shared.{AreShared}
 use Rattle.told_values.specs.Slot.{DataView, Hears, HearAlike}
 use Rattle.at_once.specs.Kept.{notes_at, of_node}
@@ -116,19 +117,68 @@ module _ {n : ℕ} (d : DataView n) (groups : List ℕ) (states : List (Option A
     ];
   }
 
-  -- a node that hears as the first of its group does takes over what stands there
-  pub taken_over : (k f : ℕ) (votes : List (List (Option ℤ))) (off : List (List ℕ)) (a : AgreedView) → AreFirsts n groups → AreShared n groups states → k < n → k < d.config.nodes
-      → f ≡ first_of groups k → f ≢ k → state_at states k ≡ Some a → HearAlike d f k → AreVotes d groups states beliefs k votes off
-      → (x : ℕ → Received) → HearEach d x → IsVoteOf d a (done_at groups beliefs k) k (x k) (of_node votes f) (get_or off f [])
-  taken_over k f votes off a firsts shared low used is other here alike was x hears =
-      let early : first_of groups k ≤ k = firsts.early k low in
-      let less : f < k = omega arith in
-      let used_f : f < d.config.nodes = omega arith in
-      let state_f : state_at states f ≡ Some a = ap (state_at states) is ∙ shared k low ∙ here in
-      let own : first_of groups f ≡ first_of groups k = ap (first_of groups) is ∙ firsts.own k low in
-      let done_f : done_at groups beliefs f ≡ done_at groups beliefs k = ap (λ (m : ℕ). (get_or beliefs m no_belief).done) own in
-      served d a (done_at groups beliefs k) f k (x f) (x k) (of_node votes f) (get_or off f []) alike (hears f used_f) (hears k used)
-      (subst (λ (w : List _). IsVoteOf d a w f (x f) (of_node votes f) (get_or off f [])) done_f (was.so_far x hears f a less used_f state_f))
+  -- a node that hears as an earlier one of its group does takes over what stands there
+  pub taken_over : (k r : ℕ) (votes : List (List (Option ℤ))) (off : List (List ℕ)) (a : AgreedView) → AreShared n groups states → k < n → k < d.config.nodes
+      → first_of groups r ≡ first_of groups k → r < k → state_at states k ≡ Some a → HearAlike d r k → AreVotes d groups states beliefs k votes off
+      → (x : ℕ → Received) → HearEach d x → IsVoteOf d a (done_at groups beliefs k) k (x k) (of_node votes r) (get_or off r [])
+  taken_over k r votes off a shared low used same less here alike was x hears =
+      let used_r : r < d.config.nodes = omega arith in
+      let low_r : r < n = omega arith in
+      let state_r : state_at states r ≡ Some a = sym (shared r low_r) ∙ ap (state_at states) same ∙ shared k low ∙ here in
+      let done_r : done_at groups beliefs r ≡ done_at groups beliefs k = ap (λ (m : ℕ). (get_or beliefs m no_belief).done) same in
+      served d a (done_at groups beliefs k) r k (x r) (x k) (of_node votes r) (get_or off r []) alike (hears r used_r) (hears k used)
+      (subst (λ (w : List _). IsVoteOf d a w r (x r) (of_node votes r) (get_or off r [])) done_r (was.so_far x hears r a less used_r state_r))
+
+-- ---- whose votes serve others
+
+-- by the first of each group a node of it: one below k, or the first itself
+pub record AreLeaders (n : ℕ) (groups : List ℕ) (k : ℕ) (leaders : List ℕ) : Type 0 where
+  pub wide : length leaders ≡ n
+  pub within : (f : ℕ) → f < n → first_of groups f ≡ f → first_of groups (get_or leaders f 0) ≡ f
+  pub before : (f : ℕ) → f < n → first_of groups f ≡ f → get_or leaders f 0 ≢ f → get_or leaders f 0 < k
+
+module _ (n : ℕ) (groups : List ℕ) where
+  pub leaders_more : (k : ℕ) (leaders : List ℕ) → AreLeaders n groups k leaders → AreLeaders n groups (k + 1) leaders
+  leaders_more k leaders was = record { wide = was.wide; within = was.within; before = λ f low own other. let l = was.before f low own other in omega arith }
+
+  -- who leads the group of node k comes before it, or is node k itself
+  pub leads_before : (k f r : ℕ) (leaders : List ℕ) → f ≤ k → f < n → first_of groups f ≡ f → r ≡ get_or leaders f 0 → r ≢ k → AreLeaders n groups k leaders → r < k
+  leads_before k f r leaders early low own is other was = elim (cases_eq r f) [
+    | inl e ↦ omega (arith, e, early, other)
+    | inr ne ↦ let l = was.before f low own (λ e. ne (is ∙ e)) in omega (arith, l, is)
+  ]
+
+  -- at first each group is led by its first
+  pub leaders_first : (leaders : List ℕ) → length leaders ≡ n → leaders ≡ groups → AreLeaders n groups 0 leaders
+  leaders_first leaders wide are = record {
+    wide = wide;
+    within = λ f low own. ap (λ (xs : List ℕ). first_of groups (get_or xs f 0)) are ∙ ap (first_of groups) own ∙ own;
+    before = λ f low own other. absurd (other (ap (λ (xs : List ℕ). get_or xs f 0) are ∙ own));
+  }
+
+  -- node k takes its place, or the one that stands there keeps it
+  pub leaders_put : (k f v : ℕ) (leaders : List ℕ) → f < n → f ≡ first_of groups k → (v ≡ k) ⊎ (v ≡ get_or leaders f 0) → AreLeaders n groups k leaders → AreLeaders n groups (k + 1) (set leaders f v)
+  leaders_put k f v leaders low is either was = elim either [
+    | inr same ↦
+        let none : set leaders f v ≡ leaders = ap (set leaders f) same ∙ set-get_or leaders f 0 in
+        subst (AreLeaders n groups (k + 1)) (sym none) (leaders_more k leaders was)
+    | inl e ↦
+        let room : f < length leaders = (let w = was.wide in omega arith) in
+        let here : get_or (set leaders f v) f 0 ≡ k = get_or-set_same leaders f v 0 room ∙ e in
+        record {
+          wide = length-set leaders f v ∙ was.wide;
+          within = λ j l own. elim (cases_eq j f) [
+            | inl j_is ↦ ap (λ (m : ℕ). first_of groups (get_or (set leaders f v) m 0)) j_is ∙ ap (first_of groups) here ∙ sym is ∙ sym j_is
+            | inr ne ↦ ap (first_of groups) (get_or-set_other leaders f j v 0 ne) ∙ was.within j l own
+          ];
+          before = λ j l own other. elim (cases_eq j f) [
+            | inl j_is ↦ let at : get_or (set leaders f v) j 0 ≡ k = ap (λ (m : ℕ). get_or (set leaders f v) m 0) j_is ∙ here in omega arith
+            | inr ne ↦
+                let at : get_or (set leaders f v) j 0 ≡ get_or leaders j 0 = get_or-set_other leaders f j v 0 ne in
+                let l = was.before j l own (λ e. other (at ∙ e)) in omega arith
+          ];
+        }
+  ]
 
 -- ---- notes
 

@@ -1,5 +1,5 @@
 -- The data slot of a period, as the code has it: what is due at each node, and whose votes serve whom.
-use Rattle.std.specs.Prelude.{◌≡◌, ◌≢◌, ◌<◌, ◌&&◌, ◌||◌, ◌==◌, ℕ, ℤ, Bool, List, [], length, Option}
+use Rattle.std.specs.Prelude.{◌≡◌, ◌≢◌, ◌<◌, ◌&&◌, ◌||◌, ◌==◌, ℕ, ℤ, Bool, true, List, [], length, Option}
 use Rattle.node_grid.specs.Capacity.{IsCapacity}
 use Rattle.node_grid.specs.NodeSet.{has_id}
 use Rattle.node_grid.specs.Kinds.{deviate}
@@ -25,11 +25,11 @@ due_at shared i = (belief_of no_belief shared.1 shared.0 i).due.items
 abbrev pub done_at : {N : ℕ} → List ℕ → List (Belief N) → ℕ → List (Wrapped ℕ)
 done_at groups beliefs i = (belief_of no_belief beliefs groups i).done
 
--- groups of N nodes, a place for what each believes, and so many nodes from the first on that are in one group
-pub record AreDues (N : ℕ) (groups : List ℕ) (beliefs : List (Belief N)) (alike : ℕ) : Type 0 where
+-- groups of N nodes, a place for what each believes, and nodes at which the same channels are due
+pub record AreDues (N : ℕ) (groups : List ℕ) (beliefs : List (Belief N)) (alike : List ℕ) : Type 0 where
   pub capacity : IsCapacity N
   pub many : length beliefs ≡ N
-  pub alike_are : (i j : ℕ) → i < alike → j < alike → first_of groups i ≡ first_of groups j
+  pub alike_are : (i j : ℕ) → has_id alike i ≡ true → has_id alike j ≡ true → due_at (groups, beliefs) i ≡ due_at (groups, beliefs) j
 
 module _ {n : ℕ} (d : DataView n) where
   -- the same channels are due at node j, which has y, as at node i, which has x, and what i is told j is told too

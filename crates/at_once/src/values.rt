@@ -1,7 +1,7 @@
 //! The data slot of a period.
 
 ghost use Rattle.std.specs.Prelude.{◌≡◌, ◌<◌, ◌≤◌, ℕ, List, Option, true, Some, [], length, replicate};
-ghost use Rattle.std.specs.Prelude.{slice_index_or, if◌then◌else◌};
+ghost use Rattle.std.specs.Prelude.{slice_index_or, if◌then◌else◌, ◌⊎◌};
 ghost use Rattle.node_grid.specs.Capacity.{IsCapacity};
 ghost use Rattle.node_grid.specs.NodeSet.{has_id};
 ghost use Rattle.agreed_state.specs.Agreed.{AgreedView, IsAgreed};
@@ -10,7 +10,7 @@ ghost use Rattle.protocol.specs.View.{Received, own_values};
 ghost use Rattle.scenario.specs.Scenario.{inputs_of};
 ghost use Rattle.shared_states.specs.Sharing.{state_at, AreAgreed};
 ghost use Rattle.grouped_nodes.specs.Shared.{AreShared};
-ghost use Rattle.told_values.specs.Slot.{slot_of, Hears, IsDataSlot};
+ghost use Rattle.told_values.specs.Slot.{slot_of, AreOwnTold, Hears, IsDataSlot};
 ghost use Rattle.told_values.specs.Within.{IsWithin};
 ghost use Rattle.at_once.specs.Kept.{notes_at, of_node, AreShaped};
 ghost use Rattle.at_once.specs.Course.{IsUnvoted, AreSettled, AreVoted};
@@ -43,22 +43,39 @@ fn vote_at<D: Dues<N>, const N: usize>(
     i: u8,
     state: &Agreed<N>,
     claims: &[Wrapped<u8>; N],
+    own: &[Option<[i64; 8]>; N],
 ) -> Voted<N>
     requires capacity { IsCapacity N }
     requires slot { IsDataSlot (slot_of D.dues slot.now) }
     requires node { i < slot.now.config.now.nodes }
     requires agreed { IsAgreed N slot.now.config.now state.now }
+    requires own { AreOwnTold (slot_of D.dues slot.now) own.now }
     ensures { (x : Received) → Hears (slot_of D.dues slot.now) i x →
         IsVoteOf (slot_of D.dues slot.now) state.now claims.now i x result.votes result.off }
 {
-    let told = slot.told(i);
+    let told = slot.told(i, own);
     let votes = slot.vote(i, state, claims, &told);
     let off = slot.off(i, &told, &votes);
     Voted { votes, off }
 }
 
-/// What each node votes that has a state, and the nodes that are off at it. What the first of a
-/// group votes serves each node of the group that hears as it does.
+/// Whose votes serve later nodes of the group: those of the node that voted last where no line
+/// touches a frame to it, or else those of the one before.
+fn leader_after<D: Dues<N>, const N: usize>(slot: &DataSlot<'_, D, N>, before: u8, last: u8) -> u8
+    requires capacity { IsCapacity N }
+    requires slot { IsDataSlot (slot_of D.dues slot.now) }
+    requires node { last < slot.now.config.now.nodes }
+    ensures { (result ≡ last) ⊎ (result ≡ before) }
+{
+    if slot.is_untouched(last) {
+        last
+    } else {
+        before
+    }
+}
+
+/// What each node votes that has a state, and the nodes that are off at it. What the first node of
+/// a group votes to which no line touches a frame serves each later one that hears as it does.
 fn vote_each<D: Dues<N>, const N: usize>(
     slot: &DataSlot<'_, D, N>,
     groups: &Groups<N>,
@@ -77,18 +94,23 @@ fn vote_each<D: Dues<N>, const N: usize>(
         IsVoteOf (slot_of D.dues slot.now) a (done_at groups.now made.now.beliefs.items i) i (x i)
         (of_node votes.new i) (slice_index_or off.new i []) }
 {
+    let own = slot.own_told();
+    // By the first of a group the node of it whose votes serve others.
+    let mut leaders = groups.by_node();
     for i in 0..slot.config.nodes {
         if let Some(state) = made.states.get(i) {
             let first = groups.of(i);
-            if first != i && slot.hears_alike(first, i) {
-                let same = votes[first as usize];
+            let leader = leaders[first as usize];
+            if leader != i && slot.hears_alike(leader, i) {
+                let same = votes[leader as usize];
                 votes[i as usize] = same;
-                off[i as usize] = off[first as usize];
+                off[i as usize] = off[leader as usize];
             } else {
-                let voted = vote_at(slot, i, state, &made.beliefs[first as usize].done);
-                let own = voted.votes;
-                votes[i as usize] = own;
+                let voted = vote_at(slot, i, state, &made.beliefs[first as usize].done, &own);
+                let own_votes = voted.votes;
+                votes[i as usize] = own_votes;
                 off[i as usize] = voted.off;
+                leaders[first as usize] = leader_after(slot, leader, i);
             }
         }
     }
@@ -162,7 +184,7 @@ impl<const N: usize> Period<'_, N> {
         let config = self.scenario.config();
         let plan = self.scenario.plan();
         self.value_all(&keeping.votes, &mut keeping.owns);
-        let dues = GroupDues::of(groups, made.beliefs.as_slice(), config.nodes);
+        let dues = GroupDues::of(groups, made.beliefs.as_slice(), full);
         let slot = DataSlot {
             config,
             plan,

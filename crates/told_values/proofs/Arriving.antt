@@ -21,7 +21,7 @@ use Rattle.protocol.specs.Talk.{arrives, frame_by}
 use Rattle.protocol.specs.View.{Received, own_in, value_of, value_in, value_from}
 use Rattle.touched_frames.specs.Arrived.{part_of}
 use Rattle.touched_frames.proofs.Effects.{parts_law}
-use Rattle.told_values.specs.Slot.{DataView, IsDataSlot, own_of, said, expects, change_to, values_at, Hears, HearAlike}
+use Rattle.told_values.specs.Slot.{DataView, IsDataSlot, own_of, own_told, said, expects, change_to, values_at, Hears, HearAlike}
 use Rattle.told_values.specs.Heard.{untouched_kind}
 use Rattle.told_values.proofs.ByPlace.{value_there}
 use Rattle.told_values.proofs.Expected.{expected_in, expectation_is, comes, comes_malformed, comes_cold}
@@ -203,3 +203,18 @@ module _ {n : ℕ} (d : DataView n) where
   other_from i q c x hears low ne =
       cond-false (q == i) (if has_id d.full i then Some (own_in (own_of d i) c) else None) (value_in (d.due i) (x.values q) c) (ne_eqb q i ne)
       ∙ ap (λ (a : Arrival (List ℤ)). value_in (d.due i) a c) (hears.values q low ne)
+
+  -- where the same channels are due to a Full sender, a node has its own values of them
+  pub other_plain : (i q c : ℕ) (x : Received) → Hears d i x → q < d.config.nodes → q ≢ i → change_to d q i ≡ None → (has_id d.full q ≡ true → d.due q ≡ d.due i) → has_id (d.due i) c ≡ true
+      → value_from i (has_id d.full i) (d.due i) (own_of d i) x c q ≡ own_told d q c
+  other_plain i q c x hears low ne clean alike on = other_from i q c x hears low ne ∙ elim (cases_Bool (has_id d.full q)) [
+    | inl full ↦
+        let same : d.due q ≡ d.due i = alike full in
+        ap (λ (a : Arrival (List ℤ)). value_in (d.due i) a c) (full_comes q i (hears.in_range q low) clean full (ap (λ (ds : List ℕ). length ds) same))
+        ∙ ap (λ (ds : List ℕ). Some (value_of (d.due i) (map (own_in (own_of d q)) ds) c)) same
+        ∙ ap Some (value_there (own_in (own_of d q)) (d.due i) c on)
+        ∙ sym (cond-true (has_id d.full q) (Some (own_in (own_of d q) c)) None full)
+    | inr idle ↦
+        ap (λ (a : Arrival (List ℤ)). value_in (d.due i) a c) (idle_fails q i (hears.in_range q low) clean idle)
+        ∙ sym (cond-false (has_id d.full q) (Some (own_in (own_of d q) c)) None idle)
+  ]

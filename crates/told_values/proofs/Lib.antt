@@ -5,4 +5,5 @@ mod Arriving
 mod Sending
 mod Voting
 mod Noting
+mod Telling
 mod Running

@@ -1,5 +1,5 @@
 -- The data slot of a period, as all nodes go into it. From this alone follows what each has of each other one's values.
-use Rattle.std.specs.Prelude.{◌≡◌, ◌≢◌, ℕ, ◌+◌, ◌<◌, ℤ, true, false, List, [], map, length, Option, slice_index_or, if◌then◌else◌}
+use Rattle.std.specs.Prelude.{◌≡◌, ◌≢◌, ℕ, ◌+◌, ◌<◌, ℤ, true, false, List, [], map, length, Option, None, Some, slice_index_or, if◌then◌else◌}
 use Rattle.node_grid.specs.NodeSet.{has_id, IsIdSet}
 use Rattle.frames.specs.Content.{Content, Expectation}
 use Rattle.frames.specs.Content.Content.{Data, Cold}
@@ -50,6 +50,14 @@ module _ {n : ℕ} (d : DataView n) where
   -- node j's own values
   abbrev pub own_of : ℕ → List (Option ℤ)
   own_of j = slice_index_or d.owns j []
+
+  -- its own value of a channel that it has where it is Full
+  abbrev pub own_told : ℕ → ℕ → Option ℤ
+  own_told j c = if has_id d.full j then Some (own_in (own_of j) c) else None
+
+  -- those of all nodes of their due channels, by node and channel
+  abbrev pub AreOwnTold : List (Option (List ℤ)) → Type 0
+  AreOwnTold told = (j c : ℕ) → j < d.config.nodes → (has_id d.full j ≡ true → has_id (d.due j) c ≡ true) → value_told told j c ≡ own_told j c
 
   -- what node j says: its own values of its due channels
   abbrev pub said : ℕ → Content

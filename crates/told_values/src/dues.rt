@@ -1,6 +1,9 @@
 //! The due channels of all nodes.
 
-ghost use Rattle.std.specs.Prelude.{◌≡◌, ℕ, ◌<◌, ◌≤◌, List, true};
+ghost use Rattle.std.specs.Prelude.{◌≡◌, ℕ, ◌<◌, List, true};
+ghost use Rattle.node_grid.specs.NodeSet.{has_id};
+
+use node_grid::NodeSet;
 
 /// The due channels of all nodes, as their owner keeps them.
 pub trait Dues<const N: usize> {
@@ -17,9 +20,9 @@ pub trait Dues<const N: usize> {
         requires second { j < N }
         ensures { result ≡ true → dues self.now i ≡ dues self.now j };
 
-    /// Whether all of so many nodes have the same. It may always say false.
-    fn are_alike(&self, nodes: u8) -> bool
-        requires { nodes ≤ N }
-        ensures { result ≡ true → (i j : ℕ) → i < nodes → j < nodes →
-            dues self.now i ≡ dues self.now j };
+    /// Whether each of these nodes has the same as node `i`. It may always say false.
+    fn are_alike(&self, nodes: &NodeSet<N>, i: u8) -> bool
+        requires { i < N }
+        ensures { result ≡ true → (j : ℕ) → has_id nodes.now j ≡ true →
+            dues self.now j ≡ dues self.now i };
 }

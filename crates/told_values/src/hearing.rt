@@ -1,6 +1,6 @@
 //! What a node has of one other node's values.
 
-ghost use Rattle.std.specs.Prelude.{◌≡◌, ◌≢◌, ℕ, ◌<◌, ◌≤◌, List, ℤ, None, Some, All, length};
+ghost use Rattle.std.specs.Prelude.{◌≡◌, ◌≢◌, ◌==◌, ℕ, ◌<◌, ◌≤◌, List, ℤ, None, Some, All, length};
 ghost use Rattle.std.specs.Prelude.{true, false};
 ghost use Rattle.node_grid.specs.Capacity.{IsCapacity};
 ghost use Rattle.node_grid.specs.Count.{Distinct};
@@ -12,7 +12,8 @@ ghost use Rattle.fault_classes.specs.Change.{change_of};
 ghost use Rattle.error_reports.specs.Notes.{is_kind};
 ghost use Rattle.protocol.specs.Arrival.{Arrival, is_bad, read_as, values_in};
 ghost use Rattle.protocol.specs.Talk.{arrives};
-ghost use Rattle.protocol.specs.View.{Received};
+ghost use Rattle.protocol.specs.View.{Received, value_in};
+ghost use Rattle.data_slot.specs.Told.{at_channel};
 ghost use Rattle.touched_frames.specs.Arrived.{IsSentAs};
 ghost use Rattle.told_values.specs.Slot.{slot_of, expects, said, change_to, values_at};
 ghost use Rattle.told_values.specs.Slot.{IsDataSlot, Hears};
@@ -37,6 +38,17 @@ pub(crate) enum Heard {
 }
 
 impl Heard {
+    /// The values, if there are any.
+    pub(crate) fn values(&self) -> Option<[i64; 8]>
+        ensures { (due : List ℕ) (a : Arrival (List ℤ)) → IsHeard due self.now a →
+            (c : ℕ) → has_id due c ≡ true → at_channel result c ≡ value_in due a c }
+    {
+        match self {
+            Heard::Good(values) => Some(*values),
+            Heard::Bad(_) => None,
+        }
+    }
+
     /// The kind of error, if it is one.
     fn kind(&self) -> Option<u8>
         ensures { (due : List ℕ) (a : Arrival (List ℤ)) → IsHeard due self.now a →
@@ -178,6 +190,19 @@ impl<'a, D: Dues<N>, const N: usize> DataSlot<'a, D, N> {
         }
     }
 
+    /// Whether as many channels are due to one node as to another.
+    fn is_as_many(&self, from: u8, to: u8) -> bool
+        requires from { from < N }
+        requires to { to < N }
+        ensures { let d = slot_of D.dues self.now in
+            result ≡ (length (d.due from) == length (d.due to)) }
+    {
+        if self.dues.is_alike(from, to) {
+            return true;
+        }
+        self.dues.due(from).len() == self.dues.due(to).len()
+    }
+
     /// The kind of error of a frame that no line touches: it is an error where its sender isn't
     /// Full, or has another number of due channels than the receiver.
     fn untouched_kind(&self, from: u8, to: u8) -> Option<u8>
@@ -189,7 +214,7 @@ impl<'a, D: Dues<N>, const N: usize> DataSlot<'a, D, N> {
     {
         if !self.full.has(from) {
             Some(COLD)
-        } else if self.dues.due(from).len() == self.dues.due(to).len() {
+        } else if self.is_as_many(from, to) {
             None
         } else {
             Some(MALFORMED)

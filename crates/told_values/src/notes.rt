@@ -67,7 +67,7 @@ impl<'a, D: Dues<N>, const N: usize> DataSlot<'a, D, N> {
         if !self.are_full() {
             return false;
         }
-        self.dues.are_alike(self.config.nodes) && self.is_untouched(i)
+        self.dues.are_alike(&self.full, i) && self.is_untouched(i)
     }
 
     /// The kind of error that a node finds of each other node's frame.

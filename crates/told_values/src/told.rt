@@ -1,26 +1,27 @@
 //! The values of its due channels that a node has, by sender.
 
-ghost use Rattle.std.specs.Prelude.{◌≡◌, ℕ, ◌<◌, true};
+ghost use Rattle.std.specs.Prelude.{◌≡◌, ◌≢◌, ℕ, ◌<◌, None, false, true};
 ghost use Rattle.node_grid.specs.Capacity.{IsCapacity};
 ghost use Rattle.node_grid.specs.NodeSet.{has_id};
-ghost use Rattle.protocol.specs.View.{Received, own_in, value_from};
+ghost use Rattle.protocol.specs.View.{Received, value_from};
 ghost use Rattle.data_slot.specs.Told.{at_channel};
-ghost use Rattle.told_values.specs.Slot.{slot_of, own_of, IsDataSlot, Hears, IsTold, HearAlike};
+ghost use Rattle.told_values.specs.Slot.{slot_of, own_of, own_told, change_to, AreOwnTold};
+ghost use Rattle.told_values.specs.Slot.{IsDataSlot, Hears, IsTold, HearAlike};
 
 use crate::dues::Dues;
-use crate::hearing::Heard;
 use crate::places::said_by_place;
 use crate::slot::DataSlot;
 
 impl<'a, D: Dues<N>, const N: usize> DataSlot<'a, D, N> {
-    /// What a node has of its own values: only a Full node votes on them.
+    /// A node's own values of its due channels, by channel; None where it isn't Full, as only a Full
+    /// node votes on them.
     fn own_values(&self, i: u8) -> Option<[i64; 8]>
         requires capacity { IsCapacity N }
         requires slot { IsDataSlot (slot_of D.dues self.now) }
         requires node { i < self.now.config.now.nodes }
-        ensures { let d = slot_of D.dues self.now in (x : Received) (c : ℕ) →
-            has_id (d.due i) c ≡ true → at_channel result c ≡
-            value_from i (has_id d.full i) (d.due i) (own_of d i) x c i }
+        ensures { let d = slot_of D.dues self.now in (c : ℕ) →
+            (has_id d.full i ≡ true → has_id (d.due i) c ≡ true) →
+            at_channel result c ≡ own_told d i c }
     {
         if self.full.has(i) {
             let due = self.dues.due(i);
@@ -28,6 +29,20 @@ impl<'a, D: Dues<N>, const N: usize> DataSlot<'a, D, N> {
         } else {
             None
         }
+    }
+
+    /// The own values of all nodes of their due channels, with None for those that aren't Full: what
+    /// each node has of the others where no line touches a frame and the same channels are due.
+    pub fn own_told(&self) -> [Option<[i64; 8]>; N]
+        requires capacity { IsCapacity N }
+        requires slot { IsDataSlot (slot_of D.dues self.now) }
+        ensures { AreOwnTold (slot_of D.dues self.now) result }
+    {
+        let mut told = [None; N];
+        for node in 0..self.config.nodes {
+            told[node as usize] = self.own_values(node);
+        }
+        told
     }
 
     /// The values of its due channels that a node has from one node.
@@ -43,16 +58,11 @@ impl<'a, D: Dues<N>, const N: usize> DataSlot<'a, D, N> {
         if from == i {
             return self.own_values(i);
         }
-        match self.hear(from, i) {
-            Heard::Good(values) => Some(values),
-            Heard::Bad(_) => None,
-        }
+        self.hear(from, i).values()
     }
 
-    /// The values of its due channels that a node has, by sender, and of each by channel, with 0 in
-    /// the places of channels that aren't due to it. Those of its own are among them where it is
-    /// Full.
-    pub fn told(&self, i: u8) -> [Option<[i64; 8]>; N]
+    /// What a node has, asked of each sender.
+    fn told_by_each(&self, i: u8) -> [Option<[i64; 8]>; N]
         requires capacity { IsCapacity N }
         requires slot { IsDataSlot (slot_of D.dues self.now) }
         requires node { i < self.now.config.now.nodes }
@@ -64,6 +74,57 @@ impl<'a, D: Dues<N>, const N: usize> DataSlot<'a, D, N> {
             told[from as usize] = self.values_from(from, i);
         }
         told
+    }
+
+    /// Whether a line may touch the frame from one node to another.
+    fn may_touch(&self, from: u8, to: u8) -> bool
+        requires slot { IsDataSlot (slot_of D.dues self.now) }
+        requires from { from < self.now.config.now.nodes }
+        requires to { to < self.now.config.now.nodes }
+        ensures link { result ≡ true → from ≢ to }
+        ensures untouched { result ≡ false → from ≢ to →
+            change_to (slot_of D.dues self.now) from to ≡ None }
+    {
+        from != to && self.touched.has(from)
+    }
+
+    /// What a node has to which the same channels are due as to all Full nodes: their own values,
+    /// but where a line touches the frame.
+    fn told_alike(&self, i: u8, own: &[Option<[i64; 8]>; N]) -> [Option<[i64; 8]>; N]
+        requires capacity { IsCapacity N }
+        requires slot { IsDataSlot (slot_of D.dues self.now) }
+        requires node { i < self.now.config.now.nodes }
+        requires own { AreOwnTold (slot_of D.dues self.now) own.now }
+        requires alike { (j : ℕ) → has_id self.now.full j ≡ true →
+            D.dues self.now.dues.now j ≡ D.dues self.now.dues.now i }
+        ensures { (x : Received) → Hears (slot_of D.dues self.now) i x →
+            IsTold (slot_of D.dues self.now) i x result }
+    {
+        let mut told = *own;
+        for from in 0..self.config.nodes {
+            if self.may_touch(from, i) {
+                told[from as usize] = self.hear(from, i).values();
+            }
+        }
+        told
+    }
+
+    /// The values of its due channels that a node has, by sender, and of each by channel. Those of
+    /// its own are among them where it is Full. What stands in the places of other channels counts
+    /// for nothing.
+    pub fn told(&self, i: u8, own: &[Option<[i64; 8]>; N]) -> [Option<[i64; 8]>; N]
+        requires capacity { IsCapacity N }
+        requires slot { IsDataSlot (slot_of D.dues self.now) }
+        requires node { i < self.now.config.now.nodes }
+        requires own { AreOwnTold (slot_of D.dues self.now) own.now }
+        ensures { (x : Received) → Hears (slot_of D.dues self.now) i x →
+            IsTold (slot_of D.dues self.now) i x result }
+    {
+        if self.dues.are_alike(&self.full, i) {
+            self.told_alike(i, own)
+        } else {
+            self.told_by_each(i)
+        }
     }
 
     /// Whether what node `i` has of the values node `j` has too: no line touches a frame to either,

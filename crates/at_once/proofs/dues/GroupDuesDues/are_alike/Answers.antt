@@ -1,15 +1,13 @@
-use Rattle.std.proofs.Common.{ℕ, ◌≡◌, ◌≤◌, List, ap, subst, arith}
-use Rattle.std.specs.Prelude.{slice_index_or}
-use Rattle.std.proofs.lemmas.Bool.{leb-true}
+use Rattle.std.proofs.Common.{ℕ, ◌≡◌, true, List, sym, subst, ◌∙◌}
+use Rattle.node_grid.specs.NodeSet.{has_id}
 use Rattle.shared_states.specs.declared.belief.Belief.{Belief}
-use Rattle.at_once.specs.Values.{no_belief, due_at}
+use Rattle.at_once.specs.Values.{due_at}
+use Rattle.at_once.proofs.Alike.{all_within}
 use Rattle.at_once.proofs.dues.GroupDuesDues.are_alike.Goals as goal
 
-pub returns : goal.returns
-returns g c = λ on i j low_i low_j.
-    let groups : List ℕ = c.self.inside.groups.now in
-    let beliefs : List (Belief g.row.N) = c.self.inside.beliefs.now in
-    let few : c.args.nodes ≤ c.self.inside.alike = leb-true c.args.nodes c.self.inside.alike on in
-    let same : due_at (groups, beliefs) i ≡ due_at (groups, beliefs) j =
-    ap (λ (f : ℕ). (slice_index_or beliefs f no_belief).due.items) (c.self.invariant.alike_are i j (omega (arith, few, low_i)) (omega (arith, few, low_j))) in
-    subst (λ (s : List ℕ × List (Belief g.row.N)). due_at s i ≡ due_at s j) c.self.view_is same
+pub returns-then-has : goal.returns-then-has
+returns-then-has g c = λ yes j on.
+    let alike : List ℕ = c.self.inside.alike in
+    let i_in : has_id alike c.args.i ≡ true = sym c.has.ensures ∙ c.if-has.true in
+    let j_in : has_id alike j ≡ true = all_within c.args.nodes.now alike j (sym c.minus.ensures ∙ c.is_empty.ensures.0 yes) on in
+    subst (λ (s : List ℕ × List (Belief g.row.N)). due_at s j ≡ due_at s c.args.i) c.self.view_is (c.self.invariant.alike_are j c.args.i j_in i_in)

@@ -21,14 +21,11 @@ use Rattle.at_once.proofs.period.Period.vote.Goals as goal
 
 pub of-dues-requires : goal.of-dues-requires
 of-dues-requires g c =
-    let cap : IsCapacity g.row.N = c.requires.capacity in
-    let config_is : c.config-config.result.now ≡ c.args.self.now.scenario.now.config = c.config-config.ensures.config in
-    let n_is : c.config-config.result.now.nodes ≡ c.args.self.now.scenario.now.config.nodes = ap (λ (cf : Config g.row.N). cf.nodes) config_is in
-    let few = c.config-config.ensures.scenario.system.config.few_nodes in (
+    let cap : IsCapacity g.row.N = c.requires.capacity in (
       elim cap [ inl e ↦ rw e (lit< tt) | inr e ↦ rw e (lit< tt) ],
       (
         elim cap [ inl e ↦ rw e (lit< tt) | inr e ↦ rw e (lit< tt) ],
-        (lit< tt, (cap, (omega (arith, n_is, few), ap length c.as_slice.ensures.value ∙ c.requires.settled.going.many))),
+        (lit< tt, (lit< tt, (cap, ap length c.as_slice.ensures.value ∙ c.requires.settled.going.many))),
       ),
     )
 

@@ -7,7 +7,6 @@ use Rattle.node_grid.specs.NodeSet.{has_id}
 use Rattle.protocol.specs.View.{own_in}
 use Rattle.told_values.specs.Slot.{slot_of, own_of}
 use Rattle.told_values.proofs.ByPlace.{value_there}
-use Rattle.told_values.proofs.Arriving.{own_from}
 use Rattle.told_values.proofs.Sending.{due_distinct, due_low}
 use Rattle.told_values.proofs.slot.DataSlot.own_values.Goals as goal
 
@@ -22,10 +21,11 @@ said_by_place-requires g c =
     )
 
 pub returns-then-has : goal.returns-then-has
-returns-then-has g c = λ x k on.
+returns-then-has g c = λ k on.
     let d = slot_of g.D.Dues.dues c.args.self.now in
     let i : ℕ = c.args.i in
     let ds : List ℕ = c.due-due.result.now in
-    let here : has_id ds k ≡ true = ap (λ (xs : List ℕ). has_id xs k) c.due-due.ensures ∙ on in
+    let full : has_id d.full i ≡ true = sym c.has.ensures ∙ c.if-has.true in
+    let here : has_id ds k ≡ true = ap (λ (xs : List ℕ). has_id xs k) c.due-due.ensures ∙ on full in
     ap Some (c.said_by_place.ensures k here ∙ value_there (own_in (own_of d i)) ds k here)
-    ∙ sym (own_from d i k x ∙ cond-true (has_id d.full i) (Some (own_in (own_of d i) k)) None (sym c.has.ensures ∙ c.if-has.true))
+    ∙ sym (cond-true (has_id d.full i) (Some (own_in (own_of d i) k)) None full)

@@ -5,7 +5,7 @@ use Rattle.node_grid.specs.NodeSet.{has_id}
 use Rattle.protocol.specs.View.{value_from}
 use Rattle.data_slot.specs.Told.{at_channel, value_told}
 use Rattle.told_values.specs.Slot.{DataView, slot_of, own_of}
-use Rattle.told_values.proofs.slot.DataSlot.told.Goals as goal
+use Rattle.told_values.proofs.slot.DataSlot.told_by_each.Goals as goal
 
 pub loop-from-init : goal.loop-from-init
 loop-from-init g c = record { wide = length-replicate {A = Option (List ℤ)} g.row.N None; so_far = λ x hears q k low on. absurd (omega arith) }

@@ -3,7 +3,7 @@ use Rattle.node_grid.specs.NodeSet.{has_id}
 use Rattle.protocol.specs.View.{Received, value_from}
 use Rattle.data_slot.specs.Told.{value_told}
 use Rattle.told_values.specs.Slot.{slot_of, own_of, Hears}
-use Rattle.told_values.proofs.slot.DataSlot.told.Given as goal
+use Rattle.told_values.proofs.slot.DataSlot.told_by_each.Given as goal
 
 abbrev pub invariant-loop-from : goal.invariant-loop-from
 invariant-loop-from g l = record {
