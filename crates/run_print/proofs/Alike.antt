@@ -10,10 +10,15 @@ use Rattle.omh_paths.specs.declared.wrapped.Wrapped.{Wrapped}
 use Rattle.node_steps.specs.Outcome.{Outcome}
 use Rattle.shared_states.specs.declared.belief.Belief.{Belief}
 use Rattle.shown_period.specs.Whole.{Believes}
-use Rattle.run_text.specs.Text.{separated, done_item, rows_item, votes_text}
-use Rattle.run_text.specs.NodeText.{settled_text}
+use Rattle.agreed_state.specs.Agreed.{AgreedView}
+use Rattle.run_text.specs.Text.{separated, done_item, rows_item, votes_text, mode_text}
+use Rattle.run_text.specs.NodeText.{state_text, settled_text, beliefs_text}
 use Rattle.run_print.specs.Common.{AreSettledAlike}
 use Rattle.omh_paths.specs.declared.wrapped.Wrapped.TheVariants.{Plain, Fault}
+use denote.Enum.Bare.{sameb}
+use Rattle.node_core.specs.contracts.outcome.Mode.{the_type}
+use Rattle.node_core.specs.declared.outcome.Mode.{Mode}
+use Rattle.node_core.specs.declared.outcome.Mode.TheVariants.{Full, Joining, Cold}
 
 found : {X : Type 0} → X → Option X → X
 found x None = x
@@ -96,3 +101,27 @@ claims_same E plain fault other another = lists_same E exact where
   exact (Plain a) (Fault b) h = absurd (true≢false (sym h ∙ other a b))
   exact (Fault a) (Plain b) h = absurd (true≢false (sym h ∙ another a b))
   exact (Fault a) (Fault b) h = ap Fault (eqb-true a b (sym (fault a b) ∙ h))
+
+-- nodes that go through a period the same way, and believe the same, have one text
+pub beliefs_same : (nodes retire : ℕ) (one other : Outcome) → one.mode ≡ other.mode → one.agreed ≡ other.agreed → AreSettledAlike one other
+    → beliefs_text nodes retire one one.agreed ≡ beliefs_text nodes retire other other.agreed
+beliefs_same nodes retire one other mode agreed settled =
+    by_state one.agreed ∙ ap (λ (a : Option AgreedView). beliefs_text nodes retire other a) agreed
+  where
+    by_state : (a : Option AgreedView) → beliefs_text nodes retire one a ≡ beliefs_text nodes retire other a
+    by_state None = refl
+    by_state (Some a) =
+        ap (λ (text : List ℕ). text ++ state_text nodes retire a ++ settled_text nodes one) (ap mode_text mode)
+        ∙ ap (λ (text : List ℕ). mode_text other.mode ++ state_text nodes retire a ++ text) (settled_same nodes one other settled)
+
+-- the test for how nodes go through a period
+pub modes_same : (x y : Mode) → sameb the_type x y ≡ true → x ≡ y
+modes_same Full Full h = refl
+modes_same Full Joining h = cc
+modes_same Full Cold h = cc
+modes_same Joining Full h = cc
+modes_same Joining Joining h = refl
+modes_same Joining Cold h = cc
+modes_same Cold Full h = cc
+modes_same Cold Joining h = cc
+modes_same Cold Cold h = refl

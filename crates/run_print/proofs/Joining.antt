@@ -1,5 +1,5 @@
 -- Texts that are printed one after the other.
-use Rattle.std.proofs.Common.{◌≡◌, ℕ, List, [], ◌∷◌, ◌++◌, length, refl, sym, ap, subst, ◌∙◌, append_assoc, append-nil, Option, Some, Result, Err, true, false}
+use Rattle.std.proofs.Common.{◌≡◌, ◌<◌, ◌≤◌, ℕ, zero, suc, arith, List, [], ◌∷◌, ◌++◌, length, refl, sym, ap, subst, ◌∙◌, append_assoc, append-nil, Option, Some, Result, Err, true, false}
 use Rattle.std.specs.List.{flat_map}
 use Rattle.std.proofs.lemmas.Grind.{flat_map-append}
 use Rattle.std.proofs.KnownBytes.{Appends-nil}
@@ -17,6 +17,15 @@ joined-push separator (y ∷ ys) x =
     ap (λ z. y ++ z) (flat_map-append f ys (x ∷ []) ∙ ap (λ z. flat_map f ys ++ z) (append-nil (separator ++ x)))
     ∙ sym (append_assoc y (flat_map f ys) (separator ++ x))
 
+-- the separator of a later item, and of the first
+pub later : (separator : List ℕ) (k : ℕ) → 0 < k → separator_at separator k ≡ separator
+later separator zero h = absurd (omega (arith, h))
+later separator (suc k) h = refl
+
+pub first : (separator : List ℕ) (k : ℕ) → k ≤ 0 → separator_at separator k ≡ []
+first separator zero h = refl
+first separator (suc k) h = absurd (omega (arith, h))
+
 appends_none : (old now : Option (List ℕ)) (front : List ℕ) → old ≡ Some [] → now ≡ Some [] → Appends old now front → front ≡ []
 appends_none old now front e f h =
     let same : [] ≡ front = subst (λ o. Appends (Some []) o front) f (subst (λ o. Appends o now front) e h) in
@@ -31,6 +40,11 @@ begun written faults a s empty going =
     let gathers : Gathers v v k k a.gathered [] = record { front = []; splits = empty; written = Appends-nil v; same = refl } in
     subst (λ b. PrintedIf b v v k k a.gathered []) (sym going) gathers
 
+five : (xs p q u v w : List ℕ) → xs ++ p ++ q ++ u ++ v ++ w ≡ xs ++ (p ++ q ++ u ++ v ++ w)
+five xs p q u v w =
+    ap (λ y. y ++ w) (ap (λ y. y ++ v) (ap (λ y. y ++ u) (append_assoc xs p q) ∙ append_assoc xs (p ++ q) u) ∙ append_assoc xs (p ++ q ++ u) v)
+    ∙ append_assoc xs (p ++ q ++ u ++ v) w
+
 module _ {S : Type 0} {room : ℕ} {written : S → Option (List ℕ)} {faults : S → ℕ} where
   -- one text after the other
   pub then : {a b c : Printer room} {r s t : S} {xs ys : List ℕ} → Prints written faults a r b s xs → Prints written faults b s c t ys → Prints written faults a r c t (xs ++ ys)
@@ -42,6 +56,21 @@ module _ {S : Type 0} {room : ℕ} {written : S → Option (List ℕ)} {faults :
   -- one text after the other, where the second is printed as two
   pub then_both : {a b c : Printer room} {r s t : S} {xs : List ℕ} (ys zs : List ℕ) → Prints written faults a r b s xs → Prints written faults b s c t (ys ++ zs) → Prints written faults a r c t (xs ++ ys ++ zs)
   then_both {a} {b} {c} {r} {s} {t} {xs} ys zs first second = subst (λ text. Prints written faults a r c t text) (sym (append_assoc xs ys zs)) (then first second)
+
+  -- one text after the other, where the second is printed as five
+  pub then_five : {a b c : Printer room} {r s t : S} {xs : List ℕ} (p q u v w : List ℕ) → Prints written faults a r b s xs → Prints written faults b s c t (p ++ q ++ u ++ v ++ w) → Prints written faults a r c t (xs ++ p ++ q ++ u ++ v ++ w)
+  then_five {a} {b} {c} {r} {s} {t} {xs} p q u v w first second = subst (λ text. Prints written faults a r c t text) (sym (five xs p q u v w)) (then first second)
+
+  -- a text and a further piece, where the text stands behind another
+  pub then_inside : {a b c : Printer room} {r s t : S} (xs ys zs : List ℕ) → Prints written faults a r b s (xs ++ ys) → Prints written faults b s c t zs → Prints written faults a r c t (xs ++ (ys ++ zs))
+  then_inside {a} {b} {c} {r} {s} {t} xs ys zs first second = subst (λ text. Prints written faults a r c t text) (append_assoc xs ys zs) (then first second)
+
+  -- the text of a further item, printed with its separator
+  pub further_whole : {a b c : Printer room} {r s t : S} (separator : List ℕ) (items : List (List ℕ)) (item : List ℕ)
+      → Prints written faults a r b s (separated separator items) → Prints written faults b s c t (separator_at separator (length items) ++ item)
+      → Prints written faults a r c t (separated separator (items ++ item ∷ []))
+  further_whole {a} {b} {c} {r} {s} {t} separator items item before last =
+      subst (λ text. Prints written faults a r c t text) (sym (joined-push separator items item)) (then before last)
 
   -- the text of a further item, behind a separator
   pub further : {a b c d : Printer room} {r s t u : S} (separator : List ℕ) (items : List (List ℕ)) (item : List ℕ)

@@ -4,3 +4,4 @@ pub mod Sending
 pub mod Ranges
 pub mod Alike
 pub mod Zeros
+pub mod Digits

@@ -1,8 +1,7 @@
 -- Zeros, joined by commas.
-use Rattle.std.proofs.Common.{◌≡◌, ◌<◌, ◌≤◌, ◌+◌, ◌*◌, ◌-◌, ℕ, zero, suc, List, [], ◌∷◌, ◌++◌, length, map, take, replicate, refl, sym, ap, ◌∙◌, arith}
-use Rattle.std.specs.Prelude.{codes, decimal, min}
+use Rattle.std.proofs.Common.{◌≡◌, ◌<◌, ◌≤◌, ◌+◌, ◌*◌, ◌-◌, ℕ, zero, suc, List, [], ◌∷◌, ◌++◌, length, map, take, get_or, replicate, refl, sym, ap, ap₂, ◌∙◌, arith}
+use Rattle.std.specs.Prelude.{codes, decimal}
 use Rattle.std.specs.List.{flat_map}
-use Rattle.std.proofs.lemmas.List.{length-take}
 use Rattle.std.proofs.lemmas.Fmt.{decimal_digit}
 use Rattle.run_text.specs.Text.{numbers_text}
 
@@ -27,6 +26,9 @@ zeros_text (suc k) h l =
     let all : k + (15 - k) ≡ 15 = omega arith in
     rw (last, decimal_digit 0 (omega arith)) (ap (λ xs. 48 ∷ xs) (further_text k ∙ sym (taken k (15 - k)) ∙ ap (λ (m : ℕ). take (2 * k) (further_zeros m)) all))
 
--- a front of few numbers
-pub taken_few : (k : ℕ) (xs : List ℕ) (n : ℕ) → k ≤ n → n ≤ 16 → length (take k xs) ≤ 16
-taken_few k xs n h few = let short : length (take k xs) ≡ min k (length xs) = length-take k xs in omega (arith, short, h, few)
+-- numbers that are at most 0
+pub all_zero : (xs : List ℕ) → ((k : ℕ) → k < length xs → get_or xs k 0 ≤ 0) → xs ≡ replicate (length xs) 0
+all_zero [] h = refl
+all_zero (x ∷ xs) h =
+    let least : x ≤ 0 = h 0 (omega arith) in
+    ap₂ (λ (y : ℕ) (ys : List ℕ). y ∷ ys) (omega (arith, least)) (all_zero xs (λ k less. h (suc k) (omega (arith, less))))

@@ -1,4 +1,4 @@
--- What printers gathered of the lines of one node of a period that was worked out for all together.
+-- What a printer gathered of the lines of one node of a period that was worked out for all together.
 use Rattle.std.specs.Prelude.{◌≡◌, ◌<◌, ◌≤◌, false, ℕ, Some, None, List, ◌++◌}
 use Rattle.list_scheduler.specs.Copies.{CopyTable, copy_at, running}
 use Rattle.agreed_state.specs.Agreed.{AgreedView}
@@ -6,7 +6,7 @@ use Rattle.cluster_periods.specs.Record.{PeriodView}
 use Rattle.shared_states.specs.Sharing.{state_at}
 use Rattle.shown_period.specs.declared.shown.Shown.{Shown}
 use Rattle.shown_period.specs.Outcomes.{outcome_at, HasBeliefs}
-use Rattle.run_text.specs.NodeText.{state_text, settled_text}
+use Rattle.run_text.specs.NodeText.{beliefs_text}
 use Rattle.run_text.specs.PeriodText.{head_text, nodes_text}
 use Rattle.run_text.specs.ClockText.{clock_text}
 use Rattle.run_print.specs.declared.printer.Printer.{Printer}
@@ -26,9 +26,12 @@ pub record IsPrintable {N : ℕ} (s : Shown N) : Type 0 where
   pub beliefs : HasBeliefs s.made
   pub idle : (i : ℕ) (a : AgreedView) → state_at s.made.states i ≡ Some a → IsIdleFrom s.head.tasks a.copies
 
--- printers that gathered the state of a node, and what it settled and voted, unless they failed
-pub record IsExample {N room more : ℕ} (s : Shown N) (i : ℕ) (state : Printer room) (settled : Printer more) : Type 0 where
+-- the text of what node i believes
+abbrev pub believed : {N : ℕ} → Shown N → ℕ → List ℕ
+believed s i = beliefs_text s.head.nodes s.head.retire (outcome_at s.made i) (outcome_at s.made i).agreed
+
+-- a printer that gathered what a node believes, unless it failed
+pub record IsExample {N room : ℕ} (s : Shown N) (i : ℕ) (beliefs : Printer room) : Type 0 where
   pub printable : IsPrintable s
   pub node : i < N
-  pub has_state : state.failed ≡ false → (a : AgreedView) → state_at s.made.states i ≡ Some a → state.gathered ≡ state_text s.head.nodes s.head.retire a
-  pub has_settled : settled.failed ≡ false → settled.gathered ≡ settled_text s.head.nodes (outcome_at s.made i)
+  pub has : beliefs.failed ≡ false → beliefs.gathered ≡ believed s i

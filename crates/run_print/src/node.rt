@@ -141,17 +141,6 @@ impl<const ROOM: usize> Printer<ROOM> {
         }
     }
 
-    /// Prints the number of node `i`, whose class is told by a letter.
-    pub(crate) fn named<K: Sink>(&mut self, sink: &mut K, i: u8, letter: &[u8])
-        ensures { Prints K.written K.faults self.old sink.old self.new sink.new
-            (codes "node " ++ decimal i ++ codes " " ++ letter.now ++ codes " ") }
-    {
-        self.labelled(sink, b"node ", i as u64);
-        self.byte(sink, b' ');
-        self.text(sink, letter);
-        self.byte(sink, b' ');
-    }
-
     /// Prints what a node believes.
     pub(crate) fn beliefs<K: Sink, const N: usize>(
         &mut self,
@@ -202,7 +191,7 @@ pub fn write_alone<const N: usize, K: Sink>(
     let mut printer = Printer::<SMALL>::new();
     printer.labelled(sink, b"period ", period as u64);
     printer.byte(sink, b'\n');
-    printer.named(sink, id, b"-");
+    printer.front(sink, id, b'-');
     printer.beliefs(sink, nodes, retire, shown, &Common::of(nodes, shown));
     printer.finish(sink)
 }

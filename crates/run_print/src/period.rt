@@ -1,19 +1,19 @@
 //! The printed lines of a period, of the end of a run, and of a refusal.
-ghost use Rattle.std.specs.Prelude.{◌≡◌, ◌≤◌, ◌<◌, true, false, slice_get};
+ghost use Rattle.std.specs.Prelude.{◌≡◌, ◌≤◌, ◌<◌, ◌++◌, true, false, codes, slice_get};
 ghost use Rattle.node_grid.specs.Capacity.{IsCapacity};
 ghost use Rattle.run_print.specs.Printing.{Prints, WritesText};
 ghost use Rattle.run_print.specs.Common.{IsCommon};
-ghost use Rattle.run_text.specs.Text.{class_text};
+ghost use Rattle.run_text.specs.Text.{yes_no};
 ghost use Rattle.run_text.specs.TraceText.{IsPlanOf, period_text};
 ghost use Rattle.run_text.specs.PeriodText.{budget_text, head_text, recorded_text, nodes_text};
 ghost use Rattle.run_text.specs.PeriodText.{end_text, refused_text};
 
 use crate::WriteFault;
 use crate::common::Common;
+use crate::pieces::letter_of;
 use crate::printer::{LARGE, Printer, SMALL};
 use cluster_record::PeriodRecord;
 use fault_classes::{Budget, FaultPlan};
-use node_grid::Class;
 use span_io::Sink;
 
 impl<const ROOM: usize> Printer<ROOM> {
@@ -28,6 +28,20 @@ impl<const ROOM: usize> Printer<ROOM> {
         self.labelled(sink, b" b ", budget.b as u64);
     }
 
+    /// Prints the end of the period line: whether the period tolerates its faults, and whether it
+    /// and all before it do.
+    pub(crate) fn verdicts<K: Sink>(&mut self, sink: &mut K, within: bool, claim: bool)
+        ensures { Prints K.written K.faults self.old sink.old self.new sink.new
+            (codes " budget " ++ yes_no within ++ codes " claim " ++ yes_no claim ++ codes "\n") }
+    {
+        match (within, claim) {
+            (true, true) => self.text(sink, b" budget yes claim yes\n"),
+            (true, false) => self.text(sink, b" budget yes claim no\n"),
+            (false, true) => self.text(sink, b" budget no claim yes\n"),
+            (false, false) => self.text(sink, b" budget no claim no\n"),
+        }
+    }
+
     /// Prints the period line.
     fn head<K: Sink, const N: usize>(&mut self, sink: &mut K, shown: &PeriodRecord<N>)
         ensures { Prints K.written K.faults self.old sink.old self.new sink.new
@@ -37,11 +51,7 @@ impl<const ROOM: usize> Printer<ROOM> {
         self.text(sink, b" members ");
         self.set(sink, &shown.members);
         self.budget(sink, &shown.budget);
-        self.text(sink, b" budget ");
-        self.yes_no(sink, shown.within);
-        self.text(sink, b" claim ");
-        self.yes_no(sink, shown.claim);
-        self.byte(sink, b'\n');
+        self.verdicts(sink, shown.within, shown.claim);
     }
 
     /// Prints the lines of node `i`.
@@ -60,7 +70,7 @@ impl<const ROOM: usize> Printer<ROOM> {
         ensures { Prints K.written K.faults self.old sink.old self.new sink.new
             (recorded_text shown.now i (slice_get shown.now.records i)) }
     {
-        self.named(sink, i, letter(shown.classes[i as usize]));
+        self.front(sink, i, letter_of(shown.classes[i as usize]));
         self.beliefs(sink, shown.nodes, shown.retire, shown.node(i), common);
     }
 
@@ -108,19 +118,6 @@ impl<const ROOM: usize> Printer<ROOM> {
     {
         self.labelled(sink, b"end ", periods);
         self.byte(sink, b'\n');
-    }
-}
-
-/// A class's letter.
-fn letter(class: Class) -> &'static [u8]
-    ensures { result.now ≡ class_text class }
-{
-    match class {
-        Class::N => b"N",
-        Class::J => b"J",
-        Class::B => b"B",
-        Class::S => b"S",
-        Class::A => b"A",
     }
 }
 

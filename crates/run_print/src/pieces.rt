@@ -1,36 +1,35 @@
 //! Items of a node's lines that are mostly short, each handed on at once.
-ghost use Rattle.std.specs.Prelude.{◌≡◌, ◌≤◌, ◌<◌, ◌++◌, ◌∷◌, [], true, map, length, replicate};
+ghost use Rattle.std.specs.Prelude.{◌≡◌, ◌≤◌, ◌<◌, ◌++◌, ◌∷◌, [], true, map, replicate, take};
 ghost use Rattle.std.specs.Prelude.{codes, decimal};
 ghost use Rattle.node_grid.specs.Capacity.{IsCapacity};
 ghost use Rattle.list_scheduler.specs.Copies.{works};
 ghost use Rattle.run_print.specs.Printing.{Prints};
 ghost use Rattle.run_print.specs.Example.{IsIdleFrom};
-ghost use Rattle.run_text.specs.Text.{separated, class_text, numbers_text, runs_text, rows_item};
+ghost use Rattle.node_grid.specs.Matrix.{row_at};
+ghost use Rattle.run_text.specs.Text.{separated, class_text, numbers_text, runs_text, row_text};
+ghost use Rattle.run_text.specs.Text.{rows_item};
 
-use crate::printer::Printer;
+use crate::printer::{Printer, two_digits};
 use list_scheduler::{Copies, CopyState};
 use node_grid::{Class, Matrix, NodeSet};
-use shown_period::Head;
 use span_io::Sink;
 
 /// As many zeros as there can be nodes, joined by commas.
 const ZEROS: [u8; 31] = *b"0,0,0,0,0,0,0,0,0,0,0,0,0,0,0,0";
 
-/// Whether there are numbers, and all of them are 0.
-fn are_zero(numbers: &[u16]) -> bool
-    ensures zero { result ≡ true → numbers.now ≡ replicate (length numbers.now) 0 }
-    ensures some { result ≡ true → 0 < length numbers.now }
+/// Whether all numbers are 0.
+fn are_zero<const N: usize>(numbers: &[u16; N]) -> bool
+    ensures { result ≡ true → numbers.now ≡ replicate N 0 }
 {
+    let mut most = 0;
     for n in numbers {
-        if *n != 0 {
-            return false;
-        }
+        most = most.max(*n);
     }
-    numbers.len() > 0
+    most == 0
 }
 
 /// The letter of a class.
-fn letter_of(class: Class) -> u8
+pub(crate) fn letter_of(class: Class) -> u8
     ensures { class_text class ≡ result ∷ [] }
 {
     match class {
@@ -59,32 +58,45 @@ fn running_among<const N: usize>(copies: &Copies<N>, tasks: u8, node: u8) -> Opt
 }
 
 impl<const ROOM: usize> Printer<ROOM> {
-    /// Prints the front of a node's lines: its number, and the letter of its class.
-    pub(crate) fn front<K: Sink>(&mut self, sink: &mut K, i: u8, class: Class)
+    /// Prints the front of a node's lines: its number, and the letter of its class, or what stands
+    /// for it.
+    pub(crate) fn front<K: Sink>(&mut self, sink: &mut K, i: u8, letter: u8)
         ensures { Prints K.written K.faults self.old sink.old self.new sink.new
-            (codes "node " ++ decimal i ++ codes " " ++ class_text class ++ codes " ") }
+            (codes "node " ++ decimal i ++ codes " " ++ (letter ∷ []) ++ codes " ") }
     {
-        let letter = letter_of(class);
         if i < 10 {
             self.text(
                 sink,
                 &[b'n', b'o', b'd', b'e', b' ', b'0' + i, b' ', letter, b' '],
             );
+        } else if i < 100 {
+            let [tens, ones] = two_digits(i);
+            self.text(
+                sink,
+                &[b'n', b'o', b'd', b'e', b' ', tens, ones, b' ', letter, b' '],
+            );
         } else {
-            self.named(sink, i, &[letter]);
+            self.labelled(sink, b"node ", i as u64);
+            self.text(sink, &[b' ', letter, b' ']);
         }
     }
 
-    /// Prints a number of each node, joined by commas. Mostly all are 0.
-    pub(crate) fn mostly_zeros<K: Sink>(&mut self, sink: &mut K, numbers: &[u16])
-        requires { length numbers.now ≤ 16 }
+    /// Prints a number of each node in use, joined by commas. Mostly all are 0.
+    pub(crate) fn mostly_zeros<K: Sink, const N: usize>(
+        &mut self,
+        sink: &mut K,
+        nodes: u8,
+        numbers: &[u16; N],
+    )
+        requires capacity { IsCapacity N }
+        requires nodes { nodes ≤ N }
         ensures { Prints K.written K.faults self.old sink.old self.new sink.new
-            (numbers_text numbers.now) }
+            (numbers_text (take nodes numbers.now)) }
     {
-        if are_zero(numbers) {
-            self.text(sink, &ZEROS[..2 * numbers.len() - 1]);
+        if nodes > 0 && are_zero(numbers) {
+            self.text(sink, &ZEROS[..2 * nodes as usize - 1]);
         } else {
-            self.numbers(sink, numbers);
+            self.numbers(sink, &numbers[..nodes as usize]);
         }
     }
 
@@ -92,24 +104,24 @@ impl<const ROOM: usize> Printer<ROOM> {
     pub(crate) fn runs_among<K: Sink, const N: usize>(
         &mut self,
         sink: &mut K,
-        head: &Head<N>,
+        nodes: u8,
+        tasks: u8,
         copies: &Copies<N>,
     )
         requires capacity { IsCapacity N }
-        requires nodes { head.now.nodes ≤ N }
-        requires tasks { head.now.tasks ≤ 32 }
-        requires idle { IsIdleFrom head.now.tasks copies.now }
+        requires nodes { nodes ≤ N }
+        requires tasks { tasks ≤ 32 }
+        requires idle { IsIdleFrom tasks copies.now }
         ensures { Prints K.written K.faults self.old sink.old self.new sink.new
-            (runs_text head.now.nodes copies.now) }
+            (runs_text nodes copies.now) }
     {
-        for node in 0..head.nodes {
-            self.separator(sink, node as usize, b',');
-            self.run(sink, running_among(copies, head.tasks, node));
+        for node in 0..nodes {
+            self.run_at(sink, node as usize, running_among(copies, tasks, node));
         }
     }
 
-    /// Prints a member with its settled row.
-    fn row_item<K: Sink, const N: usize>(
+    /// Prints the settled row of a member, of which mostly all masks are 0.
+    fn row_of<K: Sink, const N: usize>(
         &mut self,
         sink: &mut K,
         nodes: u8,
@@ -119,18 +131,16 @@ impl<const ROOM: usize> Printer<ROOM> {
         requires capacity { IsCapacity N }
         requires nodes { nodes ≤ N }
         ensures { Prints K.written K.faults self.old sink.old self.new sink.new
-            (rows_item nodes rows.now member) }
+            (row_text nodes (row_at rows.now member)) }
     {
-        self.number(sink, member as u64);
-        self.byte(sink, b'=');
         match rows.get(member) {
-            Some(row) => self.mostly_zeros(sink, &row.masks[..nodes as usize]),
+            Some(row) => self.mostly_zeros(sink, nodes, &row.masks),
             None => self.byte(sink, b'E'),
         }
     }
 
     /// Prints the members with their settled rows.
-    pub(crate) fn light_rows<K: Sink, const N: usize>(
+    pub(crate) fn rows<K: Sink, const N: usize>(
         &mut self,
         sink: &mut K,
         nodes: u8,
@@ -144,8 +154,8 @@ impl<const ROOM: usize> Printer<ROOM> {
     {
         let mut printed: usize = 0;
         for member in members.iter() {
-            self.separator(sink, printed, b' ');
-            self.row_item(sink, nodes, rows, member);
+            self.item_front(sink, printed, member);
+            self.row_of(sink, nodes, rows, member);
             printed += 1;
         }
     }

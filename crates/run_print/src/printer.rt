@@ -1,5 +1,5 @@
 ghost use Rattle.std.specs.Fmt.{signed_decimal};
-ghost use Rattle.std.specs.Prelude.{◌≡◌, false, [], ◌∷◌, ◌++◌, decimal};
+ghost use Rattle.std.specs.Prelude.{◌≡◌, ◌≤◌, ◌<◌, false, [], ◌∷◌, ◌++◌, decimal};
 ghost use Rattle.run_print.specs.Printing.{Prints, Finishes};
 
 use crate::WriteFault;
@@ -12,6 +12,15 @@ pub(crate) const SMALL: usize = 4096;
 
 /// Room for the lines of frames, which are many and long.
 pub const LARGE: usize = 65536;
+
+/// The two digits of a number from 10 to 99.
+pub(crate) fn two_digits(n: u8) -> [u8; 2]
+    requires from { 10 ≤ n }
+    requires below { n < 100 }
+    ensures { result ≡ decimal n }
+{
+    [b'0' + n / 10, b'0' + n % 10]
+}
 
 /// Gathers the small pieces of a text before they go to a sink.
 ///
@@ -55,23 +64,23 @@ impl<const ROOM: usize> Printer<ROOM> {
         }
     }
 
-    /// Prints two bytes.
-    pub(crate) fn pair<K: Sink>(&mut self, sink: &mut K, pair: [u8; 2])
-        ensures { Prints K.written K.faults self.old sink.old self.new sink.new pair }
-    {
-        if !self.gathered.extend(&pair) {
-            self.text_behind(sink, &pair);
-        }
-    }
-
     /// Prints a number in decimal.
     pub(crate) fn number<K: Sink>(&mut self, sink: &mut K, n: u64)
         ensures { Prints K.written K.faults self.old sink.old self.new sink.new (decimal n) }
     {
         if n < 10 {
             self.byte(sink, b'0' + n as u8);
-            return;
+        } else if n < 100 {
+            self.text(sink, &two_digits(n as u8));
+        } else {
+            self.long_number(sink, n);
         }
+    }
+
+    /// Prints a number of any length in decimal.
+    fn long_number<K: Sink>(&mut self, sink: &mut K, n: u64)
+        ensures { Prints K.written K.faults self.old sink.old self.new sink.new (decimal n) }
+    {
         let mut buffer = Buffer::new();
         self.text(sink, buffer.format(n).as_bytes());
     }

@@ -2,21 +2,25 @@
 ghost use Rattle.std.specs.Prelude.{◌≡◌, ◌≤◌, ◌<◌, ◌∷◌, ◌++◌, [], None, codes, decimal, length};
 ghost use Rattle.std.specs.Prelude.{take, map, slice_index_or};
 ghost use Rattle.node_grid.specs.Capacity.{IsCapacity};
+ghost use Rattle.node_grid.specs.NodeSet.{ids_below};
 ghost use Rattle.omh_paths.specs.declared.wrapped.Wrapped.TheVariants.{Fault};
 ghost use Rattle.list_scheduler.specs.Copies.{works};
 ghost use Rattle.node_core.specs.Modes.{mode_of};
 ghost use Rattle.run_print.specs.Printing.{Prints};
 ghost use Rattle.run_text.specs.ClockText.{signed_text};
-ghost use Rattle.run_text.specs.Text.{separated, numbers_text, set_text, separator_at, yes_no};
+ghost use Rattle.run_text.specs.Text.{separated, numbers_text, set_text, separator_at};
 ghost use Rattle.run_text.specs.Text.{mode_text, running_text, runs_text, vote_text, vote_item};
-ghost use Rattle.run_text.specs.Text.{votes_text, claim_text, row_text, done_item, rows_item};
+ghost use Rattle.run_text.specs.Text.{votes_text, claim_text, done_item};
 
-use crate::printer::Printer;
+use crate::printer::{Printer, two_digits};
 use list_scheduler::Copies;
 use node_core::Mode;
-use node_grid::{Matrix, NO_CLAIM, NodeSet};
+use node_grid::{NO_CLAIM, NodeSet};
 use omh_paths::Wrapped;
 use span_io::Sink;
+
+/// The text of as many nodes as there can be.
+const ALL_NODES: [u8; 37] = *b"0,1,2,3,4,5,6,7,8,9,10,11,12,13,14,15";
 
 /// What is settled for the claim of a member; an error for a number that is no node's.
 fn claim_of<const N: usize>(done: &[Wrapped<u8>; N], member: u8) -> Wrapped<u8>
@@ -26,6 +30,17 @@ fn claim_of<const N: usize>(done: &[Wrapped<u8>; N], member: u8) -> Wrapped<u8>
         Some(claim) => *claim,
         None => Wrapped::Fault(0),
     }
+}
+
+/// The text of the nodes below a number of 1 to 16.
+fn first_nodes(count: u8) -> &'static [u8]
+    requires some { 0 < count }
+    requires few { count ≤ 16 }
+    ensures { result.now ≡ numbers_text (ids_below count) }
+{
+    let count = count as usize;
+    // from node 10 on there is a digit more
+    &ALL_NODES[..2 * count - 1 + count.saturating_sub(10)]
 }
 
 /// The vote on a channel; none for a number that is no channel's.
@@ -55,7 +70,7 @@ impl<const ROOM: usize> Printer<ROOM> {
             (separator ∷ decimal n) }
     {
         if n < 10 {
-            self.pair(sink, [separator, b'0' + n as u8]);
+            self.text(sink, &[separator, b'0' + n as u8]);
         } else {
             self.byte(sink, separator);
             self.number(sink, n);
@@ -95,29 +110,31 @@ impl<const ROOM: usize> Printer<ROOM> {
         }
     }
 
-    /// Prints a set of nodes.
+    /// Prints a set of nodes, which mostly are all below a number.
     pub(crate) fn set<K: Sink, const N: usize>(&mut self, sink: &mut K, set: &NodeSet<N>)
         ensures { Prints K.written K.faults self.old sink.old self.new sink.new (set_text set.now) }
     {
-        if set.is_empty() {
+        // a call that gives nodes of the set tells the checker that there are at most 16
+        let _ = set.iter();
+        let count = set.len();
+        if count == 0 {
             self.byte(sink, b'-');
-            return;
+        } else if *set == NodeSet::full(count) {
+            self.text(sink, first_nodes(count));
+        } else {
+            self.members(sink, set);
         }
+    }
+
+    /// Prints some nodes, one by one.
+    fn members<K: Sink, const N: usize>(&mut self, sink: &mut K, set: &NodeSet<N>)
+        ensures { Prints K.written K.faults self.old sink.old self.new sink.new
+            (numbers_text set.now) }
+    {
         let mut printed: usize = 0;
         for node in set.iter() {
             self.number_at(sink, printed, b',', node as u64);
             printed += 1;
-        }
-    }
-
-    /// Prints `yes` or `no`.
-    pub(crate) fn yes_no<K: Sink>(&mut self, sink: &mut K, yes: bool)
-        ensures { Prints K.written K.faults self.old sink.old self.new sink.new (yes_no yes) }
-    {
-        if yes {
-            self.text(sink, b"yes");
-        } else {
-            self.text(sink, b"no");
         }
     }
 
@@ -133,12 +150,14 @@ impl<const ROOM: usize> Printer<ROOM> {
         }
     }
 
-    /// Prints the task that a node runs.
-    pub(crate) fn run<K: Sink>(&mut self, sink: &mut K, run: Option<(u8, u16)>)
-        ensures { Prints K.written K.faults self.old sink.old self.new sink.new (running_text run) }
+    /// Prints the task that the node at place `k` runs, behind a comma where it isn't the first.
+    pub(crate) fn run_at<K: Sink>(&mut self, sink: &mut K, k: usize, run: Option<(u8, u16)>)
+        ensures { Prints K.written K.faults self.old sink.old self.new sink.new
+            (separator_at (codes ",") k ++ running_text run) }
     {
         match run {
-            Some((task, _)) => self.number(sink, task as u64),
+            Some((task, _)) => self.number_at(sink, k, b',', task as u64),
+            None if k > 0 => self.text(sink, b",-"),
             None => self.byte(sink, b'-'),
         }
     }
@@ -156,8 +175,7 @@ impl<const ROOM: usize> Printer<ROOM> {
             (runs_text nodes copies.now) }
     {
         for node in 0..nodes {
-            self.separator(sink, node as usize, b',');
-            self.run(sink, copies.running(node));
+            self.run_at(sink, node as usize, copies.running(node));
         }
     }
 
@@ -171,13 +189,29 @@ impl<const ROOM: usize> Printer<ROOM> {
         }
     }
 
-    /// Prints a channel with its vote.
-    fn vote_item<K: Sink>(&mut self, sink: &mut K, votes: &[Option<i64>; 8], channel: u8)
+    /// Prints the front of the item at place `k`, which tells something of a number: the number,
+    /// behind a space where it isn't the first.
+    pub(crate) fn item_front<K: Sink>(&mut self, sink: &mut K, k: usize, n: u8)
         ensures { Prints K.written K.faults self.old sink.old self.new sink.new
-            (vote_item votes.now channel) }
+            (separator_at (codes " ") k ++ (decimal n ++ codes "=")) }
     {
-        self.number(sink, channel as u64);
-        self.byte(sink, b'=');
+        if k > 0 && n < 10 {
+            self.text(sink, &[b' ', b'0' + n, b'=']);
+        } else if k > 0 && n < 100 {
+            let [tens, ones] = two_digits(n);
+            self.text(sink, &[b' ', tens, ones, b'=']);
+        } else {
+            self.number_at(sink, k, b' ', n as u64);
+            self.byte(sink, b'=');
+        }
+    }
+
+    /// Prints the channel at place `k` with its vote.
+    fn vote_item<K: Sink>(&mut self, sink: &mut K, k: usize, votes: &[Option<i64>; 8], channel: u8)
+        ensures { Prints K.written K.faults self.old sink.old self.new sink.new
+            (separator_at (codes " ") k ++ vote_item votes.now channel) }
+    {
+        self.item_front(sink, k, channel);
         self.vote(sink, vote_of(votes, channel));
     }
 
@@ -191,8 +225,7 @@ impl<const ROOM: usize> Printer<ROOM> {
             return;
         }
         for (k, channel) in due.iter().enumerate() {
-            self.separator(sink, k, b' ');
-            self.vote_item(sink, votes, *channel);
+            self.vote_item(sink, k, votes, *channel);
         }
     }
 
@@ -207,18 +240,18 @@ impl<const ROOM: usize> Printer<ROOM> {
         }
     }
 
-    /// Prints a member with its settled claim.
+    /// Prints the member at place `k` with its settled claim.
     fn done_item<K: Sink, const N: usize>(
         &mut self,
         sink: &mut K,
+        k: usize,
         done: &[Wrapped<u8>; N],
         member: u8,
     )
         ensures { Prints K.written K.faults self.old sink.old self.new sink.new
-            (done_item done.now member) }
+            (separator_at (codes " ") k ++ done_item done.now member) }
     {
-        self.number(sink, member as u64);
-        self.byte(sink, b'=');
+        self.item_front(sink, k, member);
         self.claim(sink, claim_of(done, member));
     }
 
@@ -234,50 +267,7 @@ impl<const ROOM: usize> Printer<ROOM> {
     {
         let mut printed: usize = 0;
         for member in members.iter() {
-            self.separator(sink, printed, b' ');
-            self.done_item(sink, done, member);
-            printed += 1;
-        }
-    }
-
-    /// Prints a member with its settled row.
-    fn rows_item<K: Sink, const N: usize>(
-        &mut self,
-        sink: &mut K,
-        nodes: u8,
-        rows: &Matrix<N>,
-        member: u8,
-    )
-        requires capacity { IsCapacity N }
-        requires nodes { nodes ≤ N }
-        ensures { Prints K.written K.faults self.old sink.old self.new sink.new
-            (rows_item nodes rows.now member) }
-    {
-        self.number(sink, member as u64);
-        self.byte(sink, b'=');
-        match rows.get(member) {
-            Some(row) => self.numbers(sink, &row.masks[..nodes as usize]),
-            None => self.byte(sink, b'E'),
-        }
-    }
-
-    /// Prints the members with their settled rows.
-    pub(crate) fn rows<K: Sink, const N: usize>(
-        &mut self,
-        sink: &mut K,
-        nodes: u8,
-        rows: &Matrix<N>,
-        members: &NodeSet<N>,
-    )
-        requires capacity { IsCapacity N }
-        requires nodes { nodes ≤ N }
-        ensures { Prints K.written K.faults self.old sink.old self.new sink.new
-            (separated (codes " ") (map (rows_item nodes rows.now) members.now)) }
-    {
-        let mut printed: usize = 0;
-        for member in members.iter() {
-            self.separator(sink, printed, b' ');
-            self.rows_item(sink, nodes, rows, member);
+            self.done_item(sink, printed, done, member);
             printed += 1;
         }
     }

@@ -1,5 +1,5 @@
-use Rattle.std.proofs.Common.{ℕ, ◌≡◌, ◌<◌, get_or}
+use Rattle.std.proofs.Common.{ℕ, ◌<◌, ◌≤◌, get_or}
 use Rattle.run_print.proofs.pieces.are_zero.Given as goal
 
 abbrev pub invariant-loop-n : goal.invariant-loop-n
-invariant-loop-n l = (k : ℕ) → k < l.n-index → get_or l.numbers k 0 ≡ 0
+invariant-loop-n g l = (k : ℕ) → k < l.n-index → get_or l.numbers k 0 ≤ l.most

@@ -1,9 +1,10 @@
-use Rattle.std.proofs.Common.{sym}
-use Rattle.run_print.proofs.Joining.{then}
+use Rattle.std.proofs.Common.{List, ℕ, subst, ◌∙◌}
+use Rattle.run_print.specs.Printing.{Prints}
 use Rattle.run_print.proofs.printer.Printer.beliefs_like.Goals as goal
 
-pub returns-in-Some : goal.returns-in-Some
-returns-in-Some g c = rw (sym c.in-Some.ensures) (then (then (rw c.mode.ensures at c.mode-in-Some.ensures) c.state_like.ensures) c.settled_like.ensures)
+pub returns-then-is_like : goal.returns-then-is_like
+returns-then-is_like g c =
+    subst (λ (xs : List ℕ). Prints g.K.Sink.written g.K.Sink.faults c.args.self.now c.args.sink.now c.text.new.self c.text.new.sink xs) (c.as_slice.ensures ∙ c.is_like.ensures c.if-is_like.true) c.text.ensures
 
-pub returns-in-None : goal.returns-in-None
-returns-in-None g c = rw (sym c.in-None.ensures) c.text.ensures
+pub returns-else-is_like : goal.returns-else-is_like
+returns-else-is_like g c = c.beliefs_at.ensures

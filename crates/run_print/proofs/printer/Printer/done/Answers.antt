@@ -3,7 +3,7 @@ use Rattle.std.specs.Prelude.{codes}
 use Rattle.std.proofs.lemmas.List.{map-append, length-map}
 use Rattle.run_text.specs.Text.{separated, done_item}
 use Rattle.run_print.specs.Printing.{Prints}
-use Rattle.run_print.proofs.Joining.{further}
+use Rattle.run_print.proofs.Joining.{further_whole}
 use Rattle.run_print.proofs.printer.Printer.done.Goals as goal
 
 pub loop-member-preserved : goal.loop-member-preserved
@@ -18,7 +18,7 @@ loop-member-preserved g c =
       split = c.loop-member.invariant.split ∙ ap (λ xs. ys ++ xs) c.in-Some.ensures.steps ∙ sym (append_assoc ys (q ∷ []) c.next.new.self);
       few = c.loop-member.invariant.few;
       place = omega (arith, c.loop-member.invariant.place, length-append ys (q ∷ []));
-      prints = rw (map-append item ys (q ∷ [])) (further (codes " ") (map item ys) (item q) c.loop-member.invariant.prints (rw place at c.separator.ensures) c.done_item.ensures);
+      prints = rw (map-append item ys (q ∷ [])) (further_whole (codes " ") (map item ys) (item q) c.loop-member.invariant.prints (rw place at c.done_item.ensures));
     }
 
 pub returns : goal.returns

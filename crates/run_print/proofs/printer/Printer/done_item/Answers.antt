@@ -1,14 +1,5 @@
-use Rattle.run_print.proofs.Joining.{then}
+use Rattle.run_print.proofs.Joining.{then_inside}
 use Rattle.run_print.proofs.printer.Printer.done_item.Goals as goal
 
-pub number-requires : goal.number-requires
-number-requires g c = assumption
-
-pub byte-requires : goal.byte-requires
-byte-requires g c = assumption
-
-pub claim-requires : goal.claim-requires
-claim-requires g c = assumption
-
 pub returns : goal.returns
-returns g c = then (then c.number.ensures c.byte.ensures) (rw c.claim_of.ensures at c.claim.ensures)
+returns g c = then_inside _ _ _ c.item_front.ensures (rw c.claim_of.ensures at c.claim.ensures)

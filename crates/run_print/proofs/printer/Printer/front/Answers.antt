@@ -8,7 +8,4 @@ digit_front : (i letter : ℕ) → i < 10 → codes "node " ++ decimal i ++ code
 digit_front i letter low = rw (decimal_digit i low) refl
 
 pub returns-then-i-lt10 : goal.returns-then-i-lt10
-returns-then-i-lt10 g c = rw (c.letter_of-letter.ensures, digit_front c.args.i c.letter_of-letter.result c.if-i-lt10.true) c.text.ensures
-
-pub returns-else-i-lt10 : goal.returns-else-i-lt10
-returns-else-i-lt10 g c = rw c.letter_of-letter.ensures c.named.ensures
+returns-then-i-lt10 g c = rw (digit_front c.args.i c.args.letter c.if-i-lt10.true) c.text.ensures

@@ -1,4 +1,5 @@
-use Rattle.std.proofs.Common.{◌≡◌, ℕ, List, length, replicate, subst, ap, sym, ◌∙◌}
+use Rattle.std.proofs.Common.{◌≡◌, ◌≤◌, ℕ, List, replicate, take, subst, ap, sym, ◌∙◌, arith, inl, inr}
+use Rattle.std.proofs.lemmas.List.{take-replicate}
 use Rattle.run_text.specs.Text.{numbers_text}
 use Rattle.run_print.specs.Printing.{Prints}
 use Rattle.run_print.proofs.Zeros.{zeros_text}
@@ -6,7 +7,9 @@ use Rattle.run_print.proofs.printer.Printer.mostly_zeros.Goals as goal
 
 pub returns-then-are_zero : goal.returns-then-are_zero
 returns-then-are_zero g c =
-    let xs : List ℕ = c.args.numbers.now in
-    let zero : xs ≡ replicate (length xs) 0 = c.are_zero.ensures.zero c.if-are_zero.true in
+    let nodes : ℕ = c.args.nodes in
+    let zero : c.args.numbers.now ≡ replicate g.row.N 0 = c.are_zero.ensures c.if-are_zero.true in
+    let taken : take nodes c.args.numbers.now ≡ replicate nodes 0 = ap (λ (xs : List ℕ). take nodes xs) zero ∙ take-replicate nodes g.row.N 0 c.requires.nodes in
+    let few : nodes ≤ 16 = elim c.requires.capacity [ inl e ↦ omega (arith, c.requires.nodes, e) | inr e ↦ omega (arith, c.requires.nodes, e) ] in
     subst (λ (text : List ℕ). Prints g.K.Sink.written g.K.Sink.faults c.args.self.now c.args.sink.now c.text.new.self c.text.new.sink text)
-    (sym (ap numbers_text zero ∙ zeros_text (length xs) (c.are_zero.ensures.some c.if-are_zero.true) c.requires)) c.text.ensures
+    (sym (ap numbers_text taken ∙ zeros_text nodes c.if-nodes-gt0.true few)) c.text.ensures

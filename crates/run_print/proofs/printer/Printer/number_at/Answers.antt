@@ -1,16 +1,8 @@
-use Rattle.std.proofs.Common.{◌≡◌, ◌<◌, ◌≤◌, ℕ, zero, suc, List, ◌∷◌, [], ◌++◌, refl, sym, subst, arith}
+use Rattle.std.proofs.Common.{ℕ, List, ◌∷◌, [], ◌++◌, sym, subst}
 use Rattle.std.specs.Prelude.{decimal}
-use Rattle.run_text.specs.Text.{separator_at}
 use Rattle.run_print.specs.Printing.{Prints}
+use Rattle.run_print.proofs.Joining.{later, first}
 use Rattle.run_print.proofs.printer.Printer.number_at.Goals as goal
-
-later : (separator : List ℕ) (k : ℕ) → 0 < k → separator_at separator k ≡ separator
-later separator zero h = absurd (omega (arith, h))
-later separator (suc k) h = refl
-
-first : (separator : List ℕ) (k : ℕ) → k ≤ 0 → separator_at separator k ≡ []
-first separator zero h = refl
-first separator (suc k) h = absurd (omega (arith, h))
 
 pub returns-then-k-gt0 : goal.returns-then-k-gt0
 returns-then-k-gt0 g c =

@@ -11,13 +11,13 @@ beliefs-requires g c =
     (assumption, (elim c.requires.capacity [ inl e ↦ rw e (lit< tt) | inr e ↦ rw e (lit< tt) ], (lit< tt, (c.requires.capacity, (nodes, common)))))
 
 pub returns : goal.returns
-returns g c = rw (c.node.ensures, sym c.shown.view_is) (then (rw c.letter.ensures at c.named.ensures) c.beliefs.ensures)
+returns g c = rw (c.node.ensures, sym c.shown.view_is) (then (rw (sym c.letter_of.ensures) at c.front.ensures) c.beliefs.ensures)
 
 pub bounds-shown-inside-i : goal.bounds-shown-inside-i
 bounds-shown-inside-i g c = omega (arith, c.requires.node, c.requires.nodes)
 
-pub named-requires : goal.named-requires
-named-requires g c = assumption
+pub front-requires : goal.front-requires
+front-requires g c = assumption
 
 pub node-requires : goal.node-requires
 node-requires g c = (assumption, (elim c.requires.capacity [ inl e ↦ rw e (lit< tt) | inr e ↦ rw e (lit< tt) ], c.requires.node))

@@ -11,13 +11,10 @@ use Rattle.run_print.proofs.printer.Printer.runs.Goals as goal
 pub loop-node-preserved : goal.loop-node-preserved
 loop-node-preserved g c =
     rw (joined_next (codes ",") (λ q. running_text (works c.args.copies.now q)) c.loop-node.node)
-    (then c.loop-node.invariant (then c.separator.ensures (rw (sym c.running.ensures) c.run.ensures)))
+    (then c.loop-node.invariant (rw (sym c.running.ensures) c.run_at.ensures))
 
-pub separator-requires : goal.separator-requires
-separator-requires g c = assumption
-
-pub run-requires : goal.run-requires
-run-requires g c = assumption
+pub run_at-requires : goal.run_at-requires
+run_at-requires g c = assumption
 
 pub running-requires : goal.running-requires
 running-requires g c =

@@ -11,13 +11,10 @@ use Rattle.run_print.proofs.printer.Printer.runs_among.Goals as goal
 pub loop-node-preserved : goal.loop-node-preserved
 loop-node-preserved g c =
     rw (joined_next (codes ",") (λ q. running_text (works c.args.copies.now q)) c.loop-node.node)
-    (then c.loop-node.invariant (then c.separator.ensures (rw (sym c.running_among.ensures) c.run.ensures)))
+    (then c.loop-node.invariant (rw (sym c.running_among.ensures) c.run_at.ensures))
 
-pub separator-requires : goal.separator-requires
-separator-requires g c = assumption
-
-pub run-requires : goal.run-requires
-run-requires g c = assumption
+pub run_at-requires : goal.run_at-requires
+run_at-requires g c = assumption
 
 pub running_among-requires : goal.running_among-requires
 running_among-requires g c =
@@ -31,6 +28,6 @@ loop-node-smaller g c = omega (arith, c.loop-node-test.true)
 
 pub returns : goal.returns
 returns g c =
-    let last : c.loop-node.node ≡ c.args.head.now.nodes = omega (arith, c.loop-node-test.false, c.loop-node.auto.node-end) in
+    let last : c.loop-node.node ≡ c.args.nodes = omega (arith, c.loop-node-test.false, c.loop-node.auto.node-end) in
     subst (λ (n : ℕ). Prints g.K.Sink.written g.K.Sink.faults c.args.self.now c.args.sink.now c.loop-node.self c.loop-node.sink
     (separated (codes ",") (map (λ q. running_text (works c.args.copies.now q)) (ids_below n)))) last c.loop-node.invariant

@@ -1,9 +1,6 @@
-use Rattle.std.proofs.Common.{subst}
 use Rattle.std.specs.Prelude.{slice_get}
 use Rattle.run_text.specs.PeriodText.{recorded_text}
-use Rattle.shown_period.specs.declared.shown.Shown.{Shown}
 use Rattle.shown_period.specs.Whole.{record_of}
-use Rattle.run_print.specs.Printing.{Prints}
 use Rattle.run_print.proofs.Joining.{then, nothing}
 use Rattle.run_print.proofs.Lists.{flat_next}
 use Rattle.run_print.proofs.printer.Printer.shown_nodes.Goals as goal
@@ -13,6 +10,4 @@ loop-i-init g c = nothing g.K.Sink.written g.K.Sink.faults c.args.self.now c.arg
 
 pub loop-i-preserved : goal.loop-i-preserved
 loop-i-preserved g c =
-    rw (flat_next (λ i. recorded_text (record_of c.args.shown.now) i (slice_get (record_of c.args.shown.now).records i)) c.loop-i.i) (then c.loop-i.invariant
-    (subst (λ (s : Shown g.row.N). Prints g.K.Sink.written g.K.Sink.faults c.loop-i.self c.loop-i.sink c.shown_node.new.self c.shown_node.new.sink
-    (recorded_text (record_of s) c.loop-i.i (slice_get (record_of s).records c.loop-i.i))) c.of-example.ensures.shown c.shown_node.ensures))
+    rw (flat_next (λ i. recorded_text (record_of c.args.shown.now) i (slice_get (record_of c.args.shown.now).records i)) c.loop-i.i) (then c.loop-i.invariant c.shown_node.ensures)

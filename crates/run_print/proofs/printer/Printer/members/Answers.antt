@@ -1,17 +1,10 @@
-use Rattle.std.proofs.Common.{◌≡◌, ◌∷◌, [], ◌++◌, ℕ, List, Bool, false, length, map, arith, ap, sym, subst, ◌∙◌, append_assoc, length-append, append-nil, refl, true≢false}
-use Rattle.std.specs.Prelude.{codes, decimal, IsTrue, ◌↔◌}
+use Rattle.std.proofs.Common.{◌≡◌, ◌∷◌, [], ◌++◌, ℕ, List, length, map, arith, ap, sym, subst, ◌∙◌, append_assoc, length-append, append-nil}
+use Rattle.std.specs.Prelude.{codes, decimal}
 use Rattle.std.proofs.lemmas.List.{map-append, length-map}
 use Rattle.run_print.specs.Printing.{Prints}
-use Rattle.run_text.specs.Text.{separated, separator_at, set_text}
+use Rattle.run_text.specs.Text.{separated, separator_at}
 use Rattle.run_print.proofs.Joining.{then, joined-push}
-use Rattle.run_print.proofs.printer.Printer.set.Goals as goal
-
-some_set : (b : Bool) (xs : List ℕ) → (IsTrue b ↔ (xs ≡ [])) → b ≡ false → set_text xs ≡ separated (codes ",") (map decimal xs)
-some_set b [] h e = absurd (true≢false (sym (subst IsTrue e (h.1 refl))))
-some_set b (x ∷ xs) h e = refl
-
-pub byte-requires : goal.byte-requires
-byte-requires g c = assumption
+use Rattle.run_print.proofs.printer.Printer.members.Goals as goal
 
 pub number_at-requires : goal.number_at-requires
 number_at-requires g c = assumption
@@ -37,4 +30,4 @@ returns g c =
     let set = c.args.set.now in
     let all : ys ≡ set = sym (c.loop-node.invariant.split ∙ ap (λ (xs : List ℕ). ys ++ xs) c.in-None.ensures.steps.0 ∙ append-nil ys) in
     subst (λ (xs : List ℕ). Prints g.K.Sink.written g.K.Sink.faults c.args.self.now c.args.sink.now c.loop-node.self c.loop-node.sink xs)
-    (ap (λ (zs : List ℕ). separated (codes ",") (map decimal zs)) all ∙ sym (some_set c.is_empty.result set c.is_empty.ensures c.if-is_empty.false)) c.loop-node.invariant.prints
+    (ap (λ (zs : List ℕ). separated (codes ",") (map decimal zs)) all) c.loop-node.invariant.prints

@@ -2,7 +2,7 @@ use Rattle.std.proofs.Common.{◌≡◌, ◌++◌, ◌≤◌, length, map}
 use Rattle.std.specs.Prelude.{codes, decimal}
 use Rattle.run_print.specs.Printing.{Prints}
 use Rattle.run_text.specs.Text.{separated}
-use Rattle.run_print.proofs.printer.Printer.set.Given as goal
+use Rattle.run_print.proofs.printer.Printer.members.Given as goal
 
 abbrev pub invariant-loop-node : goal.invariant-loop-node
 invariant-loop-node g l = record {
