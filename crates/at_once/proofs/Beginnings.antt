@@ -1,5 +1,5 @@
 -- How nodes begin a period, one after another.
-use Rattle.std.proofs.Common.{ℕ, ℤ, ◌≡◌, ◌≢◌, ◌<◌, ◌≤◌, ◌+◌, ◌==◌, Bool, true, false, if◌then◌else◌, List, [], length, length-set, set, get_or, get_or-set_other, get_or-set_same, replicate, Option, None, Some, refl, sym, ap, subst, ◌∙◌, inl, inr, arith, eq-eqb, ne_eqb}
+use Rattle.std.proofs.Common.{ℕ, ℤ, ◌≡◌, ◌≢◌, ◌<◌, ◌≤◌, ◌+◌, ◌==◌, Bool, true, false, if◌then◌else◌, List, [], length, length-set, set, get_or-set_other, get_or-set_same, replicate, Option, None, Some, refl, sym, ap, subst, ◌∙◌, inl, inr, arith, eq-eqb, ne_eqb}
 use Rattle.std.specs.Prelude.{is_some}
 use Rattle.std.proofs.lemmas.Bool.{cases_eq, cases_lt, cond-true, cond-false}
 use Rattle.std.proofs.lemmas.List.{get_or_past}
@@ -8,7 +8,7 @@ use Rattle.fault_classes.specs.Plan.{restarts_at}
 use Rattle.node_grid.specs.Version.{kind_count}
 use Rattle.error_reports.specs.Notes.{Notes}
 use Rattle.agreed_state.specs.declared.config.Config.{Config}
-use Rattle.agreed_state.specs.Agreed.{AgreedView, IsAgreed}
+use Rattle.agreed_state.specs.Agreed.{AgreedView}
 use Rattle.protocol.specs.View.{Setting, Kept, opened}
 use Rattle.scenario.specs.Scenario.{ScenarioView, system_of}
 use Rattle.shared_states.specs.Sharing.{state_at, without_state}

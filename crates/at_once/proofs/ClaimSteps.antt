@@ -1,10 +1,9 @@
 -- From the rounds of claims to what nodes settle, what is due and what they note.
-use Rattle.std.proofs.Common.{ℕ, ◌≡◌, ◌≢◌, ◌<◌, ◌≤◌, ◌+◌, ◌==◌, Bool, true, false, if◌then◌else◌, List, [], ◌∷◌, map, length, get_or, Option, None, Some, refl, sym, ap, ap₂, subst, ◌∙◌, inl, inr, arith, ◌&&◌, lt-ltb}
-use Rattle.std.specs.Prelude.{nat_eq, is_some}
-use Rattle.std.proofs.lemmas.Bool.{cases_Bool, cond-true, cond-false}
+use Rattle.std.proofs.Common.{ℕ, ◌≡◌, ◌<◌, ◌≤◌, ◌==◌, Bool, true, false, if◌then◌else◌, List, [], ◌∷◌, map, length, None, Some, refl, sym, ap, ap₂, subst, ◌∙◌, arith, ◌&&◌, lt-ltb}
+use Rattle.std.specs.Prelude.{nat_eq}
+use Rattle.std.proofs.lemmas.Bool.{cond-true}
 use Rattle.node_grid.specs.NodeSet.{ids_below, has_id, ids_where}
 use Rattle.node_grid.specs.Kinds.{equivocate}
-use Rattle.node_grid.specs.Version.{kind_count}
 use Rattle.omh_paths.specs.declared.wrapped.Wrapped.{Wrapped}
 use Rattle.omh_paths.specs.declared.wrapped.Wrapped.TheVariants.{Plain}
 use Rattle.omh.specs.Omh.{settled_from}
@@ -18,7 +17,7 @@ use Rattle.protocol.specs.FurtherKinds.{convicts_member}
 use Rattle.protocol.specs.Heard.{rounds_bad}
 use Rattle.protocol.specs.Settled.{plain}
 use Rattle.protocol.specs.View.{as_claim, own_claim, claims_settled}
-use Rattle.scenario.specs.Scenario.{ScenarioView, system_of}
+use Rattle.scenario.specs.Scenario.{ScenarioView}
 use Rattle.safety.proofs.Lists.{map_below, has_where}
 use Rattle.touched_items.specs.ItemLaws.{claim_told}
 use Rattle.heard_links.specs.declared.phase.Phase.{Phase}
@@ -35,7 +34,6 @@ use Rattle.at_once.specs.Phases.{IsDone, node_item, node_claims, SettleAlike, bl
 use Rattle.at_once.proofs.Making.{claimed_is, judged_is, convicted_is}
 use Rattle.at_once.proofs.Talks.{claim_is}
 use Rattle.at_once.proofs.Phasing.{item_same, bad_same, convicts_same, alike_item}
-use Rattle.at_once.proofs.NodeNotes.{few_kinds}
 
 map_map : {A B C : Type 0} (f : A → B) (g : B → C) (xs : List A) → map g (map f xs) ≡ map (λ x. g (f x)) xs
 map_map f g [] = refl

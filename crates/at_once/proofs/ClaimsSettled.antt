@@ -1,5 +1,5 @@
 -- What all settle of the claims, put together.
-use Rattle.std.proofs.Common.{ℕ, ◌≡◌, ◌≢◌, ◌<◌, ◌≤◌, ◌+◌, ◌*◌, Bool, true, false, if◌then◌else◌, List, [], length, get_or, Option, None, Some, refl, sym, ap, ap₂, subst, ◌∙◌, lit<, inl, inr, arith}
+use Rattle.std.proofs.Common.{ℕ, ◌≡◌, ◌<◌, ◌≤◌, ◌+◌, Bool, true, false, if◌then◌else◌, List, length, get_or, Option, None, Some, refl, sym, ap, ap₂, subst, ◌∙◌, lit<, inl, inr, arith}
 use Rattle.std.specs.Prelude.{nat_eq, is_some}
 use Rattle.std.proofs.lemmas.Bool.{cases_Bool, cond-true, false≢true}
 use Rattle.node_grid.specs.NodeSet.{has_id}
@@ -31,7 +31,7 @@ use Rattle.grouped_nodes.specs.Shared.{AreShared, belief_of}
 use Rattle.shown_period.specs.declared.made.Made.{Made}
 use Rattle.view_law.specs.Made.{by_verdicts}
 use Rattle.view_law.specs.Laws.{IsWithin}
-use Rattle.at_once.specs.Parts.{through, done_in, due_in, notes_synced, notes_claimed, notes_judged, notes_convicted}
+use Rattle.at_once.specs.Parts.{through, done_in, notes_synced}
 use Rattle.at_once.specs.Kept.{notes_at, AreShaped, AreNotedAs}
 use Rattle.at_once.specs.Course.{awake_in, IsGoing, IsNothing, AreClaimed, AreSettled}
 use Rattle.at_once.specs.Phases.{IsPhaseAt, AreTold, IsDone, AreClaimsSettled, node_claims, SettleAlike, blames}

@@ -1,18 +1,16 @@
 -- How a period ends: what was made of it, and what nodes keep.
-use Rattle.std.proofs.Common.{ℕ, suc, ℤ, add-one, ◌≡◌, ◌≢◌, ◌<◌, ◌≤◌, ◌+◌, ◌==◌, ◌&&◌, Bool, true, false, if◌then◌else◌, List, [], length, length-set, set, get_or, get_or-set_other, get_or-set_same, replicate, Option, None, Some, ◌⊎◌, refl, sym, ap, ap₂, subst, ◌∙◌, inl, inr, arith, lt-ltb, nat_lt}
+use Rattle.std.proofs.Common.{ℕ, suc, ℤ, add-one, ◌≡◌, ◌≢◌, ◌<◌, ◌≤◌, ◌+◌, ◌&&◌, Bool, true, false, if◌then◌else◌, List, [], length, length-set, set, get_or, get_or-set_other, get_or-set_same, replicate, Option, None, Some, refl, sym, ap, ap₂, subst, ◌∙◌, inl, inr, arith, lt-ltb}
 use Rattle.std.specs.Prelude.{is_some, slice_get, slice_index}
-use Rattle.std.proofs.lemmas.Bool.{cases_Bool, cases_eq, cases_lt, cond-true, cond-false, false≢true}
+use Rattle.std.proofs.lemmas.Bool.{cases_Bool, cases_eq, cases_lt, false≢true}
 use Rattle.std.proofs.lemmas.List.FromFn.{get_or-map-range_with_len}
 use Rattle.std.proofs.lemmas.Option.{slice_get-get_or}
-use Rattle.omh_paths.specs.declared.wrapped.Wrapped.TheVariants.{Fault}
-use Rattle.node_grid.specs.Version.{kind_count}
 use Rattle.node_grid.specs.Capacity.{IsCapacity}
 use Rattle.node_grid.specs.NodeSet.{has_id, ids_where}
 use Rattle.node_grid.specs.NodeSetLaws.{has-filter}
 use Rattle.agreed_state.specs.declared.config.Config.{Config}
 use Rattle.error_reports.specs.Notes.{Notes}
 use Rattle.agreed_state.specs.Agreed.{AgreedView, agreed_after}
-use Rattle.protocol.specs.View.{View, Kept, cold_view}
+use Rattle.protocol.specs.View.{View, cold_view}
 use Rattle.protocol.specs.View.Mode.{Full as ViewFull, Joining as ViewJoining}
 use Rattle.protocol.specs.Cluster.{view}
 use Rattle.protocol.specs.Run.{run, members_in}
@@ -24,7 +22,7 @@ use Rattle.scenario.specs.Scenario.{ScenarioView, system_of}
 use Rattle.shared_states.specs.declared.belief.Belief.{Belief}
 use Rattle.shared_states.specs.Sharing.{state_at, AreAgreed}
 use Rattle.shown_period.specs.declared.made.Made.{Made}
-use Rattle.shown_period.specs.Outcomes.{HasBeliefs, mode_at, mode_with, modes_through, members_at, members_through, belief_at, outcome_at}
+use Rattle.shown_period.specs.Outcomes.{HasBeliefs, mode_at, mode_with, members_at, belief_at, outcome_at}
 use Rattle.shown_period.specs.Whole.{AreMade}
 use Rattle.shown_period.specs.WholeLaws.{IsPart, outcome_by_parts}
 use Rattle.grouped_nodes.specs.Grouping.{first_of, AreFirsts}
@@ -32,10 +30,10 @@ use Rattle.grouped_nodes.specs.Shared.{belief_of}
 use Rattle.view_law.specs.Made.{view_made}
 use Rattle.view_law.proofs.Keeping.{through_is, cold_is as stays_cold}
 use Rattle.at_once.specs.declared.keeping.Keeping.{Keeping}
-use Rattle.at_once.specs.Parts.{goes, is_full, through, setting, has, done_in, due_in, own_in, votes_in, found_in, rows_in, after_in, notes_late, parts_in}
-use Rattle.at_once.specs.Kept.{notes_at, of_node, kept_before, no_longer, AreShaped, AreUsed, AreKept}
+use Rattle.at_once.specs.Parts.{goes, is_full, through, setting, has, after_in, parts_in}
+use Rattle.at_once.specs.Kept.{notes_at, of_node, kept_before, no_longer, AreKept}
 use Rattle.at_once.specs.Ended.{IsForgotten, IsUnchanged, AreForgetting}
-use Rattle.at_once.specs.Course.{IsNothing, IsGoing, AreClaimed, AreReported}
+use Rattle.at_once.specs.Course.{IsNothing, AreReported}
 use Rattle.at_once.proofs.Making.{after_is, view_is, cold_is}
 use Rattle.at_once.proofs.Beginnings.{none_past}
 

@@ -1,5 +1,5 @@
 -- How far all nodes are in a period still holds of what was made of it where other parts change.
-use Rattle.std.proofs.Common.{ℕ, ◌≡◌, ◌<◌, ◌≤◌, ◌&&◌, Bool, true, false, if◌then◌else◌, List, [], length, get_or, replicate, Option, None, Some, refl, sym, ap, ap₂, ◌∙◌, inl, inr, arith, nat_lt, lt-ltb}
+use Rattle.std.proofs.Common.{ℕ, ◌≡◌, ◌<◌, ◌≤◌, ◌&&◌, Bool, false, if◌then◌else◌, List, [], get_or, replicate, Option, None, Some, refl, sym, ap, ap₂, ◌∙◌, inl, inr, arith, lt-ltb}
 use Rattle.std.specs.Prelude.{is_some}
 use Rattle.std.proofs.lemmas.Bool.{cases_lt, cond-false}
 use Rattle.std.proofs.lemmas.List.{get_or_past}
@@ -14,7 +14,7 @@ use Rattle.shown_period.specs.declared.made.Made.{Made}
 use Rattle.shown_period.specs.Outcomes.{HasBeliefs}
 use Rattle.shown_period.specs.Heads.{AreBegun as AreBegunInRun}
 use Rattle.at_once.specs.declared.keeping.Keeping.{Keeping}
-use Rattle.at_once.specs.Parts.{setting, goes, has, is_full, through, notes_voted, found_in}
+use Rattle.at_once.specs.Parts.{setting, goes, has, is_full, notes_voted}
 use Rattle.at_once.specs.Kept.{notes_at, AreShaped, AreBegun, AreNotedAs}
 use Rattle.at_once.specs.Course.{IsGoing, AreClaimed, AreFound, AreReported}
 use Rattle.at_once.proofs.Making.{found_is}

@@ -1,5 +1,5 @@
 -- Groups that were made by a test of two nodes.
-use Rattle.std.proofs.Common.{ℕ, ◌≡◌, ◌<◌, ◌≤◌, true, List, sym, subst, inl, inr, arith}
+use Rattle.std.proofs.Common.{ℕ, ◌<◌, true, List, sym, subst, inl, inr, arith}
 use Rattle.std.proofs.lemmas.Bool.{cases_eq}
 use Rattle.grouped_nodes.specs.Grouping.{first_of, AreFirsts, AreGroups, Tells}
 

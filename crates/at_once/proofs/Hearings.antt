@@ -1,10 +1,8 @@
 -- How nodes go through a period once its sync slot is over.
-use Rattle.std.proofs.Common.{ℕ, ℤ, ◌≡◌, ◌≢◌, ◌<◌, ◌≤◌, ◌+◌, ◌==◌, ◌&&◌, Bool, true, false, List, [], length, length-set, set, get_or, get_or-set_other, get_or-set_same, replicate, Option, None, Some, refl, sym, ap, subst, ◌∙◌, inl, inr, arith, nat_lt, lt-ltb}
+use Rattle.std.proofs.Common.{ℕ, ℤ, ◌≡◌, ◌≢◌, ◌<◌, ◌≤◌, ◌+◌, ◌&&◌, Bool, true, false, List, [], length, set, get_or, get_or-set_other, get_or-set_same, replicate, Option, None, Some, refl, sym, ap, subst, ◌∙◌, inl, inr, arith, nat_lt, lt-ltb}
 use Rattle.std.specs.Prelude.{is_some, slice_get, slice_index}
 use Rattle.std.proofs.lemmas.Bool.{cases_Bool, cases_eq, cases_lt, false≢true, le-ltb}
 use Rattle.std.proofs.lemmas.Option.{slice_get-get_or}
-use Rattle.omh_paths.specs.declared.wrapped.Wrapped.{Wrapped}
-use Rattle.omh_paths.specs.declared.wrapped.Wrapped.TheVariants.{Fault}
 use Rattle.node_grid.specs.Capacity.{IsCapacity}
 use Rattle.node_grid.specs.Version.{kind_count}
 use Rattle.node_grid.specs.NodeSet.{has_id, ids_where}
@@ -25,10 +23,9 @@ use Rattle.node_steps.specs.Outcome.{cold_outcome}
 use Rattle.shown_period.specs.declared.made.Made.{Made}
 use Rattle.shown_period.specs.Outcomes.{HasBeliefs, belief_at, done_in, rows_in, due_in, votes_in, found_at, sync_at, outcome_at, modes_through, members_through}
 use Rattle.shown_period.specs.Whole.{AreAlike}
-use Rattle.view_law.specs.Made.{notes_begun}
 use Rattle.at_once.specs.declared.keeping.Keeping.{Keeping}
 use Rattle.at_once.specs.Parts.{setting, goes, is_full, through, has, notes_synced}
-use Rattle.at_once.specs.Kept.{notes_at, of_node, AreShaped, AreUsed, AreBegun}
+use Rattle.at_once.specs.Kept.{notes_at, of_node, AreUsed, AreBegun}
 use Rattle.at_once.specs.Course.{awake_in, IsNothing, IsGoing, AreLeft, AreSynced}
 use Rattle.at_once.proofs.Making.{synced_is}
 

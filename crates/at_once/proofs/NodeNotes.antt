@@ -1,7 +1,5 @@
 -- Notes of all nodes, of which some note more.
-use Rattle.std.proofs.Common.{ℕ, ◌≡◌, ◌≢◌, ◌<◌, ◌≤◌, ◌+◌, ◌==◌, ◌&&◌, ◌||◌, Bool, true, false, if◌then◌else◌, List, [], length, length-set, set, get_or, get_or-set_other, get_or-set_same, Option, None, Some, refl, sym, ap, ap₂, subst, ◌∙◌, inl, inr, arith, ne_eqb, eq-eqb}
-use Rattle.std.specs.Prelude.{nat_eq}
-use Rattle.std.specs.Cmp.Lexicographic.{pointwise}
+use Rattle.std.proofs.Common.{ℕ, ◌≡◌, ◌≢◌, ◌<◌, ◌≤◌, ◌+◌, ◌==◌, ◌&&◌, Bool, true, false, if◌then◌else◌, List, length, length-set, set, get_or-set_other, get_or-set_same, refl, sym, ap, ◌∙◌, inl, inr, arith, ne_eqb, eq-eqb}
 use Rattle.std.proofs.lemmas.Bool.{cases_eq, cond-true, cond-false, cases_Bool}
 use Rattle.node_grid.specs.NodeSet.{has_id}
 use Rattle.node_grid.specs.Kinds.{equivocate}
@@ -11,8 +9,8 @@ use Rattle.error_reports.specs.NoteLaws.{noted_alike, carried_alike}
 use Rattle.omh.specs.Omh.{Ear}
 use Rattle.protocol.specs.FurtherKinds.{convicts_member}
 use Rattle.view_law.specs.Laws.{IsWithin, IsCarriedWithin}
-use Rattle.view_law.proofs.Rows.{noted_within, nothing_noted, nothing_carried}
-use Rattle.item_phase.specs.Noted.{IsNoter, IsCarrier}
+use Rattle.view_law.proofs.Rows.{nothing_noted, nothing_carried}
+use Rattle.item_phase.specs.Noted.{IsNoter}
 use Rattle.agreed_state.specs.declared.config.Config.{Config}
 use Rattle.at_once.specs.Kept.{notes_at, AreShaped}
 use Rattle.at_once.specs.Phases.{blames}

@@ -1,5 +1,5 @@
 -- What nodes keep before the first period.
-use Rattle.std.proofs.Common.{ℕ, ℤ, ◌≡◌, ◌<◌, ◌≤◌, Bool, true, false, if◌then◌else◌, List, [], length, replicate, Option, None, Some, sym, ap, subst, ◌∙◌, inl, inr, arith, nat_lt, lt-ltb}
+use Rattle.std.proofs.Common.{ℕ, ℤ, ◌≡◌, ◌<◌, ◌≤◌, if◌then◌else◌, List, [], length, replicate, Option, None, Some, sym, ap, subst, ◌∙◌, inl, inr, arith, nat_lt, lt-ltb}
 use Rattle.std.specs.Prelude.{is_some}
 use Rattle.std.proofs.lemmas.Bool.{cases_lt, cond-true, cond-false, false≢true, le-ltb}
 use Rattle.std.proofs.lemmas.List.{get_or-replicate}

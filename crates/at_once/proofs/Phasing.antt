@@ -1,13 +1,11 @@
 -- The rounds of one kind of item, and what the run makes of them.
-use Rattle.std.proofs.Common.{ℕ, ◌≡◌, ◌≢◌, ◌<◌, ◌≤◌, ◌+◌, ◌==◌, ◌&&◌, Bool, true, false, if◌then◌else◌, List, [], ◌∷◌, map, length, get_or, Option, None, Some, refl, sym, ap, ap₂, subst, ◌∙◌, inl, inr, arith, ltb-true, lt-ltb, nat_lt}
+use Rattle.std.proofs.Common.{ℕ, ◌≡◌, ◌≢◌, ◌<◌, ◌≤◌, ◌+◌, ◌==◌, ◌&&◌, Bool, true, false, if◌then◌else◌, List, [], ◌∷◌, get_or, Option, None, Some, refl, sym, ap, ap₂, subst, ◌∙◌, inl, inr, arith, ltb-true, lt-ltb, nat_lt}
 use Rattle.std.specs.Prelude.{is_some}
-use Rattle.std.specs.List.{filter}
-use Rattle.std.proofs.lemmas.Bool.{cases_lt, and_parts, cond-true}
+use Rattle.std.proofs.lemmas.Bool.{cases_lt, and_parts}
 use Rattle.std.proofs.lemmas.List.{get_or_past}
 use Rattle.std.proofs.lemmas.List.FromFn.{length-map-range_with_len}
-use Rattle.node_grid.specs.Capacity.{IsCapacity}
-use Rattle.node_grid.specs.NodeSet.{ids_below, has_id, ids_where, IsIdSet}
-use Rattle.node_grid.specs.NodeSetLaws.{passes_where, filter_none, IsIdSet-filter}
+use Rattle.node_grid.specs.NodeSet.{has_id, IsIdSet}
+use Rattle.node_grid.specs.NodeSetLaws.{passes_where, filter_none}
 use Rattle.slot_plan.specs.Slots.{slot_count}
 use Rattle.omh_paths.specs.declared.wrapped.Wrapped.{Wrapped}
 use Rattle.omh_paths.specs.declared.wrapped.Wrapped.TheVariants.{Plain, Fault}
@@ -24,7 +22,7 @@ use Rattle.protocol.specs.Talk.{rounds_upto}
 use Rattle.protocol.specs.View.{Setting, Received, goes_with}
 use Rattle.protocol.specs.Run.{System, members_in, members_of, goes_in, full_at}
 use Rattle.scenario.specs.Scenario.{ScenarioView, IsScenario, system_of}
-use Rattle.safety.proofs.Lists.{map_below, tabulated, in_where}
+use Rattle.safety.proofs.Lists.{tabulated, in_where}
 use Rattle.touched_items.specs.Items.{talk_of}
 use Rattle.heard_links.specs.declared.phase.Phase.{Phase}
 use Rattle.heard_links.specs.Talks.{members_at, IsSet, IsPhaseOf}
@@ -33,7 +31,7 @@ use Rattle.item_phase.specs.declared.item_phase.ItemPhase.{ItemPhase}
 use Rattle.item_phase.specs.Settled.{IsSettled, listener}
 use Rattle.item_phase.specs.Noted.{rounds_of}
 use Rattle.item_phase.specs.Laws.{heard_in, OfRunLaw}
-use Rattle.shared_states.specs.Sharing.{state_at, AreAgreed}
+use Rattle.shared_states.specs.Sharing.{state_at}
 use Rattle.shown_period.specs.declared.made.Made.{Made}
 use Rattle.shown_period.specs.Outcomes.{members_through}
 use Rattle.at_once.specs.Parts.{setting, goes, has, is_full, through}

@@ -1,9 +1,9 @@
 -- What of a node's period is known before all of its slots, in any run.
-use Rattle.std.proofs.Common.{ℕ, ◌≡◌, refl, sym, ap, ◌∙◌}
+use Rattle.std.proofs.Common.{ℕ, ◌≡◌, sym, ap, ◌∙◌}
 use Rattle.protocol.specs.View.{View, goes_with}
 use Rattle.protocol.specs.ViewLaws.{goes_before}
 use Rattle.protocol.specs.Cluster.{view}
-use Rattle.protocol.specs.Run.{System, run, goes_in, so_far, after_sync, after_done, after_values, due_of, delivered}
+use Rattle.protocol.specs.Run.{System, run, goes_in, so_far, after_sync, after_values, due_of, delivered}
 use Rattle.protocol.specs.RunLaws.{view_is, before_is, due_of_is, found_is}
 
 module _ (sys : System) (p i : ℕ) where

@@ -1,12 +1,11 @@
 -- What nodes say of themselves in a period, and what of it is known before all of its slots.
-use Rattle.std.proofs.Common.{ℕ, ◌≡◌, Option, None, Some, List, refl, sym, ap, ◌∙◌}
-use Rattle.std.specs.Prelude.{is_some}
+use Rattle.std.proofs.Common.{ℕ, ◌≡◌, Some, ap, ◌∙◌}
 use Rattle.agreed_state.specs.Agreed.{AgreedView}
 use Rattle.protocol.specs.View.{own_claim, goes_with}
 use Rattle.protocol.specs.Cluster.{view}
 use Rattle.protocol.specs.Run.{run, goes_in, members_in, claim_sent, so_far, after_sync, after_values, members_of, due_of}
 use Rattle.scenario.specs.Scenario.{ScenarioView, system_of}
-use Rattle.at_once.specs.Parts.{setting, goes, has, given, is_full, through}
+use Rattle.at_once.specs.Parts.{setting, goes, has, given, through}
 use Rattle.at_once.proofs.SoFar.{before_of, due_by_claims, found_by_values}
 
 module _ {N : ℕ} (sc : ScenarioView N) (p i : ℕ) where

@@ -1,14 +1,11 @@
 -- What nodes say of themselves, node by node.
-use Rattle.std.proofs.Common.{ℕ, ◌≡◌, ◌≢◌, ◌<◌, ◌+◌, ◌==◌, ◌&&◌, Bool, true, false, if◌then◌else◌, List, Option, None, Some, refl, sym, ap, ◌∙◌, inl, inr, arith, eq-eqb, ne_eqb, ltb-true, nat_lt}
+use Rattle.std.proofs.Common.{ℕ, ◌≡◌, ◌<◌, ◌+◌, ◌==◌, true, false, if◌then◌else◌, List, Option, None, Some, refl, sym, ap, ◌∙◌, inl, inr, arith, eq-eqb, ne_eqb, ltb-true, nat_lt}
 use Rattle.std.specs.Prelude.{is_some}
 use Rattle.std.proofs.lemmas.Bool.{cases_eq, cond-true, cond-false, and_parts, false≢true}
 use Rattle.node_grid.specs.NodeSet.{has_id}
-use Rattle.agreed_state.specs.declared.config.Inputs.{Inputs}
 use Rattle.agreed_state.specs.Agreed.{AgreedView}
 use Rattle.protocol.specs.View.{own_claim}
-use Rattle.protocol.specs.Cluster.{view}
 use Rattle.protocol.specs.View.{View}
-use Rattle.protocol.specs.Run.{run}
 use Rattle.scenario.specs.Scenario.{ScenarioView, system_of}
 use Rattle.touched_items.specs.ItemLaws.{claim_told, row_told}
 use Rattle.shared_states.specs.Sharing.{state_at}

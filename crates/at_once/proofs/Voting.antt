@@ -1,7 +1,7 @@
 -- The data slot node by node: own values, votes and who is off, and what is noted.
-use Rattle.std.proofs.Common.{ℕ, zero, suc, ℤ, ◌≡◌, ◌≢◌, ◌<◌, ◌≤◌, ◌+◌, true, false, List, [], ◌∷◌, length, length-set, set, get_or, get_or-set_other, get_or-set_same, Option, None, Some, refl, sym, ap, subst, ◌∙◌, ◌⊎◌, inl, inr, arith}
+use Rattle.std.proofs.Common.{ℕ, zero, suc, ℤ, ◌≡◌, ◌≢◌, ◌<◌, ◌≤◌, ◌+◌, true, false, List, [], ◌∷◌, length, length-set, set, replicate, get_or, get_or-set_other, get_or-set_same, Option, None, Some, refl, sym, ap, subst, ◌∙◌, ◌⊎◌, inl, inr, arith}
 use Rattle.std.proofs.lemmas.Bool.{cases_eq}
-use Rattle.std.proofs.lemmas.List.{set-get_or}
+use Rattle.std.proofs.lemmas.List.{set-get_or, length-replicate, get_or-replicate}
 use Rattle.node_grid.specs.NodeSet.{has_id}
 use Rattle.error_reports.specs.Notes.{Notes}
 use Rattle.agreed_state.specs.Agreed.{AgreedView}
@@ -131,51 +131,33 @@ module _ {n : ℕ} (d : DataView n) (groups : List ℕ) (states : List (Option A
 
 -- ---- whose votes serve others
 
--- by the first of each group a node of it: one below k, or the first itself
-pub record AreLeaders (n : ℕ) (groups : List ℕ) (k : ℕ) (leaders : List ℕ) : Type 0 where
+-- by the first of each group a node of it, where it is a node
+pub record AreLeaders (n : ℕ) (groups : List ℕ) (leaders : List ℕ) : Type 0 where
   pub wide : length leaders ≡ n
-  pub within : (f : ℕ) → f < n → first_of groups f ≡ f → first_of groups (get_or leaders f 0) ≡ f
-  pub before : (f : ℕ) → f < n → first_of groups f ≡ f → get_or leaders f 0 ≢ f → get_or leaders f 0 < k
+  pub within : (f : ℕ) → f < n → get_or leaders f 0 < n → first_of groups (get_or leaders f 0) ≡ f
 
 module _ (n : ℕ) (groups : List ℕ) where
-  pub leaders_more : (k : ℕ) (leaders : List ℕ) → AreLeaders n groups k leaders → AreLeaders n groups (k + 1) leaders
-  leaders_more k leaders was = record { wide = was.wide; within = was.within; before = λ f low own other. let l = was.before f low own other in omega arith }
-
-  -- who leads the group of node k comes before it, or is node k itself
-  pub leads_before : (k f r : ℕ) (leaders : List ℕ) → f ≤ k → f < n → first_of groups f ≡ f → r ≡ get_or leaders f 0 → r ≢ k → AreLeaders n groups k leaders → r < k
-  leads_before k f r leaders early low own is other was = elim (cases_eq r f) [
-    | inl e ↦ omega (arith, e, early, other)
-    | inr ne ↦ let l = was.before f low own (λ e. ne (is ∙ e)) in omega (arith, l, is)
-  ]
-
-  -- at first each group is led by its first
-  pub leaders_first : (leaders : List ℕ) → length leaders ≡ n → leaders ≡ groups → AreLeaders n groups 0 leaders
-  leaders_first leaders wide are = record {
-    wide = wide;
-    within = λ f low own. ap (λ (xs : List ℕ). first_of groups (get_or xs f 0)) are ∙ ap (first_of groups) own ∙ own;
-    before = λ f low own other. absurd (other (ap (λ (xs : List ℕ). get_or xs f 0) are ∙ own));
+  -- at first there are none
+  pub leaders_none : AreLeaders n groups (replicate n n)
+  leaders_none = record {
+    wide = length-replicate n n;
+    within = λ f low node. let is : get_or (replicate n n) f 0 ≡ n = get_or-replicate n f n 0 low in absurd (omega (arith, is, node));
   }
 
   -- node k takes its place, or the one that stands there keeps it
-  pub leaders_put : (k f v : ℕ) (leaders : List ℕ) → f < n → f ≡ first_of groups k → (v ≡ k) ⊎ (v ≡ get_or leaders f 0) → AreLeaders n groups k leaders → AreLeaders n groups (k + 1) (set leaders f v)
+  pub leaders_put : (k f v : ℕ) (leaders : List ℕ) → f < n → f ≡ first_of groups k → (v ≡ k) ⊎ (v ≡ get_or leaders f 0) → AreLeaders n groups leaders → AreLeaders n groups (set leaders f v)
   leaders_put k f v leaders low is either was = elim either [
-    | inr same ↦
-        let none : set leaders f v ≡ leaders = ap (set leaders f) same ∙ set-get_or leaders f 0 in
-        subst (AreLeaders n groups (k + 1)) (sym none) (leaders_more k leaders was)
+    | inr same ↦ let none : set leaders f v ≡ leaders = ap (set leaders f) same ∙ set-get_or leaders f 0 in subst (AreLeaders n groups) (sym none) was
     | inl e ↦
         let room : f < length leaders = (let w = was.wide in omega arith) in
         let here : get_or (set leaders f v) f 0 ≡ k = get_or-set_same leaders f v 0 room ∙ e in
         record {
           wide = length-set leaders f v ∙ was.wide;
-          within = λ j l own. elim (cases_eq j f) [
+          within = λ j l node. elim (cases_eq j f) [
             | inl j_is ↦ ap (λ (m : ℕ). first_of groups (get_or (set leaders f v) m 0)) j_is ∙ ap (first_of groups) here ∙ sym is ∙ sym j_is
-            | inr ne ↦ ap (first_of groups) (get_or-set_other leaders f j v 0 ne) ∙ was.within j l own
-          ];
-          before = λ j l own other. elim (cases_eq j f) [
-            | inl j_is ↦ let at : get_or (set leaders f v) j 0 ≡ k = ap (λ (m : ℕ). get_or (set leaders f v) m 0) j_is ∙ here in omega arith
             | inr ne ↦
                 let at : get_or (set leaders f v) j 0 ≡ get_or leaders j 0 = get_or-set_other leaders f j v 0 ne in
-                let l = was.before j l own (λ e. other (at ∙ e)) in omega arith
+                ap (first_of groups) at ∙ was.within j l (omega (arith, at, node))
           ];
         }
   ]

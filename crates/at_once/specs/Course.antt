@@ -1,5 +1,5 @@
 -- How far all nodes are in a period: what is known of each after each kind of slots.
-use Rattle.std.specs.Prelude.{◌≡◌, ◌<◌, ℕ, ℤ, Bool, false, ◌&&◌, nat_lt, List, [], length, replicate, Option, None, Some, is_some, slice_index_or}
+use Rattle.std.specs.Prelude.{◌≡◌, ◌<◌, ℕ, ◌&&◌, nat_lt, List, [], length, replicate, Option, None, Some, is_some, slice_index_or}
 use Rattle.node_grid.specs.NodeSet.{has_id, ids_where}
 use Rattle.omh_paths.specs.declared.wrapped.Wrapped.TheVariants.{Fault}
 use Rattle.error_reports.specs.Notes.{Notes}

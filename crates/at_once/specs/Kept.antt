@@ -1,5 +1,5 @@
 -- What nodes keep between periods, and go into a period with.
-use Rattle.std.specs.Prelude.{◌≡◌, ◌≢◌, ◌<◌, ℕ, zero, suc, ℤ, Bool, true, List, [], length, map, replicate, Option, None, Some, is_some, if◌then◌else◌, slice_index_or, slice_set}
+use Rattle.std.specs.Prelude.{◌≡◌, ◌≢◌, ◌<◌, ℕ, zero, suc, ℤ, Bool, true, List, [], length, map, replicate, Option, None, Some, is_some, if◌then◌else◌, slice_index_or}
 use Rattle.node_grid.specs.Version.{kind_count}
 use Rattle.node_grid.specs.NodeSet.{ids_below}
 use Rattle.fault_classes.specs.Plan.{restarts_at}

@@ -1,8 +1,8 @@
 -- What each node makes of a period of a scenario's run, part by part, where it goes through it with a state.
-use Rattle.std.specs.Prelude.{◌≡◌, ℕ, ℤ, Bool, ◌==◌, ◌||◌, ◌&&◌, nat_eq, List, Option, is_some, if◌then◌else◌}
+use Rattle.std.specs.Prelude.{ℕ, ℤ, Bool, ◌==◌, ◌||◌, ◌&&◌, nat_eq, List, Option, is_some, if◌then◌else◌}
 use Rattle.std.specs.Cmp.Lexicographic.{pointwise}
 use Rattle.node_grid.specs.NodeSet.{ids_where}
-use Rattle.node_grid.specs.Kinds.{state, deviate, equivocate}
+use Rattle.node_grid.specs.Kinds.{deviate, equivocate}
 use Rattle.omh_paths.specs.declared.wrapped.Wrapped.{Wrapped}
 use Rattle.omh.specs.Omh.{Ear}
 use Rattle.list_scheduler.specs.OneNode.{verdicts}

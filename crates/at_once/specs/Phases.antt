@@ -1,12 +1,11 @@
 -- The rounds of claims and of rows of a period, as the code has them.
-use Rattle.std.specs.Prelude.{◌≡◌, ◌<◌, ℕ, ◌+◌, ◌&&◌, ◌==◌, nat_eq, nat_lt, Bool, true, List, map, Option, None, Some, is_some, if◌then◌else◌}
+use Rattle.std.specs.Prelude.{◌≡◌, ◌<◌, ℕ, ◌+◌, ◌&&◌, ◌==◌, nat_eq, Bool, true, List, map, Option, None, Some, if◌then◌else◌}
 use Rattle.std.specs.Cmp.Lexicographic.{pointwise}
 use Rattle.node_grid.specs.NodeSet.{ids_below, has_id}
 use Rattle.node_grid.specs.Kinds.{equivocate}
 use Rattle.omh_paths.specs.declared.wrapped.Wrapped.{Wrapped}
 use Rattle.omh_paths.specs.declared.wrapped.Wrapped.TheVariants.{Plain}
 use Rattle.omh.specs.Omh.{Ear, settled_from}
-use Rattle.error_reports.specs.Notes.{Notes, also_noted}
 use Rattle.agreed_state.specs.Agreed.{AgreedView}
 use Rattle.protocol.specs.Arrival.{ItemForm, claim_form, row_form}
 use Rattle.protocol.specs.FurtherKinds.{convicts_member}

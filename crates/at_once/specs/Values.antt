@@ -10,7 +10,6 @@ use Rattle.protocol.specs.Arrival.{is_bad}
 use Rattle.protocol.specs.Configured.{setting_of}
 use Rattle.protocol.specs.View.{Received, votes_on, deviates}
 use Rattle.shared_states.specs.declared.belief.Belief.{Belief}
-use Rattle.grouped_nodes.specs.Grouping.{first_of}
 use Rattle.grouped_nodes.specs.Shared.{belief_of}
 use Rattle.told_values.specs.Slot.{DataView, own_of, Hears, IsTold}
 

@@ -95,13 +95,13 @@ fn vote_each<D: Dues<N>, const N: usize>(
         (of_node votes.new i) (slice_index_or off.new i []) }
 {
     let own = slot.own_told();
-    // By the first of a group the node of it whose votes serve others.
-    let mut leaders = groups.by_node();
+    // By the first of a group the node of it whose votes serve others, and N where there is none yet.
+    let mut leaders = [N as u8; N];
     for i in 0..slot.config.nodes {
         if let Some(state) = made.states.get(i) {
             let first = groups.of(i);
             let leader = leaders[first as usize];
-            if leader != i && slot.hears_alike(leader, i) {
+            if leader < i && slot.hears_alike(leader, i) {
                 let same = votes[leader as usize];
                 votes[i as usize] = same;
                 off[i as usize] = off[leader as usize];

@@ -1,4 +1,4 @@
-use Rattle.std.proofs.Common.{ℕ, ◌≡◌, ◌<◌, ◌+◌, Bool, true, false, List, None, refl, sym, ap, ◌∙◌, lit<, inl, inr, arith}
+use Rattle.std.proofs.Common.{ℕ, ◌≡◌, true, List, None, sym, ap, ◌∙◌, lit<, inl, inr, arith}
 use Rattle.std.specs.Prelude.{nat_eq}
 use Rattle.std.proofs.lemmas.Bool.{cond-true, cond-false}
 use Rattle.std.proofs.lemmas.List.FromFn.{fill_by_all}

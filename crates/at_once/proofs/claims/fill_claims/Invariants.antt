@@ -1,4 +1,3 @@
-use Rattle.std.proofs.Common.{ℕ}
 use Rattle.at_once.specs.Phases.{node_claims}
 use Rattle.at_once.proofs.FilledBeliefs.{AreFilled}
 use Rattle.at_once.proofs.claims.fill_claims.Given as goal

@@ -1,6 +1,5 @@
-use Rattle.std.proofs.Common.{ℕ}
 use Rattle.std.specs.Prelude.{nat_eq}
-use Rattle.error_reports.specs.Notes.{Notes, also_noted}
+use Rattle.error_reports.specs.Notes.{also_noted}
 use Rattle.protocol.specs.Arrival.{claim_form}
 use Rattle.item_phase.specs.Settled.{listener}
 use Rattle.at_once.specs.Phases.{blames}

@@ -1,5 +1,4 @@
-use Rattle.std.proofs.Common.{ℕ}
-use Rattle.error_reports.specs.Notes.{Notes, also_noted}
+use Rattle.error_reports.specs.Notes.{also_noted}
 use Rattle.protocol.specs.Arrival.{claim_form}
 use Rattle.protocol.specs.Heard.{rounds_bad}
 use Rattle.item_phase.specs.Noted.{rounds_of}

@@ -1,4 +1,4 @@
-use Rattle.std.proofs.Common.{◌≡◌, ◌<◌, ℕ, true}
+use Rattle.std.proofs.Common.{◌≡◌, ℕ, true}
 use Rattle.node_grid.specs.NodeSet.{has_id}
 use Rattle.at_once.specs.Values.{due_at}
 use Rattle.at_once.proofs.dues.alike_to.Given as goal

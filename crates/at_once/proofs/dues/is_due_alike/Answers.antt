@@ -8,4 +8,4 @@ pub returns-then-of : goal.returns-then-of
 returns-then-of g c = λ yes. ap (λ (f : ℕ). (slice_index_or c.args.beliefs.now f no_belief).due.items) (sym c.of.ensures.first ∙ c.if-of.true ∙ c.of-2.ensures.first)
 
 pub returns : goal.returns
-returns g c = λ yes. sym c.due_at.ensures ∙ (bytes_eq-Decides c.due_at.result.now c.due_at-2.result.now).0 yes ∙ c.due_at-2.ensures
+returns g c = λ yes. sym c.due_at.ensures ∙ (bytes_eq-Decides c.due_at.result.now c.due_at-2.result.now).0 (sym c.eq.ensures ∙ yes) ∙ c.due_at-2.ensures

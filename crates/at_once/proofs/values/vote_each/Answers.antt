@@ -7,7 +7,7 @@ use Rattle.shared_states.specs.declared.belief.Belief.{Belief}
 use Rattle.told_values.specs.Slot.{DataView, slot_of}
 use Rattle.at_once.specs.Kept.{of_node}
 use Rattle.at_once.specs.Values.{no_belief, done_at, IsVoteOf}
-use Rattle.at_once.proofs.Voting.{same_at, AreVotes, votes_none, votes_skip, votes_put, taken_over, AreLeaders, leaders_first, leads_before, leaders_more, leaders_put}
+use Rattle.at_once.proofs.Voting.{same_at, AreVotes, votes_none, votes_skip, votes_put, taken_over, AreLeaders, leaders_none, leaders_put}
 use Rattle.at_once.proofs.values.vote_each.Goals.{in-Some+then-leader-i+then-hears_alike, in-Some+else-leader-i, in_default}
 use Rattle.at_once.proofs.values.vote_each.Goals as goal
 
@@ -31,7 +31,7 @@ pub loop-i-init : goal.loop-i-init
 loop-i-init g c =
     let d : DataView g.row.N = slot_of g.D.Dues.dues c.args.slot.now in record {
       votes = votes_none d c.args.groups.now c.args.made.now.states c.args.made.now.beliefs.items c.args.votes.now c.args.off.now c.told-votes c.told-off;
-      leaders = leaders_first g.row.N c.args.groups.now c.by_node-leaders.result c.told-leaders c.by_node-leaders.ensures.firsts;
+      leaders = leaders_none g.row.N c.args.groups.now;
     }
 
 pub loop-i-preserved : goal.loop-i-preserved
@@ -53,11 +53,9 @@ loop-i-preserved g c =
           let a : AgreedView = w.in-Some.state.now in
           let f : ℕ = w.of-first.result in
           let f_low : f < g.row.N = (let e = w.of-first.ensures.early in omega arith) in
-          let f_own : first_of groups f ≡ f = w.of-first.ensures.own in
-          let r : ℕ = w.leader in
-          let r_is : r ≡ get_or leaders f 0 = same_at leaders f w.leader 0 (let wide = led.wide in omega arith) in
-          let less : r < i = leads_before g.row.N groups i f r leaders w.of-first.ensures.early f_low f_own r_is w.if-leader-i.true led in
-          let same : first_of groups r ≡ first_of groups i = ap (first_of groups) r_is ∙ led.within f f_low f_own ∙ w.of-first.ensures.first in
+          let r : ℕ = get_or leaders f 0 in
+          let less : r < i = w.if-leader-i.true in
+          let same : first_of groups r ≡ first_of groups i = led.within f f_low (omega (arith, less, low)) ∙ w.of-first.ensures.first in
           let room : r < length off = (let wide = was.wide_off in omega arith) in
           let o : List ℕ = get_or off r w.index-off-leader.result in
           let o_is : o ≡ get_or off r [] = same_at off r w.index-off-leader.result [] room in
@@ -67,7 +65,7 @@ loop-i-preserved g c =
                 (votes_put d groups states beliefs i votes off a (of_node votes r) o low used (sym w.in-Some.ensures) was
                 (λ x hears. subst (λ (s : List ℕ). IsVoteOf d a (done_at groups beliefs i) i (x i) (of_node votes r) s) (sym o_is)
                 (taken_over d groups states beliefs i r votes off a c.requires.shared low used same less (sym w.in-Some.ensures) (w.hears_alike.ensures w.if-hears_alike.true) was x hears))));
-            leaders = subst (AreLeaders g.row.N groups (i + 1)) (sym w.leaders-is) (leaders_more g.row.N groups i leaders led);
+            leaders = subst (AreLeaders g.row.N groups) (sym w.leaders-is) led;
           }
       | in-Some+else-leader-i w ↦
           let a : AgreedView = w.in-Some.state.now in
@@ -82,13 +80,13 @@ loop-i-preserved g c =
                 (subst (λ (os : List (List ℕ)). AreVotes d groups states beliefs (i + 1) (set votes i w.vote_at-voted.result.votes) os) (sym w.off-is)
                 (votes_put d groups states beliefs i votes off a w.vote_at-voted.result.votes w.vote_at-voted.result.off low used (sym w.in-Some.ensures) was
                 (λ x hears. subst (λ (done : List (Wrapped ℕ)). IsVoteOf d a done i (x i) w.vote_at-voted.result.votes w.vote_at-voted.result.off) done_is (w.vote_at-voted.ensures (x i) (hears i used)))));
-            leaders = subst (AreLeaders g.row.N groups (i + 1)) (sym w.leaders-is)
+            leaders = subst (AreLeaders g.row.N groups) (sym w.leaders-is)
                 (leaders_put g.row.N groups i f w.leader_after.result leaders f_low w.of-first.ensures.first w.leader_after.ensures led);
           }
       | in_default w ↦ record {
         votes = subst (λ (vs : List (List (Option ℤ))). AreVotes d groups states beliefs (i + 1) vs c.match-get.off) (sym w.votes-is)
             (subst (λ (os : List (List ℕ)). AreVotes d groups states beliefs (i + 1) votes os) (sym w.off-is)
             (votes_skip d groups states beliefs i votes off (sym w.in_default.ensures) was));
-        leaders = subst (AreLeaders g.row.N groups (i + 1)) (sym w.leaders-is) (leaders_more g.row.N groups i leaders led);
+        leaders = subst (AreLeaders g.row.N groups) (sym w.leaders-is) led;
       }
     ]

@@ -1,4 +1,4 @@
-use Rattle.std.proofs.Common.{ℕ, ◌≡◌, ◌<◌, ◌≤◌, List, Option, Some, length, sym, ap, subst, ◌∙◌, lit<, inl, inr, arith}
+use Rattle.std.proofs.Common.{ℕ, ◌≡◌, ◌<◌, List, Some, length, sym, ap, subst, ◌∙◌, lit<, inl, inr}
 use Rattle.node_grid.specs.Capacity.{IsCapacity}
 use Rattle.agreed_state.specs.Config.{IsConfig}
 use Rattle.agreed_state.specs.declared.config.Config.{Config}

@@ -1,9 +1,8 @@
-use Rattle.std.proofs.Common.{ℕ, ◌≡◌, ◌≤◌, List, length, sym, ap, subst, ◌∙◌, inl, inr, lit<, arith}
+use Rattle.std.proofs.Common.{ℕ, ◌≡◌, ◌≤◌, List, sym, subst, ◌∙◌, inl, inr, lit<}
 use Rattle.std.specs.Vec.{with_items}
 use Rattle.std.proofs.lemmas.List.{with_items_is}
 use Rattle.node_grid.specs.Capacity.{IsCapacity}
 use Rattle.error_reports.specs.Notes.{Notes}
-use Rattle.at_once.specs.declared.keeping.Keeping.{Keeping}
 use Rattle.at_once.specs.Kept.{AreShaped, AreNotedAs}
 use Rattle.at_once.specs.Course.{AreSettled}
 use Rattle.at_once.specs.Parts.{notes_synced}

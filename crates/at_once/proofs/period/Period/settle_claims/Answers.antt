@@ -1,10 +1,7 @@
-use Rattle.std.proofs.Common.{ℕ, ◌≡◌, ◌<◌, ◌≤◌, Bool, true, List, [], length, get_or, take_at, Option, Some, refl, sym, ap, subst, ◌∙◌, lit<, inl, inr, arith}
-use Rattle.std.specs.Prelude.{nat_eq}
+use Rattle.std.proofs.Common.{ℕ, ◌≡◌, ◌<◌, Bool, List, length, get_or, take_at, Some, refl, sym, ap, subst, ◌∙◌, lit<, inl, inr}
 use mathlib.Core.List.{not-mem-nil}
 use Rattle.std.proofs.lemmas.List.{with_items_is}
 use Rattle.node_grid.specs.Capacity.{IsCapacity}
-use Rattle.node_grid.specs.NodeSet.{has_id}
-use Rattle.settled_paths.specs.Rooms.{Room}
 use Rattle.list_scheduler.specs.OneNode.{verdicts}
 use Rattle.error_reports.specs.Notes.{Notes, also_noted}
 use Rattle.agreed_state.specs.declared.config.Config.{Config}
@@ -24,7 +21,6 @@ use Rattle.grouped_nodes.specs.Shared.{belief_of}
 use Rattle.shown_period.specs.declared.made.Made.{Made}
 use Rattle.view_law.specs.Made.{by_verdicts}
 use Rattle.at_once.specs.Kept.{notes_at, AreShaped}
-use Rattle.at_once.specs.Phases.{IsPhaseAt}
 use Rattle.at_once.specs.Values.{no_belief}
 use Rattle.at_once.proofs.ClaimSteps.{shaped_more}
 use Rattle.at_once.proofs.ClaimsSettled.{claims_heard, few_noted, state_awake, synced_within, more_within, judged_shaped, judged_within, all_settled}

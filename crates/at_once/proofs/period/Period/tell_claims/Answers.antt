@@ -1,4 +1,4 @@
-use Rattle.std.proofs.Common.{ℕ, ◌≡◌, ◌<◌, ◌+◌, Bool, true, false, List, Option, None, Some, refl, sym, ap, subst, ◌∙◌, lit<, inl, inr, arith}
+use Rattle.std.proofs.Common.{ℕ, ◌≡◌, ◌<◌, ◌+◌, true, List, Some, refl, sym, ap, subst, ◌∙◌, lit<, inl, inr, arith}
 use Rattle.node_grid.specs.Capacity.{IsCapacity}
 use Rattle.node_grid.specs.NodeSet.{has_id}
 use Rattle.agreed_state.specs.declared.config.Inputs.{Inputs}

@@ -1,9 +1,8 @@
-use Rattle.std.proofs.Common.{ℕ, suc, ◌≡◌, ◌<◌, ◌+◌, sym, ap, subst, ◌∙◌, arith, inl, inr, lit<}
+use Rattle.std.proofs.Common.{ℕ, ◌≡◌, ◌<◌, ◌+◌, sym, ap, subst, ◌∙◌, arith, inl, inr, lit<}
 use Rattle.node_grid.specs.Capacity.{IsCapacity}
 use Rattle.scenario.specs.Scenario.{ScenarioView}
 use Rattle.shown_period.specs.declared.made.Made.{Made}
 use Rattle.shown_period.specs.Outcomes.{HasBeliefs}
-use Rattle.shown_period.specs.Whole.{AreMade}
 use Rattle.at_once.specs.Kept.{AreBegun, AreKept}
 use Rattle.at_once.specs.Run.{RunView, ShowsPeriod}
 use Rattle.at_once.proofs.Goings.{beliefs_stay, begun_in_run}

@@ -1,12 +1,9 @@
-use Rattle.std.proofs.Common.{ℕ, ◌≡◌, ◌≤◌, sym, ap, subst, ◌∙◌, inl, inr, lit<, arith}
-use Rattle.std.proofs.lemmas.Result.{IfOk-from_err}
+use Rattle.std.proofs.Common.{ℕ, ◌≡◌, sym, ap, subst, ◌∙◌, inl, inr, lit<, arith}
 use Rattle.settled_paths.specs.Rooms.{Room}
-use Rattle.node_grid.specs.Capacity.{IsCapacity}
 use Rattle.agreed_state.specs.declared.config.Config.{Config}
 use Rattle.agreed_state.specs.Config.{IsConfig}
 use Rattle.agreed_state.specs.ConfigLaws.{few_rounds}
 use Rattle.at_once.specs.Kept.{IsBlank}
-use Rattle.at_once.specs.Run.{RunView}
 use Rattle.at_once.proofs.Openings.{kept_first}
 use Rattle.at_once.proofs.run.Run.open.Goals as goal
 

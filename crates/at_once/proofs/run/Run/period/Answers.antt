@@ -1,4 +1,4 @@
-use Rattle.std.proofs.Common.{ℕ, suc, ◌≡◌, ◌+◌, refl, ap, subst, ◌∙◌, arith}
+use Rattle.std.proofs.Common.{suc, ◌≡◌, ◌+◌, refl, ap, subst, ◌∙◌, arith}
 use Rattle.scenario.specs.Scenario.{ScenarioView}
 use Rattle.at_once.specs.Run.{RunView, ShowsPeriod, FitsScenario}
 use Rattle.at_once.proofs.run.Run.period.Goals as goal
