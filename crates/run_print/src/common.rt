@@ -1,5 +1,5 @@
 //! Parts of the lines of a node, which other nodes mostly have too.
-ghost use Rattle.std.specs.Prelude.{◌≡◌, ◌≤◌, ◌<◌, true, false, Some, [], length};
+ghost use Rattle.std.specs.Prelude.{◌≡◌, ◌≤◌, ◌<◌, ◌-◌, true, false, Some, [], length};
 ghost use Rattle.node_grid.specs.Capacity.{IsCapacity};
 ghost use Rattle.agreed_state.specs.Agreed.{AgreedView};
 ghost use Rattle.run_text.specs.NodeText.{standing_text, settled_text};
@@ -32,6 +32,16 @@ impl Sink for Nowhere {
         let _ = bytes;
         self.faults = self.faults.saturating_add(1);
         Err(Failed)
+    }
+}
+
+/// A node whose lines others may have too, of so many: the reference node, or else the least node.
+pub(crate) fn example_of(reference: Option<u8>, nodes: u8) -> u8
+    ensures { result ≤ nodes - 1 }
+{
+    match reference {
+        Some(node) if node < nodes => node,
+        _ => 0,
     }
 }
 

@@ -9,7 +9,7 @@ ghost use Rattle.run_text.specs.PeriodText.{budget_text, head_text, recorded_tex
 ghost use Rattle.run_text.specs.PeriodText.{end_text, refused_text};
 
 use crate::WriteFault;
-use crate::common::Common;
+use crate::common::{Common, example_of};
 use crate::pieces::letter_of;
 use crate::printer::{LARGE, Printer, SMALL};
 use cluster_record::PeriodRecord;
@@ -86,7 +86,10 @@ impl<const ROOM: usize> Printer<ROOM> {
         if shown.nodes == 0 {
             return;
         }
-        let common = Common::of(shown.nodes, shown.node(example(shown)));
+        let common = Common::of(
+            shown.nodes,
+            shown.node(example_of(shown.reference, shown.nodes)),
+        );
         for i in 0..shown.nodes {
             self.recorded(sink, shown, i, &common);
         }
@@ -118,19 +121,6 @@ impl<const ROOM: usize> Printer<ROOM> {
     {
         self.labelled(sink, b"end ", periods);
         self.byte(sink, b'\n');
-    }
-}
-
-/// A node whose lines others may have too: the reference node, or else the least node.
-fn example<const N: usize>(shown: &PeriodRecord<N>) -> u8
-    requires { 0 < shown.now.nodes }
-    ensures { result < shown.now.nodes }
-{
-    // naming a field tells the checker the types of all of them
-    let _ = &shown.classes;
-    match shown.reference {
-        Some(node) if node < shown.nodes => node,
-        _ => 0,
     }
 }
 

@@ -12,7 +12,7 @@ ghost use Rattle.run_print.specs.Example.{untraced_text, IsIdleFrom, IsPrintable
 ghost use Rattle.run_print.specs.Example.{believed, IsExample};
 
 use crate::WriteFault;
-use crate::common::Nowhere;
+use crate::common::{Nowhere, example_of};
 use crate::pieces::letter_of;
 use crate::printer::{Printer, SMALL};
 use agreed_state::Agreed;
@@ -31,18 +31,6 @@ struct Example<'a, const N: usize> {
     pub node: u8,
     /// What it believes, unless there was no room for it.
     pub beliefs: &'a Printer<BELIEFS>,
-}
-
-/// A node whose lines others may have too: the reference node, or else the least node.
-fn example_of<const N: usize>(shown: &Shown<N>) -> u8
-    requires capacity { IsCapacity N }
-    requires nodes { shown.now.head.nodes ≤ N }
-    ensures { result < N }
-{
-    match shown.head.reference {
-        Some(node) if node < shown.head.nodes => node,
-        _ => 0,
-    }
 }
 
 /// Gathers what a node believes; where there is no room for it, the printer fails.
@@ -197,7 +185,7 @@ impl<const ROOM: usize> Printer<ROOM> {
         ensures { Prints K.written K.faults self.old sink.old self.new sink.new
             (nodes_text (record_of shown.now)) }
     {
-        let node = example_of(shown);
+        let node = example_of(shown.head.reference, shown.head.nodes);
         let mut beliefs = Printer::new();
         gather(&mut beliefs, shown, node);
         let example = Example {

@@ -1,4 +1,4 @@
-use Rattle.std.proofs.Common.{◌≡◌, ◌≢◌, ◌<◌, ◌≤◌, ℕ, inl, inr, ap, sym, subst, ◌∙◌, arith, lit<}
+use Rattle.std.proofs.Common.{◌≡◌, ◌≢◌, ◌<◌, ◌≤◌, ◌-◌, ℕ, inl, inr, ap, sym, subst, ◌∙◌, arith, lit<}
 use Rattle.std.specs.List.{flat_map}
 use Rattle.node_grid.specs.NodeSet.{ids_below}
 use Rattle.cluster_periods.specs.Record.{PeriodView}
@@ -10,8 +10,8 @@ use Rattle.std.specs.Prelude.{slice_get}
 use Rattle.run_text.specs.PeriodText.{recorded_text}
 use Rattle.run_print.proofs.printer.Printer.nodes.Goals as goal
 
-some : (a b : ℕ) → a ≡ b → a ≢ 0 → 0 < b
-some a b e h = omega (arith, e, h)
+among : (a b i : ℕ) → a ≡ b → a ≢ 0 → i ≤ a - 1 → i < b
+among a b i e h least = omega (arith, e, h, least)
 
 below : (i a b : ℕ) → a ≡ b → i < a → i < b
 below i a b e h = omega (arith, e, h)
@@ -19,11 +19,8 @@ below i a b e h = omega (arith, e, h)
 at_most : (a b n : ℕ) → a ≡ b → b ≤ n → a ≤ n
 at_most a b n e h = omega (arith, e, h)
 
-pub example-requires : goal.example-requires
-example-requires g c = (assumption, some _ _ (ap (λ (t : PeriodView). t.nodes) c.shown.view_is) c.if-shown-eq0.false)
-
 pub node-requires : goal.node-requires
-node-requires g c = (assumption, (elim c.requires.capacity [ inl e ↦ rw e (lit< tt) | inr e ↦ rw e (lit< tt) ], c.example.ensures))
+node-requires g c = (assumption, (elim c.requires.capacity [ inl e ↦ rw e (lit< tt) | inr e ↦ rw e (lit< tt) ], among _ _ _ (ap (λ (t : PeriodView). t.nodes) c.shown.view_is) c.if-shown-eq0.false c.example_of.ensures))
 
 pub of-common-requires : goal.of-common-requires
 of-common-requires g c =
