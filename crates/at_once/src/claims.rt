@@ -1,6 +1,7 @@
 //! The claims of a period.
 
-ghost use Rattle.std.specs.Prelude.{◌≡◌, ◌≢◌, ◌<◌, ℕ, nat_eq, true, false, length, map, slice_index_or, if◌then◌else◌};
+ghost use Rattle.std.specs.Prelude.{◌≡◌, ◌≢◌, ◌<◌, ℕ, nat_eq, true, false};
+ghost use Rattle.std.specs.Prelude.{length, map, slice_index_or, if◌then◌else◌};
 ghost use Rattle.node_grid.specs.Capacity.{IsCapacity};
 ghost use Rattle.node_grid.specs.NodeSet.{has_id};
 ghost use Rattle.node_grid.specs.Kinds.{equivocate};
@@ -66,8 +67,8 @@ impl<const N: usize> Period<'_, N> {
         for i in 0..N as u8 {
             if full.has(i) {
                 if let Some(state) = made.states.get(i) {
-                    let inputs = self.scenario.inputs(i, self.number);
-                    claims.tell(i, own_claim(state, i, &inputs.run));
+                    let run = self.scenario.run_times(i);
+                    claims.tell(i, own_claim(state, i, run));
                 }
             }
         }

@@ -36,11 +36,13 @@ impl<const N: usize> Period<'_, N> {
     pub(crate) fn hear(&self, full: &NodeSet<N>, made: &mut Made<N>, keeping: &mut Keeping<N>)
         requires capacity { IsCapacity N }
         requires in_run { self.now.number < self.now.scenario.now.periods }
-        requires begun { AreBegun self.now.scenario.now self.now.number made.old.states keeping.old }
+        requires begun { AreBegun self.now.scenario.now self.now.number made.old.states
+            keeping.old }
         requires full { full.now ≡ awake_in N made.old.states }
         requires long { length made.old.states ≡ N }
         requires beliefs { HasBeliefs made.old }
-        ensures synced { AreSynced self.now.scenario.now self.now.number full.now made.new keeping.new }
+        ensures synced { AreSynced self.now.scenario.now self.now.number full.now made.new
+            keeping.new }
         ensures beliefs { HasBeliefs made.new }
     {
         let config = self.scenario.config();

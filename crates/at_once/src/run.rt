@@ -40,7 +40,8 @@ impl<'s, const N: usize> Model for Run<'s, N> {
 
     ghost view = { λ r. record { scenario = r.scenario.now; run = r.run } };
 
-    ghost invariant = { λ r. IsRun r.scenario.now r.run r.keeping r.claims.settling r.rows.settling r.shown };
+    ghost invariant = { λ r. IsRun r.scenario.now r.run r.keeping r.claims.settling
+        r.rows.settling r.shown };
 }
 
 impl<'s, const N: usize> Run<'s, N> {
@@ -118,7 +119,8 @@ impl<const N: usize> Period<'_, N> {
     )
         requires capacity { IsCapacity N }
         requires in_run { self.now.number < self.now.scenario.now.periods }
-        requires begun { AreBegun self.now.scenario.now self.now.number made.old.states keeping.old }
+        requires begun { AreBegun self.now.scenario.now self.now.number made.old.states
+            keeping.old }
         requires beliefs { HasBeliefs made.old }
         requires claims_room { claims.old.settling ≡ record {
           nodes = self.now.scenario.now.config.nodes;
@@ -130,7 +132,8 @@ impl<const N: usize> Period<'_, N> {
         } }
         ensures made { AreMade self.now.scenario.now self.now.number made.new }
         ensures beliefs { HasBeliefs made.new }
-        ensures kept { AreKept self.now.scenario.now (self.now.number + 1) made.new.states keeping.new }
+        ensures kept { AreKept self.now.scenario.now (self.now.number + 1) made.new.states
+            keeping.new }
         ensures claims_room { claims.new.settling ≡ claims.old.settling }
         ensures rows_room { rows.new.settling ≡ rows.old.settling }
     {

@@ -1,7 +1,6 @@
 use Rattle.std.proofs.Common.{ℕ, ◌≡◌, ◌<◌, ◌+◌, true, List, Some, refl, sym, ap, subst, ◌∙◌, lit<, inl, inr, arith}
 use Rattle.node_grid.specs.Capacity.{IsCapacity}
 use Rattle.node_grid.specs.NodeSet.{has_id}
-use Rattle.agreed_state.specs.declared.config.Inputs.{Inputs}
 use Rattle.agreed_state.specs.Agreed.{AgreedView}
 use Rattle.scenario.specs.Scenario.{ScenarioView, system_of, inputs_of}
 use Rattle.touched_items.specs.ItemLaws.{claim_told}
@@ -13,8 +12,8 @@ use Rattle.at_once.proofs.Telling.{told_more, told_skip, full_low, full_has, ful
 use Rattle.at_once.proofs.period.Period.tell_claims.Goals.{then-has+in-Some, then-has+in_default, else-has}
 use Rattle.at_once.proofs.period.Period.tell_claims.Goals as goal
 
-pub inputs-inputs-requires : goal.inputs-inputs-requires
-inputs-inputs-requires g c =
+pub run_times-run-requires : goal.run_times-run-requires
+run_times-run-requires g c =
     let cap : IsCapacity g.row.N = c.requires.capacity in
     let low = full_low c.args.self.now.scenario.now c.args.self.now.number c.args.full.now c.args.made.now c.requires.going c.loop-i.i (sym c.has.ensures ∙ c.if-has.true) in
     (elim cap [ inl e ↦ rw e (lit< tt) | inr e ↦ rw e (lit< tt) ], low)
@@ -37,7 +36,7 @@ loop-i-preserved g c =
           let a : AgreedView = w.in-Some.state.now in
           let here : state_at made.states i ≡ Some a = sym w.in-Some.ensures in
           let is : told i ≡ w.own_claim.result =
-          full_claim sc p full made c.requires.going i on a here ∙ sym (w.own_claim.ensures (inputs_of sc i p) (sym (ap (λ (y : Inputs). y.run) w.inputs-inputs.ensures))) in
+          full_claim sc p full made c.requires.going i on a here ∙ sym (w.own_claim.ensures (inputs_of sc i p) (sym w.run_times-run.ensures)) in
           subst (λ (y : ItemPhase ℕ g.row.N). ((j : ℕ) → j < i + 1 → has_id full j ≡ true → told j ≡ item_of y.links j) × (y.settling ≡ c.args.claims.now.settling)) (sym w.claims-is) (
             told_more told full i old (item_of w.tell.new.self.links) w.own_claim.result w.tell.ensures.told is c.loop-i.invariant.0,
             w.tell.ensures.room ∙ c.loop-i.invariant.1,
