@@ -1,5 +1,5 @@
 #!/usr/bin/env python3
-"""Measures the program on eight workloads.
+"""Measures the program on thirteen workloads.
 
     bench/workloads.sh [PROGRAM..]
 
@@ -8,13 +8,18 @@ one program each has a line, and that of a further one says how many times as lo
 text. Without one it is the program that `maft prove` keeps. The status is 1 where a program failed or a text is another.
 Nothing is claimed of these figures.
 """
+from __future__ import annotations
+
 import hashlib
+import json
 import os
 import pathlib
+import random
 import shutil
 import subprocess
 import sys
 import tempfile
+from typing import Any
 
 TOP = pathlib.Path(__file__).resolve().parent.parent
 LONG = (TOP / "tests/cases/long_run/stdin").read_text()
@@ -22,7 +27,7 @@ RUNS = 5
 WEIGHTS = "[5,5,5,5,5,5,5,5,5,5,5,5,5,5,5,5]"
 
 
-def many(liars):
+def many(liars: bool) -> str:
     """1,024 periods of 8 nodes with two relay rounds, with the channels and tasks of the long run."""
     head, tail = LONG.split('"faults":[')
     faults = []
@@ -33,7 +38,52 @@ def many(liars):
     return head.replace('"periods":64', '"periods":1024') + '"faults":[%s]}' % ",".join(faults)
 
 
-def wide(liars):
+def long_run(periods: int, faults: list[dict[str, Any]]) -> str:
+    """The long run's cluster of 8 nodes over so many periods, with these faults and no restart."""
+    given = json.loads(LONG)
+    return json.dumps({**given, "periods": periods, "faults": faults, "restarts": []})
+
+
+def fault(sender: int, to: list[int], periods: tuple[int, int], slot: int, effect: Any) -> dict[str, Any]:
+    """A fault line of one slot."""
+    return {"from": sender, "to": to, "periods": list(periods), "slots": [slot], "effect": effect}
+
+
+def three_liars() -> str:
+    """1,024 periods of 8 nodes, of which three lie throughout: in a row, a claim and what is relayed."""
+    return long_run(1024, [
+        fault(7, [0, 1, 2], (4, 1010), 5, {"set": {"at": 15, "hex": "01"}}),
+        fault(6, [0, 1, 2, 3], (8, 1000), 6, {"set": {"at": 14, "hex": "0007"}}),
+        fault(5, [1, 3], (8, 1000), 7, "drop"),
+    ])
+
+
+def random_bytes() -> str:
+    """256 periods of 8 nodes, with two frames of random bytes in each."""
+    draw = random.Random(7)
+    faults = []
+    for period in range(256):
+        for sender, slot in ((7, 6), (6, 7)):
+            length = draw.choice((98, 728))
+            to = draw.sample(range(6), 3)
+            faults.append(fault(sender, sorted(to), (period, period), slot, {"raw": draw.randbytes(length).hex()}))
+    return long_run(256, faults)
+
+
+def many_lines() -> str:
+    """1,024 periods of 8 nodes with 4,096 lines: in each period four nodes tell one other something else of one slot."""
+    lie = {"set": {"at": 15, "hex": "01"}}
+    return long_run(1024, [fault(4 + k, [(period + k) % 4], (period, period), 5, lie) for period in range(1024) for k in range(4)])
+
+
+def restarting() -> str:
+    """32 periods of 16 nodes with three relay rounds, of which thirteen restart in every other period."""
+    given = json.loads(wide(False))
+    restarts = [{"node": node, "period": period} for period in range(1, 32, 2) for node in range(13)]
+    return json.dumps({**given, "periods": 32, "restarts": restarts})
+
+
+def wide(liars: bool) -> str:
     """16 periods of 16 nodes with three relay rounds."""
     faults = []
     if liars:
@@ -54,10 +104,15 @@ WORKLOADS = [
     ("f: 16 periods of 16 nodes, m = 3", ["replay"], wide(False)),
     ("g: the same with five lying or silent nodes", ["replay"], wide(True)),
     ("h: the same traced", ["replay", "trace"], wide(True)),
+    ("i: 1,024 periods of 8 nodes, three liars throughout", ["replay"], three_liars()),
+    ("j: 256 periods of 8 nodes, two frames of random bytes in each", ["replay"], random_bytes()),
+    ("k: 1,024 periods of 16 nodes, m = 3", ["replay"], wide(False).replace('"periods":16', '"periods":1024')),
+    ("l: 1,024 periods of 8 nodes, 4,096 fault lines", ["replay"], many_lines()),
+    ("m: 32 periods of 16 nodes, m = 3, thirteen restart in every other one", ["check"], restarting()),
 ]
 
 
-def run(program, words, given):
+def run(program: str, words: list[str], given: str) -> tuple[float, tuple[int, bytes], int]:
     """Processor seconds of one run, what it wrote, as its length and a sum, and the status."""
     with tempfile.TemporaryFile() as source, tempfile.TemporaryFile() as sink:
         source.write(given.encode())
@@ -72,7 +127,7 @@ def run(program, words, given):
         return usage.ru_utime + usage.ru_stime, (size, total.digest()), os.waitstatus_to_exitcode(status)
 
 
-def memory(program, words, given):
+def memory(program: str, words: list[str], given: str) -> float | None:
     """Peak memory in MB of one run, where a small program that starts it is there to tell it: a child of this one would
     inherit this one's own peak."""
     timer = shutil.which("time")
@@ -83,7 +138,7 @@ def memory(program, words, given):
         return int(told.read().split()[-1]) / 1024
 
 
-def least(programs, words, given):
+def least(programs: list[str], words: list[str], given: str) -> dict[str, tuple[float, tuple[int, bytes]]]:
     """By program the least processor seconds of several interleaved runs, and what it writes; none where one fails."""
     best = {}
     for _ in range(RUNS):
@@ -97,13 +152,13 @@ def least(programs, words, given):
     return best
 
 
-def told(seconds, size, peak):
+def told(seconds: float, size: int, peak: float | None) -> str:
     """Time, bytes a second and memory in words."""
     memory_in_words = "" if peak is None else f", {peak:.1f} MB"
     return f"{seconds * 1000:.1f} ms, {size / max(seconds, 1e-6) / 1e6:.0f} MB/s{memory_in_words}"
 
 
-def main():
+def main() -> int:
     programs = [str(pathlib.Path(it).resolve()) for it in sys.argv[1:]] or [str(TOP / ".maft/maft")]
     lacking = [it for it in programs if not os.access(it, os.X_OK)]
     if lacking:
