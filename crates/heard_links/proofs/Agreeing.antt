@@ -1,5 +1,5 @@
 -- Two talks that agree on the nodes in use and on the rounds that there are have the same rounds there.
-use Rattle.std.proofs.Common.{ℕ, zero, suc, ◌≡◌, ◌≢◌, ◌<◌, ◌≤◌, ◌==◌, Bool, true, false, List, [], ◌∷◌, ◌++◌, map, length, reverse, Option, None, Some, ◌⊎◌, refl, sym, ap, ap₂, subst, ◌∙◌, inl, inr, arith, eqb-true, eq-eqb}
+use Rattle.std.proofs.Common.{ℕ, zero, suc, ◌≡◌, ◌<◌, ◌≤◌, ◌==◌, Bool, true, false, List, [], ◌∷◌, ◌++◌, map, length, reverse, Option, refl, sym, ap, ap₂, ◌∙◌, inl, inr, arith, eqb-true, eq-eqb}
 use Rattle.std.specs.Prelude.{if◌then◌else◌}
 use Rattle.std.specs.List.{flat_map, filter}
 use Rattle.std.proofs.lemmas.Bool.{cases_Bool, cond-true, cond-false, or_left, or_right, or_cases}
@@ -7,7 +7,6 @@ use Rattle.std.proofs.lemmas.List.{reverse-append}
 use Rattle.node_grid.specs.NodeSet.{has_id}
 use Rattle.node_grid.specs.ListLaws.{has_push}
 use Rattle.omh_paths.specs.declared.wrapped.Wrapped.{Wrapped}
-use Rattle.omh_paths.specs.declared.wrapped.Wrapped.TheVariants.{Plain, Fault}
 use Rattle.omh_paths.specs.Wrapped.{wrapped}
 use Rattle.omh_paths.specs.Paths.{outside, paths_avoiding}
 use Rattle.frames.specs.Content.{Content, Expectation}

@@ -1,25 +1,19 @@
 -- What nodes hear in place of what is passed on.
-use Rattle.std.proofs.Common.{ℕ, zero, suc, ◌≡◌, ◌≢◌, ◌<◌, ◌≤◌, ◌+◌, ◌-◌, ◌==◌, ◌&&◌, ◌||◌, Bool, true, false, not, List, [], ◌∷◌, ◌++◌, map, length, reverse, Option, None, Some, ◌⊎◌, refl, sym, ap, ap₂, subst, ◌∙◌, inl, inr, arith, eqb-true, eq-eqb, ne_eqb, slice_index_or, slice_get}
-use Rattle.std.specs.Prelude.{if◌then◌else◌, is_none, nat_le, IfSome}
+use Rattle.std.proofs.Common.{ℕ, suc, ◌≡◌, ◌≢◌, ◌≤◌, ◌+◌, ◌-◌, ◌==◌, ◌&&◌, ◌||◌, Bool, true, false, not, List, [], ◌∷◌, ◌++◌, length, Option, None, Some, refl, sym, ap, ap₂, ◌∙◌, inl, inr, arith, eqb-true, eq-eqb, ne_eqb, slice_index_or}
+use Rattle.std.specs.Prelude.{if◌then◌else◌, is_none, nat_le}
 use Rattle.std.specs.List.{list_all}
 use Rattle.std.specs.Cmp.Lexicographic.{pointwise}
-use Rattle.std.proofs.lemmas.Bool.{cases_Bool, cond-true, cond-false, and_parts, and_from, or_left, or_right, or_cases, both_ways, not_from_false}
+use Rattle.std.proofs.lemmas.Bool.{cond-true, cond-false, and_parts, and_from, or_left, or_right, or_cases, both_ways}
 use Rattle.std.proofs.lemmas.Bool.Decides.{nat_tests}
 use Rattle.std.proofs.lemmas.List.{length_push}
 use Rattle.node_grid.specs.NodeSet.{has_id}
-use Rattle.node_grid.specs.ListLaws.{has_push}
 use Rattle.omh_paths.specs.declared.wrapped.Wrapped.{Wrapped}
-use Rattle.omh_paths.specs.declared.wrapped.Wrapped.TheVariants.{Plain, Fault}
-use Rattle.omh_paths.specs.Wrapped.{wrapped}
-use Rattle.omh_paths.specs.Paths.{place_in, IsPath}
-use Rattle.omh.specs.Written.{IsSmall, last_node}
+use Rattle.omh.specs.Written.{last_node}
 use Rattle.fault_classes.specs.Change.{Change}
 use Rattle.protocol.specs.Arrival.{Arrival, said}
-use Rattle.protocol.specs.Heard.{Rounds, paths_of, with_entries, entry, heard}
-use Rattle.protocol.specs.Talk.{Talk, arrives, item_said, relay_said, told_first, told_relay, rounds_upto}
+use Rattle.protocol.specs.Heard.{paths_of, with_entries, entry, heard}
+use Rattle.protocol.specs.Talk.{Talk, arrives, item_said, relay_said, rounds_upto}
 use Rattle.protocol.specs.TalkLaws.{first_at, relay_at, heard_push}
-use Rattle.safety.proofs.Talks.{HeardIn}
-use Rattle.settled_paths.specs.Passing.{instead}
 use Rattle.heard_links.specs.Hearing.{is_even, is_asked, says_in}
 
 at_push : (path : List ℕ) (q : ℕ) → slice_index_or (path ++ q ∷ []) (length path) 0 ≡ q

@@ -1,19 +1,18 @@
 -- What untouched frames say, by the members of sender and receiver.
-use Rattle.std.proofs.Common.{ℕ, zero, suc, ◌≡◌, ◌≢◌, ◌<◌, ◌≤◌, ◌+◌, Bool, true, false, List, [], ◌∷◌, ◌++◌, map, length, reverse, Option, None, Some, refl, sym, ap, ap₂, subst, ◌∙◌, inl, inr, arith}
-use Rattle.std.specs.Prelude.{All, if◌then◌else◌}
-use Rattle.std.proofs.lemmas.Bool.{cases_Bool, cond-true, cond-false}
-use Rattle.std.proofs.lemmas.List.{length-reverse, length-map}
+use Rattle.std.proofs.Common.{ℕ, suc, ◌≡◌, ◌≤◌, true, false, List, [], ◌∷◌, map, reverse, None, refl, ap, subst, ◌∙◌, arith}
+use Rattle.std.specs.Prelude.{All}
+use Rattle.std.proofs.lemmas.Bool.{cond-true, cond-false}
+use Rattle.std.proofs.lemmas.List.{length-map}
 use Rattle.std.proofs.lemmas.List.Elements.{All-nil, All-cons}
 use Rattle.omh_paths.specs.declared.wrapped.Wrapped.{Wrapped}
 use Rattle.omh_paths.specs.declared.wrapped.Wrapped.TheVariants.{Plain, Fault}
 use Rattle.omh_paths.specs.Wrapped.{wrapped}
-use Rattle.frames.specs.Content.{Content, Expectation, IsEntry}
-use Rattle.frames.specs.Content.Content.{Cold}
+use Rattle.frames.specs.Content.{IsEntry}
 use Rattle.frames.specs.Spelling.{IsInRange}
 use Rattle.protocol.specs.Arrival.{Arrival}
 use Rattle.protocol.specs.Arrival.Arrival.{Bad, Good}
-use Rattle.protocol.specs.Heard.{paths_of, looked_up, with_entries, entry, heard}
-use Rattle.protocol.specs.Talk.{Talk, arrives, item_said, relay_said, rounds_upto}
+use Rattle.protocol.specs.Heard.{paths_of, looked_up, with_entries, heard}
+use Rattle.protocol.specs.Talk.{Talk, arrives, rounds_upto}
 use Rattle.protocol.specs.TalkLaws.{first_at, relay_at}
 use Rattle.protocol.specs.Run.{System}
 use Rattle.safety.proofs.Arrivals.{Grammar, arrives_clean, arrives_cold}

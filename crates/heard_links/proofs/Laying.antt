@@ -1,20 +1,18 @@
 -- What a table has after something is laid down in it.
-use Rattle.std.proofs.Common.{ℕ, ◌≡◌, ◌≢◌, ◌<◌, ◌≤◌, ◌⊎◌, ◌==◌, ◌||◌, Bool, true, false, not, List, [], ◌∷◌, length, None, refl, sym, ap, ap₂, ◌∙◌, inl, inr, arith, eq-eqb, get_or, set, get_or-set_same, get_or-set_other}
+use Rattle.std.proofs.Common.{ℕ, ◌≡◌, ◌≢◌, ◌<◌, ◌≤◌, ◌⊎◌, ◌==◌, ◌||◌, Bool, true, false, not, List, [], ◌∷◌, length, refl, sym, ap, ap₂, ◌∙◌, inl, arith, eq-eqb, get_or, set, get_or-set_same, get_or-set_other}
 use Rattle.std.specs.Prelude.{if◌then◌else◌, is_none, slice_index_or}
 use Rattle.std.specs.Cmp.Lexicographic.{pointwise}
 use Rattle.std.proofs.lemmas.Bool.{and_from, or_right}
 use Rattle.node_grid.specs.Capacity.{IsCapacity}
 use Rattle.node_grid.specs.NodeSet.{has_id}
 use Rattle.protocol.specs.Arrival.{ItemForm}
-use Rattle.protocol.specs.Talk.{Talk}
 use Rattle.protocol.specs.Run.{System}
 use Rattle.heard_links.specs.declared.came.Came.{Came}
 use Rattle.heard_links.specs.declared.came.Came.TheVariants as came
 use Rattle.heard_links.specs.declared.links.Links.{Links}
 use Rattle.heard_links.specs.declared.phase.Phase.{Phase}
-use Rattle.heard_links.specs.Coming.{is_untouched}
 use Rattle.heard_links.specs.Talks.{IsJudged, IsSet}
-use Rattle.heard_links.specs.Hearing.{IsCame, IsHeard, link_at, came_at, is_even, talk_in}
+use Rattle.heard_links.specs.Hearing.{IsHeard, link_at, came_at, is_even, talk_in}
 use Rattle.heard_links.proofs.Sets.{node_low}
 use Rattle.heard_links.proofs.Tables.{links_apart, receivers_apart, heard_kept}
 
@@ -44,13 +42,6 @@ heard_beside form first tells x a b r j h told blank touched kept =
     heard_kept form first tells x a b r h told blank
     (λ s k i low low_k on ne. came_alike a b s k i (ap (λ (sets : List (List ℕ)). has_id (slice_index_or sets s []) k) touched)
     (kept s k i (node_low x h.set k low_k) (node_low x h.set i (h.set.awake i on)) (inl (λ e. omega arith))))
-
--- what is untouched is even
-pub untouched_even : {V : Type 0} (t : Talk V) (m r j i : ℕ) (c : Came V) → is_untouched c ≡ true → IsCame t m r j i c → is_even t r j i ≡ true
-untouched_even t m r j i came.Untouched h is = is
-untouched_even t m r j i (came.Bad k) h is = cc
-untouched_even t m r j i (came.Told v) h is = cc
-untouched_even t m r j i came.Good h is = cc
 
 same_self : (xs : List ℕ) → pointwise ◌==◌ xs xs ≡ true
 same_self [] = refl

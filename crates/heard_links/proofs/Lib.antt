@@ -9,6 +9,7 @@ pub mod Ears
 pub mod Standing
 pub mod Tables
 pub mod Places
+pub mod Puts
 pub mod Sets
 pub mod Saying
 pub mod TalkLaws

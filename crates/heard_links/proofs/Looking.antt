@@ -1,11 +1,10 @@
 -- Entries by their places.
-use Rattle.std.proofs.Common.{ℕ, zero, suc, ◌≡◌, ◌≢◌, ◌<◌, ◌≤◌, ◌+◌, Bool, true, false, List, [], ◌∷◌, ◌++◌, ◌==◌, map, length, Option, None, Some, refl, sym, ap, ap₂, ◌∙◌, inl, inr, arith, slice_index_or, slice_get}
+use Rattle.std.proofs.Common.{ℕ, zero, suc, ◌≡◌, ◌<◌, ◌+◌, List, [], ◌∷◌, map, length, refl, sym, ap, ◌∙◌, inl, inr, arith, slice_index_or, slice_get}
 use Rattle.std.proofs.lemmas.Bool.{cases_Bool, cond-true, cond-false}
 use Rattle.omh_paths.specs.declared.wrapped.Wrapped.{Wrapped}
 use Rattle.omh_paths.specs.declared.wrapped.Wrapped.TheVariants.{Fault}
 use Rattle.omh_paths.specs.Wrapped.{wrapped}
 use Rattle.omh_paths.specs.Paths.{same_nodes, place_in}
-use Rattle.omh_paths.specs.PathLists.{same_nodes-tells}
 use Rattle.protocol.specs.Heard.{looked_up}
 use Rattle.heard_links.specs.Hearing.{passed_on}
 

@@ -1,5 +1,5 @@
 -- Where the entry for a path stands, and of which path it was meant.
-use Rattle.std.proofs.Common.{ℕ, zero, suc, ◌≡◌, ◌≢◌, ◌<◌, ◌≤◌, ◌+◌, ◌-◌, ◌^◌, Bool, true, false, List, [], ◌∷◌, ◌++◌, length, Option, None, Some, refl, sym, ap, ap₂, subst, ◌∙◌, inl, inr, arith, eq-eqb, ne_eqb, ◌==◌, take, slice_index_or, slice_get, lit≤}
+use Rattle.std.proofs.Common.{ℕ, zero, suc, ◌≡◌, ◌≢◌, ◌<◌, ◌≤◌, ◌+◌, ◌-◌, ◌^◌, Bool, true, false, List, [], ◌∷◌, ◌++◌, length, None, Some, refl, sym, ap, subst, ◌∙◌, inl, inr, arith, eq-eqb, ne_eqb, ◌==◌, take, slice_index_or, slice_get, lit≤}
 use Rattle.std.proofs.lemmas.Bool.{cases_Bool, cases_eq, cond-true, cond-false, or_right, or_from}
 use Rattle.std.proofs.lemmas.Option.{same_Some}
 use Rattle.node_grid.specs.ListLaws.{has_push}
@@ -10,7 +10,7 @@ use Rattle.node_grid.specs.NodeSetLaws.{length-ids}
 use Rattle.node_grid.specs.Count.{Distinct}
 use Rattle.omh_paths.specs.Paths.{same_nodes, paths_of_length, path_count, place_in, path_at}
 use Rattle.omh_paths.specs.PathLists.{same_nodes-tells, Distinct-without, length-without, length-paths, place-lt, IsListed-at, has-without-left}
-use Rattle.omh_paths.specs.MemberLaws.{Distinct-ids, member-lt, path_count-le}
+use Rattle.omh_paths.specs.MemberLaws.{Distinct-ids, path_count-le}
 use Rattle.protocol.specs.Heard.{paths_of}
 use Rattle.protocol.specs.TalkLaws.{paths_of_member}
 use Rattle.heard_links.specs.Hearing.{source}

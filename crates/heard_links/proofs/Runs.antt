@@ -1,10 +1,8 @@
 -- The rounds of a phase of a run, by what the code has of it.
-use Rattle.std.proofs.Common.{ℕ, zero, suc, ◌≡◌, ◌≢◌, ◌<◌, ◌≤◌, ◌+◌, ◌==◌, ◌&&◌, ◌||◌, Bool, true, false, not, List, [], ◌∷◌, ◌++◌, map, length, reverse, Option, None, Some, ◌⊎◌, refl, sym, ap, ap₂, subst, ◌∙◌, inl, inr, arith, eqb-true, eq-eqb, ne_eqb}
+use Rattle.std.proofs.Common.{ℕ, zero, suc, ◌≡◌, ◌≢◌, ◌<◌, ◌≤◌, ◌+◌, ◌==◌, Bool, true, false, not, List, [], ◌∷◌, ◌++◌, map, length, Option, None, Some, ◌⊎◌, refl, sym, ap, ap₂, subst, ◌∙◌, inl, inr, arith, eqb-true, ne_eqb}
 use Rattle.std.specs.Prelude.{if◌then◌else◌, is_none, slice_index_or, slice_get}
 use Rattle.std.specs.Cmp.Lexicographic.{pointwise}
 use Rattle.std.proofs.lemmas.Bool.{cases_Bool, cond-true, cond-false, and_parts, or_cases, both_ways}
-use Rattle.std.proofs.lemmas.List.{length_push}
-use Rattle.node_grid.specs.NodeSet.{has_id}
 use Rattle.omh_paths.specs.MemberLaws.{member-lt}
 use Rattle.omh_paths.specs.declared.wrapped.Wrapped.{Wrapped}
 use Rattle.omh_paths.specs.declared.wrapped.Wrapped.TheVariants.{Plain, Fault}
@@ -18,14 +16,13 @@ use Rattle.frames.specs.Spelling.{IsInRange}
 use Rattle.fault_classes.specs.Plan.{Plan}
 use Rattle.fault_classes.specs.Line.{effect_at}
 use Rattle.agreed_state.specs.Body.{state_len}
-use Rattle.agreed_state.specs.Expecting as agreed
 use Rattle.protocol.specs.View.{Setting}
 use Rattle.protocol.specs.Arrival.{Arrival, ItemForm, said}
 use Rattle.protocol.specs.Arrival.Arrival.{Bad, Good}
 use Rattle.protocol.specs.Heard.{Rounds, paths_of, looked_up, with_entries, entry, heard}
-use Rattle.protocol.specs.Talk.{Talk, arrives, relay_said, told_first, told_relay, rounds_upto}
+use Rattle.protocol.specs.Talk.{Talk, arrives, rounds_upto}
 use Rattle.protocol.specs.TalkLaws.{first_at, relay_at, heard_push, entries_stable}
-use Rattle.protocol.specs.Run.{System, expectation}
+use Rattle.protocol.specs.Run.{System}
 use Rattle.protocol.specs.Accepted.{IsAccepted}
 use Rattle.protocol.specs.Configured.{setting_of}
 use Rattle.safety.proofs.Talks.{FormFits, HeardIn, entries_of}
@@ -34,7 +31,7 @@ use Rattle.touched_items.specs.Items.{talk_of, EntryForm, AreEntries, Sizes, siz
 use Rattle.heard_links.specs.declared.phase.Phase.{Phase}
 use Rattle.heard_links.specs.Talks.{members_at, phase_talk, IsSet, IsPhaseOf}
 use Rattle.heard_links.specs.Hearing.{frame_kind, is_even, source, passed_on}
-use Rattle.heard_links.proofs.Agreeing.{Agree, AreLow, AllLow, map_low, low_paths, first_rounds, relays_same, heard_same}
+use Rattle.heard_links.proofs.Agreeing.{Agree, AreLow, map_low, low_paths, first_rounds, relays_same, heard_same}
 use Rattle.heard_links.proofs.Frames.{sent_in_range, heard_small, first_full, first_idle, relay_full, relay_idle}
 use Rattle.heard_links.proofs.Lengths.{good_long}
 use Rattle.heard_links.proofs.Looking.{looked_at, passed_at}

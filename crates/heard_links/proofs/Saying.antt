@@ -1,11 +1,10 @@
 -- What nodes hear in place of what is passed on, by what came over the links.
-use Rattle.std.proofs.Common.{ℕ, zero, suc, ◌≡◌, ◌≢◌, ◌<◌, ◌≤◌, ◌+◌, ◌-◌, ◌==◌, ◌&&◌, ◌||◌, Bool, true, false, not, List, [], ◌∷◌, ◌++◌, length, take, Option, None, Some, ◌⊎◌, refl, sym, ap, ap₂, subst, ◌∙◌, inl, inr, arith, eqb-true, eq-eqb, ne_eqb, slice_index_or}
-use Rattle.std.specs.Prelude.{if◌then◌else◌, IfSome}
-use Rattle.std.proofs.lemmas.Bool.{cases_Bool, cases_eq, cond-true, cond-false, or_left, or_right, or_cases, both_ways}
+use Rattle.std.proofs.Common.{ℕ, suc, ◌≡◌, ◌≢◌, ◌<◌, ◌≤◌, ◌+◌, ◌-◌, ◌==◌, ◌&&◌, Bool, true, false, not, List, [], ◌∷◌, ◌++◌, length, take, Option, None, Some, ◌⊎◌, refl, sym, ap, ap₂, subst, ◌∙◌, inl, inr, arith, eqb-true, eq-eqb, ne_eqb}
+use Rattle.std.specs.Prelude.{IfSome}
+use Rattle.std.proofs.lemmas.Bool.{cases_Bool, cases_eq, cond-true, cond-false, or_right, or_cases, both_ways}
 use Rattle.std.proofs.lemmas.List.{length_push}
-use Rattle.node_grid.specs.NodeSet.{has_id, without_id}
+use Rattle.node_grid.specs.NodeSet.{has_id}
 use Rattle.node_grid.specs.ListLaws.{has_push}
-use Rattle.node_grid.specs.Count.{Distinct}
 use Rattle.omh_paths.specs.PathLaws.{off_longer}
 use Rattle.omh_paths.specs.Paths.{place_in, IsPath}
 use Rattle.omh_paths.specs.Wrapped.{wrapped}
@@ -15,7 +14,8 @@ use Rattle.omh.specs.Omh.{World, ear, own_term}
 use Rattle.omh.specs.Written.{IsSmall, last_node}
 use Rattle.settled_paths.specs.Passing.{or_passed, instead, HearAlike}
 use Rattle.settled_paths.specs.Laws.{IsPassedOn}
-use Rattle.protocol.specs.Arrival.{ItemForm}
+use Rattle.protocol.specs.Arrival.{ItemForm, said}
+use Rattle.protocol.specs.Arrival.Arrival.{Good}
 use Rattle.protocol.specs.Heard.{paths_of, heard}
 use Rattle.protocol.specs.Talk.{Talk, rounds_upto}
 use Rattle.protocol.specs.Run.{System}
@@ -28,11 +28,11 @@ use Rattle.heard_links.specs.declared.links.Links.{Links}
 use Rattle.heard_links.specs.declared.phase.Phase.{Phase}
 use Rattle.heard_links.specs.Talks.{members_at}
 use Rattle.heard_links.specs.Coming.{is_untouched}
-use Rattle.heard_links.specs.Hearing.{is_even, is_asked, says_in, IsCame, IsAsked, IsAlikeFrom, IsHeard, item_of, came_at, talk_in, source, passed_on}
+use Rattle.heard_links.specs.Hearing.{frame_kind, is_even, is_asked, says_in, IsCame, IsAsked, IsAlikeFrom, IsHeard, item_of, came_at, talk_in, source, passed_on}
 use Rattle.heard_links.specs.Passing.{own_in, world_in, says_of, ArePassedOn}
 use Rattle.heard_links.proofs.Ears.{last_push, says_even, says_heard, asked_if, AskedParts, asked_parts, says_alike}
-use Rattle.heard_links.proofs.Places.{placed_in, source_same, split_off, split_distinct, front_last}
-use Rattle.heard_links.proofs.Runs.{heard_few, heard_even, heard_relay_even, known}
+use Rattle.heard_links.proofs.Places.{placed_in, source_same, split_off, split_distinct, front_last, last_has}
+use Rattle.heard_links.proofs.Runs.{heard_few, heard_even, heard_relay_even, heard_first_bad, heard_relay_bad, known}
 use Rattle.heard_links.proofs.Sets.{few_nodes, few_m, in_use, front_on}
 
 -- what was heard is wrapped few times
@@ -164,6 +164,50 @@ module _ {V : Type 0} {N : ℕ} (form : ItemForm V) (first : ℕ → ℕ) (tells
   pub said_heard : (i : ℕ) (path : List ℕ) → is_asked t m x.awake i path ≡ true → is_even t (length path - 1) (last_node path) i ≡ false → Some (heard (rounds_upto t m i) path) ≡ says_of form x links i path
   said_heard i path asks un =
       sym (cond-true (is_asked t m x.awake i path && not (is_even t (length path - 1) (last_node path) i)) (Some (heard (rounds_upto t m i) path)) None (ap₂ (λ (a b : Bool). a && not b) asks un))
+
+  -- what is laid down for the link tells whether it is even
+  pub came_even : (i : ℕ) (path : List ℕ) (c : Came V) → is_asked t m x.awake i path ≡ true → 0 < length path → c ≡ came_at links (length path - 1) (last_node path) i
+      → is_even t (length path - 1) (last_node path) i ≡ is_untouched c
+  came_even i path c asks some is =
+      let a = asked_parts t m x.awake i path asks in
+      even_is (length path - 1) (last_node path) i c (omega (arith, a.short, some)) (in_use x h.set i (last_node path) (a.within (last_node path) (last_has path some))) a.on a.other is
+
+  -- of a bad frame the error is heard
+  bad_heard : (i q n : ℕ) (front : List ℕ) → frame_kind (rounds_upto t m i) (length front) q ≡ Some n → heard (rounds_upto t m i) (front ++ q ∷ []) ≡ Fault 0
+  bad_heard i q n [] is = heard_first_bad form first tells cells in_range made fits x (item_of links) h.set h.sys h.run i q n is
+  bad_heard i q n (c ∷ rest) is = heard_relay_bad form first tells cells in_range made fits x (item_of links) h.set h.sys h.run i q (length rest) n (c ∷ rest) refl is
+
+  -- and of a first frame that tells something, this
+  told_heard : (i q : ℕ) (v : V) (front : List ℕ) → length front ≡ 0 → (rounds_upto t m i).first q ≡ Good v → heard (rounds_upto t m i) (front ++ q ∷ []) ≡ Plain v
+  told_heard i q v [] none is = ap said is
+  told_heard i q v (c ∷ rest) none is = absurd (omega (arith, none))
+
+  pub said_told : (i : ℕ) (path : List ℕ) (v : V) → is_asked t m x.awake i path ≡ true → 0 < length path → came.Told v ≡ came_at links (length path - 1) (last_node path) i
+      → Some (Plain v) ≡ says_of form x links i path
+  said_told i path v asks some is =
+      let a = asked_parts t m x.awake i path asks in
+      let q : ℕ = last_node path in
+      let front : List ℕ = take (length path - 1) path in
+      let split : path ≡ front ++ q ∷ [] = front_last path some in
+      let long : length front ≡ length path - 1 = omega (arith, ap length split, length_push front q) in
+      let laid : IsCame t m (length path - 1) q i (came.Told v) =
+      subst (IsCame t m (length path - 1) q i) (sym is) (h.heard (length path - 1) q i (omega (arith, a.short, some)) (in_use x h.set i q (a.within q (last_has path some))) a.on a.other) in
+      let plain : heard (rounds_upto t m i) path ≡ Plain v = ap (heard (rounds_upto t m i)) split ∙ told_heard i q v front (long ∙ laid.1) laid.2 in
+      ap Some (sym plain) ∙ said_heard i path asks laid.0
+
+  pub said_bad : (i : ℕ) (path : List ℕ) (n : ℕ) → is_asked t m x.awake i path ≡ true → 0 < length path → came.Bad n ≡ came_at links (length path - 1) (last_node path) i
+      → Some (Fault 0) ≡ says_of form x links i path
+  said_bad i path n asks some is =
+      let a = asked_parts t m x.awake i path asks in
+      let q : ℕ = last_node path in
+      let front : List ℕ = take (length path - 1) path in
+      let split : path ≡ front ++ q ∷ [] = front_last path some in
+      let long : length front ≡ length path - 1 = omega (arith, ap length split, length_push front q) in
+      let laid : IsCame t m (length path - 1) q i (came.Bad n) =
+      subst (IsCame t m (length path - 1) q i) (sym is) (h.heard (length path - 1) q i (omega (arith, a.short, some)) (in_use x h.set i q (a.within q (last_has path some))) a.on a.other) in
+      let fault : heard (rounds_upto t m i) path ≡ Fault 0 =
+      ap (heard (rounds_upto t m i)) split ∙ bad_heard i q n front (ap (λ (r : ℕ). frame_kind (rounds_upto t m i) r q) long ∙ laid.1) in
+      ap Some (sym fault) ∙ said_heard i path asks laid.0
 
   pub heard_small_at : (i : ℕ) (path : List ℕ) → is_asked t m x.awake i path ≡ true → IsSmall 252 (heard (rounds_upto t m i) path)
   heard_small_at i path asks = smaller (Some (heard (rounds_upto t m i) path)) (small_heard (in_range (sizes_in h.sys)) m (heard (rounds_upto t m i) path) (few_m x h.set) (heard_in i path asks))

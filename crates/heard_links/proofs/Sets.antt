@@ -1,5 +1,5 @@
 -- Nodes of a phase.
-use Rattle.std.proofs.Common.{ℕ, ◌≡◌, ◌≢◌, ◌<◌, ◌≤◌, ◌+◌, true, false, List, [], ◌∷◌, ◌++◌, length, Option, Some, None, refl, sym, ap, ◌∙◌, inl, inr, arith, eq-eqb, ◌==◌, slice_get}
+use Rattle.std.proofs.Common.{ℕ, ◌≡◌, ◌≢◌, ◌<◌, ◌≤◌, true, false, List, [], ◌∷◌, ◌++◌, length, Option, Some, None, refl, sym, ap, ◌∙◌, arith, eq-eqb, ◌==◌, slice_get}
 use Rattle.std.proofs.lemmas.Bool.{or_left, or_right, both_ways}
 use Rattle.std.proofs.lemmas.List.{length_push}
 use Rattle.node_grid.specs.NodeSet.{has_id, without_id}
@@ -7,7 +7,6 @@ use Rattle.node_grid.specs.CapacityLaws.{capacity-le}
 use Rattle.node_grid.specs.ListLaws.{has_push}
 use Rattle.omh_paths.specs.MemberLaws.{member-lt}
 use Rattle.omh_paths.specs.PathLists.{has-without}
-use Rattle.omh.specs.Written.{last_node}
 use Rattle.agreed_state.specs.ConfigLaws.{few_rounds}
 use Rattle.fault_classes.specs.Change.{Change}
 use Rattle.frames.specs.Content.{Content, Expectation}

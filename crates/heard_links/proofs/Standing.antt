@@ -1,11 +1,11 @@
 -- What stands in the table of a frame, and what was heard of it.
-use Rattle.std.proofs.Common.{ℕ, zero, suc, ◌≡◌, ◌≢◌, ◌<◌, ◌≤◌, ◌+◌, Bool, true, false, List, [], ◌∷◌, ◌++◌, length, Option, None, Some, refl, sym, ap, subst, ◌∙◌, arith, slice_index_or}
+use Rattle.std.proofs.Common.{ℕ, suc, ◌≡◌, ◌≢◌, ◌<◌, ◌≤◌, true, List, [], ◌∷◌, ◌++◌, length, None, Some, refl, sym, ap, subst, ◌∙◌, arith, slice_index_or}
 use Rattle.std.specs.Prelude.{if◌then◌else◌}
 use Rattle.node_grid.specs.NodeSet.{has_id}
 use Rattle.omh_paths.specs.declared.wrapped.Wrapped.{Wrapped}
 use Rattle.omh_paths.specs.declared.wrapped.Wrapped.TheVariants.{Plain, Fault}
 use Rattle.omh_paths.specs.Paths.{place_in}
-use Rattle.protocol.specs.Arrival.{Arrival, ItemForm, said}
+use Rattle.protocol.specs.Arrival.{ItemForm, said}
 use Rattle.protocol.specs.Arrival.Arrival.{Good}
 use Rattle.protocol.specs.Heard.{paths_of, heard}
 use Rattle.frames.specs.Content.{Content}
@@ -18,7 +18,7 @@ use Rattle.heard_links.specs.declared.came.Came.{Came}
 use Rattle.heard_links.specs.declared.came.Came.TheVariants as came
 use Rattle.heard_links.specs.declared.links.Links.{Links}
 use Rattle.heard_links.specs.declared.phase.Phase.{Phase}
-use Rattle.heard_links.specs.Hearing.{frame_kind, is_even, IsCame, item_of, came_at, talk_in, IsHeard, source, passed_on}
+use Rattle.heard_links.specs.Hearing.{frame_kind, IsCame, item_of, came_at, talk_in, IsHeard, source, passed_on}
 use Rattle.heard_links.proofs.Runs.{even_kind, heard_even, heard_relay_even, heard_relay_good, heard_first_bad, heard_relay_bad, content_of, come, has_own}
 
 module _ {V : Type 0} {N : ℕ} (form : ItemForm V) (first : ℕ → ℕ) (tells : System → ℕ → ℕ → V) (cells : EntryForm V) (in_range : Sizes → V → Type 0) (made : AreEntries form cells in_range)

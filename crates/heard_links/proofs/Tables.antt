@@ -1,18 +1,17 @@
 -- What stands in the table, and what stays there.
-use Rattle.std.proofs.Common.{ℕ, zero, suc, ◌≡◌, ◌≢◌, ◌<◌, ◌≤◌, ◌+◌, ◌*◌, Bool, true, false, List, [], length, Option, None, Some, ◌⊎◌, refl, sym, ap, ap₂, subst, ◌∙◌, inl, inr, arith, get_or, set, get_or-set_same, get_or-set_other}
-use Rattle.std.specs.Prelude.{if◌then◌else◌, slice_index_or}
-use Rattle.std.proofs.lemmas.Bool.{cases_Bool, cases_eq, cond-true, cond-false}
+use Rattle.std.proofs.Common.{ℕ, ◌≡◌, ◌≢◌, ◌<◌, ◌≤◌, ◌+◌, ◌*◌, true, false, List, [], ◌⊎◌, sym, ap, ap₂, subst, inl, inr, arith}
+use Rattle.std.specs.Prelude.{slice_index_or}
+use Rattle.std.proofs.lemmas.Bool.{cases_eq, cond-true, cond-false}
 use Rattle.node_grid.specs.Capacity.{IsCapacity}
 use Rattle.node_grid.specs.NodeSet.{has_id}
 use Rattle.protocol.specs.Arrival.{ItemForm}
 use Rattle.protocol.specs.Talk.{Talk}
 use Rattle.protocol.specs.Run.{System}
-use Rattle.heard_links.specs.declared.came.Came.{Came}
 use Rattle.heard_links.specs.declared.came.Came.TheVariants as came
 use Rattle.heard_links.specs.declared.links.Links.{Links}
 use Rattle.heard_links.specs.declared.phase.Phase.{Phase}
-use Rattle.heard_links.specs.Talks.{members_at, phase_talk, IsSet, IsPhaseOf}
-use Rattle.heard_links.specs.Hearing.{IsCame, item_of, link_at, came_at, talk_in, AreHeard, IsHeard}
+use Rattle.heard_links.specs.Talks.{phase_talk, IsPhaseOf}
+use Rattle.heard_links.specs.Hearing.{IsCame, item_of, link_at, came_at, talk_in, IsHeard}
 
 -- links apart have places apart
 record AreSame (r j i s k h : ℕ) : Type 0 where

@@ -1,5 +1,5 @@
 -- What comes over each link, and what nodes hear by that.
-use Rattle.std.specs.Prelude.{ℕ, zero, suc, ◌≡◌, ◌≢◌, ◌≤◌, ◌<◌, ◌+◌, ◌-◌, ◌*◌, Bool, true, false, not, ◌&&◌, ◌||◌, ◌==◌, ◌⊎◌, nat_le, List, [], map, length, Option, None, Some, is_none, slice_get, slice_index_or, if◌then◌else◌}
+use Rattle.std.specs.Prelude.{ℕ, ◌≡◌, ◌≢◌, ◌≤◌, ◌<◌, ◌+◌, ◌-◌, ◌*◌, Bool, true, false, not, ◌&&◌, ◌||◌, ◌==◌, ◌⊎◌, nat_le, List, [], map, length, Option, None, Some, is_none, slice_get, slice_index_or, if◌then◌else◌}
 use Rattle.std.specs.List.{list_all}
 use Rattle.std.specs.Cmp.Lexicographic.{pointwise}
 use Rattle.node_grid.specs.NodeSet.{has_id}
@@ -10,7 +10,7 @@ use Rattle.omh_paths.specs.Paths.{place_in}
 use Rattle.omh.specs.Written.{last_node}
 use Rattle.fault_classes.specs.Change.{Change}
 use Rattle.fault_link.specs.Arrival.{delivered_of}
-use Rattle.protocol.specs.Arrival.{Arrival, ItemForm}
+use Rattle.protocol.specs.Arrival.{ItemForm}
 use Rattle.protocol.specs.Arrival.Arrival.{Good}
 use Rattle.protocol.specs.Heard.{Rounds, paths_of, heard}
 use Rattle.protocol.specs.Talk.{Talk, rounds_upto}

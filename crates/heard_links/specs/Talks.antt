@@ -63,3 +63,9 @@ pub record IsJudged {N : ℕ} (x : Phase N) (judged : List ℕ) : Type 0 where
       → effect_at x.plan.now.lines x.period (x.first + r) j i ≡ None
   pub same : (j i : ℕ) → has_id x.awake j ≡ true → has_id x.awake i ≡ true → has_id judged j ≡ false → members_at x j ≡ members_at x i
   pub used : (j : ℕ) → has_id judged j ≡ true → j < x.config.now.nodes
+
+-- of the frame of a round from node j to nodes that are awake, those to other nodes than these are even
+pub record AreUneven {N : ℕ} (x : Phase N) (r j : ℕ) (uneven : List ℕ) : Type 0 where
+  pub even : (i : ℕ) → has_id x.awake i ≡ true → i ≢ j → has_id uneven i ≡ false → IsEvenTo x r j i
+  pub awake : (i : ℕ) → i < x.config.now.nodes → has_id uneven i ≡ true → has_id x.awake i ≡ true
+  pub other : (i : ℕ) → i < x.config.now.nodes → has_id uneven i ≡ true → i ≢ j

@@ -12,6 +12,7 @@ ghost use Rattle.heard_links.specs.Talks.{IsSet, members_at};
 ghost use Rattle.heard_links.specs.Hearing.{IsHeard, IsAlikeFrom, is_asked, is_asked_by, is_even, talk_in};
 ghost use Rattle.heard_links.specs.Passing.{ArePassedOn, says_of};
 
+use crate::came::Came;
 use crate::effects::is_same;
 use crate::links::Links;
 use crate::phase::Phase;
@@ -121,10 +122,12 @@ impl<V: Item<N>, const N: usize> Links<V, N> {
             return None;
         }
         let last = path.len() - 1;
-        if self.came(last, path.at(last), to).is_untouched() {
-            return None;
+        match self.came(last, path.at(last), to) {
+            Came::Untouched => None,
+            Came::Bad(_) => Some(Wrapped::Fault(0)),
+            Came::Told(item) => Some(Wrapped::Plain(item)),
+            Came::Good => Some(self.heard(phase, to, path)),
         }
-        Some(self.heard(phase, to, path))
     }
 
     /// What node `to` hears for a path in place of what the path's last node passes on.

@@ -5,7 +5,7 @@ ghost use Rattle.std.specs.Cmp.Lexicographic.{pointwise};
 ghost use Rattle.node_grid.specs.Capacity.{IsCapacity};
 ghost use Rattle.node_grid.specs.NodeSet.{has_id};
 ghost use Rattle.fault_classes.specs.Change.{change_of};
-ghost use Rattle.heard_links.specs.Talks.{IsEvenTo, IsJudged, IsSet, members_at};
+ghost use Rattle.heard_links.specs.Talks.{AreUneven, IsEvenTo, IsJudged, IsSet, members_at};
 ghost use Rattle.heard_links.specs.declared.came.Came.TheVariants as came;
 ghost use Rattle.heard_links.specs.Hearing.{ActsAs, IsCame, IsHeard, came_at, item_of, link_at, talk_in, is_even, frame_kind};
 ghost use Rattle.protocol.specs.Talk.{rounds_upto};
@@ -52,20 +52,20 @@ impl<'p, const N: usize> Phase<'p, N> {
         self.effect(round, from, to).is_none() && self.is_read_alike(round, from, to)
     }
 
-    /// Whether that holds of the frames of a node to all others that are awake.
-    fn is_even_to_all(&self, round: u8, from: u8) -> bool
+    /// The other nodes that are awake to which a frame of a round isn't so.
+    fn uneven(&self, round: u8, from: u8) -> NodeSet<N>
         requires set { IsSet self.now }
         requires round { round ≤ self.now.config.now.m }
         requires from { from < self.now.config.now.nodes }
-        ensures { result ≡ true → (i : ℕ) → has_id self.now.awake i ≡ true → i ≢ from →
-            IsEvenTo self.now round from i }
+        ensures { AreUneven self.now round from result }
     {
-        for to in 0..self.config.nodes {
-            if self.awake.has(to) && to != from && !self.is_even_to(round, from, to) {
-                return false;
+        let mut uneven = NodeSet::empty();
+        for to in self.awake.without(from).iter() {
+            if !self.is_even_to(round, from, to) {
+                uneven.put(to);
             }
         }
-        true
+        uneven
     }
 }
 
@@ -186,12 +186,37 @@ impl<V: Item<N>, const N: usize> Links<V, N> {
         self.touched[round as usize] = senders;
     }
 
-    /// Lays down what comes of the frames of a node in a round, each judged.
-    fn judge_frames(&mut self, phase: &Phase<'_, N>, round: u8, from: u8)
+    /// What comes of that frame, where those to other nodes than these are even.
+    fn came_to(
+        &self,
+        phase: &Phase<'_, N>,
+        round: u8,
+        from: u8,
+        to: u8,
+        uneven: &NodeSet<N>,
+    ) -> Came<V>
+        requires heard { IsHeard V.form V.first_slot V.tells phase.now self.now round }
+        requires few { round ≤ phase.now.config.now.m }
+        requires from { from < phase.now.config.now.nodes }
+        requires to { to < phase.now.config.now.nodes }
+        requires uneven { AreUneven phase.now round from uneven.now }
+        ensures { has_id phase.now.awake to ≡ true → to ≢ from →
+            IsCame (talk_in V.form phase.now self.now) phase.now.config.now.m round from to
+            result }
+    {
+        if uneven.has(to) {
+            self.judge(phase, round, from, to)
+        } else {
+            Came::Untouched
+        }
+    }
+
+    /// Lays down what comes of the frames of a node in a round, those to these nodes judged.
+    fn judge_frames(&mut self, phase: &Phase<'_, N>, round: u8, from: u8, uneven: &NodeSet<N>)
         requires heard { IsHeard V.form V.first_slot V.tells phase.now self.old round }
         requires few { round ≤ phase.now.config.now.m }
         requires from { from < phase.now.config.now.nodes }
-        requires fresh { has_id (slice_index_or self.old.touched round []) from ≡ false }
+        requires uneven { AreUneven phase.now round from uneven.now }
         ensures told { self.new.told.items ≡ self.old.told.items }
         ensures blank { self.new.blank ≡ self.old.blank }
         ensures here { (i : ℕ) → has_id phase.now.awake i ≡ true → i ≢ from →
@@ -203,17 +228,11 @@ impl<V: Item<N>, const N: usize> Links<V, N> {
             has_id (slice_index_or self.new.touched r []) j ≡
             has_id (slice_index_or self.old.touched r []) j }
     {
-        let mut is_touched = false;
         for to in 0..phase.config.nodes {
-            if phase.awake.has(to) && to != from {
-                let came = self.judge(phase, round, from, to);
-                is_touched = is_touched || !came.is_untouched();
-                self.came[link_at::<N>(round, from, to)] = came;
-            }
+            let came = self.came_to(phase, round, from, to, uneven);
+            self.came[link_at::<N>(round, from, to)] = came;
         }
-        if is_touched {
-            self.touch(round, from);
-        }
+        self.touch(round, from);
     }
 
     /// Lays down what comes of the frames of a node in a round.
@@ -233,8 +252,9 @@ impl<V: Item<N>, const N: usize> Links<V, N> {
             has_id (slice_index_or self.new.touched r []) j ≡
             has_id (slice_index_or self.old.touched r []) j }
     {
-        if !phase.is_even_to_all(round, from) {
-            self.judge_frames(phase, round, from);
+        let uneven = phase.uneven(round, from);
+        if !uneven.is_empty() {
+            self.judge_frames(phase, round, from, &uneven);
         }
     }
 }

@@ -1,6 +1,5 @@
-use Rattle.std.proofs.Common.{rules, ℕ, ◌≡◌, ◌<◌, ◌≤◌, true, List, length, sym, ap, subst, ◌∙◌, inl, inr, arith, lit<, slice_index_or}
+use Rattle.std.proofs.Common.{rules, ℕ, ◌≡◌, ◌<◌, true, List, length, sym, ap, subst, ◌∙◌, inl, inr, arith, lit<}
 use Rattle.node_grid.specs.NodeSet.{has_id, without_id}
-use Rattle.omh_paths.specs.declared.wrapped.Wrapped.TheVariants.{Fault}
 use Rattle.omh_paths.specs.Wrapped.{wrapped}
 use Rattle.omh_paths.specs.Paths.{paths_of_length, path_count, path_at}
 use Rattle.omh_paths.specs.PathLists.{has-without-left}
@@ -9,7 +8,7 @@ use Rattle.protocol.specs.Heard.{paths_of, heard}
 use Rattle.protocol.specs.Talk.{rounds_upto}
 use Rattle.touched_items.specs.Items.{sizes_in}
 use Rattle.heard_links.specs.Talks.{members_at}
-use Rattle.heard_links.specs.Hearing.{talk_in, item_of, IsAsked, sent_by}
+use Rattle.heard_links.specs.Hearing.{talk_in, item_of, IsAsked}
 use Rattle.heard_links.proofs.Places.{long_of, last_has}
 use Rattle.heard_links.proofs.Runs.{known, heard_few}
 use Rattle.heard_links.proofs.Sending.{on_of, sent_long, sent_entry}

@@ -1,4 +1,4 @@
-use Rattle.std.proofs.Common.{ℕ, ◌≡◌, ◌<◌, ◌≤◌, true, false, [], slice_index_or}
+use Rattle.std.proofs.Common.{ℕ, ◌≡◌, ◌<◌, ◌≤◌, false, [], slice_index_or}
 use Rattle.node_grid.specs.NodeSet.{has_id}
 use Rattle.heard_links.specs.Hearing.{IsHeard}
 use Rattle.heard_links.proofs.links.Links.hear.Given as goal

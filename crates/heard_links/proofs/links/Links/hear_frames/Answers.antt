@@ -1,13 +1,15 @@
-use Rattle.std.proofs.Common.{◌&&◌, Bool, ap₂, sym, subst}
+use Rattle.std.proofs.Common.{ℕ, ◌≡◌, ◌&&◌, Bool, List, [], ap, ap₂, sym, subst}
 use Rattle.std.specs.Prelude.{is_none}
+use Rattle.node_grid.specs.NodeSet.{has_id}
 use Rattle.heard_links.specs.Hearing.{IsCame, talk_in}
 use Rattle.heard_links.proofs.Tables.{not_touched}
 use Rattle.heard_links.proofs.links.Links.hear_frames.Goals as goal
 
-pub returns-else-not-is_even_to_all-clause-here : goal.returns-else-not-is_even_to_all-clause-here
-returns-else-not-is_even_to_all-clause-here g c = λ i on ne.
+pub returns-else-not-is_empty-clause-here : goal.returns-else-not-is_empty-clause-here
+returns-else-not-is_empty-clause-here g c = λ i on ne.
     let x = c.args.phase.now in
     let t = talk_in g.V.Item.form x c.args.self.now in
-    let even = c.is_even_to_all.ensures c.if-not-is_even_to_all.false i on ne in
+    let none : c.uneven-uneven.result ≡ [] = c.is_empty.ensures.0 c.if-not-is_empty.false in
+    let even = c.uneven-uneven.ensures.even i on ne (ap (λ (s : List ℕ). has_id s i) none) in
     subst (IsCame t x.config.now.m c.args.round c.args.from i) (sym (not_touched c.args.self.now c.args.round c.args.from i c.requires.fresh))
     (ap₂ (λ o (b : Bool). is_none o && b) even.whole even.read_alike)

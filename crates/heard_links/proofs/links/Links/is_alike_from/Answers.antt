@@ -1,4 +1,4 @@
-use Rattle.std.proofs.Common.{rules, ◌+◌, inl, inr, arith, lit<, sym, ◌∙◌}
+use Rattle.std.proofs.Common.{rules, inl, inr, arith, sym, ◌∙◌}
 use Rattle.heard_links.proofs.Saying.{even_is}
 use Rattle.heard_links.proofs.Sets.{few_m, node_low}
 use Rattle.heard_links.proofs.links.Links.is_alike_from.Goals as goal

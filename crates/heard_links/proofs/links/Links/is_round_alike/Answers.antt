@@ -1,4 +1,4 @@
-use Rattle.std.proofs.Common.{rules, ℕ, ◌≡◌, ◌≢◌, ◌⊎◌, true, List, sym, ap, ◌∙◌, inl, inr, arith, refl, lit<}
+use Rattle.std.proofs.Common.{ℕ, ◌≡◌, ◌≢◌, ◌⊎◌, true, List, ap, ◌∙◌, inl, inr}
 use Rattle.std.proofs.lemmas.Bool.{cases_Bool}
 use Rattle.node_grid.specs.NodeSet.{has_id}
 use Rattle.heard_links.specs.Talks.{members_at}

@@ -1,4 +1,4 @@
-use Rattle.std.proofs.Common.{ℕ, ◌≡◌, ◌-◌, ◌<◌, ◌≤◌, List, length, sym, ap, ◌∙◌, arith}
+use Rattle.std.proofs.Common.{ℕ, ◌-◌, ◌<◌, List, ap, ◌∙◌, arith}
 use Rattle.node_grid.specs.NodeSet.{has_id}
 use Rattle.omh.specs.Written.{last_node}
 use Rattle.heard_links.specs.Hearing.{talk_in, is_even}

@@ -1,4 +1,4 @@
-use Rattle.std.proofs.Common.{rules, ℕ, ◌≡◌, ◌<◌, ◌≤◌, false, not, sym, ap, subst, ◌∙◌, inl, inr, arith, lit<}
+use Rattle.std.proofs.Common.{rules, ℕ, ◌≡◌, false, not, sym, ap, subst, ◌∙◌, inl, inr, arith, lit<}
 use Rattle.std.specs.Prelude.{is_none}
 use Rattle.fault_classes.specs.Change.{change_of}
 use Rattle.heard_links.specs.Hearing.{ActsAs, talk_in, is_even}

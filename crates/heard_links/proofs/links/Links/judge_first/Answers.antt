@@ -1,10 +1,10 @@
-use Rattle.std.proofs.Common.{ℕ, ◌≡◌, ◌<◌, ◌≤◌, Some, refl, sym, ap, subst, ◌∙◌, arith, lit<}
+use Rattle.std.proofs.Common.{◌≡◌, Some, refl, sym, ap, subst, ◌∙◌, arith, lit<}
 use Rattle.frames.specs.Content.{Expectation}
 use Rattle.frames.specs.Seen.{expected}
 use Rattle.frames.specs.Spelling.{IsInRange}
 use Rattle.fault_classes.specs.Change.{change_of}
 use Rattle.protocol.specs.Talk.{arrives, rounds_upto}
-use Rattle.touched_items.specs.Items.{first_content, told_item, bad_kind}
+use Rattle.touched_items.specs.Items.{first_content, bad_kind}
 use Rattle.heard_links.specs.Hearing.{talk_in, item_of}
 use Rattle.heard_links.proofs.Runs.{item_range, first_told}
 use Rattle.heard_links.proofs.Sets.{few_m, acts_arrive}

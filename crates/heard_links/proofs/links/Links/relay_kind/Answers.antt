@@ -1,5 +1,4 @@
-use Rattle.std.proofs.Common.{ℕ, ◌≡◌, ◌<◌, ◌≤◌, true, false, Some, sym, ap, subst, ◌∙◌, arith, lit<}
-use Rattle.node_grid.specs.NodeSet.{has_id}
+use Rattle.std.proofs.Common.{◌≡◌, Some, sym, ap, subst, ◌∙◌, arith, lit<}
 use Rattle.frames.specs.Content.{Expectation, Cold}
 use Rattle.fault_classes.specs.Change.{change_of}
 use Rattle.protocol.specs.Talk.{arrives}

@@ -1,4 +1,4 @@
-use Rattle.std.proofs.Common.{rules, ℕ, ◌≡◌, ◌-◌, Bool, true, false, length, Some, None, sym, ap, ap₂, subst, ◌∙◌, inl, inr, arith, lit<, slice_index_or, not, ◌&&◌}
+use Rattle.std.proofs.Common.{rules, ℕ, ◌≡◌, ◌-◌, Bool, true, length, Some, None, sym, ap, ap₂, ◌∙◌, inl, inr, arith, lit<, slice_index_or, not, ◌&&◌}
 use Rattle.std.proofs.lemmas.Bool.{cases_Bool, cond-false}
 use Rattle.node_grid.specs.NodeSet.{has_id}
 use Rattle.omh.specs.Written.{last_node}
@@ -6,8 +6,7 @@ use Rattle.protocol.specs.Heard.{heard}
 use Rattle.protocol.specs.Talk.{rounds_upto}
 use Rattle.heard_links.specs.Talks.{members_at}
 use Rattle.heard_links.specs.declared.came.Came.TheVariants as came
-use Rattle.heard_links.specs.Hearing.{is_even, is_asked, talk_in, came_at}
-use Rattle.heard_links.specs.Passing.{says_of}
+use Rattle.heard_links.specs.Hearing.{is_even, is_asked, talk_in}
 use Rattle.heard_links.proofs.Places.{last_has}
 use Rattle.heard_links.proofs.Saying.{asked_is, even_is, said_none}
 use Rattle.heard_links.proofs.Sets.{in_use}

@@ -1,5 +1,5 @@
 use Rattle.std.proofs.Common.{refl, Bool, false, ℕ, ◌≡◌, ◌≢◌, ◌<◌, ◌==◌, ◌||◌, List, [], true, length, sym, ap, ◌∙◌, inl, inr, arith, eq-eqb, ne_eqb, get_or, set, get_or-set_same, get_or-set_other, ◌⊎◌}
-use Rattle.std.proofs.lemmas.Bool.{cases_eq, or_left, or_from}
+use Rattle.std.proofs.lemmas.Bool.{cases_eq, or_left}
 use Rattle.std.proofs.lemmas.List.{get_or_default}
 use Rattle.node_grid.specs.NodeSet.{has_id, with_id}
 use Rattle.node_grid.specs.NodeSetLaws.{has-with_id}

@@ -1,12 +1,10 @@
-use Rattle.std.proofs.Common.{ℕ, ◌≡◌, ◌≢◌, ◌<◌, ◌+◌, List, length, Option, Some, sym, ap, subst, ◌∙◌, inl, inr, arith, lit<, slice_index_or}
+use Rattle.std.proofs.Common.{ℕ, ◌≡◌, ◌<◌, ◌+◌, length, Option, Some, sym, ap, subst, ◌∙◌, inl, inr, arith, lit<, slice_index_or}
 use Rattle.omh_paths.specs.declared.wrapped.Wrapped.TheVariants.{Fault}
-use Rattle.omh_paths.specs.Paths.{place_in}
 use Rattle.frames.specs.Content.{Expectation}
 use Rattle.frames.specs.Seen.{expected}
 use Rattle.fault_classes.specs.Change.{Change, change_of}
 use Rattle.fault_classes.specs.Line.{effect_at}
 use Rattle.agreed_state.specs.Expecting.{expectation}
-use Rattle.protocol.specs.Heard.{paths_of}
 use Rattle.protocol.specs.Talk.{arrives}
 use Rattle.touched_items.specs.Items.{HasOwn}
 use Rattle.heard_links.specs.Talks.{members_at}

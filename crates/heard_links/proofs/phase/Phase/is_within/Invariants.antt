@@ -1,7 +1,6 @@
 use Rattle.std.proofs.Common.{◌≡◌, true, take}
 use Rattle.std.specs.List.{list_all}
 use Rattle.node_grid.specs.NodeSet.{has_id}
-use Rattle.heard_links.specs.Talks.{members_at}
 use Rattle.heard_links.proofs.phase.Phase.is_within.Given as goal
 
 abbrev pub invariant-loop-k : goal.invariant-loop-k

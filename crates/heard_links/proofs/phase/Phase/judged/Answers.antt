@@ -1,4 +1,4 @@
-use Rattle.std.proofs.Common.{ℕ, ◌≡◌, ◌≢◌, ◌<◌, ◌≤◌, ◌+◌, ◌==◌, ◌||◌, List, true, false, Option, None, Some, refl, sym, ap, subst, ◌∙◌, inl, inr, arith, ne_eqb, eqb-true}
+use Rattle.std.proofs.Common.{ℕ, ◌≡◌, ◌≢◌, ◌<◌, ◌≤◌, ◌+◌, ◌==◌, ◌||◌, List, true, false, Option, None, Some, refl, sym, ap, subst, ◌∙◌, inl, inr, arith, eqb-true}
 use Rattle.std.proofs.lemmas.Bool.{cases_lt, or_cases, both_ways}
 use Rattle.node_grid.specs.NodeSet.{has_id, ids_below}
 use Rattle.node_grid.specs.NodeSetLaws.{has-range, filter_every, hasnt-filter}

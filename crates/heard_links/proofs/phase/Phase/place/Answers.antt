@@ -1,4 +1,4 @@
-use Rattle.std.proofs.Common.{ℕ, ◌<◌, List, length, sym, ap, subst, ◌∙◌, arith, lit<}
+use Rattle.std.proofs.Common.{ℕ, ◌<◌, List, length, sym, ap, subst, ◌∙◌, lit<}
 use Rattle.node_grid.specs.NodeSet.{without_id}
 use Rattle.omh_paths.specs.Paths.{paths_of_length, path_count, place_in}
 use Rattle.heard_links.specs.Talks.{members_at}

@@ -1,17 +1,13 @@
-use Rattle.std.proofs.Common.{ℕ, ◌≡◌, ◌≢◌, ◌<◌, ◌≤◌, ◌+◌, ◌==◌, ◌||◌, Bool, List, true, false, sym, ap, ◌∙◌, inl, inr, arith, eq-eqb, eqb-true}
-use Rattle.std.proofs.lemmas.Bool.{cases_eq, cases_lt, or_cases, or_parts, both_ways}
+use Rattle.std.proofs.Common.{ℕ, ◌≡◌, ◌<◌, ◌≤◌, ◌+◌, ◌==◌, ◌||◌, List, true, false, sym, ap, ◌∙◌, inl, inr, arith, eqb-true}
+use Rattle.std.proofs.lemmas.Bool.{cases_eq, cases_lt, or_cases, both_ways}
 use Rattle.node_grid.specs.NodeSet.{has_id, with_id}
 use Rattle.node_grid.specs.NodeSetLaws.{has-with_id, hasnt-filter}
 use Rattle.fault_classes.specs.Plan.{is_clean}
+use Rattle.heard_links.proofs.Puts.{more_off}
 use Rattle.heard_links.proofs.phase.Phase.unclean.Goals as goal
 use Rattle.heard_links.proofs.phase.Phase.unclean.Goals.{then-not-clean, else-not-clean}
 
--- the set with one node more
-more_off : (n : ℕ) (old new : List ℕ) (j k : ℕ) → new ≡ with_id n old j → k < n → has_id new k ≡ false → (k ≢ j) × (has_id old k ≡ false)
-more_off n old new j k is low off =
-    let p = or_parts (k == j) (has_id old k) (sym (has-with_id n old j k low) ∙ ap (λ (s : List ℕ). has_id s k) (sym is) ∙ off) in
-    ((λ e. both_ways _ p.0 (eq-eqb k j e)), p.1)
-
+-- the set with one node more has nodes up to it
 more_used : (n : ℕ) (old new : List ℕ) (j k : ℕ) → new ≡ with_id n old j → ((q : ℕ) → has_id old q ≡ true → q < j) → k < n → has_id new k ≡ true → k < j + 1
 more_used n old new j k is used low on = elim (or_cases (k == j) (has_id old k) (sym (has-with_id n old j k low) ∙ ap (λ (s : List ℕ). has_id s k) (sym is) ∙ on)) [
   | inl here ↦ let e : k ≡ j = eqb-true k j here in omega arith
