@@ -36,9 +36,7 @@ struct Place {
 fn others(node: u8) -> NodeSet<8>
     requires { node < 8 }
 {
-    let mut set = NodeSet::full(NODES);
-    set.cut(node);
-    set
+    NodeSet::full(NODES).without(node)
 }
 
 /// One of several effects.
