@@ -24,37 +24,43 @@ from typing import Any
 TOP = pathlib.Path(__file__).resolve().parent.parent
 LONG = (TOP / "tests/cases/long_run/stdin").read_text()
 RUNS = 5
-WEIGHTS = "[5,5,5,5,5,5,5,5,5,5,5,5,5,5,5,5]"
 
 
-def many(liars: bool) -> str:
-    """1,024 periods of 8 nodes with two relay rounds, with the channels and tasks of the long run."""
-    head, tail = LONG.split('"faults":[')
-    faults = []
-    if liars:
-        for k in range(256):
-            node = 6 + k % 2
-            faults.append('{"from":%d,"to":[0,2,4],"periods":[%d,%d],"slots":[5],"effect":{"set":{"at":15,"hex":"01"}}}' % (node, 4 * k, 4 * k + 1))
-    return head.replace('"periods":64', '"periods":1024') + '"faults":[%s]}' % ",".join(faults)
+def fault(sender: int, to: list[int] | str, periods: tuple[int, int], slots: list[int] | str, effect: Any) -> dict[str, Any]:
+    """A fault line."""
+    return {"from": sender, "to": to, "periods": list(periods), "slots": slots, "effect": effect}
 
 
 def long_run(periods: int, faults: list[dict[str, Any]]) -> str:
-    """The long run's cluster of 8 nodes over so many periods, with these faults and no restart."""
-    given = json.loads(LONG)
-    return json.dumps({**given, "periods": periods, "faults": faults, "restarts": []})
+    """The long run's cluster of 8 nodes with two relay rounds, channels and tasks, over so many periods, with these faults."""
+    return json.dumps({**json.loads(LONG), "periods": periods, "faults": faults, "restarts": []})
 
 
-def fault(sender: int, to: list[int], periods: tuple[int, int], slot: int, effect: Any) -> dict[str, Any]:
-    """A fault line of one slot."""
-    return {"from": sender, "to": to, "periods": list(periods), "slots": [slot], "effect": effect}
+def wide(periods: int, faults: list[dict[str, Any]], restarts: list[dict[str, int]]) -> str:
+    """16 nodes with three relay rounds over so many periods, with these faults and restarts."""
+    policy = {"weights": [5] * 16, "exclude": 60000, "readmit": 4, "credit": 1, "streak": 2, "cap": 60000}
+    return json.dumps({"version": 2, "nodes": 16, "m": 3, "periods": periods, "policy": policy, "faults": faults, "restarts": restarts})
+
+
+def two_liars() -> str:
+    """1,024 periods of 8 nodes, of which two lie in a relayed row in half of the periods."""
+    lie = {"set": {"at": 15, "hex": "01"}}
+    return long_run(1024, [fault(6 + k % 2, [0, 2, 4], (4 * k, 4 * k + 1), [5], lie) for k in range(256)])
+
+
+def five_odd() -> str:
+    """16 periods of 16 nodes with three relay rounds, of which three lie, one is silent and one says a frame twice."""
+    lie = {"set": {"at": 14, "hex": "0002"}}
+    liars = [fault(node, [0, 1, 2], (0, 15), [6], lie) for node in (12, 13, 14)]
+    return wide(16, [*liars, fault(15, "all", (0, 15), "all", "drop"), fault(11, "all", (0, 15), [7], "twice")], [])
 
 
 def three_liars() -> str:
     """1,024 periods of 8 nodes, of which three lie throughout: in a row, a claim and what is relayed."""
     return long_run(1024, [
-        fault(7, [0, 1, 2], (4, 1010), 5, {"set": {"at": 15, "hex": "01"}}),
-        fault(6, [0, 1, 2, 3], (8, 1000), 6, {"set": {"at": 14, "hex": "0007"}}),
-        fault(5, [1, 3], (8, 1000), 7, "drop"),
+        fault(7, [0, 1, 2], (4, 1010), [5], {"set": {"at": 15, "hex": "01"}}),
+        fault(6, [0, 1, 2, 3], (8, 1000), [6], {"set": {"at": 14, "hex": "0007"}}),
+        fault(5, [1, 3], (8, 1000), [7], "drop"),
     ])
 
 
@@ -65,48 +71,34 @@ def random_bytes() -> str:
     for period in range(256):
         for sender, slot in ((7, 6), (6, 7)):
             length = draw.choice((98, 728))
-            to = draw.sample(range(6), 3)
-            faults.append(fault(sender, sorted(to), (period, period), slot, {"raw": draw.randbytes(length).hex()}))
+            to = sorted(draw.sample(range(6), 3))
+            faults.append(fault(sender, to, (period, period), [slot], {"raw": draw.randbytes(length).hex()}))
     return long_run(256, faults)
 
 
 def many_lines() -> str:
     """1,024 periods of 8 nodes with 4,096 lines: in each period four nodes tell one other something else of one slot."""
     lie = {"set": {"at": 15, "hex": "01"}}
-    return long_run(1024, [fault(4 + k, [(period + k) % 4], (period, period), 5, lie) for period in range(1024) for k in range(4)])
+    return long_run(1024, [fault(4 + k, [(period + k) % 4], (period, period), [5], lie) for period in range(1024) for k in range(4)])
 
 
 def restarting() -> str:
     """32 periods of 16 nodes with three relay rounds, of which thirteen restart in every other period."""
-    given = json.loads(wide(False))
-    restarts = [{"node": node, "period": period} for period in range(1, 32, 2) for node in range(13)]
-    return json.dumps({**given, "periods": 32, "restarts": restarts})
-
-
-def wide(liars: bool) -> str:
-    """16 periods of 16 nodes with three relay rounds."""
-    faults = []
-    if liars:
-        for node in (12, 13, 14):
-            faults.append('{"from":%d,"to":[0,1,2],"periods":[0,15],"slots":[6],"effect":{"set":{"at":14,"hex":"0002"}}}' % node)
-        faults.append('{"from":15,"to":"all","periods":[0,15],"slots":"all","effect":"drop"}')
-        faults.append('{"from":11,"to":"all","periods":[0,15],"slots":[7],"effect":"twice"}')
-    return ('{"version":2,"nodes":16,"m":3,"periods":16,"policy":{"weights":%s,"exclude":60000,"readmit":4,"credit":1,"streak":2,"cap":60000},"faults":[%s]}'
-            % (WEIGHTS, ",".join(faults)))
+    return wide(32, [], [{"node": node, "period": period} for period in range(1, 32, 2) for node in range(13)])
 
 
 WORKLOADS = [
     ("a: storm 7", ["storm", "7"], ""),
     ("b: 64 periods of 8 nodes, tasks and channels", ["replay"], LONG),
     ("c: the same traced", ["replay", "trace"], LONG),
-    ("d: 1,024 periods of 8 nodes", ["replay"], many(False)),
-    ("e: the same with liars", ["replay"], many(True)),
-    ("f: 16 periods of 16 nodes, m = 3", ["replay"], wide(False)),
-    ("g: the same with five lying or silent nodes", ["replay"], wide(True)),
-    ("h: the same traced", ["replay", "trace"], wide(True)),
+    ("d: 1,024 periods of 8 nodes", ["replay"], long_run(1024, [])),
+    ("e: the same with liars", ["replay"], two_liars()),
+    ("f: 16 periods of 16 nodes, m = 3", ["replay"], wide(16, [], [])),
+    ("g: the same with five lying or silent nodes", ["replay"], five_odd()),
+    ("h: the same traced", ["replay", "trace"], five_odd()),
     ("i: 1,024 periods of 8 nodes, three liars throughout", ["replay"], three_liars()),
     ("j: 256 periods of 8 nodes, two frames of random bytes in each", ["replay"], random_bytes()),
-    ("k: 1,024 periods of 16 nodes, m = 3", ["replay"], wide(False).replace('"periods":16', '"periods":1024')),
+    ("k: 1,024 periods of 16 nodes, m = 3", ["replay"], wide(1024, [], [])),
     ("l: 1,024 periods of 8 nodes, 4,096 fault lines", ["replay"], many_lines()),
     ("m: 32 periods of 16 nodes, m = 3, thirteen restart in every other one", ["check"], restarting()),
 ]
