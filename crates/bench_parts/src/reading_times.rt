@@ -3,8 +3,9 @@
 //! A process times one reading, since the program reads one scenario, in memory that it uses for the first time. As in the
 //! program, the memory of the JSON value is left until the process ends.
 
+use json::Scratch;
+use json_parts::value_of;
 use scenario::{Scenario, ScenarioError};
-use serde_json::Value;
 use span_io::{StdSource, read_all};
 use std::alloc::Global;
 use std::io;
@@ -16,8 +17,9 @@ const LIMIT: usize = 4_194_304;
 
 /// Times the reading of the JSON.
 fn time_json(rt: &HostRuntime, bytes: &[u8]) -> io::Result<()> {
+    let mut scratch = Scratch::new(rt.alloc());
     let start = Instant::now(rt)?;
-    let value = Value::from_slice(rt.alloc(), bytes);
+    let value = value_of(rt.alloc(), bytes, &mut scratch);
     let took = start.elapsed(rt)?.as_micros();
     let read = value.is_ok();
     forget(value);
@@ -30,7 +32,8 @@ fn time_json(rt: &HostRuntime, bytes: &[u8]) -> io::Result<()> {
 
 /// The scenario in the bytes, read as the program does.
 fn scenario_of(alloc: Global, bytes: &[u8]) -> Result<Scenario<16>, ScenarioError> {
-    let Ok(value) = Value::from_slice(alloc, bytes) else {
+    let mut scratch = Scratch::new(alloc);
+    let Ok(value) = value_of(alloc, bytes, &mut scratch) else {
         return Err(ScenarioError::Unreadable);
     };
     let scenario = scenario_reading::from_value(alloc, &value);

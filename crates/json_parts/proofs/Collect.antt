@@ -3,8 +3,10 @@ use Rattle.std.proofs.Common.{◌≡◌, ℕ, ◌+◌, suc, ◌<◌, List, [], �
 use Rattle.std.specs.Prelude.{option_map, option_and_then}
 use Rattle.std.proofs.Math.Seq.{drop-cons}
 use Rattle.serde_json.specs.Data.{Data}
-use Rattle.serde_json.specs.View.{items_view, view}
-use Rattle.serde_json.specs.declared.value.Value.{Value}
+use Rattle.std.specs.declared.alloc.Global.{Global}
+use Rattle.json.specs.Value.{items_view}
+use Rattle.json.specs.declared.value.Value.{Value}
+use Rattle.json_parts.specs.Meaning.{view, items_data}
 use Rattle.json_parts.specs.Reading.{each}
 
 -- found, and then those of the rest
@@ -20,12 +22,12 @@ one found x None = refl
 one found x (Some ys) = ap Some (append_assoc found (x ∷ []) ys)
 
 -- the next item was read
-pub each-some : {X : Type 0} (f : Data → Option X) (vs : List Value) (v : Value) (found : List X) (x : X) → f (view v) ≡ Some x → after found (each f (items_view (v ∷ vs))) ≡ after (found ++ x ∷ []) (each f (items_view vs))
-each-some f vs v found x e = ap (λ o. after found (option_and_then (λ y. option_map (λ ys. y ∷ ys) (each f (items_view vs))) o)) e ∙ sym (one found x (each f (items_view vs)))
+pub each-some : {X : Type 0} (f : Data → Option X) (vs : List (Value Global)) (v : Value Global) (found : List X) (x : X) → f (view v) ≡ Some x → after found (each f (items_data (items_view (v ∷ vs)))) ≡ after (found ++ x ∷ []) (each f (items_data (items_view vs)))
+each-some f vs v found x e = ap (λ o. after found (option_and_then (λ y. option_map (λ ys. y ∷ ys) (each f (items_data (items_view vs)))) o)) e ∙ sym (one found x (each f (items_data (items_view vs))))
 
 -- the next item gives nothing
-pub each-none : {X : Type 0} (f : Data → Option X) (vs : List Value) (v : Value) (found : List X) → f (view v) ≡ None → after found (each f (items_view (v ∷ vs))) ≡ None
-each-none f vs v found e = ap (λ o. after found (option_and_then (λ y. option_map (λ ys. y ∷ ys) (each f (items_view vs))) o)) e
+pub each-none : {X : Type 0} (f : Data → Option X) (vs : List (Value Global)) (v : Value Global) (found : List X) → f (view v) ≡ None → after found (each f (items_data (items_view (v ∷ vs)))) ≡ None
+each-none f vs v found e = ap (λ o. after found (option_and_then (λ y. option_map (λ ys. y ∷ ys) (each f (items_data (items_view vs)))) o)) e
 
 -- what is left begins with the element at i
 pub drop-here : {X : Type 0} (xs : List X) (i : ℕ) (x : X) → i < length xs → x ≡ get_or xs i x → drop i xs ≡ x ∷ drop (i + 1) xs

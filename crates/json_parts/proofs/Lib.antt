@@ -1,2 +1,3 @@
 pub mod Collect
-pub mod Members
+pub mod Meaning
+pub mod Trees

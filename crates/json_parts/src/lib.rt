@@ -4,9 +4,14 @@
 mod error;
 mod forms;
 mod keys;
+mod numerals;
 mod reading;
+mod texts;
+mod values;
 
 pub use error::PartError;
 pub use forms::{Number, Numbers, Text, number_or};
 pub use keys::has_keys;
 pub use reading::{Form, list, lone, optional, optional_list, required, required_list};
+pub use texts::{TextError, value_of};
+pub use values::{is_object, items, member, text, whole};

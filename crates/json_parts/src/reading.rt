@@ -1,17 +1,18 @@
 //! Parts by their form.
 ghost use Rattle.std.specs.Prelude.{◌≡◌, IfOk, Option, Some, None, [], map, option_map};
 ghost use Rattle.serde_json.specs.Data.{Data};
-ghost use Rattle.serde_json.specs.View.{view};
+ghost use Rattle.json_parts.specs.Meaning.{view};
 ghost use Rattle.json_parts.specs.Reading.{list_of, required, optional, lone};
 ghost use Rattle.json_parts.specs.Part.{Gives};
 
 use crate::error::PartError;
 use crate::keys::has_keys;
-use serde_json::Value;
+use crate::values::{items, member};
+use json::Value;
 use std::alloc::{AllocError, Global};
 
 /// A form of parts: how they are read from a value.
-pub trait Form<'v> {
+pub trait Form<'a> {
     /// What is read.
     type Part: Drop;
 
@@ -26,7 +27,7 @@ pub trait Form<'v> {
     ///
     /// # Errors
     /// `NoPart` exactly where it is none; `NoMemory`.
-    fn read(&self, alloc: Global, value: &'v Value) -> Result<Self::Part, PartError>
+    fn read(&self, alloc: Global, value: &Value<'a>) -> Result<Self::Part, PartError>
         ensures { Gives seen (reads self.now (view value.now)) result };
 }
 
@@ -34,14 +35,14 @@ pub trait Form<'v> {
 ///
 /// # Errors
 /// `NoPart` exactly where the value is no list, or an item is no such part; `NoMemory`.
-pub fn list<'v, F: Form<'v>>(
+pub fn list<'a, F: Form<'a>>(
     alloc: Global,
     form: &F,
-    value: &'v Value,
+    value: &Value<'a>,
 ) -> Result<Vec<F::Part>, PartError>
     ensures { Gives (λ v. map F.seen v.items) (list_of (F.reads form.now) (view value.now)) result }
 {
-    let items = value.as_array().ok_or(PartError::NoPart)?;
+    let items = items(value).ok_or(PartError::NoPart)?;
     let mut found = Vec::with_capacity(alloc, items.len())?;
     for item in items {
         let Ok(()) = found.push(form.read(alloc, item)?) else {
@@ -55,45 +56,45 @@ pub fn list<'v, F: Form<'v>>(
 ///
 /// # Errors
 /// `NoPart` exactly where the key is missing, or its value is no such part; `NoMemory`.
-pub fn required<'v, F: Form<'v>>(
+pub fn required<'a, F: Form<'a>>(
     alloc: Global,
     form: &F,
-    value: &'v Value,
+    value: &Value<'a>,
     key: &str,
 ) -> Result<F::Part, PartError>
     ensures { Gives F.seen (required key.now (F.reads form.now) (view value.now)) result }
 {
-    form.read(alloc, value.get(key).ok_or(PartError::NoPart)?)
+    form.read(alloc, member(value, key).ok_or(PartError::NoPart)?)
 }
 
 /// The parts of the list at a key that must be there.
 ///
 /// # Errors
 /// `NoPart` exactly where the key is missing, or its value is no list of such parts; `NoMemory`.
-pub fn required_list<'v, F: Form<'v>>(
+pub fn required_list<'a, F: Form<'a>>(
     alloc: Global,
     form: &F,
-    value: &'v Value,
+    value: &Value<'a>,
     key: &str,
 ) -> Result<Vec<F::Part>, PartError>
     ensures { Gives (λ v. map F.seen v.items) (required key.now (list_of (F.reads form.now)) (view value.now)) result }
 {
-    list(alloc, form, value.get(key).ok_or(PartError::NoPart)?)
+    list(alloc, form, member(value, key).ok_or(PartError::NoPart)?)
 }
 
 /// The part at a key that may be missing.
 ///
 /// # Errors
 /// `NoPart` exactly where the key is there and its value is no such part; `NoMemory`.
-pub fn optional<'v, F: Form<'v>>(
+pub fn optional<'a, F: Form<'a>>(
     alloc: Global,
     form: &F,
-    value: &'v Value,
+    value: &Value<'a>,
     key: &str,
 ) -> Result<Option<F::Part>, PartError>
     ensures { Gives (option_map F.seen) (optional key.now None (λ d. option_map Some (F.reads form.now d)) (view value.now)) result }
 {
-    match value.get(key) {
+    match member(value, key) {
         None => Ok(None),
         Some(found) => Ok(Some(form.read(alloc, found)?)),
     }
@@ -103,15 +104,15 @@ pub fn optional<'v, F: Form<'v>>(
 ///
 /// # Errors
 /// `NoPart` exactly where the key is there and its value is no list of such parts; `NoMemory`.
-pub fn optional_list<'v, F: Form<'v>>(
+pub fn optional_list<'a, F: Form<'a>>(
     alloc: Global,
     form: &F,
-    value: &'v Value,
+    value: &Value<'a>,
     key: &str,
 ) -> Result<Vec<F::Part>, PartError>
     ensures { Gives (λ v. map F.seen v.items) (optional key.now [] (list_of (F.reads form.now)) (view value.now)) result }
 {
-    match value.get(key) {
+    match member(value, key) {
         None => Ok(Vec::new(alloc)),
         Some(found) => list(alloc, form, found),
     }
@@ -121,10 +122,10 @@ pub fn optional_list<'v, F: Form<'v>>(
 ///
 /// # Errors
 /// Where there is no memory.
-pub fn lone<'v, F: Form<'v>>(
+pub fn lone<'a, F: Form<'a>>(
     alloc: Global,
     form: &F,
-    value: &'v Value,
+    value: &Value<'a>,
     key: &str,
 ) -> Result<Option<F::Part>, AllocError>
     ensures { IfOk result (λ o. option_map F.seen o ≡ lone key.now (F.reads form.now) (view value.now)) }

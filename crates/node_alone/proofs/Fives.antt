@@ -1,10 +1,12 @@
 -- Lists of five values, and others, which are no entries.
 use Rattle.std.proofs.Common.{◌≡◌, List, [], ◌∷◌, length, get_or, None, refl, ap, ◌∙◌, arith}
-use Rattle.serde_json.specs.View.{view, items_view}
-use Rattle.serde_json.specs.declared.value.Value.{Value}
+use Rattle.std.specs.declared.alloc.Global.{Global}
+use Rattle.json.specs.Value.{items_view}
+use Rattle.json.specs.declared.value.Value.{Value}
+use Rattle.json_parts.specs.Meaning.{view, items_data}
 use Rattle.node_alone.specs.Parts.{entry_of_items, entry_in}
 
-pub not_five : (vs : List Value) → (length vs ≡ 5 → ⊥) → entry_in (items_view vs) ≡ None
+pub not_five : (vs : List (Value Global)) → (length vs ≡ 5 → ⊥) → entry_in (items_data (items_view vs)) ≡ None
 not_five [] h = refl
 not_five (a ∷ []) h = refl
 not_five (a ∷ b ∷ []) h = refl
@@ -13,8 +15,8 @@ not_five (a ∷ b ∷ c ∷ d ∷ []) h = refl
 not_five (a ∷ b ∷ c ∷ d ∷ e ∷ []) h = absurd (h refl)
 not_five (a ∷ b ∷ c ∷ d ∷ e ∷ f ∷ vs) h = refl
 
-pub five : (vs : List Value) (a b c d e : Value) → length vs ≡ 5 → a ≡ get_or vs 0 a → b ≡ get_or vs 1 b → c ≡ get_or vs 2 c → d ≡ get_or vs 3 d → e ≡ get_or vs 4 e
-    → entry_of_items (view a) (view b) (view c) (view d) (view e) ≡ entry_in (items_view vs)
+pub five : (vs : List (Value Global)) (a b c d e : Value Global) → length vs ≡ 5 → a ≡ get_or vs 0 a → b ≡ get_or vs 1 b → c ≡ get_or vs 2 c → d ≡ get_or vs 3 d → e ≡ get_or vs 4 e
+    → entry_of_items (view a) (view b) (view c) (view d) (view e) ≡ entry_in (items_data (items_view vs))
 five [] a b c d e l p q r s t = absurd (omega (arith, l))
 five (v ∷ []) a b c d e l p q r s t = absurd (omega (arith, l))
 five (v ∷ w ∷ []) a b c d e l p q r s t = absurd (omega (arith, l))

@@ -1,7 +1,7 @@
 -- What the code reads and keeps, seen as in the definitions.
 use Rattle.std.specs.Prelude.{◌≡◌, ◌<◌, ◌≢◌, ◌+◌, ◌*◌, ℕ, false, All, List, map}
 use Rattle.std.specs.List.{AllPairs}
-use Rattle.serde_json.specs.View.{view}
+use Rattle.json_parts.specs.Meaning.{view}
 use Rattle.scenario.specs.Scenario.{IsScenario}
 use Rattle.node_alone.specs.Log.{Entry, RecordView, is_before}
 use Rattle.node_alone.specs.Parts.{EntryParts, RecordParts}

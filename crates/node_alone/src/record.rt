@@ -3,7 +3,7 @@
 ghost use Rattle.std.specs.Prelude.{◌≡◌, ◌<◌, ◌+◌, ◌*◌, ℕ, Some, IfOk, IfErr, IsErrOf};
 ghost use Rattle.node_grid.specs.Capacity.{IsCapacity};
 ghost use Rattle.serde_json.specs.Data.{Data};
-ghost use Rattle.serde_json.specs.View.{view};
+ghost use Rattle.json_parts.specs.Meaning.{view};
 ghost use Rattle.json_parts.specs.Reading.{Reads};
 ghost use Rattle.scenario.specs.Verdict.{Tells};
 ghost use Rattle.node_alone.specs.Rules.{limits_of, record_refusal, IsAcceptedRecord};
@@ -13,9 +13,9 @@ use crate::judging::{Limits, entries};
 use crate::reading::parts;
 use crate::table::Table;
 use agreed_state::Config;
-use json_parts::PartError;
+use json::{Scratch, Value};
+use json_parts::{PartError, TextError, value_of};
 use scenario::{Scenario, ScenarioError};
-use serde_json::{Category, Value};
 use slot_plan::slot_count;
 use std::alloc::Global;
 use std::marker::Model;
@@ -68,14 +68,12 @@ impl<const N: usize> Record<N> {
         ensures refused { (rule place : ℕ) → IsErrOf result (ScenarioError.Refused rule place) →
             (d : Data) × Reads bytes.now d × (record_refusal N id d ≡ Some (rule, place)) }
     {
-        let value = match Value::from_slice(alloc, bytes) {
-            Ok(value) => value,
-            Err(error) if error.classify() == Category::Memory => {
-                return Err(ScenarioError::NoMemory);
-            }
-            Err(_) => return Err(ScenarioError::Unreadable),
-        };
-        Record::from_value(alloc, &value, id)
+        let mut scratch = Scratch::new(alloc);
+        match value_of(alloc, bytes, &mut scratch) {
+            Ok(value) => Record::from_value(alloc, &value, id),
+            Err(TextError::Unreadable) => Err(ScenarioError::Unreadable),
+            Err(TextError::NoMemory) => Err(ScenarioError::NoMemory),
+        }
     }
 
     /// The log of node `id` that a JSON value describes.
@@ -83,7 +81,7 @@ impl<const N: usize> Record<N> {
     /// # Errors
     /// - `Refused` comes exactly where a rule fails, with the first that does and its first place.
     /// - `NoMemory` may come at any time.
-    fn from_value(alloc: Global, value: &Value, id: u8) -> Result<Record<N>, ScenarioError>
+    fn from_value(alloc: Global, value: &Value<'_>, id: u8) -> Result<Record<N>, ScenarioError>
         requires { IsCapacity N }
         ensures accepted { IfOk result (λ r. IsAcceptedRecord id (view value.now) r) }
         ensures refused { IfErr result (Tells (record_refusal N id (view value.now))) }

@@ -1,3 +1,4 @@
+pub use Rattle.json_parts.specs.Meaning
 pub use Rattle.json_parts.specs.Reading
 pub mod Keys
 pub mod Sizes

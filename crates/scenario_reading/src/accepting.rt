@@ -2,33 +2,17 @@
 ghost use Rattle.std.specs.Prelude.{◌≡◌, ℕ, Some, IfOk, IfErr, IsErrOf};
 ghost use Rattle.node_grid.specs.Capacity.{IsCapacity};
 ghost use Rattle.serde_json.specs.Data.{Data};
-ghost use Rattle.serde_json.specs.View.{view};
+ghost use Rattle.json_parts.specs.Meaning.{view};
 ghost use Rattle.json_parts.specs.Reading.{Reads};
 ghost use Rattle.scenario.specs.Scenario.{IsScenario};
 ghost use Rattle.scenario.specs.Verdict.{Tells};
 ghost use Rattle.scenario_reading.specs.Verdict.{IsAcceptedValue, value_refusal};
 
 use crate::parts::parts;
-use json_parts::PartError;
+use json::{Scratch, Value};
+use json_parts::{PartError, TextError, value_of};
 use scenario::{Scenario, ScenarioError};
-use serde_json::{Category, Value};
 use std::alloc::Global;
-
-/// The value that JSON text has.
-///
-/// # Errors
-/// `Unreadable` exactly where the bytes are no JSON text; `NoMemory`.
-fn value_of(alloc: Global, bytes: &[u8]) -> Result<Value, ScenarioError>
-    ensures value { IfOk result (λ v. Reads bytes.now (view v)) }
-    ensures unreadable { IsErrOf result ScenarioError.Unreadable → (d : Data) → Reads bytes.now d → ⊥ }
-    ensures unrefused { (rule place : ℕ) → IsErrOf result (ScenarioError.Refused rule place) → ⊥ }
-{
-    match Value::from_slice(alloc, bytes) {
-        Ok(value) => Ok(value),
-        Err(error) if error.classify() == Category::Memory => Err(ScenarioError::NoMemory),
-        Err(_) => Err(ScenarioError::Unreadable),
-    }
-}
 
 /// The scenario that JSON text describes, in types laid out for 8 or 16 nodes.
 ///
@@ -45,8 +29,12 @@ pub fn read<const N: usize>(alloc: Global, bytes: &[u8]) -> Result<Scenario<N>, 
     ensures refused { (rule place : ℕ) → IsErrOf result (ScenarioError.Refused rule place) →
         (d : Data) × Reads bytes.now d × (value_refusal N d ≡ Some (rule, place)) }
 {
-    let value = value_of(alloc, bytes)?;
-    from_value(alloc, &value)
+    let mut scratch = Scratch::new(alloc);
+    match value_of(alloc, bytes, &mut scratch) {
+        Ok(value) => from_value(alloc, &value),
+        Err(TextError::Unreadable) => Err(ScenarioError::Unreadable),
+        Err(TextError::NoMemory) => Err(ScenarioError::NoMemory),
+    }
 }
 
 /// The scenario that a JSON value describes, in types laid out for 8 or 16 nodes.
@@ -56,7 +44,7 @@ pub fn read<const N: usize>(alloc: Global, bytes: &[u8]) -> Result<Scenario<N>, 
 /// - `NoMemory` may come at any time.
 pub fn from_value<const N: usize>(
     alloc: Global,
-    value: &Value,
+    value: &Value<'_>,
 ) -> Result<Scenario<N>, ScenarioError>
     requires { IsCapacity N }
     ensures accepted { IfOk result (λ s. IsAcceptedValue (view value.now) s) }

@@ -4,7 +4,7 @@
 //! where there is none.
 ghost use Rattle.std.specs.Prelude.{◌≡◌, not, None, pos, map, option_map};
 ghost use Rattle.std.specs.Ordering.{int_eq};
-ghost use Rattle.serde_json.specs.View.{view};
+ghost use Rattle.json_parts.specs.Meaning.{view};
 ghost use Rattle.json_parts.specs.Part.{Gives};
 ghost use Rattle.scenario.specs.Parts.{Numbers as NumbersAre, EffectParts, FaultParts, RestartParts, PolicyParts, ChannelParts, TaskParts, LieParts, ClockParts};
 ghost use Rattle.json_parts.specs.Reading.{object_of, has_keys};
@@ -12,15 +12,15 @@ ghost use Rattle.scenario_reading.specs.Keys.{policy_names, policy_fields, polic
 ghost use Rattle.scenario.specs.Seen.{numbers_view, effect_view, fault_view, restart_view, policy_view, channel_view, task_view, lie_view, clock_view, parts_view};
 ghost use Rattle.scenario_reading.specs.Sizes.{sizes_view};
 
+use json::Value;
 use json_parts::{
-    Form, Number, Numbers, PartError, Text, has_keys, lone, number_or, optional, optional_list,
-    required, required_list,
+    Form, Number, Numbers, PartError, Text, has_keys, lone, member, number_or, optional,
+    optional_list, required, required_list, text,
 };
 use scenario::{
     ChannelPart, ClockPart, EffectPart, FaultPart, LiePart, NumbersPart, Parts, PolicyPart,
     RestartPart, TaskPart,
 };
-use serde_json::Value;
 use std::alloc::Global;
 
 /// Whether the keys and texts of version 2 are known.
@@ -33,7 +33,7 @@ fn knows_more(version: i64) -> bool
 /// The text `"all"` or a list of numbers.
 struct AllOrNumbers;
 
-impl<'v> Form<'v> for AllOrNumbers {
+impl<'a> Form<'a> for AllOrNumbers {
     type Part = NumbersPart;
 
     ghost Meaning = { NumbersAre };
@@ -42,8 +42,8 @@ impl<'v> Form<'v> for AllOrNumbers {
 
     ghost reads = { λ _ d. numbers_at d };
 
-    fn read(&self, alloc: Global, value: &'v Value) -> Result<NumbersPart, PartError> {
-        match value.as_str() {
+    fn read(&self, alloc: Global, value: &Value<'a>) -> Result<NumbersPart, PartError> {
+        match text(value) {
             Some("all") => Ok(NumbersPart::All),
             Some(_) => Err(PartError::NoPart),
             None => Ok(NumbersPart::These(Numbers.read(alloc, value)?)),
@@ -53,7 +53,7 @@ impl<'v> Form<'v> for AllOrNumbers {
 
 // ---- the policy
 
-fn has_policy_names(value: &Value, version: i64) -> bool
+fn has_policy_names(value: &Value<'_>, version: i64) -> bool
     ensures { result ≡ has_keys (policy_names version) (view value.now) }
 {
     let names = [
@@ -66,7 +66,7 @@ fn has_policy_names(value: &Value, version: i64) -> bool
     }
 }
 
-fn policy_of_fields(alloc: Global, value: &Value) -> Result<PolicyPart, PartError>
+fn policy_of_fields(alloc: Global, value: &Value<'_>) -> Result<PolicyPart, PartError>
     ensures { Gives policy_view (policy_fields (view value.now)) result }
 {
     Ok(PolicyPart {
@@ -86,7 +86,7 @@ struct PolicyForm {
     version: i64,
 }
 
-impl<'v> Form<'v> for PolicyForm {
+impl<'a> Form<'a> for PolicyForm {
     type Part = PolicyPart;
 
     ghost Meaning = { PolicyParts };
@@ -95,7 +95,7 @@ impl<'v> Form<'v> for PolicyForm {
 
     ghost reads = { λ form d. policy_at form.version d };
 
-    fn read(&self, alloc: Global, value: &'v Value) -> Result<PolicyPart, PartError> {
+    fn read(&self, alloc: Global, value: &Value<'a>) -> Result<PolicyPart, PartError> {
         if has_policy_names(value, self.version) {
             policy_of_fields(alloc, value)
         } else {
@@ -105,7 +105,7 @@ impl<'v> Form<'v> for PolicyForm {
 }
 
 #[tactic(auto, unfolding(crate::specs::Keys::policy_in))]
-fn policy(alloc: Global, value: &Value, version: i64) -> Result<PolicyPart, PartError>
+fn policy(alloc: Global, value: &Value<'_>, version: i64) -> Result<PolicyPart, PartError>
     ensures { Gives policy_view (policy_in version (view value.now)) result }
 {
     required(alloc, &PolicyForm { version }, value, "policy")
@@ -113,7 +113,7 @@ fn policy(alloc: Global, value: &Value, version: i64) -> Result<PolicyPart, Part
 
 // ---- channels
 
-fn state(alloc: Global, value: &Value) -> Result<ChannelPart, PartError>
+fn state(alloc: Global, value: &Value<'_>) -> Result<ChannelPart, PartError>
     ensures { Gives channel_view (object_of state_names state_fields (view value.now)) result }
 {
     if !has_keys(value, &["kind", "delta", "start", "step"]) {
@@ -126,7 +126,7 @@ fn state(alloc: Global, value: &Value) -> Result<ChannelPart, PartError>
     })
 }
 
-fn sensor(alloc: Global, value: &Value) -> Result<ChannelPart, PartError>
+fn sensor(alloc: Global, value: &Value<'_>) -> Result<ChannelPart, PartError>
     ensures { Gives channel_view (object_of sensor_names sensor_fields (view value.now)) result }
 {
     if !has_keys(value, &["kind", "delta", "readings", "task"]) {
@@ -139,7 +139,7 @@ fn sensor(alloc: Global, value: &Value) -> Result<ChannelPart, PartError>
     })
 }
 
-fn copy(alloc: Global, value: &Value) -> Result<ChannelPart, PartError>
+fn copy(alloc: Global, value: &Value<'_>) -> Result<ChannelPart, PartError>
     ensures { Gives channel_view (object_of copy_names copy_fields (view value.now)) result }
 {
     if !has_keys(value, &["kind", "delta", "task", "lies", "readings"]) {
@@ -159,7 +159,7 @@ struct ChannelForm {
     version: i64,
 }
 
-impl<'v> Form<'v> for ChannelForm {
+impl<'a> Form<'a> for ChannelForm {
     type Part = ChannelPart;
 
     ghost Meaning = { ChannelParts };
@@ -168,9 +168,9 @@ impl<'v> Form<'v> for ChannelForm {
 
     ghost reads = { λ form d. channel_at form.version d };
 
-    fn read(&self, alloc: Global, value: &'v Value) -> Result<ChannelPart, PartError> {
-        let kind = value.get("kind").ok_or(PartError::NoPart)?;
-        match kind.as_str() {
+    fn read(&self, alloc: Global, value: &Value<'a>) -> Result<ChannelPart, PartError> {
+        let kind = member(value, "kind").ok_or(PartError::NoPart)?;
+        match text(kind) {
             Some("state") => state(alloc, value),
             Some("sensor") => sensor(alloc, value),
             Some("copy") if knows_more(self.version) => copy(alloc, value),
@@ -180,7 +180,7 @@ impl<'v> Form<'v> for ChannelForm {
 }
 
 #[tactic(auto, unfolding(crate::specs::Keys::channels_in))]
-fn channels(alloc: Global, value: &Value, version: i64) -> Result<Vec<ChannelPart>, PartError>
+fn channels(alloc: Global, value: &Value<'_>, version: i64) -> Result<Vec<ChannelPart>, PartError>
     ensures { Gives (λ v. map channel_view v.items) (channels_in version (view value.now)) result }
 {
     optional_list(alloc, &ChannelForm { version }, value, "channels")
@@ -191,7 +191,7 @@ fn channels(alloc: Global, value: &Value, version: i64) -> Result<Vec<ChannelPar
 /// A task.
 struct TaskForm;
 
-impl<'v> Form<'v> for TaskForm {
+impl<'a> Form<'a> for TaskForm {
     type Part = TaskPart;
 
     ghost Meaning = { TaskParts };
@@ -200,7 +200,7 @@ impl<'v> Form<'v> for TaskForm {
 
     ghost reads = { λ _ d. task_key d };
 
-    fn read(&self, alloc: Global, value: &'v Value) -> Result<TaskPart, PartError> {
+    fn read(&self, alloc: Global, value: &Value<'a>) -> Result<TaskPart, PartError> {
         if !has_keys(value, &["after", "nodes", "need", "min", "max", "run"]) {
             return Err(PartError::NoPart);
         }
@@ -216,7 +216,7 @@ impl<'v> Form<'v> for TaskForm {
 }
 
 #[tactic(auto, unfolding(crate::specs::Keys::tasks_in))]
-fn tasks(alloc: Global, value: &Value) -> Result<Vec<TaskPart>, PartError>
+fn tasks(alloc: Global, value: &Value<'_>) -> Result<Vec<TaskPart>, PartError>
     ensures { Gives (λ v. map task_view v.items) (tasks_in (view value.now)) result }
 {
     optional_list(alloc, &TaskForm, value, "tasks")
@@ -227,7 +227,7 @@ fn tasks(alloc: Global, value: &Value) -> Result<Vec<TaskPart>, PartError>
 /// The bytes that an effect sets.
 struct SetForm;
 
-impl<'v> Form<'v> for SetForm {
+impl<'a> Form<'a> for SetForm {
     type Part = EffectPart;
 
     ghost Meaning = { EffectParts };
@@ -236,7 +236,7 @@ impl<'v> Form<'v> for SetForm {
 
     ghost reads = { λ _ d. object_of set_names set_fields d };
 
-    fn read(&self, alloc: Global, value: &'v Value) -> Result<EffectPart, PartError> {
+    fn read(&self, alloc: Global, value: &Value<'a>) -> Result<EffectPart, PartError> {
         if !has_keys(value, &["at", "hex"]) {
             return Err(PartError::NoPart);
         }
@@ -248,7 +248,7 @@ impl<'v> Form<'v> for SetForm {
 }
 
 /// An effect that is an object.
-fn effect_of_object(alloc: Global, value: &Value) -> Result<EffectPart, PartError>
+fn effect_of_object(alloc: Global, value: &Value<'_>) -> Result<EffectPart, PartError>
     ensures { Gives effect_view (effect_by (view value.now) None) result }
 {
     if let Some(count) = lone(alloc, &Number, value, "cut")? {
@@ -267,7 +267,7 @@ fn effect_of_object(alloc: Global, value: &Value) -> Result<EffectPart, PartErro
 /// What a fault line does.
 struct EffectForm;
 
-impl<'v> Form<'v> for EffectForm {
+impl<'a> Form<'a> for EffectForm {
     type Part = EffectPart;
 
     ghost Meaning = { EffectParts };
@@ -276,8 +276,8 @@ impl<'v> Form<'v> for EffectForm {
 
     ghost reads = { λ _ d. effect_key d };
 
-    fn read(&self, alloc: Global, value: &'v Value) -> Result<EffectPart, PartError> {
-        match value.as_str() {
+    fn read(&self, alloc: Global, value: &Value<'a>) -> Result<EffectPart, PartError> {
+        match text(value) {
             Some("drop") => Ok(EffectPart::Drop),
             Some("twice") => Ok(EffectPart::Twice),
             Some(_) => Err(PartError::NoPart),
@@ -289,7 +289,7 @@ impl<'v> Form<'v> for EffectForm {
 /// A fault line.
 struct FaultForm;
 
-impl<'v> Form<'v> for FaultForm {
+impl<'a> Form<'a> for FaultForm {
     type Part = FaultPart;
 
     ghost Meaning = { FaultParts };
@@ -298,7 +298,7 @@ impl<'v> Form<'v> for FaultForm {
 
     ghost reads = { λ _ d. fault_at d };
 
-    fn read(&self, alloc: Global, value: &'v Value) -> Result<FaultPart, PartError> {
+    fn read(&self, alloc: Global, value: &Value<'a>) -> Result<FaultPart, PartError> {
         if !has_keys(value, &["from", "to", "periods", "slots", "effect"]) {
             return Err(PartError::NoPart);
         }
@@ -313,7 +313,7 @@ impl<'v> Form<'v> for FaultForm {
 }
 
 #[tactic(auto, unfolding(crate::specs::Keys::faults_in))]
-fn faults(alloc: Global, value: &Value) -> Result<Vec<FaultPart>, PartError>
+fn faults(alloc: Global, value: &Value<'_>) -> Result<Vec<FaultPart>, PartError>
     ensures { Gives (λ v. map fault_view v.items) (faults_in (view value.now)) result }
 {
     optional_list(alloc, &FaultForm, value, "faults")
@@ -324,7 +324,7 @@ fn faults(alloc: Global, value: &Value) -> Result<Vec<FaultPart>, PartError>
 /// A restart.
 struct RestartForm;
 
-impl<'v> Form<'v> for RestartForm {
+impl<'a> Form<'a> for RestartForm {
     type Part = RestartPart;
 
     ghost Meaning = { RestartParts };
@@ -333,7 +333,7 @@ impl<'v> Form<'v> for RestartForm {
 
     ghost reads = { λ _ d. restart_at d };
 
-    fn read(&self, alloc: Global, value: &'v Value) -> Result<RestartPart, PartError> {
+    fn read(&self, alloc: Global, value: &Value<'a>) -> Result<RestartPart, PartError> {
         if !has_keys(value, &["node", "period"]) {
             return Err(PartError::NoPart);
         }
@@ -345,7 +345,7 @@ impl<'v> Form<'v> for RestartForm {
 }
 
 #[tactic(auto, unfolding(crate::specs::Keys::restarts_in))]
-fn restarts(alloc: Global, value: &Value) -> Result<Vec<RestartPart>, PartError>
+fn restarts(alloc: Global, value: &Value<'_>) -> Result<Vec<RestartPart>, PartError>
     ensures { Gives (λ v. map restart_view v.items) (restarts_in (view value.now)) result }
 {
     optional_list(alloc, &RestartForm, value, "restarts")
@@ -356,7 +356,7 @@ fn restarts(alloc: Global, value: &Value) -> Result<Vec<RestartPart>, PartError>
 /// A lie about a clock.
 struct LieForm;
 
-impl<'v> Form<'v> for LieForm {
+impl<'a> Form<'a> for LieForm {
     type Part = LiePart;
 
     ghost Meaning = { LieParts };
@@ -365,7 +365,7 @@ impl<'v> Form<'v> for LieForm {
 
     ghost reads = { λ _ d. lie_key d };
 
-    fn read(&self, alloc: Global, value: &'v Value) -> Result<LiePart, PartError> {
+    fn read(&self, alloc: Global, value: &Value<'a>) -> Result<LiePart, PartError> {
         if !has_keys(value, &["from", "to", "periods", "by"]) {
             return Err(PartError::NoPart);
         }
@@ -381,7 +381,7 @@ impl<'v> Form<'v> for LieForm {
 /// The clocks.
 struct ClockForm;
 
-impl<'v> Form<'v> for ClockForm {
+impl<'a> Form<'a> for ClockForm {
     type Part = ClockPart;
 
     ghost Meaning = { ClockParts };
@@ -390,7 +390,7 @@ impl<'v> Form<'v> for ClockForm {
 
     ghost reads = { λ _ d. clock_at d };
 
-    fn read(&self, alloc: Global, value: &'v Value) -> Result<ClockPart, PartError> {
+    fn read(&self, alloc: Global, value: &Value<'a>) -> Result<ClockPart, PartError> {
         if !has_keys(
             value,
             &["epsilon", "drift", "start", "drifts", "errors", "lies"],
@@ -409,7 +409,7 @@ impl<'v> Form<'v> for ClockForm {
 }
 
 #[tactic(auto, unfolding(crate::specs::Keys::clock_key))]
-fn clock(alloc: Global, value: &Value) -> Result<Option<ClockPart>, PartError>
+fn clock(alloc: Global, value: &Value<'_>) -> Result<Option<ClockPart>, PartError>
     ensures { Gives (option_map clock_view) (clock_key (view value.now)) result }
 {
     optional(alloc, &ClockForm, value, "clock")
@@ -428,7 +428,7 @@ struct Sizes {
 }
 
 #[tactic(auto, unfolding(crate::specs::Keys::size_fields))]
-fn whole_sizes(alloc: Global, value: &Value) -> Result<Sizes, PartError>
+fn whole_sizes(alloc: Global, value: &Value<'_>) -> Result<Sizes, PartError>
     ensures { Gives sizes_view (size_fields (view value.now)) result }
 {
     Ok(Sizes {
@@ -443,7 +443,7 @@ fn whole_sizes(alloc: Global, value: &Value) -> Result<Sizes, PartError>
 #[tactic(auto, unfolding(crate::specs::Keys::other_fields))]
 fn parts_of_sizes(
     alloc: Global,
-    value: &Value,
+    value: &Value<'_>,
     version: i64,
     sizes: Sizes,
 ) -> Result<Parts, PartError>
@@ -465,14 +465,14 @@ fn parts_of_sizes(
     })
 }
 
-fn parts_of_fields(alloc: Global, value: &Value, version: i64) -> Result<Parts, PartError>
+fn parts_of_fields(alloc: Global, value: &Value<'_>, version: i64) -> Result<Parts, PartError>
     ensures { Gives parts_view (scenario_fields version (view value.now)) result }
 {
     let sizes = whole_sizes(alloc, value)?;
     parts_of_sizes(alloc, value, version, sizes)
 }
 
-fn has_scenario_names(value: &Value, version: i64) -> bool
+fn has_scenario_names(value: &Value<'_>, version: i64) -> bool
     ensures { result ≡ has_keys (scenario_names version) (view value.now) }
 {
     let names = [
@@ -487,7 +487,7 @@ fn has_scenario_names(value: &Value, version: i64) -> bool
 }
 
 #[tactic(auto, unfolding(crate::specs::Keys::parts_in))]
-fn parts_in(alloc: Global, value: &Value, version: i64) -> Result<Parts, PartError>
+fn parts_in(alloc: Global, value: &Value<'_>, version: i64) -> Result<Parts, PartError>
     ensures { Gives parts_view (parts_in (view value.now) version) result }
 {
     if has_scenario_names(value, version) {
@@ -501,7 +501,7 @@ fn parts_in(alloc: Global, value: &Value, version: i64) -> Result<Parts, PartErr
 ///
 /// # Errors
 /// `NoPart` exactly where it holds none; `NoMemory`.
-pub(crate) fn parts(alloc: Global, value: &Value) -> Result<Parts, PartError>
+pub(crate) fn parts(alloc: Global, value: &Value<'_>) -> Result<Parts, PartError>
     ensures { Gives parts_view (parts_read (view value.now)) result }
 {
     let version = number_or(value, "version", 1)?;

@@ -4,7 +4,7 @@ ghost use Rattle.std.specs.Io.KnownBytes.{Appends, Keeps};
 ghost use Rattle.span_io.specs.Causes.{Rose, AppendsPrefix, GivenPast};
 ghost use Rattle.node_grid.specs.Capacity.{IsCapacity};
 ghost use Rattle.serde_json.specs.Data.{Data};
-ghost use Rattle.serde_json.specs.View.{view};
+ghost use Rattle.json_parts.specs.Meaning.{view};
 ghost use Rattle.scenario.specs.Scenario.{ScenarioView};
 ghost use Rattle.scenario_reading.specs.Verdict.{IsAcceptedValue};
 ghost use Rattle.run_text.specs.PeriodText.{refused_text};
@@ -23,11 +23,12 @@ use crate::form::command_of;
 use crate::laws::few_nodes;
 use crate::replay::{check_at, replay_at};
 use crate::{Command, Form, Reading, ReplayError, Status};
+use json::{Scratch, Value};
+use json_parts::{TextError, member, value_of, whole};
 use node_alone::Record;
 use run_print::{WriteFault, write_refused, write_storm};
 use scenario::{Scenario, ScenarioError};
 use scenario_reading::from_value;
-use serde_json::{Category, Value};
 use span_io::{ReadError, Sink, Source, read_all};
 use std::alloc::Global;
 use std::mem::forget;
@@ -53,9 +54,9 @@ fn ended(run: Result<(), ReplayError>) -> Status
 }
 
 /// Whether the value says that there are so few nodes that types laid out for 8 have room for them.
-fn has_few_nodes(value: &Value) -> bool {
-    match value.get("nodes") {
-        Some(nodes) => matches!(nodes.as_i64(), Some(count) if count <= FEW as i64),
+fn has_few_nodes(value: &Value<'_>) -> bool {
+    match member(value, "nodes") {
+        Some(nodes) => matches!(whole(nodes), Some(count) if count <= FEW as i64),
         None => false,
     }
 }
@@ -100,7 +101,7 @@ fn write_few<K: Sink>(
 }
 
 /// Answers the JSON value of a scenario.
-fn answer_value<K: Sink>(alloc: Global, form: Form, value: &Value, sink: &mut K) -> Status
+fn answer_value<K: Sink>(alloc: Global, form: Form, value: &Value<'_>, sink: &mut K) -> Status
     ensures { AnswersValue form (view value.now) (K.written sink.old) (K.written sink.new) (K.faults sink.old) (K.faults sink.new) result }
 {
     if has_few_nodes(value) {
@@ -125,14 +126,15 @@ fn answer_value<K: Sink>(alloc: Global, form: Form, value: &Value, sink: &mut K)
 fn answer_scenario<K: Sink>(alloc: Global, form: Form, bytes: &[u8], sink: &mut K) -> Status
     ensures { Answers (SpecScenario form) bytes.now (K.written sink.old) (K.written sink.new) (K.faults sink.old) (K.faults sink.new) result }
 {
-    match Value::from_slice(alloc, bytes) {
+    let mut scratch = Scratch::new(alloc);
+    match value_of(alloc, bytes, &mut scratch) {
         Ok(value) => {
             let status = answer_value(alloc, form, &value, sink);
             forget(value);
             status
         }
-        Err(error) if error.classify() == Category::Memory => Status::NoMemory,
-        Err(_) => Status::Unreadable,
+        Err(TextError::Unreadable) => Status::Unreadable,
+        Err(TextError::NoMemory) => Status::NoMemory,
     }
 }
 

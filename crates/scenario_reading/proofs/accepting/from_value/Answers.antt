@@ -1,5 +1,5 @@
 use Rattle.std.proofs.Common.{◌≡◌, None, Err, ap, subst, lit<, inl, inr}
-use Rattle.serde_json.specs.View.{view}
+use Rattle.json_parts.specs.Meaning.{view}
 use Rattle.json_parts.specs.Part.{Gives}
 use Rattle.json_parts.specs.declared.error.PartError.{PartError}
 use Rattle.scenario_reading.specs.Keys.{parts_read}

@@ -2,7 +2,7 @@ use Rattle.std.proofs.Common.{◌≡◌, ℕ, ℤ, pos, true, false, not, List, 
 use Rattle.std.specs.Prelude.{FitsSigned}
 use Rattle.std.specs.Ordering.{int_eq}
 use Rattle.std.proofs.lemmas.Bool.{not-true}
-use Rattle.serde_json.specs.View.{view}
+use Rattle.json_parts.specs.Meaning.{view}
 use Rattle.json_parts.specs.Reading.{has_keys}
 use Rattle.scenario_reading.proofs.Keys.{not_false, newer_names, older_names}
 use Rattle.scenario_reading.proofs.parts.has_scenario_names.Goals as goal

@@ -1,4 +1,4 @@
-use Rattle.serde_json.specs.View.{view}
+use Rattle.json_parts.specs.Meaning.{view}
 use Rattle.scenario_reading.specs.Keys.{sensor_names, sensor_fields}
 use Rattle.scenario.specs.Seen.{channel_view}
 use Rattle.scenario_reading.proofs.Unread.{then_by, none_by, keyed, no_keys, unread}

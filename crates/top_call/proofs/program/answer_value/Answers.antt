@@ -1,4 +1,4 @@
-use Rattle.serde_json.specs.View.{view}
+use Rattle.json_parts.specs.Meaning.{view}
 use Rattle.top_call.proofs.Few.{answered_run}
 use Rattle.top_call.proofs.program.answer_value.Goals as goal
 

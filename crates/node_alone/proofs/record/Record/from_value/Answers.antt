@@ -1,5 +1,5 @@
 use Rattle.std.proofs.Common.{◌≡◌, rules, sym, ap, subst, ◌∙◌, inl, inr, lit<, arith, map}
-use Rattle.serde_json.specs.View.{view}
+use Rattle.json_parts.specs.Meaning.{view}
 use Rattle.scenario.specs.Rules.{at_place}
 use Rattle.scenario.specs.Verdict.{Tells}
 use Rattle.node_alone.specs.Rules.{Limits, entry_of, first_bad_entry}
