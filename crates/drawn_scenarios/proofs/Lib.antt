@@ -1,0 +1,15 @@
+pub mod Sets
+pub mod GoesOn
+pub mod Every
+pub mod Shape
+pub mod Words
+pub mod Picked
+pub mod Made
+pub mod Overlaps
+pub mod Restarts
+pub mod Rows
+pub mod Early
+pub mod Narrow
+pub mod Gathered
+pub mod Lies
+pub mod Refusals

@@ -1,0 +1,10 @@
+pub mod Classes
+pub mod Choices
+pub mod Options
+pub mod Series
+pub mod Cluster
+pub mod Bouts
+pub mod Adding
+pub mod Lines
+pub mod Drawn
+pub mod Laws
