@@ -1,0 +1,17 @@
+pub mod Spans
+pub mod Grown
+pub mod Listed
+pub mod Loops
+pub mod Totals
+pub mod Agreeing
+pub mod Summed
+pub mod Kept
+pub mod Shown
+pub mod Spared
+pub mod Close
+pub mod Rowed
+pub mod Sets
+pub mod Founds
+pub mod Adding
+pub mod Ranges
+pub mod Judged

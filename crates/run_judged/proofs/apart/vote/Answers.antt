@@ -1,0 +1,11 @@
+use Rattle.std.proofs.Common.{◌≡◌, true, sym, ◌∙◌, arith}
+use Rattle.node_grid.specs.Class.{is_sound}
+use Rattle.run_judged.specs.Found.{class_at}
+use Rattle.run_judged.proofs.Ranges.{vote_sound}
+use Rattle.run_judged.proofs.apart.vote.Goals as goal
+
+pub returns : goal.returns
+returns g c =
+    let told : c.is_sound.result ≡ is_sound (class_at c.args.shown.now.head.classes c.args.node) = c.is_sound.ensures in
+    let kept : c.is_sound.result ≡ true = grind arith in
+    vote_sound c.args.shown.now c.args.channel c.args.node c.belief.result.now.votes c.requires.in_use (sym told ∙ kept) c.belief.ensures.votes

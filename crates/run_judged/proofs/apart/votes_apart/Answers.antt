@@ -1,0 +1,8 @@
+use Rattle.shown_period.specs.Whole.{record_of}
+use Rattle.run_judged.specs.Apart.{vote_in}
+use Rattle.run_judged.proofs.Ranges.{ranged_by}
+use Rattle.run_judged.proofs.apart.votes_apart.Goals as goal
+
+pub loop-node-preserved : goal.loop-node-preserved
+loop-node-preserved g c =
+    ranged_by (vote_in (record_of c.args.shown.now) c.args.channel) c.loop-node.node c.loop-node.range c.vote-vote.result c.with_number-range.result c.loop-node.invariant c.vote-vote.ensures c.with_number-range.ensures

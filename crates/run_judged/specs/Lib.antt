@@ -1,0 +1,11 @@
+pub mod Numbers
+pub mod Illnesses
+pub mod Growing
+pub mod Found
+pub mod Margins
+pub mod Signs
+pub mod Apart
+pub mod Rows
+pub mod Sums
+pub mod Judging
+pub mod Laws

@@ -1,0 +1,236 @@
+//! What is found of all nodes in a period.
+
+ghost use Rattle.std.specs.Prelude.{◌≡◌, ℕ, ◌<◌, ◌≤◌, ◌==◌, Some, not, slice_index};
+ghost use Rattle.node_grid.specs.Capacity.{IsCapacity};
+ghost use Rattle.node_grid.specs.Class.{is_sound, is_nonfaulty};
+ghost use Rattle.node_grid.specs.NodeSet.{ids_where, has_id};
+ghost use Rattle.shown_period.specs.Outcomes.{HasBeliefs};
+ghost use Rattle.shown_period.specs.Whole.{record_of};
+ghost use Rattle.run_judged.specs.Signs.{reference_outcome, is_charged_by};
+ghost use Rattle.run_judged.specs.Signs.{members_after, is_left, is_joined};
+ghost use Rattle.fault_classes.specs.Plan.{is_clean};
+ghost use Rattle.at_once.specs.Run.{ShowsPeriod, FitsScenario};
+ghost use Rattle.run_judged.specs.Rows.{seen_of};
+ghost use Rattle.run_judged.specs.Found.{class_at, sign_by, AreFound};
+
+use crate::illness::{Sign, is_sound};
+use error_reports::charged_all;
+use fault_classes::FaultPlan;
+use node_grid::{Class, NodeSet};
+use scenario::Scenario;
+use shown_period::Shown;
+
+/// The nodes whose class is sound.
+#[tactic(auto, using(node_grid::specs::NodeSetLaws::id_loops, crate::proofs::Sets::of_nodes))]
+fn sound_nodes<const N: usize>(classes: &[Class; N], nodes: u8) -> NodeSet<N>
+    requires capacity { IsCapacity N }
+    requires nodes { nodes ≤ N }
+    ensures { result ≡ ids_where (λ j. is_sound (class_at classes.now j)) nodes }
+{
+    let mut sound = NodeSet::empty();
+    for node in 0..nodes {
+        if is_sound(classes[node as usize]) {
+            sound.put(node);
+        }
+    }
+    sound
+}
+
+/// Whether a node of the class isn't nonfaulty.
+fn is_faulty(class: Class) -> bool
+    ensures { result ≡ not (is_nonfaulty class) }
+{
+    match class {
+        Class::N => false,
+        Class::J | Class::B | Class::S | Class::A => true,
+    }
+}
+
+/// The nodes whose class isn't nonfaulty.
+#[tactic(auto, using(node_grid::specs::NodeSetLaws::id_loops, crate::proofs::Sets::of_nodes))]
+fn faulty_nodes<const N: usize>(classes: &[Class; N], nodes: u8) -> NodeSet<N>
+    requires capacity { IsCapacity N }
+    requires nodes { nodes ≤ N }
+    ensures { result ≡ ids_where (λ j. not (is_nonfaulty (class_at classes.now j))) nodes }
+{
+    let mut faulty = NodeSet::empty();
+    for node in 0..nodes {
+        if is_faulty(classes[node as usize]) {
+            faulty.put(node);
+        }
+    }
+    faulty
+}
+
+/// Whether a mask has a kind.
+fn has_kind(mask: u16) -> bool
+    ensures { result ≡ not (mask == 0) }
+{
+    mask != 0
+}
+
+/// The nodes whose mask has a kind.
+#[tactic(auto, using(node_grid::specs::NodeSetLaws::id_loops, crate::proofs::Sets::of_nodes))]
+fn marked_nodes<const N: usize>(masks: &[u16; N], nodes: u8) -> NodeSet<N>
+    requires capacity { IsCapacity N }
+    requires nodes { nodes ≤ N }
+    ensures { result ≡ ids_where (λ j. not (slice_index masks.now j == 0)) nodes }
+{
+    let mut marked = NodeSet::empty();
+    for node in 0..nodes {
+        if has_kind(masks[node as usize]) {
+            marked.put(node);
+        }
+    }
+    marked
+}
+
+/// Whether some line touches a frame that the node sends in the period.
+fn is_touched<const N: usize>(plan: &FaultPlan<N>, node: u8, period: u32) -> bool
+    requires node { node < plan.now.nodes }
+    requires period { period < plan.now.periods }
+    ensures { result ≡ not (is_clean plan.now period node) }
+{
+    !plan.clean(node, period)
+}
+
+/// The nodes a frame of which some line touches in the period.
+#[tactic(auto, using(node_grid::specs::NodeSetLaws::id_loops, crate::proofs::Sets::of_nodes))]
+fn touched_nodes<const N: usize>(plan: &FaultPlan<N>, nodes: u8, period: u32) -> NodeSet<N>
+    requires capacity { IsCapacity N }
+    requires nodes { nodes ≤ N }
+    requires in_use { nodes ≤ plan.now.nodes }
+    requires period { period < plan.now.periods }
+    ensures { result ≡ ids_where (λ j. not (is_clean plan.now period j)) nodes }
+{
+    let mut touched = NodeSet::empty();
+    for node in 0..nodes {
+        if is_touched(plan, node, period) {
+            touched.put(node);
+        }
+    }
+    touched
+}
+
+/// The nodes that the rows which the reference node settled charge with something.
+fn charged_nodes<const N: usize>(shown: &Shown<N>) -> NodeSet<N>
+    requires capacity { IsCapacity N }
+    requires nodes { shown.now.head.nodes ≤ N }
+    requires reference { (r : ℕ) → shown.now.head.reference ≡ Some r → r < shown.now.head.nodes }
+    requires beliefs { HasBeliefs shown.now.made }
+    ensures { (j : ℕ) → j < shown.now.head.nodes
+        → has_id result j ≡ is_charged_by (reference_outcome (record_of shown.now)) j }
+{
+    let nodes = shown.head.nodes;
+    let Some(node) = shown.head.reference else {
+        return NodeSet::empty();
+    };
+    let masks = charged_all(&shown.belief(node).rows, shown.members(node), nodes);
+    marked_nodes(&masks, nodes)
+}
+
+/// The members of the reference node's state after the period; none without a state.
+fn members_after<const N: usize>(shown: &Shown<N>) -> Option<NodeSet<N>>
+    requires capacity { IsCapacity N }
+    requires reference { (r : ℕ) → shown.now.head.reference ≡ Some r → r < shown.now.head.nodes }
+    ensures { result ≡ members_after (record_of shown.now) }
+{
+    let Some(node) = shown.head.reference else {
+        return None;
+    };
+    match shown.agreed(node) {
+        None => None,
+        Some(agreed) => Some(agreed.members),
+    }
+}
+
+/// The members that aren't members any more.
+fn left_nodes<const N: usize>(before: &NodeSet<N>, after: &Option<NodeSet<N>>) -> NodeSet<N>
+    requires { N ≤ 16 }
+    ensures { (j : ℕ) → has_id result j ≡ is_left before.now after.now j }
+{
+    match after {
+        None => NodeSet::empty(),
+        Some(after) => before.minus(after),
+    }
+}
+
+/// The members that weren't members, where there were members.
+fn joined_nodes<const N: usize>(before: &NodeSet<N>, after: &Option<NodeSet<N>>) -> NodeSet<N>
+    requires { N ≤ 16 }
+    ensures { (j : ℕ) → has_id result j ≡ is_joined before.now after.now j }
+{
+    if before.is_empty() {
+        return NodeSet::empty();
+    }
+    match after {
+        None => NodeSet::empty(),
+        Some(after) => after.minus(before),
+    }
+}
+
+/// What is found of the nodes of a cluster in a period.
+#[derive(Clone, Copy)]
+pub(crate) struct Findings<const N: usize> {
+    /// The period.
+    pub(crate) period: u32,
+    /// How many nodes are in use.
+    pub(crate) nodes: u8,
+    /// The class of each node.
+    pub(crate) classes: [Class; N],
+    /// The nodes that are sound.
+    pub(crate) sound: NodeSet<N>,
+    /// The nodes that aren't nonfaulty.
+    pub(crate) faulty: NodeSet<N>,
+    /// The nodes a frame of which some line touches.
+    pub(crate) touched: NodeSet<N>,
+    /// The members.
+    pub(crate) members: NodeSet<N>,
+    /// The nodes that are charged.
+    pub(crate) charged: NodeSet<N>,
+    /// The nodes that leave the members after the period.
+    pub(crate) left: NodeSet<N>,
+    /// The nodes that join them.
+    pub(crate) joined: NodeSet<N>,
+}
+
+impl<const N: usize> Findings<N> {
+    /// What is found of the nodes in a period of the scenario's run.
+    pub(crate) fn of(scenario: &Scenario<N>, period: u32, shown: &Shown<N>) -> Findings<N>
+        requires capacity { IsCapacity N }
+        requires in_run { period < scenario.now.periods }
+        requires shown { ShowsPeriod scenario.now period shown.now }
+        requires fits { FitsScenario scenario.now shown.now }
+        ensures { AreFound (seen_of scenario.now) scenario.now.config.nodes period result }
+    {
+        let head = &shown.head;
+        let after = members_after(shown);
+        Findings {
+            period,
+            nodes: head.nodes,
+            classes: head.classes,
+            sound: sound_nodes(&head.classes, head.nodes),
+            faulty: faulty_nodes(&head.classes, head.nodes),
+            touched: touched_nodes(scenario.plan(), head.nodes, period),
+            members: head.members,
+            charged: charged_nodes(shown),
+            left: left_nodes(&head.members, &after),
+            joined: joined_nodes(&head.members, &after),
+        }
+    }
+
+    /// What is found of one node.
+    pub(crate) fn sign(&self, node: u8) -> Sign
+        requires { node < N }
+        ensures { result ≡ sign_by self.now node }
+    {
+        Sign {
+            class: self.classes[node as usize],
+            touched: self.touched.has(node),
+            member: self.members.has(node),
+            charged: self.charged.has(node),
+            left: self.left.has(node),
+            joined: self.joined.has(node),
+        }
+    }
+}
