@@ -11,7 +11,7 @@ use Rattle.fault_classes.specs.Change.{Change}
 use Rattle.fault_classes.specs.Change.Change.{Drop, Set}
 use Rattle.fault_classes.specs.Line.{Line, shares}
 use Rattle.fault_classes.specs.Rules.{are_below, is_change}
-use Rattle.storm.specs.Draws.{Drawing, draw}
+use Rattle.draws.specs.Draws.{Drawing, draw}
 use Rattle.storm.specs.declared.spell.Spell.{Spell}
 use Rattle.storm.specs.Storm.{line_in, others, false_value, told_by, lies_drawn, told_row, each_drawn, lines_by, spell_of, block, blocks}
 use Rattle.storm.proofs.Shape.{IsSpell, ascends, WritesBytes, IsLineOf, apart, AreLinesOf, IsBlock, AreBlocks}

@@ -12,7 +12,7 @@ use Rattle.safety.specs.Given.{IsGiven, IsSparing, Started}
 use Rattle.safety.specs.Views.{StartLaw, StepLaw}
 use Rattle.safety.specs.Runs.{ReceptionLaw}
 use Rattle.safety.specs.Convictions.{SparedLaw}
-use Rattle.storm.specs.Draws.{generator_of}
+use Rattle.draws.specs.Draws.{generator_of}
 use Rattle.storm.specs.Storm.{Block, blocks, storm, restart_drawn}
 use Rattle.storm.specs.Laws.{HasOneFaulty, IsWeathered, Weathers, StormLaw}
 use Rattle.storm.proofs.Off.{is_off}

@@ -11,7 +11,7 @@ use Rattle.fault_classes.specs.Rules.{first_overlap}
 use Rattle.scenario.specs.Line.{line_at, restart_of}
 use Rattle.scenario.specs.Given as given
 use Rattle.scenario.specs.Rules.{first_bad, is_fault_part, is_restart_part, first_refused_restart, early_refusal, cycles_refusal, plan_refusal, clock_refusal, refusal}
-use Rattle.storm.specs.Draws.{generator_of}
+use Rattle.draws.specs.Draws.{generator_of}
 use Rattle.storm.specs.Storm.{Block, blocks, storm, lines_of, restarts_of}
 use Rattle.storm.specs.Parts.{fault_of, restart_parts, parts_of}
 use Rattle.storm.specs.Laws.{UnrefusedLaw}

@@ -13,7 +13,7 @@ use Rattle.scenario.specs.declared.parts.RestartPart.{RestartPart}
 use Rattle.scenario.specs.Parts.{FaultParts, RestartParts}
 use Rattle.scenario.specs.Seen.{fault_view, restart_view}
 use Rattle.storm.specs.declared.spell.Spell.{Spell}
-use Rattle.storm.specs.Draws.{Drawing, draw, generator_of}
+use Rattle.draws.specs.Draws.{Drawing, draw, generator_of}
 use Rattle.storm.specs.Storm.{line_in, others, false_value, told_by, lies_drawn, each_drawn, lines_by, block, blocks, storm, lines_of, restart_drawn, restarts_of}
 use Rattle.storm.specs.Parts.{fault_of, restart_parts}
 use Rattle.storm.specs.Adding.{Adds, AddsBlock}

@@ -2,7 +2,7 @@
 use Rattle.std.specs.Prelude.{◌≡◌, List, ◌++◌, ◌∷◌, [], map}
 use Rattle.rand_pcg.specs.Lcg.{Lcg}
 use Rattle.fault_classes.specs.Line.{Line}
-use Rattle.storm.specs.Draws.{Drawing}
+use Rattle.draws.specs.Draws.{Drawing}
 use Rattle.storm.specs.Storm.{Block, restart_drawn}
 use Rattle.scenario.specs.declared.parts.FaultPart.{FaultPart}
 use Rattle.scenario.specs.declared.parts.RestartPart.{RestartPart}

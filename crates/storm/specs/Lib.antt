@@ -1,4 +1,3 @@
-pub mod Draws
 pub mod Storm
 pub mod Parts
 pub mod Adding

@@ -8,7 +8,7 @@ use Rattle.fault_classes.specs.Change.{Change}
 use Rattle.fault_classes.specs.Change.Change.{Drop, Set}
 use Rattle.fault_classes.specs.Line.{Line}
 use Rattle.storm.specs.declared.spell.Spell.{Spell}
-use Rattle.storm.specs.Draws.{Drawing, draw, ◌>>=◌, pure, generator_of}
+use Rattle.draws.specs.Draws.{Drawing, draw, ◌>>=◌, pure, generator_of}
 
 -- a line of a spell: to some nodes, in some slots
 abbrev pub line_in : Spell → List ℕ → List ℕ → Change → Line

@@ -5,9 +5,9 @@ ghost use Rattle.storm.specs.Storm.{told_by, lies_drawn, told_row, each_drawn, o
 ghost use Rattle.storm.specs.Parts.{fault_of, restart_parts};
 ghost use Rattle.storm.specs.Adding.{Adds, AddsBlock};
 
-use crate::draws::{draw, generator};
 use crate::lines::{all_slots, false_byte, false_value, line_to_one, line_to_others, only};
 use crate::spell::Spell;
+use draws::{draw, generator};
 use rand_pcg::Lcg64Xsh32;
 use scenario::{EffectPart, FaultPart, RestartPart};
 use std::alloc::{AllocError, Global};

@@ -3,7 +3,6 @@
 
 mod cluster;
 mod drawing;
-mod draws;
 pub mod laws;
 mod lines;
 mod making;

@@ -1,6 +1,0 @@
-use Rattle.storm.specs.Draws.{generator_of}
-use Rattle.storm.proofs.draws.generator.Goals as goal
-
-pub returns : goal.returns
-unfolding generator_of
-returns c = c.seed_from_u64.ensures

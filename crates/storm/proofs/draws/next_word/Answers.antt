@@ -1,6 +1,0 @@
-use Rattle.storm.specs.Draws.{next_word}
-use Rattle.storm.proofs.draws.next_word.Goals as goal
-
-pub returns : goal.returns
-unfolding next_word
-returns c = c.next_word.ensures
