@@ -10,12 +10,15 @@ list_forms() {
   replay trace    the same, with each frame:         ./maft replay trace < scenarios/silent.json
   storm SEED      runs a large drawn scenario:       ./maft storm 7
   node I          replays the log of node I alone:   ./maft node 0 < tests/cases/log_without_frames/stdin
-of another program, which is a node that is told one event a line (docs/LIVE.md):
+of another program, which judges many scenarios, one a line of its input or drawn from a number (tools/campaign):
+  judge           writes rows of what came of each:  tr '\n' ' ' < scenarios/silent.json | ./maft judge
+  judge draw SEED FIRST COUNT, judge show SEED INDEX   by a line of options (docs/FORMATS.md)
+of a third, which is a node that is told one event a line (docs/LIVE.md):
   controller I    runs the controller of node I:     tools/cluster scenarios/silent.json
 and of the launcher's own:
   prove           proves the programs, builds them:  ./maft prove
   test            runs the tests of what is built:   ./maft test
-  which           prints the program that answers:   ./maft which; ./maft which controller
+  which           prints the program that answers:   ./maft which; ./maft which judge
   help            prints this, as --help does:       ./maft help
   --version       says what is built of which sources, and whether it is proved
   -- WORDS        hands WORDS to the program, whatever they are

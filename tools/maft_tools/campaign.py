@@ -2,16 +2,21 @@
 from __future__ import annotations
 
 import dataclasses
+import itertools
 import json
 import pathlib
 import stat
-import subprocess
 from collections.abc import Sequence
+from typing import Union
 
-from . import program, rows, text
-from .drawing import Cluster
-from .plan import INPUT_LIMIT, WordsError
+from . import judging, program
+from .drawing import Cluster, Options
+from .plan import INPUT_LIMIT, Json, WordsError
+from .rows import Judged, Run
 from .sweep import Case
+
+# how many scenarios a process of the program judges at most: those that are handed to it, and those that it draws
+HANDED, DRAWN = 32, 500
 
 
 @dataclasses.dataclass(frozen=True)
@@ -26,6 +31,15 @@ class Job:
     index: int = 0
     words: str = ""
 
+    @property
+    def options(self) -> Options | None:
+        """The options by which the program draws the scenario itself; None where it is handed to it."""
+        return self.cluster.options if self.cluster is not None and self.cluster.is_plain else None
+
+    def scenario(self) -> bytes:
+        """The scenario, where it is handed to the program."""
+        return self.source if self.cluster is None else json.dumps(self.cluster.drawn(self.index)).encode()
+
 
 class Drawn(Sequence[Job]):
     """As many drawn scenarios of each case, by case, then index. They are drawn where they are run."""
@@ -33,6 +47,7 @@ class Drawn(Sequence[Job]):
     def __init__(self, cases: Sequence[Case], count: int) -> None:
         self.cases = cases
         self.count = count
+        self.batch = DRAWN if all(it.cluster.is_plain for it in cases) else HANDED
 
     def __len__(self) -> int:
         return len(self.cases) * self.count
@@ -47,6 +62,8 @@ class Drawn(Sequence[Job]):
 
 class Folder(Sequence[Job]):
     """The scenarios of a folder, by name. A file is read when its job is asked for."""
+
+    batch = HANDED
 
     def __init__(self, folder: str) -> None:
         self.paths = sorted(pathlib.Path(folder).glob("*.json"))
@@ -68,43 +85,51 @@ class Folder(Sequence[Job]):
             return Job(path.stem, words=f"it can't be read: {error.strerror}")
 
 
-def _words(source: bytes, status: int, out: str) -> str:
-    if status < 0:
-        return f"the program was ended by signal {-status}"
-    try:
-        return program.why_not(source, ["replay"], status, out)
-    except WordsError as error:
-        return str(error)
+Jobs = Union[Drawn, Folder]
 
 
-def _not_run(job: Job, source: bytes, status: int, out: str) -> rows.Judged:
-    """The row of a scenario that the program refuses, or can't read."""
-    run = rows.Run(job.name, job.case, status, words=_words(source, status, out))
-    parts = out.split()
-    if status == 4 and len(parts) == 3 and parts[0] == "refused" and parts[1].isdecimal() and parts[2].isdecimal():
-        run.rule, run.place = int(parts[1]), int(parts[2])
-    return rows.Judged(run)
+def scenario_of(judge: str, cluster: Cluster, index: int) -> Json:
+    """The scenario that is drawn onto a cluster by an index."""
+    return judging.shown(judge, cluster.options, index) if cluster.is_plain else cluster.drawn(index)
 
 
-def judge(maft: str, job: Job) -> rows.Judged:
-    """Runs one scenario and judges it. One that isn't run, or not to its end, is a row with a status other than 0 and
-    words.
+def _finish(job: Job, found: Judged, source: bytes | None) -> Judged:
+    """The rows of a job, with its names, and with words where it wasn't run."""
+    run = found.run
+    run.name, run.case = job.name, job.case
+    for illness in found.illnesses:
+        illness.name, illness.case = job.name, job.case
+    if run.status and source is not None:
+        run.words = program.why_not(source, ["replay"], run.status, f"refused {run.rule} {run.place}")
+    return found
 
-    Raises WordsError where the program says that all is well and prints no text of its own, or can't be run.
+
+def _ask(judge: str, jobs: Sequence[Job]) -> list[Judged]:
+    """The rows of the first of these jobs, at least of one: those that one process of the program judges."""
+    first = jobs[0]
+    if first.words:
+        return [Judged(Run(first.name, first.case, 5, words=first.words))]
+    alike = list(itertools.takewhile(lambda it: not it.words and it.options == first.options, jobs))
+    if first.options is None:
+        sources = [it.scenario() for it in alike]
+        found, status = judging.judge_lines(judge, sources)
+    else:
+        alike = [it for at, it in enumerate(alike) if it.index == first.index + at]
+        sources = [None] * len(alike)
+        found, status = judging.judge_drawn(judge, first.options, first.index, len(alike))
+    rows = [_finish(*it) for it in zip(alike, found, sources)]
+    if len(rows) < len(alike):
+        left = alike[len(rows)]
+        rows.append(Judged(Run(left.name, left.case, status, words=judging.ended(status))))
+    return rows
+
+
+def judge(judge: str, jobs: Sequence[Job]) -> list[Judged]:
+    """The rows of some jobs. One that isn't run, or not to its end, is a row with a status other than 0 and words.
+
+    Raises WordsError where the program can't be run, or prints no rows.
     """
-    if job.words:
-        return rows.Judged(rows.Run(job.name, job.case, 5, words=job.words))
-    data = None if job.cluster is None else job.cluster.drawn(job.index)
-    source = job.source if data is None else json.dumps(data, separators=(",", ":")).encode()
-    try:
-        done = subprocess.run([maft, "replay"], input=source, stdout=subprocess.PIPE, stderr=subprocess.DEVNULL)
-    except OSError as error:
-        raise WordsError(f"{maft} can't be run: {error.strerror}") from None
-    out = done.stdout.decode("utf-8", "replace")
-    if done.returncode:
-        return _not_run(job, source, done.returncode, out)
-    try:
-        return rows.judged(job.name, job.case, json.loads(source) if data is None else data,
-            text.read(out.splitlines(), reference_only=True))
-    except (WordsError, ValueError, LookupError, TypeError, RecursionError) as error:
-        raise WordsError(f"{job.name}: the program prints what isn't a replay of this scenario: {error}") from None
+    rows: list[Judged] = []
+    while len(rows) < len(jobs):
+        rows += _ask(judge, jobs[len(rows):])
+    return rows

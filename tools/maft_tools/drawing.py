@@ -13,7 +13,7 @@ CLASSES = ("benign", "symmetric", "asymmetric")
 LIMITS = {
     "nodes": (3, 16), "m": (0, 3), "periods": (1, 1024), "faulty": (0, 16), "rate": (0, 1), "length": (1, 1024),
     "restart": (0, 1024),
-    "seed": (0, 2 ** 64 - 1), "epsilon": (0, 2 ** 20), "drift": (0, 2 ** 20), "start": (0, 2 ** 40),
+    "seed": (0, 2 ** 32 - 1), "epsilon": (0, 2 ** 20), "drift": (0, 2 ** 20), "start": (0, 2 ** 40),
     "lie": (0, 2 ** 40),
 }
 # keys of a scenario that may be set where they don't stand yet
@@ -64,6 +64,11 @@ class Cluster:
     base: Json | None = None
     settings: tuple[tuple[str, Any], ...] = ()
 
+    @property
+    def is_plain(self) -> bool:
+        """Whether the options say all, so that the program judge draws the scenarios itself."""
+        return self.base is None and not self.settings
+
     def scenario(self) -> Json:
         """The scenario without drawn faults."""
         named = dict(self.settings)
@@ -74,7 +79,7 @@ class Cluster:
         return data
 
     def drawn(self, index: int) -> Json:
-        """The scenario of this index."""
+        """The scenario of this index, drawn here."""
         return drawn(self.options, index, self.scenario(), self.base is None)
 
 

@@ -33,6 +33,11 @@ def find_controller(given: str | None) -> str:
     return _find(given, "CONTROLLER", "--controller", ["which", "controller"])
 
 
+def find_judge(given: str | None) -> str:
+    """The same of the program judge, whose variable is JUDGE."""
+    return _find(given, "JUDGE", "--judge", ["which", "judge"])
+
+
 def _find(given: str | None, variable: str, option: str, words: list[str]) -> str:
     named = given or os.environ.get(variable)
     if named:

@@ -8,18 +8,19 @@ from __future__ import annotations
 
 import csv
 import dataclasses
-import io
+import functools
 import os
 import pathlib
 import stat
 import sys
-from collections.abc import Callable, Mapping
-from typing import Any, TextIO
+from collections.abc import Callable, Iterable, Iterator, Mapping
+from typing import Any, TextIO, TypeVar
 
 from .json_text import printable
 from .plan import WordsError
 from .rows import Illness, Judged, Run
 
+T = TypeVar("T")
 # what a column is called where the field can't have its name
 NAMES = {"initial": "class"}
 SKEWS = ("name", "case", "period", "skew")
@@ -41,8 +42,11 @@ def cell(value: Any) -> str:
         return ""
     if isinstance(value, bool):
         return "yes" if value else "no"
-    if not isinstance(value, str):
-        return str(value)
+    return _text(value) if isinstance(value, str) else str(value)
+
+
+@functools.lru_cache(maxsize=1024)
+def _text(value: str) -> str:
     text = shown(value)
     return "'" + text if text[:1] in tuple("=+-@") and not text[1:].replace(".", "", 1).isdecimal() else text
 
@@ -84,10 +88,69 @@ class _Table:
             self.writer.writerow(names)
             out.flush()
 
-    def write(self, cells: list[str]) -> None:
-        """One row, which is at the device when this returns."""
-        self.writer.writerow(cells)
+    def write(self, rows: Iterable[list[str]]) -> None:
+        """Some rows, which are at the device when this returns."""
+        self.writer.writerows(rows)
         self.out.flush()
+
+
+def _run_of(cells: list[str]) -> Run:
+    run: Run = _row(Run, cells)
+    return run
+
+
+def _illness_of(cells: list[str]) -> Illness:
+    illness: Illness = _row(Illness, cells)
+    return illness
+
+
+class _Written:
+    """A file of rows that were written, read from its front: up to `size` they are taken. Raises WordsError where it
+    isn't a file of these options and columns, or has a line that is no row; one that is cut short isn't read."""
+
+    def __init__(self, path: str, first: str, names: list[str]) -> None:
+        self.path = path
+        try:
+            self.file = open(path, "rb")
+            lines = [self.file.readline().decode("utf-8") for _ in range(2)]
+        except (OSError, ValueError):
+            raise WordsError(f"{path} can't be read, so nothing can go on behind it") from None
+        if lines[0] != first + "\n":
+            raise WordsError(f"{path} has rows of other options, or none: its first line isn't '{first}'")
+        if list(csv.reader(lines[1:])) != [names]:
+            raise WordsError(f"{path} has other columns")
+        self.size = self.file.tell()
+        self.line = self.file.readline()
+
+    def _take(self, row_of: Callable[[list[str]], T], run: Run | None) -> T | None:
+        """The next row, which is of this run if one is given; None where there is none."""
+        if not self.line.endswith(b"\n"):
+            return None
+        try:
+            cells = next(csv.reader([self.line.decode("utf-8")]))
+            if run is not None and (_value(cells[0], "str"), _value(cells[1], "str")) != (run.name, run.case):
+                return None
+            row = row_of(cells)
+        except (ValueError, KeyError, IndexError, StopIteration):
+            raise WordsError(f"{self.path} has a line that is no row: {self.line[:80]!r}") from None
+        self.size += len(self.line)
+        self.line = self.file.readline()
+        return row
+
+    def all(self, row_of: Callable[[list[str]], T]) -> Iterator[T]:
+        """The rows that are left."""
+        while (row := self._take(row_of, None)) is not None:
+            yield row
+
+    def of(self, run: Run, row_of: Callable[[list[str]], T]) -> Iterator[T]:
+        """The next rows, as far as they are of a run."""
+        while (row := self._take(row_of, run)) is not None:
+            yield row
+
+    def cut(self) -> None:
+        """Cuts the file behind what was taken."""
+        self.file.close()
+        os.truncate(self.path, self.size)
 
 
 class Tables:
@@ -109,28 +172,28 @@ class Tables:
             if os.path.exists(beside(self.path, "skews")):
                 os.remove(beside(self.path, "skews"))
 
-    def resume(self) -> list[Judged]:
-        """The rows that the files have, behind which they go on; raises WordsError where they aren't of these options.
-        """
+    def resume(self) -> Iterator[Judged]:
+        """The rows that the files have, run by run, behind which they go on; raises WordsError where they aren't of
+        these options."""
         if self.is_alone:
             raise WordsError("resume needs csv with a file that has the rows so far")
         if not os.path.exists(self.path):
             self.start()
-            return []
-        runs = self._read(self.path, [*columns(Run), *self.extra], lambda cells: _row(Run, cells))
-        done = {(it.case, it.name): Judged(it) for it in runs}
-        ill = self._read(beside(self.path, "illnesses"), columns(Illness),
-            _within(done, lambda cells: _row(Illness, cells)))
-        for it in ill:
-            done[it.case, it.name].illnesses.append(it)
-        if os.path.exists(beside(self.path, "skews")):
-            for name, case, period, skew in self._read(beside(self.path, "skews"), list(SKEWS),
-                    _within(done, lambda cells: tuple(cells))):
-                done[case, name].skews.append(None if skew == "" else int(skew))
-            self.skews = self._open(beside(self.path, "skews"), list(SKEWS), "a")
-        self.runs = self._open(self.path, [], "a")
-        self.illnesses = self._open(beside(self.path, "illnesses"), [], "a")
-        return list(done.values())
+            return
+        runs = _Written(self.path, self.first, [*columns(Run), *self.extra])
+        illnesses = _Written(beside(self.path, "illnesses"), self.first, columns(Illness))
+        has_skews = os.path.exists(beside(self.path, "skews"))
+        skews = _Written(beside(self.path, "skews"), self.first, list(SKEWS)) if has_skews else None
+        for run in runs.all(_run_of):
+            judged = Judged(run, list(illnesses.of(run, _illness_of)))
+            if skews is not None:
+                judged.skews += [skew for skew, in skews.of(run, lambda cells: (_value(cells[3], "int | None"),))]
+            yield judged
+        for it in (runs, illnesses, skews):
+            if it is not None:
+                it.cut()
+        self.runs, self.illnesses = self._open(runs.path, [], "a"), self._open(illnesses.path, [], "a")
+        self.skews = self._open(skews.path, [], "a") if skews is not None else None
 
     def _open(self, path: str, names: list[str], mode: str) -> _Table:
         out = sys.stdout if path == "-" else open(path, mode, newline="", encoding="utf-8")
@@ -138,41 +201,19 @@ class Tables:
         self.open_files.append(table)
         return table
 
-    def _read(self, path: str, names: list[str], row_of: Callable[[list[str]], Any]) -> list[Any]:
-        """The rows up to the first that is cut short or isn't wanted, from which on the file is cut."""
-        try:
-            content = pathlib.Path(path).read_bytes().decode("utf-8")
-        except (OSError, ValueError):
-            raise WordsError(f"{path} can't be read, so nothing can go on behind it") from None
-        lines = content.splitlines(keepends=True)
-        if lines[:1] != [self.first + "\n"]:
-            raise WordsError(f"{path} has rows of other options, or none: its first line isn't '{self.first}'")
-        if list(csv.reader(lines[1:2])) != [names]:
-            raise WordsError(f"{path} has other columns")
-        rows, size = [], len((lines[0] + lines[1]).encode())
-        for line in lines[2:]:
-            try:
-                row = row_of(next(csv.reader(io.StringIO(line)))) if line.endswith("\n") else None
-            except (ValueError, KeyError, StopIteration):
-                raise WordsError(f"{path} has a line that is no row: {line[:80]!r}") from None
-            if row is None:
-                break
-            rows.append(row)
-            size += len(line.encode())
-        os.truncate(path, size)
-        return rows
-
     def write(self, judged: Judged, values: Mapping[str, str]) -> None:
         """The rows of a scenario; `values` are those of the further columns."""
         if not self.is_alone:
-            for illness in judged.illnesses:
-                self.illnesses.write(cells(illness))
-            if judged.skews and self.skews is None:
-                self.skews = self._open(beside(self.path, "skews"), list(SKEWS), "w")
-            for period, skew in enumerate(judged.skews):
-                self.skews.write([cell(judged.run.name), cell(judged.run.case), str(period),
-                    cell(skew)])  # type: ignore[union-attr]
-        self.runs.write([*cells(judged.run), *(cell(values.get(it, "")) for it in self.extra)])
+            self.illnesses.write(map(cells, judged.illnesses))
+            if judged.skews:
+                self._write_skews(judged)
+        self.runs.write([[*cells(judged.run), *(cell(values.get(it, "")) for it in self.extra)]])
+
+    def _write_skews(self, judged: Judged) -> None:
+        if self.skews is None:
+            self.skews = self._open(beside(self.path, "skews"), list(SKEWS), "w")
+        names = [cell(judged.run.name), cell(judged.run.case)]
+        self.skews.write([*names, str(period), cell(skew)] for period, skew in enumerate(judged.skews))
 
     def close(self) -> None:
         """Lets go of the files."""
@@ -181,14 +222,7 @@ class Tables:
                 table.out.close()
 
 
-def _within(done: dict[tuple[str, str], Judged], row_of: Callable[[list[str]], Any]) -> Callable[[list[str]], Any]:
-    """Reads a row whose first two cells name a run that is done; None for another."""
-    def read(cells: list[str]) -> Any:
-        return row_of(cells) if (_value(cells[1], "str"), _value(cells[0], "str")) in done else None
-    return read
-
-
 def cells(row: Run | Illness) -> list[str]:
     """A row's cells."""
-    return [cell(getattr(row, it.name)) for it in dataclasses.fields(row)]
+    return ["" if it is None else str(it) if it.__class__ is int else cell(it) for it in vars(row).values()]
 

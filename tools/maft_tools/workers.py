@@ -20,7 +20,7 @@ from collections.abc import Callable, Iterator, Sequence
 from multiprocessing.connection import Connection, wait
 from typing import Any
 
-from .campaign import Job, judge
+from .campaign import Job, Jobs, judge
 from .plan import WordsError
 from .rows import Judged
 
@@ -34,11 +34,6 @@ def batch_size(count: int, workers: int, most: int) -> int:
     return max(1, min(most, math.ceil(count / (4 * max(1, workers)))))
 
 
-def judge_batch(program: str, jobs: Sequence[Job]) -> list[Judged]:
-    """The rows of some jobs."""
-    return [judge(program, it) for it in jobs]
-
-
 def _serve(pipe: Connection, program: str) -> None:
     """A worker's life: batches come, rows or words go, until there are no more."""
     signal.signal(signal.SIGINT, signal.SIG_DFL)
@@ -48,7 +43,7 @@ def _serve(pipe: Connection, program: str) -> None:
         except (EOFError, OSError):
             return
         try:
-            pipe.send(judge_batch(program, jobs))
+            pipe.send(judge(program, jobs))
         except WordsError as error:
             pipe.send(str(error))
 
@@ -73,9 +68,9 @@ class _Worker:
 class _Pool:
     """Batches of jobs on processes of this machine."""
 
-    def __init__(self, program: str, jobs: Sequence[Job], start: int, processes: int, say: Say) -> None:
+    def __init__(self, program: str, jobs: Jobs, start: int, processes: int, say: Say) -> None:
         self.program, self.jobs, self.say = program, jobs, say
-        self.size = batch_size(len(jobs) - start, processes, 8)
+        self.size = batch_size(len(jobs) - start, processes, jobs.batch)
         self.waiting = iter(range(start, len(jobs), self.size))
         self.again: list[int] = []  # places of batches that are to be run before those that wait
         self.deaths: Counter[int] = Counter()
@@ -129,7 +124,7 @@ class _Pool:
         while at < len(self.jobs):
             for worker in self.workers:
                 if worker.at is None:
-                    self.give(worker, at + 64 * self.size * len(self.workers))
+                    self.give(worker, at + 8 * self.size * len(self.workers))
             busy = {it.pipe: it for it in self.workers if it.at is not None}
             for pipe in wait(list(busy)):
                 self.take(busy[pipe])  # type: ignore[index]
@@ -142,7 +137,7 @@ def _cause(code: int | None) -> str:
     return f"signal {-code}" if code is not None and code < 0 else f"status {code}"
 
 
-def here(program: str, jobs: Sequence[Job], processes: int, start: int = 0,
+def here(program: str, jobs: Jobs, processes: int, start: int = 0,
         say: Say = lambda _: None) -> Iterator[Judged]:
     """Judges the jobs from a place on, on this machine. Raises WordsError where scenarios end one process after the
     other."""
@@ -235,7 +230,7 @@ class _Watch:
                     raise WordsError("the scheduler is gone") from None
 
 
-def on_dask(program: str, jobs: Sequence[Job], scheduler: str, start: int = 0,
+def on_dask(program: str, jobs: Jobs, scheduler: str, start: int = 0,
         say: Say = lambda _: None) -> Iterator[Judged]:
     """Judges the jobs from a place on, on the workers of a scheduler, where the program has the same path.
 
@@ -250,10 +245,10 @@ def on_dask(program: str, jobs: Sequence[Job], scheduler: str, start: int = 0,
         with tempfile.TemporaryDirectory() as folder:
             client.upload_file(package_file(folder))
             watch = _Watch(client, say)
-            size = batch_size(len(jobs) - start, len(watch.known), 32)
+            size = batch_size(len(jobs) - start, len(watch.known), jobs.batch)
             batches = [[jobs[it] for it in range(at, min(at + size, len(jobs)))]
                 for at in range(start, len(jobs), size)]
-            for future in client.map(judge_batch, [program] * len(batches), batches, pure=False):
+            for future in client.map(judge, [program] * len(batches), batches, pure=False):
                 yield from watch.result(future)
             watch.at = 0.0
             watch.look()

@@ -47,7 +47,7 @@ impl<const ROOM: usize> Printer<ROOM> {
     }
 
     /// Prints a piece of text.
-    pub(crate) fn text<K: Sink>(&mut self, sink: &mut K, bytes: &[u8])
+    pub fn text<K: Sink>(&mut self, sink: &mut K, bytes: &[u8])
         ensures { Prints K.written K.faults self.old sink.old self.new sink.new bytes.now }
     {
         if !self.gathered.extend(bytes) {
@@ -65,7 +65,7 @@ impl<const ROOM: usize> Printer<ROOM> {
     }
 
     /// Prints a number in decimal.
-    pub(crate) fn number<K: Sink>(&mut self, sink: &mut K, n: u64)
+    pub fn number<K: Sink>(&mut self, sink: &mut K, n: u64)
         ensures { Prints K.written K.faults self.old sink.old self.new sink.new (decimal n) }
     {
         if n < 10 {
@@ -86,7 +86,7 @@ impl<const ROOM: usize> Printer<ROOM> {
     }
 
     /// Prints a label and the number behind it.
-    pub(crate) fn labelled<K: Sink>(&mut self, sink: &mut K, label: &[u8], n: u64)
+    pub fn labelled<K: Sink>(&mut self, sink: &mut K, label: &[u8], n: u64)
         ensures { Prints K.written K.faults self.old sink.old self.new sink.new
             (label.now ++ decimal n) }
     {
@@ -95,7 +95,7 @@ impl<const ROOM: usize> Printer<ROOM> {
     }
 
     /// Prints a number with a sign in decimal.
-    pub(crate) fn signed<K: Sink>(&mut self, sink: &mut K, n: i64)
+    pub fn signed<K: Sink>(&mut self, sink: &mut K, n: i64)
         ensures { Prints K.written K.faults self.old sink.old self.new sink.new (signed_decimal n) }
     {
         let mut buffer = Buffer::new();

@@ -25,7 +25,7 @@ import shlex
 import sys
 import time
 import urllib.parse
-from collections.abc import Callable, Sequence
+from collections.abc import Callable
 from typing import Any, NoReturn
 
 from .. import __version__, campaign, charts, drawing, figures, plots, program, report, scenario, sweep, tables, workers
@@ -86,7 +86,7 @@ def options() -> Given:
     parser.add_argument("--scheduler", metavar="ADDRESS", help="the address of a Dask scheduler")
     parser.add_argument("--quiet", action="store_true", help="draw no bar")
     parser.add_argument("--version", action="version", version=f"%(prog)s {__version__}")
-    parser.add_argument("--program", help="the program; by default the one that ./maft answers with")
+    parser.add_argument("--judge", help="the program judge; by default the one that ./maft which judge names")
     return parser.parse_args()
 
 
@@ -151,7 +151,7 @@ class Plan:
         check_together(given)
         self.count = whole("count", given.count, (1, 10 ** 7), 100)
         self.processes = whole("processes", given.processes, (1, 1024), os.cpu_count() or 1)
-        self.show = whole("show", given.show, (0, 10 ** 12), None)
+        self.show = whole("show", given.show, (0, 2 ** 32 - 1), None)
         self.axes = axes_of(given)
         self.cases = sweep.cases(self.axes, given.clock is not None)
         self.extra = [it.name for it in self.axes if len(it.values) > 1 and it.name not in tables.columns(Run)]
@@ -172,16 +172,13 @@ class Plan:
         return json.dumps(said, sort_keys=True)
 
 
-def refusal_by(path: str) -> Callable[[Json], str | None]:
+def refusal_by(judge: str) -> Callable[[Json], str | None]:
     """A function that says why the program refuses a scenario, if it does."""
     def refusal(data: Json) -> str | None:
         # a lie of a clock needs a fault, which a cluster alone hasn't
         alone = {**data, "clock": {**data["clock"], "lies": []}} if isinstance(data.get("clock"), dict) else data
-        try:
-            program.run_well(path, ["check"], alone)
-        except WordsError as error:
-            return str(error)
-        return None
+        run = campaign.judge(judge, [campaign.Job("", source=json.dumps(alone).encode())])[0].run
+        return run.words or None
     return refusal
 
 
@@ -214,8 +211,8 @@ class Bar:
 class Campaign:
     """A campaign on its way: where its rows go, and what they come to so far."""
 
-    def __init__(self, given: Given, plan: Plan, jobs: Sequence[campaign.Job], cases: list[sweep.Case]) -> None:
-        self.given, self.plan, self.jobs, self.cases = given, plan, jobs, cases
+    def __init__(self, given: Given, plan: Plan, jobs: campaign.Jobs, cases: list[sweep.Case], judge: str) -> None:
+        self.given, self.plan, self.jobs, self.cases, self.judge = given, plan, jobs, cases, judge
         self.values = {it.words: dict(it.values) for it in cases}
         self.tallies = {it.words: figures.Tally(it, given.pair) for it in cases}
         self.tables = tables.Tables(given.csv, plan.options(given), plan.extra) if given.csv else None
@@ -262,18 +259,18 @@ class Campaign:
         """Writes and counts the rows of a scenario, and writes the scenario."""
         if self.given.save:
             job = self.jobs[self.done]
-            text = scenario.Scenario(job.cluster.drawn(job.index)).dumps()
+            text = scenario.Scenario(campaign.scenario_of(self.judge, job.cluster, job.index)).dumps()
             pathlib.Path(self.saved(job.case, job.name)).write_text(text)
         if self.tables:
             self.tables.write(judged, self.values[judged.run.case])
         self.count(judged)
 
-    def run(self, path: str) -> int:
+    def run(self) -> int:
         """Runs what isn't done yet. The status: 0, or 130 where it was stopped, or 1 where it can't go on; then it
         says so."""
         bar = Bar(self.done, len(self.jobs), sys.stderr.isatty() and not self.given.quiet)
-        words = (path, self.jobs, self.given.scheduler, self.done, bar.say) if self.given.scheduler else (
-            path, self.jobs, self.plan.processes, self.done, bar.say)
+        words = (self.judge, self.jobs, self.given.scheduler, self.done, bar.say) if self.given.scheduler else (
+            self.judge, self.jobs, self.plan.processes, self.done, bar.say)
         judged = (workers.on_dask if self.given.scheduler else workers.here)(*words)
         try:
             for it in judged:
@@ -328,21 +325,22 @@ def main() -> int:
         plan = Plan(given)
         if given.folder is not None:
             cases, jobs = [sweep.Case("", drawing.Cluster(drawing.Options()))], campaign.Folder(given.folder)
-        path = os.path.abspath(program.find(given.program))
+        judge = os.path.abspath(program.find_judge(given.judge))
         if given.folder is None:
-            cases, left_out = sweep.allowed(plan.cases, refusal_by(path))
+            cases, left_out = sweep.allowed(plan.cases, refusal_by(judge))
             jobs = campaign.Drawn(cases, plan.count)
             for words in left_out:
                 say("campaign", words)
         if plan.show is not None:
-            sys.stdout.write(scenario.Scenario(cases[0].cluster.drawn(plan.show)).dumps())
+            shown = campaign.scenario_of(judge, cases[0].cluster, plan.show)
+            sys.stdout.write(scenario.Scenario(shown).dumps())
             return 0
-        made = Campaign(given, plan, jobs, cases)
+        made = Campaign(given, plan, jobs, cases, judge)
         made.open()
     except (UsageError, WordsError, OSError) as error:
         say("campaign", str(error))
         return 2
-    status = made.run(path)
+    status = made.run()
     made.tell()
     if status == 0 and not any(it.good for it in made.tallies.values()):
         say("campaign", "no scenario could be run to its end")

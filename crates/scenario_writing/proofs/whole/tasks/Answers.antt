@@ -1,0 +1,13 @@
+use Rattle.std.proofs.Common.{Some, ap, ◌∙◌}
+use Rattle.scenario.specs.Seen.{task_view}
+use Rattle.scenario_reading.specs.Keys.{task_key}
+use Rattle.scenario_writing.proofs.Grown.{next, all}
+use Rattle.scenario_writing.proofs.whole.tasks.Goals as goal
+
+pub loop-part-preserved : goal.loop-part-preserved
+loop-part-preserved c =
+    next task_key task_view c.args.parts.now c.loop-part.part-index c.part-item.result c.in_ok-task.field-0 c.loop-part.values.items c.push.new.self.items
+    c.loop-part-test.true (c.in_ok-task.ensures ∙ ap (λ p. Some (task_view p)) c.part-item.is) c.in_ok-push.ensures.items c.loop-part.invariant
+
+pub returns : goal.returns
+returns c = all task_key task_view c.args.parts.now c.loop-part.part-index c.loop-part.values c.loop-part-test.false c.loop-part.invariant
