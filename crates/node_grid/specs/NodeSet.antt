@@ -27,6 +27,10 @@ union_of n s t = filter (λ k. has_id s k || has_id t k) (ids_below n)
 abbrev pub minus_of : List ℕ → List ℕ → List ℕ
 minus_of s t = filter (λ k. not (has_id t k)) s
 
+-- the members that another set has too
+abbrev pub common_of : List ℕ → List ℕ → List ℕ
+common_of s t = filter (λ k. has_id t k) s
+
 -- how many members are below x
 abbrev pub place_of : List ℕ → ℕ → ℕ
 place_of s x = length (filter (λ k. nat_lt k x) s)

@@ -18,7 +18,7 @@ use Rattle.std.proofs.lemmas.Nat.{or_lt, and_le_l}
 use Rattle.std.specs.Cmp.Lexicographic.{pointwise}
 use Rattle.std.proofs.lemmas.Slice.Eq.{bytes_eq-Decides}
 use Rattle.node_grid.specs.Count.{bit, count}
-use Rattle.node_grid.specs.NodeSet.{ids_below, has_id, with_id, without_id, bits_set, mask_of, IsIdSet, ids_where, ids_where_below, union_of, minus_of, place_of}
+use Rattle.node_grid.specs.NodeSet.{ids_below, has_id, with_id, without_id, bits_set, mask_of, IsIdSet, ids_where, ids_where_below, union_of, minus_of, common_of, place_of}
 
 by_le : {P : Type 0} (a b : ℕ) → (a ≤ b → P) → (b < a → P) → P
 by_le {P} a b f g = elim (cases_lt b a) as (λ _. P) [ inl h ↦ g h | inr h ↦ f h ]
@@ -255,6 +255,16 @@ bits_set-minus n a b few h =
     rw (bit_at_and a (bit_not w16 b) k, bit_at_not w16 b k (omega arith) (omega arith), has-bits_set n b k (omega arith))
     (both_bits (bit_at a k) (bit_at b k) (bit_at-lt a k) (bit_at-lt b k)))
     ∙ sym (filter_filter (λ k. bit_at a k == 1) (λ k. not (has_id (bits_set n b) k)) (ids_below n))
+
+shared_bit : (x y : ℕ) → x < 2 → y < 2 → (min x y == 1) ≡ ((x == 1) && (y == 1))
+shared_bit x y h l = grind arith
+
+pub bits_set-common : (n a b : ℕ) → bits_set n (bit_and a b) ≡ common_of (bits_set n a) (bits_set n b)
+bits_set-common n a b =
+    filter_range _ (λ k. (bit_at a k == 1) && has_id (bits_set n b) k) 0 n (λ k l u.
+    rw (bit_at_and a b k, has-bits_set n b k (omega arith))
+    (shared_bit (bit_at a k) (bit_at b k) (bit_at-lt a k) (bit_at-lt b k)))
+    ∙ sym (filter_filter (λ k. bit_at a k == 1) (λ k. has_id (bits_set n b) k) (ids_below n))
 
 -- ---- the members below a number
 

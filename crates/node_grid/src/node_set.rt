@@ -1,5 +1,5 @@
 ghost use Rattle.std.specs.Prelude.{◌≡◌, ℕ, ◌+◌, ◌^◌, ◌<◌, ◌≤◌, List, [], ◌∷◌, ◌++◌, length, slice_get, slice_index, drop, IfSome, IsTrue, ◌↔◌, ◌==◌, All};
-ghost use Rattle.node_grid.specs.NodeSet.{ids_below, has_id, with_id, without_id, union_of, minus_of, place_of, bits_set, mask_of, IsIdSet};
+ghost use Rattle.node_grid.specs.NodeSet.{ids_below, has_id, with_id, without_id, union_of, minus_of, common_of, place_of, bits_set, mask_of, IsIdSet};
 ghost use Rattle.std.specs.Cmp.Lexicographic.{pointwise};
 ghost use Rattle.std.specs.Cmp.Rules.{comparing};
 ghost use Rattle.std.proofs.Common.{rules};
@@ -102,6 +102,15 @@ impl<const N: usize> NodeSet<N> {
     {
         NodeSet {
             mask: self.mask & !other.mask,
+        }
+    }
+
+    /// The members that the other set has too.
+    pub fn common(&self, other: &NodeSet<N>) -> NodeSet<N>
+        ensures { result ≡ common_of self.now other.now }
+    {
+        NodeSet {
+            mask: self.mask & other.mask,
         }
     }
 

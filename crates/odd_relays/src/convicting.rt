@@ -11,6 +11,7 @@ ghost use Rattle.odd_relays.specs.Voices.{IsCounted, regular_relay, regular_memb
 
 use crate::item::{Item, Relays};
 use crate::values::{is_same, value_at};
+use equivocation::{is_present, tolerated};
 use node_grid::NodeSet;
 use omh_paths::{Path, Wrapped};
 
@@ -22,28 +23,11 @@ pub(crate) struct Voices {
     pub against: u8,
 }
 
-/// Whether a relay is there.
-fn is_present<V: Copy + Eq>(relay: &Wrapped<V>) -> bool
-    ensures { result ≡ is_present relay.now }
-{
-    match relay {
-        Wrapped::Plain(_) => true,
-        Wrapped::Fault(k) => *k != 0,
-    }
-}
-
 /// Whether it is there, and says otherwise than it is expected to.
 fn disagrees<V: Copy + Eq>(relay: &Wrapped<V>, expected: &Wrapped<V>) -> bool
     ensures { result ≡ (is_present relay.now && not (same V.eq relay.now expected.now)) }
 {
     is_present(relay) && *relay != *expected
-}
-
-/// How many of so many voices may disagree, with `m` relay rounds.
-fn tolerated(voices: u8, m: u8) -> u8
-    ensures { result ≡ tolerated_of voices m }
-{
-    if voices > m { (voices - m) / 2 } else { 0 }
 }
 
 impl Voices {
