@@ -1,5 +1,5 @@
 -- Results that are passed on, of options that a JSON value describes.
-use Rattle.std.proofs.Common.{◌≡◌, ℕ, Option, None, Some, Result, Ok, Err, IfOk, IfErr, OnOk, ap, ◌∙◌}
+use Rattle.std.proofs.Common.{◌≡◌, None, Some, ap, ◌∙◌}
 use Rattle.serde_json.specs.Data.{Data}
 use Rattle.drawn_scenarios.specs.Options.{options_refusal, choices_of, place_of}
 use Rattle.drawn_scenarios.specs.declared.choices.Choices.{Choices}
