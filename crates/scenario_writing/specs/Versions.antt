@@ -1,7 +1,6 @@
 -- What the versions of the formats have words for.
-use Rattle.std.specs.Prelude.{◌≡◌, ℕ, ℤ, pos, ⊥, ◌⊎◌, List, Option, None}
+use Rattle.std.specs.Prelude.{◌≡◌, ℤ, pos, Bool, true, false, None}
 use Rattle.std.specs.Ordering.{int_eq}
-use Rattle.std.specs.Prelude.{Bool, true, false}
 use Rattle.std.specs.List.{AllByRecursion}
 use Rattle.scenario.specs.Parts.{PolicyParts, ChannelParts, ScenarioParts}
 use Rattle.scenario.specs.Parts.ChannelParts.{state, sensor, copy}
