@@ -1,11 +1,10 @@
 -- Members that are put one after another, and numbers that are read back.
-use Rattle.std.proofs.Common.{◌≡◌, ℕ, ℤ, List, [], Option, Some, refl, ap, ◌∙◌, w64, to_z, of_z}
+use Rattle.std.proofs.Common.{◌≡◌, ℕ, ℤ, List, [], Option, Some, ap, ◌∙◌, w64, to_z, of_z}
 use Rattle.std.proofs.lemmas.Int.{to_z-of_z}
 use mir.Val.{SFits}
 use Rattle.serde_json.specs.Data.{Data, Members, no_members, put}
 use Rattle.serde_json.specs.View.{members_view}
 use Rattle.serde_json.proofs.Views.{Entry}
-use Rattle.json_parts.specs.Reading.{whole}
 use Rattle.scenario_writing.specs.Members.{put_some}
 
 pub begun : (es : List Entry) → es ≡ [] → members_view es ≡ no_members

@@ -1,5 +1,5 @@
 -- The policy that is read back of its members.
-use Rattle.std.proofs.Common.{◌≡◌, ℤ, pos, Bool, true, false, Option, Some, None, refl, ap, ◌∙◌}
+use Rattle.std.proofs.Common.{◌≡◌, ℤ, pos, Bool, true, false, Option, Some, None, refl}
 use Rattle.std.specs.Prelude.{codes, option_map}
 use Rattle.serde_json.specs.Data.{Data, Members, no_members, object, put}
 use Rattle.json_parts.specs.Reading.{whole, list_of, has_keys, required, optional}

@@ -1,9 +1,8 @@
-use Rattle.std.proofs.Common.{◌≡◌, rules, w64}
+use Rattle.std.proofs.Common.{rules, w64}
 use Rattle.std.proofs.lemmas.Int.{to_z-of_z}
 use Rattle.std.proofs.lemmas.Result.{IfOk-weaker}
 use mir.Val.{SFits}
 use Rattle.serde_json.specs.View.{view}
-use Rattle.scenario.specs.Seen.{channel_view}
 use Rattle.scenario_writing.proofs.Channels.{copy_at, both}
 use Rattle.scenario_writing.proofs.whole.channel.Goals as goal
 

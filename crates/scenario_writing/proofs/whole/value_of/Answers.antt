@@ -1,4 +1,4 @@
-use Rattle.std.proofs.Common.{◌≡◌, Some, ap, ◌∙◌, rules, w64, to_z, of_z}
+use Rattle.std.proofs.Common.{◌≡◌, ap, ◌∙◌, rules, w64, to_z, of_z}
 use Rattle.std.specs.Prelude.{codes, option_map}
 use Rattle.std.proofs.lemmas.Int.{to_z-of_z}
 use Rattle.serde_json.specs.Data.{object}
