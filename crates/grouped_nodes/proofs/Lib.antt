@@ -2,3 +2,4 @@ pub mod Firsts
 pub mod Completion
 pub mod PartedBeliefs
 pub mod GroupSteps
+mod Finishing
