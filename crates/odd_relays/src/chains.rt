@@ -80,8 +80,7 @@ impl<'a, V: Copy + Eq, S: Relays<V>, const N: usize> Item<'a, V, S, N> {
         ensures kept { KeepsBelow from work.old work.new }
         ensures room { length work.new ≡ length work.old }
     {
-        let idle = self.phase.members.minus(&self.phase.full);
-        let voters = outside(&self.phase.members.minus(&idle), path);
+        let voters = outside(&self.phase.members.common(&self.phase.full), path);
         let Some(first) = voters.least() else {
             return false;
         };
