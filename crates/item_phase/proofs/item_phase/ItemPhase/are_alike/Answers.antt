@@ -1,6 +1,5 @@
-use Rattle.std.proofs.Common.{rules, ℕ, ◌≡◌, ◌==◌, Bool, true, false, not, List, refl, sym, ap, ◌∙◌, inl, inr, lit<}
-use Rattle.std.specs.Cmp.Lexicographic.{pointwise}
-use Rattle.std.proofs.lemmas.Bool.{cases_Bool, both_ways}
+use Rattle.std.proofs.Common.{rules, ℕ, ◌≡◌, List, true, sym, ap, ◌∙◌, inl, inr, lit<}
+use Rattle.std.proofs.lemmas.Bool.{cases_Bool, not-false}
 use Rattle.std.proofs.lemmas.Slice.Eq.{bytes_eq-Decides}
 use Rattle.node_grid.specs.NodeSet.{has_id, minus_of}
 use Rattle.omh_paths.specs.declared.wrapped.Wrapped.TheVariants.{Plain}
@@ -12,10 +11,6 @@ use Rattle.item_phase.specs.Settled.{listener}
 use Rattle.item_phase.proofs.Marking.{in_minus, taken_out}
 use Rattle.item_phase.proofs.Standing.{alike_said}
 use Rattle.item_phase.proofs.item_phase.ItemPhase.are_alike.Goals as goal
-
-same_of : (b r : Bool) → r ≡ not b → r ≡ false → b ≡ true
-same_of true r e f = refl
-same_of false r e f = absurd (both_ways r f e)
 
 pub loop-c-init : goal.loop-c-init
 loop-c-init g c = record {
@@ -70,7 +65,7 @@ returns-clause-alike g c = λ _ k member.
     let x = c.args.phase.now in
     let same : members_at x c.args.i ≡ members_at x c.args.j =
     sym c.members_of-members.ensures
-    ∙ (bytes_eq-Decides c.members_of-members.result c.members_of.result).0 (same_of (pointwise ◌==◌ c.members_of-members.result c.members_of.result) c.ne.result c.ne.ensures c.if-ne.false)
+    ∙ (bytes_eq-Decides c.members_of-members.result c.members_of.result).0 (not-false _ (sym c.ne.ensures ∙ c.if-ne.false))
     ∙ c.members_of.ensures
     in
     let plain : List ℕ = c.args.self.now.seen.plain in
