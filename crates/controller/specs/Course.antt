@@ -18,15 +18,6 @@ pub data Course (N : ℕ) : Type 0 where
   Stands : LiveView N → List ℕ → Course N
   Ends : Ending → Course N
 
--- the number of the line behind this one, the first being 1; a number stands still at 2^64 - 1
-abbrev pub next_number : ℕ → ℕ
-next_number n = min (n + 1) (2 ^ 64 - 1)
-
--- and of the line behind these, the first of which has this number
-abbrev pub number_behind : ℕ → List (List ℕ) → ℕ
-number_behind n [] = n
-number_behind n (line ∷ lines) = number_behind (next_number n) lines
-
 -- a text was written before
 abbrev pub ending_behind : List ℕ → Ending → Ending
 ending_behind text e = record { status = e.status; text = text ++ e.text }
