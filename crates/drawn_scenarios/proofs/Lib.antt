@@ -13,3 +13,4 @@ pub mod Narrow
 pub mod Gathered
 pub mod Lies
 pub mod Refusals
+pub mod Versions

@@ -1,3 +1,4 @@
+pub use Rattle.scenario_versions.specs.Versions
 pub mod Classes
 pub mod Choices
 pub mod Options

@@ -6,6 +6,7 @@ ghost use Rattle.scenario.specs.Given.{scenario_of};
 ghost use Rattle.scenario.specs.Rules.{refusal};
 ghost use Rattle.scenario.specs.Scenario.{IsScenario};
 ghost use Rattle.scenario.specs.Seen.{clock_view, parts_view};
+ghost use Rattle.scenario_versions.specs.Versions.{IsOfVersion};
 ghost use Rattle.drawn_scenarios.specs.Cluster.{clock_of};
 ghost use Rattle.drawn_scenarios.specs.Drawn.{parts_of, drawn_parts};
 ghost use Rattle.drawn_scenarios.specs.Lines.{lies_of};
@@ -53,7 +54,8 @@ fn parts(alloc: Global, options: &Options, bouts: &[Bout]) -> Result<Parts, Allo
     })
 }
 
-/// The parts of a seed's scenario of this index, which no rule refuses.
+/// The parts of a seed's scenario of this index, which no rule refuses and their version has words
+/// for.
 ///
 /// # Errors
 /// Want of memory.
@@ -62,6 +64,7 @@ pub fn drawn(alloc: Global, options: &Options, seed: u32, index: u32) -> Result<
     ensures accepted { refusal 16 (drawn_parts options.now.choices seed index) ≡ None }
     ensures few { options.now.choices.nodes ≤ 8
         → refusal 8 (drawn_parts options.now.choices seed index) ≡ None }
+    ensures of_version { IfOk result (λ p. IsOfVersion (parts_view p)) }
 {
     laws::unrefused();
     match draw_bouts(alloc, options, seed, index) {

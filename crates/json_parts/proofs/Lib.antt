@@ -1,3 +1,4 @@
 pub mod Collect
 pub mod Meaning
 pub mod Trees
+pub mod Unread

@@ -4,7 +4,7 @@ ghost use Rattle.run_text.specs.Text.{class_text};
 ghost use Rattle.run_print.specs.Printing.{Prints};
 ghost use Rattle.judge_text.specs.Cells.{cell, maybe_cell, signed_cell, class_cell, whether_cell};
 
-use fault_classes::Class;
+use node_grid::Class;
 use run_print::Printer;
 use span_io::Sink;
 

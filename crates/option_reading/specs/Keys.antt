@@ -1,6 +1,6 @@
 -- The options that a JSON value is, object by object. Each answers None where a key is missing, unknown or of another type,
 -- or a text is another one.
-use Rattle.std.specs.Prelude.{ℕ, ℤ, Bool, true, false, List, [], ◌∷◌, Option, Some, None, option_map, option_and_then, codes, if◌then◌else◌}
+use Rattle.std.specs.Prelude.{ℕ, Bool, true, false, List, [], ◌∷◌, Option, Some, None, option_map, option_and_then, codes, if◌then◌else◌}
 use Rattle.std.specs.List.{list_any}
 use Rattle.std.specs.Str.{bytes_eq}
 use Rattle.serde_json.specs.Data.{Data}
@@ -76,6 +76,10 @@ option_names =
     codes "nodes" ∷ codes "m" ∷ codes "periods" ∷ codes "faulty" ∷ codes "classes" ∷ codes "rate" ∷ codes "length" ∷ codes "restart"
     ∷ codes "copies" ∷ codes "clock" ∷ []
 
+-- whether there are copies; none where the key is missing
+abbrev pub copies_in : Data → Option Bool
+copies_in = optional (codes "copies") false as_bool
+
 abbrev pub option_fields : Data → Option OptionParts
 option_fields d = do
   nodes ← required (codes "nodes") whole d
@@ -86,7 +90,7 @@ option_fields d = do
   rate ← required (codes "rate") whole d
   most ← required (codes "length") whole d
   restart ← required (codes "restart") whole d
-  copies ← optional (codes "copies") false as_bool d
+  copies ← copies_in d
   clock ← optional (codes "clock") None (λ x. option_map Some (clock_at x)) d
   Some (record {
     nodes = nodes;

@@ -3,24 +3,24 @@
 //! Each call answers `NoPart` where a key is missing, unknown or of another type, or a text is
 //! another one, and `NoMemory` where there is none.
 ghost use Rattle.std.specs.Prelude.{◌≡◌};
+ghost use Rattle.std.specs.List.{list_any};
 ghost use Rattle.serde_json.specs.Find.{as_bool};
-ghost use Rattle.serde_json.specs.View.{view};
+ghost use Rattle.json_parts.specs.Meaning.{view};
 ghost use Rattle.json_parts.specs.Part.{Gives};
 ghost use Rattle.drawn_scenarios.specs.declared.choices.Classes.{Classes as ClassesAre};
 ghost use Rattle.drawn_scenarios.specs.declared.choices.FaultClass.{FaultClass as FaultClassIs};
 ghost use Rattle.drawn_scenarios.specs.declared.option_parts.ClockOptionParts.{ClockOptionParts as ClockIs};
-ghost use Rattle.option_reading.specs.Keys.{class_at, classes_of, classes_at, clock_at, option_fields, options_read};
-ghost use Rattle.std.specs.Prelude.{Bool};
+ghost use Rattle.option_reading.specs.Keys.{class_at, is_benign, is_symmetric, is_asymmetric, classes_of, classes_at, clock_at, copies_in, option_fields, options_read};
 
 use drawn_scenarios::{Classes, ClockOptionParts, FaultClass, OptionParts};
-use json_parts::{Form, Number, PartError, has_keys, list, optional, required};
-use serde_json::Value;
+use json::Value;
+use json_parts::{Form, Number, PartError, has_keys, list, member, optional, required, text};
 use std::alloc::Global;
 
 /// The name of a class.
 struct ClassName;
 
-impl<'v> Form<'v> for ClassName {
+impl<'a> Form<'a> for ClassName {
     type Part = FaultClass;
 
     ghost Meaning = { FaultClassIs };
@@ -29,8 +29,8 @@ impl<'v> Form<'v> for ClassName {
 
     ghost reads = { λ _ d. class_at d };
 
-    fn read(&self, _alloc: Global, value: &'v Value) -> Result<FaultClass, PartError> {
-        match value.as_str() {
+    fn read(&self, _alloc: Global, value: &Value<'a>) -> Result<FaultClass, PartError> {
+        match text(value) {
             Some("benign") => Ok(FaultClass::Benign),
             Some("symmetric") => Ok(FaultClass::Symmetric),
             Some("asymmetric") => Ok(FaultClass::Asymmetric),
@@ -39,29 +39,45 @@ impl<'v> Form<'v> for ClassName {
     }
 }
 
+fn has_benign(named: &[FaultClass]) -> bool
+    ensures { result ≡ list_any is_benign named.now }
+{
+    named
+        .iter()
+        .any(|class| matches!(class, FaultClass::Benign))
+}
+
+fn has_symmetric(named: &[FaultClass]) -> bool
+    ensures { result ≡ list_any is_symmetric named.now }
+{
+    named
+        .iter()
+        .any(|class| matches!(class, FaultClass::Symmetric))
+}
+
+fn has_asymmetric(named: &[FaultClass]) -> bool
+    ensures { result ≡ list_any is_asymmetric named.now }
+{
+    named
+        .iter()
+        .any(|class| matches!(class, FaultClass::Asymmetric))
+}
+
 /// The classes that are named.
 fn classes_of(named: &[FaultClass]) -> Classes
     ensures { result ≡ classes_of named.now }
 {
-    let mut classes = Classes {
-        benign: false,
-        symmetric: false,
-        asymmetric: false,
-    };
-    for class in named {
-        match class {
-            FaultClass::Benign => classes.benign = true,
-            FaultClass::Symmetric => classes.symmetric = true,
-            FaultClass::Asymmetric => classes.asymmetric = true,
-        }
+    Classes {
+        benign: has_benign(named),
+        symmetric: has_symmetric(named),
+        asymmetric: has_asymmetric(named),
     }
-    classes
 }
 
 /// The names of classes.
 struct ClassNames;
 
-impl<'v> Form<'v> for ClassNames {
+impl<'a> Form<'a> for ClassNames {
     type Part = Classes;
 
     ghost Meaning = { ClassesAre };
@@ -70,32 +86,15 @@ impl<'v> Form<'v> for ClassNames {
 
     ghost reads = { λ _ d. classes_at d };
 
-    fn read(&self, alloc: Global, value: &'v Value) -> Result<Classes, PartError> {
+    fn read(&self, alloc: Global, value: &Value<'a>) -> Result<Classes, PartError> {
         Ok(classes_of(list(alloc, &ClassName, value)?.as_slice()))
-    }
-}
-
-/// Yes or no.
-struct Flag;
-
-impl<'v> Form<'v> for Flag {
-    type Part = bool;
-
-    ghost Meaning = { Bool };
-
-    ghost seen = { λ flag. flag };
-
-    ghost reads = { λ _ d. as_bool d };
-
-    fn read(&self, _alloc: Global, value: &'v Value) -> Result<bool, PartError> {
-        value.as_bool().ok_or(PartError::NoPart)
     }
 }
 
 /// The options of clocks.
 struct ClockForm;
 
-impl<'v> Form<'v> for ClockForm {
+impl<'a> Form<'a> for ClockForm {
     type Part = ClockOptionParts;
 
     ghost Meaning = { ClockIs };
@@ -104,7 +103,7 @@ impl<'v> Form<'v> for ClockForm {
 
     ghost reads = { λ _ d. clock_at d };
 
-    fn read(&self, alloc: Global, value: &'v Value) -> Result<ClockOptionParts, PartError> {
+    fn read(&self, alloc: Global, value: &Value<'a>) -> Result<ClockOptionParts, PartError> {
         if !has_keys(value, &["epsilon", "drift", "start", "lie"]) {
             return Err(PartError::NoPart);
         }
@@ -117,12 +116,27 @@ impl<'v> Form<'v> for ClockForm {
     }
 }
 
-/// Whether there are copies, at its key; none where that is missing.
-fn copies(alloc: Global, value: &Value) -> Result<bool, PartError> {
-    Ok(optional(alloc, &Flag, value, "copies")?.unwrap_or(false))
+/// Yes or no.
+fn flag(value: &Value<'_>) -> Option<bool>
+    ensures { result ≡ as_bool (view value.now) }
+{
+    match value {
+        Value::Bool(flag) => Some(*flag),
+        _ => None,
+    }
 }
 
-fn fields(alloc: Global, value: &Value) -> Result<OptionParts, PartError>
+/// Whether there are copies; none where the key is missing.
+fn copies(value: &Value<'_>) -> Result<bool, PartError>
+    ensures { Gives (λ flag. flag) (copies_in (view value.now)) result }
+{
+    match member(value, "copies") {
+        None => Ok(false),
+        Some(found) => flag(found).ok_or(PartError::NoPart),
+    }
+}
+
+fn fields(alloc: Global, value: &Value<'_>) -> Result<OptionParts, PartError>
     ensures { Gives (λ p. p) (option_fields (view value.now)) result }
 {
     Ok(OptionParts {
@@ -134,13 +148,13 @@ fn fields(alloc: Global, value: &Value) -> Result<OptionParts, PartError>
         rate: required(alloc, &Number, value, "rate")?,
         length: required(alloc, &Number, value, "length")?,
         restart: required(alloc, &Number, value, "restart")?,
-        copies: copies(alloc, value)?,
+        copies: copies(value)?,
         clock: optional(alloc, &ClockForm, value, "clock")?,
     })
 }
 
 /// The parts of the options that a value is.
-pub(crate) fn parts(alloc: Global, value: &Value) -> Result<OptionParts, PartError>
+pub(crate) fn parts(alloc: Global, value: &Value<'_>) -> Result<OptionParts, PartError>
     ensures { Gives (λ p. p) (options_read (view value.now)) result }
 {
     let names = [

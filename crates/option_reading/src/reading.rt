@@ -1,14 +1,14 @@
 //! Options that JSON text describes.
-ghost use Rattle.std.specs.Prelude.{◌≡◌, ℕ, ⊥, Some, IfOk, IsErrOf};
-ghost use Rattle.serde_json.specs.View.{view};
+ghost use Rattle.std.specs.Prelude.{◌≡◌, ℕ, Some, IfOk, IsErrOf};
+ghost use Rattle.json_parts.specs.Meaning.{view};
 ghost use Rattle.drawn_scenarios.specs.Options.{choices_of};
 ghost use Rattle.drawn_scenarios.specs.declared.option_parts.OptionParts.{OptionParts as OptionPartsAre};
 ghost use Rattle.option_reading.specs.Verdict.{value_refusal, IsAccepted, IsAcceptedText, IsUnreadable, IsRefusedText};
 
 use crate::parts::parts;
 use drawn_scenarios::Options;
-use json_parts::PartError;
-use serde_json::{Category, Value};
+use json::{Scratch, Value};
+use json_parts::{PartError, TextError, value_of};
 use std::alloc::Global;
 
 /// The rule that an option is in its range. Its place is the option's.
@@ -31,7 +31,7 @@ pub enum OptionError {
 }
 
 /// The options that a JSON value is.
-fn from_value(alloc: Global, value: &Value) -> Result<Options, OptionError>
+fn from_value(alloc: Global, value: &Value<'_>) -> Result<Options, OptionError>
     ensures accepted { IfOk result (λ o. (parts : OptionPartsAre)
         × IsAccepted (view value.now) parts × (o.choices ≡ choices_of parts)) }
     ensures readable { IsErrOf result OptionError.Unreadable → ⊥ }
@@ -65,9 +65,10 @@ pub fn read(alloc: Global, bytes: &[u8]) -> Result<Options, OptionError>
     ensures refused { (rule place : ℕ) → IsErrOf result (OptionError.Refused rule place) →
         IsRefusedText bytes.now rule place }
 {
-    match Value::from_slice(alloc, bytes) {
+    let mut scratch = Scratch::new(alloc);
+    match value_of(alloc, bytes, &mut scratch) {
         Ok(value) => from_value(alloc, &value),
-        Err(error) if error.classify() == Category::Memory => Err(OptionError::NoMemory),
-        Err(_) => Err(OptionError::Unreadable),
+        Err(TextError::Unreadable) => Err(OptionError::Unreadable),
+        Err(TextError::NoMemory) => Err(OptionError::NoMemory),
     }
 }

@@ -15,3 +15,5 @@ pub mod Founds
 pub mod Adding
 pub mod Ranges
 pub mod Judged
+pub mod Moves
+pub mod Deadlines

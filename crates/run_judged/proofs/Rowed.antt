@@ -22,7 +22,7 @@ step_down : (sys : System) (n : ℕ) → claimed_before sys (suc n) ≡ true →
 unfolding claimed_before
 step_down sys n e = (and_parts (claimed_before sys n) (within_in sys n) e).0
 
-claimed_down : (sys : System) (n p : ℕ) → p < n → claimed_before sys n ≡ true → claimed_before sys (suc p) ≡ true
+pub claimed_down : (sys : System) (n p : ℕ) → p < n → claimed_before sys n ≡ true → claimed_before sys (suc p) ≡ true
 claimed_down sys zero p low e = absurd (omega arith)
 claimed_down sys (suc n) p low e = elim (cases_lt p n) [
   | inl less ↦ claimed_down sys n p less (step_down sys n e)

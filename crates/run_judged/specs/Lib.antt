@@ -9,3 +9,4 @@ pub mod Rows
 pub mod Sums
 pub mod Judging
 pub mod Laws
+pub mod Deadlines

@@ -1,5 +1,5 @@
 -- Results that are passed on, of a scenario that a JSON value describes.
-use Rattle.std.proofs.Common.{◌≡◌, ℕ, Option, None, Some, Result, Ok, Err, IfOk, IfErr, IsErrAnd, ap, sym, ◌∙◌, subst}
+use Rattle.std.proofs.Common.{◌≡◌, ℕ, Option, None, Some, Result, Ok, Err, IfOk, IfErr, ap, sym, subst}
 use Rattle.serde_json.specs.Data.{Data}
 use Rattle.scenario.specs.Parts.{ScenarioParts}
 use Rattle.scenario_reading.specs.Keys.{parts_read}
@@ -9,10 +9,6 @@ use Rattle.scenario.specs.Scenario.{ScenarioView}
 use Rattle.scenario.specs.Verdict.{Tells}
 use Rattle.scenario_reading.specs.Verdict.{refusal_on, value_refusal, IsAcceptedValue}
 use Rattle.scenario.specs.declared.error.ScenarioError.{ScenarioError}
-
--- where an error is passed on, it was answered before
-pub passed_error : {S T E : Type 0} (before : Result S E) (r : Result T E) (x y : E) → before ≡ Err x → IsErrAnd r (λ z. z ≡ x) → r ≡ Err y → before ≡ Err y
-passed_error before r x y was same is = was ∙ ap Err (sym (subst (λ s. IsErrAnd s (λ z. z ≡ x)) is same))
 
 pub accepted_value : {T : Type 0} (capacity : ℕ) (d : Data) (p : ScenarioParts) (see : T → ScenarioView capacity) (r : Result T ScenarioError)
     → parts_read d ≡ Some p → IfOk r (λ s. refusal capacity p ≡ None) → IfOk r (λ s. see s ≡ scenario_of capacity p)

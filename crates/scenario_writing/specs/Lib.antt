@@ -1,1 +1,1 @@
-pub mod Versions
+pub use Rattle.scenario_versions.specs.Versions

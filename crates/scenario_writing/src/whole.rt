@@ -6,7 +6,7 @@ ghost use Rattle.scenario.specs.Seen.{policy_view, channel_view, task_view, part
 ghost use Rattle.std.specs.List.{AllByRecursion};
 ghost use Rattle.scenario.specs.Parts.ChannelParts.{sensor};
 ghost use Rattle.scenario_reading.specs.Keys.{policy_at, channel_at, task_key, parts_read};
-ghost use Rattle.scenario_writing.specs.Versions.{IsPolicyOf, IsChannelOf, IsOfVersion};
+ghost use Rattle.scenario_versions.specs.Versions.{IsPolicyOf, IsChannelOf, IsOfVersion};
 
 use crate::faults::{clock, faults, restarts};
 use crate::lists::{numbers, rows};

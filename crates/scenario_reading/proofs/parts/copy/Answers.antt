@@ -1,7 +1,7 @@
 use Rattle.json_parts.specs.Meaning.{view}
 use Rattle.scenario_reading.specs.Keys.{copy_names, copy_fields}
 use Rattle.scenario.specs.Seen.{channel_view}
-use Rattle.scenario_reading.proofs.Unread.{then_by, none_by, keyed, no_keys, unread}
+use Rattle.json_parts.proofs.Unread.{then_by, none_by, keyed, no_keys, unread}
 use Rattle.scenario_reading.proofs.parts.copy.Goals as goal
 
 pub returns-in_err-required : goal.returns-in_err-required

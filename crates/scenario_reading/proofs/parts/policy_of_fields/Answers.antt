@@ -1,5 +1,5 @@
 use Rattle.scenario.specs.Seen.{policy_view}
-use Rattle.scenario_reading.proofs.Unread.{then_by, none_by, unread}
+use Rattle.json_parts.proofs.Unread.{then_by, none_by, unread}
 use Rattle.scenario_reading.proofs.parts.policy_of_fields.Goals as goal
 
 pub returns-in_err-required : goal.returns-in_err-required

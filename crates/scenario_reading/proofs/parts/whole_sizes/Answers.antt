@@ -1,6 +1,6 @@
 use Rattle.scenario_reading.specs.Keys.{size_fields}
 use Rattle.scenario_reading.specs.Sizes.{sizes_view}
-use Rattle.scenario_reading.proofs.Unread.{then_by, none_by, unread}
+use Rattle.json_parts.proofs.Unread.{then_by, none_by, unread}
 use Rattle.scenario_reading.proofs.parts.whole_sizes.Goals as goal
 
 pub returns-in_err-required : goal.returns-in_err-required

@@ -1,7 +1,7 @@
 use Rattle.json_parts.specs.Meaning.{view}
 use Rattle.scenario_reading.specs.Keys.{lie_names, lie_fields}
 use Rattle.scenario.specs.Seen.{lie_view}
-use Rattle.scenario_reading.proofs.Unread.{then_by, none_by, keyed, unread}
+use Rattle.json_parts.proofs.Unread.{then_by, none_by, keyed, unread}
 use Rattle.scenario_reading.proofs.parts.LieFormForm.read.Goals as goal
 
 pub returns-in_err-required : goal.returns-in_err-required

@@ -1,7 +1,7 @@
 use Rattle.json_parts.specs.Meaning.{view}
 use Rattle.scenario_reading.specs.Keys.{restart_names, restart_fields}
 use Rattle.scenario.specs.Seen.{restart_view}
-use Rattle.scenario_reading.proofs.Unread.{then_by, none_by, keyed, no_keys, unread}
+use Rattle.json_parts.proofs.Unread.{then_by, none_by, keyed, no_keys, unread}
 use Rattle.scenario_reading.proofs.parts.RestartFormForm.read.Goals as goal
 
 pub returns-in_err-required : goal.returns-in_err-required
