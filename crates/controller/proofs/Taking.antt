@@ -5,7 +5,7 @@ use Rattle.std.proofs.lemmas.List.Concat.{flat_map-append}
 use Rattle.std.proofs.lemmas.List.Elements.{All-append}
 use Rattle.input_lines.specs.Lines.{line_feed, with_feed, IsUnbroken}
 use Rattle.input_lines.specs.Laws.{Begins}
-use Rattle.input_lines.specs.Splits.{begin, take_line}
+use Rattle.input_lines.specs.Splits.{begin, take_line, begins_both, begins_same}
 use Rattle.live_node.specs.Live.{LiveView, line_step}
 use Rattle.live_node.specs.Live.Step.{Goes, Refuses}
 use Rattle.input_lines.specs.Numbers.{next_number, number_behind, number_behind_both}

@@ -7,7 +7,7 @@ use Rattle.live_node.specs.Live.{LiveView}
 use Rattle.input_lines.specs.Lines.{IsUnbroken}
 use Rattle.input_lines.specs.Reading.{SourceView}
 use Rattle.input_lines.specs.FirstLine.{first_line, behind_first}
-use Rattle.input_lines.specs.Devices.{IsInput, SinkView, WritesAll, WritesFront, WritesSome}
+use Rattle.input_lines.specs.Devices.{IsInput, SinkView, WritesAll, WritesFront, WritesSome, Devices, IsUntouched}
 use Rattle.controller.specs.Words.{Calls}
 use Rattle.controller.specs.Input.{scenario_limit}
 use Rattle.controller.specs.Course.{ending_of}

@@ -4,6 +4,7 @@ use Rattle.run_text.specs.PeriodText.{refused_text, end_text}
 use Rattle.live_node.specs.Live.{LiveView, Step, is_open, unknown_rule, line_step}
 use Rattle.live_node.specs.Live.Step.{Goes, Refuses}
 use Rattle.input_lines.specs.Lines.{lines_of, rest_of}
+use Rattle.input_lines.specs.Numbers.{next_number, number_behind}
 use Rattle.controller.specs.Input.{event_limit}
 use Rattle.controller.specs.declared.status.Status.{Status}
 use Rattle.controller.specs.declared.status.Status.TheVariants.{Done, Refused, TooLong}

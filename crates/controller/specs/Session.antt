@@ -9,7 +9,7 @@ use Rattle.live_node.specs.Live.{LiveView, line_step}
 use Rattle.live_node.specs.Live.Step.{Goes, Refuses}
 use Rattle.input_lines.specs.declared.lines.LineError.{LineError}
 use Rattle.input_lines.specs.declared.lines.LineError.TheVariants as lines
-use Rattle.input_lines.specs.Devices.{told_left}
+use Rattle.input_lines.specs.Devices.{told_left, SinkView, WritesAll, WritesFront, WritesSome}
 use Rattle.input_lines.specs.Numbers.{number_behind}
 use Rattle.controller.specs.Input.{event_limit}
 use Rattle.controller.specs.Course.{Ending, course, line_refusal, ending_of}
