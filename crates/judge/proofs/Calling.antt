@@ -50,7 +50,7 @@ as_many [] = refl
 as_many (w ∷ ws) = omega (arith, as_many ws)
 
 -- how many words each call has
-pub count_of : Command → ℕ
+abbrev pub count_of : Command → ℕ
 count_of Lines = 0
 count_of (Draw d) = 4
 count_of (Show d) = 3

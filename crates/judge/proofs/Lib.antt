@@ -7,3 +7,4 @@ pub mod FirstLine
 pub mod Writing
 pub mod OneText
 pub mod Calling
+pub mod Following

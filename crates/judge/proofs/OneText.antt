@@ -24,7 +24,7 @@ same_scenario : {N : ℕ} (d : Data) (a b : ScenarioView N) → IsAcceptedValue 
 same_scenario {N} d a b x y = x.says ∙ ap (scenario_of N) (same_parts x.parts y.parts _ x.reads y.reads) ∙ sym y.says
 
 same_refusal : (o : Option (ℕ × ℕ)) (r p s q : ℕ) → o ≡ Some (r, p) → o ≡ Some (s, q) → (r ≡ s) × (p ≡ q)
-same_refusal o r p s q h k = let e : ◌≡◌ {A = Option (ℕ × ℕ)} (Some (r, p)) (Some (s, q)) = sym h ∙ k in (cc, cc)
+same_refusal o r p s q h k = let e : ◌≡◌ {A = Option (ℕ × ℕ)} (Some (r, p)) (Some (s, q)) = sym h ∙ k in let pair : ◌≡◌ {A = ℕ × ℕ} (r, p) (s, q) = cc in (ap (λ (x : ℕ × ℕ). x.0) pair, ap (λ (x : ℕ × ℕ). x.1) pair)
 
 nothing : (rule place : ℕ) → ◌≡◌ {A = Option (ℕ × ℕ)} None (Some (rule, place)) → ⊥
 nothing rule place e = cc
@@ -40,7 +40,7 @@ same_rows N n d s t (Accepted a x is) (Refused r p y also) = absurd (nothing r p
 same_rows N n d s t (Refused r p x is) (Accepted b y also) = absurd (nothing r p (sym (unrefused d b y) ∙ x))
 
 of_line : (n : ℕ) (line s t : List ℕ) → IsRowsOf n line s → IsRowsOf n line t → s ≡ t
-of_line n line s t (Unread none is) (Unread no also) = is ∙ sym also
+of_line n line s t (Unread none is) (Unread none_too also) = is ∙ sym also
 of_line n line s t (Unread none is) (Read d x h) = absurd (none d x)
 of_line n line s t (Read d x h) (Unread none is) = absurd (none d x)
 of_line n line s t (Read d x h) (Read e y k) =

@@ -1,14 +1,20 @@
 -- Lines that are taken one after another.
-use Rattle.std.proofs.Common.{◌≡◌, ℕ, ◌≤◌, List, [], ◌∷◌, ◌++◌, length, append_assoc, append-nil, arith, refl, sym, ap, ◌∙◌, subst}
+use Rattle.std.proofs.Common.{◌≡◌, ℕ, ◌<◌, ◌≤◌, List, [], ◌∷◌, ◌++◌, length, append_assoc, append-nil, arith, refl, sym, ap, ◌∙◌, subst, Err}
 use Rattle.std.specs.Prelude.{◌≢◌}
 use Rattle.std.proofs.lemmas.List.Elements.{All-nil}
 use Rattle.input_lines.specs.Lines.{line_feed, IsUnbroken}
 use Rattle.input_lines.specs.Laws.{Begins}
 use Rattle.input_lines.specs.Splits.{begin, take_line, begins_both}
 use Rattle.input_lines.specs.Numbers.{next_number, number_behind, number_behind_both}
-use Rattle.input_lines.specs.Devices.{SinkView, WritesAll, all_all, all_front}
-use Rattle.judge.specs.Rows.{limit, IsRowsOf, AreRows}
-use Rattle.judge.specs.Session.{Stand, Took, CaughtUp, EndsAt, Stops, with_more}
+use Rattle.input_lines.specs.Reading.{LinesView, SourceView, GivesBytes, Reads}
+use Rattle.input_lines.specs.Devices.{SinkView, WritesAll, gave_nothing, wrote_nothing, all_all, all_front}
+use Rattle.input_lines.specs.declared.lines.LineError.{LineError}
+use Rattle.input_lines.specs.declared.lines.LineError.TheVariants as lines
+use Rattle.judge.specs.Rows.{limit, last_line, IsRowsOf, AreRows}
+use Rattle.judge.specs.Writing.{WritesRows}
+use Rattle.judge.specs.declared.bench.RowError.{RowError}
+use Rattle.judge.specs.declared.bench.RowError.TheVariants as rows
+use Rattle.judge.specs.Session.{Stand, Took, CaughtUp, EndsAt, Stops, StopsRound, Concludes, with_more, line_status, row_status}
 use Rattle.judge.specs.declared.status.Status.{Status}
 use Rattle.judge.specs.declared.status.Status.TheVariants.{Done, Usage, Unreadable, Refused, ReadFault, WriteFault, NoMemory, TooLong}
 use Rattle.judge.proofs.Table.{rows_both, one_row}
@@ -70,3 +76,32 @@ caught_up_nothing s h = subst (λ (t : Stand). CaughtUp t s []) (sym (with_none 
   unbroken = subst IsUnbroken (sym h) (All-nil (λ x. x ≢ line_feed));
   short = omega (arith, ap length h);
 })
+
+-- a line was taken whose rows were not written whole
+pub stopped_at : (error : RowError) (from to : Stand) (lines : List (List ℕ)) (text line rest : List ℕ) (old mid new : SinkView) → Took from to lines text → to.rest ≡ line ++ line_feed ∷ rest → IsUnbroken line
+    → length line ≤ limit → WritesAll old mid text → WritesRows mid new (IsRowsOf to.number line) (Err error) → Stops (row_status error) from old new
+stopped_at rows.NoMemory from to lines text line rest old mid new t splits unbroken short wrote same = (to, lines, text, t, subst (λ k. WritesAll old k text) (sym same) wrote)
+stopped_at rows.WriteFault from to lines text line rest old mid new t splits unbroken short wrote (more, is, front) = (
+  record { number = next_number to.number; rest = rest },
+  lines ++ line ∷ [],
+  text ++ more,
+  took_line from to lines text line rest more (next_number to.number) t splits unbroken short is refl,
+  all_front old mid new text more wrote front,
+)
+
+-- nothing was read in a round
+pub round_unread : (error : LineError) (old new : LinesView) (number : ℕ) (a b : SourceView) (k : SinkView) → Reads old new a b (Err error) → StopsRound (line_status error) (record { number = number; rest = old.rest }) a b k k
+round_unread lines.Failed old new number a b k h = (h.0, h.1, refl)
+round_unread lines.NoMemory old new number a b k h =
+    let at : Stand = with_more (record { number = number; rest = old.rest }) [] in ([], subst (λ (s : SourceView). GivesBytes a s []) (sym h.1) (gave_nothing a), (at, [], [], took_nothing at, wrote_nothing k))
+round_unread lines.TooLong old new number a b k h = absurd h
+
+-- what stands behind the last line feed was judged
+pub concluded : (number : ℕ) (rest line text : List ℕ) → line ≡ rest → 0 < length rest → length rest ≤ limit → IsRowsOf number line text → AreRows number (last_line rest) text
+concluded number [] line text same some short is = absurd (omega (arith, some))
+concluded number (c ∷ rest) line text same some short is = one_row number (c ∷ rest) text short (subst (λ l. IsRowsOf number l text) same is)
+
+-- its rows were not written whole
+pub concluded_so : (error : RowError) (number : ℕ) (rest line : List ℕ) (old new : SinkView) → line ≡ rest → 0 < length rest → length rest ≤ limit → WritesRows old new (IsRowsOf number line) (Err error) → Concludes number rest old new (row_status error)
+concluded_so rows.NoMemory number rest line old new same some short h = h
+concluded_so rows.WriteFault number rest line old new same some short (text, is, front) = (text, concluded number rest line text same some short is, front)

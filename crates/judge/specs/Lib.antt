@@ -6,10 +6,3 @@ pub mod Session
 pub mod Options
 pub mod Laws
 pub mod Answers
-pub use Rattle.run_judged.specs.Judging
-pub use Rattle.run_judged.specs.Rows
-pub use Rattle.judge_text.specs.Rows
-pub use Rattle.drawn_scenarios.specs.Drawn
-pub use Rattle.scenario_reading.specs.Verdict
-pub use Rattle.option_reading.specs.Verdict
-pub use Rattle.input_lines.specs.Devices

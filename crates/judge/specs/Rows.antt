@@ -1,5 +1,5 @@
 -- The rows of scenarios that are read, and of scenarios that are drawn.
-use Rattle.std.specs.Prelude.{◌≡◌, ℕ, zero, suc, ◌+◌, ◌-◌, ◌^◌, ◌<◌, ◌≤◌, min, nat_le, pos, int_lt, not, Bool, false, List, [], ◌∷◌, ◌++◌, length, codes, Option, Some, None, option_map, option_and_then, unwrap_or, if◌then◌else◌, ⊥}
+use Rattle.std.specs.Prelude.{◌≡◌, ℕ, zero, suc, ◌+◌, ◌-◌, ◌^◌, ◌<◌, ◌≤◌, min, nat_le, pos, int_lt, not, Bool, false, List, [], ◌∷◌, ◌++◌, length, codes, Option, Some, None, option_map, option_and_then, unwrap_or, if◌then◌else◌}
 use Rattle.serde_json.specs.Data.{Data}
 use Rattle.serde_json.specs.Find.{get}
 use Rattle.json_parts.specs.Reading.{Reads, whole}
@@ -24,7 +24,7 @@ scenario_rows number sc = judged_rows number (row_of sc) (illnesses_of sc) (skew
 -- ---- a line
 
 -- whether a value says that there are at most eight nodes
-unfoldable pub has_few_nodes : Data → Bool
+abbrev pub has_few_nodes : Data → Bool
 has_few_nodes d = unwrap_or (option_map (λ z. not (int_lt (pos 8) z)) (option_and_then whole (get (codes "nodes") d))) false
 
 -- for how many nodes there is room where it is judged
@@ -32,12 +32,12 @@ abbrev pub room_for : Data → ℕ
 room_for d = if has_few_nodes d then 8 else 16
 
 -- the rows of a JSON value, which is accepted with so much room, or refused
-data pub HasRows (N number : ℕ) (d : Data) (text : List ℕ) : Type 0 where
+pub data HasRows (N number : ℕ) (d : Data) (text : List ℕ) : Type 0 where
   Accepted : (sc : ScenarioView N) → IsAcceptedValue d sc → text ≡ scenario_rows number sc → HasRows N number d text
   Refused : (rule place : ℕ) → value_refusal N d ≡ Some (rule, place) → text ≡ refused_row number rule place → HasRows N number d text
 
 -- the rows of a line
-data pub IsRowsOf (number : ℕ) (line text : List ℕ) : Type 0 where
+pub data IsRowsOf (number : ℕ) (line text : List ℕ) : Type 0 where
   Unread : ((d : Data) → Reads line d → ⊥) → text ≡ unread_row number → IsRowsOf number line text
   Read : (d : Data) → Reads line d → HasRows (room_for d) number d text → IsRowsOf number line text
 

@@ -39,11 +39,7 @@ pub(crate) enum RowError {
 }
 
 /// Runs the next period, and judges it.
-fn judge_next<const N: usize>(
-    judge: &mut Judge<N>,
-    scenario: &Scenario<N>,
-    run: &mut Run<'_, N>,
-)
+fn judge_next<const N: usize>(judge: &mut Judge<N>, scenario: &Scenario<N>, run: &mut Run<'_, N>)
     requires capacity { IsCapacity N }
     requires same { run.old.scenario ≡ scenario.now }
     requires together { judge.old.periods ≡ run.old.run }
@@ -175,7 +171,7 @@ fn judge_drawn<const N: usize, K: Sink>(
     ensures rows { WritesRows (sink_seen K.written K.faults sink.old)
         (sink_seen K.written K.faults sink.new)
         (λ text. text ≡ scenario_rows index (scenario_of N
-        (drawn_parts drawing.options.now.choices drawing.seed index))) result }
+        (drawn_parts drawing.entry.options.now.choices drawing.entry.seed index))) result }
     ensures room { HasRoom judge.new }
 {
     let Ok(scenario) = make::<N>(alloc, drawing.options, drawing.seed, index) else {
@@ -264,7 +260,7 @@ impl Bench {
         ensures rooms { HasRooms self.new }
         ensures rows { WritesRows (sink_seen K.written K.faults sink.old)
             (sink_seen K.written K.faults sink.new)
-            (λ text. text ≡ drawn_rows drawing.options.now.choices drawing.seed index) result }
+            (λ text. text ≡ drawn_rows drawing.entry.options.now.choices drawing.entry.seed index) result }
     {
         let alloc = self.alloc;
         if drawing.options.choices.nodes as usize <= FEW {

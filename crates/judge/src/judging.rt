@@ -41,12 +41,7 @@ fn judge_lines<S: Source, K: Sink>(alloc: Global, source: &mut S, sink: &mut K) 
 }
 
 /// Draws these scenarios by options, and judges them one after another.
-fn draw_rows<K: Sink>(
-    bench: &mut Bench,
-    options: &Options,
-    draws: Draws,
-    sink: &mut K,
-) -> Status
+fn draw_rows<K: Sink>(bench: &mut Bench, options: &Options, draws: Draws, sink: &mut K) -> Status
     requires rooms { HasRooms bench.old }
     requires range { draws.first + draws.count ≤ 2 ^ 32 }
     ensures { DrawsRows options.now.choices draws (sink_seen K.written K.faults sink.old)
@@ -143,12 +138,7 @@ pub fn judge<S: Source, K: Sink>(
 }
 
 /// Answers the words as [`judge`] does, with the number of its status.
-pub fn run<S: Source, K: Sink>(
-    alloc: Global,
-    words: &[String],
-    source: &mut S,
-    sink: &mut K,
-) -> u8
+pub fn run<S: Source, K: Sink>(alloc: Global, words: &[String], source: &mut S, sink: &mut K) -> u8
     ensures { (status : SpecStatus) × (result ≡ number_of status) × IsStatusOf (texts words.now)
         (devices_seen S.left S.given S.faults K.written K.faults source.old sink.old)
         (devices_seen S.left S.given S.faults K.written K.faults source.new sink.new) status }

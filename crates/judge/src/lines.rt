@@ -69,8 +69,7 @@ impl Session {
         ensures lines { self.new.lines ≡ self.old.lines }
         ensures rooms { HasRooms self.new.bench }
     {
-        self.bench
-            .judge_line(self.lines.line(), self.number, sink)?;
+        self.bench.judge_line(self.lines.line(), self.number, sink)?;
         self.number = self.number.saturating_add(1);
         Ok(())
     }

@@ -48,10 +48,13 @@ fn number_to(most: u64, word: &str) -> Option<u64>
     ensures small { IfSome result (λ n. n ≤ most) }
     ensures none { result ≡ None → (n : ℕ) → n ≤ most → (word.now ≡ decimal n) → ⊥ }
 {
-    match number_of(word) {
-        Some(number) if number <= most => Some(number),
-        _ => None,
+    let Some(number) = number_of(word) else {
+        return None;
+    };
+    if number > most {
+        return None;
     }
+    Some(number)
 }
 
 /// The draws that four words call for.

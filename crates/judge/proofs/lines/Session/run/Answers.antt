@@ -58,3 +58,10 @@ returns-in-Ok-false g c =
     (source_seen g.S.Source.left g.S.Source.given g.S.Source.faults c.rounds.source) (source_seen g.S.Source.left g.S.Source.given g.S.Source.faults c.round.new.source)
     (sink_seen g.K.Sink.written g.K.Sink.faults c.args.sink.now) (sink_seen g.K.Sink.written g.K.Sink.faults c.rounds.sink) (sink_seen g.K.Sink.written g.K.Sink.faults c.round.new.sink)
     (sink_seen g.K.Sink.written g.K.Sink.faults c.finish.new.sink) c.in-Ok-false.field-0 c.finish.result c.in-Ok-false.field-0-test i.given i.caught_up i.wrote c.in-Ok-false.ensures.rounds c.finish.ensures
+
+pub returns : goal.returns
+returns g c =
+    let i = c.rounds.invariant in
+    runs_full (stand c.args.self.now) (stand c.rounds.self) i.more i.text (source_seen g.S.Source.left g.S.Source.given g.S.Source.faults c.args.source.now)
+    (source_seen g.S.Source.left g.S.Source.given g.S.Source.faults c.rounds.source) (sink_seen g.K.Sink.written g.K.Sink.faults c.args.sink.now) (sink_seen g.K.Sink.written g.K.Sink.faults c.rounds.sink)
+    i.given i.caught_up i.wrote (omega (arith, i.many, c.rounds-test.false, c.rounds.auto.counter-end))
