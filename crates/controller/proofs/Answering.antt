@@ -8,28 +8,21 @@ use Rattle.input_lines.specs.Laws.{Begins}
 use Rattle.input_lines.specs.Splits.{read_more}
 use Rattle.input_lines.specs.Reading.{SourceView, GivesBytes}
 use Rattle.live_node.specs.Live.{LiveView}
+use Rattle.input_lines.specs.FirstLine.{first_line, behind_first, first_of, behind_of, first_is_all, nothing_behind, long_first}
+use Rattle.input_lines.specs.Devices.{input_is, IsInput, told_left, SinkView, WritesAll, nothing_left, gave_both, wrote_nothing}
 use Rattle.controller.specs.Words.{Calls}
-use Rattle.controller.specs.Input.{first_line, events_in, scenario_limit, IsInput, told_left}
+use Rattle.controller.specs.Input.{scenario_limit}
 use Rattle.controller.specs.Course.{closing, ending_of}
 use Rattle.controller.specs.Outcome.{capacity, first_event, IsNode, IsAnswered, EndsSo, IsOutcome, IsScenarioRefused, IsUnreadable}
-use Rattle.controller.specs.Session.{Stand, SinkView, WritesAll, Concludes, Runs, RunsTo, Took, with_more}
+use Rattle.controller.specs.Session.{Stand, Concludes, Runs, RunsTo, Took, with_more}
 use Rattle.controller.specs.First.{HasFirst, IsFirst, StopsFirst, at_first, RunsNode, NodeAnswers, AnswersFirst}
 use Rattle.controller.specs.Answers.{HasOutcome}
 use Rattle.controller.specs.declared.control.FirstLine.{FirstLine}
 use Rattle.controller.specs.declared.status.Status.{Status}
 use Rattle.controller.specs.declared.status.Status.TheVariants.{Done, Usage, Unreadable, Refused, ReadFault, WriteFault, NoMemory, TooLong}
 use Rattle.controller.proofs.Explaining.{Explains}
-use Rattle.controller.proofs.FirstLines.{first_of, behind_first, first_is_all, nothing_behind, long_first}
-use Rattle.controller.proofs.Running.{nothing_left, gave_both}
-use Rattle.controller.proofs.Writing.{wrote_nothing}
 
 -- ---- inputs
-
--- the bytes that were read and those that are left are the input
-input_is : (before now : Option (List ℕ)) (bytes : List ℕ) → Consumes before now bytes → IsInput before (bytes ++ told_left now)
-input_is None now bytes h = tt
-input_is (Some xs) None bytes h = absurd h
-input_is (Some xs) (Some ys) bytes h = sym h
 
 -- the first line of the input, and what stands behind it
 first_whole : (ends : Bool) (first : FirstLine) (now : SourceView) (bytes : List ℕ) → IsFirst first now bytes ends → IsUnbroken first.lines.line → first_line (bytes ++ told_left now.left) ≡ first.lines.line
@@ -45,8 +38,8 @@ module _ (line rest more left : List ℕ) (unbroken : IsUnbroken line) where
   first_read : first_line (((line ++ line_feed ∷ rest) ++ more) ++ left) ≡ line
   first_read = ap first_line regroup ∙ first_of line ((rest ++ more) ++ left) unbroken
 
-  events_read : events_in (((line ++ line_feed ∷ rest) ++ more) ++ left) ≡ (rest ++ more) ++ left
-  events_read = ap events_in regroup ∙ behind_first line ((rest ++ more) ++ left) unbroken
+  events_read : behind_first (((line ++ line_feed ∷ rest) ++ more) ++ left) ≡ (rest ++ more) ++ left
+  events_read = ap behind_first regroup ∙ behind_of line ((rest ++ more) ++ left) unbroken
 
 node_of : (line other : List ℕ) (id : ℕ) (v : LiveView capacity) → other ≡ line → IsNode line id v → IsNode other id v
 node_of line other id v e node = subst (λ l. IsNode l id v) (sym e) node
@@ -70,7 +63,7 @@ module _ (words : List (List ℕ)) (id : ℕ) (calls : Calls words id) (line res
   unfolding whole
   whole_ends more text status h = (v, whole_node more, ap (ending_of v first_event) (events_read line rest more (told_left c.left) unbroken) ∙ h)
 
-  whole_answered : (more text : List ℕ) (to : Stand) (lines : List (List ℕ)) → Took (with_more (at_first v rest) more) to lines text → IsAnswered v (events_in (whole more)) (to.rest ++ told_left c.left) text
+  whole_answered : (more text : List ℕ) (to : Stand) (lines : List (List ℕ)) → Took (with_more (at_first v rest) more) to lines text → IsAnswered v (behind_first (whole more)) (to.rest ++ told_left c.left) text
   unfolding whole
   whole_answered more text to lines t = record {
     lines = lines;
@@ -127,7 +120,7 @@ module _ (words : List (List ℕ)) (id : ℕ) (calls : Calls words id) (line res
             v,
             to.rest,
             node_of line (first_line bytes) id v (ap first_line is ∙ first_of line (rest ++ more) unbroken) node,
-            record { lines = caught.lines; begins = subst (λ e. Begins e caught.lines to.rest) (sym (ap events_in is ∙ behind_first line (rest ++ more) unbroken)) caught.took.begins; node = to.node; stands = caught.took.stands },
+            record { lines = caught.lines; begins = subst (λ e. Begins e caught.lines to.rest) (sym (ap behind_first is ∙ behind_of line (rest ++ more) unbroken)) caught.took.begins; node = to.node; stands = caught.took.stands },
             caught.unbroken,
           );
         },

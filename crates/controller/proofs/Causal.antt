@@ -3,7 +3,8 @@ use Rattle.std.proofs.Common.{◌≡◌, ℕ, List, [], ◌++◌, append-nil, re
 use Rattle.input_lines.specs.Lines.{lines_of, rest_of}
 use Rattle.input_lines.specs.Splits.{front_law}
 use Rattle.live_node.specs.Live.{LiveView}
-use Rattle.controller.specs.Course.{Course, number_behind, behind, course, closing, course_end}
+use Rattle.input_lines.specs.Numbers.{number_behind}
+use Rattle.controller.specs.Course.{Course, behind, course, closing, course_end}
 use Rattle.controller.specs.Course.Course.{Stands, Ends}
 use Rattle.controller.specs.Laws.{text_of, IsFrontOf, CausalLaw}
 use Rattle.controller.proofs.Courses.{course_both, course_ended}

@@ -5,8 +5,9 @@ use Rattle.live_node.specs.Event.{Event, event_of}
 use Rattle.live_node.specs.Event.Event.{Begin, Deliver, End, Restart, Reading, Ahead}
 use Rattle.live_node.specs.Live.{LiveView, Step, is_of_cluster, allowed, told, answer, step_of, line_step, unknown_rule, not_now_rule}
 use Rattle.live_node.specs.Live.Step.{Goes, Refuses}
+use Rattle.input_lines.specs.Numbers.{next_number, number_behind}
 use Rattle.controller.specs.Input.{event_limit}
-use Rattle.controller.specs.Course.{Course, Ending, next_number, number_behind, ending_behind, behind, line_refusal, after_step, course}
+use Rattle.controller.specs.Course.{Course, Ending, ending_behind, behind, line_refusal, after_step, course}
 use Rattle.controller.specs.Course.Course.{Stands, Ends}
 use Rattle.controller.specs.declared.status.Status.TheVariants.{TooLong}
 
@@ -66,10 +67,6 @@ ends_behind t (Stands v more) e h = cc
 ends_behind t (Ends last) e h = (last, refl, cc)
 
 -- ---- lines, one after another
-
-pub number_behind_both : (n : ℕ) (lines more : List (List ℕ)) → number_behind n (lines ++ more) ≡ number_behind (number_behind n lines) more
-number_behind_both n [] more = refl
-number_behind_both n (line ∷ lines) more = number_behind_both (next_number n) lines more
 
 stood : {N : ℕ} (n : ℕ) (v w : LiveView N) (text : List ℕ) (more : List (List ℕ)) → ◌≡◌ {A = Course N} (Stands v []) (Stands w text) → course v n more ≡ behind text (course w n more)
 stood n v w text more h = let same : v ≡ w = cc in let none : [] ≡ text = cc in sym (behind_nil (course v n more)) ∙ ap (λ u. behind [] (course u n more)) same ∙ ap (λ t. behind t (course w n more)) none

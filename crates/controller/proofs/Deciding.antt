@@ -8,7 +8,8 @@ use Rattle.scenario.specs.Scenario.{ScenarioView}
 use Rattle.scenario.specs.Given.{scenario_of}
 use Rattle.scenario_reading.specs.Verdict.{IsAcceptedValue, value_refusal, refusal_on}
 use Rattle.live_node.specs.Live.{LiveView}
-use Rattle.controller.specs.Input.{first_line, events_in, scenario_limit}
+use Rattle.input_lines.specs.FirstLine.{first_line, behind_first}
+use Rattle.controller.specs.Input.{scenario_limit}
 use Rattle.controller.specs.Course.{Ending, ending_of}
 use Rattle.controller.specs.Outcome.{capacity, first_event, IsAcceptedText, IsUnreadable, IsRefusedText, IsForeign, IsNode, IsOutcome}
 use Rattle.controller.specs.Answers.{AllEnd, Decides}
@@ -61,7 +62,7 @@ node_decides id bytes status v node ends = record {
   node = λ h sc a b few wanted all. ends few wanted all;
 }
 
-ends_so : (id : ℕ) (bytes text : List ℕ) (status : Status) (v : LiveView capacity) → IsNode (first_line bytes) id v → ending_of v first_event (events_in bytes) ≡ record { status = status; text = text } → Decides id bytes status
+ends_so : (id : ℕ) (bytes text : List ℕ) (status : Status) (v : LiveView capacity) → IsNode (first_line bytes) id v → ending_of v first_event (behind_first bytes) ≡ record { status = status; text = text } → Decides id bytes status
 ends_so id bytes text status v node is = node_decides id bytes status v node (λ few wanted all. inl (sym (ap (λ (e : Ending). e.status) is) ∙ all v node))
 
 too_long : (id : ℕ) (bytes : List ℕ) → scenario_limit < length (first_line bytes) → Decides id bytes TooLong

@@ -5,13 +5,14 @@ use Rattle.input_lines.specs.Laws.{Begins}
 use Rattle.input_lines.specs.Reading.{IsLong}
 use Rattle.input_lines.specs.Splits.{lines_begun, rest_begun, all_begun, read_more}
 use Rattle.live_node.specs.Live.{LiveView}
-use Rattle.controller.specs.Input.{event_limit, first_line}
-use Rattle.controller.specs.Course.{Course, Ending, number_behind, ending_behind, behind, line_refusal, course, closing, course_end, ending_of}
+use Rattle.input_lines.specs.FirstLine.{first_line, first_line_is, long_first}
+use Rattle.input_lines.specs.Numbers.{number_behind, number_behind_both}
+use Rattle.controller.specs.Input.{event_limit}
+use Rattle.controller.specs.Course.{Course, Ending, ending_behind, behind, line_refusal, course, closing, course_end, ending_of}
 use Rattle.controller.specs.Course.Course.{Stands, Ends}
 use Rattle.controller.specs.Session.{Stand, Took}
 use Rattle.controller.specs.declared.status.Status.TheVariants.{TooLong}
-use Rattle.controller.proofs.Courses.{course_both, course_ended, line_long, number_behind_both}
-use Rattle.controller.proofs.FirstLines.{first_line_is, long_first}
+use Rattle.controller.proofs.Courses.{course_both, course_ended, line_long}
 
 -- the end of all that is told, by how the lines are split and where they lead
 pub ends_by : {N : ℕ} (v : LiveView N) (n : ℕ) (bytes : List ℕ) (lines : List (List ℕ)) (rest : List ℕ) (c : Course N) → lines_of bytes ≡ lines → rest_of bytes ≡ rest → course v n lines ≡ c

@@ -3,9 +3,9 @@ use Rattle.std.proofs.Common.{◌≡◌, ℕ, List, [], Option, None, Some, inl,
 use Rattle.std.specs.Prelude.{◌⊎◌, IfSome}
 use Rattle.std.specs.Io.KnownBytes.{IsAtEnd}
 use Rattle.span_io.specs.Causes.{Rose}
+use Rattle.input_lines.specs.Devices.{WritesAll, WritesFront, WritesSome, Devices}
 use Rattle.controller.specs.Words.{Calls}
-use Rattle.controller.specs.Session.{WritesAll, WritesFront, WritesSome}
-use Rattle.controller.specs.Answers.{Devices, HasOutcome, HasPart, IsAnsweredSoFar, Decides, IsDecided, IsStatusOf}
+use Rattle.controller.specs.Answers.{HasOutcome, HasPart, IsAnsweredSoFar, Decides, IsDecided, IsStatusOf}
 use Rattle.controller.specs.declared.status.Status.{Status}
 use Rattle.controller.specs.declared.status.Status.TheVariants.{Done, Usage, Unreadable, Refused, ReadFault, WriteFault, NoMemory, TooLong}
 use Rattle.controller.proofs.Deciding.{decides, of_told, no_memory}

@@ -1,10 +1,8 @@
 pub mod Calling
 pub mod Courses
-pub mod Writing
 pub mod Steps
 pub mod Taking
 pub mod Stopping
-pub mod FirstLines
 pub mod Endings
 pub mod Running
 pub mod Deciding

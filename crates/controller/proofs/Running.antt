@@ -4,40 +4,15 @@ use Rattle.std.specs.Io.KnownBytes.{Consumes, Keeps, IsAtEnd}
 use Rattle.std.proofs.KnownBytes.{Consumes-nil, Consumes-trans}
 use Rattle.span_io.specs.Causes.{Rose}
 use Rattle.input_lines.specs.Reading.{SourceView, GivesBytes}
-use Rattle.controller.specs.Input.{told_left}
+use Rattle.input_lines.specs.Devices.{told_left, SinkView, WritesAll, all_all, all_front, all_some, nothing_left, gave_both, consumes_kept}
 use Rattle.controller.specs.Course.{Ending, ending_behind, behind, course, closing, ending_of}
-use Rattle.controller.specs.Session.{Stand, SinkView, WritesAll, Took, CaughtUp, Stops, StopsRound, Concludes, Runs, with_more}
+use Rattle.controller.specs.Session.{Stand, Took, CaughtUp, Stops, StopsRound, Concludes, Runs, with_more}
 use Rattle.controller.specs.declared.status.Status.{Status}
 use Rattle.controller.specs.declared.status.Status.TheVariants.{Done, Usage, Unreadable, Refused, ReadFault, WriteFault, NoMemory, TooLong}
 use Rattle.controller.proofs.Courses.{course_both}
-use Rattle.controller.proofs.Taking.{took_more, begins_both, begins_same}
-use Rattle.controller.proofs.Writing.{all_all, all_front, all_some}
+use Rattle.input_lines.specs.Splits.{begins_both, begins_same}
+use Rattle.controller.proofs.Taking.{took_more}
 use Rattle.controller.proofs.Endings.{at_end, at_refusal, at_long}
-
--- ---- sources
-
-pub gave_nothing : (a : SourceView) → GivesBytes a a []
-gave_nothing a = record { left = Consumes-nil a.left; given = omega arith; faults = refl }
-
-pub gave_both : (a b c : SourceView) (first second : List ℕ) → GivesBytes a b first → GivesBytes b c second → GivesBytes a c (first ++ second)
-gave_both a b c first second x y = record {
-  left = Consumes-trans a.left b.left c.left first second x.left y.left;
-  given = omega (arith, x.given, y.given, length-append first second);
-  faults = y.faults ∙ x.faults;
-}
-
-pub gave_no_more : (a b c : SourceView) (first : List ℕ) → GivesBytes a b first → GivesBytes b c [] → GivesBytes a c first
-gave_no_more a b c first x y = subst (GivesBytes a c) (append-nil first) (gave_both a b c first [] x y)
-
-pub consumes_kept : (a b c : Option (List ℕ)) (bytes : List ℕ) → Consumes a b bytes → Keeps b c → Consumes a c bytes
-consumes_kept None b c bytes p q = tt
-consumes_kept (Some x) None c bytes p q = absurd p
-consumes_kept (Some x) (Some y) None bytes p q = absurd q
-consumes_kept (Some x) (Some y) (Some z) bytes p q = p ∙ ap (λ w. bytes ++ w) (sym q)
-
-pub nothing_left : (left : Option (List ℕ)) → IsAtEnd left → told_left left ≡ []
-nothing_left None h = refl
-nothing_left (Some xs) h = h
 
 -- ---- stops
 

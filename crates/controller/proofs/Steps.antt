@@ -8,11 +8,11 @@ use Rattle.live_node.specs.Taking.{Takes, refusal_by}
 use Rattle.live_node.specs.declared.live.Refusal.{Refusal}
 use Rattle.live_node.specs.declared.live.Refusal.TheVariants.{Unknown, NotNow, WriteFault}
 use Rattle.run_text.specs.PeriodText.{refused_text}
+use Rattle.input_lines.specs.Devices.{sink_seen, WritesAll, WritesFront, WritesSome, all_some}
 use Rattle.controller.specs.Outcome.{capacity}
-use Rattle.controller.specs.Session.{sink_seen, WritesAll, WritesFront, WritesSome, StopsAtLine}
+use Rattle.controller.specs.Session.{StopsAtLine}
 use Rattle.controller.specs.declared.status.Status.{Status}
 use Rattle.controller.specs.declared.status.Status.TheVariants.{Refused}
-use Rattle.controller.proofs.Writing.{all_some}
 use Rattle.controller.proofs.Courses.{step_rule}
 
 pub kept_nothing : (a b : Option (List ℕ)) → Keeps a b → Appends a b []

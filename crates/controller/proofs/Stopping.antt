@@ -1,13 +1,14 @@
 -- Calls that end at a line.
 use Rattle.std.proofs.Common.{◌≡◌, ℕ, ◌≤◌, List, [], ◌∷◌, ◌++◌, length}
 use Rattle.input_lines.specs.Lines.{line_feed, IsUnbroken}
+use Rattle.input_lines.specs.Numbers.{next_number}
+use Rattle.input_lines.specs.Devices.{SinkView, WritesAll, all_some, all_front}
 use Rattle.controller.specs.Input.{event_limit}
-use Rattle.controller.specs.Course.{next_number, line_refusal}
-use Rattle.controller.specs.Session.{Stand, SinkView, WritesAll, StopsAtLine, Stops, Took}
+use Rattle.controller.specs.Course.{line_refusal}
+use Rattle.controller.specs.Session.{Stand, StopsAtLine, Stops, Took}
 use Rattle.controller.specs.declared.status.Status.{Status}
 use Rattle.controller.specs.declared.status.Status.TheVariants.{Done, Usage, Unreadable, Refused, ReadFault, WriteFault, NoMemory, TooLong}
 use Rattle.controller.proofs.Taking.{took_line, took_refused}
-use Rattle.controller.proofs.Writing.{all_some, all_front}
 
 -- lines were taken, and the call ends at the one behind them
 pub stops_taken : (status : Status) (from to : Stand) (lines : List (List ℕ)) (text line rest : List ℕ) (old mid new : SinkView) → Took from to lines text → to.rest ≡ line ++ line_feed ∷ rest → IsUnbroken line

@@ -5,16 +5,17 @@ use Rattle.std.proofs.lemmas.List.Concat.{flat_map-append}
 use Rattle.std.proofs.lemmas.List.Elements.{All-append}
 use Rattle.input_lines.specs.Lines.{line_feed, with_feed, IsUnbroken}
 use Rattle.input_lines.specs.Laws.{Begins}
-use Rattle.input_lines.specs.Splits.{begin, take_line}
+use Rattle.input_lines.specs.Splits.{begin, take_line, begins_both, begins_same}
 use Rattle.live_node.specs.Live.{LiveView, line_step}
 use Rattle.live_node.specs.Live.Step.{Goes, Refuses}
+use Rattle.input_lines.specs.Numbers.{next_number, number_behind, number_behind_both}
 use Rattle.controller.specs.Input.{event_limit}
-use Rattle.controller.specs.Course.{next_number, number_behind, behind, line_refusal, course}
+use Rattle.controller.specs.Course.{behind, line_refusal, course}
 use Rattle.controller.specs.Course.Course.{Ends}
 use Rattle.controller.specs.Outcome.{capacity}
 use Rattle.controller.specs.Session.{Stand, Took, with_more}
 use Rattle.controller.specs.declared.status.Status.TheVariants.{Refused}
-use Rattle.controller.proofs.Courses.{number_behind_both, course_both, line_goes, line_refused}
+use Rattle.controller.proofs.Courses.{course_both, line_goes, line_refused}
 
 pub took_nothing : (s : Stand) → Took s s [] []
 took_nothing s = record { begins = begin s.rest; stands = refl; number = refl }
@@ -37,16 +38,6 @@ took_refused from to lines text line rest rule t splits unbroken short refuses =
   course_both from.node to.node from.number lines (line ∷ []) text t.stands ∙ ap (behind text) (line_refused to.node (number_behind from.number lines) line rule short refuses)
       ∙ ap (λ n. Ends (record { status = Refused; text = text ++ (line_refusal rule n).text })) (sym t.number),
 )
-
-pub begins_both : (bytes more last : List ℕ) (lines others : List (List ℕ)) (rest : List ℕ) → Begins bytes lines rest → Begins (rest ++ more) others last → Begins (bytes ++ more) (lines ++ others) last
-begins_both bytes more last lines others rest a b = record {
-  whole = ap (λ x. x ++ more) a.whole ∙ append_assoc (flat_map with_feed lines) rest more ∙ ap (λ x. flat_map with_feed lines ++ x) b.whole
-      ∙ sym (append_assoc (flat_map with_feed lines) (flat_map with_feed others) last) ∙ ap (λ x. x ++ last) (sym (flat_map-append with_feed lines others));
-  each = All-append IsUnbroken lines others a.each b.each;
-}
-
-pub begins_same : (a b : List ℕ) (lines : List (List ℕ)) (rest : List ℕ) → a ≡ b → Begins a lines rest → Begins b lines rest
-begins_same a b lines rest e h = subst (λ x. Begins x lines rest) e h
 
 -- more lines, of more bytes
 pub took_more : (from mid to : Stand) (first second : List ℕ) (lines others : List (List ℕ)) (text more : List ℕ) → Took (with_more from first) mid lines text → Took (with_more mid second) to others more

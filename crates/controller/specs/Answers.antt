@@ -6,24 +6,14 @@ use Rattle.scenario.specs.Scenario.{ScenarioView}
 use Rattle.live_node.specs.Live.{LiveView}
 use Rattle.input_lines.specs.Lines.{IsUnbroken}
 use Rattle.input_lines.specs.Reading.{SourceView}
+use Rattle.input_lines.specs.FirstLine.{first_line, behind_first}
+use Rattle.input_lines.specs.Devices.{IsInput, SinkView, WritesAll, WritesFront, WritesSome, Devices, IsUntouched}
 use Rattle.controller.specs.Words.{Calls}
-use Rattle.controller.specs.Input.{first_line, events_in, scenario_limit, IsInput}
+use Rattle.controller.specs.Input.{scenario_limit}
 use Rattle.controller.specs.Course.{ending_of}
 use Rattle.controller.specs.Outcome.{capacity, first_event, IsAcceptedText, IsUnreadable, IsRefusedText, IsNode, IsAnswered, EndsSo, IsOutcome}
-use Rattle.controller.specs.Session.{SinkView, WritesAll, WritesFront, WritesSome}
 use Rattle.controller.specs.declared.status.Status.{Status}
 use Rattle.controller.specs.declared.status.Status.TheVariants.{Done, Usage, Unreadable, Refused, ReadFault, WriteFault, NoMemory, TooLong}
-
--- what is seen of a source and a sink
-pub record Devices : Type 0 where
-  pub source : SourceView
-  pub sink : SinkView
-
--- nothing was read or written
-pub record IsUntouched (old new : Devices) : Type 0 where
-  pub left : Keeps old.source.left new.source.left
-  pub given : new.source.given ≡ old.source.given
-  pub written : Keeps old.sink.written new.sink.written
 
 -- the words call for a node, whose whole input ends so
 pub record HasOutcome (words : List (List ℕ)) (left : Option (List ℕ)) (status : Status) (text : List ℕ) : Type 0 where
@@ -39,12 +29,12 @@ pub record HasPart (words : List (List ℕ)) (left : Option (List ℕ)) (text : 
   pub calls : Calls words id
   pub bytes : List ℕ
   pub input : IsInput left bytes
-  pub part : ((v : LiveView capacity) × (rest : List ℕ) × IsNode (first_line bytes) id v × IsAnswered v (events_in bytes) rest text) ⊎ EndsSo bytes id Done text
+  pub part : ((v : LiveView capacity) × (rest : List ℕ) × IsNode (first_line bytes) id v × IsAnswered v (behind_first bytes) rest text) ⊎ EndsSo bytes id Done text
 
 -- The text answers all whole lines of the bytes. The scenario's line has no answer
 abbrev pub IsUpToDate : ℕ → List ℕ → List ℕ → Type 0
 IsUpToDate id bytes text = (IsUnbroken bytes × (text ≡ []))
-    ⊎ ((v : LiveView capacity) × (rest : List ℕ) × IsNode (first_line bytes) id v × IsAnswered v (events_in bytes) rest text × IsUnbroken rest)
+    ⊎ ((v : LiveView capacity) × (rest : List ℕ) × IsNode (first_line bytes) id v × IsAnswered v (behind_first bytes) rest text × IsUnbroken rest)
 
 -- the words call for a node, these bytes were read, and the text answers all of their lines
 pub record IsAnsweredSoFar (words : List (List ℕ)) (before now : Option (List ℕ)) (text : List ℕ) : Type 0 where
@@ -56,7 +46,7 @@ pub record IsAnsweredSoFar (words : List (List ℕ)) (before now : Option (List 
 
 -- all new nodes of this number, of the scenario of this line, come to this end
 abbrev pub AllEnd : List ℕ → ℕ → Status → Type 0
-AllEnd bytes id status = (v : LiveView capacity) → IsNode (first_line bytes) id v → (ending_of v first_event (events_in bytes)).status ≡ status
+AllEnd bytes id status = (v : LiveView capacity) → IsNode (first_line bytes) id v → (ending_of v first_event (behind_first bytes)).status ≡ status
 
 -- what must be answered to these bytes, if not that there was no memory, where no device failed
 pub record Decides (id : ℕ) (bytes : List ℕ) (status : Status) : Type 0 where

@@ -4,6 +4,7 @@ use Rattle.run_text.specs.PeriodText.{refused_text, end_text}
 use Rattle.live_node.specs.Live.{LiveView, Step, is_open, unknown_rule, line_step}
 use Rattle.live_node.specs.Live.Step.{Goes, Refuses}
 use Rattle.input_lines.specs.Lines.{lines_of, rest_of}
+use Rattle.input_lines.specs.Numbers.{next_number, number_behind}
 use Rattle.controller.specs.Input.{event_limit}
 use Rattle.controller.specs.declared.status.Status.{Status}
 use Rattle.controller.specs.declared.status.Status.TheVariants.{Done, Refused, TooLong}
@@ -17,15 +18,6 @@ pub record Ending : Type 0 where
 pub data Course (N : ℕ) : Type 0 where
   Stands : LiveView N → List ℕ → Course N
   Ends : Ending → Course N
-
--- the number of the line behind this one, the first being 1; a number stands still at 2^64 - 1
-abbrev pub next_number : ℕ → ℕ
-next_number n = min (n + 1) (2 ^ 64 - 1)
-
--- and of the line behind these, the first of which has this number
-abbrev pub number_behind : ℕ → List (List ℕ) → ℕ
-number_behind n [] = n
-number_behind n (line ∷ lines) = number_behind (next_number n) lines
 
 -- a text was written before
 abbrev pub ending_behind : List ℕ → Ending → Ending

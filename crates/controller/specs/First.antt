@@ -5,10 +5,11 @@ use Rattle.span_io.specs.Causes.{Rose}
 use Rattle.input_lines.specs.Lines.{line_feed, IsUnbroken}
 use Rattle.input_lines.specs.Reading.{IsLong, SourceView, GivesBytes}
 use Rattle.live_node.specs.Live.{LiveView}
+use Rattle.input_lines.specs.Devices.{SinkView, WritesSome}
 use Rattle.controller.specs.Input.{scenario_limit}
 use Rattle.controller.specs.Course.{closing}
 use Rattle.controller.specs.Outcome.{capacity, first_event, IsUnreadable, IsScenarioRefused, IsNode}
-use Rattle.controller.specs.Session.{Stand, SinkView, WritesSome, Concludes, Runs}
+use Rattle.controller.specs.Session.{Stand, Concludes, Runs}
 use Rattle.controller.specs.declared.control.FirstLine.{FirstLine}
 use Rattle.controller.specs.declared.status.Status.{Status}
 use Rattle.controller.specs.declared.status.Status.TheVariants.{Usage, Unreadable, Refused, ReadFault, NoMemory, TooLong}

@@ -7,7 +7,8 @@ use Rattle.scenario_reading.specs.Verdict.{IsAcceptedValue, value_refusal}
 use Rattle.run_text.specs.PeriodText.{refused_text}
 use Rattle.live_node.specs.Live.{LiveView, IsNewLive}
 use Rattle.input_lines.specs.Laws.{Begins}
-use Rattle.controller.specs.Input.{first_line, events_in, scenario_limit}
+use Rattle.input_lines.specs.FirstLine.{first_line, behind_first}
+use Rattle.controller.specs.Input.{scenario_limit}
 use Rattle.controller.specs.Course.{course, ending_of}
 use Rattle.controller.specs.Course.Course.{Stands}
 use Rattle.controller.specs.declared.status.Status.{Status}
@@ -70,7 +71,7 @@ pub record IsAnswered (v : LiveView capacity) (events : List ℕ) (rest text : L
 
 -- the events of node id end so
 abbrev pub EndsSo : List ℕ → ℕ → Status → List ℕ → Type 0
-EndsSo bytes id status text = (v : LiveView capacity) × IsNode (first_line bytes) id v × (ending_of v first_event (events_in bytes) ≡ record { status = status; text = text })
+EndsSo bytes id status text = (v : LiveView capacity) × IsNode (first_line bytes) id v × (ending_of v first_event (behind_first bytes) ≡ record { status = status; text = text })
 
 -- so many bytes are read that no call reads more
 pub record IsEndless (bytes : List ℕ) (id : ℕ) (text : List ℕ) : Type 0 where
@@ -78,7 +79,7 @@ pub record IsEndless (bytes : List ℕ) (id : ℕ) (text : List ℕ) : Type 0 wh
   pub v : LiveView capacity
   pub node : IsNode (first_line bytes) id v
   pub rest : List ℕ
-  pub answered : IsAnswered v (events_in bytes) rest text
+  pub answered : IsAnswered v (behind_first bytes) rest text
 
 -- the input of node id ends with this status, and then this text was written; the others are no matter of the bytes
 abbrev pub IsOutcome : ℕ → List ℕ → Status → List ℕ → Type 0

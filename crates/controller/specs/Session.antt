@@ -9,36 +9,15 @@ use Rattle.live_node.specs.Live.{LiveView, line_step}
 use Rattle.live_node.specs.Live.Step.{Goes, Refuses}
 use Rattle.input_lines.specs.declared.lines.LineError.{LineError}
 use Rattle.input_lines.specs.declared.lines.LineError.TheVariants as lines
-use Rattle.controller.specs.Input.{event_limit, told_left}
-use Rattle.controller.specs.Course.{Ending, course, number_behind, line_refusal, ending_of}
+use Rattle.input_lines.specs.Devices.{told_left, SinkView, WritesAll, WritesFront, WritesSome}
+use Rattle.input_lines.specs.Numbers.{number_behind}
+use Rattle.controller.specs.Input.{event_limit}
+use Rattle.controller.specs.Course.{Ending, course, line_refusal, ending_of}
 use Rattle.controller.specs.Course.Course.{Stands, Ends}
 use Rattle.controller.specs.Outcome.{capacity}
 use Rattle.controller.specs.declared.session.Session.{Session}
 use Rattle.controller.specs.declared.status.Status.{Status}
 use Rattle.controller.specs.declared.status.Status.TheVariants.{Done, Refused, ReadFault, WriteFault, NoMemory, TooLong}
-
--- what is seen of a sink: what was written, and how many faults it counted
-pub record SinkView : Type 0 where
-  pub written : Option (List ℕ)
-  pub faults : ℕ
-
--- what is seen of a sink by its kind of sinks, and of a source
-abbrev pub sink_seen : {K : Type 0} → (K → Option (List ℕ)) → (K → ℕ) → K → SinkView
-sink_seen written faults k = record { written = written k; faults = faults k }
-
-abbrev pub source_seen : {S : Type 0} → (S → Option (List ℕ)) → (S → ℕ) → (S → ℕ) → S → SourceView
-source_seen left given faults s = record { left = left s; given = given s; faults = faults s }
-
--- the text was written and no fault was counted
-abbrev pub WritesAll : SinkView → SinkView → List ℕ → Type 0
-WritesAll old new text = Appends old.written new.written text × (new.faults ≡ old.faults)
-
--- a prefix of the text was written, and the count of faults rose
-abbrev pub WritesFront : SinkView → SinkView → List ℕ → Type 0
-WritesFront old new text = AppendsPrefix old.written new.written text × Rose old.faults new.faults
-
-abbrev pub WritesSome : SinkView → SinkView → List ℕ → Type 0
-WritesSome old new text = WritesAll old new text ⊎ WritesFront old new text
 
 -- the node, the number of the line that comes next, and what was read and not taken
 pub record Stand : Type 0 where

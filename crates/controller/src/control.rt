@@ -1,11 +1,12 @@
 //! The top call.
 ghost use Rattle.std.specs.Prelude.{◌≡◌, ◌<◌, ◌≤◌, [], length, IfOk, IsTrue};
 ghost use Rattle.live_node.specs.Live.{IsNewLive};
+ghost use Rattle.input_lines.specs.Devices.{sink_seen, source_seen};
 ghost use Rattle.controller.specs.declared.status.Status.{Status as SpecStatus};
 ghost use Rattle.controller.specs.Status.{number_of};
 ghost use Rattle.controller.specs.Words.{texts};
 ghost use Rattle.controller.specs.Input.{scenario_limit};
-ghost use Rattle.controller.specs.Session.{sink_seen, source_seen, IsReady};
+ghost use Rattle.controller.specs.Session.{IsReady};
 ghost use Rattle.controller.specs.First.{ReadsFirst, AnswersFirst};
 ghost use Rattle.controller.specs.Answers.{IsStatusOf};
 
@@ -39,28 +40,13 @@ fn read_first<S: Source>(alloc: Global, source: &mut S) -> Result<FirstLine, Sta
     let Ok(mut lines) = Lines::open(alloc, SCENARIO_LIMIT) else {
         return Err(Status::NoMemory);
     };
-    'reads: loop {
-        match lines.take() {
-            Ok(true) => {
-                return Ok(FirstLine {
-                    lines,
-                    ends_input: false,
-                });
-            }
-            Ok(false) => {}
-            Err(error) => return Err(status_of(error)),
-        }
-        match lines.read(source) {
-            Ok(true) => {}
-            Ok(false) => break,
-            Err(error) => return Err(status_of(error)),
-        }
+    match lines.read_line(source) {
+        Ok(has_feed) => Ok(FirstLine {
+            lines,
+            ends_input: !has_feed,
+        }),
+        Err(error) => Err(status_of(error)),
     }
-    lines.take_rest();
-    Ok(FirstLine {
-        lines,
-        ends_input: true,
-    })
 }
 
 /// The session of a node of an accepted scenario. All memory that it will want is taken.

@@ -3,3 +3,6 @@ pub mod Reading
 pub mod Buffer
 pub mod Laws
 pub mod Splits
+pub mod FirstLine
+pub mod Devices
+pub mod Numbers

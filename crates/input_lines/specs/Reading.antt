@@ -72,3 +72,11 @@ Reads old new before now (Ok false) = IsAtEnd now.left × GivesBytes before now 
 Reads old new before now (Err Failed) = GivesNothing before now × Rose before.faults now.faults × HasMore old new []
 Reads old new before now (Err NoMemory) = (old.room ≤ length old.rest) × (now ≡ before) × HasMore old new []
 Reads old new before now (Err TooLong) = ⊥
+
+-- What a call of `read_line` does: it reads until the next line is whole, and takes it. Where the input ends before, what was not taken is the line
+abbrev pub ReadsLine : LinesView → LinesView → SourceView → SourceView → Result Bool LineError → Type 0
+ReadsLine old new before now (Ok true) = (bytes : List ℕ) × GivesBytes before now bytes × TakesLine (record old { rest = old.rest ++ bytes }) (record new { room = old.room })
+ReadsLine old new before now (Ok false) = (bytes : List ℕ) × GivesBytes before now bytes × IsAtEnd now.left × (new.line ≡ old.rest ++ bytes) × (new.rest ≡ []) × IsUnbroken new.line × (length new.line ≤ old.limit)
+ReadsLine old new before now (Err TooLong) = (bytes : List ℕ) × GivesBytes before now bytes × IsLong old.limit new.rest × (new.rest ≡ old.rest ++ bytes)
+ReadsLine old new before now (Err Failed) = (bytes : List ℕ) × Consumes before.left now.left bytes × Rose before.faults now.faults × IsUnbroken new.rest × (new.rest ≡ old.rest ++ bytes)
+ReadsLine old new before now (Err NoMemory) = (bytes : List ℕ) × GivesBytes before now bytes × IsUnbroken new.rest × (new.rest ≡ old.rest ++ bytes)

@@ -3,7 +3,7 @@ use Rattle.std.proofs.Common.{◌≡◌, ℕ, true, false, cond, List, [], ◌�
 use Rattle.std.specs.Prelude.{All, flat_map, ◌≢◌, ◌||◌, ◌==◌}
 use Rattle.std.proofs.lemmas.Bool.{cases_Bool, eqb-false}
 use Rattle.std.proofs.lemmas.List.Concat.{flat_map-append}
-use Rattle.std.proofs.lemmas.List.Elements.{All-nil, All-cons, All-head, All-tail, All-push}
+use Rattle.std.proofs.lemmas.List.Elements.{All-nil, All-cons, All-head, All-tail, All-push, All-append}
 use Rattle.input_lines.specs.Lines.{line_feed, with_feed, IsUnbroken, before_first, lines_of, has_feed, rest_of}
 use Rattle.input_lines.specs.Laws.{Begins, SplitLaw, FrontLaw}
 
@@ -84,6 +84,17 @@ take_line bytes lines old line rest b e h = record {
 -- more bytes come
 pub read_more : (bytes : List ℕ) (lines : List (List ℕ)) (rest more : List ℕ) → Begins bytes lines rest → Begins (bytes ++ more) lines (rest ++ more)
 read_more bytes lines rest more b = record { whole = ap (λ front. front ++ more) b.whole ∙ append_assoc (flat_map with_feed lines) rest more; each = b.each }
+
+-- lines behind lines
+pub begins_both : (bytes more last : List ℕ) (lines others : List (List ℕ)) (rest : List ℕ) → Begins bytes lines rest → Begins (rest ++ more) others last → Begins (bytes ++ more) (lines ++ others) last
+begins_both bytes more last lines others rest a b = record {
+  whole = ap (λ x. x ++ more) a.whole ∙ append_assoc (flat_map with_feed lines) rest more ∙ ap (λ x. flat_map with_feed lines ++ x) b.whole
+      ∙ sym (append_assoc (flat_map with_feed lines) (flat_map with_feed others) last) ∙ ap (λ x. x ++ last) (sym (flat_map-append with_feed lines others));
+  each = All-append IsUnbroken lines others a.each b.each;
+}
+
+pub begins_same : (a b : List ℕ) (lines : List (List ℕ)) (rest : List ℕ) → a ≡ b → Begins a lines rest → Begins b lines rest
+begins_same a b lines rest e h = subst (λ x. Begins x lines rest) e h
 
 -- ---- the laws
 

@@ -1,6 +1,6 @@
 //! The lines of a source.
 ghost use Rattle.std.specs.Prelude.{◌≡◌, ◌^◌, ◌<◌, [], length, IfOk, OnOk, OnErr, IsTrue, ◌↔◌};
-ghost use Rattle.input_lines.specs.Reading.{HasLimit, Takes, Reads};
+ghost use Rattle.input_lines.specs.Reading.{HasLimit, Takes, Reads, ReadsLine};
 
 use crate::buffer::Buffer;
 use node_grid::NoMemory;
@@ -173,6 +173,34 @@ impl Lines {
         };
         if count == 0 {
             return Ok(false);
+        }
+        Ok(true)
+    }
+
+    /// Reads until the next line is whole, and takes it; where the input ends before, what was not
+    /// taken is the line. Tells whether a line feed stood behind it.
+    ///
+    /// # Errors `TooLong` where more bytes than the limit come before a line feed, `Failed` where
+    /// the source failed before one came, and `NoMemory`. Nothing is taken then.
+    pub fn read_line<S: Source>(&mut self, source: &mut S) -> Result<bool, LineError>
+        ensures { ReadsLine self.old self.new
+            (record {
+              left = S.left source.old;
+              given = S.given source.old;
+              faults = S.faults source.old;
+            })
+            (record {
+              left = S.left source.new;
+              given = S.given source.new;
+              faults = S.faults source.new;
+            })
+            result }
+    {
+        'reads: while !self.take()? {
+            if !self.read(source)? {
+                self.take_rest();
+                return Ok(false);
+            }
         }
         Ok(true)
     }

@@ -2,8 +2,7 @@ pub mod Status
 pub mod Words
 pub mod Rows
 pub mod Writing
-pub use Rattle.run_judged.specs.Judging
-pub use Rattle.run_judged.specs.Rows
-pub use Rattle.judge_text.specs.Rows
-pub use Rattle.drawn_scenarios.specs.Drawn
-pub use Rattle.scenario_reading.specs.Verdict
+pub mod Session
+pub mod Options
+pub mod Laws
+pub mod Answers

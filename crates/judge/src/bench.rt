@@ -1,23 +1,25 @@
 //! Judging one scenario after another, in rooms that are taken once.
-ghost use Rattle.std.specs.Prelude.{◌≡◌, ◌≤◌, IfOk, OnOk};
-ghost use Rattle.serde_json.specs.View.{view};
+ghost use Rattle.std.specs.Prelude.{◌≡◌, ◌+◌, ◌<◌, ◌≤◌, IfOk, OnOk};
+ghost use Rattle.json_parts.specs.Meaning.{view};
 ghost use Rattle.node_grid.specs.Capacity.{IsCapacity};
 ghost use Rattle.run_judged.specs.Judging.{Judges, HasRoom};
 ghost use Rattle.scenario.specs.Scenario.{IsScenario};
 ghost use Rattle.scenario.specs.Given.{scenario_of};
 ghost use Rattle.drawn_scenarios.specs.Drawn.{drawn_parts};
-ghost use Rattle.judge.specs.Rows.{scenario_rows, has_few_nodes, drawn_rows};
-ghost use Rattle.judge.specs.Writing.{sink_seen, WritesRows, WritesValue, WritesLine, IsReady};
+ghost use Rattle.input_lines.specs.Devices.{sink_seen};
+ghost use Rattle.judge.specs.Rows.{scenario_rows, has_few_nodes, room_for, HasRows, IsRowsOf, drawn_rows};
+ghost use Rattle.judge.specs.Writing.{written, WritesRows, HasRooms};
 
 use at_once::Run;
 use drawn_scenarios::{Options, make};
+use json::{Scratch, Value};
+use json_parts::{TextError, member, value_of, whole};
 use judge_text::{write_judged, write_refused, write_unread};
 use node_grid::NoMemory;
 use run_judged::Judge;
 use run_print::WriteFault;
 use scenario::{Scenario, ScenarioError};
 use scenario_reading::from_value;
-use serde_json::{Category, Value};
 use span_io::Sink;
 use std::alloc::Global;
 
@@ -36,6 +38,23 @@ pub(crate) enum RowError {
     WriteFault,
 }
 
+/// Runs the next period, and judges it.
+fn judge_next<const N: usize>(judge: &mut Judge<N>, scenario: &Scenario<N>, run: &mut Run<'_, N>)
+    requires capacity { IsCapacity N }
+    requires same { run.old.scenario ≡ scenario.now }
+    requires together { judge.old.periods ≡ run.old.run }
+    requires more { run.old.run < run.old.scenario.periods }
+    requires judges { Judges scenario.now judge.old }
+    requires room { HasRoom judge.old }
+    ensures ran { run.new ≡ record run.old { run = run.old.run + 1 } }
+    ensures judges { Judges scenario.now judge.new }
+    ensures periods { judge.new.periods ≡ judge.old.periods + 1 }
+    ensures room { HasRoom judge.new }
+{
+    let shown = run.period();
+    judge.add(scenario, shown);
+}
+
 /// Runs a scenario, and judges it period by period.
 fn judge_run<const N: usize>(
     alloc: Global,
@@ -50,24 +69,26 @@ fn judge_run<const N: usize>(
 {
     let mut run = Run::open(alloc, scenario)?;
     judge.begin(scenario);
-    for _period in 0..scenario.periods() {
-        judge.add(scenario, run.period());
+    'periods: for _period in 0..scenario.periods() {
+        judge_next(judge, scenario, &mut run);
     }
     Ok(())
 }
 
 /// Whether the value says that there are so few nodes that types laid out for 8 have room for them.
-fn has_few_nodes(value: &Value) -> bool
+fn has_few_nodes(value: &Value<'_>) -> bool
     ensures { result ≡ has_few_nodes (view value.now) }
 {
-    match value.get("nodes") {
-        Some(nodes) => matches!(nodes.as_i64(), Some(count) if count <= FEW as i64),
+    match member(value, "nodes") {
+        Some(nodes) => matches!(whole(nodes), Some(count) if count <= FEW as i64),
         None => false,
     }
 }
 
 /// What a call comes to that wrote rows.
-fn written(rows: Result<(), WriteFault>) -> Result<(), RowError> {
+fn written(rows: Result<(), WriteFault>) -> Result<(), RowError>
+    ensures { result ≡ written rows }
+{
     match rows {
         Ok(()) => Ok(()),
         Err(WriteFault) => Err(RowError::WriteFault),
@@ -86,7 +107,7 @@ fn judge_scenario<const N: usize, K: Sink>(
     requires room { HasRoom judge.old }
     ensures rows { WritesRows (sink_seen K.written K.faults sink.old)
         (sink_seen K.written K.faults sink.new)
-        (scenario_rows number scenario.now) result }
+        (λ text. text ≡ scenario_rows number scenario.now) result }
     ensures room { HasRoom judge.new }
 {
     let Ok(()) = judge_run(alloc, judge, scenario) else {
@@ -106,15 +127,15 @@ fn judge_scenario<const N: usize, K: Sink>(
 fn judge_value<const N: usize, K: Sink>(
     alloc: Global,
     judge: &mut Judge<N>,
-    value: &Value,
+    value: &Value<'_>,
     number: u64,
     sink: &mut K,
 ) -> Result<(), RowError>
     requires capacity { IsCapacity N }
     requires room { HasRoom judge.old }
-    ensures rows { WritesValue N number (view value.now)
-        (sink_seen K.written K.faults sink.old)
-        (sink_seen K.written K.faults sink.new) result }
+    ensures rows { WritesRows (sink_seen K.written K.faults sink.old)
+        (sink_seen K.written K.faults sink.new)
+        (HasRows N number (view value.now)) result }
     ensures room { HasRoom judge.new }
 {
     match from_value::<N>(alloc, value) {
@@ -149,8 +170,8 @@ fn judge_drawn<const N: usize, K: Sink>(
     requires room { HasRoom judge.old }
     ensures rows { WritesRows (sink_seen K.written K.faults sink.old)
         (sink_seen K.written K.faults sink.new)
-        (scenario_rows index (scenario_of N
-        (drawn_parts drawing.options.now.choices drawing.seed index))) result }
+        (λ text. text ≡ scenario_rows index (scenario_of N
+        (drawn_parts drawing.entry.options.now.choices drawing.entry.seed index))) result }
     ensures room { HasRoom judge.new }
 {
     let Ok(scenario) = make::<N>(alloc, drawing.options, drawing.seed, index) else {
@@ -173,11 +194,31 @@ impl Bench {
     /// # Errors
     /// `NoMemory` where there is none.
     pub(crate) fn open(alloc: Global) -> Result<Bench, NoMemory>
-        ensures { IfOk result IsReady }
+        ensures { IfOk result HasRooms }
     {
         let few = Judge::open(alloc)?;
         let many = Judge::open(alloc)?;
         Ok(Bench { alloc, few, many })
+    }
+
+    /// Judges the scenario that a JSON value is, in types with room for its nodes.
+    fn judge_json<K: Sink>(
+        &mut self,
+        value: &Value<'_>,
+        number: u64,
+        sink: &mut K,
+    ) -> Result<(), RowError>
+        requires { HasRooms self.old }
+        ensures rooms { HasRooms self.new }
+        ensures rows { WritesRows (sink_seen K.written K.faults sink.old)
+            (sink_seen K.written K.faults sink.new)
+            (HasRows (room_for (view value.now)) number (view value.now)) result }
+    {
+        if has_few_nodes(value) {
+            judge_value(self.alloc, &mut self.few, value, number, sink)
+        } else {
+            judge_value(self.alloc, &mut self.many, value, number, sink)
+        }
     }
 
     /// Judges the scenario of a line, and writes its rows under the number of the line.
@@ -191,19 +232,17 @@ impl Bench {
         number: u64,
         sink: &mut K,
     ) -> Result<(), RowError>
-        requires { IsReady self.old }
-        ensures ready { IsReady self.new }
-        ensures rows { WritesLine number line.now (sink_seen K.written K.faults sink.old)
-            (sink_seen K.written K.faults sink.new) result }
+        requires { HasRooms self.old }
+        ensures rooms { HasRooms self.new }
+        ensures rows { WritesRows (sink_seen K.written K.faults sink.old)
+            (sink_seen K.written K.faults sink.new) (IsRowsOf number line.now) result }
     {
         let alloc = self.alloc;
-        match Value::from_slice(alloc, line) {
-            Ok(value) if has_few_nodes(&value) => {
-                judge_value(alloc, &mut self.few, &value, number, sink)
-            }
-            Ok(value) => judge_value(alloc, &mut self.many, &value, number, sink),
-            Err(error) if error.classify() == Category::Memory => Err(RowError::NoMemory),
-            Err(_) => written(write_unread(number, sink)),
+        let mut scratch = Scratch::new(alloc);
+        match value_of(alloc, line, &mut scratch) {
+            Ok(value) => self.judge_json(&value, number, sink),
+            Err(TextError::Unreadable) => written(write_unread(number, sink)),
+            Err(TextError::NoMemory) => Err(RowError::NoMemory),
         }
     }
 
@@ -217,11 +256,11 @@ impl Bench {
         index: u32,
         sink: &mut K,
     ) -> Result<(), RowError>
-        requires { IsReady self.old }
-        ensures ready { IsReady self.new }
+        requires { HasRooms self.old }
+        ensures rooms { HasRooms self.new }
         ensures rows { WritesRows (sink_seen K.written K.faults sink.old)
             (sink_seen K.written K.faults sink.new)
-            (drawn_rows drawing.options.now.choices drawing.seed index) result }
+            (λ text. text ≡ drawn_rows drawing.entry.options.now.choices drawing.entry.seed index) result }
     {
         let alloc = self.alloc;
         if drawing.options.choices.nodes as usize <= FEW {

@@ -9,6 +9,7 @@
 
 mod bench;
 mod judging;
+pub mod laws;
 mod lines;
 mod options;
 mod status;

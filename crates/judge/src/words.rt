@@ -1,12 +1,12 @@
 //! The words that the program is called with.
-ghost use Rattle.std.specs.Prelude.{◌≡◌, ℕ, ◌≤◌, ◌∷◌, [], IfSome, None, codes, decimal};
-ghost use Rattle.judge.specs.Words.{texts, IsInRange, Calls};
+ghost use Rattle.std.specs.Prelude.{◌≡◌, ℕ, ◌≤◌, length, IfSome, None, decimal};
+ghost use Rattle.judge.specs.Words.{texts, Calls};
 ghost use Rattle.judge.specs.declared.words.Command.{Command as CommandIs};
 ghost use Rattle.judge.specs.declared.words.Draw.{Draw as DrawIs};
 ghost use Rattle.judge.specs.declared.words.Draws.{Draws as DrawsAre};
 ghost use Rattle.judge.specs.declared.words.Command.TheVariants as commands;
 
-use itoa::Buffer;
+use program_words::number_of;
 
 /// How many seeds there are, and how many scenarios of each.
 const NUMBERS: u64 = 4_294_967_296;
@@ -43,33 +43,33 @@ pub enum Command {
 }
 
 /// The number that a word is in decimal, at most `most`, without a sign and without zeros before it.
-fn number_of(word: &str, most: u64) -> Option<u64>
+fn number_to(most: u64, word: &str) -> Option<u64>
     ensures found { IfSome result (λ n. word.now ≡ decimal n) }
     ensures small { IfSome result (λ n. n ≤ most) }
     ensures none { result ≡ None → (n : ℕ) → n ≤ most → (word.now ≡ decimal n) → ⊥ }
 {
-    let Ok(number) = word.parse::<u64>() else {
+    let Some(number) = number_of(word) else {
         return None;
     };
-    let mut buffer = Buffer::new();
-    if buffer.format(number) == word && number <= most {
-        return Some(number);
+    if number > most {
+        return None;
     }
-    None
+    Some(number)
 }
 
-/// The draws that these words tell.
-fn draws_of(seed: &str, first: &str, count: &str) -> Option<Draws>
-    ensures found { IfSome result (λ d. IsInRange (commands.Draw d)) }
-    ensures told { IfSome result (λ d. decimal d.seed ∷ decimal d.first ∷ decimal d.count ∷ []
-        ≡ seed.now ∷ first.now ∷ count.now ∷ []) }
-    ensures none { result ≡ None → (d : DrawsAre) → IsInRange (commands.Draw d)
-        → (decimal d.seed ∷ decimal d.first ∷ decimal d.count ∷ []
-        ≡ seed.now ∷ first.now ∷ count.now ∷ []) → ⊥ }
+/// The draws that four words call for.
+fn draws_of(words: &[String]) -> Option<Draws>
+    requires { length words.now ≡ 4 }
+    ensures found { IfSome result (λ d. Calls (texts words.now) (commands.Draw d)) }
+    ensures none { result ≡ None
+        → (d : DrawsAre) → Calls (texts words.now) (commands.Draw d) → ⊥ }
 {
-    let seed = number_of(seed, NUMBERS - 1)?;
-    let first = number_of(first, NUMBERS - 1)?;
-    let count = number_of(count, NUMBERS - first)?;
+    if words[0].as_str() != "draw" {
+        return None;
+    }
+    let seed = number_to(NUMBERS - 1, words[1].as_str())?;
+    let first = number_to(NUMBERS - 1, words[2].as_str())?;
+    let count = number_to(NUMBERS - first, words[3].as_str())?;
     Some(Draws {
         seed: seed as u32,
         first: first as u32,
@@ -77,16 +77,17 @@ fn draws_of(seed: &str, first: &str, count: &str) -> Option<Draws>
     })
 }
 
-/// The draw that these words tell.
-fn draw_of(seed: &str, index: &str) -> Option<Draw>
-    ensures found { IfSome result (λ d. IsInRange (commands.Show d)) }
-    ensures told { IfSome result (λ d. decimal d.seed ∷ decimal d.index ∷ []
-        ≡ seed.now ∷ index.now ∷ []) }
-    ensures none { result ≡ None → (d : DrawIs) → IsInRange (commands.Show d)
-        → (decimal d.seed ∷ decimal d.index ∷ [] ≡ seed.now ∷ index.now ∷ []) → ⊥ }
+/// The draw that three words call for.
+fn draw_of(words: &[String]) -> Option<Draw>
+    requires { length words.now ≡ 3 }
+    ensures found { IfSome result (λ d. Calls (texts words.now) (commands.Show d)) }
+    ensures none { result ≡ None → (d : DrawIs) → Calls (texts words.now) (commands.Show d) → ⊥ }
 {
-    let seed = number_of(seed, NUMBERS - 1)?;
-    let index = number_of(index, NUMBERS - 1)?;
+    if words[0].as_str() != "show" {
+        return None;
+    }
+    let seed = number_to(NUMBERS - 1, words[1].as_str())?;
+    let index = number_to(NUMBERS - 1, words[2].as_str())?;
     Some(Draw {
         seed: seed as u32,
         index: index as u32,
@@ -98,16 +99,10 @@ pub(crate) fn command_of(words: &[String]) -> Option<Command>
     ensures found { IfSome result (λ command. Calls (texts words.now) command) }
     ensures none { result ≡ None → (command : CommandIs) → Calls (texts words.now) command → ⊥ }
 {
-    if words.is_empty() {
-        return Some(Command::Lines);
+    match words.len() {
+        0 => Some(Command::Lines),
+        3 => Some(Command::Show(draw_of(words)?)),
+        4 => Some(Command::Draw(draws_of(words)?)),
+        _ => None,
     }
-    if words.len() == 3 && words[0].as_str() == "show" {
-        let draw = draw_of(words[1].as_str(), words[2].as_str())?;
-        return Some(Command::Show(draw));
-    }
-    if words.len() == 4 && words[0].as_str() == "draw" {
-        let draws = draws_of(words[1].as_str(), words[2].as_str(), words[3].as_str())?;
-        return Some(Command::Draw(draws));
-    }
-    None
 }

@@ -1,9 +1,10 @@
 //! The words with which a program is called.
 #![tactic(auto)]
 
-ghost use Rattle.std.specs.Prelude.{◌≡◌, drop, IfOk};
+ghost use Rattle.std.specs.Prelude.{◌≡◌, ℕ, ◌^◌, ◌<◌, drop, decimal, None, IfOk, IfSome};
 ghost use Rattle.std.specs.Vec.Iter.{into_iter_items};
 
+use itoa::Buffer;
 use std::alloc::{AllocError, Global};
 use std::env::Args;
 
@@ -22,4 +23,20 @@ pub fn words_after_name(alloc: Global, arguments: Args) -> Result<Vec<String>, A
         words.push(word)?;
     }
     Ok(words)
+}
+
+/// The number below 2^64 that a word is in decimal, without a sign and without zeros before it.
+pub fn number_of(word: &str) -> Option<u64>
+    ensures found { IfSome result (λ n. word.now ≡ decimal n) }
+    ensures small { IfSome result (λ n. n < 2 ^ 64) }
+    ensures none { result ≡ None → (n : ℕ) → n < 2 ^ 64 → (word.now ≡ decimal n) → ⊥ }
+{
+    let Ok(number) = word.parse::<u64>() else {
+        return None;
+    };
+    let mut buffer = Buffer::new();
+    if buffer.format(number) == word {
+        return Some(number);
+    }
+    None
 }

@@ -3,11 +3,12 @@ use Rattle.std.specs.Prelude.{◌⊎◌}
 use Rattle.run_text.specs.PeriodText.{refused_text}
 use Rattle.input_lines.specs.Reading.{SourceView}
 use Rattle.scenario.specs.Scenario.{ScenarioView}
+use Rattle.input_lines.specs.Devices.{SinkView, WritesSome, source_seen, sink_seen}
 use Rattle.controller.specs.Input.{scenario_limit}
 use Rattle.live_node.specs.Live.{LiveView, IsNewLive}
 use Rattle.controller.specs.Course.{closing}
 use Rattle.controller.specs.Outcome.{capacity, first_event, IsAcceptedText, IsNode}
-use Rattle.controller.specs.Session.{SinkView, WritesSome, Concludes, Runs, source_seen, sink_seen}
+use Rattle.controller.specs.Session.{Concludes, Runs}
 use Rattle.controller.specs.First.{at_first, RunsNode, AnswersFirst}
 use Rattle.controller.specs.declared.control.FirstLine.{FirstLine}
 use Rattle.controller.specs.declared.status.Status.{Status}

@@ -1,5 +1,5 @@
+use Rattle.input_lines.specs.Devices.{source_seen, sink_seen}
 use Rattle.controller.specs.Words.{texts}
-use Rattle.controller.specs.Session.{source_seen, sink_seen}
 use Rattle.controller.proofs.Explaining.{explained}
 use Rattle.controller.proofs.Answering.{answered, unanswered}
 use Rattle.controller.proofs.control.control.Goals as goal

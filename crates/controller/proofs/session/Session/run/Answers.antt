@@ -1,10 +1,10 @@
 use Rattle.std.proofs.Common.{◌≡◌, ℕ, ◌+◌, ◌≤◌, Bool, true, false, List, [], ◌++◌, length, arith, sym, subst, length-append, Ok}
 use Rattle.input_lines.specs.Reading.{SourceView, GivesBytes}
-use Rattle.controller.specs.Session.{Stand, SinkView, WritesAll, stand, sink_seen, source_seen, Stops, CaughtUp, Rounds, Concludes, Runs, with_more}
+use Rattle.input_lines.specs.Devices.{SinkView, WritesAll, sink_seen, source_seen, gave_nothing, gave_both, gave_no_more, all_all}
+use Rattle.controller.specs.Session.{Stand, stand, Stops, CaughtUp, Rounds, Concludes, Runs, with_more}
 use Rattle.controller.specs.Course.{closing}
 use Rattle.controller.specs.declared.status.Status.{Status}
-use Rattle.controller.proofs.Running.{gave_nothing, gave_both, gave_no_more, runs_stopped, runs_in_round, runs_over, caught_up_more, with_none}
-use Rattle.controller.proofs.Writing.{all_all}
+use Rattle.controller.proofs.Running.{runs_stopped, runs_in_round, runs_over, caught_up_more, with_none}
 use Rattle.controller.proofs.session.Session.run.Goals as goal
 
 -- a round that read more, after others

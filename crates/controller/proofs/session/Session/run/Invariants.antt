@@ -1,6 +1,7 @@
 use Rattle.std.proofs.Common.{ℕ, ◌≤◌, List, length}
 use Rattle.input_lines.specs.Reading.{GivesBytes}
-use Rattle.controller.specs.Session.{sink_seen, source_seen, WritesAll, IsReady, CaughtUp, stand, with_more}
+use Rattle.input_lines.specs.Devices.{sink_seen, source_seen, WritesAll}
+use Rattle.controller.specs.Session.{IsReady, CaughtUp, stand, with_more}
 use Rattle.controller.proofs.session.Session.run.Given as goal
 
 abbrev pub invariant-rounds : goal.invariant-rounds

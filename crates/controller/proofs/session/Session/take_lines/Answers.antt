@@ -1,11 +1,11 @@
 use Rattle.std.proofs.Common.{◌≡◌, ℕ, ◌≤◌, Bool, true, List, [], ◌∷◌, ◌++◌, length, arith, sym, ap, ◌∙◌, subst, Ok}
 use Rattle.input_lines.specs.Lines.{line_feed, IsUnbroken}
 use Rattle.input_lines.specs.Reading.{LinesView, TakesLine, Takes}
+use Rattle.input_lines.specs.Devices.{wrote_nothing, all_all, sink_seen}
 use Rattle.controller.specs.Input.{event_limit}
 use Rattle.controller.proofs.Taking.{took_nothing, took_line}
 use Rattle.controller.proofs.Stopping.{stops_taken}
-use Rattle.controller.proofs.Writing.{wrote_nothing, all_all}
-use Rattle.controller.specs.Session.{stand, sink_seen}
+use Rattle.controller.specs.Session.{stand}
 use Rattle.controller.proofs.session.Session.take_lines.Goals as goal
 
 -- a line was taken, which was lent

@@ -1,5 +1,6 @@
 use Rattle.std.proofs.Common.{ℕ, List, length}
-use Rattle.controller.specs.Session.{sink_seen, WritesAll, IsReady, Took, stand}
+use Rattle.input_lines.specs.Devices.{sink_seen, WritesAll}
+use Rattle.controller.specs.Session.{IsReady, Took, stand}
 use Rattle.controller.proofs.session.Session.take_lines.Given as goal
 
 abbrev pub invariant-lines : goal.invariant-lines

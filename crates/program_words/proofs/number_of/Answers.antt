@@ -2,8 +2,8 @@ use Rattle.std.proofs.Common.{sym, ap, ◌∙◌}
 use Rattle.std.specs.Prelude.{decimal}
 use Rattle.std.proofs.lemmas.Bool.Decides.{Decides-eqb}
 use Rattle.std.proofs.lemmas.Slice.Eq.{slice_eq-Decides}
-use Rattle.controller.proofs.Calling.{read_back, not_both, same_number, never}
-use Rattle.controller.proofs.words.number_of.Goals as goal
+use Rattle.program_words.proofs.Numbers.{read_back, not_both, same_number, never}
+use Rattle.program_words.proofs.number_of.Goals as goal
 
 pub returns-in_default-clause-none : goal.returns-in_default-clause-none
 returns-in_default-clause-none c = λ e n low same. not_both _ n _ (read_back _ n _ low same c.parse.ensures.value.0) c.in_default.is

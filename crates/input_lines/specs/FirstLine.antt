@@ -5,9 +5,20 @@ use Rattle.std.proofs.lemmas.Bool.{cases_Bool}
 use Rattle.std.proofs.lemmas.List.Elements.{All-head, All-tail}
 use Rattle.input_lines.specs.Lines.{line_feed, IsUnbroken, before_first, lines_of, has_feed, rest_of}
 use Rattle.input_lines.specs.Reading.{IsLong}
-use Rattle.controller.specs.Input.{first_line, events_in}
 
-head_apart : (c : ℕ) (bytes : List ℕ) → IsUnbroken (c ∷ bytes) → (c == line_feed) ≡ false
+-- what stands before the first line feed; all, where there is none
+abbrev pub first_line : List ℕ → List ℕ
+first_line [] = []
+first_line (c ∷ bytes) = cond (c == line_feed) [] (c ∷ first_line bytes)
+
+-- what stands behind the first line feed; nothing, where there is none
+abbrev pub behind_first : List ℕ → List ℕ
+behind_first [] = []
+behind_first (c ∷ bytes) = cond (c == line_feed) bytes (behind_first bytes)
+
+-- ---- lemmas
+
+pub head_apart : (c : ℕ) (bytes : List ℕ) → IsUnbroken (c ∷ bytes) → (c == line_feed) ≡ false
 head_apart c bytes h = ne_eqb c line_feed (All-head (λ x. x ≢ line_feed) c bytes h)
 
 -- an unbroken line and its line feed
@@ -16,19 +27,19 @@ first_of [] more h = refl
 first_of (c ∷ line) more h =
     ap (λ b. cond b [] (c ∷ first_line (line ++ line_feed ∷ more))) (head_apart c line h) ∙ ap (λ l. c ∷ l) (first_of line more (All-tail (λ x. x ≢ line_feed) c line h))
 
-pub behind_first : (line more : List ℕ) → IsUnbroken line → events_in (line ++ line_feed ∷ more) ≡ more
-behind_first [] more h = refl
-behind_first (c ∷ line) more h =
-    ap (λ b. cond b (line ++ line_feed ∷ more) (events_in (line ++ line_feed ∷ more))) (head_apart c line h) ∙ behind_first line more (All-tail (λ x. x ≢ line_feed) c line h)
+pub behind_of : (line more : List ℕ) → IsUnbroken line → behind_first (line ++ line_feed ∷ more) ≡ more
+behind_of [] more h = refl
+behind_of (c ∷ line) more h =
+    ap (λ b. cond b (line ++ line_feed ∷ more) (behind_first (line ++ line_feed ∷ more))) (head_apart c line h) ∙ behind_of line more (All-tail (λ x. x ≢ line_feed) c line h)
 
 -- bytes without a line feed
 pub first_is_all : (bytes : List ℕ) → IsUnbroken bytes → first_line bytes ≡ bytes
 first_is_all [] h = refl
 first_is_all (c ∷ bytes) h = ap (λ b. cond b [] (c ∷ first_line bytes)) (head_apart c bytes h) ∙ ap (λ l. c ∷ l) (first_is_all bytes (All-tail (λ x. x ≢ line_feed) c bytes h))
 
-pub nothing_behind : (bytes : List ℕ) → IsUnbroken bytes → events_in bytes ≡ []
+pub nothing_behind : (bytes : List ℕ) → IsUnbroken bytes → behind_first bytes ≡ []
 nothing_behind [] h = refl
-nothing_behind (c ∷ bytes) h = ap (λ b. cond b bytes (events_in bytes)) (head_apart c bytes h) ∙ nothing_behind bytes (All-tail (λ x. x ≢ line_feed) c bytes h)
+nothing_behind (c ∷ bytes) h = ap (λ b. cond b bytes (behind_first bytes)) (head_apart c bytes h) ∙ nothing_behind bytes (All-tail (λ x. x ≢ line_feed) c bytes h)
 
 -- where the first n bytes have no line feed, the first line has as many
 long_front : (n : ℕ) (bytes more : List ℕ) → n ≤ length bytes → IsUnbroken (take n bytes) → n ≤ length (first_line (bytes ++ more))

@@ -1,0 +1,10 @@
+pub mod Table
+pub mod Taking
+pub mod Running
+pub mod Drawing
+pub mod Answering
+pub mod FirstLine
+pub mod Writing
+pub mod OneText
+pub mod Calling
+pub mod Following

@@ -1,0 +1,28 @@
+use Rattle.std.proofs.Common.{◌<◌, ◌+◌, arith, ap, sym, ◌∙◌, inl, inr, lit<}
+use Rattle.scenario.specs.Scenario.{ScenarioView}
+use Rattle.at_once.specs.Run.{RunView}
+use Rattle.judge.proofs.bench.judge_run.Goals as goal
+
+pub judge_next-requires : goal.judge_next-requires
+judge_next-requires g c =
+    let i = c.periods.invariant in
+    let periods = ap (λ (s : ScenarioView g.row.N). s.periods) i.same in
+    let more : c.periods.run.run < c.periods.run.scenario.periods = omega (arith, i.run, periods, c.periods-test.true, c.periods-period-end.ensures.periods) in (
+      lit< tt,
+      (
+        elim c.requires.capacity [ inl e ↦ rw e (lit< tt) | inr e ↦ rw e (lit< tt) ],
+        (elim c.requires.capacity [ inl e ↦ rw e (lit< tt) | inr e ↦ rw e (lit< tt) ], (c.requires.capacity, (i.same, (i.periods ∙ sym i.run, (more, (i.judges, i.room)))))),
+      ),
+    )
+
+pub periods-preserved : goal.periods-preserved
+periods-preserved g c =
+    let i = c.periods.invariant in
+    let e = c.judge_next.ensures in
+    record {
+      same = ap (λ (r : RunView g.row.N). r.scenario) e.ran ∙ i.same;
+      run = ap (λ (r : RunView g.row.N). r.run) e.ran ∙ ap (λ k. k + 1) i.run;
+      judges = e.judges;
+      periods = e.periods ∙ ap (λ k. k + 1) i.periods;
+      room = e.room;
+    }

@@ -1,0 +1,12 @@
+use Rattle.std.proofs.Common.{◌≡◌}
+use Rattle.run_judged.specs.Judging.{Judges, HasRoom}
+use Rattle.judge.proofs.bench.judge_run.Given as goal
+
+abbrev pub invariant-periods : goal.invariant-periods
+invariant-periods g l = record {
+  same : l.run.scenario ≡ l.scenario;
+  run : l.run.run ≡ l._period;
+  judges : Judges l.scenario l.judge;
+  periods : l.judge.periods ≡ l._period;
+  room : HasRoom l.judge;
+}
