@@ -62,3 +62,11 @@ words_counted (Show d) = refl
 
 pub counted : (ws : List (String Global)) (command : Command) → texts ws ≡ words_of command → length ws ≡ count_of command
 counted ws command h = sym (as_many ws) ∙ ap length h ∙ words_counted command
+
+-- words that are these are those
+pub three_are : (ws : List (List ℕ)) (a b c x y z : List ℕ) → ws ≡ a ∷ b ∷ c ∷ [] → a ≡ x → b ≡ y → c ≡ z → ws ≡ x ∷ y ∷ z ∷ []
+three_are ws a b c x y z is d e f = is ∙ ap₂ (λ (s : List ℕ) (ts : List (List ℕ)). s ∷ ts) d (ap₂ (λ (s t : List ℕ). s ∷ t ∷ []) e f)
+
+pub four_are : (ws : List (List ℕ)) (a b c d w x y z : List ℕ) → ws ≡ a ∷ b ∷ c ∷ d ∷ [] → a ≡ w → b ≡ x → c ≡ y → d ≡ z → ws ≡ w ∷ x ∷ y ∷ z ∷ []
+four_are ws a b c d w x y z is e f g h =
+    is ∙ ap₂ (λ (s : List ℕ) (ts : List (List ℕ)). s ∷ ts) e (ap₂ (λ (s : List ℕ) (ts : List (List ℕ)). s ∷ ts) f (ap₂ (λ (s t : List ℕ). s ∷ t ∷ []) g h))

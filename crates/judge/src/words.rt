@@ -64,17 +64,17 @@ fn draws_of(words: &[String]) -> Option<Draws>
     ensures none { result ≡ None
         → (d : DrawsAre) → Calls (texts words.now) (commands.Draw d) → ⊥ }
 {
-    if words[0].as_str() != "draw" {
-        return None;
+    if words[0].as_str() == "draw" {
+        let seed = number_to(NUMBERS - 1, words[1].as_str())?;
+        let first = number_to(NUMBERS - 1, words[2].as_str())?;
+        let count = number_to(NUMBERS - first, words[3].as_str())?;
+        return Some(Draws {
+            seed: seed as u32,
+            first: first as u32,
+            count,
+        });
     }
-    let seed = number_to(NUMBERS - 1, words[1].as_str())?;
-    let first = number_to(NUMBERS - 1, words[2].as_str())?;
-    let count = number_to(NUMBERS - first, words[3].as_str())?;
-    Some(Draws {
-        seed: seed as u32,
-        first: first as u32,
-        count,
-    })
+    None
 }
 
 /// The draw that three words call for.
@@ -83,15 +83,15 @@ fn draw_of(words: &[String]) -> Option<Draw>
     ensures found { IfSome result (λ d. Calls (texts words.now) (commands.Show d)) }
     ensures none { result ≡ None → (d : DrawIs) → Calls (texts words.now) (commands.Show d) → ⊥ }
 {
-    if words[0].as_str() != "show" {
-        return None;
+    if words[0].as_str() == "show" {
+        let seed = number_to(NUMBERS - 1, words[1].as_str())?;
+        let index = number_to(NUMBERS - 1, words[2].as_str())?;
+        return Some(Draw {
+            seed: seed as u32,
+            index: index as u32,
+        });
     }
-    let seed = number_to(NUMBERS - 1, words[1].as_str())?;
-    let index = number_to(NUMBERS - 1, words[2].as_str())?;
-    Some(Draw {
-        seed: seed as u32,
-        index: index as u32,
-    })
+    None
 }
 
 /// What the words call for, where they call for anything.
