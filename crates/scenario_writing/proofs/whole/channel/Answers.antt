@@ -6,6 +6,14 @@ use Rattle.serde_json.specs.View.{view}
 use Rattle.scenario_writing.proofs.Channels.{copy_at, both}
 use Rattle.scenario_writing.proofs.whole.channel.Goals as goal
 
+pub returns-in-State : goal.returns-in-State
+returns-in-State c =
+    let delta : SFits w64 c.in-State.delta = search rules in
+    let step : SFits w64 c.in-State.step = search rules in
+    rw c.in-State.is
+    (IfOk-weaker c.state.result _ _ (λ v read. rw (to_z-of_z w64 c.in-State.delta delta, to_z-of_z w64 c.in-State.step step, c.as_slice.ensures.value) at read)
+    (c.state.ensures c.args.version))
+
 pub returns-in-Sensor : goal.returns-in-Sensor
 returns-in-Sensor c =
     let delta : SFits w64 c.in-Sensor.delta = search rules in

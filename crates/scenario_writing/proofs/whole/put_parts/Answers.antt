@@ -3,18 +3,17 @@ use Rattle.std.specs.Prelude.{codes, option_map}
 use Rattle.std.proofs.lemmas.Int.{to_z-of_z}
 use Rattle.serde_json.specs.Data.{object}
 use Rattle.serde_json.specs.View.{view}
-use Rattle.serde_json.proofs.Views.{view-Object}
 use Rattle.scenario.specs.Seen.{parts_view}
 use Rattle.scenario_reading.specs.Keys.{parts_read}
 use Rattle.scenario_writing.proofs.Members.{begun, onto, onto_some, kept}
 use Rattle.scenario_writing.proofs.Wholes.{Pieces, AreRead, read_back}
-use Rattle.scenario_writing.proofs.whole.value_of.Goals as goal
+use Rattle.scenario_writing.proofs.whole.put_parts.Goals as goal
 
 pub policy-requires : goal.policy-requires
-policy-requires c = rw (to_z-of_z w64 c.args.parts.now.version (search rules)) c.requires.policy
+policy-requires c = rw (to_z-of_z w64 c.args.parts.now.version (search rules)) c.requires.version.policy
 
 pub channels-requires : goal.channels-requires
-channels-requires c = rw (to_z-of_z w64 c.args.parts.now.version (search rules), c.as_slice.ensures.value) c.requires.channels
+channels-requires c = rw (to_z-of_z w64 c.args.parts.now.version (search rules), c.as_slice.ensures.value) c.requires.version.channels
 
 pub returns : goal.returns
 returns c =
@@ -45,9 +44,9 @@ returns c =
       restarts = rw c.as_slice-4.ensures.value at c.in_ok-restarts.ensures;
     } in
     let whole_object =
-    onto_some (codes "clock") (option_map view c.in_ok-clock.clock) c.in_ok-put_some-2.ensures (onto_some (codes "frame") (option_map view c.maybe_number.result) c.in_ok-put_some.ensures
+    onto_some (codes "clock") (option_map view c.in_ok-maybe_clock.field-0) c.in_ok-put_some-2.ensures (onto_some (codes "frame") (option_map view c.maybe_number.result) c.in_ok-put_some.ensures
     (onto _ _ c.in_ok-put-10.ensures.ok (onto _ _ c.in_ok-put-9.ensures.ok (onto _ _ c.in_ok-put-8.ensures.ok (onto _ _ c.in_ok-put-7.ensures.ok (onto _ _ c.in_ok-put-6.ensures.ok
     (onto _ _ c.in_ok-put-5.ensures.ok (onto _ _ c.in_ok-put-4.ensures.ok (onto _ _ c.in_ok-put-3.ensures.ok (onto _ _ c.in_ok-put-2.ensures.ok (onto _ _ c.in_ok-put.ensures.ok
-    (begun _ c.new-members.ensures.empty)))))))))))) in
-    ap parts_read (view-Object _ ∙ ap object whole_object)
-    ∙ read_back (parts_view parts) pieces (option_map view c.maybe_number.result) (option_map view c.in_ok-clock.clock) read c.maybe_number.ensures c.in_ok-clock.ensures c.requires.clock
+    (begun _ c.requires.empty)))))))))))) in
+    ap (λ ms. parts_read (object ms)) whole_object
+    ∙ read_back (parts_view parts) pieces (option_map view c.maybe_number.result) (option_map view c.in_ok-maybe_clock.field-0) read c.maybe_number.ensures c.in_ok-maybe_clock.ensures c.requires.version.clock
