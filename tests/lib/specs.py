@@ -22,7 +22,7 @@ TYPE = re.compile(r"^pub(?:\([a-z]+\))?\s+(?:struct|enum|trait|type)\s+(\w+)")
 SKIPPED = re.compile(r"^(?:pub )?use |^pub mod |^infix|^unfolding |^syntax |^\s*module ")
 
 # the function that each program is about, the headline's first
-TOP_CALLS = ("maft", "control")
+TOP_CALLS = ("maft", "control", "judge")
 
 Path = Tuple[str, ...]
 

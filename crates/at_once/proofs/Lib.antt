@@ -17,5 +17,6 @@ pub mod Endings
 mod Openings
 mod Goings
 mod Voting
+mod Voters
 mod Alike
 mod Voted

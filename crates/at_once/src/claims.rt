@@ -62,13 +62,12 @@ impl<const N: usize> Period<'_, N> {
             (item_of claims.new.links) }
         ensures room { claims.new.settling ≡ claims.old.settling }
     {
-        // Proofs need here that the configuration is one.
-        let _ = self.scenario.config();
+        let config = self.scenario.config();
         for i in 0..N as u8 {
             if full.has(i) {
                 if let Some(state) = made.states.get(i) {
                     let run = self.scenario.run_times(i);
-                    claims.tell(i, own_claim(state, i, run));
+                    claims.tell(i, own_claim(config, state, i, run));
                 }
             }
         }

@@ -1,9 +1,10 @@
 //! What nodes keep from one period to the next beside their agreed states.
 
-ghost use Rattle.std.specs.Prelude.{◌≡◌, ◌<◌, ◌≤◌, ℕ, None, IfOk, length, replicate, slice_set};
+ghost use Rattle.std.specs.Prelude.{◌≡◌, ◌<◌, ◌≤◌, ℕ, None, true, IfOk, length, replicate, slice_set};
 ghost use Rattle.node_grid.specs.Capacity.{IsCapacity};
 ghost use Rattle.agreed_state.specs.Config.{IsConfig};
-ghost use Rattle.at_once.specs.Kept.{notes_at};
+ghost use Rattle.at_once.specs.Kept.{notes_at, of_node};
+ghost use Rattle.at_once.specs.Values.{AreVoters};
 ghost use Rattle.node_grid.specs.Version.{kind_count};
 ghost use Rattle.at_once.specs.Kept.{IsBlank, no_longer};
 
@@ -21,6 +22,8 @@ pub(crate) struct Keeping<const N: usize> {
     pub(crate) votes: [[Option<i64>; 8]; N],
     /// Its last own values, by channel.
     pub(crate) owns: [[Option<i64>; 8]; N],
+    /// By node, one that it took its last votes over from, or else itself.
+    pub(crate) voters: [u8; N],
 }
 
 /// How many kinds of errors a row of the version has room for.
@@ -50,7 +53,23 @@ impl<const N: usize> Keeping<N> {
             notes,
             votes: [[None; 8]; N],
             owns: [[None; 8]; N],
+            voters: [0; N],
         })
+    }
+
+    /// Whether two nodes have the same last votes.
+    pub(crate) fn vote_alike(&self, i: u8, j: u8) -> bool
+        requires first { i < N }
+        requires second { j < N }
+        requires voters { AreVoters N self.now.votes self.now.voters }
+        ensures { result ≡ true → of_node self.now.votes i ≡ of_node self.now.votes j }
+    {
+        let one = self.voters[i as usize];
+        let other = self.voters[j as usize];
+        if one == other {
+            return true;
+        }
+        self.votes[i as usize] == self.votes[j as usize]
     }
 
     /// Forgets all that a node kept.

@@ -20,6 +20,7 @@ ghost use Rattle.grouped_nodes.specs.Grouping.{first_of, AreFirsts};
 ghost use Rattle.view_law.specs.Laws.{IsCarriedWithin};
 ghost use Rattle.at_once.specs.Kept.{AreShaped, notes_at, of_node};
 ghost use Rattle.at_once.specs.Course.{IsGoing, AreClaimed, AreVoted, AreFound, AreReported};
+ghost use Rattle.at_once.specs.Values.{AreVoters};
 ghost use Rattle.at_once.specs.Phases.{AreTold, AreRowsSettled, SettleAlike, node_rows, blames};
 
 use crate::claims::members_at;
@@ -125,10 +126,11 @@ fn group_by_rows<const N: usize>(
     groups: &Groups<N>,
     rows: &ItemPhase<Row<N>, N>,
     phase: &Phase<'_, N>,
-    votes: &[[Option<i64>; 8]; N],
+    keeping: &Keeping<N>,
 ) -> Groups<N>
     requires capacity { IsCapacity N }
     requires settled { AreRowsSettled phase.now rows.now }
+    requires voters { AreVoters N keeping.now.votes keeping.now.voters }
     ensures firsts { AreFirsts N result }
     ensures parted { (i : ℕ) → i < N →
         first_of groups.now (first_of result i) ≡ first_of groups.now i }
@@ -137,19 +139,22 @@ fn group_by_rows<const N: usize>(
         has_id phase.now.awake (first_of result i) ≡ true }
     ensures alike { (i : ℕ) → i < N → has_id phase.now.awake i ≡ true →
         SettleAlike (pointwise ◌==◌) row_form phase.now rows.now (first_of result i) i }
-    ensures votes { (i : ℕ) → i < N → of_node votes.now (first_of result i) ≡ of_node votes.now i }
+    ensures votes { (i : ℕ) → i < N →
+        of_node keeping.now.votes (first_of result i) ≡ of_node keeping.now.votes i }
 {
     let finer = groups.refine(
         &phase.awake,
         |r, i| -> bool
             requires settled { AreRowsSettled phase.now rows.now }
+            requires voters { AreVoters N keeping.now.votes keeping.now.voters }
             requires one { r < N }
             requires other { i < N }
-            ensures votes { result ≡ true → of_node votes.entry.now r ≡ of_node votes.entry.now i }
+            ensures votes { result ≡ true →
+                of_node keeping.entry.now.votes r ≡ of_node keeping.entry.now.votes i }
             ensures alike { result ≡ true →
                 SettleAlike (pointwise ◌==◌) row_form phase.entry.now rows.entry.now r i }
         {
-            votes[r as usize] == votes[i as usize]
+            keeping.vote_alike(r, i)
                 && phase.awake.has(r)
                 && phase.awake.has(i)
                 && rows.are_alike(phase, r, i)
@@ -247,7 +252,7 @@ impl<const N: usize> Period<'_, N> {
         let phase = self.phase(self.scenario.config().m + 3, full, made);
         rows.agree(&phase);
         carry(rows, &phase, keeping.notes.as_mut_slice());
-        let finer = group_by_rows(groups, rows, &phase, &keeping.votes);
+        let finer = group_by_rows(groups, rows, &phase, keeping);
         part(made.beliefs.as_mut_slice(), groups, &finer);
         fill_rows(
             rows,

@@ -14,7 +14,7 @@ ghost use Rattle.told_values.specs.Slot.{slot_of, AreOwnTold, Hears, IsDataSlot}
 ghost use Rattle.told_values.specs.Within.{IsWithin};
 ghost use Rattle.at_once.specs.Kept.{notes_at, of_node, AreShaped};
 ghost use Rattle.at_once.specs.Course.{IsUnvoted, AreSettled, AreVoted};
-ghost use Rattle.at_once.specs.Values.{done_at, HearEach, IsVoteOf, IsNotedOf};
+ghost use Rattle.at_once.specs.Values.{done_at, AreVoters, HearEach, IsVoteOf, IsNotedOf};
 
 use crate::dues::GroupDues;
 use crate::keeping::Keeping;
@@ -74,27 +74,43 @@ fn leader_after<D: Dues<N>, const N: usize>(slot: &DataSlot<'_, D, N>, before: u
     }
 }
 
+/// Each node as one of its own.
+fn each_alone<const N: usize>() -> [u8; N]
+    requires { IsCapacity N }
+    ensures many { length result ≡ N }
+    ensures each { (i : ℕ) → i < N → slice_index_or result i 0 ≡ i }
+{
+    let mut alone = [0; N];
+    for i in 0..N as u8 {
+        alone[i as usize] = i;
+    }
+    alone
+}
+
 /// What each node votes that has a state, and the nodes that are off at it. What the first node of
-/// a group votes to which no line touches a frame serves each later one that hears as it does.
+/// a group votes to which no line touches a frame serves each later one that hears as it does. The
+/// answer is by node the one from which it took its votes over, or else itself.
 fn vote_each<D: Dues<N>, const N: usize>(
     slot: &DataSlot<'_, D, N>,
     groups: &Groups<N>,
     made: &Made<N>,
     votes: &mut [[Option<i64>; 8]; N],
     off: &mut [NodeSet<N>; N],
-)
+) -> [u8; N]
     requires capacity { IsCapacity N }
     requires slot { IsDataSlot (slot_of D.dues slot.now) }
     requires agreed { AreAgreed slot.now.config.now made.now.states }
     requires shared { AreShared N groups.now made.now.states }
     requires many { length made.now.beliefs.items ≡ N }
-    ensures { (x : ℕ → Received) → HearEach (slot_of D.dues slot.now) x →
+    ensures votes { (x : ℕ → Received) → HearEach (slot_of D.dues slot.now) x →
         (i : ℕ) (a : AgreedView) → i < slot.now.config.now.nodes →
         state_at made.now.states i ≡ Some a →
         IsVoteOf (slot_of D.dues slot.now) a (done_at groups.now made.now.beliefs.items i) i (x i)
         (of_node votes.new i) (slice_index_or off.new i []) }
+    ensures voters { AreVoters N votes.new result }
 {
     let own = slot.own_told();
+    let mut voters = each_alone();
     // By the first of a group the node of it whose votes serve others, and N where there is none yet.
     let mut leaders = [N as u8; N];
     for i in 0..slot.config.nodes {
@@ -105,6 +121,7 @@ fn vote_each<D: Dues<N>, const N: usize>(
                 let same = votes[leader as usize];
                 votes[i as usize] = same;
                 off[i as usize] = off[leader as usize];
+                voters[i as usize] = leader;
             } else {
                 let voted = vote_at(slot, i, state, &made.beliefs[first as usize].done, &own);
                 let own_votes = voted.votes;
@@ -114,6 +131,7 @@ fn vote_each<D: Dues<N>, const N: usize>(
             }
         }
     }
+    voters
 }
 
 /// Notes what each of these nodes finds of the values, and who is off at it.
@@ -195,7 +213,7 @@ impl<const N: usize> Period<'_, N> {
             owns: &keeping.owns,
         };
         let mut off = [NodeSet::empty(); N];
-        vote_each(&slot, groups, made, &mut keeping.votes, &mut off);
+        keeping.voters = vote_each(&slot, groups, made, &mut keeping.votes, &mut off);
         note_each(
             &slot,
             &made.states.awake(),

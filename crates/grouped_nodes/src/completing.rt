@@ -18,8 +18,8 @@ ghost use Rattle.view_law.specs.Laws.{IsWithin};
 ghost use Rattle.grouped_nodes.specs.Shared.{AreShared, belief_of, notes_at};
 
 use crate::Groups;
+use crate::due::due_after;
 use agreed_state::{Agreed, Config};
-use data_slot::due_channels;
 use error_reports::RowBuilder;
 use list_scheduler::Verdict;
 use node_grid::NodeSet;
@@ -42,9 +42,10 @@ fn follow<const N: usize>(
     ensures verdicts { result ≡ verdicts N config.now.graph state.now.standing.members
         state.now.copies belief.old.done }
 {
-    let preview = state.preview(config, &belief.done);
-    belief.due = due_channels(config, preview.finished_now);
-    preview.verdicts
+    let mut after = state.copies;
+    let verdicts = after.complete(&config.graph, &state.members, &belief.done);
+    belief.due = due_after(config, state, &after);
+    verdicts
 }
 
 /// Whether one of the verdicts holds something against its node.

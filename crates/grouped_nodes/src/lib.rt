@@ -6,6 +6,7 @@
 
 mod claim;
 mod completing;
+mod due;
 mod groups;
 mod parting;
 mod stepping;

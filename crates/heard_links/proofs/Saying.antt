@@ -52,6 +52,13 @@ untouched_is t m r j i (came.Bad k) h = h.0
 untouched_is t m r j i (came.Told v) h = h.0
 untouched_is t m r j i came.Good h = h.0
 
+-- and the other way round
+pub untouched_came : {V : Type 0} (c : Came V) → is_untouched c ≡ true → c ≡ came.Untouched
+untouched_came came.Untouched h = refl
+untouched_came (came.Bad k) h = absurd (cc)
+untouched_came (came.Told v) h = absurd (cc)
+untouched_came came.Good h = absurd (cc)
+
 -- a path of one node
 within_one : (members : List ℕ) (c : ℕ) → has_id members c ≡ true → (x : ℕ) → has_id (c ∷ []) x ≡ true → has_id members x ≡ true
 within_one members c on x h = elim (or_cases (c == x) false h) [

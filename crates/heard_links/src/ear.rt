@@ -138,7 +138,7 @@ impl<V: Item<N>, const N: usize> Links<V, N> {
         ensures small { IfSome result (λ v. IsSmall 252 v) }
     {
         let last = path.len() - 1;
-        if self.has_touched(last, path.at(last)) {
+        if self.has_uneven(last, path.at(last), to) {
             self.said_by(phase, to, path)
         } else {
             None

@@ -5,6 +5,7 @@ ghost use Rattle.node_grid.specs.Capacity.{IsCapacity};
 ghost use Rattle.node_grid.specs.NodeSet.{has_id};
 ghost use Rattle.omh_paths.specs.declared.wrapped.Wrapped.TheVariants.{Plain, Fault};
 ghost use Rattle.protocol.specs.Talk.{rounds_upto};
+ghost use Rattle.heard_links.specs.declared.came.Came.TheVariants as came;
 ghost use Rattle.heard_links.specs.Hearing.{link_at, came_at, item_of, talk_in, IsHeard, is_even, frame_kind};
 
 use crate::came::Came;
@@ -109,6 +110,22 @@ impl<V: Item<N>, const N: usize> Links<V, N> {
         ensures { result ≡ has_id (slice_index_or self.now.touched round []) from }
     {
         self.touched[round as usize].has(from)
+    }
+
+    /// Whether something else is laid down for a link than that the frame comes as it was sent.
+    pub(crate) fn has_uneven(&self, round: u8, from: u8, to: u8) -> bool
+        requires capacity { IsCapacity N }
+        requires round { round ≤ 3 }
+        ensures { result ≡ false → from < N → to < N →
+            came_at self.now round from to ≡ came.Untouched }
+    {
+        if !self.has_touched(round, from) {
+            return false;
+        }
+        if from >= N as u8 || to >= N as u8 {
+            return false;
+        }
+        !self.came(round, from, to).is_untouched()
     }
 
     /// The kind of error of the frame of a round from one node to another that is awake; None

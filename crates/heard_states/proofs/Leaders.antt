@@ -6,7 +6,7 @@ use Rattle.std.proofs.lemmas.Bool.{cases_lt, cond-true, and_parts, not-true, eqb
 use Rattle.std.proofs.lemmas.Map.Views.{any-filter_same}
 use Rattle.node_grid.specs.Count.{bit, count}
 use Rattle.node_grid.specs.CapacityLaws.{capacity-le}
-use Rattle.node_grid.specs.NodeSet.{ids_below, has_id, minus_of}
+use Rattle.node_grid.specs.NodeSet.{ids_below, has_id, minus_of, common_of}
 use Rattle.omh_paths.specs.declared.wrapped.Wrapped.{Wrapped}
 use Rattle.omh_paths.specs.declared.wrapped.Wrapped.TheVariants.{Plain}
 use Rattle.omh_paths.specs.Wrapped.{same, is_error}
@@ -37,19 +37,14 @@ has_filtered p xs x = any-filter_same (λ y. y == x) p (p x) (λ k e. ap p (eqb-
 has_minus : (xs ys : List ℕ) (x : ℕ) → has_id (minus_of xs ys) x ≡ (not (has_id ys x) && has_id xs x)
 has_minus xs ys x = has_filtered (λ k. not (has_id ys k)) xs x
 
--- what isn't among those of the set that another set hasn't is in the other one
-in_both : (xs ys : List ℕ) (x : ℕ) → has_id (minus_of xs (minus_of xs ys)) x ≡ true → (has_id xs x ≡ true) × (has_id ys x ≡ true)
+-- what is in what two sets share is in both
+in_both : (xs ys : List ℕ) (x : ℕ) → has_id (common_of xs ys) x ≡ true → (has_id xs x ≡ true) × (has_id ys x ≡ true)
 in_both xs ys x on =
-    let p = and_parts (not (has_id (minus_of xs ys) x)) (has_id xs x) (sym (has_minus xs (minus_of xs ys) x) ∙ on) in
-    let off = sym (has_minus xs ys x) ∙ not-true (has_id (minus_of xs ys) x) p.0 in
-    (p.1, by (has_id ys x) refl (sym (ap (λ b. not (has_id ys x) && b) p.1) ∙ off))
-  where
-    by : (b : Bool) → has_id ys x ≡ b → (not (has_id ys x) && true) ≡ false → has_id ys x ≡ true
-    by true e h = e
-    by false e h = absurd (let z : true ≡ false = sym (ap (λ b. not b && true) e) ∙ h in cc)
+    let p = and_parts (has_id ys x) (has_id xs x) (sym (has_filtered (λ k. has_id ys k) xs x) ∙ on) in
+    (p.1, p.0)
 
 pub teller_is : {N : ℕ} (s : Sending N) (leader j : ℕ) (sharers : List ℕ) → ((k : ℕ) → has_id sharers k ≡ true → IsShared s.states.now leader k)
-    → has_id (minus_of (minus_of s.senders.full s.senders.touched) (minus_of (minus_of s.senders.full s.senders.touched) sharers)) j ≡ true → IsTeller s leader j
+    → has_id (common_of (minus_of s.senders.full s.senders.touched) sharers) j ≡ true → IsTeller s leader j
 teller_is s leader j sharers shared on =
     let both = in_both (minus_of s.senders.full s.senders.touched) sharers j on in
     let p = and_parts (not (has_id s.senders.touched j)) (has_id s.senders.full j) (sym (has_minus s.senders.full s.senders.touched j) ∙ both.0) in

@@ -22,8 +22,7 @@ impl<const N: usize> Sending<'_, N> {
         ensures { (j : ℕ) → has_id result j ≡ true → IsTeller self.now leader j }
     {
         let plain = self.senders.full.minus(&self.senders.touched);
-        let others = plain.minus(&self.states.sharers(leader));
-        plain.minus(&others)
+        plain.common(&self.states.sharers(leader))
     }
 
     /// A node whose state more than half of all nodes tell every node without one, where places

@@ -68,11 +68,8 @@ impl<V: Item<N>, const N: usize> ItemPhase<V, N> {
         if members != members_of(phase, j) {
             return false;
         }
-        for c in 0..phase.config.nodes {
-            if members.has(c)
-                && !self.seen.plain.has(c)
-                && !is_same(self.settled(phase, i, c), self.settled(phase, j, c))
-            {
+        for c in members.minus(&self.seen.plain).iter() {
+            if !is_same(self.settled(phase, i, c), self.settled(phase, j, c)) {
                 return false;
             }
         }
@@ -99,11 +96,8 @@ impl<V: Item<N>, const N: usize> ItemPhase<V, N> {
         ensures { (c : ℕ) → c ≢ i →
             has_id result c ≡ convicts_member V.eq (listener V.form phase.now self.now.links i) c }
     {
-        if members_of(phase, i).minus(&self.seen.plain).is_empty() {
-            return NodeSet::empty();
-        }
         let mut convicted = NodeSet::empty();
-        for c in 0..phase.config.nodes {
+        for c in members_of(phase, i).minus(&self.seen.plain).iter() {
             if c != i && self.is_against(phase, i, c) {
                 convicted.put(c);
             }

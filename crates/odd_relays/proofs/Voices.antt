@@ -3,7 +3,7 @@ use Rattle.std.proofs.Common.{ℕ, ◌≡◌, ◌≢◌, ◌≤◌, ◌+◌, ◌
 use Rattle.std.specs.Prelude.{slice_index_or}
 use Rattle.std.specs.List.{filter}
 use Rattle.std.proofs.lemmas.Bool.{cases_Bool, cases_eq, cond-true, cond-false, or_left, or_right, and_parts}
-use Rattle.node_grid.specs.NodeSet.{has_id, without_id, minus_of}
+use Rattle.node_grid.specs.NodeSet.{has_id, without_id, minus_of, common_of}
 use Rattle.node_grid.specs.Count.{bit, count, Distinct}
 use Rattle.node_grid.specs.ListLaws.{bit_le}
 use Rattle.omh_paths.specs.declared.wrapped.Wrapped.{Wrapped}
@@ -106,14 +106,9 @@ has_kept f (x ∷ xs) q =
 
 -- ---- the two parts
 
-split_bit : (o u : Bool) → bit u ≡ bit (not o && u) + bit (not (not o) && u)
+split_bit : (o u : Bool) → bit u ≡ bit (not o && u) + bit (o && u)
 split_bit true u = omega arith
 split_bit false u = omega arith
-
-odd_bits : (m o e : Bool) → ((m && not (m && not o)) && not e) ≡ ((m && o) && not e)
-odd_bits true true e = refl
-odd_bits true false e = refl
-odd_bits false o e = refl
 
 bits_turned : (a b : Bool) → bit (a && b) ≡ bit (b && a)
 bits_turned true true = refl
@@ -126,11 +121,7 @@ module _ {V : Type 0} (t : Telling V) where
   has_regular q = has_kept (λ k. not (k == t.commander)) (minus_of t.members t.odd) q ∙ ap (λ (b : Bool). b && not (q == t.commander)) (has_kept (λ k. not (has_id t.odd k)) t.members q)
 
   pub has_odd : (q : ℕ) → has_id (odd_members t) q ≡ ((has_id t.members q && has_id t.odd q) && not (q == t.commander))
-  has_odd q =
-      let regular : List ℕ = minus_of t.members t.odd in
-      has_kept (λ k. not (k == t.commander)) (minus_of t.members regular) q
-      ∙ ap (λ (b : Bool). b && not (q == t.commander)) (has_kept (λ k. not (has_id regular k)) t.members q ∙ ap (λ (b : Bool). has_id t.members q && not b) (has_kept (λ k. not (has_id t.odd k)) t.members q))
-      ∙ odd_bits (has_id t.members q) (has_id t.odd q) (q == t.commander)
+  has_odd q = has_kept (λ k. not (k == t.commander)) (common_of t.members t.odd) q ∙ ap (λ (b : Bool). b && not (q == t.commander)) (has_kept (λ k. has_id t.odd k) t.members q)
 
   pub odd_on : (q : ℕ) → has_id (odd_members t) q ≡ true → has_id t.odd q ≡ true
   odd_on q on = (and_parts (has_id t.members q) (has_id t.odd q) (and_parts (has_id t.members q && has_id t.odd q) (not (q == t.commander)) (sym (has_odd q) ∙ on)).0).1
@@ -162,8 +153,7 @@ module _ {V : Type 0} (t : Telling V) where
 
   pub few_odd : (n i : ℕ) → length t.members ≤ n → length (without_id (odd_members t) i) ≤ n
   few_odd n i few =
-      let regular : List ℕ = minus_of t.members t.odd in
-      omega (arith, kept_short (λ k. not (k == i)) (odd_members t), kept_short (λ k. not (k == t.commander)) (minus_of t.members regular), kept_short (λ k. not (has_id regular k)) t.members)
+      omega (arith, kept_short (λ k. not (k == i)) (odd_members t), kept_short (λ k. not (k == t.commander)) (common_of t.members t.odd), kept_short (λ k. has_id t.odd k) t.members)
 
   parts : (test : ℕ → Bool) → count test (outside t.members (t.commander ∷ [])) ≡ count test (regular_members t) + count test (odd_members t)
   parts test =
@@ -174,21 +164,19 @@ module _ {V : Type 0} (t : Telling V) where
       let g = count_where test (λ q. not (has_id (c ∷ []) q)) m in
       let r = count_where test (λ q. not (q == c)) regular in
       let r2 = count_where rest (λ q. not (has_id t.odd q)) m in
-      let o = count_where test (λ q. not (q == c)) (minus_of m regular) in
-      let o2 = count_where rest (λ q. not (has_id regular q)) m in
-      let at : (q : ℕ) → has_id m q ≡ true → bit (not (has_id (c ∷ []) q) && test q) ≡ bit (not (has_id t.odd q) && rest q) + bit (not (has_id regular q) && rest q) =
+      let o = count_where test (λ q. not (q == c)) (common_of m t.odd) in
+      let o2 = count_where rest (λ q. has_id t.odd q) m in
+      let at : (q : ℕ) → has_id m q ≡ true → bit (not (has_id (c ∷ []) q) && test q) ≡ bit (not (has_id t.odd q) && rest q) + bit (has_id t.odd q && rest q) =
       λ q on.
       let e = ap (λ (b : Bool). bit (not b && test q)) (same_root q) in
       let s = split_bit (has_id t.odd q) (rest q) in
-      let k : bit (not (has_id regular q) && rest q) ≡ bit (not (not (has_id t.odd q)) && rest q) =
-      ap (λ (b : Bool). bit (not b && rest q)) (has_kept (λ z. not (has_id t.odd z)) m q ∙ ap (λ (b : Bool). b && not (has_id t.odd q)) on) in
       omega arith
       in
-      let all = count_both (λ q. not (has_id (c ∷ []) q) && test q) (λ q. not (has_id t.odd q) && rest q) (λ q. not (has_id regular q) && rest q) m at in
+      let all = count_both (λ q. not (has_id (c ∷ []) q) && test q) (λ q. not (has_id t.odd q) && rest q) (λ q. has_id t.odd q && rest q) m at in
       omega arith
 
   distinct_odd : Distinct t.members → Distinct (odd_members t)
-  distinct_odd d = Distinct-filter (λ k. not (k == t.commander)) _ (Distinct-filter (λ k. not (has_id (minus_of t.members t.odd) k)) t.members d)
+  distinct_odd d = Distinct-filter (λ k. not (k == t.commander)) _ (Distinct-filter (λ k. has_id t.odd k) t.members d)
 
   -- what is counted of all but the receiver, where the receiver itself is among both
   counted : (test : ℕ → Bool) (i : ℕ) → Distinct t.members → t.commander ≢ i

@@ -1,6 +1,6 @@
 -- How many of the direct relays of an item are there, and how many of them say otherwise than a receiver expects.
 use Rattle.std.specs.Prelude.{ℕ, ◌≡◌, Bool, List, ◌∷◌, []}
-use Rattle.node_grid.specs.NodeSet.{without_id, minus_of}
+use Rattle.node_grid.specs.NodeSet.{without_id, minus_of, common_of}
 use Rattle.node_grid.specs.Count.{count}
 use Rattle.omh_paths.specs.declared.wrapped.Wrapped.{Wrapped}
 use Rattle.omh.specs.Omh.{ear, own_term}
@@ -18,7 +18,7 @@ abbrev pub regular_members : {V : Type 0} → Telling V → List ℕ
 regular_members t = without_id (minus_of t.members t.odd) t.commander
 
 abbrev pub odd_members : {V : Type 0} → Telling V → List ℕ
-odd_members t = without_id (minus_of t.members (minus_of t.members t.odd)) t.commander
+odd_members t = without_id (common_of t.members t.odd) t.commander
 
 -- what these nodes relay is counted, for a receiver that was told `own`
 pub record IsCounted {V : Type 0} (eq : V → V → Bool) (own : Wrapped V) (relay : ℕ → Wrapped V) (nodes : List ℕ) (voices : Voices) : Type 0 where

@@ -9,7 +9,9 @@ ghost use Rattle.odd_relays.specs.Telling.{telling, IsTelling, HasFewOdd, settle
 ghost use Rattle.odd_relays.specs.Work.{AreHeardAlike, IsChain, KeepsBelow};
 
 use crate::item::{Item, Relays};
-use crate::values::{are_one, copy_terms, fill_terms, set_value, settle_terms, value_at};
+use crate::values::{
+    are_one, copy_terms, fill_from, fill_terms, set_value, settle_terms, value_at,
+};
 use node_grid::NodeSet;
 use omh::outside;
 use omh_paths::{Path, Wrapped};
@@ -56,16 +58,29 @@ impl<'a, V: Copy + Eq, S: Relays<V>, const N: usize> Item<'a, V, S, N> {
         true
     }
 
-    /// Whether the receivers heard for such a path what all Full members outside it did.
-    fn is_heard_alike(&self, receivers: &NodeSet<N>, path: &Path) -> bool
+    /// Whether the receivers and all Full members outside such a path heard the same for it. What
+    /// the receivers heard is then laid by node from `from` on.
+    fn lay_alike(
+        &self,
+        receivers: &NodeSet<N>,
+        path: &Path,
+        work: &mut [Wrapped<V>],
+        from: usize,
+    ) -> bool
         requires exact { IsExact V.eq }
         requires item { IsTelling N (telling S.says self.now) }
         requires nodes { (q : ℕ) → has_id path.now q ≡ true → q < N }
-        ensures { result ≡ true →
+        requires room { from + 16 ≤ length work.old }
+        requires small { length work.old ≤ WORK }
+        ensures alike { result ≡ true →
             AreHeardAlike (telling S.says self.now) receivers.now path.now }
+        ensures laid { result ≡ true → (i : ℕ) → has_id receivers.now i ≡ true →
+            slice_index_or work.new (from + i) (Fault 0) ≡
+            direct_heard (telling S.says self.now) i path.now }
+        ensures kept { KeepsBelow from work.old work.new }
+        ensures room { length work.new ≡ length work.old }
     {
-        let idle = self.phase.members.minus(&self.phase.full);
-        let voters = outside(&self.phase.members.minus(&idle), path);
+        let voters = outside(&self.phase.members.common(&self.phase.full), path);
         let Some(first) = voters.least() else {
             return false;
         };
@@ -73,7 +88,12 @@ impl<'a, V: Copy + Eq, S: Relays<V>, const N: usize> Item<'a, V, S, N> {
         if !self.have_heard(&voters, path, &value) {
             return false;
         }
-        self.have_heard(receivers, path, &value)
+        let others = receivers.minus(&voters);
+        if !self.have_heard(&others, path, &value) {
+            return false;
+        }
+        fill_from(work, receivers, from, value);
+        true
     }
 
     /// What each receiver settles for such a path, laid by node from `from` on; what lies behind is
@@ -106,8 +126,7 @@ impl<'a, V: Copy + Eq, S: Relays<V>, const N: usize> Item<'a, V, S, N> {
             self.lay_heard(receivers, path, work, from);
             return;
         }
-        if self.is_heard_alike(receivers, path) {
-            self.lay_heard(receivers, path, work, from);
+        if self.lay_alike(receivers, path, work, from) {
             return;
         }
         let mut count = 0;

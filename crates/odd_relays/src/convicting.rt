@@ -143,12 +143,7 @@ impl<'a, V: Copy + Eq, S: Relays<V>, const N: usize> Item<'a, V, S, N> {
         let _ = self.phase.members.len();
         let expected = value_at(self.told, i).wrap();
         let root = Path::root(self.commander);
-        let regular_ones = self.phase.members.minus(&self.odd);
-        let odd = self
-            .phase
-            .members
-            .minus(&regular_ones)
-            .without(self.commander);
+        let odd = self.phase.members.common(&self.odd).without(self.commander);
         let mut voices = *regular;
         let others = odd.without(i);
         for q in others.iter() {

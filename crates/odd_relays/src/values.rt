@@ -44,6 +44,26 @@ pub(crate) fn fill<V: Copy + Eq, const N: usize>(
     }
 }
 
+/// Lays one value for each of these nodes, by node from `from` on.
+pub(crate) fn fill_from<V: Copy + Eq, const N: usize>(
+    work: &mut [Wrapped<V>],
+    nodes: &NodeSet<N>,
+    from: usize,
+    value: Wrapped<V>,
+)
+    requires capacity { IsCapacity N }
+    requires room { from + 16 ≤ length work.old }
+    requires small { length work.old ≤ 4096 }
+    ensures laid { (i : ℕ) → has_id nodes.now i ≡ true →
+        slice_index_or work.new (from + i) (Fault 0) ≡ value }
+    ensures kept { KeepsBelow from work.old work.new }
+    ensures room { length work.new ≡ length work.old }
+{
+    for i in nodes.iter() {
+        set_value(work, from + i as usize, value);
+    }
+}
+
 /// Lays for each of these nodes the value of its leader, which is told by node.
 pub(crate) fn copy_led<V: Copy + Eq, const N: usize>(
     all: &mut [Wrapped<V>],

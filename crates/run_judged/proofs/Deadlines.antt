@@ -44,7 +44,7 @@ module _ (claims : ClaimLaw) (safe : SafeLaw) (lives : LifetimeLaw) {capacity : 
       let low : turn.at ≤ p = omega arith in
       let end = behind (relapse_at (seen_of sc j) sc.periods o) sc.periods p of.shown of.not_again in
       let by = first_by (λ (r : ℕ). (seen_of sc j r).left) o (unwrap_or (relapse_at (seen_of sc j) sc.periods o) sc.periods) turn.at (omega arith) (omega arith)
-          (left_in j turn.at low ∙ ap₂ (λ b c. b && not c) turn.before turn.after) in
+      (left_in j turn.at low ∙ ap₂ (λ b c. b && not c) turn.before turn.after) in
       let in_time = by.in_time in
       record { period = by.period; is = by.is; in_time = omega arith }
 
@@ -72,6 +72,7 @@ module _ (claims : ClaimLaw) (safe : SafeLaw) (lives : LifetimeLaw) {capacity : 
       un_not : (b : Bool) → not b ≡ true → b ≡ false
       un_not true h = cc
       un_not false h = refl
+
       later : (l : ℕ) → l ≤ q → has_id (standing_of (system_of sc) (suc l)).members j ≡ false → l < p
       later l early out = elim (cases_lt l p) [
         | inl less ↦ less

@@ -12,7 +12,7 @@ ghost use Rattle.run_print.specs.Example.{untraced_text, IsIdleFrom, IsPrintable
 ghost use Rattle.run_print.specs.Example.{believed, IsExample};
 
 use crate::WriteFault;
-use crate::common::{Nowhere, example_of};
+use crate::common::Nowhere;
 use crate::pieces::letter_of;
 use crate::printer::{Printer, SMALL};
 use agreed_state::Agreed;
@@ -31,6 +31,27 @@ struct Example<'a, const N: usize> {
     pub node: u8,
     /// What it believes, unless there was no room for it.
     pub beliefs: &'a Printer<BELIEFS>,
+}
+
+/// A node of the group to which more than half of the nodes belong, where there is such a group, and
+/// else any node.
+fn common_node<const N: usize>(shown: &Shown<N>) -> u8
+    requires { IsPrintable shown.now }
+    ensures { result < N }
+{
+    let mut node = 0;
+    let mut lead: u8 = 0;
+    for i in 0..shown.head.nodes {
+        if shown.group(i) == shown.group(node) {
+            lead += 1;
+        } else if lead > 0 {
+            lead -= 1;
+        } else {
+            node = i;
+            lead = 1;
+        }
+    }
+    node
 }
 
 /// Gathers what a node believes; where there is no room for it, the printer fails.
@@ -185,7 +206,7 @@ impl<const ROOM: usize> Printer<ROOM> {
         ensures { Prints K.written K.faults self.old sink.old self.new sink.new
             (nodes_text (record_of shown.now)) }
     {
-        let node = example_of(shown.head.reference, shown.head.nodes);
+        let node = common_node(shown);
         let mut beliefs = Printer::new();
         gather(&mut beliefs, shown, node);
         let example = Example {

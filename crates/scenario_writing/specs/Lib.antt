@@ -1,1 +1,2 @@
 pub use Rattle.scenario_versions.specs.Versions
+pub mod Members

@@ -10,7 +10,7 @@ use serde_json::{Value, json};
 use std::alloc::{AllocError, Global};
 
 /// A number.
-fn number(n: i64) -> Value
+pub(crate) fn number(n: i64) -> Value
     ensures { whole (view result) ≡ Some n }
 {
     Value::from(n)

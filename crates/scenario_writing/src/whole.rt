@@ -1,18 +1,65 @@
 //! A scenario as a JSON value.
-ghost use Rattle.std.specs.Prelude.{◌≡◌, ℤ, Some, IfOk, map};
-ghost use Rattle.serde_json.specs.View.{view};
-ghost use Rattle.json_parts.specs.Reading.{list_of};
-ghost use Rattle.scenario.specs.Seen.{policy_view, channel_view, task_view, parts_view};
+ghost use Rattle.std.specs.Prelude.{◌≡◌, ℤ, true, false, [], Some, None};
+ghost use Rattle.std.specs.Prelude.{IfOk, OnOk, map, option_map, codes};
+ghost use Rattle.serde_json.specs.Data.{object, string, put as with_member};
+ghost use Rattle.serde_json.specs.View.{view, members_view};
+ghost use Rattle.serde_json.specs.Find.{as_str};
+ghost use Rattle.json_parts.specs.Reading.{whole, list_of, required, object_of};
+ghost use Rattle.scenario.specs.Seen.{policy_view, channel_view, task_view};
+ghost use Rattle.scenario.specs.Seen.{clock_view, parts_view};
 ghost use Rattle.std.specs.List.{AllByRecursion};
-ghost use Rattle.scenario.specs.Parts.ChannelParts.{sensor};
-ghost use Rattle.scenario_reading.specs.Keys.{policy_at, channel_at, task_key, parts_read};
-ghost use Rattle.scenario_versions.specs.Versions.{IsPolicyOf, IsChannelOf, IsOfVersion};
+ghost use Rattle.scenario.specs.Parts.ChannelParts.{state, sensor, copy};
+ghost use Rattle.scenario_reading.specs.Keys.{policy_at, copy_names, copy_fields, channel_at};
+ghost use Rattle.scenario_reading.specs.Keys.{task_key, clock_at, parts_read};
+ghost use Rattle.scenario_versions.specs.Versions.{is_first, IsPolicyOf, IsChannelOf, IsOfVersion};
+ghost use Rattle.scenario_writing.specs.Members.{put_some};
 
 use crate::faults::{clock, faults, restarts};
-use crate::lists::{numbers, rows};
-use scenario::{ChannelPart, Parts, PolicyPart, TaskPart};
-use serde_json::{Value, json, put};
+use crate::lists::{number, numbers, rows};
+use scenario::{ChannelPart, ClockPart, Parts, PolicyPart, TaskPart};
+use serde_json::{Map, Value, put};
 use std::alloc::{AllocError, Global};
+
+/// Puts a value at a key, where there is one.
+fn put_some(
+    members: &mut Map<String, Value>,
+    alloc: Global,
+    key: &str,
+    found: Option<Value>,
+) -> Result<(), AllocError>
+    ensures { OnOk result (members_view members.new.entries
+        ≡ put_some key.now (option_map view found) (members_view members.old.entries)) }
+{
+    match found {
+        Some(value) => put(members, alloc, key, value),
+        None => Ok(()),
+    }
+}
+
+/// Puts a text at a key.
+fn put_text(
+    members: &mut Map<String, Value>,
+    alloc: Global,
+    key: &str,
+    text: &str,
+) -> Result<(), AllocError>
+    ensures { OnOk result (members_view members.new.entries
+        ≡ with_member key.now (string text.now) (members_view members.old.entries)) }
+{
+    put(members, alloc, key, Value::try_from_str(alloc, text)?)
+}
+
+/// How often a node leaves before it retires. Version 1, where none does, has no word for it.
+fn retirement(version: i64, retire: i64) -> Option<Value>
+    ensures none { is_first version ≡ true → option_map view result ≡ None }
+    ensures some { is_first version ≡ false
+        → option_map whole (option_map view result) ≡ Some (Some retire) }
+{
+    if version == 1 {
+        return None;
+    }
+    Some(number(retire))
+}
 
 /// The policy of a version.
 fn policy(alloc: Global, version: i64, part: &PolicyPart) -> Result<Value, AllocError>
@@ -20,16 +67,33 @@ fn policy(alloc: Global, version: i64, part: &PolicyPart) -> Result<Value, Alloc
     ensures { IfOk result (λ v. policy_at version (view v) ≡ Some (policy_view part.now)) }
 {
     let weights = numbers(alloc, part.weights.as_slice())?;
-    if version == 1 {
-        return json!(in alloc; {
-            "weights": weights, "exclude": part.exclude, "readmit": part.readmit,
-            "credit": part.credit, "streak": part.streak, "cap": part.cap
-        });
-    }
-    json!(in alloc; {
-        "weights": weights, "exclude": part.exclude, "readmit": part.readmit,
-        "credit": part.credit, "streak": part.streak, "cap": part.cap, "retire": part.retire
-    })
+    let mut members = Map::new(alloc);
+    put(&mut members, alloc, "weights", weights)?;
+    put(&mut members, alloc, "exclude", number(part.exclude))?;
+    put(&mut members, alloc, "readmit", number(part.readmit))?;
+    put(&mut members, alloc, "credit", number(part.credit))?;
+    put(&mut members, alloc, "streak", number(part.streak))?;
+    put(&mut members, alloc, "cap", number(part.cap))?;
+    put_some(
+        &mut members,
+        alloc,
+        "retire",
+        retirement(version, part.retire),
+    )?;
+    Ok(Value::Object(members))
+}
+
+/// A channel of a state that each node has.
+fn state(alloc: Global, delta: i64, start: &[i64], step: i64) -> Result<Value, AllocError>
+    ensures { (version : ℤ) → IfOk result (λ v. channel_at version (view v)
+        ≡ Some (state delta start.now step)) }
+{
+    let mut members = Map::new(alloc);
+    put_text(&mut members, alloc, "kind", "state")?;
+    put(&mut members, alloc, "delta", number(delta))?;
+    put(&mut members, alloc, "start", numbers(alloc, start)?)?;
+    put(&mut members, alloc, "step", number(step))?;
+    Ok(Value::Object(members))
 }
 
 /// A channel that nodes read.
@@ -42,13 +106,34 @@ fn sensor(
     ensures { (version : ℤ) → IfOk result (λ v. channel_at version (view v)
         ≡ Some (sensor delta task (map (λ row. row.items) readings.now))) }
 {
-    let readings = rows(alloc, readings)?;
-    match task {
-        None => json!(in alloc; {"kind": "sensor", "delta": delta, "readings": readings}),
-        Some(task) => json!(in alloc; {
-            "kind": "sensor", "delta": delta, "readings": readings, "task": task
-        }),
-    }
+    let mut members = Map::new(alloc);
+    put_text(&mut members, alloc, "kind", "sensor")?;
+    put(&mut members, alloc, "delta", number(delta))?;
+    put(&mut members, alloc, "readings", rows(alloc, readings)?)?;
+    put_some(&mut members, alloc, "task", maybe_number(task))?;
+    Ok(Value::Object(members))
+}
+
+/// A channel of the results of a task's copies.
+fn copy(
+    alloc: Global,
+    delta: i64,
+    task: i64,
+    lies: i64,
+    readings: &[Vec<i64>],
+) -> Result<Value, AllocError>
+    ensures kind { IfOk result (λ v. required (codes "kind") as_str (view v)
+        ≡ Some (codes "copy")) }
+    ensures fields { IfOk result (λ v. object_of copy_names copy_fields (view v)
+        ≡ Some (copy delta task lies (map (λ row. row.items) readings.now))) }
+{
+    let mut members = Map::new(alloc);
+    put_text(&mut members, alloc, "kind", "copy")?;
+    put(&mut members, alloc, "delta", number(delta))?;
+    put(&mut members, alloc, "task", number(task))?;
+    put(&mut members, alloc, "lies", number(lies))?;
+    put(&mut members, alloc, "readings", rows(alloc, readings)?)?;
+    Ok(Value::Object(members))
 }
 
 /// A channel of a version.
@@ -57,10 +142,7 @@ fn channel(alloc: Global, version: i64, part: &ChannelPart) -> Result<Value, All
     ensures { IfOk result (λ v. channel_at version (view v) ≡ Some (channel_view part.now)) }
 {
     match part {
-        ChannelPart::State { delta, start, step } => {
-            let start = numbers(alloc, start.as_slice())?;
-            json!(in alloc; {"kind": "state", "delta": *delta, "start": start, "step": *step})
-        }
+        ChannelPart::State { delta, start, step } => state(alloc, *delta, start.as_slice(), *step),
         ChannelPart::Sensor {
             delta,
             task,
@@ -71,13 +153,7 @@ fn channel(alloc: Global, version: i64, part: &ChannelPart) -> Result<Value, All
             task,
             lies,
             readings,
-        } => {
-            let readings = rows(alloc, readings.as_slice())?;
-            json!(in alloc; {
-                "kind": "copy", "delta": *delta, "task": *task, "lies": *lies,
-                "readings": readings
-            })
-        }
+        } => copy(alloc, *delta, *task, *lies, readings.as_slice()),
     }
 }
 
@@ -94,17 +170,34 @@ fn channels(alloc: Global, version: i64, parts: &[ChannelPart]) -> Result<Value,
     Ok(Value::Array(values))
 }
 
+/// Puts the members of a task into an empty object.
+fn put_task(
+    members: &mut Map<String, Value>,
+    alloc: Global,
+    part: &TaskPart,
+) -> Result<(), AllocError>
+    requires { members.old.entries ≡ [] }
+    ensures { OnOk result (task_key (object (members_view members.new.entries))
+        ≡ Some (task_view part.now)) }
+{
+    let after = numbers(alloc, part.after.as_slice())?;
+    put(members, alloc, "after", after)?;
+    let nodes = numbers(alloc, part.nodes.as_slice())?;
+    put(members, alloc, "nodes", nodes)?;
+    put(members, alloc, "need", number(part.need))?;
+    put(members, alloc, "min", number(part.min))?;
+    put(members, alloc, "max", number(part.max))?;
+    put(members, alloc, "run", numbers(alloc, part.run.as_slice())?)?;
+    Ok(())
+}
+
 /// A task.
 fn task(alloc: Global, part: &TaskPart) -> Result<Value, AllocError>
     ensures { IfOk result (λ v. task_key (view v) ≡ Some (task_view part.now)) }
 {
-    let after = numbers(alloc, part.after.as_slice())?;
-    let nodes = numbers(alloc, part.nodes.as_slice())?;
-    let run = numbers(alloc, part.run.as_slice())?;
-    json!(in alloc; {
-        "after": after, "nodes": nodes, "need": part.need, "min": part.min, "max": part.max,
-        "run": run
-    })
+    let mut members = Map::new(alloc);
+    put_task(&mut members, alloc, part)?;
+    Ok(Value::Object(members))
 }
 
 /// The tasks.
@@ -118,18 +211,57 @@ fn tasks(alloc: Global, parts: &[TaskPart]) -> Result<Value, AllocError>
     Ok(Value::Array(values))
 }
 
-/// The keys that every scenario has, or may have with nothing in it.
-fn plain(alloc: Global, parts: &Parts) -> Result<Value, AllocError> {
-    let policy = policy(alloc, parts.version, &parts.policy)?;
-    let channels = channels(alloc, parts.version, parts.channels.as_slice())?;
+/// The number, where there is one.
+fn maybe_number(found: Option<i64>) -> Option<Value>
+    ensures { option_map whole (option_map view result) ≡ option_map Some found }
+{
+    match found {
+        Some(n) => Some(number(n)),
+        None => None,
+    }
+}
+
+/// The clocks, where there are some.
+fn maybe_clock(alloc: Global, found: &Option<ClockPart>) -> Result<Option<Value>, AllocError>
+    ensures { IfOk result (λ clock. option_map clock_at (option_map view clock)
+        ≡ option_map Some (option_map clock_view found.now)) }
+{
+    match found {
+        Some(part) => Ok(Some(clock(alloc, part)?)),
+        None => Ok(None),
+    }
+}
+
+/// Puts the members of a scenario into an empty object.
+fn put_parts(
+    members: &mut Map<String, Value>,
+    alloc: Global,
+    parts: &Parts,
+) -> Result<(), AllocError>
+    requires version { IsOfVersion (parts_view parts.now) }
+    requires empty { members.old.entries ≡ [] }
+    ensures { OnOk result (parts_read (object (members_view members.new.entries))
+        ≡ Some (parts_view parts.now)) }
+{
+    let version = parts.version;
+    put(members, alloc, "version", number(version))?;
+    put(members, alloc, "nodes", number(parts.nodes))?;
+    put(members, alloc, "m", number(parts.m))?;
+    put(members, alloc, "periods", number(parts.periods))?;
+    let policy = policy(alloc, version, &parts.policy)?;
+    put(members, alloc, "policy", policy)?;
+    put(members, alloc, "order", number(parts.order))?;
+    let channels = channels(alloc, version, parts.channels.as_slice())?;
+    put(members, alloc, "channels", channels)?;
     let tasks = tasks(alloc, parts.tasks.as_slice())?;
+    put(members, alloc, "tasks", tasks)?;
     let faults = faults(alloc, parts.faults.as_slice())?;
+    put(members, alloc, "faults", faults)?;
     let restarts = restarts(alloc, parts.restarts.as_slice())?;
-    json!(in alloc; {
-        "version": parts.version, "nodes": parts.nodes, "m": parts.m, "periods": parts.periods,
-        "policy": policy, "order": parts.order, "channels": channels, "tasks": tasks,
-        "faults": faults, "restarts": restarts
-    })
+    put(members, alloc, "restarts", restarts)?;
+    put_some(members, alloc, "frame", maybe_number(parts.frame))?;
+    put_some(members, alloc, "clock", maybe_clock(alloc, &parts.clock)?)?;
+    Ok(())
 }
 
 /// The JSON value of a scenario.
@@ -140,15 +272,7 @@ pub fn value_of(alloc: Global, parts: &Parts) -> Result<Value, AllocError>
     requires { IsOfVersion (parts_view parts.now) }
     ensures { IfOk result (λ v. parts_read (view v) ≡ Some (parts_view parts.now)) }
 {
-    let mut value = plain(alloc, parts)?;
-    let Some(members) = value.as_object_mut() else {
-        return Ok(value);
-    };
-    if let Some(frame) = parts.frame {
-        put(members, alloc, "frame", Value::from(frame))?;
-    }
-    if let Some(part) = &parts.clock {
-        put(members, alloc, "clock", clock(alloc, part)?)?;
-    }
-    Ok(value)
+    let mut members = Map::new(alloc);
+    put_parts(&mut members, alloc, parts)?;
+    Ok(Value::Object(members))
 }

@@ -11,8 +11,9 @@ use node_grid::NodeSet;
 /// Puts these nodes at one place.
 pub(crate) fn put_at<const N: usize>(places: &mut [u8; N], nodes: &NodeSet<N>, place: u8)
     requires { IsCapacity N }
-    ensures { (i : ℕ) → i < N → slice_index places.new i ≡
+    ensures put { (i : ℕ) → i < N → slice_index places.new i ≡
         (if has_id nodes.now i then place else slice_index places.old i) }
+    ensures long { length places.new ≡ N }
 {
     for node in 0..N as u8 {
         if nodes.has(node) {
@@ -125,7 +126,8 @@ pub(crate) fn nodes_alike<const N: usize>(
     alike
 }
 
-/// Brings those of the nodes whose state equals that at this place there.
+/// Brings those of the nodes whose state equals that at this place there. Each other place is
+/// looked at once.
 fn join_at<const N: usize>(
     places: &mut [u8; N],
     states: &[Agreed<N>],
@@ -140,16 +142,12 @@ fn join_at<const N: usize>(
     ensures placed { ArePlaced N nodes.now places.new }
     ensures alike { LeadAlike states.now nodes.now places.old places.new }
 {
-    // The places whose states are known to be other ones.
-    let mut apart: NodeSet<N> = NodeSet::empty();
-    for node in 0..N as u8 {
-        let own = places[node as usize];
-        if nodes.has(node) && own != place && !apart.has(own) {
-            if has_equal(states, own, place) {
-                places[node as usize] = place;
-            } else {
-                apart.put(own);
-            }
+    let _ = nodes.len();
+    let others = places_of(places, nodes);
+    for other in 0..N as u8 {
+        if others.has(other) && other != place && has_equal(states, other, place) {
+            let moved = nodes_at(places, nodes, other);
+            put_at(places, &moved, place);
         }
     }
 }

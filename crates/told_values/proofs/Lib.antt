@@ -4,6 +4,7 @@ mod Expected
 mod Arriving
 mod Sending
 mod Voting
+mod Deviating
 mod Noting
 mod Telling
 mod Running

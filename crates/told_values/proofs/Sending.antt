@@ -1,9 +1,11 @@
 -- What is heard of a frame that a line touches, by what its sender says.
-use Rattle.std.proofs.Common.{ℕ, ◌≡◌, ◌<◌, ◌+◌, ◌*◌, ◌≤◌, List, length, take, sym, ap, subst, ◌∙◌, arith, Some, ℤ}
+use Rattle.std.proofs.Common.{ℕ, ◌≡◌, ◌<◌, ◌+◌, ◌*◌, ◌≤◌, true, List, length, take, sym, ap, subst, ◌∙◌, inl, inr, arith, Some, ℤ}
 use Rattle.std.specs.Prelude.{All}
 use Rattle.std.specs.List.{flat_map}
+use Rattle.std.proofs.lemmas.Bool.{cases_lt}
 use Rattle.node_grid.specs.Count.{Distinct}
-use Rattle.node_grid.specs.NodeSetLaws.{All-ids, length-ids}
+use Rattle.node_grid.specs.NodeSet.{has_id}
+use Rattle.node_grid.specs.NodeSetLaws.{All-ids, length-ids, hasnt-above}
 use Rattle.omh_paths.specs.MemberLaws.{Distinct-ids}
 use Rattle.frames.specs.Content.{Content, Expectation, IsValue}
 use Rattle.frames.specs.EntryLaws.{value_format}
@@ -32,6 +34,12 @@ module _ {n : ℕ} (d : DataView n) (slot : IsDataSlot d) (i : ℕ) (low : i < d
 
   pub due_low : All (λ c. c < 8) (d.due i)
   due_low k e within = let l = All-ids (length d.config.channels.items) (d.due i) (slot.due i low) k e within in let f = slot.config.few_channels in omega arith
+
+  pub due_below : (c : ℕ) → has_id (d.due i) c ≡ true → c < 8
+  due_below c on = elim (cases_lt c (length d.config.channels.items)) [
+    | inl below ↦ let f = slot.config.few_channels in omega arith
+    | inr past ↦ absurd (let off = hasnt-above (length d.config.channels.items) (d.due i) c (slot.due i low) past in cc)
+  ]
 
 -- values that were written to the front are read as what they are
 pub values_kept : (xs : List ℤ) (k : ℕ) (old : List ℕ) → All IsValue xs → k ≡ length xs → 8 * k ≤ length old → content_values (take (8 * k) (pasted 0 (flat_map value_spelling xs) old)) ≡ xs

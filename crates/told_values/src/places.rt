@@ -10,7 +10,7 @@ ghost use Rattle.frames.specs.Spelling.{value_spelling};
 ghost use Rattle.frames.specs.Writing.{pasted};
 ghost use Rattle.protocol.specs.View.{own_in, value_of};
 
-use data_slot::put_values;
+use data_slot::{own_by_channel, put_values};
 use frames::Values;
 
 /// A node's own value of a channel, and 0 where it has none.
@@ -57,6 +57,15 @@ pub(crate) fn said_by_place<const N: usize>(
         value_of due.now (map (own_in (slice_index_or owns.now from [])) said.now) c }
 {
     own_by_place(&owns[from as usize], said, due)
+}
+
+/// A node's own values by channel, by those of all nodes, and 0 where it has none.
+pub(crate) fn said_by_channel<const N: usize>(owns: &[[Option<i64>; 8]; N], from: u8) -> [i64; 8]
+    requires { from < N }
+    ensures { (c : ℕ) → c < 8 → slice_index_or result c (pos 0) ≡
+        own_in (slice_index_or owns.now from []) c }
+{
+    own_by_channel(&owns[from as usize])
 }
 
 /// Writes the own values that a node says of its due channels to the front of `out`.

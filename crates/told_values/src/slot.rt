@@ -128,11 +128,8 @@ impl<'a, D: Dues<N>, const N: usize> DataSlot<'a, D, N> {
             (λ j. j == i || is_untouched (change_to (slot_of D.dues self.now) j i))
             (ids_below self.now.config.now.nodes) }
     {
-        if self.touched.is_empty() {
-            return true;
-        }
-        for j in 0..self.config.nodes {
-            if j != i && self.effect(j, i).is_some() {
+        for j in self.touched.iter() {
+            if j != i && j < self.config.nodes && self.effect(j, i).is_some() {
                 return false;
             }
         }

@@ -9,7 +9,7 @@ ghost use Rattle.told_values.specs.Slot.{slot_of, own_of, own_told, change_to, A
 ghost use Rattle.told_values.specs.Slot.{IsDataSlot, Hears, IsTold, HearAlike};
 
 use crate::dues::Dues;
-use crate::places::said_by_place;
+use crate::places::said_by_channel;
 use crate::slot::DataSlot;
 
 impl<'a, D: Dues<N>, const N: usize> DataSlot<'a, D, N> {
@@ -24,8 +24,7 @@ impl<'a, D: Dues<N>, const N: usize> DataSlot<'a, D, N> {
             at_channel result c ≡ own_told d i c }
     {
         if self.full.has(i) {
-            let due = self.dues.due(i);
-            Some(said_by_place(self.owns, i, due, due))
+            Some(said_by_channel(self.owns, i))
         } else {
             None
         }

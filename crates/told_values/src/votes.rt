@@ -1,21 +1,82 @@
 //! The votes on the due channels, and who is off.
 
-ghost use Rattle.std.specs.Prelude.{◌≡◌, ◌≢◌, ℕ, ◌<◌, All, length};
+ghost use Rattle.std.specs.Prelude.{◌≡◌, ◌≢◌, ℕ, ◌<◌, ◌≤◌, ◌∷◌, [], All, length};
 ghost use Rattle.node_grid.specs.Capacity.{IsCapacity};
 ghost use Rattle.node_grid.specs.NodeSet.{has_id, ids_where};
+ghost use Rattle.mme_vote.specs.Channel.{delta_of};
 ghost use Rattle.agreed_state.specs.Agreed.{IsAgreed};
 ghost use Rattle.agreed_state.specs.Config.{IsConfig};
 ghost use Rattle.protocol.specs.Configured.{setting_of};
-ghost use Rattle.protocol.specs.View.{Received, deviates, votes_on};
+ghost use Rattle.protocol.specs.View.{Received, deviates, is_far, votes_on};
+ghost use Rattle.data_slot.specs.Told.{at_channel, value_told};
 ghost use Rattle.data_slot.specs.Votes.{is_off};
 ghost use Rattle.told_values.specs.Slot.{slot_of, own_of, IsDataSlot, IsTold};
 
 use crate::dues::Dues;
 use crate::slot::DataSlot;
 use agreed_state::{Agreed, Config};
-use data_slot::{is_off, vote_due};
+use data_slot::vote_due;
+use mme_vote::{Channel, deviates};
 use node_grid::NodeSet;
 use omh_paths::Wrapped;
+
+/// Whether there is a value of a channel that is further than `delta` from the vote on it.
+fn is_far(told: &Option<[i64; 8]>, c: u8, delta: i64, vote: Option<i64>) -> bool
+    requires channel { c < 8 }
+    ensures { result ≡ is_far delta (at_channel told.now c) vote }
+{
+    let Some(values) = told else {
+        return false;
+    };
+    match vote {
+        Some(vote) => deviates(values[c as usize], vote, delta),
+        None => false,
+    }
+}
+
+/// The nodes that told a value of a channel that is further than its delta from the vote on it.
+#[tactic(auto, using(node_grid::specs::NodeSetLaws::id_loops))]
+fn nodes_far<const N: usize>(
+    nodes: u8,
+    told: &[Option<[i64; 8]>; N],
+    c: u8,
+    channel: &Channel<N>,
+    vote: Option<i64>,
+) -> NodeSet<N>
+    requires capacity { IsCapacity N }
+    requires nodes { nodes ≤ N }
+    requires channel { c < 8 }
+    ensures { result ≡
+        ids_where (λ j. is_far (delta_of channel.now) (value_told told.now j c) vote) nodes }
+{
+    let mut far = NodeSet::empty();
+    for node in 0..nodes {
+        if is_far(&told[node as usize], c, channel.delta(), vote) {
+            far.put(node);
+        }
+    }
+    far
+}
+
+/// The nodes that told a value of a channel which is too far from the vote on it.
+fn nodes_off_on<const N: usize>(
+    config: &Config<N>,
+    told: &[Option<[i64; 8]>; N],
+    votes: &[Option<i64>; 8],
+    c: u8,
+) -> NodeSet<N>
+    requires capacity { IsCapacity N }
+    requires config { IsConfig N config.now }
+    requires channel { c < length config.now.channels.items }
+    ensures { result ≡ ids_where (is_off config.now (c ∷ []) told.now votes.now) config.now.nodes }
+{
+    let channel = &config.channels[c as usize];
+    if channel.is_judged() {
+        nodes_far(config.nodes, told, c, channel, votes[c as usize])
+    } else {
+        NodeSet::empty()
+    }
+}
 
 /// The nodes that told a value of a due channel which is too far from the vote.
 fn nodes_off<const N: usize>(
@@ -30,10 +91,8 @@ fn nodes_off<const N: usize>(
     ensures { result ≡ ids_where (is_off config.now due.now told.now votes.now) config.now.nodes }
 {
     let mut off = NodeSet::empty();
-    for node in 0..config.nodes {
-        if is_off(config, due, told, votes, node) {
-            off.put(node);
-        }
+    for k in 0..due.len() {
+        off = off.union(&nodes_off_on(config, told, votes, due[k]));
     }
     off
 }

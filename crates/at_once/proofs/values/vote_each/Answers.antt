@@ -8,6 +8,7 @@ use Rattle.told_values.specs.Slot.{DataView, slot_of}
 use Rattle.at_once.specs.Kept.{of_node}
 use Rattle.at_once.specs.Values.{no_belief, done_at, IsVoteOf}
 use Rattle.at_once.proofs.Voting.{same_at, AreVotes, votes_none, votes_skip, votes_put, taken_over, AreLeaders, leaders_none, leaders_put}
+use Rattle.at_once.proofs.Voters.{AreVotersBelow, voters_none, voters_skip, voters_own, voters_taken}
 use Rattle.at_once.proofs.values.vote_each.Goals.{in-Some+then-leader-i+then-hears_alike, in-Some+else-leader-i, in_default}
 use Rattle.at_once.proofs.values.vote_each.Goals as goal
 
@@ -32,6 +33,7 @@ loop-i-init g c =
     let d : DataView g.row.N = slot_of g.D.Dues.dues c.args.slot.now in record {
       votes = votes_none d c.args.groups.now c.args.made.now.states c.args.made.now.beliefs.items c.args.votes.now c.args.off.now c.told-votes c.told-off;
       leaders = leaders_none g.row.N c.args.groups.now;
+      voters = voters_none g.row.N c.args.votes.now c.each_alone-voters.result c.each_alone-voters.ensures.many c.each_alone-voters.ensures.each;
     }
 
 pub loop-i-preserved : goal.loop-i-preserved
@@ -46,6 +48,7 @@ loop-i-preserved g c =
     let leaders : List ℕ = c.loop-i.leaders in
     let was = c.loop-i.invariant.votes in
     let led = c.loop-i.invariant.leaders in
+    let taken = c.loop-i.invariant.voters in
     let used = c.loop-i-test.true in
     let low : i < g.row.N = (let t = c.loop-i-test.true in let f = c.requires.slot.config.few_nodes in omega arith) in
     elim c.match-get.branch [
@@ -66,6 +69,9 @@ loop-i-preserved g c =
                 (λ x hears. subst (λ (s : List ℕ). IsVoteOf d a (done_at groups beliefs i) i (x i) (of_node votes r) s) (sym o_is)
                 (taken_over d groups states beliefs i r votes off a c.requires.shared low used same less (sym w.in-Some.ensures) (w.hears_alike.ensures w.if-hears_alike.true) was x hears))));
             leaders = subst (AreLeaders g.row.N groups) (sym w.leaders-is) led;
+            voters = subst (λ (vs : List (List (Option ℤ))). AreVotersBelow g.row.N (i + 1) vs c.match-get.voters) (sym w.votes-is)
+                (subst (AreVotersBelow g.row.N (i + 1) (set votes i (of_node votes r))) (sym w.voters-is)
+                (voters_taken g.row.N votes c.loop-i.voters i taken r less low was.wide));
           }
       | in-Some+else-leader-i w ↦
           let a : AgreedView = w.in-Some.state.now in
@@ -82,11 +88,16 @@ loop-i-preserved g c =
                 (λ x hears. subst (λ (done : List (Wrapped ℕ)). IsVoteOf d a done i (x i) w.vote_at-voted.result.votes w.vote_at-voted.result.off) done_is (w.vote_at-voted.ensures (x i) (hears i used)))));
             leaders = subst (AreLeaders g.row.N groups) (sym w.leaders-is)
                 (leaders_put g.row.N groups i f w.leader_after.result leaders f_low w.of-first.ensures.first w.leader_after.ensures led);
+            voters = subst (λ (vs : List (List (Option ℤ))). AreVotersBelow g.row.N (i + 1) vs c.match-get.voters) (sym w.votes-is)
+                (subst (AreVotersBelow g.row.N (i + 1) (set votes i w.vote_at-voted.result.votes)) (sym w.voters-is)
+                (voters_own g.row.N votes c.loop-i.voters i taken w.vote_at-voted.result.votes));
           }
       | in_default w ↦ record {
         votes = subst (λ (vs : List (List (Option ℤ))). AreVotes d groups states beliefs (i + 1) vs c.match-get.off) (sym w.votes-is)
             (subst (λ (os : List (List ℕ)). AreVotes d groups states beliefs (i + 1) votes os) (sym w.off-is)
             (votes_skip d groups states beliefs i votes off (sym w.in_default.ensures) was));
         leaders = subst (AreLeaders g.row.N groups) (sym w.leaders-is) led;
+        voters = subst (λ (vs : List (List (Option ℤ))). AreVotersBelow g.row.N (i + 1) vs c.match-get.voters) (sym w.votes-is)
+            (subst (AreVotersBelow g.row.N (i + 1) votes) (sym w.voters-is) (voters_skip g.row.N votes c.loop-i.voters i taken));
       }
     ]

@@ -1,6 +1,8 @@
-use Rattle.std.proofs.Common.{◌≡◌, ◌<◌, ℕ, Option, None, Some, sym}
+use Rattle.std.proofs.Common.{◌≡◌, ◌<◌, ℕ, Option, None, Some, sym, subst, lit<, inl, inr}
 use Rattle.std.specs.Prelude.{IfSome}
-use Rattle.list_scheduler.specs.Copies.{CopyTable, works}
+use Rattle.node_grid.specs.Capacity.{IsCapacity}
+use Rattle.list_scheduler.specs.Copies.{CopyTable, IsCopies, works}
+use Rattle.agreed_state.specs.Agreed.{AgreedView}
 use Rattle.list_scheduler.specs.CopyLaws.{works_runs}
 use Rattle.grouped_nodes.proofs.claim.own_claim.Goals as goal
 
@@ -8,5 +10,11 @@ low : (copies : CopyTable) (q : ℕ) (o : Option (ℕ × ℕ)) → o ≡ works c
 low copies q None e = tt
 low copies q (Some w) e = (works_runs copies q w (sym e)).1
 
+pub running_in-requires : goal.running_in-requires
+running_in-requires g c =
+    let cap : IsCapacity g.row.N = c.requires.capacity in
+    let copies = subst (λ (v : AgreedView). IsCopies c.args.config.now.graph v.copies) (sym c.state.view_is) c.requires.agreed.copies in
+    (lit< tt, (elim cap [ inl e ↦ rw e (lit< tt) | inr e ↦ rw e (lit< tt) ], (cap, (copies, c.requires.me))))
+
 pub claim_at-requires : goal.claim_at-requires
-claim_at-requires g c = low c.state.inside.copies c.args.me c.running.result c.running.ensures
+claim_at-requires g c = low c.state.inside.copies c.args.me c.running_in.result c.running_in.ensures

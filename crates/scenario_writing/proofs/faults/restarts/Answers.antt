@@ -1,4 +1,3 @@
-use Rattle.std.proofs.Common.{Some}
 use Rattle.scenario.specs.Seen.{restart_view}
 use Rattle.scenario_reading.specs.Keys.{restart_at}
 use Rattle.scenario_writing.proofs.Grown.{next, all}

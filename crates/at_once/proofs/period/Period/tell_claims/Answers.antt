@@ -1,7 +1,9 @@
-use Rattle.std.proofs.Common.{ℕ, ◌≡◌, ◌<◌, ◌+◌, true, List, Some, refl, sym, ap, subst, ◌∙◌, lit<, inl, inr, arith}
+use Rattle.std.proofs.Common.{ℕ, ◌≡◌, ◌<◌, ◌+◌, true, List, Some, refl, sym, subst, ◌∙◌, lit<, inl, inr, arith}
 use Rattle.node_grid.specs.Capacity.{IsCapacity}
 use Rattle.node_grid.specs.NodeSet.{has_id}
-use Rattle.agreed_state.specs.Agreed.{AgreedView}
+use Rattle.agreed_state.specs.declared.config.Config.{Config}
+use Rattle.agreed_state.specs.Config.{IsConfig}
+use Rattle.agreed_state.specs.Agreed.{AgreedView, IsAgreed}
 use Rattle.scenario.specs.Scenario.{ScenarioView, system_of, inputs_of}
 use Rattle.touched_items.specs.ItemLaws.{claim_told}
 use Rattle.heard_links.specs.Hearing.{item_of}
@@ -17,6 +19,17 @@ run_times-run-requires g c =
     let cap : IsCapacity g.row.N = c.requires.capacity in
     let low = full_low c.args.self.now.scenario.now c.args.self.now.number c.args.full.now c.args.made.now c.requires.going c.loop-i.i (sym c.has.ensures ∙ c.if-has.true) in
     (elim cap [ inl e ↦ rw e (lit< tt) | inr e ↦ rw e (lit< tt) ], low)
+
+pub own_claim-requires : goal.own_claim-requires
+own_claim-requires g c =
+    let cap : IsCapacity g.row.N = c.requires.capacity in
+    let config_is : c.config-config.result.now ≡ c.args.self.now.scenario.now.config = c.config-config.ensures.config in
+    let known : IsConfig g.row.N c.args.self.now.scenario.now.config = c.config-config.ensures.scenario.system.config in
+    let agreed : IsAgreed g.row.N c.config-config.result.now c.in-Some.state.now =
+    subst (λ (x : Config g.row.N). IsAgreed g.row.N x c.in-Some.state.now) (sym config_is) (c.requires.going.used.agreed c.loop-i.i c.in-Some.state.now (sym c.in-Some.ensures)) in
+    let used = full_low c.args.self.now.scenario.now c.args.self.now.number c.args.full.now c.args.made.now c.requires.going c.loop-i.i (sym c.has.ensures ∙ c.if-has.true) in
+    let low : c.loop-i.i < g.row.N = (let f = known.few_nodes in omega arith) in
+    (elim cap [ inl e ↦ rw e (lit< tt) | inr e ↦ rw e (lit< tt) ], (elim cap [ inl e ↦ rw e (lit< tt) | inr e ↦ rw e (lit< tt) ], (cap, (agreed, low))))
 
 pub loop-i-init : goal.loop-i-init
 loop-i-init g c = (λ j less. absurd (omega arith), refl)
@@ -53,7 +66,7 @@ loop-i-preserved g c =
 pub returns-clause-told : goal.returns-clause-told
 returns-clause-told g c i on =
     let l = full_low c.args.self.now.scenario.now c.args.self.now.number c.args.full.now c.args.made.now c.requires.going i on in
-    let few = c.config.ensures.scenario.system.config.few_nodes in
+    let few = c.config-config.ensures.scenario.system.config.few_nodes in
     let t = c.loop-i-test.false in
     c.loop-i.invariant.0 i (omega arith) on
 

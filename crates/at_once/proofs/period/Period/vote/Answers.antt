@@ -47,8 +47,8 @@ touched_senders-requires g c =
       (lit< tt, (lit< tt, (cap, (config, (nodes, (rounds, omega (arith, periods, in_run))))))),
     )
 
-pub vote_each-requires : goal.vote_each-requires
-vote_each-requires g c =
+pub vote_each-keeping-requires : goal.vote_each-keeping-requires
+vote_each-keeping-requires g c =
     let cap : IsCapacity g.row.N = c.requires.capacity in
     let sc : ScenarioView g.row.N = c.args.self.now.scenario.now in
     let p : ℕ = c.args.self.now.number in
@@ -74,13 +74,16 @@ vote_each-requires g c =
               (
                 lit< tt,
                 (
-                  cap,
+                  elim cap [ inl e ↦ rw e (lit< tt) | inr e ↦ rw e (lit< tt) ],
                   (
-                    slot_by_is c.hears.ensures c.through.ensures c.cold.ensures sc p full made notes groups scenario settled c.requires.in_run c.config-config.result.now c.plan-plan.result.now c.of-dues.result c.touched_senders.result c.value_all.new.owns
-                        config_is plan_is dues_are c.touched_senders.ensures,
+                    cap,
                     (
-                      subst (λ (x : Config g.row.N). AreAgreed x made.states) (sym config_is) settled.going.used.agreed,
-                      (settled.claimed.shared, settled.going.many),
+                      slot_by_is c.hears.ensures c.through.ensures c.cold.ensures sc p full made notes groups scenario settled c.requires.in_run c.config-config.result.now c.plan-plan.result.now c.of-dues.result c.touched_senders.result c.value_all.new.owns
+                          config_is plan_is dues_are c.touched_senders.ensures,
+                      (
+                        subst (λ (x : Config g.row.N). AreAgreed x made.states) (sym config_is) settled.going.used.agreed,
+                        (settled.claimed.shared, settled.going.many),
+                      ),
                     ),
                   ),
                 ),
@@ -145,8 +148,8 @@ returns g c =
     let cold_law = c.cold.ensures in
     let touched : List ℕ = c.touched_senders.result in
     let owns : List (List (Option ℤ)) = c.value_all.new.owns in
-    let votes : List (List (Option ℤ)) = c.vote_each.new.votes in
-    let off : List (List ℕ) = c.vote_each.new.off in
+    let votes : List (List (Option ℤ)) = c.vote_each-keeping.new.votes in
+    let off : List (List ℕ) = c.vote_each-keeping.new.off in
     let d : DataView g.row.N = slot_by hears_law view_law cold_law sc p full made notes groups scenario settled c.config-config.result.now c.plan-plan.result.now c.of-dues.result touched owns in
     let s : DataView g.row.N = slot_with hears_law view_law cold_law sc p full made notes groups scenario settled touched owns in
     let d_is : d ≡ s =
@@ -158,7 +161,7 @@ returns g c =
     (λ i low state carried. c.value_all.ensures i state carried low) in
     let voted : (i : ℕ) (a : AgreedView) → i < sc.config.nodes → through sc p i ≡ Some a → IsVoteOf s a (done_at groups made.beliefs.items i) i (has sc p i) (of_node votes i) (slice_index_or off i []) =
     λ i a low is. subst (λ (v : DataView g.row.N). IsVoteOf v a (done_at groups made.beliefs.items i) i (has sc p i) (of_node votes i) (slice_index_or off i [])) d_is
-    (c.vote_each.ensures (λ j. has sc p j)
+    (c.vote_each-keeping.ensures.votes (λ j. has sc p j)
     (subst (λ (v : DataView g.row.N). HearEach v (λ j. has sc p j)) (sym d_is) (each_hears hears_law view_law cold_law sc p full made notes groups scenario settled touched owns are))
     i a (omega (arith, n_is, low)) (settled.going.states i low ∙ is)) in
     let value : c.as_mut_slice.result.now ≡ notes = c.as_mut_slice.ensures.value in
@@ -175,4 +178,5 @@ returns g c =
           (ap (λ (m : List ℕ). has_id m i) c.awake.ensures.nodes ∙ awake_now hears_law view_law cold_law sc p full made notes groups scenario settled i a low is))));
       votes = λ i a low is. votes_now hears_law view_law cold_law sc p full made notes groups scenario settled touched owns are i a low is (of_node votes i) (slice_index_or off i []) (voted i a low is);
       owns = λ i a low is. own_now hears_law view_law cold_law sc p full made notes groups scenario settled touched owns are i a low is;
+      voters = c.vote_each-keeping.ensures.voters;
     }

@@ -68,11 +68,11 @@ returns-then-len-self-clause-settled g k c =
     let e : t.rounds + 1 - length p ≡ 0 = omega (arith, c.if-len-self.true, c.len-2.ensures.count) in
     λ i on. c.lay_heard.ensures.laid i on ∙ sym (chain_now g.V.PartialEq.eq w t.odd i p) ∙ sym (ap (λ (r : ℕ). chain_within g.V.PartialEq.eq w t.odd i r p) e)
 
-pub returns-then-is_heard_alike-clause-settled : goal.returns-then-is_heard_alike-clause-settled
-returns-then-is_heard_alike-clause-settled g k c = λ i on.
+pub returns-then-lay_alike-clause-settled : goal.returns-then-lay_alike-clause-settled
+returns-then-lay_alike-clause-settled g k c = λ i on.
     let t = telling g.S.Relays.says c.args.self.now in
-    c.lay_heard-then-is_heard_alike.ensures.laid i on
-    ∙ alike_settles t g.V.PartialEq.eq c.requires.exact c.requires.few i c.args.receivers.now c.args.path.now c.requires.chain on (c.requires.off i on) (c.is_heard_alike.ensures c.if-is_heard_alike.true)
+    c.lay_alike.ensures.laid c.if-lay_alike.true i on
+    ∙ alike_settles t g.V.PartialEq.eq c.requires.exact c.requires.few i c.args.receivers.now c.args.path.now c.requires.chain on (c.requires.off i on) (c.lay_alike.ensures.alike c.if-lay_alike.true)
 
 pub passed-own-requires : goal.passed-own-requires
 passed-own-requires g k c =

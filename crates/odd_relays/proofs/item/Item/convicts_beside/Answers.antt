@@ -1,6 +1,6 @@
 use Rattle.std.proofs.Common.{rules, ℕ, ◌≡◌, ◌++◌, ◌∷◌, [], ◌&&◌, not, List, length, sym, ap, ap₂, ◌∙◌, arith}
 use Rattle.std.specs.Prelude.{slice_index_or}
-use Rattle.node_grid.specs.NodeSet.{has_id, without_id, minus_of}
+use Rattle.node_grid.specs.NodeSet.{has_id, without_id}
 use Rattle.node_grid.specs.NodeSetLaws.{length-ids}
 use Rattle.node_grid.specs.Count.{bit, count}
 use Rattle.node_grid.specs.CapacityLaws.{capacity-le}
@@ -22,7 +22,7 @@ pub loop-q-init : goal.loop-q-init
 loop-q-init g c =
     let t = telling g.S.Relays.says c.args.self.now in
     let odd : odd_members t ≡ c.without-odd.result =
-    sym (c.without-odd.ensures ∙ ap (λ (s : List ℕ). without_id s t.commander) (c.minus.ensures ∙ ap (minus_of t.members) c.minus-regular_ones.ensures))
+    sym (c.without-odd.ensures ∙ ap (λ (s : List ℕ). without_id s t.commander) c.common.ensures)
     in
     let e : without_id (odd_members t) c.args.i ≡ c.without-others.result = ap (λ (s : List ℕ). without_id s c.args.i) odd ∙ sym c.without-others.ensures in
     record {
@@ -124,7 +124,7 @@ returns g c =
     let i = c.loop-q.invariant in
     let own = slice_index_or t.told c.args.i (Fault 0) in
     let odd : c.without-odd.result ≡ odd_members t =
-    c.without-odd.ensures ∙ ap (λ (s : List ℕ). without_id s t.commander) (c.minus.ensures ∙ ap (minus_of t.members) c.minus-regular_ones.ensures)
+    c.without-odd.ensures ∙ ap (λ (s : List ℕ). without_id s t.commander) c.common.ensures
     in
     let all = sym (split_all (without_id (odd_members t) c.args.i) c.loop-q.yielded c.loop-q.q-iterator i.split c.in-None.ensures.steps.0) in
     let p = ap (count (λ q. is_present (odd_relay t c.args.i q))) all in

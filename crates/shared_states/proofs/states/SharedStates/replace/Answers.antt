@@ -100,7 +100,7 @@ invariant_of-self g c =
     let nodes = c.args.nodes.now in
     subst (λ (xs : List ℕ). ArePlaces n xs c.put_at.new.places (set s.states.items c.free_place-place.result c.args.state.now) (c.len-count.result == 0)) (sym (c.union-self-inside.ensures ∙ ap (λ (xs : List ℕ). union_of n xs nodes) c.minus-others.ensures))
     (put_places n s.awake nodes s.places c.put_at.new.places (set s.states.items c.free_place-place.result c.args.state.now) c.free_place-place.result (c.len-count.result == 0) ok.capacity ok.ids (length-set s.states.items c.free_place-place.result c.args.state.now ∙ ok.room) ok.placed
-    c.free_place-place.ensures.place c.put_at.ensures (λ one. ap length (sym c.minus-others.ensures) ∙ sym c.len-count.ensures.count ∙ eqb-true _ _ one))
+    c.free_place-place.ensures.place c.put_at.ensures.put (λ one. ap length (sym c.minus-others.ensures) ∙ sym c.len-count.ensures.count ∙ eqb-true _ _ one))
 
 pub returns : goal.returns
 returns g c =
@@ -110,5 +110,5 @@ returns g c =
     let nodes = c.args.nodes.now in
     let place = c.free_place-place.result in
     ap (λ (xs : List ℕ). states_by n xs c.put_at.new.places (set s.states.items place c.args.state.now)) (c.union-self-inside.ensures ∙ ap (λ (xs : List ℕ). union_of n xs nodes) c.minus-others.ensures)
-    ∙ replaced n s.awake s.places c.put_at.new.places nodes s.states.items c.args.self.now place c.args.state.now ok.ids c.self.view_is (omega (arith, ok.room, c.free_place-place.ensures.place)) c.put_at.ensures
+    ∙ replaced n s.awake s.places c.put_at.new.places nodes s.states.items c.args.self.now place c.args.state.now ok.ids c.self.view_is (omega (arith, ok.room, c.free_place-place.ensures.place)) c.put_at.ensures.put
     (λ i up. c.free_place-place.ensures.free i (ap (λ (xs : List ℕ). has_id xs i) c.minus-others.ensures ∙ up))

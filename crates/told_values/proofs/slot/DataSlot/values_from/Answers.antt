@@ -1,4 +1,4 @@
-use Rattle.std.proofs.Common.{ℕ, ◌<◌, sym, ap, ◌∙◌}
+use Rattle.std.proofs.Common.{ℕ, sym, ap, ◌∙◌}
 use Rattle.node_grid.specs.NodeSet.{has_id}
 use Rattle.protocol.specs.View.{value_from}
 use Rattle.told_values.specs.Slot.{slot_of, own_of, values_at}

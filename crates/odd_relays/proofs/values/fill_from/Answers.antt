@@ -1,0 +1,31 @@
+use Rattle.std.proofs.Common.{ℕ, ◌+◌, ◌<◌, length, refl, ap, ◌∙◌, arith}
+use Rattle.std.proofs.lemmas.List.{length-set}
+use Rattle.node_grid.specs.CapacityLaws.{capacity-le}
+use Rattle.omh_paths.specs.declared.wrapped.Wrapped.TheVariants.{Fault}
+use Rattle.odd_relays.proofs.Laying.{low_of, split_more}
+use Rattle.odd_relays.proofs.Places.{laid_at, values_apart, kept_below}
+use Rattle.odd_relays.proofs.values.fill_from.Goals as goal
+
+pub set_value-requires : goal.set_value-requires
+set_value-requires g c =
+    let i = c.loop-i.invariant in
+    let l = low_of g.row.N c.args.nodes.now c.loop-i.yielded c.next.new.self c.loop-i.i-iterator c.in-Some.i c.iter-i-items.ensures.ids i.split c.in-Some.ensures.steps in
+    omega (arith, l, capacity-le g.row.N c.requires.capacity, i.long, c.requires.room)
+
+pub loop-i-preserved : goal.loop-i-preserved
+loop-i-preserved g c =
+    let i = c.loop-i.invariant in
+    let q : ℕ = c.in-Some.i in
+    let from : ℕ = c.args.from in
+    let place = λ (k : ℕ). from + k in
+    let l = low_of g.row.N c.args.nodes.now c.loop-i.yielded c.next.new.self c.loop-i.i-iterator c.in-Some.i c.iter-i-items.ensures.ids i.split c.in-Some.ensures.steps in
+    let fits : from + q < length c.loop-i.work = omega (arith, l, capacity-le g.row.N c.requires.capacity, i.long, c.requires.room) in
+    record {
+      can = tt;
+      ends = tt;
+      split = split_more c.args.nodes.now c.loop-i.yielded c.next.new.self c.loop-i.i-iterator q i.split c.in-Some.ensures.steps;
+      long = ap length c.set_value.ensures ∙ length-set c.loop-i.work (from + q) c.args.value ∙ i.long;
+      laid = laid_at (Fault 0) place (values_apart from) (λ k. c.args.value) c.loop-i.yielded q c.loop-i.work c.set_value.new.values c.args.value
+          i.laid fits c.set_value.ensures refl;
+      kept = kept_below (Fault 0) from (from + q) c.args.work.now c.loop-i.work c.set_value.new.values c.args.value i.kept (omega arith) c.set_value.ensures;
+    }
