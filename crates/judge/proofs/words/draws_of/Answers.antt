@@ -10,11 +10,11 @@ use Rattle.judge.proofs.words.draws_of.Goals as goal
 pub returns-in_err-count-clause-none : goal.returns-in_err-count-clause-none
 returns-in_err-count-clause-none c = λ e d calls.
     let range = calls.0 in
-    let third = sym c.in_ok-first.ensures.found ∙ c.as_str-3.ensures.value ∙ third_of c.args.words.now (codes "draw") (decimal d.seed) (decimal d.first) (decimal d.count ∷ []) c.index-words-2.result c.index-words-2.is calls.1 in
+    let third = sym c.in_ok-first.ensures.found ∙ c.as_str-then-eq-2.ensures.value ∙ third_of c.args.words.now (codes "draw") (decimal d.seed) (decimal d.first) (decimal d.count ∷ []) c.index-words-2.result c.index-words-2.is calls.1 in
     let low : c.in_ok-first.first < 2 ^ 64 = omega (arith, c.in_ok-first.ensures.small) in
     let few : d.first < 2 ^ 64 = omega (arith, range.1) in
     let same = decimal_injective c.in_ok-first.first d.first low few third in
-    c.in_err-count.ensures.none refl d.count (omega (arith, range.2, same)) (c.as_str-4.ensures.value ∙ fourth_of c.args.words.now (codes "draw") (decimal d.seed) (decimal d.first) (decimal d.count) [] c.index-words-3.result c.index-words-3.is calls.1)
+    c.in_err-count.ensures.none refl d.count (omega (arith, range.2, same)) (c.as_str-then-eq-3.ensures.value ∙ fourth_of c.args.words.now (codes "draw") (decimal d.seed) (decimal d.first) (decimal d.count) [] c.index-words-3.result c.index-words-3.is calls.1)
 
 pub returns-then-eq-clause-found : goal.returns-then-eq-clause-found
 returns-then-eq-clause-found c =
@@ -23,7 +23,7 @@ returns-then-eq-clause-found c =
       four_are (texts c.args.words.now) (string_bytes c.index-words-0.result) (string_bytes c.index-words-1.result) (string_bytes c.index-words-2.result) (string_bytes c.index-words-3.result)
           (codes "draw") (decimal c.in_ok-seed.seed) (decimal c.in_ok-first.first) (decimal c.in_ok-count.count)
           (four_words c.args.words.now c.index-words-0.result c.index-words-1.result c.index-words-2.result c.index-words-3.result c.requires c.index-words-0.is c.index-words-1.is c.index-words-2.is c.index-words-3.is)
-          (sym c.as_str.ensures.value ∙ first) (sym c.as_str-2.ensures.value ∙ c.in_ok-seed.ensures.found) (sym c.as_str-3.ensures.value ∙ c.in_ok-first.ensures.found) (sym c.as_str-4.ensures.value ∙ c.in_ok-count.ensures.found),
+          (sym c.as_str.ensures.value ∙ first) (sym c.as_str-then-eq.ensures.value ∙ c.in_ok-seed.ensures.found) (sym c.as_str-then-eq-2.ensures.value ∙ c.in_ok-first.ensures.found) (sym c.as_str-then-eq-3.ensures.value ∙ c.in_ok-count.ensures.found),
     )
 
 pub returns-clause-none : goal.returns-clause-none
