@@ -1,0 +1,5 @@
+pub mod Frees
+pub mod Known
+pub mod Walks
+pub mod Apart
+pub mod Settled

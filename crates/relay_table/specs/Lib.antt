@@ -1,2 +1,3 @@
-pub mod Tabled
 pub mod Free
+pub mod Tabled
+pub mod Settling

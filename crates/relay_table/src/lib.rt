@@ -5,6 +5,7 @@
 #![tactic(auto)]
 
 mod free;
+mod station;
 mod table;
 
 pub use free::FreeMembers;

@@ -191,10 +191,13 @@ module _ {V : Type 0} {eq : V → V → Bool} (exact : IsExact eq) where
     ]
   ]
 
-  counts_tell : (xs ys : List (Wrapped V)) → votes xs ≡ votes ys → ((y : Wrapped V) → count (same eq y) xs ≡ count (same eq y) ys) → (y : Wrapped V) → has_majority eq xs y ≡ has_majority eq ys y
-  counts_tell xs ys v c y = ap₂ (λ (a b : ℕ). not (is_error y) && nat_lt a (2 * b)) v (c y)
+  counts_tell : (xs ys : List (Wrapped V)) → votes xs ≡ votes ys → ((y : Wrapped V) → is_error y ≡ false → count (same eq y) xs ≡ count (same eq y) ys) → (y : Wrapped V) → has_majority eq xs y ≡ has_majority eq ys y
+  counts_tell xs ys v c y = elim (cases_Bool (is_error y)) [
+    | inl bad ↦ ap (λ (b : Bool). not b && nat_lt (votes xs) (2 * count (same eq y) xs)) bad ∙ sym (ap (λ (b : Bool). not b && nat_lt (votes ys) (2 * count (same eq y) ys)) bad)
+    | inr good ↦ ap₂ (λ (a b : ℕ). not (is_error y) && nat_lt a (2 * b)) v (c y good)
+  ]
 
-  pub majority_by_counts : (xs ys : List (Wrapped V)) → votes xs ≡ votes ys → ((y : Wrapped V) → count (same eq y) xs ≡ count (same eq y) ys) → majority eq xs ≡ majority eq ys
+  pub majority_by_counts : (xs ys : List (Wrapped V)) → votes xs ≡ votes ys → ((y : Wrapped V) → is_error y ≡ false → count (same eq y) xs ≡ count (same eq y) ys) → majority eq xs ≡ majority eq ys
   unfolding majority
   majority_by_counts xs ys v c = elim (first_cases ys ys) [
     | inl won ↦

@@ -9,3 +9,4 @@ mod round;
 mod walk;
 
 pub use round::Round;
+pub use walk::set_term;

@@ -1,6 +1,7 @@
-ghost use Rattle.std.specs.Prelude.{◌≡◌, ◌+◌, ◌-◌, ◌<◌, ◌≤◌, [], length, take, drop, replicate, slice_index, slice_set};
+ghost use Rattle.std.specs.Prelude.{◌≡◌, ◌+◌, ◌-◌, ◌<◌, ◌≤◌, ◌∷◌, [], length, take, drop, replicate, slice_index, slice_set};
 ghost use Rattle.node_grid.specs.Capacity.{IsCapacity};
 ghost use Rattle.node_grid.specs.NodeSet.{has_id, with_id};
+ghost use Rattle.relay_walk.specs.Walking.{IsMoved};
 
 use node_grid::NodeSet;
 
@@ -58,24 +59,11 @@ impl<'a, const N: usize> Round<'a, N> {
         self.present.put(member);
     }
 
-    /// The next entry of a member's frame.
-    pub fn next_entry(&mut self, member: u8) -> &'a [u8]
-        requires capacity { IsCapacity N }
-        requires member { member < N }
-        requires within { slice_index self.old.next member + self.old.width ≤ length self.old.room.now }
-        ensures entry { result.now ≡ take self.old.width (drop (slice_index self.old.next member) self.old.room.now) }
-        ensures next { self.new.next
-            ≡ slice_set self.old.next member (slice_index self.old.next member + self.old.width) }
-        ensures begins { self.new.begins ≡ self.old.begins }
-        ensures present { self.new.present ≡ self.old.present }
-        ensures room { self.new.room.now ≡ self.old.room.now }
-        ensures width { self.new.width ≡ self.old.width }
-        ensures size { self.new.size ≡ self.old.size }
+    /// Begins to read all frames again.
+    pub fn rewind(&mut self)
+        ensures { self.new ≡ record self.old { next = self.old.begins } }
     {
-        let at = self.next[member as usize];
-        let end = at + self.width;
-        self.next[member as usize] = end;
-        &self.room[at..end]
+        self.next = self.begins;
     }
 
     /// Whether a member's frame came.
@@ -85,20 +73,29 @@ impl<'a, const N: usize> Round<'a, N> {
         self.present.has(member)
     }
 
-    /// Goes by the next entry of a member's frame.
-    pub(crate) fn pass_entry(&mut self, member: u8)
+    /// Goes on by one entry of a member's frame.
+    pub(crate) fn advance(&mut self, member: u8)
         requires capacity { IsCapacity N }
         requires member { member < N }
         requires within { slice_index self.old.next member + self.old.width ≤ length self.old.room.now }
-        ensures next { self.new.next
-            ≡ slice_set self.old.next member (slice_index self.old.next member + self.old.width) }
-        ensures begins { self.new.begins ≡ self.old.begins }
-        ensures present { self.new.present ≡ self.old.present }
-        ensures room { self.new.room.now ≡ self.old.room.now }
-        ensures width { self.new.width ≡ self.old.width }
-        ensures size { self.new.size ≡ self.old.size }
+        ensures { IsMoved (member ∷ []) self.old self.new }
     {
-        self.next[member as usize] += self.width;
+        let at = self.next[member as usize];
+        self.next[member as usize] = at + self.width;
+    }
+
+    /// The next entry of a member's frame.
+    pub(crate) fn next_entry(&mut self, member: u8) -> &'a [u8]
+        requires capacity { IsCapacity N }
+        requires member { member < N }
+        requires within { slice_index self.old.next member + self.old.width ≤ length self.old.room.now }
+        ensures entry { result.now ≡ take self.old.width (drop (slice_index self.old.next member) self.old.room.now) }
+        ensures moved { IsMoved (member ∷ []) self.old self.new }
+    {
+        let at = self.next[member as usize];
+        let end = at + self.width;
+        self.advance(member);
+        &self.room[at..end]
     }
 
     /// The entry of a member's frame that was read last.
