@@ -278,3 +278,17 @@ module _ {V : Type 0} {n : ℕ} (read : List ℕ → Wrapped V) (members others 
             behind ∙ cond-false (is_on_path members me free) at (at + length (without_id free me)) b ∙ ap (λ (f : List ℕ). at + length (without_id f me)) is in
             subst (λ (a : ℕ). Half a next new) (sym goes) (halfway_off next new out there room laid_new)
       ]
+
+pub halfway_begin : {V : Type 0} {N : ℕ} (read : List ℕ → Wrapped V) (members others : List ℕ) (me r start : ℕ) (flat : List (Wrapped V)) (first : Round N) (at : ℕ) → at ≡ start → IsWalk members others r 0 first
+    → IsHalfway read members others me r start flat first 0 at first flat
+halfway_begin read members others me r start flat first at is walk =
+    subst (λ (a : ℕ). IsHalfway read members others me r start flat first 0 a first flat) (sym is) (halfway_none read members others me r start flat first walk)
+
+-- in the end the terms of all paths one node longer are laid
+pub halfway_end : {V : Type 0} {n : ℕ} (read : List ℕ → Wrapped V) (members others : List ℕ) (me r start : ℕ) (flat : List (Wrapped V)) (first : Round n) (k at : ℕ) (now : Round n) (terms : List (Wrapped V))
+    → IsIdSet n members → others ≡ without_id members me → path_count (length members) r ≤ k → IsHalfway read members others me r start flat first k at now terms
+    → terms ≡ laid start (map (told_in (entries_of read first) members r) (paths_of_length others (suc r))) flat
+halfway_end {V} {n} read members others me r start flat first k at now terms ids is past h =
+    h.laid_are
+    ∙ ap (λ (ps : List (List ℕ)). laid start (flat_map (told_behind (entries_of read first) members others r) ps) flat) (off_all n members others me r k ids is past)
+    ∙ ap (λ (xs : List (Wrapped V)). laid start xs flat) (told_all (entries_of read first) members others r)

@@ -1,7 +1,7 @@
 -- What a node settles of the paths of one length, and what it must have heard for that.
 use Rattle.std.specs.Prelude.{ℕ, ◌≡◌, ◌≤◌, ◌<◌, ◌+◌, ◌-◌, true, false, not, ◌&&◌, Bool, List, [], ◌∷◌, ◌++◌, map, length, slice_index_or, Option, if◌then◌else◌}
 use Rattle.std.specs.List.{flat_map}
-use Rattle.node_grid.specs.NodeSet.{has_id, without_id, IsIdSet}
+use Rattle.node_grid.specs.NodeSet.{has_id, without_id, place_of}
 use Rattle.omh_paths.specs.declared.wrapped.Wrapped.{Wrapped}
 use Rattle.omh_paths.specs.declared.wrapped.Wrapped.TheVariants.{Fault}
 use Rattle.omh_paths.specs.Wrapped.{wrapped}
@@ -9,7 +9,7 @@ use Rattle.omh_paths.specs.Paths.{outside, paths_of_length, path_count, path_at}
 use Rattle.omh.specs.Omh.{Ear, settled_at}
 use Rattle.omh.specs.Flat.{section_at}
 use Rattle.relay_walk.specs.Walking.{says}
-use Rattle.relay_table.specs.Tabled.{told_in}
+use Rattle.relay_table.specs.Tabled.{told_in, kept_nodes, kept_heard}
 
 -- whether the node itself is on the path outside which these stand
 abbrev pub is_on_path : List ℕ → ℕ → List ℕ → Bool
@@ -43,3 +43,12 @@ AreSettled eq x others len terms = (k : ℕ) → k < path_count (length others) 
 -- what the frames of a round of r relays say of the paths behind a path
 abbrev pub told_behind : {V : Type 0} → (ℕ → Option (List (Wrapped V))) → List ℕ → List ℕ → ℕ → List ℕ → List (Wrapped V)
 told_behind frames members others r path = map (λ q. told_in frames members r (path ++ q ∷ [])) (outside others path)
+
+-- what the node settles of a node's item, where this is settled for the others' items in their order
+abbrev pub settled_at_place : {V : Type 0} → List ℕ → List ℕ → ℕ → Bool → Wrapped V → List (Wrapped V) → ℕ → Wrapped V
+settled_at_place members others me full own settled c =
+    if has_id members c then (if c == me then (if full then own else Fault 0) else slice_index_or settled (place_of others c) (Fault 0)) else Fault 0
+
+-- the node of the agreement rule that heard these terms of the paths that are kept
+abbrev pub kept_ear : {V : Type 0} → ℕ → List ℕ → ℕ → Bool → List (Wrapped V) → Ear V
+kept_ear rounds members me full flat = record { rounds = rounds; members = members; me = me; full = full; heard = kept_heard (kept_nodes rounds) (without_id members me) flat }

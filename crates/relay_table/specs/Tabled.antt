@@ -33,6 +33,7 @@ pub record IsStation (capacity nodes rounds me : ℕ) (members others : List ℕ
   pub rounds_ok : rounds ≤ 3
   pub members_ok : IsIdSet capacity members
   pub below : (q : ℕ) → has_id members q ≡ true → q < nodes
+  pub me_ok : me < capacity
   pub others_ok : others ≡ without_id members me
   pub few : length others ≤ nodes - 1
 
@@ -53,9 +54,11 @@ abbrev pub term_of : {V : Type 0} → Option V → Wrapped V
 term_of None = Fault 0
 term_of (Some v) = Plain v
 
+abbrev pub item_told : {V : Type 0} → List (Option V) → ℕ → Wrapped V
+item_told told q = term_of (slice_index_or told q None)
+
 abbrev pub after_items : {V : Type 0} → List (Option V) → Hearing V → Hearing V
-after_items told h =
-    record h { heard = map (λ e. if length e.path == 1 then record { path = e.path; value = term_of (slice_index_or told (last_node e.path) None) } else e) h.heard }
+after_items told h = record h { heard = map (λ e. if length e.path == 1 then record { path = e.path; value = item_told told (last_node e.path) } else e) h.heard }
 
 -- what is settled of each node's item
 abbrev pub settled_in : {V : Type 0} → (V → V → Bool) → ℕ → Hearing V → List (Wrapped V)

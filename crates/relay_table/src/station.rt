@@ -1,6 +1,7 @@
-ghost use Rattle.std.specs.Prelude.{◌≡◌, ◌≢◌, ◌+◌, ◌-◌, ◌*◌, ◌≤◌, ◌<◌, ◌∷◌, [], ℕ, suc, length, map, slice_index_or, IfOk, true, false, Option, None, Some, if◌then◌else◌};
+ghost use Rattle.std.specs.Prelude.{◌≡◌, ◌≢◌, ◌+◌, ◌-◌, ◌*◌, ◌≤◌, ◌<◌, ◌∷◌, [], ◌==◌, ◌&&◌, not, ℕ, suc, length, map, slice_index_or, IfOk, true, false, Option, None, Some, if◌then◌else◌};
 ghost use Rattle.node_grid.specs.Capacity.{IsCapacity};
-ghost use Rattle.node_grid.specs.NodeSet.{has_id, without_id};
+ghost use Rattle.node_grid.specs.NodeSet.{has_id, without_id, ids_below, ids_where};
+ghost use Rattle.equivocation.specs.Conviction.{convicts, is_convicted};
 ghost use Rattle.omh_paths.specs.declared.wrapped.Wrapped.TheVariants.{Plain, Fault};
 ghost use Rattle.omh_paths.specs.Wrapped.{IsExact, unwrapped};
 ghost use Rattle.omh_paths.specs.Majority.{majority};
@@ -10,11 +11,12 @@ ghost use Rattle.omh.specs.Flat.{section_at};
 ghost use Rattle.relay_terms.specs.Terms.{said, term_in};
 ghost use Rattle.relay_walk.specs.Laid.{laid};
 ghost use Rattle.relay_walk.specs.Walking.{HaveNext, IsMoved, IsWalk, next_in, entries_of};
-ghost use Rattle.relay_table.specs.Free.{free_begins, AreFree};
-ghost use Rattle.relay_table.specs.Settling.{is_on_path, own_said, HearsKept, HearsLast, AreSettled};
-ghost use Rattle.relay_table.specs.Tabled.{IsStation, AreKnown, kept_nodes, told_in};
+ghost use Rattle.relay_table.specs.Rooms.{IsRoom, IsFreeRoom};
+ghost use Rattle.relay_table.specs.Settling.{is_on_path, own_said, HearsKept, HearsLast, AreSettled, settled_at_place, kept_ear};
+ghost use Rattle.relay_table.specs.Tabled.{IsStation, AreKnown, kept_nodes, told_in, item_told};
 
 use crate::free::{FreeMembers, free_begins};
+use equivocation::tolerated;
 use node_grid::NodeSet;
 use omh_paths::count_paths;
 use relay_terms::{Item, Term, settled_from};
@@ -28,6 +30,17 @@ pub(crate) fn section_at(nodes: u8, len: u8) -> usize
     ensures small { result ≤ 262144 }
 {
     free_begins(nodes, len + 1) - 1
+}
+
+/// The term of the item that a member told, or of none.
+fn told_term<V: Item>(told: &[Option<V>], member: u8) -> Term<V>
+    requires { member < length told.now }
+    ensures { said result ≡ item_told told.now member }
+{
+    match told[member as usize] {
+        Some(item) => Term::item(item),
+        None => Term::nothing(),
+    }
 }
 
 /// Who hears and settles.
@@ -64,6 +77,7 @@ impl<const N: usize> Station<N> {
         heard: &mut [Term<V>],
     ) -> usize
         requires capacity { IsCapacity N }
+        requires me { self.now.me < N }
         requires more { HaveNext (without_id free.now self.now.me) frames.old }
         requires room { is_on_path self.now.members self.now.me free.now ≡ false
             → at + length (without_id free.now self.now.me) ≤ length heard.old }
@@ -98,8 +112,7 @@ impl<const N: usize> Station<N> {
         requires some { 0 < round }
         requires round { round ≤ self.now.rounds }
         requires walk { IsWalk self.now.members self.now.others round 0 frames.old }
-        requires free { AreFree self.now.members self.now.rounds free.now.sets.items }
-        requires sets { free_begins (length self.now.members) (self.now.rounds + 1) ≤ length free.now.sets.items }
+        requires free { IsFreeRoom self.now.nodes self.now.rounds self.now.members free.now.sets.items }
         requires room { section_at (length self.now.others) (round + 1) ≤ length heard.old }
         requires small { length heard.old ≤ 1048576 }
         requires known { AreKnown (map said heard.old) }
@@ -142,6 +155,7 @@ impl<const N: usize> Station<N> {
         settled: &mut [Term<V>],
     ) -> usize
         requires capacity { IsCapacity N }
+        requires me { self.now.me < N }
         requires exact { IsExact V.eq }
         requires more { HaveNext (without_id free.now self.now.me) frames.old }
         requires room { is_on_path self.now.members self.now.me free.now ≡ false
@@ -185,8 +199,7 @@ impl<const N: usize> Station<N> {
         requires station { IsStation N self.now.nodes self.now.rounds self.now.me self.now.members self.now.others }
         requires some { 0 < self.now.rounds }
         requires walk { IsWalk self.now.members self.now.others self.now.rounds 0 frames.old }
-        requires free { AreFree self.now.members self.now.rounds free.now.sets.items }
-        requires sets { free_begins (length self.now.members) (self.now.rounds + 1) ≤ length free.now.sets.items }
+        requires free { IsFreeRoom self.now.nodes self.now.rounds self.now.members free.now.sets.items }
         requires heard { section_at (length self.now.others) self.now.rounds ≤ length heard.now }
         requires known { AreKnown (map said heard.now) }
         requires room { path_count (length self.now.others) self.now.rounds ≤ length settled.old }
@@ -230,5 +243,134 @@ impl<const N: usize> Station<N> {
             let term = settled_from(&settled[from..from + width], &own);
             set_term(settled, k, term);
         }
+    }
+
+    /// Settles the paths of one other member: the longest ones from the frames of the last round, and
+    /// shorter ones one length after another.
+    pub(crate) fn settle<V: Item>(
+        &self,
+        frames: &mut Round<'_, N>,
+        free: &FreeMembers<N>,
+        heard: &[Term<V>],
+        settled: &mut [Term<V>],
+    )
+        requires exact { IsExact V.eq }
+        requires station { IsStation N self.now.nodes self.now.rounds self.now.me self.now.members self.now.others }
+        requires some { 0 < self.now.rounds }
+        requires walk { IsWalk self.now.members self.now.others self.now.rounds 0 frames.old }
+        requires free { IsFreeRoom self.now.nodes self.now.rounds self.now.members free.now.sets.items }
+        requires room { IsRoom self.now.nodes self.now.rounds heard.now settled.old }
+        ensures settled { (x : Ear V) → HearsKept self.now.rounds self.now.members self.now.others self.now.me self.now.full (map said heard.now) x
+            → HearsLast (entries_of (term_in V.of_bytes) frames.old) self.now.members self.now.others self.now.rounds x
+            → AreSettled V.eq x self.now.others 1 (map said settled.new) }
+        ensures length { length settled.new ≡ length settled.old }
+    {
+        self.settle_longest(frames, free, heard, settled);
+        for done in 1..self.rounds {
+            self.settle_shorter(self.rounds - done, heard, settled);
+        }
+    }
+
+    /// What the node settles of a node's item, from what is settled for the others' items.
+    fn settled_item<V: Item>(&self, node: u8, own: &Term<V>, settled: &[Term<V>]) -> Term<V>
+        requires station { IsStation N self.now.nodes self.now.rounds self.now.me self.now.members self.now.others }
+        requires node { node < N }
+        requires room { length self.now.others ≤ length settled.now }
+        ensures { said result ≡ settled_at_place self.now.members self.now.others self.now.me
+            self.now.full (said own.now) (map said settled.now) node }
+    {
+        if !self.members.has(node) {
+            Term::nothing()
+        } else if node != self.me {
+            settled[self.others.place(node) as usize]
+        } else if self.full {
+            *own
+        } else {
+            Term::nothing()
+        }
+    }
+
+    /// Writes what the node settles of each node's item, from what is settled for the others' items.
+    pub(crate) fn hand_out<V: Item>(
+        &self,
+        own: &Term<V>,
+        settled: &[Term<V>],
+        items: &mut [Term<V>],
+    )
+        requires station { IsStation N self.now.nodes self.now.rounds self.now.me self.now.members self.now.others }
+        requires settled { length self.now.others ≤ length settled.now }
+        requires room { length items.old ≡ N }
+        ensures { map said items.new ≡ map (settled_at_place self.now.members self.now.others self.now.me
+            self.now.full (said own.now) (map said settled.now)) (ids_below N) }
+    {
+        for node in 0..N as u8 {
+            items[node as usize] = self.settled_item(node, own, settled);
+        }
+    }
+
+    /// Takes the item that each of the other members told of itself, or that it told none.
+    pub(crate) fn hear_items<V: Item>(&self, told: &[Option<V>], heard: &mut [Term<V>])
+        requires station { IsStation N self.now.nodes self.now.rounds self.now.me self.now.members self.now.others }
+        requires told { length told.now ≡ N }
+        requires room { length self.now.others ≤ length heard.old }
+        requires known { AreKnown (map said heard.old) }
+        ensures heard { map said heard.new
+            ≡ laid 0 (map (item_told told.now) self.now.others) (map said heard.old) }
+        ensures known { AreKnown (map said heard.new) }
+        ensures length { length heard.new ≡ length heard.old }
+    {
+        let mut place = 0;
+        for member in self.others.iter() {
+            set_term(heard, place, told_term(told, member));
+            place += 1;
+        }
+    }
+
+    /// Whether the node convicts another member, of which it heard this: whether more relays say
+    /// otherwise than may be faulty.
+    fn convicts<V: Item>(&self, told: &Term<V>, relays: &[Term<V>]) -> bool
+        requires exact { IsExact V.eq }
+        requires known { said told.now ≢ Fault 254 }
+        requires few { length relays.now ≤ 16 }
+        ensures { result ≡ is_convicted V.eq (said told.now) (map said relays.now)
+            (self.now.full && has_id self.now.members self.now.me) self.now.rounds }
+    {
+        let own = told.wrap();
+        let mut voices = (self.full && self.members.has(self.me)) as u8;
+        let mut against = 0;
+        for relay in relays {
+            if !relay.is_nothing() {
+                voices += 1;
+                if !relay.is(&own) {
+                    against += 1;
+                }
+            }
+        }
+        self.rounds > 0 && against > tolerated(voices, self.rounds)
+    }
+
+    /// The other members that the node convicts.
+    pub(crate) fn convicted<V: Item>(&self, heard: &[Term<V>]) -> NodeSet<N>
+        requires exact { IsExact V.eq }
+        requires station { IsStation N self.now.nodes self.now.rounds self.now.me self.now.members self.now.others }
+        requires room { section_at (length self.now.others) (kept_nodes self.now.rounds) ≤ length heard.now }
+        requires known { AreKnown (map said heard.now) }
+        ensures { result ≡ ids_where (λ c. not (c == self.now.me) && (has_id self.now.members c
+            && convicts V.eq (kept_ear self.now.rounds self.now.members self.now.me self.now.full
+              (map said heard.now)) c)) N }
+    {
+        let mut guilty = NodeSet::empty();
+        if self.rounds == 0 {
+            return guilty;
+        }
+        let width = self.others.len().saturating_sub(1) as usize;
+        let pairs = &heard[self.others.len() as usize..];
+        for (place, c) in self.others.iter().enumerate() {
+            let from = place * width;
+            if self.convicts(&heard[place], &pairs[from..from + width]) {
+                guilty.put(c);
+            }
+        }
+        guilty
     }
 }

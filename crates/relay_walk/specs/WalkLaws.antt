@@ -25,7 +25,7 @@ use Rattle.relay_walk.specs.Walking.{IsEntryAt, IsMoved, IsRound, IsWalk, frame_
 -- the entry that stands behind those passed by is what the frame says of the path with its sender behind it
 pub next_says : {V : Type 0} (members : List ℕ) (r q k : ℕ) (values : List (Wrapped V)) → IsNext members r q k → length (path_at (paths_of_length members r) k) ≡ r
     → slice_index_or values (passed (paths_of_length members r) q k) (Fault 0) ≡ as_written members q r values (path_at (paths_of_length members r) k ++ q ∷ [])
-next_says members q r k values next long =
+next_says members r q k values next long =
     ap (λ (j : ℕ). slice_index_or values j (Fault 0)) (sym next.place)
     ∙ ap (λ (path : List ℕ). slice_index_or values (place_in (paths_of_length (without_id members q) r) path) (Fault 0)) (sym (take_at (path_at (paths_of_length members r) k) (q ∷ []) r long))
 
@@ -126,7 +126,7 @@ next_is {V} {N} read n members others r k q round ids walk on next long = elim (
       ∙ ap (λ (a : ℕ). read (take round.width (drop a round.room.now))) (walk.cursor q here)
       ∙ ap read (window round.width (round.width * p) round.size (slice_index round.begins q) round.room.now (omega (arith, fits, whole)))
       ∙ sym (read_at round.width read bytes p (Fault 0) listed)
-      ∙ next_says members q r k entries next long
+      ∙ next_says members r q k entries next long
       ∙ sym (ap (λ (o : Option (List (Wrapped V))). says members q r o path) (cond-true (has_id round.present q) (Some entries) None here))
 ]
   where

@@ -1,4 +1,4 @@
-use Rattle.std.proofs.Common.{◌≡◌, ◌<◌, ◌≤◌, ◌+◌, ◌∷◌, [], ◌++◌, map, length, refl, sym, ap, subst, ◌∙◌, arith}
+use Rattle.std.proofs.Common.{lit<, inr, inl, ◌≡◌, ◌<◌, ◌≤◌, ◌+◌, ◌∷◌, [], ◌++◌, map, length, refl, sym, ap, subst, ◌∙◌, arith}
 use Rattle.std.proofs.lemmas.List.{length_push}
 use Rattle.omh_paths.specs.Majority.{has_majority as has_most}
 use Rattle.relay_terms.specs.Terms.{said, term_in}
@@ -11,30 +11,33 @@ pub loop-member-init : goal.loop-member-init
 loop-member-init g c = record {
   can = tt;
   ends = tt;
-  split = sym c.iter-member-items.ensures.members;
+  split = cc;
   count = c.add.ensures.count [] c.of-count.ensures.count;
   value = c.add.ensures.value ∙ c.of-count.ensures.value;
   few_votes = omega (arith, c.add.ensures.few_votes, c.of-count.ensures.few_votes);
   few_support = omega (arith, c.add.ensures.few_support, c.of-count.ensures.few_support);
 }
 
-pub last_term-term-requires-clause-member : goal.last_term-term-requires-clause-member
-last_term-term-requires-clause-member g c =
-    (turn g.row.N c.args.others.now c.loop-member.yielded c.next.new.self c.loop-member.member-iterator c.in-Some.member c.iter-member-items.ensures.ids c.loop-member.invariant.split c.in-Some.ensures.steps).low
-
-pub last_term-term-requires-clause-read : goal.last_term-term-requires-clause-read
-last_term-term-requires-clause-read g c =
+pub last_term-term-requires : goal.last_term-term-requires
+last_term-term-requires g c =
     let t = turn g.row.N c.args.others.now c.loop-member.yielded c.next.new.self c.loop-member.member-iterator c.in-Some.member c.iter-member-items.ensures.ids c.loop-member.invariant.split c.in-Some.ensures.steps in
-    one_last c.args.others.now c.args.self.now c.in-Some.member c.requires.read t.on
+    (
+      elim c.requires.capacity [ inl e ↦ rw e (lit< tt) | inr e ↦ rw e (lit< tt) ],
+      (
+        c.requires.capacity,
+        (t.low, one_last c.args.others.now c.args.self.now c.in-Some.member c.requires.read t.on),
+      ),
+    )
 
-pub add-in-loop-member-requires : goal.add-in-loop-member-requires
-add-in-loop-member-requires g c =
+pub add-requires-in-loop-member-clause-few_votes : goal.add-requires-in-loop-member-clause-few_votes
+add-requires-in-loop-member-clause-few_votes g c =
     let t = turn g.row.N c.args.others.now c.loop-member.yielded c.next.new.self c.loop-member.member-iterator c.in-Some.member c.iter-member-items.ensures.ids c.loop-member.invariant.split c.in-Some.ensures.steps in
-    let s = fits_sixteen g.row.N c.requires.capacity in
-    record {
-      few_votes = omega (arith, t.short, c.iter-member-items.ensures.few, c.loop-member.invariant.few_votes, s);
-      few_support = omega (arith, t.short, c.iter-member-items.ensures.few, c.loop-member.invariant.few_support, s);
-    }
+    omega (arith, t.short, c.iter-member-items.ensures.few, c.loop-member.invariant.few_votes, fits_sixteen g.row.N c.requires.capacity)
+
+pub add-requires-in-loop-member-clause-few_support : goal.add-requires-in-loop-member-clause-few_support
+add-requires-in-loop-member-clause-few_support g c =
+    let t = turn g.row.N c.args.others.now c.loop-member.yielded c.next.new.self c.loop-member.member-iterator c.in-Some.member c.iter-member-items.ensures.ids c.loop-member.invariant.split c.in-Some.ensures.steps in
+    omega (arith, t.short, c.iter-member-items.ensures.few, c.loop-member.invariant.few_support, fits_sixteen g.row.N c.requires.capacity)
 
 pub loop-member-preserved : goal.loop-member-preserved
 loop-member-preserved g c =

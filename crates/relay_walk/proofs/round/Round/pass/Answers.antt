@@ -1,4 +1,4 @@
-use Rattle.std.proofs.Common.{sym, subst}
+use Rattle.std.proofs.Common.{lit<, inr, inl, sym, subst}
 use Rattle.relay_walk.specs.Walking.{IsMoved}
 use Rattle.relay_walk.proofs.Loops.{turn, split_more, split_all, moved_none, moved_more, more_at}
 use Rattle.relay_walk.proofs.round.Round.pass.Goals as goal
@@ -7,18 +7,20 @@ pub loop-member-init : goal.loop-member-init
 loop-member-init g c = record {
   can = tt;
   ends = tt;
-  split = sym c.iter-member-items.ensures.members;
+  split = cc;
   moved = moved_none c.args.self.now;
 }
 
-pub pass_next-requires-clause-member : goal.pass_next-requires-clause-member
-pass_next-requires-clause-member g c =
-    (turn g.row.N c.args.others.now c.loop-member.yielded c.next.new.self c.loop-member.member-iterator c.in-Some.member c.iter-member-items.ensures.ids c.loop-member.invariant.split c.in-Some.ensures.steps).low
-
-pub pass_next-requires-clause-more : goal.pass_next-requires-clause-more
-pass_next-requires-clause-more g c =
+pub pass_next-requires : goal.pass_next-requires
+pass_next-requires g c =
     let t = turn g.row.N c.args.others.now c.loop-member.yielded c.next.new.self c.loop-member.member-iterator c.in-Some.member c.iter-member-items.ensures.ids c.loop-member.invariant.split c.in-Some.ensures.steps in
-    more_at c.loop-member.yielded c.args.self.now c.loop-member.self c.loop-member.invariant.moved c.in-Some.member t.low c.args.others.now c.requires.more t.on t.fresh
+    (
+      elim c.requires.capacity [ inl e ↦ rw e (lit< tt) | inr e ↦ rw e (lit< tt) ],
+      (
+        c.requires.capacity,
+        (t.low, more_at c.loop-member.yielded c.args.self.now c.loop-member.self c.loop-member.invariant.moved c.in-Some.member t.low c.args.others.now c.requires.more t.on t.fresh),
+      ),
+    )
 
 pub loop-member-preserved : goal.loop-member-preserved
 loop-member-preserved g c =

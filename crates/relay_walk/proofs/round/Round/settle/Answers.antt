@@ -1,4 +1,4 @@
-use Rattle.std.proofs.Common.{◌≡◌, ◌∷◌, true, false, map, sym, ap, ◌∙◌}
+use Rattle.std.proofs.Common.{lit<, inr, inl, ◌≡◌, ◌∷◌, true, false, map, sym, ap, ◌∙◌}
 use Rattle.omh_paths.specs.Wrapped.{is_error, unwrapped}
 use Rattle.omh_paths.specs.Majority.{majority, has_majority as has_most}
 use Rattle.relay_terms.specs.Terms.{said, term_in}
@@ -14,8 +14,23 @@ returns-then-is_nothing-clause-settled g c =
     c.nothing.ensures ∙ ap unwrapped (sym (nothing_wins c.requires.exact all (said c.tally-tally.result.candidate) c.tally-tally.result.lead c.tally-tally.ensures.tally.leads bad))
     ∙ ap (λ xs. unwrapped (majority g.V.PartialEq.eq (said c.args.own.now ∷ xs))) c.tally-tally.ensures.same
 
-pub candidate_wins-requires-clause-good : goal.candidate_wins-requires-clause-good
-candidate_wins-requires-clause-good g c = ap (λ x. is_error (said x)) (sym c.candidate-candidate.ensures) ∙ sym c.is_nothing.ensures ∙ c.if-is_nothing.false
+pub candidate_wins-requires : goal.candidate_wins-requires
+candidate_wins-requires g c = (
+  elim c.requires.capacity [ inl e ↦ rw e (lit< tt) | inr e ↦ rw e (lit< tt) ],
+  (
+    lit< tt,
+    (
+      c.requires.capacity,
+      (
+        c.requires.exact,
+        (
+          c.tally-tally.ensures.read,
+          (c.tally-tally.ensures.tally, ap (λ x. is_error (said x)) (sym c.candidate-candidate.ensures) ∙ sym c.is_nothing.ensures ∙ c.if-is_nothing.false),
+        ),
+      ),
+    ),
+  ),
+)
 
 pub returns-then-candidate_wins-clause-settled : goal.returns-then-candidate_wins-clause-settled
 returns-then-candidate_wins-clause-settled g c =

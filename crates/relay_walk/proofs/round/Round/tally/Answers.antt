@@ -1,4 +1,4 @@
-use Rattle.std.proofs.Common.{ℕ, true, ◌≡◌, ◌<◌, ◌≤◌, ◌+◌, ◌∷◌, [], ◌++◌, map, length, refl, sym, ap, subst, ◌∙◌, arith}
+use Rattle.std.proofs.Common.{lit<, inr, inl, ℕ, true, ◌≡◌, ◌<◌, ◌≤◌, ◌+◌, ◌∷◌, [], ◌++◌, map, length, refl, sym, ap, subst, ◌∙◌, arith}
 use Rattle.std.proofs.lemmas.List.{length_push}
 use Rattle.node_grid.specs.NodeSet.{has_id}
 use Rattle.omh_paths.specs.MemberLaws.{member-lt}
@@ -12,20 +12,22 @@ pub loop-member-init : goal.loop-member-init
 loop-member-init g c = record {
   can = tt;
   ends = tt;
-  split = sym c.iter-member-items.ensures.members;
+  split = cc;
   moved = moved_none c.args.self.now;
   tally = c.of-tally.ensures.tally;
   few = omega (arith, c.of-tally.ensures.few);
 }
 
-pub next_term-term-requires-clause-member : goal.next_term-term-requires-clause-member
-next_term-term-requires-clause-member g c =
-    (turn g.row.N c.args.others.now c.loop-member.yielded c.next.new.self c.loop-member.member-iterator c.in-Some.member c.iter-member-items.ensures.ids c.loop-member.invariant.split c.in-Some.ensures.steps).low
-
-pub next_term-term-requires-clause-more : goal.next_term-term-requires-clause-more
-next_term-term-requires-clause-more g c =
+pub next_term-term-requires : goal.next_term-term-requires
+next_term-term-requires g c =
     let t = turn g.row.N c.args.others.now c.loop-member.yielded c.next.new.self c.loop-member.member-iterator c.in-Some.member c.iter-member-items.ensures.ids c.loop-member.invariant.split c.in-Some.ensures.steps in
-    more_at c.loop-member.yielded c.args.self.now c.loop-member.self c.loop-member.invariant.moved c.in-Some.member t.low c.args.others.now c.requires.more t.on t.fresh
+    (
+      elim c.requires.capacity [ inl e ↦ rw e (lit< tt) | inr e ↦ rw e (lit< tt) ],
+      (
+        c.requires.capacity,
+        (t.low, more_at c.loop-member.yielded c.args.self.now c.loop-member.self c.loop-member.invariant.moved c.in-Some.member t.low c.args.others.now c.requires.more t.on t.fresh),
+      ),
+    )
 
 pub add-requires-clause-few : goal.add-requires-clause-few
 add-requires-clause-few g c =
