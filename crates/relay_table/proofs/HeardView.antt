@@ -100,14 +100,13 @@ module _ {V : Type 0} (n : ℕ) (members : List ℕ) (me rounds most r : ℕ) (i
         let e : length path ≡ suc (length path - 1) = omega arith in
         let s = ap (section_at (length others)) e in
         let c = ap (path_count (length others)) e in
-        kept_where most others after path low
-        ∙ elim (cases_lt r (length path)) [
+        let middle : flat_heard (length others) others after path ≡ flat_heard (length others) others flat path = elim (cases_lt r (length path)) [
           | inr shorter ↦ laid_before (section_at (length others) r) told flat (section_at (length others) (length path - 1) + place path) (Fault 0) (omega (arith, l, s, c, section_at-le (length others) (length path) r shorter)) (omega arith)
           | inl longer ↦
               laid_behind (section_at (length others) r) told flat (section_at (length others) (length path - 1) + place path) (Fault 0)
               (omega (arith, many, section_at-le (length others) (suc r) (length path - 1) (omega arith))) (omega (arith, many))
-        ]
-        ∙ sym (kept_where most others flat path low)
+        ] in
+        kept_where most others after path low ∙ middle ∙ sym (kept_where most others flat path low)
   ]
 
   heard_after : r + 1 ≤ most → section_at (length others) (suc r) ≤ length flat → (path : List ℕ) → IsHeardPath members me rounds path → Heard path

@@ -25,6 +25,7 @@ use Rattle.relay_walk.specs.Laid.{laid}
 use Rattle.relay_walk.specs.LaidLaws.{laid_before, laid_in, laid_behind}
 use Rattle.relay_walk.specs.Walking.{entries_of, next_in, HaveNext, IsMoved, IsWalk}
 use Rattle.relay_walk.proofs.Loops.{map_on}
+use Rattle.relay_table.specs.Tabled.{told_in}
 use Rattle.relay_table.specs.Settling.{is_on_path, own_said, other_path, HearsKept, HearsLast, AreSettled, told_behind}
 use Rattle.relay_table.proofs.Walks.{off, on_path, have_next, nexts_are, goes_on, says_same}
 use Rattle.relay_table.proofs.Apart.{settles, settles_last}
@@ -112,7 +113,7 @@ module _ {V : Type 0} {n : ℕ} (read : List ℕ → Wrapped V) (members others 
         ∙ nexts_are n members others me r k ids others_are low read now h.walk
         ∙ ap (λ (f : ℕ → Option (List (Wrapped V))). told_behind f members others r path) h.same
         ∙ ap (told_behind (entries_of read first) members others r) (sym here)
-        ∙ map_on _ (λ q. settled_within eq x 0 (other_path others r at ++ q ∷ [])) (outside others (other_path others r at))
+        ∙ map_on (λ q. told_in (entries_of read first) members r (other_path others r at ++ q ∷ [])) (λ q. settled_within eq x 0 (other_path others r at ++ q ∷ [])) (outside others (other_path others r at))
         (λ q on. sym (last at q lo on) ∙ sym (settles_last eq x (other_path others r at ++ q ∷ []))) in
         ap₂ (λ (o : Wrapped V) (ts : List (Wrapped V)). unwrapped (majority eq (o ∷ ts))) own nexts
         ∙ sym (settles exact x others (other_path others r at) 0 dx ox off)

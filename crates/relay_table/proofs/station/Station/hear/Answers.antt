@@ -20,7 +20,44 @@ loop-k-init g c =
     }
 
 pub hear_path-at-requires : goal.hear_path-at-requires
-hear_path-at-requires g c = ?
+hear_path-at-requires g c =
+    let s = c.args.self.now in
+    let st = c.requires.station in
+    let i = c.loop-k.invariant in
+    let read = term_in g.V.Item.of_bytes in
+    let low : c.loop-k.k < path_count (length s.members) c.args.round = omega (arith, end_is c.len-count.result (length s.members) c.args.round c.count_paths.result c.count_paths.ensures.product c.len-count.ensures.count, c.loop-k-test.true) in
+    let free = free_there s.nodes s.rounds s.members c.args.free.now.sets.items c.len-count.result c.args.round c.loop-k.k c.outside-outside.result c.requires.free c.len-count.ensures.count c.requires.round low c.outside-outside.ensures in
+    let start = section_at (length s.others) c.args.round in
+    let flat = map said c.args.heard.now in
+    let size = length-map c.args.heard.now said in
+    let room = told_many s.others c.args.round (told_in (entries_of read c.args.frames.now) s.members c.args.round) (others_distinct st) in
+    (
+      lit< tt,
+      (
+        elim st.capacity_ok [ inl e ↦ rw e (lit< tt) | inr e ↦ rw e (lit< tt) ],
+        (
+          lit< tt,
+          (
+            st.capacity_ok,
+            (
+              st.me_ok,
+              (
+                next_there read s.members s.others s.me c.args.round start flat c.args.frames.now c.loop-k.k c.loop-k.at c.loop-k.frames (map said c.loop-k.heard) st.members_ok st.others_ok low i.half c.outside-outside.result free,
+                (
+                  λ out. omega (
+                    arith,
+                    room_for read s.members s.others s.me c.args.round start flat c.args.frames.now c.loop-k.k c.loop-k.at c.loop-k.frames (map said c.loop-k.heard) st.members_ok st.others_ok low i.half c.outside-outside.result free (omega (arith, room, c.requires.room, size)) out,
+                    i.long,
+                    size,
+                  ),
+                  omega (arith, i.long, c.requires.small),
+                ),
+              ),
+            ),
+          ),
+        ),
+      ),
+    )
 
 pub loop-k-preserved : goal.loop-k-preserved
 loop-k-preserved g c =
