@@ -43,11 +43,11 @@ pub record IsBehind {V : Type 0} {N : ℕ} (read : List ℕ → Wrapped V) (memb
   pub at_is : at ≡ passed (paths_of_length members r) me k
 
 pub behind_none : {V : Type 0} {N : ℕ} (read : List ℕ → Wrapped V) (members others : List ℕ) (me r : ℕ) (first : Round N) → IsWalk members others r 0 first → IsBehind read members others me r first 0 0 first
-behind_none read members others me r first walk = record { walk = walk; same = refl; at_is = refl; }
+behind_none read members others me r first walk = record { walk = walk; same = refl; at_is = refl }
 
 module _ {V : Type 0} {n : ℕ} (read : List ℕ → Wrapped V) (members others : List ℕ) (me r : ℕ) (first : Round n) (k at : ℕ) (now : Round n)
-  (ids : IsIdSet n members) (others_are : others ≡ without_id members me) (low : k < path_count (length members) r) (h : IsBehind read members others me r first k at now)
-  (free : List ℕ) (free_is : free ≡ outside members (path_at (paths_of_length members r) k)) where
+    (ids : IsIdSet n members) (others_are : others ≡ without_id members me) (low : k < path_count (length members) r) (h : IsBehind read members others me r first k at now)
+    (free : List ℕ) (free_is : free ≡ outside members (path_at (paths_of_length members r) k)) where
   abbrev path : List ℕ
   path = path_at (paths_of_length members r) k
 
@@ -121,7 +121,7 @@ module _ {V : Type 0} {n : ℕ} (read : List ℕ → Wrapped V) (members others 
 
     pub settled_more : (terms new : List (Wrapped V)) (after : ℕ) → after ≡ (if is_on_path members me free then at else at + 1) → path_count (length others) r ≤ length terms
         → new ≡ (if is_on_path members me free then terms
-          else laid at (unwrapped (majority eq (own_said full members me (get_or (drop (section_at (length others) (r - 1)) flat) at (Fault 0)) ∷ map (next_in read now) (without_id free me))) ∷ []) terms)
+        else laid at (unwrapped (majority eq (own_said full members me (get_or (drop (section_at (length others) (r - 1)) flat) at (Fault 0)) ∷ map (next_in read now) (without_id free me))) ∷ []) terms)
         → AreSettledTo eq x others r at terms → AreSettledTo eq x others r after new
     settled_more terms new after goes room is was j low-j =
         let value : Wrapped V = unwrapped (majority eq (own_said full members me (get_or (drop (section_at (length others) (r - 1)) flat) at (Fault 0)) ∷ map (next_in read now) (without_id free me))) in
@@ -172,9 +172,9 @@ ahead k w i within = let m : k * 1 ≤ k * w = mul-le-mul (le-refl k) (omega ari
     le-refl n = omega arith
 
 module _ {V : Type 0} {eq : V → V → Bool} (exact : IsExact eq) (n : ℕ) (members others : List ℕ) (me rounds len k : ℕ) (full : Bool) (flat old now : List (Wrapped V)) (x : Ear V)
-  (ids : IsIdSet n members) (others_are : others ≡ without_id members me) (some : 0 < len) (shorter : len < rounds) (low : k < path_count (length others) len)
-  (kept : HearsKept rounds members others me full flat x) (longer : AreSettled eq x others (len + 1) old) (rest : (i : ℕ) → k ≤ i → get_or now i (Fault 0) ≡ get_or old i (Fault 0))
-  (room : path_count (length others) (len + 1) ≤ length now) where
+    (ids : IsIdSet n members) (others_are : others ≡ without_id members me) (some : 0 < len) (shorter : len < rounds) (low : k < path_count (length others) len)
+    (kept : HearsKept rounds members others me full flat x) (longer : AreSettled eq x others (len + 1) old) (rest : (i : ℕ) → k ≤ i → get_or now i (Fault 0) ≡ get_or old i (Fault 0))
+    (room : path_count (length others) (len + 1) ≤ length now) where
   abbrev w : ℕ
   w = length others - len
 

@@ -186,7 +186,7 @@ halfway_none read members others me r start flat first walk = record {
 }
 
 module _ {V : Type 0} {n : ℕ} (read : List ℕ → Wrapped V) (members others : List ℕ) (me r start : ℕ) (flat : List (Wrapped V)) (first : Round n) (k at : ℕ) (now : Round n) (terms : List (Wrapped V))
-  (ids : IsIdSet n members) (others_are : others ≡ without_id members me) (low : k < path_count (length members) r) (h : IsHalfway read members others me r start flat first k at now terms) where
+    (ids : IsIdSet n members) (others_are : others ≡ without_id members me) (low : k < path_count (length members) r) (h : IsHalfway read members others me r start flat first k at now terms) where
   abbrev here : List ℕ
   here = path_at (paths_of_length members r) k
 

@@ -7,9 +7,12 @@ use Rattle.omh_paths.specs.declared.wrapped.Wrapped.TheVariants.{Fault}
 use Rattle.omh_paths.specs.Wrapped.{wrapped}
 use Rattle.omh_paths.specs.Paths.{outside, paths_of_length, path_count, path_at}
 use Rattle.omh.specs.Omh.{Ear, settled_at}
+use Rattle.omh.specs.Heard.{Hearing}
 use Rattle.omh.specs.Flat.{section_at}
 use Rattle.relay_walk.specs.Walking.{says}
-use Rattle.relay_table.specs.Tabled.{told_in, kept_nodes, kept_heard}
+use Rattle.relay_table.specs.declared.station.Station.{Station}
+use Rattle.relay_table.specs.Rooms.{IsFreeRoom}
+use Rattle.relay_table.specs.Tabled.{IsStation, told_in, kept_nodes, kept_heard, heard_among}
 
 -- whether the node itself is on the path outside which these stand
 abbrev pub is_on_path : List ℕ → ℕ → List ℕ → Bool
@@ -52,3 +55,21 @@ settled_at_place members others me full own settled c =
 -- the node of the agreement rule that heard these terms of the paths that are kept
 abbrev pub kept_ear : {V : Type 0} → ℕ → List ℕ → ℕ → Bool → List (Wrapped V) → Ear V
 kept_ear rounds members me full flat = record { rounds = rounds; members = members; me = me; full = full; heard = kept_heard (kept_nodes rounds) (without_id members me) flat }
+
+-- the same of a station, and of the sets that are laid for it
+abbrev pub IsSeated : {N : ℕ} → Station N → Type 0
+IsSeated {N} s = IsStation N s.nodes s.rounds s.me s.members s.others
+
+abbrev pub IsSets : {N : ℕ} → Station N → List (List ℕ) → Type 0
+IsSets s sets = IsFreeRoom s.nodes s.rounds s.members sets
+
+abbrev pub IsKeptBy : {V : Type 0} {N : ℕ} → Station N → List (Wrapped V) → Ear V → Type 0
+IsKeptBy s flat x = HearsKept s.rounds s.members s.others s.me s.full flat x
+
+abbrev pub IsToldLast : {V : Type 0} {N : ℕ} → Station N → (ℕ → Option (List (Wrapped V))) → Ear V → Type 0
+IsToldLast s frames x = HearsLast frames s.members s.others s.rounds x
+
+-- what a station heard, by path
+abbrev pub hearing_of : {V : Type 0} {N : ℕ} → Station N → Wrapped V → List (Wrapped V) → Hearing V
+hearing_of s own flat =
+    record { nodes = s.nodes; rounds = s.rounds; members = s.members; me = s.me; full = s.full; own = own; heard = heard_among s.members s.me s.rounds flat }

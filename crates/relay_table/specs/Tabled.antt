@@ -1,12 +1,12 @@
 -- What a node heard of the relays of an item, flat over the other members, and what it makes of a round's frames.
-use Rattle.std.specs.Prelude.{ℕ, zero, suc, ◌≡◌, ◌≢◌, ◌≤◌, ◌<◌, ◌+◌, ◌-◌, ◌==◌, nat_le, not, ◌&&◌, true, Bool, List, map, length, All, slice_index_or, Option, None, Some, if◌then◌else◌}
+use Rattle.std.specs.Prelude.{ℕ, zero, suc, ◌≡◌, ◌≢◌, ◌≤◌, ◌<◌, ◌+◌, ◌-◌, ◌==◌, nat_le, not, ◌&&◌, true, false, Bool, List, [], map, length, All, slice_index_or, Option, None, Some, if◌then◌else◌}
 use Rattle.node_grid.specs.Capacity.{IsCapacity}
 use Rattle.node_grid.specs.NodeSet.{has_id, without_id, ids_below, ids_where, IsIdSet}
 use Rattle.omh_paths.specs.declared.wrapped.Wrapped.{Wrapped}
 use Rattle.omh_paths.specs.declared.wrapped.Wrapped.TheVariants.{Plain, Fault}
 use Rattle.equivocation.specs.Conviction.{convicts}
 use Rattle.omh.specs.Omh.{settled_from}
-use Rattle.omh.specs.Heard.{Entry, Hearing, entry, ear_of, heard_paths}
+use Rattle.omh.specs.Heard.{Entry, Hearing, entry, ear_of, heard_paths, nothing_heard}
 use Rattle.omh.specs.Flat.{section_at, flat_heard}
 use Rattle.omh.specs.Written.{last_node}
 use Rattle.relay_walk.specs.Walking.{says}
@@ -40,6 +40,20 @@ pub record IsStation (capacity nodes rounds me : ℕ) (members others : List ℕ
 -- no error of these was wrapped often
 abbrev pub AreKnown : {V : Type 0} → List (Wrapped V) → Type 0
 AreKnown terms = (k : ℕ) → slice_index_or terms k (Fault 0) ≢ Fault 254
+
+-- a table before its first start, and after it: nothing was heard
+abbrev pub unstarted : {V : Type 0} → ℕ → ℕ → Hearing V
+unstarted nodes rounds = record { nodes = nodes; rounds = rounds; members = []; me = 0; full = false; own = Fault 0; heard = nothing_heard [] 0 rounds }
+
+abbrev pub started : {V : Type 0} → Hearing V → List ℕ → ℕ → Bool → Wrapped V → Hearing V
+started h members me full own = record { nodes = h.nodes; rounds = h.rounds; members = members; me = me; full = full; own = own; heard = nothing_heard members me h.rounds }
+
+abbrev pub forgotten : {V : Type 0} → Hearing V → Hearing V
+forgotten h = record h { heard = nothing_heard h.members h.me h.rounds }
+
+-- the members but for the node itself
+abbrev pub others_in : {V : Type 0} → Hearing V → List ℕ
+others_in h = without_id h.members h.me
 
 -- an entry after the frames of a round of r relays came: each path of one node more is as the frame of its last node says
 abbrev pub told_in : {V : Type 0} → (ℕ → Option (List (Wrapped V))) → List ℕ → ℕ → List ℕ → Wrapped V

@@ -46,11 +46,7 @@ fn set_set<const N: usize>(sets: &mut [NodeSet<N>], place: usize, set: NodeSet<N
 
 /// Lays what is left of a set without each of its members from a place on, and answers the place
 /// behind.
-fn lay_each_left_out<const N: usize>(
-    set: &NodeSet<N>,
-    at: usize,
-    sets: &mut [NodeSet<N>],
-) -> usize
+fn lay_each_left_out<const N: usize>(set: &NodeSet<N>, at: usize, sets: &mut [NodeSet<N>]) -> usize
     requires capacity { IsCapacity N }
     requires room { at + length set.now ≤ length sets.old }
     requires small { length sets.old ≤ 1048576 }

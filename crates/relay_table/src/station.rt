@@ -1,4 +1,5 @@
-ghost use Rattle.std.specs.Prelude.{◌≡◌, ◌≢◌, ◌+◌, ◌-◌, ◌*◌, ◌≤◌, ◌<◌, ◌∷◌, [], ◌==◌, ◌&&◌, not, ℕ, suc, length, map, slice_index_or, IfOk, true, false, Option, None, Some, if◌then◌else◌};
+ghost use Rattle.std.specs.Prelude.{◌≡◌, ◌≢◌, ◌+◌, ◌≤◌, ◌<◌, ◌∷◌, [], ◌==◌, ◌&&◌, not, ℕ, suc};
+ghost use Rattle.std.specs.Prelude.{length, map, slice_index_or, false, if◌then◌else◌};
 ghost use Rattle.node_grid.specs.Capacity.{IsCapacity};
 ghost use Rattle.node_grid.specs.NodeSet.{has_id, without_id, ids_below, ids_where};
 ghost use Rattle.equivocation.specs.Conviction.{convicts, is_convicted};
@@ -11,9 +12,11 @@ ghost use Rattle.omh.specs.Flat.{section_at};
 ghost use Rattle.relay_terms.specs.Terms.{said, term_in};
 ghost use Rattle.relay_walk.specs.Laid.{laid};
 ghost use Rattle.relay_walk.specs.Walking.{HaveNext, IsMoved, IsWalk, next_in, entries_of};
-ghost use Rattle.relay_table.specs.Rooms.{IsRoom, IsFreeRoom};
-ghost use Rattle.relay_table.specs.Settling.{is_on_path, own_said, HearsKept, HearsLast, AreSettled, settled_at_place, kept_ear};
-ghost use Rattle.relay_table.specs.Tabled.{IsStation, AreKnown, kept_nodes, told_in, item_told};
+ghost use Rattle.relay_table.specs.Rooms.{IsRoom};
+ghost use Rattle.relay_table.specs.Settling.{is_on_path, own_said, IsSeated, IsSets};
+ghost use Rattle.relay_table.specs.Settling.{IsKeptBy, IsToldLast, AreSettled};
+ghost use Rattle.relay_table.specs.Settling.{settled_at_place, kept_ear};
+ghost use Rattle.relay_table.specs.Tabled.{AreKnown, kept_nodes, told_in, item_told};
 
 use crate::free::{FreeMembers, free_begins};
 use equivocation::tolerated;
@@ -85,7 +88,7 @@ impl<const N: usize> Station<N> {
         ensures heard { map said heard.new ≡ (if is_on_path self.now.members self.now.me free.now
             then map said heard.old
             else laid at (map (next_in (term_in V.of_bytes) frames.old)
-              (without_id free.now self.now.me)) (map said heard.old)) }
+            (without_id free.now self.now.me)) (map said heard.old)) }
         ensures behind { result ≡ (if is_on_path self.now.members self.now.me free.now then at
             else at + length (without_id free.now self.now.me)) }
         ensures known { AreKnown (map said heard.old) → AreKnown (map said heard.new) }
@@ -108,17 +111,17 @@ impl<const N: usize> Station<N> {
         free: &FreeMembers<N>,
         heard: &mut [Term<V>],
     )
-        requires station { IsStation N self.now.nodes self.now.rounds self.now.me self.now.members self.now.others }
+        requires station { IsSeated self.now }
         requires some { 0 < round }
         requires round { round ≤ self.now.rounds }
         requires walk { IsWalk self.now.members self.now.others round 0 frames.old }
-        requires free { IsFreeRoom self.now.nodes self.now.rounds self.now.members free.now.sets.items }
+        requires free { IsSets self.now free.now.sets.items }
         requires room { section_at (length self.now.others) (round + 1) ≤ length heard.old }
         requires small { length heard.old ≤ 1048576 }
         requires known { AreKnown (map said heard.old) }
         ensures heard { map said heard.new ≡ laid (section_at (length self.now.others) round)
             (map (told_in (entries_of (term_in V.of_bytes) frames.old) self.now.members round)
-              (paths_of_length self.now.others (suc round))) (map said heard.old) }
+            (paths_of_length self.now.others (suc round))) (map said heard.old) }
         ensures known { AreKnown (map said heard.new) }
         ensures length { length heard.new ≡ length heard.old }
     {
@@ -164,13 +167,14 @@ impl<const N: usize> Station<N> {
             → at < length heard.now }
         requires known { AreKnown (map said heard.now) }
         requires small { at < 1048576 }
-        ensures settled { map said settled.new ≡ (if is_on_path self.now.members self.now.me free.now
+        ensures settled { map said settled.new
+            ≡ (if is_on_path self.now.members self.now.me free.now
             then map said settled.old
             else laid at (unwrapped (majority V.eq
-                (own_said self.now.full self.now.members self.now.me
-                    (slice_index_or (map said heard.now) at (Fault 0))
-                  ∷ map (next_in (term_in V.of_bytes) frames.old) (without_id free.now self.now.me)))
-              ∷ []) (map said settled.old)) }
+            (own_said self.now.full self.now.members self.now.me
+            (slice_index_or (map said heard.now) at (Fault 0))
+            ∷ map (next_in (term_in V.of_bytes) frames.old) (without_id free.now self.now.me)))
+            ∷ []) (map said settled.old)) }
         ensures behind { result ≡ (if is_on_path self.now.members self.now.me free.now then at
             else at + 1) }
         ensures moved { IsMoved (without_id free.now self.now.me) frames.old frames.new }
@@ -196,16 +200,16 @@ impl<const N: usize> Station<N> {
         settled: &mut [Term<V>],
     )
         requires exact { IsExact V.eq }
-        requires station { IsStation N self.now.nodes self.now.rounds self.now.me self.now.members self.now.others }
+        requires station { IsSeated self.now }
         requires some { 0 < self.now.rounds }
         requires walk { IsWalk self.now.members self.now.others self.now.rounds 0 frames.old }
-        requires free { IsFreeRoom self.now.nodes self.now.rounds self.now.members free.now.sets.items }
+        requires free { IsSets self.now free.now.sets.items }
         requires heard { section_at (length self.now.others) self.now.rounds ≤ length heard.now }
         requires known { AreKnown (map said heard.now) }
         requires room { path_count (length self.now.others) self.now.rounds ≤ length settled.old }
         requires small { length heard.now ≤ 1048576 }
-        ensures settled { (x : Ear V) → HearsKept self.now.rounds self.now.members self.now.others self.now.me self.now.full (map said heard.now) x
-            → HearsLast (entries_of (term_in V.of_bytes) frames.old) self.now.members self.now.others self.now.rounds x
+        ensures settled { (x : Ear V) → IsKeptBy self.now (map said heard.now) x
+            → IsToldLast self.now (entries_of (term_in V.of_bytes) frames.old) x
             → AreSettled V.eq x self.now.others self.now.rounds (map said settled.new) }
         ensures length { length settled.new ≡ length settled.old }
     {
@@ -221,7 +225,7 @@ impl<const N: usize> Station<N> {
     /// Settles the paths of `len` nodes, in place of what is settled for those of one node more.
     fn settle_shorter<V: Item>(&self, len: u8, heard: &[Term<V>], settled: &mut [Term<V>])
         requires exact { IsExact V.eq }
-        requires station { IsStation N self.now.nodes self.now.rounds self.now.me self.now.members self.now.others }
+        requires station { IsSeated self.now }
         requires some { 0 < len }
         requires shorter { len < self.now.rounds }
         requires heard { section_at (length self.now.others) len ≤ length heard.now }
@@ -229,7 +233,7 @@ impl<const N: usize> Station<N> {
         requires room { path_count (length self.now.others) len ≤ length settled.old }
         requires longer { path_count (length self.now.others) (len + 1) ≤ length settled.old }
         requires small { length heard.now ≤ 1048576 }
-        ensures settled { (x : Ear V) → HearsKept self.now.rounds self.now.members self.now.others self.now.me self.now.full (map said heard.now) x
+        ensures settled { (x : Ear V) → IsKeptBy self.now (map said heard.now) x
             → AreSettled V.eq x self.now.others (len + 1) (map said settled.old)
             → AreSettled V.eq x self.now.others len (map said settled.new) }
         ensures length { length settled.new ≡ length settled.old }
@@ -245,8 +249,8 @@ impl<const N: usize> Station<N> {
         }
     }
 
-    /// Settles the paths of one other member: the longest ones from the frames of the last round, and
-    /// shorter ones one length after another.
+    /// Settles the paths of one other member: the longest ones from the frames of the last round,
+    /// and shorter ones one length after another.
     pub(crate) fn settle<V: Item>(
         &self,
         frames: &mut Round<'_, N>,
@@ -255,13 +259,13 @@ impl<const N: usize> Station<N> {
         settled: &mut [Term<V>],
     )
         requires exact { IsExact V.eq }
-        requires station { IsStation N self.now.nodes self.now.rounds self.now.me self.now.members self.now.others }
+        requires station { IsSeated self.now }
         requires some { 0 < self.now.rounds }
         requires walk { IsWalk self.now.members self.now.others self.now.rounds 0 frames.old }
-        requires free { IsFreeRoom self.now.nodes self.now.rounds self.now.members free.now.sets.items }
+        requires free { IsSets self.now free.now.sets.items }
         requires room { IsRoom self.now.nodes self.now.rounds heard.now settled.old }
-        ensures settled { (x : Ear V) → HearsKept self.now.rounds self.now.members self.now.others self.now.me self.now.full (map said heard.now) x
-            → HearsLast (entries_of (term_in V.of_bytes) frames.old) self.now.members self.now.others self.now.rounds x
+        ensures settled { (x : Ear V) → IsKeptBy self.now (map said heard.now) x
+            → IsToldLast self.now (entries_of (term_in V.of_bytes) frames.old) x
             → AreSettled V.eq x self.now.others 1 (map said settled.new) }
         ensures length { length settled.new ≡ length settled.old }
     {
@@ -273,7 +277,7 @@ impl<const N: usize> Station<N> {
 
     /// What the node settles of a node's item, from what is settled for the others' items.
     fn settled_item<V: Item>(&self, node: u8, own: &Term<V>, settled: &[Term<V>]) -> Term<V>
-        requires station { IsStation N self.now.nodes self.now.rounds self.now.me self.now.members self.now.others }
+        requires station { IsSeated self.now }
         requires node { node < N }
         requires room { length self.now.others ≤ length settled.now }
         ensures { said result ≡ settled_at_place self.now.members self.now.others self.now.me
@@ -290,18 +294,19 @@ impl<const N: usize> Station<N> {
         }
     }
 
-    /// Writes what the node settles of each node's item, from what is settled for the others' items.
+    /// Writes what the node settles of each node's item, from what is settled for the others'
+    /// items.
     pub(crate) fn hand_out<V: Item>(
         &self,
         own: &Term<V>,
         settled: &[Term<V>],
         items: &mut [Term<V>],
     )
-        requires station { IsStation N self.now.nodes self.now.rounds self.now.me self.now.members self.now.others }
+        requires station { IsSeated self.now }
         requires settled { length self.now.others ≤ length settled.now }
         requires room { length items.old ≡ N }
-        ensures { map said items.new ≡ map (settled_at_place self.now.members self.now.others self.now.me
-            self.now.full (said own.now) (map said settled.now)) (ids_below N) }
+        ensures { map said items.new ≡ map (settled_at_place self.now.members self.now.others
+            self.now.me self.now.full (said own.now) (map said settled.now)) (ids_below N) }
     {
         for node in 0..N as u8 {
             items[node as usize] = self.settled_item(node, own, settled);
@@ -310,7 +315,7 @@ impl<const N: usize> Station<N> {
 
     /// Takes the item that each of the other members told of itself, or that it told none.
     pub(crate) fn hear_items<V: Item>(&self, told: &[Option<V>], heard: &mut [Term<V>])
-        requires station { IsStation N self.now.nodes self.now.rounds self.now.me self.now.members self.now.others }
+        requires station { IsSeated self.now }
         requires told { length told.now ≡ N }
         requires room { length self.now.others ≤ length heard.old }
         requires known { AreKnown (map said heard.old) }
@@ -352,12 +357,13 @@ impl<const N: usize> Station<N> {
     /// The other members that the node convicts.
     pub(crate) fn convicted<V: Item>(&self, heard: &[Term<V>]) -> NodeSet<N>
         requires exact { IsExact V.eq }
-        requires station { IsStation N self.now.nodes self.now.rounds self.now.me self.now.members self.now.others }
-        requires room { section_at (length self.now.others) (kept_nodes self.now.rounds) ≤ length heard.now }
+        requires station { IsSeated self.now }
+        requires room { section_at (length self.now.others) (kept_nodes self.now.rounds)
+            ≤ length heard.now }
         requires known { AreKnown (map said heard.now) }
         ensures { result ≡ ids_where (λ c. not (c == self.now.me) && (has_id self.now.members c
             && convicts V.eq (kept_ear self.now.rounds self.now.members self.now.me self.now.full
-              (map said heard.now)) c)) N }
+            (map said heard.now)) c)) N }
     {
         let mut guilty = NodeSet::empty();
         if self.rounds == 0 {

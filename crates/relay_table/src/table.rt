@@ -1,13 +1,14 @@
-ghost use Rattle.std.specs.Prelude.{◌≡◌, ◌≢◌, ◌+◌, ◌-◌, ◌*◌, ◌≤◌, ◌<◌, ◌∷◌, [], ℕ, length, map, replicate, IfOk, true, false, Option, None, Some};
+ghost use Rattle.std.specs.Prelude.{◌≡◌, ◌≤◌, ◌<◌, ℕ, length, map, replicate, IfOk, true};
 ghost use Rattle.node_grid.specs.Capacity.{IsCapacity};
-ghost use Rattle.node_grid.specs.NodeSet.{has_id, without_id};
+ghost use Rattle.node_grid.specs.NodeSet.{has_id};
 ghost use Rattle.omh_paths.specs.declared.wrapped.Wrapped.TheVariants.{Plain, Fault};
 ghost use Rattle.omh_paths.specs.Wrapped.{IsExact};
 ghost use Rattle.omh_paths.specs.Paths.{paths_of_length};
-ghost use Rattle.omh.specs.Heard.{nothing_heard, heard_in};
+ghost use Rattle.omh.specs.Heard.{heard_in};
 ghost use Rattle.relay_terms.specs.Terms.{said, term_in};
 ghost use Rattle.relay_walk.specs.Walking.{IsWalk, entries_of};
-ghost use Rattle.relay_table.specs.Tabled.{after_frames, after_items, settled_in, convicted_in, kept_nodes};
+ghost use Rattle.relay_table.specs.Tabled.{unstarted, started, forgotten, others_in, kept_nodes};
+ghost use Rattle.relay_table.specs.Tabled.{after_frames, after_items, settled_in, convicted_in};
 
 use crate::free::FreeMembers;
 use crate::station::{Station, section_at};
@@ -54,8 +55,8 @@ fn forget<V: Item>(terms: &mut [Term<V>])
     }
 }
 
-/// What a node heard of the relays of an item: of each path of the other members, but for those of the
-/// last relay round where there are two or more. These are settled as they are read.
+/// What a node heard of the relays of an item: of each path of the other members, but for those of
+/// the last relay round where there are two or more. These are settled as they are read.
 ///
 /// All its memory is taken by [`Table::open`].
 #[derive(Drop)]
@@ -78,14 +79,14 @@ impl<V, const N: usize> Model for Table<V, N> {
     ghost Value = { Hearing V };
 
     ghost use Rattle.relay_terms.specs.Terms.{said};
-    ghost use Rattle.relay_table.specs.Tabled.{heard_among, IsStation};
-    ghost use Rattle.relay_table.specs.Rooms.{IsRoom, IsFreeRoom};
+    ghost use Rattle.relay_table.specs.Settling.{hearing_of, IsSeated, IsSets};
+    ghost use Rattle.relay_table.specs.Rooms.{IsRoom};
 
-    ghost view = { λ t. record { nodes = t.station.nodes; rounds = t.station.rounds; members = t.station.members; me = t.station.me; full = t.station.full; own = said t.own; heard = heard_among t.station.members t.station.me t.station.rounds (map said t.heard.items) } };
+    ghost view = { λ t. hearing_of t.station (said t.own) (map said t.heard.items) };
 
-    ghost invariant = { λ t. IsStation N t.station.nodes t.station.rounds t.station.me t.station.members t.station.others
+    ghost invariant = { λ t. IsSeated t.station
         × IsRoom t.station.nodes t.station.rounds t.heard.items t.settled.items
-        × IsFreeRoom t.station.nodes t.station.rounds t.station.members t.free.sets.items };
+        × IsSets t.station t.free.sets.items };
 }
 
 impl<V: Item, const N: usize> Table<V, N> {
@@ -94,7 +95,7 @@ impl<V: Item, const N: usize> Table<V, N> {
         requires capacity { IsCapacity N }
         requires nodes { nodes ≤ N }
         requires rounds { m ≤ 3 }
-        ensures { IfOk result (λ t. t ≡ record { nodes = nodes; rounds = m; members = []; me = 0; full = false; own = Fault 0; heard = nothing_heard [] 0 m }) }
+        ensures { IfOk result (λ t. t ≡ unstarted nodes m) }
     {
         let room = section_at(nodes.saturating_sub(1), kept_nodes(m));
         let Ok(heard) = unheard(alloc, room) else {
@@ -121,12 +122,12 @@ impl<V: Item, const N: usize> Table<V, N> {
         })
     }
 
-    /// Forgets all that was heard, and takes up the members, the node itself, whether it is Full, and
-    /// its own item.
+    /// Forgets all that was heard, and takes up the members, the node itself, whether it is Full,
+    /// and its own item.
     pub fn start(&mut self, members: &NodeSet<N>, me: u8, full: bool, own: V)
         requires members { (q : ℕ) → has_id members.now q ≡ true → q < self.old.nodes }
         requires me { me < self.old.nodes }
-        ensures { self.new ≡ record { nodes = self.old.nodes; rounds = self.old.rounds; members = members.now; me = me; full = full; own = Plain own; heard = nothing_heard members.now me self.old.rounds } }
+        ensures { self.new ≡ started self.old members.now me full (Plain own) }
     {
         forget(self.heard.as_mut_slice());
         self.free.fill(members, self.station.rounds);
@@ -139,7 +140,7 @@ impl<V: Item, const N: usize> Table<V, N> {
 
     /// Forgets all that was heard.
     pub fn forget(&mut self)
-        ensures { self.new ≡ record self.old { heard = nothing_heard self.old.members self.old.me self.old.rounds } }
+        ensures { self.new ≡ forgotten self.old }
     {
         forget(self.heard.as_mut_slice());
     }
@@ -157,28 +158,29 @@ impl<V: Item, const N: usize> Table<V, N> {
     pub fn hear_round(&mut self, frames: &mut Round<'_, N>, round: u8)
         requires some { 0 < round }
         requires kept { round < kept_nodes self.old.rounds }
-        requires walk { IsWalk self.old.members (without_id self.old.members self.old.me) round 0 frames.old }
-        ensures { self.new ≡ after_frames (entries_of (term_in V.of_bytes) frames.old) round self.old }
+        requires walk { IsWalk self.old.members (others_in self.old) round 0 frames.old }
+        ensures { self.new
+            ≡ after_frames (entries_of (term_in V.of_bytes) frames.old) round self.old }
     {
         let station = self.station;
         station.hear(frames, round, &self.free, self.heard.as_mut_slice());
     }
 
-    /// What was heard of the paths of `len` other members, in lexicographic order: wrapped, it is what
-    /// the node passes on in that round.
+    /// What was heard of the paths of `len` other members, in lexicographic order: wrapped, it is
+    /// what the node passes on in that round.
     pub fn heard(&self, len: u8) -> &[Term<V>]
         requires some { 0 < len }
         requires kept { len ≤ kept_nodes self.now.rounds }
         ensures { map said result.now
-            ≡ map (heard_in self.now.heard) (paths_of_length (without_id self.now.members self.now.me) len) }
+            ≡ map (heard_in self.now.heard) (paths_of_length (others_in self.now) len) }
     {
         let others = self.station.others.len();
         let begins = section_at(others, len - 1);
         &self.heard[begins..begins + count_paths(others, len)]
     }
 
-    /// The other members that the node convicts by what it heard of their items and of the first relay
-    /// round.
+    /// The other members that the node convicts by what it heard of their items and of the first
+    /// relay round.
     pub fn convicted(&self) -> NodeSet<N>
         requires exact { IsExact V.eq }
         ensures { result ≡ convicted_in V.eq N self.now }
@@ -186,19 +188,24 @@ impl<V: Item, const N: usize> Table<V, N> {
         self.station.convicted(self.heard.as_slice())
     }
 
-    /// Takes the frames of the last relay round, and writes what is settled of each node's item, which
-    /// is the error itself where nothing is. All that was heard before stays.
+    /// Takes the frames of the last relay round, and writes what is settled of each node's item,
+    /// which is the error itself where nothing is. All that was heard before stays.
     pub fn settle_round(&mut self, frames: &mut Round<'_, N>, items: &mut [Term<V>])
         requires exact { IsExact V.eq }
         requires some { 0 < self.old.rounds }
         requires room { length items.old ≡ N }
-        requires walk { IsWalk self.old.members (without_id self.old.members self.old.me) self.old.rounds 0 frames.old }
+        requires walk { IsWalk self.old.members (others_in self.old) self.old.rounds 0 frames.old }
         ensures settled { map said items.new ≡ settled_in V.eq N
             (after_frames (entries_of (term_in V.of_bytes) frames.old) self.old.rounds self.old) }
         ensures kept { self.new ≡ self.old }
     {
         let station = self.station;
-        station.settle(frames, &self.free, self.heard.as_slice(), self.settled.as_mut_slice());
+        station.settle(
+            frames,
+            &self.free,
+            self.heard.as_slice(),
+            self.settled.as_mut_slice(),
+        );
         station.hand_out(&self.own, self.settled.as_slice(), items);
     }
 
@@ -209,6 +216,7 @@ impl<V: Item, const N: usize> Table<V, N> {
         requires room { length items.old ≡ N }
         ensures { map said items.new ≡ settled_in V.eq N self.now }
     {
-        self.station.hand_out(&self.own, self.heard.as_slice(), items);
+        self.station
+            .hand_out(&self.own, self.heard.as_slice(), items);
     }
 }

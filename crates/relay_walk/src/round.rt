@@ -1,4 +1,5 @@
-ghost use Rattle.std.specs.Prelude.{◌≡◌, ◌+◌, ◌-◌, ◌<◌, ◌≤◌, ◌∷◌, [], length, take, drop, replicate, slice_index, slice_set};
+ghost use Rattle.std.specs.Prelude.{◌≡◌, ◌+◌, ◌-◌, ◌<◌, ◌≤◌, ◌∷◌, [], length, take, drop};
+ghost use Rattle.std.specs.Prelude.{replicate, slice_index, slice_set};
 ghost use Rattle.node_grid.specs.Capacity.{IsCapacity};
 ghost use Rattle.node_grid.specs.NodeSet.{has_id, with_id};
 ghost use Rattle.relay_walk.specs.Walking.{IsMoved};
@@ -23,7 +24,8 @@ pub struct Round<'a, const N: usize> {
 }
 
 impl<'a, const N: usize> Round<'a, N> {
-    /// A round with `size` bytes of entries a frame, `width` bytes each, of which no frame came yet.
+    /// A round with `size` bytes of entries a frame, `width` bytes each, of which no frame came
+    /// yet.
     pub fn open(room: &'a [u8], width: usize, size: usize) -> Round<'a, N>
         requires capacity { IsCapacity N }
         ensures none { result.present ≡ [] }
@@ -77,7 +79,8 @@ impl<'a, const N: usize> Round<'a, N> {
     pub(crate) fn advance(&mut self, member: u8)
         requires capacity { IsCapacity N }
         requires member { member < N }
-        requires within { slice_index self.old.next member + self.old.width ≤ length self.old.room.now }
+        requires within { slice_index self.old.next member + self.old.width
+            ≤ length self.old.room.now }
         ensures { IsMoved (member ∷ []) self.old self.new }
     {
         let at = self.next[member as usize];
@@ -88,8 +91,10 @@ impl<'a, const N: usize> Round<'a, N> {
     pub(crate) fn next_entry(&mut self, member: u8) -> &'a [u8]
         requires capacity { IsCapacity N }
         requires member { member < N }
-        requires within { slice_index self.old.next member + self.old.width ≤ length self.old.room.now }
-        ensures entry { result.now ≡ take self.old.width (drop (slice_index self.old.next member) self.old.room.now) }
+        requires within { slice_index self.old.next member + self.old.width
+            ≤ length self.old.room.now }
+        ensures entry { result.now
+            ≡ take self.old.width (drop (slice_index self.old.next member) self.old.room.now) }
         ensures moved { IsMoved (member ∷ []) self.old self.new }
     {
         let at = self.next[member as usize];

@@ -1,4 +1,4 @@
-ghost use Rattle.std.specs.Prelude.{◌≡◌, ◌+◌, ◌≤◌, ◌∷◌, ◌<◌, [], length, map, slice_index, true, false, ℕ};
+ghost use Rattle.std.specs.Prelude.{◌≡◌, ◌+◌, ◌≤◌, ◌∷◌, ◌<◌, [], length, map, false};
 ghost use Rattle.node_grid.specs.Capacity.{IsCapacity};
 ghost use Rattle.node_grid.specs.NodeSet.{has_id};
 ghost use Rattle.omh_paths.specs.Wrapped.{IsExact, unwrapped, is_error};
@@ -61,7 +61,8 @@ impl<'a, const N: usize> Round<'a, N> {
         requires room { at + length others.now ≤ length terms.old }
         requires small { length terms.old ≤ 1048576 }
         ensures terms { map said terms.new
-            ≡ laid at (map (next_in (term_in V.of_bytes) self.old) others.now) (map said terms.old) }
+            ≡ laid at (map (next_in (term_in V.of_bytes) self.old) others.now)
+            (map said terms.old) }
         ensures length { length terms.new ≡ length terms.old }
         ensures behind { result ≡ at + length others.now }
         ensures moved { IsMoved others.now self.old self.new }
@@ -108,7 +109,8 @@ impl<'a, const N: usize> Round<'a, N> {
         requires read { HaveLast others.now self.now }
         requires good { is_error (said value.now) ≡ false }
         ensures { result ≡ has_most V.eq
-            (said own.now ∷ map (last_in (term_in V.of_bytes) self.now) others.now) (said value.now) }
+            (said own.now ∷ map (last_in (term_in V.of_bytes) self.now) others.now)
+            (said value.now) }
     {
         let mut count = Count::of(value);
         count.add(own);

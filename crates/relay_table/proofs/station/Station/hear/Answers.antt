@@ -30,8 +30,7 @@ hear_path-at-requires g c =
     let start = section_at (length s.others) c.args.round in
     let flat = map said c.args.heard.now in
     let size = length-map c.args.heard.now said in
-    let room = told_many s.others c.args.round (told_in (entries_of read c.args.frames.now) s.members c.args.round) (others_distinct st) in
-    (
+    let room = told_many s.others c.args.round (told_in (entries_of read c.args.frames.now) s.members c.args.round) (others_distinct st) in (
       lit< tt,
       (
         elim st.capacity_ok [ inl e ↦ rw e (lit< tt) | inr e ↦ rw e (lit< tt) ],

@@ -1,4 +1,4 @@
-use Rattle.std.proofs.Common.{◌≡◌, ◌≤◌, ◌+◌, false, List, map, length, sym, ap, subst, ◌∙◌, arith}
+use Rattle.std.proofs.Common.{refl, inl, inr, lit<, ◌≡◌, ◌≤◌, ◌+◌, false, List, map, length, sym, ap, subst, ◌∙◌, arith}
 use Rattle.std.proofs.lemmas.Bool.{cond-true, cond-false}
 use Rattle.std.proofs.lemmas.List.{length-map}
 use Rattle.node_grid.specs.NodeSet.{without_id}
@@ -10,16 +10,28 @@ use Rattle.relay_table.specs.Tabled.{AreKnown}
 use Rattle.relay_table.proofs.Known.{known_laid, known_next, known_each}
 use Rattle.relay_table.proofs.station.Station.hear_path.Goals as goal
 
-pub pass-requires-clause-more : goal.pass-requires-clause-more
-pass-requires-clause-more g c = subst (λ by. HaveNext by c.args.frames.now) (sym c.without-others.ensures) c.requires.more
+pub pass-requires : goal.pass-requires
+pass-requires g c = (
+  elim c.requires.capacity [ inl e ↦ rw e (lit< tt) | inr e ↦ rw e (lit< tt) ],
+  (lit< tt, (c.requires.capacity, subst (λ by. HaveNext by c.args.frames.now) (sym c.without-others.ensures) c.requires.more)),
+)
 
-pub keep-requires-clause-more : goal.keep-requires-clause-more
-keep-requires-clause-more g c = subst (λ by. HaveNext by c.args.frames.now) (sym c.without-others.ensures) c.requires.more
-
-pub keep-requires-clause-room : goal.keep-requires-clause-room
-keep-requires-clause-room g c =
+pub keep-requires : goal.keep-requires
+keep-requires g c =
     let l = ap (λ xs. length xs) c.without-others.ensures in
-    omega (arith, l, c.requires.room (sym c.is_on_path.ensures ∙ c.if-is_on_path.false))
+    (
+      elim c.requires.capacity [ inl e ↦ rw e (lit< tt) | inr e ↦ rw e (lit< tt) ],
+      (
+        lit< tt,
+        (
+          c.requires.capacity,
+          (
+            subst (λ by. HaveNext by c.args.frames.now) (sym c.without-others.ensures) c.requires.more,
+            (omega (arith, l, c.requires.room (sym c.is_on_path.ensures ∙ c.if-is_on_path.false)), c.requires.small),
+          ),
+        ),
+      ),
+    )
 
 pub returns-then-is_on_path : goal.returns-then-is_on_path
 returns-then-is_on_path g c =
@@ -31,7 +43,7 @@ returns-then-is_on_path g c =
       behind = sym (cond-true (is_on_path s.members s.me c.args.free.now) c.args.at (c.args.at + length others) on);
       known = λ k. k;
       moved = subst (λ by. IsMoved by c.args.frames.now c.pass.new.self) c.without-others.ensures c.pass.ensures;
-      length = ?;
+      length = refl;
     }
 
 pub returns : goal.returns
