@@ -1,5 +1,5 @@
 -- What a node settles of the paths of one length, and what it must have heard for that.
-use Rattle.std.specs.Prelude.{ℕ, ◌≡◌, ◌≤◌, ◌<◌, ◌+◌, ◌-◌, true, false, not, ◌&&◌, Bool, List, [], ◌∷◌, ◌++◌, map, length, slice_index_or, Option, if◌then◌else◌}
+use Rattle.std.specs.Prelude.{ℕ, ◌≡◌, ◌≤◌, ◌<◌, ◌+◌, ◌-◌, true, false, not, ◌&&◌, ◌==◌, Bool, List, [], ◌∷◌, ◌++◌, map, length, slice_index_or, Option, if◌then◌else◌}
 use Rattle.std.specs.List.{flat_map}
 use Rattle.node_grid.specs.NodeSet.{has_id, without_id, place_of}
 use Rattle.omh_paths.specs.declared.wrapped.Wrapped.{Wrapped}

@@ -1,4 +1,4 @@
-ghost use Rattle.std.specs.Prelude.{◌≡◌, ◌+◌, ◌≤◌, ◌<◌, ◌∷◌, [], length, slice_index_or, IfOk};
+ghost use Rattle.std.specs.Prelude.{◌≡◌, ◌+◌, ◌≤◌, ◌<◌, ◌∷◌, [], length, replicate, slice_index_or, IfOk};
 ghost use Rattle.node_grid.specs.Capacity.{IsCapacity};
 ghost use Rattle.path_order.specs.Order.{each_left_out};
 ghost use Rattle.relay_walk.specs.Laid.{laid};
@@ -25,8 +25,7 @@ pub(crate) fn free_begins(members: u8, len: u8) -> usize
 /// So many empty sets.
 fn no_sets<const N: usize>(alloc: Global, len: usize) -> Result<Vec<NodeSet<N>>, AllocError>
     requires capacity { IsCapacity N }
-    ensures long { IfOk result (λ sets. length sets.items ≡ len) }
-    ensures none { IfOk result (λ sets. slice_index_or sets.items 0 [] ≡ []) }
+    ensures { IfOk result (λ sets. sets.items ≡ replicate len []) }
 {
     let mut sets = Vec::with_capacity(alloc, len)?;
     for _ in 0..len {
@@ -36,12 +35,12 @@ fn no_sets<const N: usize>(alloc: Global, len: usize) -> Result<Vec<NodeSet<N>>,
 }
 
 /// Puts a set in place of another one.
-fn set_set<const N: usize>(sets: &mut [NodeSet<N>], place: usize, set: NodeSet<N>)
+fn set_set<const N: usize>(sets: &mut [NodeSet<N>], place: usize, set: &NodeSet<N>)
     requires capacity { IsCapacity N }
     requires place { place < length sets.old }
-    ensures { sets.new ≡ laid place (set ∷ []) sets.old }
+    ensures { sets.new ≡ laid place (set.now ∷ []) sets.old }
 {
-    sets[place] = set;
+    sets[place] = *set;
 }
 
 /// Lays what is left of a set without each of its members from a place on, and answers the place
@@ -55,7 +54,8 @@ fn lay_each_left_out<const N: usize>(set: &NodeSet<N>, at: usize, sets: &mut [No
 {
     let mut end = at;
     for member in set.iter() {
-        set_set(sets, end, set.without(member));
+        let rest = set.without(member);
+        set_set(sets, end, &rest);
         end += 1;
     }
     end
@@ -92,7 +92,7 @@ fn lay_free<const N: usize>(members: &NodeSet<N>, m: u8, sets: &mut [NodeSet<N>]
     ensures room { length sets.new ≡ length sets.old }
 {
     let count = members.len();
-    set_set(sets, 0, *members);
+    set_set(sets, 0, members);
     for len in 0..m {
         lay_longer(free_begins(count, len), free_begins(count, len + 1), sets);
     }

@@ -1,5 +1,5 @@
 ghost use Rattle.std.specs.Prelude.{◌≡◌, ◌≢◌, ◌+◌, ◌≤◌, ◌<◌, ◌∷◌, [], ◌==◌, ◌&&◌, not, ℕ, suc};
-ghost use Rattle.std.specs.Prelude.{length, map, slice_index_or, false, if◌then◌else◌};
+ghost use Rattle.std.specs.Prelude.{length, map, take, drop, slice_index_or, false, if◌then◌else◌};
 ghost use Rattle.node_grid.specs.Capacity.{IsCapacity};
 ghost use Rattle.node_grid.specs.NodeSet.{has_id, without_id, ids_below, ids_where};
 ghost use Rattle.equivocation.specs.Conviction.{convicts, is_convicted};
@@ -44,6 +44,23 @@ fn told_term<V: Item>(told: &[Option<V>], member: u8) -> Term<V>
         Some(item) => Term::item(item),
         None => Term::nothing(),
     }
+}
+
+/// What is settled from the own term and so many terms, which begin at `from`.
+fn settled_behind<V: Item>(
+    terms: &[Term<V>],
+    from: usize,
+    width: usize,
+    own: &Term<V>,
+) -> Term<V>
+    requires exact { IsExact V.eq }
+    requires within { from + width ≤ length terms.now }
+    requires few { width ≤ 16 }
+    requires small { from ≤ 1048576 }
+    ensures { said result ≡ unwrapped (majority V.eq
+        (said own.now ∷ map said (take width (drop from terms.now)))) }
+{
+    settled_from(&terms[from..from + width], own)
 }
 
 /// Who hears and settles.
@@ -244,7 +261,7 @@ impl<const N: usize> Station<N> {
         for k in 0..count_paths(others, len) {
             let own = self.own_term(&section[k]);
             let from = k * width;
-            let term = settled_from(&settled[from..from + width], &own);
+            let term = settled_behind(settled, from, width, &own);
             set_term(settled, k, term);
         }
     }
