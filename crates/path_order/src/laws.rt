@@ -12,8 +12,8 @@ pub fn free_members()
     ensures { FreeMembersLaw }
 {}
 
-/// Where all paths are gone through in order, a member's next entry is that of the next path that it
-/// isn't on.
+/// Where all paths are gone through in order, a member's next entry is that of the next path that
+/// it isn't on.
 pub fn cursors()
     ensures { CursorsLaw }
 {}

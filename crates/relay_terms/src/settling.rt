@@ -36,8 +36,8 @@ fn has_majority<V: Item>(terms: &[Term<V>], own: &Term<V>, value: &Term<V>) -> b
     count.has_majority()
 }
 
-/// Whether the candidate of the tally of these terms has their majority: they are counted only where
-/// good ones clashed.
+/// Whether the candidate of the tally of these terms has their majority: they are counted only
+/// where good ones clashed.
 fn candidate_wins<V: Item>(terms: &[Term<V>], own: &Term<V>, tally: &Tally<V>) -> bool
     requires exact { IsExact V.eq }
     requires few { length terms.now ≤ 16 }

@@ -152,7 +152,7 @@ module _ {N : ℕ} (ys : List ℕ) (old now : Round N) (moved : IsMoved ys old n
   entry_alike at was same e =
       let long = ap (λ (bytes : List ℕ). length bytes) moved.room in
       let tag : slice_index now.room.now at ≡ slice_index old.room.now was = ap₂ (λ (bytes : List ℕ) (k : ℕ). slice_index bytes k) moved.room same in
-      record { within = omega (arith, e.within, moved.width); tagged = omega (arith, e.tagged); }
+      record { within = omega (arith, e.within, moved.width); tagged = omega (arith, e.tagged) }
 
   pub more_at : (members : List ℕ) → HaveNext members old → has_id members q ≡ true → has_id ys q ≡ false → HaveNext (q ∷ []) now
   more_at members more on fresh = record {

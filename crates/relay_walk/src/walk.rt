@@ -50,12 +50,7 @@ impl<'a, const N: usize> Round<'a, N> {
     }
 
     /// Lays the next terms of these members from a place on, and answers the place behind.
-    pub fn keep<V: Item>(
-        &mut self,
-        others: &NodeSet<N>,
-        at: usize,
-        terms: &mut [Term<V>],
-    ) -> usize
+    pub fn keep<V: Item>(&mut self, others: &NodeSet<N>, at: usize, terms: &mut [Term<V>]) -> usize
         requires capacity { IsCapacity N }
         requires more { HaveNext others.now self.old }
         requires room { at + length others.now ≤ length terms.old }
@@ -98,12 +93,7 @@ impl<'a, const N: usize> Round<'a, N> {
 
     /// Whether a term that is no error has the majority of the own term and the last ones of these
     /// members.
-    fn has_majority<V: Item>(
-        &self,
-        others: &NodeSet<N>,
-        own: &Term<V>,
-        value: &Term<V>,
-    ) -> bool
+    fn has_majority<V: Item>(&self, others: &NodeSet<N>, own: &Term<V>, value: &Term<V>) -> bool
         requires capacity { IsCapacity N }
         requires exact { IsExact V.eq }
         requires read { HaveLast others.now self.now }
@@ -123,12 +113,7 @@ impl<'a, const N: usize> Round<'a, N> {
 
     /// Whether the candidate of the tally of these terms has their majority: they are counted only
     /// where good ones clashed.
-    fn candidate_wins<V: Item>(
-        &self,
-        others: &NodeSet<N>,
-        own: &Term<V>,
-        tally: &Tally<V>,
-    ) -> bool
+    fn candidate_wins<V: Item>(&self, others: &NodeSet<N>, own: &Term<V>, tally: &Tally<V>) -> bool
         requires capacity { IsCapacity N }
         requires exact { IsExact V.eq }
         requires read { HaveLast others.now self.now }
