@@ -60,7 +60,7 @@ left_all from until sets = ap (flat_map each_left_out) (take_again (until - from
     take_again (suc n) (x ∷ xs) = ap (λ (ys : List (List ℕ)). x ∷ ys) (take_again n xs)
 
 pub left_none : (from until : ℕ) (sets : List (List ℕ)) → left_before from until from sets ≡ []
-left_none from until sets = ap (λ (n : ℕ). flat_map each_left_out (take n (part from until sets))) (omega arith)
+left_none from until sets = let z : from - from ≡ 0 = omega arith in ap (λ (n : ℕ). flat_map each_left_out (take n (part from until sets))) z
 
 -- ---- the sets of paths one node longer
 

@@ -60,8 +60,10 @@ set_low nodes rounds r k members few low here =
 
 -- ---- terms
 
-pub told_many : {V : Type 0} (others : List ℕ) (r : ℕ) (says : List ℕ → Wrapped V) → Distinct others → section_at (length others) r + length (map says (paths_of_length others (suc r))) ≡ section_at (length others) (suc r)
-told_many others r says d = omega (arith, length-map (paths_of_length others (suc r)) says, length-paths others (suc r) d)
+pub told_many : {V : Type 0} (others : List ℕ) (r : ℕ) (says : List ℕ → Wrapped V) → Distinct others → section_at (length others) r + length (map says (paths_of_length others (suc r))) ≡ section_at (length others) (r + 1)
+told_many others r says d =
+    let next : r + 1 ≡ suc r = omega arith in
+    omega (arith, length-map (paths_of_length others (suc r)) says, length-paths others (suc r) d, ap (section_at (length others)) next)
 
 -- the number of paths, as it is counted
 pub end_is : (count n r end : ℕ) → end ≡ path_count count r → count ≡ n → end ≡ path_count n r

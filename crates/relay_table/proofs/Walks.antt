@@ -62,7 +62,7 @@ says_same read by old new m = λ i q. says_as read by old new q m i
 either_way : (a b : Bool) → (b ≡ true → a ≡ true) → (a && not (not b && a)) ≡ b
 either_way true true h = refl
 either_way true false h = refl
-either_way false true h = sym (h refl)
+either_way false true h = h refl
 either_way false false h = refl
 
 -- those that pass a test among the first of a list are no longer than those among more of it

@@ -25,7 +25,7 @@ hear_path-at-requires g c =
     let st = c.requires.station in
     let i = c.loop-k.invariant in
     let read = term_in g.V.Item.of_bytes in
-    let low : c.loop-k.k < path_count (length s.members) c.args.round = omega (arith, end_is c.len-count.result (length s.members) c.args.round c.count_paths.result c.count_paths.ensures.product c.len-count.ensures.count, c.loop-k-test.true) in
+    let low : c.loop-k.k < path_count (length s.members) c.args.round = omega (arith, end_is c.len-count.result (length s.members) c.args.round c.count_paths-k-end.result c.count_paths-k-end.ensures.product c.len-count.ensures.count, c.loop-k-test.true) in
     let free = free_there s.nodes s.rounds s.members c.args.free.now.sets.items c.len-count.result c.args.round c.loop-k.k c.outside-outside.result c.requires.free c.len-count.ensures.count c.requires.round low c.outside-outside.ensures in
     let start = section_at (length s.others) c.args.round in
     let flat = map said c.args.heard.now in
@@ -63,7 +63,7 @@ loop-k-preserved g c =
     let s = c.args.self.now in
     let st = c.requires.station in
     let i = c.loop-k.invariant in
-    let low : c.loop-k.k < path_count (length s.members) c.args.round = omega (arith, end_is c.len-count.result (length s.members) c.args.round c.count_paths.result c.count_paths.ensures.product c.len-count.ensures.count, c.loop-k-test.true) in
+    let low : c.loop-k.k < path_count (length s.members) c.args.round = omega (arith, end_is c.len-count.result (length s.members) c.args.round c.count_paths-k-end.result c.count_paths-k-end.ensures.product c.len-count.ensures.count, c.loop-k-test.true) in
     let free = free_there s.nodes s.rounds s.members c.args.free.now.sets.items c.len-count.result c.args.round c.loop-k.k c.outside-outside.result c.requires.free c.len-count.ensures.count c.requires.round low c.outside-outside.ensures in
     record {
       half = halfway_more (term_in g.V.Item.of_bytes) s.members s.others s.me c.args.round (section_at (length s.others) c.args.round) (map said c.args.heard.now) c.args.frames.now c.loop-k.k c.loop-k.at c.loop-k.frames (map said c.loop-k.heard)
@@ -79,7 +79,7 @@ returns g c =
     let s = c.args.self.now in
     let st = c.requires.station in
     let i = c.loop-k.invariant in
-    let past : path_count (length s.members) c.args.round ≤ c.loop-k.k = omega (arith, end_is c.len-count.result (length s.members) c.args.round c.count_paths.result c.count_paths.ensures.product c.len-count.ensures.count, c.loop-k-test.false) in
+    let past : path_count (length s.members) c.args.round ≤ c.loop-k.k = omega (arith, end_is c.len-count.result (length s.members) c.args.round c.count_paths-k-end.result c.count_paths-k-end.ensures.product c.len-count.ensures.count, c.loop-k-test.false) in
     record {
       heard = halfway_end (term_in g.V.Item.of_bytes) s.members s.others s.me c.args.round (section_at (length s.others) c.args.round) (map said c.args.heard.now) c.args.frames.now c.loop-k.k c.loop-k.at c.loop-k.frames (map said c.loop-k.heard)
           st.members_ok st.others_ok past i.half;

@@ -21,7 +21,7 @@ loop-k-preserved g c =
     let st = c.requires.station in
     let i = c.loop-k.invariant in
     let read = term_in g.V.Item.of_bytes in
-    let low : c.loop-k.k < path_count (length s.members) s.rounds = omega (arith, end_is c.len-count.result (length s.members) s.rounds c.count_paths.result c.count_paths.ensures.product c.len-count.ensures.count, c.loop-k-test.true) in
+    let low : c.loop-k.k < path_count (length s.members) s.rounds = omega (arith, end_is c.len-count.result (length s.members) s.rounds c.count_paths-k-end.result c.count_paths-k-end.ensures.product c.len-count.ensures.count, c.loop-k-test.true) in
     let free = free_there s.nodes s.rounds s.members c.args.free.now.sets.items c.len-count.result s.rounds c.loop-k.k c.outside-outside.result c.requires.free c.len-count.ensures.count (omega arith) low c.outside-outside.ensures in
     record {
       behind = behind_more read s.members s.others s.me s.rounds c.args.frames.now c.loop-k.k c.loop-k.at c.loop-k.frames st.members_ok st.others_ok low i.behind c.outside-outside.result free c.settle_path-at.new.frames c.settle_path-at.result
