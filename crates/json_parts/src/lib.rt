@@ -13,5 +13,5 @@ pub use error::PartError;
 pub use forms::{Number, Numbers, Text, number_or};
 pub use keys::has_keys;
 pub use reading::{Form, list, lone, optional, optional_list, required, required_list};
-pub use texts::{TextError, value_of};
+pub use texts::{TextError, has_readings, value_of};
 pub use values::{is_object, items, member, text, whole};

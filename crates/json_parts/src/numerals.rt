@@ -50,6 +50,9 @@ pub(crate) fn has_reading(text: &str) -> bool
     ensures { result ≡ is_some (number_of text.now) }
 {
     let bytes = text.as_bytes();
+    if bytes.len() < 18 && bytes.iter().all(|byte| *byte < 58) {
+        return true;
+    }
     if has_minus(bytes) {
         is_readable(true, &Numeral::scan(&bytes[1..]))
     } else {

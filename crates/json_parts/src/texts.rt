@@ -23,7 +23,7 @@ pub enum TextError {
 }
 
 #[cycle(readings)]
-fn has_readings(value: &Value<'_>) -> bool
+pub fn has_readings(value: &Value<'_>) -> bool
     ensures { result ≡ has_readings (value_view value.now) }
 {
     match value {

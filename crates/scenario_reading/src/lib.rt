@@ -4,5 +4,7 @@
 mod accepting;
 pub mod laws;
 mod parts;
+mod streamed;
 
 pub use accepting::{from_value, read};
+pub use streamed::read_streamed;

@@ -497,6 +497,11 @@ fn parts_in(alloc: Global, value: &Value<'_>, version: i64) -> Result<Parts, Par
     }
 }
 
+/// One line.
+pub(crate) fn fault_of(alloc: Global, value: &Value<'_>) -> Result<FaultPart, PartError> {
+    FaultForm.read(alloc, value)
+}
+
 /// The parts of the scenario that a JSON value holds. Which keys and texts are known is a matter of its version.
 ///
 /// # Errors

@@ -126,6 +126,9 @@ fn answer_value<K: Sink>(alloc: Global, form: Form, value: &Value<'_>, sink: &mu
 fn answer_scenario<K: Sink>(alloc: Global, form: Form, bytes: &[u8], sink: &mut K) -> Status
     ensures { Answers (SpecScenario form) bytes.now (K.written sink.old) (K.written sink.new) (K.faults sink.old) (K.faults sink.new) result }
 {
+    if let Ok(scenario) = scenario_reading::read_streamed::<FEW>(alloc, bytes) {
+        return ended(write_form(alloc, &scenario, form, sink));
+    }
     let mut scratch = Scratch::new(alloc);
     match value_of(alloc, bytes, &mut scratch) {
         Ok(value) => {
