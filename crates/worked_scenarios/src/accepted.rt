@@ -6,15 +6,19 @@ use std::io;
 use storm::make;
 use worked_rows::{Several, row};
 
+/// The weights of a version's kinds, each 5.
+fn weights(alloc: Global, version: i64) -> Result<Vec<i64>, AllocError> {
+    if version == 1 {
+        Vec::from_slice(alloc, &[5; 8])
+    } else {
+        Vec::from_slice(alloc, &[5; 16])
+    }
+}
+
 /// So many nodes in five periods, in this version, without channels, tasks and faults.
 fn parts(alloc: Global, version: i64, nodes: i64) -> Result<Parts, AllocError> {
-    let weights = if version == 1 {
-        Vec::from_slice(alloc, &[5; 8])?
-    } else {
-        Vec::from_slice(alloc, &[5; 16])?
-    };
     let policy = PolicyPart {
-        weights,
+        weights: weights(alloc, version)?,
         exclude: 20,
         readmit: 4,
         credit: 1,
@@ -62,15 +66,16 @@ fn sensor(alloc: Global) -> Result<ChannelPart, AllocError> {
     })
 }
 
-/// What is made of parts with room for 8 nodes.
-fn in_eight(alloc: Global, parts: Parts) -> Result<Scenario<8>, ScenarioError> {
-    Scenario::from_parts(alloc, parts)
+/// The periods of what is made of parts with room for 8 nodes.
+fn periods_of(alloc: Global, parts: Parts) -> Result<u32, ScenarioError> {
+    let scenario: Scenario<8> = Scenario::from_parts(alloc, parts)?;
+    Ok(scenario.periods())
 }
 
 /// Prints why these parts are refused with room for 8 nodes, if they are.
 fn tell(rt: &HostRuntime, asked: &str, parts: Parts) -> io::Result<()> {
-    match in_eight(rt.alloc(), parts) {
-        Ok(scenario) => row(rt, asked, scenario.periods()),
+    match periods_of(rt.alloc(), parts) {
+        Ok(periods) => row(rt, asked, periods),
         Err(error) => println!(rt; "{asked}: {error}"),
     }
 }
@@ -92,38 +97,50 @@ fn show(rt: &HostRuntime, scenario: &Scenario<8>) -> io::Result<()> {
     row(rt, "and in period 3 reads", inputs.reading[0])
 }
 
+/// The only one of a list.
+fn only<T: Drop>(alloc: Global, item: T) -> Result<Vec<T>, AllocError> {
+    let mut list = Vec::new(alloc);
+    list.push(item)?;
+    Ok(list)
+}
+
+/// Three nodes with a task and the sensor that it reads.
+fn with_a_sensor(alloc: Global) -> Result<Parts, AllocError> {
+    let tasks = only(alloc, task(alloc)?)?;
+    let channels = only(alloc, sensor(alloc)?)?;
+    let mut parts = parts(alloc, 1, 3)?;
+    parts.channels = channels;
+    parts.tasks = tasks;
+    Ok(parts)
+}
+
 fn of_parts(rt: &HostRuntime) -> anyhow::Result<()> {
-    let mut parts = parts(rt.alloc(), 1, 3)?;
-    parts.tasks.push(task(rt.alloc())?)?;
-    parts.channels.push(sensor(rt.alloc())?)?;
-    match in_eight(rt.alloc(), parts) {
+    let parts = with_a_sensor(rt.alloc())?;
+    let made: Result<Scenario<8>, ScenarioError> = Scenario::from_parts(rt.alloc(), parts);
+    match made {
         Ok(scenario) => show(rt, &scenario)?,
         Err(error) => println!(rt; "{error}")?,
     }
     Ok(())
 }
 
+/// How many nodes those have that are made of parts with room for 16.
+fn nodes_of(alloc: Global, parts: Parts) -> Result<u8, ScenarioError> {
+    let scenario: Scenario<16> = Scenario::from_parts(alloc, parts)?;
+    Ok(scenario.config().nodes)
+}
+
 /// What nine nodes are answered with room for 16.
 fn nine_in_sixteen(rt: &HostRuntime) -> anyhow::Result<()> {
-    let made: Result<Scenario<16>, ScenarioError> = Scenario::from_parts(
-        rt.alloc(),
-        parts(rt.alloc(), 2, 9)?,
-    );
-    match made {
-        Ok(scenario) => row(
-            rt,
-            "nine nodes with room for 16: nodes",
-            scenario.config().nodes,
-        )?,
+    let parts = parts(rt.alloc(), 2, 9)?;
+    match nodes_of(rt.alloc(), parts) {
+        Ok(nodes) => row(rt, "nine nodes with room for 16: nodes", nodes)?,
         Err(error) => println!(rt; "{error}")?,
     }
     Ok(())
 }
 
-fn of_storm(rt: &HostRuntime) -> anyhow::Result<()> {
-    let Ok(storm) = make(rt.alloc(), 7) else {
-        return Err(AllocError.into());
-    };
+fn show_storm(rt: &HostRuntime, storm: &Scenario<8>) -> io::Result<()> {
     let config = storm.config();
     row(
         rt,
@@ -135,7 +152,14 @@ fn of_storm(rt: &HostRuntime) -> anyhow::Result<()> {
         rt,
         "its restarts, one in each of 64 blocks",
         storm.plan().restart_count(),
-    )?;
+    )
+}
+
+fn of_storm(rt: &HostRuntime) -> anyhow::Result<()> {
+    let Ok(storm) = make(rt.alloc(), 7) else {
+        return Err(AllocError.into());
+    };
+    show_storm(rt, &storm)?;
     Ok(())
 }
 

@@ -1,5 +1,6 @@
 //! Scenarios that a rule refuses, which are read from JSON text: the rule and the place.
 
+use scenario::ScenarioError;
 use scenario_reading::read;
 use std::alloc::{AllocError, Global};
 
@@ -127,15 +128,18 @@ fn joined(alloc: Global, begin: &str, rest: &str) -> Result<Vec<u8>, AllocError>
     Ok(bytes)
 }
 
+/// How many nodes the scenario of a text has.
+fn nodes_of(alloc: Global, bytes: &[u8]) -> Result<u8, ScenarioError> {
+    let scenario = read::<8>(alloc, bytes)?;
+    Ok(scenario.config().nodes)
+}
+
 /// Prints what is answered to each of these behind such a begin.
 fn tell(rt: &HostRuntime, begin: &str, rests: &[Rest]) -> anyhow::Result<()> {
     for (asked, rest) in rests {
         let bytes = joined(rt.alloc(), begin, rest)?;
-        match read::<8>(rt.alloc(), bytes.as_slice()) {
-            Ok(scenario) => {
-                let nodes = scenario.config().nodes;
-                println!(rt; "{asked}: a scenario of {nodes} nodes")?;
-            }
+        match nodes_of(rt.alloc(), bytes.as_slice()) {
+            Ok(nodes) => println!(rt; "{asked}: a scenario of {nodes} nodes")?,
             Err(error) => println!(rt; "{asked}: {error}")?,
         }
     }
