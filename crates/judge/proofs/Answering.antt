@@ -1,21 +1,17 @@
 -- What a call for a command does, by what its parts do.
-use Rattle.std.proofs.Common.{◌≡◌, ℕ, ◌+◌, ◌≤◌, List, [], ◌∷◌, ◌++◌, length, length-append, append_assoc, append-nil, arith, refl, sym, ap, ◌∙◌, subst, inl, inr, Option, None, Some, Ok}
-use Rattle.span_io.specs.Causes.{Rose}
-use Rattle.run_text.specs.PeriodText.{refused_text}
-use Rattle.input_lines.specs.Lines.{line_feed, IsUnbroken}
-use Rattle.input_lines.specs.FirstLine.{first_line, first_of, first_is_all, long_first}
-use Rattle.input_lines.specs.Reading.{LinesView, SourceView, GivesBytes, ReadsLine}
-use Rattle.input_lines.specs.Devices.{Devices, SinkView, IsInput, told_left, input_is, nothing_left, WritesAll, WritesFront, WritesSome, wrote_nothing, all_all, all_front}
-use Rattle.input_lines.specs.declared.lines.LineError.{LineError}
-use Rattle.input_lines.specs.declared.lines.LineError.TheVariants as lines
+use Rattle.std.proofs.Common.{◌≡◌, ℕ, List, [], ◌++◌, length-append, append-nil, arith, refl, sym, ap, ◌∙◌, subst, inl, inr, Option, None, Some, Ok}
+use Rattle.input_lines.specs.Lines.{IsUnbroken}
+use Rattle.input_lines.specs.FirstLine.{first_line}
+use Rattle.input_lines.specs.Reading.{LinesView, SourceView}
+use Rattle.input_lines.specs.Devices.{Devices, SinkView, IsInput, told_left, input_is, WritesAll, WritesFront, wrote_nothing, all_all, all_front}
 use Rattle.judge_text.specs.Rows.{header_text}
 use Rattle.drawn_scenarios.specs.Drawn.{drawn_parts}
 use Rattle.drawn_scenarios.specs.declared.choices.Choices.{Choices}
-use Rattle.judge.specs.Rows.{limit, AreFrontRows, all_lines, all_drawn_rows}
-use Rattle.judge.specs.Session.{Stand, Runs, stand}
+use Rattle.judge.specs.Rows.{all_lines, all_drawn_rows}
+use Rattle.judge.specs.Session.{Runs, stand}
 use Rattle.judge.specs.declared.lines.Session.{Session}
 use Rattle.judge.specs.declared.bench.Bench.{Bench}
-use Rattle.judge.specs.Options.{HasOptions, HasNoOptions, IsFaultless, IsShown, StopsAtOptions, ReadsOptions, DrawsRows}
+use Rattle.judge.specs.Options.{HasOptions, HasNoOptions, IsShown, StopsAtOptions, ReadsOptions, DrawsRows}
 use Rattle.drawn_scenarios.specs.declared.options.Options.{Options}
 use Rattle.judge.specs.Answers.{header, OptionsEnd, IsOutcome, IsUpToDate, Does}
 use Rattle.judge.specs.declared.words.Command.{Command}

@@ -1,6 +1,6 @@
 -- The words of a call.
-use Rattle.std.proofs.Common.{◌≡◌, ℕ, ◌<◌, List, [], ◌∷◌, length, get_or, ap, ap₂, arith, refl, sym, ◌∙◌, Bool, true, false}
-use Rattle.std.specs.Prelude.{String, string_bytes, codes, decimal}
+use Rattle.std.proofs.Common.{◌≡◌, ℕ, List, [], ◌∷◌, length, get_or, ap, ap₂, arith, refl, sym, ◌∙◌, Bool, true, false}
+use Rattle.std.specs.Prelude.{String, string_bytes}
 use Rattle.std.specs.declared.alloc.Global.{Global}
 use Rattle.judge.specs.Words.{texts, words_of}
 use Rattle.judge.specs.declared.words.Command.{Command}

@@ -1,5 +1,5 @@
 -- Scenarios that are drawn one after another.
-use Rattle.std.proofs.Common.{◌≡◌, ℕ, zero, suc, ◌+◌, ◌<◌, ◌≤◌, List, [], ◌++◌, append_assoc, append-nil, arith, sym, ap, ◌∙◌, subst, Ok, Err}
+use Rattle.std.proofs.Common.{◌≡◌, ℕ, zero, suc, ◌+◌, ◌<◌, ◌++◌, append_assoc, append-nil, arith, sym, ap, ◌∙◌, subst, Ok, Err}
 use Rattle.drawn_scenarios.specs.declared.choices.Choices.{Choices}
 use Rattle.input_lines.specs.Devices.{SinkView, WritesAll, WritesFront, all_all, all_front}
 use Rattle.judge.specs.Rows.{drawn_rows, all_drawn_rows}

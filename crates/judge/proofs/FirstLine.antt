@@ -2,17 +2,16 @@
 use Rattle.std.proofs.Common.{◌≡◌, ℕ, ◌≤◌, Bool, true, false, List, [], ◌∷◌, ◌++◌, length, append_assoc, append-nil, arith, refl, sym, ap, ◌∙◌, subst, Result, Ok, Err}
 use Rattle.run_text.specs.PeriodText.{refused_text}
 use Rattle.drawn_scenarios.specs.declared.options.Options.{Options}
-use Rattle.drawn_scenarios.specs.declared.choices.Choices.{Choices}
 use Rattle.option_reading.specs.Verdict.{IsUnreadable, IsRefusedText}
 use Rattle.input_lines.specs.Lines.{line_feed, IsUnbroken}
 use Rattle.input_lines.specs.FirstLine.{first_line, first_of, first_is_all, long_first}
 use Rattle.input_lines.specs.Reading.{LinesView, SourceView, IsLong, ReadsLine}
-use Rattle.input_lines.specs.Devices.{Devices, SinkView, IsInput, told_left, input_is, nothing_left}
+use Rattle.input_lines.specs.Devices.{SinkView, IsInput, told_left, input_is, nothing_left}
 use Rattle.input_lines.specs.declared.lines.LineError.{LineError}
 use Rattle.input_lines.specs.declared.lines.LineError.TheVariants as lines
 use Rattle.judge.specs.Rows.{limit}
 use Rattle.judge.specs.Session.{line_status}
-use Rattle.judge.specs.Options.{HasOptions, StopsAtLine, TellsOptions, StopsAtOptions, ReadsOptions}
+use Rattle.judge.specs.Options.{HasOptions, TellsOptions, StopsAtOptions, ReadsOptions}
 use Rattle.judge.specs.declared.status.Status.{Status}
 use Rattle.judge.specs.declared.status.Status.TheVariants.{Done, Usage, Unreadable, Refused, ReadFault, WriteFault, NoMemory, TooLong}
 

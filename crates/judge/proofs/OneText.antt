@@ -3,7 +3,6 @@ use Rattle.std.proofs.Common.{◌≡◌, ℕ, List, [], ◌∷◌, ◌++◌, sym
 use Rattle.serde_json.specs.Data.{Data}
 use Rattle.json_parts.specs.Reading.{Reads}
 use Rattle.scenario.specs.Parts.{ScenarioParts}
-use Rattle.scenario.specs.Rules.{refusal}
 use Rattle.scenario.specs.Scenario.{ScenarioView}
 use Rattle.scenario.specs.Given.{scenario_of}
 use Rattle.scenario_reading.specs.Verdict.{IsAcceptedValue, value_refusal, refusal_on}

@@ -16,7 +16,7 @@ use Rattle.json_parts.specs.Reading.{Reads}
 use Rattle.scenario.specs.Scenario.{ScenarioView}
 use Rattle.scenario_reading.specs.Verdict.{IsAcceptedValue, value_refusal}
 use Rattle.input_lines.specs.Devices.{SinkView, sink_seen}
-use Rattle.judge.specs.Rows.{scenario_rows, has_few_nodes, room_for, room_of, drawn_rows, HasRows, IsRowsOf}
+use Rattle.judge.specs.Rows.{scenario_rows, has_few_nodes, room_for, drawn_rows, HasRows, IsRowsOf}
 use Rattle.judge.specs.Rows.HasRows.{Accepted, Refused}
 use Rattle.judge.specs.Rows.IsRowsOf.{Read}
 use Rattle.judge.specs.Writing.{written, WritesRows}

@@ -1,4 +1,4 @@
-use Rattle.std.proofs.Common.{◌≡◌, List, ℕ, ap, ◌∙◌}
+use Rattle.std.proofs.Common.{ap, ◌∙◌}
 use Rattle.scenario.specs.Scenario.{ScenarioView}
 use Rattle.input_lines.specs.Devices.{sink_seen}
 use Rattle.judge.specs.Rows.{scenario_rows}

@@ -1,4 +1,4 @@
-use Rattle.std.proofs.Common.{◌≡◌, ℕ, ◌+◌, ◌≤◌, arith, ap, sym, ◌∙◌, subst}
+use Rattle.std.proofs.Common.{◌+◌, arith, sym, subst}
 use Rattle.input_lines.specs.Devices.{sink_seen, wrote_nothing}
 use Rattle.judge.specs.Options.{DrawsRows}
 use Rattle.judge.specs.declared.status.Status.{Status}

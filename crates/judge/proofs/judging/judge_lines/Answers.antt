@@ -1,8 +1,7 @@
-use Rattle.std.proofs.Common.{ap, subst, List, ℕ, []}
+use Rattle.std.proofs.Common.{ap, subst}
 use Rattle.input_lines.specs.Reading.{LinesView}
 use Rattle.input_lines.specs.Devices.{sink_seen, source_seen}
-use Rattle.judge.specs.Session.{Stand, Runs, stand}
-use Rattle.judge.specs.declared.lines.Session.{Session}
+use Rattle.judge.specs.Session.{Stand, Runs}
 use Rattle.judge.proofs.Answering.{header_whole, header_front, lines_without_header, lines_done, first_from}
 use Rattle.judge.proofs.judging.judge_lines.Goals as goal
 

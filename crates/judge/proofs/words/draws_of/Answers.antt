@@ -1,4 +1,4 @@
-use Rattle.std.proofs.Common.{◌≡◌, ◌<◌, ◌≤◌, ◌+◌, ◌^◌, ◌∷◌, [], arith, refl, sym, ◌∙◌}
+use Rattle.std.proofs.Common.{◌<◌, ◌^◌, ◌∷◌, [], arith, refl, sym, ◌∙◌}
 use Rattle.std.specs.Prelude.{codes, decimal, string_bytes}
 use Rattle.std.proofs.lemmas.Fmt.{decimal_injective}
 use Rattle.std.proofs.lemmas.Bool.Decides.{Decides-eqb}

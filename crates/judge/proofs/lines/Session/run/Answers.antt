@@ -1,4 +1,4 @@
-use Rattle.std.proofs.Common.{◌≡◌, ℕ, ◌+◌, ◌-◌, ◌^◌, ◌≤◌, Bool, true, false, List, [], ◌++◌, length, arith, ap, sym, ◌∙◌, subst, length-append, Ok}
+use Rattle.std.proofs.Common.{◌≡◌, ℕ, ◌+◌, ◌≤◌, Bool, true, false, List, [], ◌++◌, length, arith, subst, length-append, Ok}
 use Rattle.input_lines.specs.Reading.{SourceView, GivesBytes}
 use Rattle.input_lines.specs.Devices.{SinkView, sink_seen, source_seen, WritesAll, gave_nothing, gave_both, gave_no_more, wrote_nothing, all_all}
 use Rattle.judge.specs.Session.{Stand, stand, CaughtUp, Rounds, Concludes, Runs, with_more}

@@ -1,4 +1,4 @@
-use Rattle.std.proofs.Common.{◌≡◌, ℕ, ◌≤◌, Bool, true, List, [], ◌∷◌, ◌++◌, length, arith, sym, ap, ◌∙◌, subst, Ok}
+use Rattle.std.proofs.Common.{◌≡◌, ◌≤◌, Bool, true, [], ◌∷◌, ◌++◌, length, arith, sym, ap, ◌∙◌, subst, Ok}
 use Rattle.input_lines.specs.Lines.{line_feed, IsUnbroken}
 use Rattle.input_lines.specs.Reading.{LinesView, TakesLine, Takes}
 use Rattle.input_lines.specs.Devices.{sink_seen, wrote_nothing, all_all}
