@@ -3,6 +3,7 @@
 ghost use Rattle.std.specs.Prelude.{◌≡◌, ◌+◌, ◌<◌, IfOk};
 ghost use Rattle.std.specs.Borrow.{sem};
 ghost use Rattle.node_grid.specs.Capacity.{IsCapacity};
+ghost use Rattle.agreed_state.specs.Config.{IsConfig};
 ghost use Rattle.shown_period.specs.Outcomes.{HasBeliefs};
 ghost use Rattle.shown_period.specs.Whole.{AreMade};
 ghost use Rattle.at_once.specs.Kept.{AreBegun, AreKept};
@@ -12,6 +13,7 @@ ghost use Rattle.at_once.specs.Run.{ShowsPeriod, FitsScenario};
 use crate::keeping::Keeping;
 use crate::period::Period;
 use crate::values::find_rows;
+use agreed_state::Config;
 use item_phase::ItemPhase;
 use node_grid::{NO_CLAIM, NoMemory, Row};
 use scenario::Scenario;
@@ -44,6 +46,26 @@ impl<'s, const N: usize> Model for Run<'s, N> {
         r.rows.settling r.shown };
 }
 
+/// Room for the phases of claims, and for those of rows.
+fn phases<const N: usize>(
+    alloc: Global,
+    config: &Config<N>,
+) -> Result<(ItemPhase<u8, N>, ItemPhase<Row<N>, N>), NoMemory>
+    requires capacity { IsCapacity N }
+    requires config { IsConfig N config.now }
+    ensures { IfOk result (λ p. (p.0.settling ≡ record {
+      nodes = config.now.nodes;
+      rounds = config.now.m;
+    }) × (p.1.settling ≡ record {
+      nodes = config.now.nodes;
+      rounds = config.now.m;
+    })) }
+{
+    let claims = ItemPhase::open(alloc, config.nodes, config.m, NO_CLAIM)?;
+    let rows = ItemPhase::open(alloc, config.nodes, config.m, Row::zero())?;
+    Ok((claims, rows))
+}
+
 impl<'s, const N: usize> Run<'s, N> {
     ghost use Rattle.at_once.specs.Lending.{RunsOn};
 
@@ -58,9 +80,8 @@ impl<'s, const N: usize> Run<'s, N> {
     {
         let config = scenario.config();
         let keeping = Keeping::open(alloc, config)?;
-        let claims = ItemPhase::open(alloc, config.nodes, config.m, NO_CLAIM)?;
-        let rows = ItemPhase::open(alloc, config.nodes, config.m, Row::zero())?;
         let shown = Shown::open(alloc, scenario)?;
+        let (claims, rows) = phases(alloc, config)?;
         Ok(Run {
             scenario,
             run: 0,

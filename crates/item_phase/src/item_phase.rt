@@ -60,8 +60,6 @@ impl<V: Item<N>, const N: usize> ItemPhase<V, N> {
         requires rounds { rounds ≤ 3 }
         ensures { IfOk result (λ s. s.settling ≡ record { nodes = nodes; rounds = rounds }) }
     {
-        let links = Links::open(alloc, blank)?;
-        let settling = Settling::open(alloc, nodes, rounds)?;
         let Ok(row) = blanks(alloc, N) else {
             return Err(NoMemory);
         };
@@ -71,6 +69,8 @@ impl<V: Item<N>, const N: usize> ItemPhase<V, N> {
         let Ok(work) = blanks(alloc, TERMS) else {
             return Err(NoMemory);
         };
+        let settling = Settling::open(alloc, nodes, rounds)?;
+        let links = Links::open(alloc, blank)?;
         Ok(ItemPhase {
             links,
             settling,

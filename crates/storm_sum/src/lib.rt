@@ -2,8 +2,10 @@
 #![tactic(auto)]
 
 ghost use Rattle.std.specs.Prelude.{◌≡◌, IfOk};
+ghost use Rattle.scenario.specs.Scenario.{system_of};
 ghost use Rattle.storm_sum.specs.Laws.{storm_summary, IsStormSummary};
 ghost use Rattle.storm_sum.specs.Summary.{summary_of};
+ghost use Rattle.storm_sum.specs.Summing.{AreSums};
 
 pub mod laws;
 mod sums;
@@ -16,20 +18,23 @@ use scenario::Scenario;
 use std::alloc::Global;
 
 /// Runs a scenario, and sums up its periods.
+fn sum_up(alloc: Global, scenario: &Scenario<8>) -> Result<Sums, NoMemory>
+    ensures { IfOk result (λ s. AreSums (system_of scenario.now) scenario.now.periods s) }
+{
+    let mut run = Run::open(alloc, scenario)?;
+    Ok(Sums::of_first(&mut run, scenario.periods()))
+}
+
+/// Runs a scenario, and tells what its periods sum up to.
 fn run(alloc: Global, scenario: &Scenario<8>, seed: u64) -> Result<StormSum<8>, NoMemory>
     ensures { IfOk result (λ s. s ≡ summary_of seed scenario.now) }
 {
-    let mut run = Run::open(alloc, scenario)?;
-    let mut sums = Sums::none();
-    let periods = scenario.periods();
-    for _period in 0..periods {
-        sums.add_next(&mut run);
-    }
+    let sums = sum_up(alloc, scenario)?;
     let plan = scenario.plan();
     let config = scenario.config();
     Ok(StormSum {
         seed,
-        periods,
+        periods: scenario.periods(),
         claimed: sums.claimed,
         lines: plan.line_count(),
         restarts: plan.restart_count(),

@@ -121,4 +121,19 @@ impl Sums {
         let shown = run.period();
         self.add(shown);
     }
+
+    /// The sums over the first so many periods of a run that wasn't begun.
+    pub fn of_first(run: &mut Run<'_, 8>, periods: u32) -> Sums
+        requires first { run.old.run ≡ 0 }
+        requires within { periods ≤ run.old.scenario.periods }
+        requires few { periods ≤ 1024 }
+        requires nodes { run.old.scenario.config.nodes ≤ 8 }
+        ensures { AreSums (system_of run.old.scenario) periods result }
+    {
+        let mut sums = Sums::none();
+        for _period in 0..periods {
+            sums.add_next(run);
+        }
+        sums
+    }
 }

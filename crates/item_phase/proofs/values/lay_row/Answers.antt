@@ -1,7 +1,8 @@
-use Rattle.std.proofs.Common.{ℕ, ◌≢◌, ◌<◌, ◌≤◌, ◌+◌, ◌⊎◌, length, get_or, ap, ◌∙◌, inl, inr, arith}
+use Rattle.std.proofs.Common.{ℕ, ◌≢◌, ◌<◌, ◌≤◌, ◌+◌, ◌⊎◌, List, length, get_or, sym, ap, ◌∙◌, inl, inr, arith}
 use Rattle.std.proofs.lemmas.List.{length-set, get_or-set_other}
+use Rattle.node_grid.specs.NodeSet.{has_id}
 use Rattle.omh_paths.specs.declared.wrapped.Wrapped.TheVariants.{Fault}
-use Rattle.odd_relays.proofs.Laying.{low_of, split_more}
+use Rattle.odd_relays.proofs.Laying.{low_of, split_more, split_all}
 use Rattle.odd_relays.proofs.Places.{laid_at, values_apart}
 use Rattle.item_phase.proofs.values.lay_row.Goals as goal
 
@@ -35,3 +36,15 @@ loop-i-preserved g c =
       laid = laid_at (Fault 0) (λ (k : ℕ). from + k) (values_apart from) (λ k. get_or c.args.row.now k (Fault 0)) c.loop-i.yielded q c.loop-i.values c.set_value.new.values c.value_at-value.result i.laid (omega (arith, l, i.long, c.requires.room)) c.set_value.ensures c.value_at-value.ensures;
       kept = λ k out. ap (λ xs. get_or xs k (Fault 0)) c.set_value.ensures ∙ get_or-set_other c.loop-i.values (from + q) k c.value_at-value.result (Fault 0) (away from g.row.N k q l out) ∙ i.kept k out;
     }
+
+pub returns-clause-laid : goal.returns-clause-laid
+returns-clause-laid g c = λ k on.
+    let i = c.loop-i.invariant in
+    let all = split_all c.args.nodes.now c.loop-i.yielded c.loop-i.i-iterator i.split c.in-None.ensures.steps.0 in
+    i.laid k (ap (λ (s : List ℕ). has_id s k) (sym all) ∙ on)
+
+pub returns-clause-kept : goal.returns-clause-kept
+returns-clause-kept g c = c.loop-i.invariant.kept
+
+pub returns-clause-room : goal.returns-clause-room
+returns-clause-room g c = c.loop-i.invariant.long

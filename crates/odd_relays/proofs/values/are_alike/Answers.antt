@@ -1,6 +1,7 @@
-use Rattle.std.proofs.Common.{ℕ, ◌≡◌, slice_index_or, arith}
+use Rattle.std.proofs.Common.{ℕ, ◌≡◌, slice_index_or, arith, List, sym, ap, ◌∙◌}
 use Rattle.omh_paths.specs.declared.wrapped.Wrapped.TheVariants.{Fault}
-use Rattle.odd_relays.proofs.Laying.{low_of, split_more, each_more}
+use Rattle.node_grid.specs.NodeSet.{has_id}
+use Rattle.odd_relays.proofs.Laying.{low_of, split_more, each_more, split_all}
 use Rattle.odd_relays.proofs.values.are_alike.Goals as goal
 
 pub is_same-requires-clause-first : goal.is_same-requires-clause-first
@@ -17,3 +18,9 @@ loop-k-preserved g c =
       split = split_more c.args.nodes.now c.loop-k.yielded c.next.new.self c.loop-k.k-iterator c.in-Some.k i.split c.in-Some.ensures.steps;
       same = each_more (λ (k : ℕ). slice_index_or c.args.values.now k (Fault 0) ≡ slice_index_or c.args.values.now c.args.first (Fault 0)) c.loop-k.yielded c.in-Some.k i.same (c.is_same.ensures c.if-not-is_same.false);
     }
+
+pub returns : goal.returns
+returns g c = λ yes k on.
+    let i = c.loop-k.invariant in
+    let all = split_all c.args.nodes.now c.loop-k.yielded c.loop-k.k-iterator i.split c.in-None.ensures.steps.0 in
+    i.same k (ap (λ (s : List ℕ). has_id s k) (sym all) ∙ on)

@@ -1,7 +1,8 @@
-use Rattle.std.proofs.Common.{ℕ, length, slice_index_or, ap, ◌∙◌, arith}
+use Rattle.std.proofs.Common.{ℕ, length, slice_index_or, ap, ◌∙◌, arith, List, sym}
 use Rattle.std.proofs.lemmas.List.{length-set}
 use Rattle.omh_paths.specs.declared.wrapped.Wrapped.TheVariants.{Fault}
-use Rattle.odd_relays.proofs.Laying.{low_of, next_on, split_more, laid_each}
+use Rattle.node_grid.specs.NodeSet.{has_id}
+use Rattle.odd_relays.proofs.Laying.{low_of, next_on, split_more, laid_each, split_all}
 use Rattle.odd_relays.proofs.values.copy_led.Goals as goal
 
 pub bounds-leader_of-i : goal.bounds-leader_of-i
@@ -33,3 +34,12 @@ loop-i-preserved g c =
       laid = laid_each (λ k. slice_index_or c.args.values.now (slice_index_or c.args.leader_of.now k 0) (Fault 0)) c.loop-i.yielded q c.loop-i.all c.set_value.new.values c.value_at-value.result (Fault 0)
           i.laid (omega (arith, l, i.places)) c.set_value.ensures c.value_at-value.ensures;
     }
+
+pub returns-clause-laid : goal.returns-clause-laid
+returns-clause-laid g c = λ k on.
+    let i = c.loop-i.invariant in
+    let all = split_all c.args.nodes.now c.loop-i.yielded c.loop-i.i-iterator i.split c.in-None.ensures.steps.0 in
+    i.laid k (ap (λ (s : List ℕ). has_id s k) (sym all) ∙ on)
+
+pub returns-clause-places : goal.returns-clause-places
+returns-clause-places g c = c.loop-i.invariant.places

@@ -1,7 +1,8 @@
-use Rattle.std.proofs.Common.{length, refl, ap, ◌∙◌, arith}
+use Rattle.std.proofs.Common.{length, refl, ap, ◌∙◌, arith, ℕ, List, sym}
 use Rattle.std.proofs.lemmas.List.{length-set}
 use Rattle.omh_paths.specs.declared.wrapped.Wrapped.TheVariants.{Fault}
-use Rattle.odd_relays.proofs.Laying.{low_of, split_more, laid_each}
+use Rattle.node_grid.specs.NodeSet.{has_id}
+use Rattle.odd_relays.proofs.Laying.{low_of, split_more, laid_each, split_all}
 use Rattle.odd_relays.proofs.values.fill.Goals as goal
 
 pub set_value-requires : goal.set_value-requires
@@ -20,3 +21,12 @@ loop-i-preserved g c =
       places = ap length c.set_value.ensures ∙ length-set c.loop-i.values c.in-Some.i c.args.value ∙ i.places;
       laid = laid_each (λ k. c.args.value) c.loop-i.yielded c.in-Some.i c.loop-i.values c.set_value.new.values c.args.value (Fault 0) i.laid (omega (arith, l, i.places)) c.set_value.ensures refl;
     }
+
+pub returns-clause-laid : goal.returns-clause-laid
+returns-clause-laid g c = λ k on.
+    let i = c.loop-i.invariant in
+    let all = split_all c.args.nodes.now c.loop-i.yielded c.loop-i.i-iterator i.split c.in-None.ensures.steps.0 in
+    i.laid k (ap (λ (s : List ℕ). has_id s k) (sym all) ∙ on)
+
+pub returns-clause-places : goal.returns-clause-places
+returns-clause-places g c = c.loop-i.invariant.places

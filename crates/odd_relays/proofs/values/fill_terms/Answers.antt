@@ -1,8 +1,10 @@
-use Rattle.std.proofs.Common.{ℕ, ◌+◌, ◌*◌, ◌<◌, length, refl, ap, ◌∙◌, arith}
+use Rattle.std.proofs.Common.{ℕ, ◌+◌, ◌*◌, ◌<◌, length, refl, ap, ◌∙◌, arith, List, sym, subst}
 use Rattle.std.proofs.lemmas.List.{length-set}
 use Rattle.node_grid.specs.CapacityLaws.{capacity-le}
 use Rattle.omh_paths.specs.declared.wrapped.Wrapped.TheVariants.{Fault}
-use Rattle.odd_relays.proofs.Laying.{low_of, split_more}
+use Rattle.node_grid.specs.NodeSet.{has_id}
+use Rattle.odd_relays.specs.Work.{KeepsOthers}
+use Rattle.odd_relays.proofs.Laying.{low_of, split_more, split_all}
 use Rattle.odd_relays.proofs.Places.{laid_at, terms_apart, kept_at}
 use Rattle.odd_relays.proofs.values.fill_terms.Goals as goal
 
@@ -28,3 +30,18 @@ loop-i-preserved g c =
       laid = laid_at (Fault 0) place apart (λ k. c.args.value) c.loop-i.yielded q c.loop-i.work c.set_value.new.values c.args.value i.laid fits c.set_value.ensures refl;
       kept = kept_at (Fault 0) place apart c.loop-i.yielded q c.args.work.now c.loop-i.work c.set_value.new.values c.args.value i.kept c.set_value.ensures;
     }
+
+pub returns-clause-laid : goal.returns-clause-laid
+returns-clause-laid g c = λ k on.
+    let i = c.loop-i.invariant in
+    let all = split_all c.args.nodes.now c.loop-i.yielded c.loop-i.i-iterator i.split c.in-None.ensures.steps.0 in
+    i.laid k (ap (λ (s : List ℕ). has_id s k) (sym all) ∙ on)
+
+pub returns-clause-kept : goal.returns-clause-kept
+returns-clause-kept g c =
+    let i = c.loop-i.invariant in
+    let all = split_all c.args.nodes.now c.loop-i.yielded c.loop-i.i-iterator i.split c.in-None.ensures.steps.0 in
+    subst (λ (s : List ℕ). KeepsOthers s c.args.at c.args.work.now c.loop-i.work) (sym all) i.kept
+
+pub returns-clause-room : goal.returns-clause-room
+returns-clause-room g c = c.loop-i.invariant.long

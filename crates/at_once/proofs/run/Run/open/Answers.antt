@@ -2,7 +2,6 @@ use Rattle.std.proofs.Common.{ℕ, ◌≡◌, sym, ap, subst, ◌∙◌, inl, in
 use Rattle.settled_paths.specs.Rooms.{Room}
 use Rattle.agreed_state.specs.declared.config.Config.{Config}
 use Rattle.agreed_state.specs.Config.{IsConfig}
-use Rattle.agreed_state.specs.ConfigLaws.{few_rounds}
 use Rattle.at_once.specs.Kept.{IsBlank}
 use Rattle.at_once.proofs.Openings.{kept_first}
 use Rattle.at_once.proofs.run.Run.open.Goals as goal
@@ -24,8 +23,8 @@ invariant_of-result g c =
       kept = kept_first sc ok c.in_ok-keeping.keeping blank c.in_ok-shown.shown.made.states c.in_ok-shown.ensures.states;
       beliefs = c.in_ok-shown.ensures.beliefs;
       before = c.in_ok-shown.ensures.before;
-      claims_room = c.in_ok-claims.ensures ∙ room;
-      rows_room = c.in_ok-rows.ensures ∙ room;
+      claims_room = c.in_ok-claims.ensures.0 ∙ room;
+      rows_room = c.in_ok-claims.ensures.1 ∙ room;
       last = λ q e. absurd (omega (arith, e));
     }
 
@@ -39,29 +38,25 @@ open-requires g c = (
 )
 
 pub open-requires-2 : goal.open-requires-2
-open-requires-2 g c =
-    let ok : IsConfig g.row.N c.config-config.result.now =
-    subst (λ (x : Config g.row.N). IsConfig g.row.N x) (sym c.config-config.ensures.config) c.config-config.ensures.scenario.system.config in (
-      elim c.requires [ inl e ↦ rw e (lit< tt) | inr e ↦ rw e (lit< tt) ],
-      (c.requires, (ok.few_nodes, few_rounds g.row.N c.config-config.result.now ok)),
-    )
-
-pub open-requires-3 : goal.open-requires-3
-open-requires-3 g c =
-    let ok : IsConfig g.row.N c.config-config.result.now =
-    subst (λ (x : Config g.row.N). IsConfig g.row.N x) (sym c.config-config.ensures.config) c.config-config.ensures.scenario.system.config in (
-      elim c.requires [ inl e ↦ rw e (lit< tt) | inr e ↦ rw e (lit< tt) ],
-      (c.requires, (ok.few_nodes, few_rounds g.row.N c.config-config.result.now ok)),
-    )
-
-pub zero-requires : goal.zero-requires
-zero-requires g c = (elim c.requires [ inl e ↦ rw e (lit< tt) | inr e ↦ rw e (lit< tt) ], c.requires)
-
-pub open-requires-4 : goal.open-requires-4
-open-requires-4 g c = (
+open-requires-2 g c = (
   elim c.requires [ inl e ↦ rw e (lit< tt) | inr e ↦ rw e (lit< tt) ],
   (
     elim c.requires [ inl e ↦ rw e (lit< tt) | inr e ↦ rw e (lit< tt) ],
     c.requires,
+  ),
+)
+
+pub phases-requires : goal.phases-requires
+phases-requires g c = (
+  elim c.requires [ inl e ↦ rw e (lit< tt) | inr e ↦ rw e (lit< tt) ],
+  (
+    elim c.requires [ inl e ↦ rw e (lit< tt) | inr e ↦ rw e (lit< tt) ],
+    (
+      elim c.requires [ inl e ↦ rw e (lit< tt) | inr e ↦ rw e (lit< tt) ],
+      (
+        elim c.requires [ inl e ↦ rw e (lit< tt) | inr e ↦ rw e (lit< tt) ],
+        (c.requires, subst (λ (x : Config g.row.N). IsConfig g.row.N x) (sym c.config-config.ensures.config) c.config-config.ensures.scenario.system.config),
+      ),
+    ),
   ),
 )

@@ -1,10 +1,11 @@
-use Rattle.std.proofs.Common.{ℕ, ◌+◌, ◌<◌, length, ap, ◌∙◌, arith}
+use Rattle.std.proofs.Common.{ℕ, ◌+◌, ◌<◌, length, ap, ◌∙◌, arith, List, sym}
 use Rattle.std.proofs.lemmas.List.{length-set}
 use Rattle.node_grid.specs.CapacityLaws.{capacity-le}
 use Rattle.omh_paths.specs.declared.wrapped.Wrapped.TheVariants.{Fault}
 use Rattle.odd_relays.specs.Telling.{telling}
 use Rattle.odd_relays.specs.Direct.{direct_heard}
-use Rattle.odd_relays.proofs.Laying.{low_of, split_more}
+use Rattle.node_grid.specs.NodeSet.{has_id}
+use Rattle.odd_relays.proofs.Laying.{low_of, split_more, split_all}
 use Rattle.odd_relays.proofs.Places.{laid_at, values_apart, kept_below}
 use Rattle.odd_relays.proofs.item.Item.lay_heard.Goals as goal
 
@@ -37,3 +38,15 @@ loop-i-preserved g c =
           i.laid fits c.set_value.ensures c.heard-heard.ensures.heard;
       kept = kept_below (Fault 0) from (from + q) c.args.work.now c.loop-i.work c.set_value.new.values c.heard-heard.result i.kept (omega arith) c.set_value.ensures;
     }
+
+pub returns-clause-laid : goal.returns-clause-laid
+returns-clause-laid g c = λ k on.
+    let i = c.loop-i.invariant in
+    let all = split_all c.args.receivers.now c.loop-i.yielded c.loop-i.i-iterator i.split c.in-None.ensures.steps.0 in
+    i.laid k (ap (λ (s : List ℕ). has_id s k) (sym all) ∙ on)
+
+pub returns-clause-kept : goal.returns-clause-kept
+returns-clause-kept g c = c.loop-i.invariant.kept
+
+pub returns-clause-room : goal.returns-clause-room
+returns-clause-room g c = c.loop-i.invariant.long

@@ -1,4 +1,4 @@
-use Rattle.std.proofs.Common.{ℕ, ◌≡◌, ◌≢◌, ◌<◌, ◌+◌, length, get_or, sym, ap, ◌∙◌, inl, inr, arith}
+use Rattle.std.proofs.Common.{ℕ, ◌≡◌, ◌≢◌, ◌<◌, ◌+◌, List, length, get_or, sym, ap, ◌∙◌, subst, inl, inr, arith}
 use Rattle.std.specs.Prelude.{if◌then◌else◌}
 use Rattle.std.proofs.lemmas.List.{length_push, length-set}
 use Rattle.node_grid.specs.NodeSet.{has_id}
@@ -8,7 +8,7 @@ use Rattle.omh_paths.specs.Wrapped.{wrapped}
 use Rattle.omh_paths.specs.Paths.{outside}
 use Rattle.omh.specs.Written.{IsSmall}
 use Rattle.settled_paths.specs.Passing.{or_passed}
-use Rattle.settled_paths.proofs.Loops.{next_at, next_short, split_more, laid_next, laid_kept}
+use Rattle.settled_paths.proofs.Loops.{next_at, next_short, split_all, split_more, laid_next, laid_kept}
 use Rattle.settled_paths.proofs.exchange.Exchange.lay_behind.Goals as goal
 
 pub loop-q-preserved : goal.loop-q-preserved
@@ -37,3 +37,21 @@ loop-q-preserved g c =
           let other : k ≢ c.loop-q.place = elim out [ inl low ↦ (λ e. omega (arith, i.end)) | inr high ↦ (λ e. omega (arith, i.end, short)) ] in
           laid_kept c.loop-q.laid c.set_value.new.values k c.loop-q.place c.passed_on.result (Fault 0) other c.set_value.ensures ∙ i.kept k out;
     }
+
+pub returns-clause-each : goal.returns-clause-each
+returns-clause-each g c =
+    let i = c.loop-q.invariant in
+    let all = split_all (outside c.args.self.now.members c.args.path.now) c.loop-q.yielded c.loop-q.q-iterator i.split c.in-None.ensures.steps.0 in
+    λ j l. i.each j (subst (λ (ys : List ℕ). j < length ys) all l)
+
+pub returns-clause-few : goal.returns-clause-few
+returns-clause-few g c =
+    let i = c.loop-q.invariant in
+    let all = split_all (outside c.args.self.now.members c.args.path.now) c.loop-q.yielded c.loop-q.q-iterator i.split c.in-None.ensures.steps.0 in
+    λ most up small j l. i.few most up small j (subst (λ (ys : List ℕ). j < length ys) all l)
+
+pub returns-clause-kept : goal.returns-clause-kept
+returns-clause-kept g c = c.loop-q.invariant.kept
+
+pub returns-clause-room : goal.returns-clause-room
+returns-clause-room g c = c.loop-q.invariant.room

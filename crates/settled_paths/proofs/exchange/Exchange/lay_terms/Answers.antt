@@ -1,10 +1,10 @@
-use Rattle.std.proofs.Common.{ℕ, ◌≡◌, ◌<◌, length, get_or, sym, ap, ap₂, ◌∙◌, arith}
+use Rattle.std.proofs.Common.{ℕ, ◌≡◌, ◌<◌, List, length, get_or, sym, ap, ap₂, ◌∙◌, subst, arith}
 use Rattle.std.proofs.lemmas.List.{length_push, length-set}
 use Rattle.omh_paths.specs.declared.wrapped.Wrapped.{Wrapped}
 use Rattle.omh_paths.specs.declared.wrapped.Wrapped.TheVariants.{Fault}
 use Rattle.omh_paths.specs.Paths.{outside}
 use Rattle.settled_paths.specs.Passing.{or_passed, instead}
-use Rattle.settled_paths.proofs.Loops.{next_at, next_short, next_outside, split_more, front_next}
+use Rattle.settled_paths.proofs.Loops.{next_at, next_short, next_outside, split_all, split_more, front_next}
 use Rattle.settled_paths.proofs.exchange.Exchange.lay_terms.Goals as goal
 
 pub term-value-requires-clause-off : goal.term-value-requires-clause-off
@@ -33,3 +33,12 @@ loop-q-preserved g c =
           i.end room c.set_value.ensures i.each
           (c.term-value.ensures ∙ ap₂ (λ (x : ℕ) (v : Wrapped g.row.V.Denot). or_passed (instead says a.i a.path.now x) v) (sym at) (c.value_at.ensures ∙ ap (λ (k : ℕ). get_or a.passed.now k (Fault 0)) i.end)) j (omega (arith, long));
     }
+
+pub returns-clause-each : goal.returns-clause-each
+returns-clause-each g c =
+    let i = c.loop-q.invariant in
+    let all = split_all (outside c.args.self.now.members c.args.path.now) c.loop-q.yielded c.loop-q.q-iterator i.split c.in-None.ensures.steps.0 in
+    λ j l. i.each j (subst (λ (ys : List ℕ). j < length ys) all l)
+
+pub returns-clause-room : goal.returns-clause-room
+returns-clause-room g c = c.loop-q.invariant.room
