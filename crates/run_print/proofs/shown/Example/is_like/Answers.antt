@@ -1,4 +1,4 @@
-use Rattle.std.proofs.Common.{◌≡◌, ◌∙◌, ap, arith, sym}
+use Rattle.std.proofs.Common.{◌≡◌, ◌∙◌, ap, arith, sym, inl, inr, lit<}
 use Rattle.std.specs.Prelude.{slice_index}
 use Rattle.node_core.specs.Modes.{mode_of}
 use Rattle.shown_period.specs.Outcomes.{outcome_at}
@@ -19,3 +19,38 @@ returns g c e =
     c.requires.example.has c.if-self.false
     ∙ beliefs_same shown.head.nodes shown.head.retire one other (sym c.mode.ensures ∙ ap mode_of modes ∙ c.mode-2.ensures) (sym (c.is_shared.ensures c.if-not-is_shared.false).1)
     (record { members = members; rows = alike.rows; done = alike.done; due = alike.due; votes = alike.votes })
+
+pub is_shared-requires : goal.is_shared-requires
+is_shared-requires g c =
+    let cap = c.requires.example.printable.beliefs.capacity in
+    (elim cap [ inl e ↦ rw e (lit< tt) | inr e ↦ rw e (lit< tt) ], cap)
+
+pub group-requires : goal.group-requires
+group-requires g c =
+    let cap = c.requires.example.printable.beliefs.capacity in
+    (elim cap [ inl e ↦ rw e (lit< tt) | inr e ↦ rw e (lit< tt) ], c.requires.example.node)
+
+pub group-requires-2 : goal.group-requires-2
+group-requires-2 g c =
+    let cap = c.requires.example.printable.beliefs.capacity in
+    (elim cap [ inl e ↦ rw e (lit< tt) | inr e ↦ rw e (lit< tt) ], c.requires.node)
+
+pub mode-requires : goal.mode-requires
+mode-requires g c =
+    let cap = c.requires.example.printable.beliefs.capacity in
+    (elim cap [ inl e ↦ rw e (lit< tt) | inr e ↦ rw e (lit< tt) ], c.requires.example.node)
+
+pub mode-requires-2 : goal.mode-requires-2
+mode-requires-2 g c =
+    let cap = c.requires.example.printable.beliefs.capacity in
+    (elim cap [ inl e ↦ rw e (lit< tt) | inr e ↦ rw e (lit< tt) ], c.requires.node)
+
+pub members-requires : goal.members-requires
+members-requires g c =
+    let cap = c.requires.example.printable.beliefs.capacity in
+    (elim cap [ inl e ↦ rw e (lit< tt) | inr e ↦ rw e (lit< tt) ], (lit< tt, c.requires.example.node))
+
+pub members-requires-2 : goal.members-requires-2
+members-requires-2 g c =
+    let cap = c.requires.example.printable.beliefs.capacity in
+    (elim cap [ inl e ↦ rw e (lit< tt) | inr e ↦ rw e (lit< tt) ], (lit< tt, c.requires.node))
