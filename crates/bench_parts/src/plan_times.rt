@@ -1,6 +1,6 @@
 //! The making of a full fault plan, a million look-ups of effects beside as many loads, and the judging of 60,000 lines.
 
-ghost use Rattle.std.specs.Prelude.{◌≡◌, ◌≢◌, ◌<◌, ◌≤◌, ◌+◌, ◌*◌, ◌^◌};
+ghost use Rattle.std.specs.Prelude.{◌≡◌, ◌≢◌, ◌<◌, ◌≤◌, ◌+◌, ◌*◌, ◌^◌, length};
 
 use fault_classes::{Effect, FaultLine, FaultPlan, PlanError};
 use node_grid::NodeSet;
@@ -54,20 +54,25 @@ fn effect_of(alloc: Global, number: u32) -> Result<Effect, AllocError> {
     })
 }
 
+/// The line of this number of those that touch all frames of four nodes in each period.
+fn full_line(alloc: Global, number: u32) -> Result<FaultLine<8>, AllocError> {
+    let period = number / 4;
+    let from = (number % 4 * 2 + period % 2) as u8;
+    Ok(FaultLine {
+        from,
+        to: others(from),
+        first: period,
+        last: period,
+        slots: 0xff,
+        effect: effect_of(alloc, number)?,
+    })
+}
+
 /// Lines that touch all frames of four nodes in each period.
 fn full_lines(alloc: Global) -> Result<Vec<FaultLine<8>>, AllocError> {
     let mut lines = Vec::with_capacity(alloc, LINES as usize)?;
     for number in 0..LINES {
-        let period = number / 4;
-        let from = (number % 4 * 2 + period % 2) as u8;
-        lines.push(FaultLine {
-            from,
-            to: others(from),
-            first: period,
-            last: period,
-            slots: 0xff,
-            effect: effect_of(alloc, number)?,
-        })?;
+        lines.push(full_line(alloc, number)?)?;
     }
     Ok(lines)
 }
@@ -150,45 +155,73 @@ fn loaded(table: &[u16], places: &[Place]) -> u32 {
     sum
 }
 
-/// Makes the full plan and looks effects up in it.
-fn measure_plan(rt: &HostRuntime) -> io::Result<()> {
-    let alloc = rt.alloc();
-    let lines = full_lines(alloc)?;
-    if lines.len() > 100_000 {
-        return Ok(());
-    }
+/// How many of these frames a line of the plan touches, and how many microseconds the look-ups take.
+fn time_look_ups(rt: &HostRuntime, plan: &FaultPlan<8>, places: &[Place]) -> io::Result<(u32, u128)>
+    requires nodes { plan.now.nodes ≡ 8 }
+    requires rounds { plan.now.rounds ≡ 2 }
+    requires periods { plan.now.periods ≡ 1024 }
+{
     let start = Instant::now(rt)?;
-    let made = FaultPlan::new(alloc, NODES, 2, PERIODS, lines, Vec::new(alloc));
-    let making = start.elapsed(rt)?.as_micros();
-    let Ok(plan) = made else {
-        println!(rt; "no plan")?;
-        return Ok(());
-    };
-    println!(rt; "a plan of {LINES} lines over {PERIODS} periods is made in {making} us")?;
-    let places = places(alloc)?;
-    let table = vec![in alloc; 1u16; 524_288]?;
+    let count = touched(plan, places);
+    Ok((count, start.elapsed(rt)?.as_micros()))
+}
+
+/// The sum of a table's entries at these frames, and how many microseconds the loads take.
+fn time_loads(rt: &HostRuntime, places: &[Place]) -> io::Result<(u32, u128)> {
+    let table = vec![in rt.alloc(); 1u16; 524_288]?;
     let start = Instant::now(rt)?;
-    let sum = loaded(table.as_slice(), places.as_slice());
-    let loading = start.elapsed(rt)?.as_micros();
-    let start = Instant::now(rt)?;
-    let count = touched(&plan, places.as_slice());
-    let looking = start.elapsed(rt)?.as_micros();
+    let sum = loaded(table.as_slice(), places);
+    Ok((sum, start.elapsed(rt)?.as_micros()))
+}
+
+/// Looks frames up in a plan.
+fn measure_look_ups(rt: &HostRuntime, plan: &FaultPlan<8>) -> io::Result<()>
+    requires nodes { plan.now.nodes ≡ 8 }
+    requires rounds { plan.now.rounds ≡ 2 }
+    requires periods { plan.now.periods ≡ 1024 }
+{
+    let places = places(rt.alloc())?;
+    let (sum, loading) = time_loads(rt, places.as_slice())?;
+    let (count, looking) = time_look_ups(rt, plan, places.as_slice())?;
     println!(rt;
         "{LOOKUPS} look-ups of effects take {looking} us, as many loads {loading} us ({count} touched, sum {sum})"
     )
 }
 
-/// Judges many lines without overlap.
-fn measure_judging(rt: &HostRuntime) -> io::Result<()> {
-    let alloc = rt.alloc();
-    let lines = single_lines(alloc)?;
+/// Makes the full plan and looks effects up in it.
+fn measure_plan(rt: &HostRuntime) -> io::Result<()> {
+    let lines = full_lines(rt.alloc())?;
     if lines.len() > 100_000 {
         return Ok(());
     }
     let start = Instant::now(rt)?;
+    let made = FaultPlan::new(rt.alloc(), NODES, 2, PERIODS, lines, Vec::new(rt.alloc()));
+    let making = start.elapsed(rt);
+    let Ok(plan) = made else {
+        return println!(rt; "no plan");
+    };
+    let making = making?.as_micros();
+    println!(rt; "a plan of {LINES} lines over {PERIODS} periods is made in {making} us")?;
+    measure_look_ups(rt, &plan)
+}
+
+/// Whether lines are refused for their number.
+fn are_too_many(alloc: Global, lines: Vec<FaultLine<8>>) -> bool
+    requires { length lines.items < 2 ^ 32 }
+{
     let made = FaultPlan::new(alloc, NODES, 2, PERIODS, lines, Vec::new(alloc));
+    matches!(made, Err(PlanError::TooMany))
+}
+
+/// Judges many lines without overlap.
+fn measure_judging(rt: &HostRuntime) -> io::Result<()> {
+    let lines = single_lines(rt.alloc())?;
+    if lines.len() > 100_000 {
+        return Ok(());
+    }
+    let start = Instant::now(rt)?;
+    let refused = are_too_many(rt.alloc(), lines);
     let judging = start.elapsed(rt)?.as_micros();
-    let refused = matches!(made, Err(PlanError::TooMany));
     println!(rt; "{JUDGED} lines are judged in {judging} us, refused for their number: {refused}")
 }
 

@@ -15,15 +15,21 @@ use std::time::Instant;
 /// How many bytes an input may have.
 const LIMIT: usize = 4_194_304;
 
+/// Whether the bytes are read as JSON.
+fn is_read(alloc: Global, bytes: &[u8], scratch: &mut Scratch) -> bool {
+    let value = value_of(alloc, bytes, scratch);
+    let is_read = value.is_ok();
+    forget(value);
+    is_read
+}
+
 /// Times the reading of the JSON.
 fn time_json(rt: &HostRuntime, bytes: &[u8]) -> io::Result<()> {
-    let mut scratch = Scratch::new(rt.alloc());
     let start = Instant::now(rt)?;
-    let value = value_of(rt.alloc(), bytes, &mut scratch);
+    let mut scratch = Scratch::new(rt.alloc());
+    let is_read = is_read(rt.alloc(), bytes, &mut scratch);
     let took = start.elapsed(rt)?.as_micros();
-    let read = value.is_ok();
-    forget(value);
-    if read {
+    if is_read {
         println!(rt; "{took} us")
     } else {
         println!(rt; "unreadable")
@@ -45,11 +51,12 @@ fn scenario_of(alloc: Global, bytes: &[u8]) -> Result<Scenario<16>, ScenarioErro
 fn time_judged(rt: &HostRuntime, bytes: &[u8]) -> io::Result<()> {
     let start = Instant::now(rt)?;
     let scenario = scenario_of(rt.alloc(), bytes);
-    let took = start.elapsed(rt)?.as_micros();
-    match scenario {
-        Ok(_) => println!(rt; "{took} us"),
-        Err(error) => println!(rt; "{error}"),
+    let took = start.elapsed(rt);
+    if let Some(error) = scenario.err() {
+        return println!(rt; "{error}");
     }
+    let took = took?.as_micros();
+    println!(rt; "{took} us")
 }
 
 /// Reads standard input and prints what the reading of its JSON takes, or, where it is judged, that of the whole.

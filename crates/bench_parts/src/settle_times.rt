@@ -125,14 +125,22 @@ fn time_plain<const N: usize>(
     Ok((start.elapsed(rt)?.as_nanos(), settled))
 }
 
+/// So many values that are heard.
+fn values<const N: usize>(alloc: Global, count: usize) -> Result<Vec<Wrapped<Row<N>>>, AllocError>
+    requires capacity { IsCapacity N }
+{
+    let mut values: Vec<Wrapped<Row<N>>> = Vec::new(alloc);
+    for place in 0..count {
+        values.push(value_at(place))?;
+    }
+    Ok(values)
+}
+
 /// The nanoseconds of one copy of so many values.
 fn time_copy<const N: usize>(rt: &HostRuntime, count: usize) -> io::Result<u128>
     requires capacity { IsCapacity N }
 {
-    let mut values: Vec<Wrapped<Row<N>>> = Vec::new(rt.alloc());
-    for place in 0..count {
-        values.push(value_at(place))?;
-    }
+    let mut values: Vec<Wrapped<Row<N>>> = values(rt.alloc(), count)?;
     let mut copy = Vec::from_slice(rt.alloc(), values.as_slice())?;
     let start = Instant::now(rt)?;
     for _ in 0..REPEATS {
@@ -142,19 +150,49 @@ fn time_copy<const N: usize>(rt: &HostRuntime, count: usize) -> io::Result<u128>
     Ok(start.elapsed(rt)?.as_nanos() / (2 * REPEATS as u128))
 }
 
-/// Times one settle for the last of N members, with so many rounds of relaying, and prints the times.
-fn measure_at<const N: usize>(rt: &HostRuntime, rounds: u8) -> io::Result<()>
+/// Times one settle by both for a member of so many, and prints the times.
+fn compare<const N: usize>(
+    rt: &HostRuntime,
+    table: &mut Table<Row<N>, N>,
+    plain: &PlainTable<Row<N>>,
+    count: u8,
+    commander: u8,
+) -> io::Result<()>
     requires capacity { IsCapacity N }
-    requires rounds { rounds ≤ 3 }
+    requires members { count ≤ 16 }
+    requires member { has_id table.old.members commander ≡ true }
+    requires rounds { plain.now.rounds ≤ 3 }
+    requires known { All (λ e. e.value ≢ Fault 255) plain.now.heard.items }
+{
+    let rounds = plain.rounds;
+    let (by_table, settled) = time_table(rt, table, commander)?;
+    let (by_recursion, plainly) = time_plain(rt, plain, commander)?;
+    let entries = entries_read(count, rounds);
+    let by_copy = time_copy::<N>(rt, entries)?;
+    let same = settled == plainly;
+    println!(rt;
+        "{count} nodes, {rounds} rounds: one settle takes {by_table} ns with the table, {by_recursion} ns with the plain program; a copy of the {entries} entries takes {by_copy} ns; both settle the same: {same}"
+    )
+}
+
+/// Fills the table and the plain program alike, and times one settle by both for the last of N members.
+fn measure_table<const N: usize>(
+    rt: &HostRuntime,
+    table: &mut Table<Row<N>, N>,
+    rounds: u8,
+) -> io::Result<()>
+    requires capacity { IsCapacity N }
+    requires few { rounds ≤ 3 }
+    requires rounds { rounds ≡ table.old.rounds }
+    requires nodes { table.old.nodes ≡ N }
 {
     let nodes = N as u8;
     let members: NodeSet<N> = NodeSet::full(nodes);
     let count = members.len();
-    let opened: Result<Table<Row<N>, N>, NoMemory> = Table::open(rt.alloc(), nodes, rounds);
-    let Ok(mut table) = opened else {
-        println!(rt; "no memory")?;
+    let commander = nodes - 1;
+    if !members.has(commander) {
         return Ok(());
-    };
+    }
     table.start(&members, 0, true, Wrapped::Fault(0));
     let mut others = members;
     others.cut(0);
@@ -165,19 +203,20 @@ fn measure_at<const N: usize>(rt: &HostRuntime, rounds: u8) -> io::Result<()>
         full: true,
         heard: Vec::new(rt.alloc()),
     };
-    fill(&mut table, &mut plain, &others, rounds)?;
-    let commander = nodes - 1;
-    if !members.has(commander) {
-        return Ok(());
+    fill(table, &mut plain, &others, rounds)?;
+    compare(rt, table, &plain, count, commander)
+}
+
+/// Times one settle among N members, with so many rounds of relaying, and prints the times.
+fn measure_at<const N: usize>(rt: &HostRuntime, rounds: u8) -> io::Result<()>
+    requires capacity { IsCapacity N }
+    requires rounds { rounds ≤ 3 }
+{
+    let opened: Result<Table<Row<N>, N>, NoMemory> = Table::open(rt.alloc(), N as u8, rounds);
+    match opened {
+        Ok(mut table) => measure_table(rt, &mut table, rounds),
+        Err(_) => println!(rt; "no memory"),
     }
-    let (by_table, settled) = time_table(rt, &mut table, commander)?;
-    let (by_recursion, plainly) = time_plain(rt, &plain, commander)?;
-    let entries = entries_read(count, rounds);
-    let by_copy = time_copy::<N>(rt, entries)?;
-    let same = settled == plainly;
-    println!(rt;
-        "{count} nodes, {rounds} rounds: one settle takes {by_table} ns with the table, {by_recursion} ns with the plain program; a copy of the {entries} entries takes {by_copy} ns; both settle the same: {same}"
-    )
 }
 
 /// How many entries one settle reads: the paths of one commander.

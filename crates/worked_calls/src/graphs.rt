@@ -2,6 +2,7 @@
 
 use node_grid::NodeSet;
 use std::alloc::{AllocError, Global};
+use std::io;
 use task_graph::{GraphError, Task, TaskGraph};
 use worked_rows::{Several, row};
 
@@ -16,44 +17,61 @@ fn task(alloc: Global, after: &[u8]) -> Result<Task<8>, AllocError> {
     })
 }
 
+/// Tasks that come after these.
+fn tasks(alloc: Global, after: &[&[u8]]) -> Result<Vec<Task<8>>, AllocError> {
+    let mut tasks = Vec::new(alloc);
+    for list in after {
+        tasks.push(task(alloc, list)?)?;
+    }
+    Ok(tasks)
+}
+
+/// How many tasks a graph of three nodes has, where these make one.
+fn size(tasks: Vec<Task<8>>) -> Result<u8, GraphError> {
+    let graph = TaskGraph::new(3, tasks)?;
+    Ok(graph.len())
+}
+
+fn refused(rt: &HostRuntime, asked: &str, error: GraphError) -> io::Result<()> {
+    println!(rt; "{asked}: {error}")?;
+    match error {
+        GraphError::Range(at) | GraphError::Cycle(at) => row(rt, "  task", at),
+    }
+}
+
 /// Prints what a graph of three nodes says of tasks that come after these.
 fn graph(rt: &HostRuntime, asked: &str, after: &[&[u8]]) -> anyhow::Result<()> {
-    let mut tasks = Vec::new(rt.alloc());
-    for list in after {
-        tasks.push(task(rt.alloc(), list)?)?;
-    }
-    match TaskGraph::new(3, tasks) {
-        Ok(graph) => row(rt, asked, graph.len())?,
-        Err(error) => {
-            println!(rt; "{asked}: {error}")?;
-            match error {
-                GraphError::Range(at) | GraphError::Cycle(at) => row(rt, "  task", at)?,
-            }
-        }
+    let tasks = tasks(rt.alloc(), after)?;
+    match size(tasks) {
+        Ok(count) => row(rt, asked, count)?,
+        Err(error) => refused(rt, asked, error)?,
     }
     Ok(())
 }
 
+fn show(rt: &HostRuntime, graph: &TaskGraph<8>) -> io::Result<()> {
+    row(rt, "a graph of two tasks has nodes", graph.nodes())?;
+    if graph.len() != 2 {
+        return Ok(());
+    }
+    row(
+        rt,
+        "task 0 comes after",
+        Several(graph.task(0).after.as_slice()),
+    )?;
+    row(
+        rt,
+        "task 1 comes after",
+        Several(graph.task(1).after.as_slice()),
+    )
+}
+
 fn of_two(rt: &HostRuntime) -> anyhow::Result<()> {
-    let mut tasks = Vec::new(rt.alloc());
-    tasks.push(task(rt.alloc(), &[1])?)?;
-    tasks.push(task(rt.alloc(), &[])?)?;
+    let tasks = tasks(rt.alloc(), &[&[1], &[]])?;
     let Ok(graph) = TaskGraph::new(3, tasks) else {
         return Ok(());
     };
-    row(rt, "a graph of two tasks has nodes", graph.nodes())?;
-    if graph.len() == 2 {
-        row(
-            rt,
-            "task 0 comes after",
-            Several(graph.task(0).after.as_slice()),
-        )?;
-        row(
-            rt,
-            "task 1 comes after",
-            Several(graph.task(1).after.as_slice()),
-        )?;
-    }
+    show(rt, &graph)?;
     Ok(())
 }
 

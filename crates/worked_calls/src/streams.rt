@@ -31,15 +31,20 @@ fn read<S: Source>(rt: &HostRuntime, asked: &str, source: &mut S, most: usize) -
     Ok(())
 }
 
+/// Prints how many of five bytes a source gives in pieces of 2, some calls of which fail, or why it doesn't.
+fn read_memory(rt: &HostRuntime, asked: &str, fails: &[u64], most: usize) -> anyhow::Result<()>
+    requires { most ≤ 10000 }
+{
+    let text = bytes(rt.alloc(), b"maft\n")?;
+    let mut source = MemSource::new(text, 2, numbers(rt.alloc(), fails)?);
+    read(rt, asked, &mut source, most)
+}
+
 fn of_sources(rt: &HostRuntime) -> anyhow::Result<()> {
-    let text = b"maft\n";
-    let mut whole = MemSource::new(bytes(rt.alloc(), text)?, 2, numbers(rt.alloc(), &[])?);
-    read(rt, "5 bytes in pieces of 2", &mut whole, 5)?;
-    let mut failing = MemSource::new(bytes(rt.alloc(), text)?, 2, numbers(rt.alloc(), &[2])?);
-    read(rt, "call 2 fails", &mut failing, 100)?;
-    let mut long = MemSource::new(bytes(rt.alloc(), text)?, 2, numbers(rt.alloc(), &[])?);
-    read(rt, "5 bytes where 4 may be", &mut long, 4)?;
-    let mut reader = StdSource::new(&text[..]);
+    read_memory(rt, "5 bytes in pieces of 2", &[], 5)?;
+    read_memory(rt, "call 2 fails", &[2], 100)?;
+    read_memory(rt, "5 bytes where 4 may be", &[], 4)?;
+    let mut reader = StdSource::new(&b"maft\n"[..]);
     read(rt, "5 bytes of a reader", &mut reader, 100)?;
     let many = [7u8; 10_000];
     let mut reader = StdSource::new(&many[..]);

@@ -1,15 +1,15 @@
-use Rattle.std.proofs.Common.{ℕ, ◌<◌, ◌+◌, ◌*◌, ap, arith}
+use Rattle.std.proofs.Common.{ℕ, ◌<◌, ◌+◌, ◌*◌, arith}
 use Rattle.node_grid.specs.CapacityLaws.{capacity-le}
 use Rattle.omh_paths.specs.MemberLaws.{member-lt}
 use Rattle.bench_parts.proofs.Settings.{at_capacity}
-use Rattle.bench_parts.proofs.settle_times.measure_at.Goals as goal
+use Rattle.bench_parts.proofs.settle_times.measure_table.Goals as goal
 use prog.Memory
 use Prim.Native.Nat.{max}
 
 pub start-requires : goal.start-requires
 start-requires g c =
     let few = capacity-le g.row.N c.requires.capacity in
-    let nodes = ap (λ t. t.nodes) c.in-Ok.ensures in
+    let nodes = c.requires.nodes in
     let some : 0 < g.row.N = at_capacity (λ (n : ℕ). 0 < n) g.row.N c.requires.capacity (omega arith) (omega arith) in (
       at_capacity (λ (n : ℕ). Memory.up 8 (Memory.up 8 (Memory.up 8 (8 + Memory.up 2 (max (2 + Memory.up 2 (0 + n * 2)) 2)) + 24) + 24) < 9223372036854775808) g.row.N c.requires.capacity (omega arith) (omega arith),
       (
