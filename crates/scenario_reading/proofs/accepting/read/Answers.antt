@@ -24,29 +24,5 @@ pub returns-in-Ok-clause-refused : goal.returns-in-Ok-clause-refused
 returns-in-Ok-clause-refused g c = λ rule place is.
     (view c.in-Ok.value, c.in-Ok.ensures.value, IfErr-at_err (Tells (value_refusal g.row.N (view c.in-Ok.value))) is c.from_value.ensures.refused)
 
-pub returns-in-Err-Unreadable-clause-accepted : goal.returns-in-Err-Unreadable-clause-accepted
-returns-in-Err-Unreadable-clause-accepted g c = tt
-
-pub returns-in-Err-Unreadable-clause-system : goal.returns-in-Err-Unreadable-clause-system
-returns-in-Err-Unreadable-clause-system g c = tt
-
-pub returns-in-Err-Unreadable-clause-unreadable : goal.returns-in-Err-Unreadable-clause-unreadable
-returns-in-Err-Unreadable-clause-unreadable g c = λ _ d reads. c.in-Err-Unreadable.ensures.unreadable c.in-Err-Unreadable.field-0-is d reads
-
-pub returns-in-Err-Unreadable-clause-refused : goal.returns-in-Err-Unreadable-clause-refused
-returns-in-Err-Unreadable-clause-refused g c = λ rule place is. cc
-
-pub returns-in-Err-NoMemory-clause-accepted : goal.returns-in-Err-NoMemory-clause-accepted
-returns-in-Err-NoMemory-clause-accepted g c = tt
-
-pub returns-in-Err-NoMemory-clause-system : goal.returns-in-Err-NoMemory-clause-system
-returns-in-Err-NoMemory-clause-system g c = tt
-
-pub returns-in-Err-NoMemory-clause-unreadable : goal.returns-in-Err-NoMemory-clause-unreadable
-returns-in-Err-NoMemory-clause-unreadable g c = λ is d reads. cc
-
-pub returns-in-Err-NoMemory-clause-refused : goal.returns-in-Err-NoMemory-clause-refused
-returns-in-Err-NoMemory-clause-refused g c = λ rule place is. cc
-
 pub from_value-requires : goal.from_value-requires
 from_value-requires g c = (elim c.requires [ inl cap ↦ rw cap (lit< tt) | inr cap ↦ rw cap (lit< tt) ], c.requires)
