@@ -1,3 +1,4 @@
+use Rattle.std.proofs.Common.{lit<, inl, inr}
 use Rattle.std.proofs.lemmas.Result.{IfOk-weaker, IfErr-at_err}
 use Rattle.serde_json.specs.Data.{Data}
 use Rattle.json_parts.specs.Meaning.{view}
@@ -22,3 +23,6 @@ returns-in-Ok-clause-unreadable g c = λ is d reads. IfErr-at_err (Tells (value_
 pub returns-in-Ok-clause-refused : goal.returns-in-Ok-clause-refused
 returns-in-Ok-clause-refused g c = λ rule place is.
     (view c.in-Ok.value, c.in-Ok.ensures.value, IfErr-at_err (Tells (value_refusal g.row.N (view c.in-Ok.value))) is c.from_value.ensures.refused)
+
+pub from_value-requires : goal.from_value-requires
+from_value-requires g c = (elim c.requires [ inl cap ↦ rw cap (lit< tt) | inr cap ↦ rw cap (lit< tt) ], c.requires)

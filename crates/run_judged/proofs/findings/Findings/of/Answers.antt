@@ -68,3 +68,6 @@ returns g c =
       left = λ j. c.left_nodes.ensures j ∙ ap (λ (o : Option (List ℕ)). is_left s.head.members o j) c.members_after-after.ensures;
       joined = λ j. c.joined_nodes.ensures j ∙ ap (λ (o : Option (List ℕ)). is_joined s.head.members o j) c.members_after-after.ensures;
     })
+
+pub plan-requires : goal.plan-requires
+plan-requires g c = (elim c.requires.capacity [ inl e ↦ rw e (lit< tt) | inr e ↦ rw e (lit< tt) ], lit< tt)

@@ -1,4 +1,5 @@
-use Rattle.std.proofs.Common.{sym, ◌∙◌, arith}
+use Rattle.std.proofs.Common.{sym, ◌∙◌, inl, inr, arith, lit<}
+use Rattle.node_grid.specs.CapacityLaws.{capacity-le}
 use Rattle.run_judged.specs.Rows.{seen_of}
 use Rattle.run_judged.proofs.Listed.{no_illnesses}
 use Rattle.run_judged.proofs.Judged.{sums_none, all_sound}
@@ -15,3 +16,12 @@ returns-clause-judges g c =
       illnesses = c.forget.ensures.list ∙ sym (no_illnesses (seen_of sc) sc.config.nodes);
       skews = c.clear.ensures.items;
     }
+
+pub config-requires : goal.config-requires
+config-requires g c = (elim c.requires.capacity [ inl e ↦ rw e (lit< tt) | inr e ↦ rw e (lit< tt) ], elim c.requires.capacity [ inl e ↦ rw e (lit< tt) | inr e ↦ rw e (lit< tt) ])
+
+pub none-self-requires : goal.none-self-requires
+none-self-requires g c = (lit< tt, capacity-le g.row.N c.requires.capacity)
+
+pub forget-requires : goal.forget-requires
+forget-requires g c = (lit< tt, c.requires.capacity)

@@ -54,3 +54,17 @@ returns g c =
     let spread = c.spread-spread.ensures ∙ ap (spread_in (record_of s)) channels ∙ spread_shown sc s f.period c.requires.shown in
     added sc s f c.requires.found c.requires.shown config.few_nodes c.requires.fits.shape.m c.args.self.now c.add_budget.new.self c.add_charges.new.self c.add_claim.new.self c.spread-spread.result c.args.skew
     c.add_budget.ensures c.add_charges.ensures c.add_claim.ensures spread c.requires.skew c.requires.sums
+
+pub config-requires : goal.config-requires
+config-requires g c = (elim c.requires.capacity [ inl e ↦ rw e (lit< tt) | inr e ↦ rw e (lit< tt) ], elim c.requires.capacity [ inl e ↦ rw e (lit< tt) | inr e ↦ rw e (lit< tt) ])
+
+pub spread-spread-requires : goal.spread-spread-requires
+spread-spread-requires g c =
+    let config = c.requires.fits.scenario.system.config in
+    let fits = config.few_nodes in
+    let nodes = c.requires.fits.shape.nodes in
+    let few : c.args.shown.now.head.nodes ≤ g.row.N = omega arith in
+    let most = config.few_channels in
+    let same : c.len-channels.result ≡ length c.args.scenario.now.config.channels.items = c.len-channels.ensures.value ∙ ap (λ (k : Config g.row.N). length k.channels.items) c.config.ensures.config in
+    let channels : c.len-channels.result ≤ 8 = omega arith in
+    (elim c.requires.capacity [ inl e ↦ rw e (lit< tt) | inr e ↦ rw e (lit< tt) ], (few, (channels, c.requires.fits.beliefs)))
