@@ -3,7 +3,7 @@ use Rattle.std.specs.Prelude.{◌≡◌, ◌≤◌, IsSome, ℕ, zero, suc, Bool
 use Rattle.std.specs.List.{list_any}
 use Rattle.node_grid.specs.NodeSet.{has_id, without_id}
 use Rattle.omh_paths.specs.declared.wrapped.Wrapped.{Wrapped}
-use Rattle.omh_paths.specs.declared.wrapped.Wrapped.TheVariants.{Fault}
+use Rattle.omh_paths.specs.declared.wrapped.Wrapped.TheVariants.{Plain, Fault}
 use Rattle.omh_paths.specs.Paths.{same_nodes, paths_of_length}
 use Rattle.omh.specs.Heard.{Entry, Hearing, heard_paths}
 use Rattle.omh.specs.Written.{IsSmall, last_node, with_frame, as_written}
@@ -11,6 +11,7 @@ use Rattle.error_detect.specs.Watching.{Watch, told_at}
 use Rattle.node_grid.specs.Kinds.{malformed}
 use Rattle.protocol.specs.Arrival.{Arrival, ItemForm, arrived}
 use Rattle.protocol.specs.Arrival.Arrival.{Bad, Good}
+use Rattle.protocol.specs.View.{content}
 use Rattle.protocol.specs.Heard.{Rounds, paths_of, with_entries, heard}
 
 abbrev pub has_path : List (List ℕ) → List ℕ → Bool
@@ -100,3 +101,13 @@ brought form w q = arrived form.relay_in None (told_at w q)
 -- what was heard after it alone
 abbrev pub told_from : {V : Type 0} → ItemForm V → Watch → ℕ → ℕ → Hearing V → Hearing V
 told_from form w r q h = record h { heard = map (told_to (paths_from h.members h.me r q) (heard (slot_rounds form h.members w))) h.heard }
+
+-- an item is the one entry of its frame
+abbrev pub item_entries : {V : Type 0} → Option V → Option (List (Wrapped V))
+item_entries None = None
+item_entries (Some v) = Some (Plain v ∷ [])
+
+-- the entries of the frame of node q in the slot of a round, where it came: in round 0 the one that is its item
+abbrev pub entries_arrived : {V : Type 0} → ItemForm V → Watch → ℕ → ℕ → Option (List (Wrapped V))
+entries_arrived form w zero q = item_entries (content (arrived form.item_in None (told_at w q)))
+entries_arrived form w (suc r) q = content (brought form w q)

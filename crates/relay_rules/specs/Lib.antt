@@ -3,3 +3,4 @@ pub mod HearingLaws
 pub mod Relaying
 pub mod Settling
 pub mod Ranged
+pub mod FramesLaws
