@@ -1,43 +1,49 @@
 //! What a node settles of the items of all members, and whom it convicts.
 
-ghost use Rattle.std.specs.Prelude.{◌≡◌, ◌==◌, ◌&&◌, not, nat_eq, map};
-ghost use Rattle.std.specs.Cmp.Lexicographic.{pointwise};
-ghost use Rattle.node_grid.specs.Capacity.{IsCapacity};
-ghost use Rattle.node_grid.specs.NodeSet.{ids_where};
-ghost use Rattle.omh.specs.Heard.{ear_of};
-ghost use Rattle.protocol.specs.FurtherKinds.{convicts_member};
-ghost use Rattle.protocol.specs.Settled.{plain};
-ghost use Rattle.protocol.specs.View.{as_claim};
-ghost use Rattle.relay_rules.specs.Settling.{settled_at_node, settled_in};
-
+use crate::hearing::{hear_round, round_of};
 use crate::item::Item;
-use heard::Heard;
+use error_detect::SlotWatch;
 use node_grid::{Matrix, NodeSet, Row};
 use omh_paths::Wrapped;
+use relay_table::Table;
+use relay_terms::Term;
 
-/// The settled item of a node, where it is a member and that is no error.
-pub fn settle_member<V: Item<N>, const N: usize>(heard: &mut Heard<V, N>, node: u8) -> Option<V>
-    ensures settled { result ≡ settled_at_node V.eq heard.old node }
-    ensures kept { heard.new ≡ heard.old }
-{
-    if !heard.members().has(node) {
-        return None;
-    }
-    match heard.settle(node) {
-        Wrapped::Plain(item) => Some(item),
-        Wrapped::Fault(_) => None,
-    }
+/// What a node settles of each node's item, and the other members that it convicts.
+#[derive(Clone, Copy, Drop)]
+pub struct Settled<V, const N: usize> {
+    /// What is settled of each node's item: the error itself where nothing is.
+    pub items: [Term<V>; N],
+    /// The other members that it convicts by what it heard of their items.
+    pub guilty: NodeSet<N>,
 }
 
-/// The settled claims, one for each node: `Fault(0)` where it is no member, or that is an error.
-pub fn settle_claims<const N: usize>(heard: &mut Heard<u8, N>) -> [Wrapped<u8>; N]
-    requires capacity { IsCapacity N }
-    ensures settled { result ≡ map as_claim (settled_in nat_eq N heard.old) }
-    ensures kept { heard.new ≡ heard.old }
-{
+/// Takes what the frames of the last round say, settles, and forgets all that was heard.
+pub fn settle<V: Item<N>, const N: usize>(table: &mut Table<V, N>, watch: &SlotWatch<N>) -> Settled<V, N> {
+    let mut items = [Term::nothing(); N];
+    let rounds = table.rounds();
+    if rounds == 0 {
+        hear_round(table, watch, 0);
+        table.settle_items(&mut items);
+        let guilty = table.convicted();
+        table.forget();
+        return Settled { items, guilty };
+    }
+    let mut frames = round_of(table, watch, rounds);
+    if rounds == 1 {
+        table.hear_round(&mut frames, 1);
+        frames.rewind();
+    }
+    let guilty = table.convicted();
+    table.settle_round(&mut frames, &mut items);
+    table.forget();
+    Settled { items, guilty }
+}
+
+/// The settled claims: `Fault(0)` where nothing is settled.
+pub fn claims_of<const N: usize>(items: &[Term<u8>; N]) -> [Wrapped<u8>; N] {
     let mut claims = [Wrapped::Fault(0); N];
     for node in 0..N {
-        if let Some(claim) = settle_member(heard, node as u8) {
+        if let Some(claim) = items[node].get() {
             claims[node] = Wrapped::Plain(claim);
         }
     }
@@ -45,35 +51,12 @@ pub fn settle_claims<const N: usize>(heard: &mut Heard<u8, N>) -> [Wrapped<u8>; 
 }
 
 /// The settled rows.
-pub fn settle_rows<const N: usize>(heard: &mut Heard<Row<N>, N>) -> Matrix<N>
-    requires capacity { IsCapacity N }
-    ensures settled { result ≡ settled_in (pointwise ◌==◌) N heard.old }
-    ensures kept { heard.new ≡ heard.old }
-{
+pub fn rows_of<const N: usize>(items: &[Term<Row<N>>; N]) -> Matrix<N> {
     let mut rows = Matrix::empty();
     for node in 0..N as u8 {
-        if let Some(row) = settle_member(heard, node) {
+        if let Some(row) = items[node as usize].get() {
             rows.set(node, row);
         }
     }
     rows
-}
-
-/// The other members that the node convicts by what it heard of their items.
-pub fn convicted<V: Item<N>, const N: usize>(heard: &mut Heard<V, N>) -> NodeSet<N>
-    requires capacity { IsCapacity N }
-    ensures convicted { result ≡
-        ids_where (λ j. not (j == heard.old.me) && convicts_member V.eq (ear_of heard.old) j) N }
-    ensures kept { heard.new ≡ heard.old }
-{
-    let mut guilty = NodeSet::empty();
-    if heard.convicts_nobody() {
-        return guilty;
-    }
-    for node in 0..N as u8 {
-        if heard.convicts(node) {
-            guilty.put(node);
-        }
-    }
-    guilty
 }

@@ -9,7 +9,7 @@ use super::Controller;
 use data_slot::{due_channels, own_values};
 use node_grid::kind::EQUIVOCATE;
 use noting::{note_found, note_verdicts};
-use relaying::{convicted, hear_round, settle_claims};
+use relaying::{claims_of, hear_round, settle};
 
 impl<'c, const N: usize> Controller<'c, N> {
     /// Closes a slot of claims, and takes what it says, and after the last one what follows from
@@ -26,8 +26,9 @@ impl<'c, const N: usize> Controller<'c, N> {
             return;
         }
         note_found(&mut self.found.notes, &found);
-        hear_round(&mut self.done, &mut self.buffers.claims, &self.watch, round);
-        if round == self.config.m {
+        if round < self.config.m {
+            hear_round(&mut self.done, &self.watch, round);
+        } else {
             self.know_claims();
         }
     }
@@ -42,11 +43,11 @@ impl<'c, const N: usize> Controller<'c, N> {
         let Some(agreed) = &self.phase.before else {
             return;
         };
-        let claims = settle_claims(&mut self.done);
+        let settled = settle(&mut self.done, &self.watch);
+        let claims = claims_of(&settled.items);
         let preview = agreed.preview(self.config, &claims);
         note_verdicts(&mut self.found.notes, &preview.verdicts);
-        let guilty = convicted(&mut self.done);
-        self.found.notes.note_all(&guilty, EQUIVOCATE);
+        self.found.notes.note_all(&settled.guilty, EQUIVOCATE);
         self.found.claims = claims;
         self.found.due = due_channels(self.config, preview.finished_now);
         self.found.own = own_values(

@@ -7,7 +7,6 @@ ghost use Rattle.node_steps.specs.Steps.{shut, taken};
 use super::Controller;
 use data_slot::DataSlot;
 use noting::note_values;
-use omh_paths::Wrapped;
 
 impl<'c, const N: usize> Controller<'c, N> {
     /// Closes the data slot: votes on the due channels, notes what is against the others, finishes
@@ -40,7 +39,7 @@ impl<'c, const N: usize> Controller<'c, N> {
             &agreed.members,
             self.phase.me,
             self.phase.full,
-            Wrapped::Plain(notes.row()),
+            notes.row(),
         );
     }
 }

@@ -10,7 +10,7 @@ ghost use Rattle.node_steps.specs.Steps.{ended, ended_cold, finished, period_ove
 use super::{Controller, Keeping};
 use crate::outcome::{Mode, NodeRecord, copied};
 use node_grid::kind::EQUIVOCATE;
-use relaying::{convicted, settle_rows};
+use relaying::{rows_of, settle};
 
 /// How a node goes through a period with an agreed state.
 fn mode_through(full: bool) -> Mode
@@ -45,10 +45,10 @@ impl<'c, const N: usize> Controller<'c, N> {
         let Some(agreed) = &self.phase.before else {
             return;
         };
-        let rows = settle_rows(&mut self.rows);
-        let guilty = convicted(&mut self.rows);
+        let settled = settle(&mut self.rows, &self.watch);
+        let rows = rows_of(&settled.items);
         let mut notes = self.found.notes;
-        notes.carry_all(&guilty, EQUIVOCATE);
+        notes.carry_all(&settled.guilty, EQUIVOCATE);
         let mut after = *agreed;
         after.step(self.config, self.phase.period, &self.found.claims, &rows);
         self.kept = Keeping {

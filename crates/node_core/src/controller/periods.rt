@@ -10,10 +10,8 @@ ghost use Rattle.node_steps.specs.Steps.{after_slot, begun, expected_in, next_op
 
 use super::{Controller, Findings, Phase};
 use agreed_state::Inputs;
-use error_detect::Form;
 use frames::Expect;
 use node_grid::NodeSet;
-use relaying::guess_round;
 use slot_plan::Slot;
 
 impl<'c, const N: usize> Controller<'c, N> {
@@ -27,10 +25,6 @@ impl<'c, const N: usize> Controller<'c, N> {
         let me = self.phase.me;
         let expect = self.config.expect(period, 0, me, &NodeSet::empty(), 0);
         self.watch.open_slot(&expect);
-        if let Some(agreed) = &self.kept.state {
-            let state = agreed.body(self.config);
-            self.watch.guess(Form::State, state.as_slice());
-        }
         self.phase = Phase {
             me,
             period,
@@ -71,16 +65,6 @@ impl<'c, const N: usize> Controller<'c, N> {
         let expect = self.expectation(slot);
         self.watch.open_slot(&expect);
         self.phase.slot = slot;
-        let round = slot.round();
-        if round == 0 || self.phase.before.is_none() {
-            return;
-        }
-        let spare = &mut self.buffers.spare;
-        match slot {
-            Slot::Claims(_) => guess_round(&mut self.watch, &self.done, round, spare),
-            Slot::Rows(_) => guess_round(&mut self.watch, &self.rows, round, spare),
-            Slot::Sync | Slot::Data => {}
-        }
     }
 
     /// Opens the next slot, or ends the period where that was the last one.

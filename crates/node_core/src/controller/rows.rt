@@ -22,6 +22,8 @@ impl<'c, const N: usize> Controller<'c, N> {
             return;
         }
         carry_found(&mut self.found.notes, &found);
-        hear_round(&mut self.rows, &mut self.buffers.rows, &self.watch, round);
+        if round < self.config.m {
+            hear_round(&mut self.rows, &self.watch, round);
+        }
     }
 }
