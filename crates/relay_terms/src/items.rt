@@ -1,6 +1,7 @@
 //! The items that nodes relay: claims and rows.
 
-ghost use Rattle.std.specs.Prelude.{slice_index, replicate};
+ghost use Rattle.std.specs.Prelude.{◌≡◌, ◌*◌, ◌/◌, ◌≤◌, length, min, slice_index};
+ghost use Rattle.frames.specs.Reading.{content_row};
 
 use crate::term::Item;
 use node_grid::Row;
@@ -13,34 +14,34 @@ impl Item for u8 {
     }
 
     fn read(bytes: &[u8]) -> u8 {
-        bytes[0]
-    }
-
-    fn write(&self, bytes: &mut [u8]) {
-        bytes[0] = *self;
+        match bytes.first() {
+            Some(claim) => *claim,
+            None => 0,
+        }
     }
 }
 
+/// The row of the first `nodes` nodes' masks.
+fn read_row<const N: usize>(bytes: &[u8], nodes: usize) -> Row<N>
+    requires few { nodes ≤ N }
+    requires within { 2 * nodes ≤ length bytes.now }
+    ensures { result ≡ content_row N nodes bytes.now }
+{
+    let mut masks = [0; N];
+    for node in 0..nodes {
+        masks[node] = u16::from_be_bytes([bytes[2 * node], bytes[2 * node + 1]]);
+    }
+    Row { masks }
+}
+
 impl<const N: usize> Item for Row<N> {
-    ghost of_bytes = { λ bytes. replicate N 0 };
+    ghost of_bytes = { λ bytes. content_row N (min (length bytes / 2) N) bytes };
 
     fn blank() -> Row<N> {
         Row { masks: [0; N] }
     }
 
     fn read(bytes: &[u8]) -> Row<N> {
-        let mut masks = [0; N];
-        for node in 0..(bytes.len() / 2).min(N) {
-            masks[node] = u16::from_be_bytes([bytes[2 * node], bytes[2 * node + 1]]);
-        }
-        Row { masks }
-    }
-
-    fn write(&self, bytes: &mut [u8]) {
-        for node in 0..(bytes.len() / 2).min(N) {
-            let mask = self.masks[node].to_be_bytes();
-            bytes[2 * node] = mask[0];
-            bytes[2 * node + 1] = mask[1];
-        }
+        read_row(bytes, (bytes.len() / 2).min(N))
     }
 }

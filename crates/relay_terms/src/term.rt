@@ -3,6 +3,8 @@ ghost use Rattle.omh_paths.specs.declared.wrapped.Wrapped.TheVariants.{Plain, Fa
 ghost use Rattle.omh_paths.specs.Wrapped.{wrapped, unwrapped, is_error, same};
 ghost use Rattle.relay_terms.specs.Terms.{said, term_in};
 
+use omh_paths::Wrapped;
+
 /// The tag of a term of which nothing was heard.
 const NOTHING: u8 = 255;
 
@@ -17,9 +19,6 @@ pub trait Item: Copy + Eq + Drop {
     /// The item of these bytes.
     fn read(bytes: &[u8]) -> Self
         ensures { result ≡ of_bytes bytes.now };
-
-    /// Writes the bytes of the item.
-    fn write(&self, bytes: &mut [u8]);
 }
 
 /// An item, or an error with the number of relays that it went through.
@@ -62,20 +61,15 @@ impl<V: Item> Term<V> {
         }
     }
 
-    /// Writes the entry of a frame: the tag, and then the item, which is blank where the term is an
-    /// error.
-    pub fn write(&self, entry: &mut [u8]) {
-        entry[0] = self.tag;
-        if self.tag == 0 {
-            self.item.write(&mut entry[1..]);
-        } else {
-            V::blank().write(&mut entry[1..]);
+    /// The item, or the error, that it is.
+    pub fn value(&self) -> Wrapped<V>
+        ensures { result ≡ said self.now }
+    {
+        match self.tag {
+            0 => Wrapped::Plain(self.item),
+            NOTHING => Wrapped::Fault(0),
+            tag => Wrapped::Fault(tag),
         }
-    }
-
-    /// The item, where the term is one.
-    pub fn get(&self) -> Option<V> {
-        if self.tag == 0 { Some(self.item) } else { None }
     }
 
     /// Whether this is the error itself.
