@@ -45,8 +45,9 @@ impl<const N: usize> Model for SlotWatch<N> {
     ghost view = { λ w. watch_of w.nodes w.me (option_map expected w.expect) w.is_open w.arrivals
         (meaning N w.nodes w.guess) };
 
-    ghost invariant = { λ w. IsKept N (watch_of w.nodes w.me (option_map expected w.expect) w.is_open
-        w.arrivals (meaning N w.nodes w.guess)) w.arrivals.held w.good w.guess };
+    ghost invariant = { λ w. IsKept N
+        (watch_of w.nodes w.me (option_map expected w.expect) w.is_open w.arrivals
+        (meaning N w.nodes w.guess)) w.arrivals.held w.good w.guess };
 }
 
 /// The nodes whose finding is Good.
@@ -135,13 +136,14 @@ impl<const N: usize> SlotWatch<N> {
         requires other { from ≢ self.old.me }
         ensures { self.new ≡ delivered self.old from tick bytes.now }
     {
-        if let Some(expect) = &self.expect {
-            let expect = Expect {
-                sender: from,
-                ..*expect
-            };
-            self.arrivals.take(&expect, tick, bytes);
-        }
+        let Some(expect) = &self.expect else {
+            return;
+        };
+        let expected = Expect {
+            sender: from,
+            ..*expect
+        };
+        self.arrivals.take(&expected, tick, bytes);
     }
 
     /// Guesses what the slot's frames say by these bytes, or by the runs of them, and answers
@@ -253,10 +255,13 @@ impl<const N: usize> SlotWatch<N> {
     fn finding(&self, node: u8) -> Finding
         ensures { result ≡ finding_at self.now node }
     {
-        if node == self.me || node >= self.nodes || self.expect.is_none() {
+        if node == self.me || node >= self.nodes {
             return Finding::Good;
         }
-        self.arrivals.finding(node)
+        match &self.expect {
+            None => Finding::Good,
+            Some(_) => self.arrivals.finding(node),
+        }
     }
 
     /// The finding of each node.
@@ -370,9 +375,9 @@ impl<const N: usize> SlotWatch<N> {
         self.arrivals.room()
     }
 
-    /// Where in the [`SlotWatch::room`] the entries begin that a node passed on in the slot that was
-    /// closed last, of a slot in which nothing was guessed: some exactly where its finding was Good
-    /// and its frame has entries.
+    /// Where in the [`SlotWatch::room`] the entries begin that a node passed on in the slot that
+    /// was closed last, of a slot in which nothing was guessed: some exactly where its finding was
+    /// Good and its frame has entries.
     pub fn entries_at(&self, from: u8) -> Option<usize>
         requires closed { self.now.is_open ≡ false }
         requires some_slot { IsSome self.now.expect }
@@ -381,7 +386,10 @@ impl<const N: usize> SlotWatch<N> {
         requires unguessed { self.now.guess ≡ None }
         ensures { result ≡ entries_begin (body_begin self.now from) (told_at self.now from) }
     {
-        let frame = self.frame(from)?;
+        let _ = &self.nodes;
+        let Some(frame) = self.frame(from) else {
+            return None;
+        };
         match &frame.body {
             Body::DoneRelay(_) | Body::ReportRelay(_) => Some(self.arrivals.begin(from) + HEADER),
             Body::State(_) | Body::Done0(_) | Body::Data(_) | Body::Report0(_) | Body::Cold => None,

@@ -4,6 +4,7 @@ use Rattle.std.specs.Prelude.{filter}
 use Rattle.std.specs.List.{flat_map}
 use Rattle.std.proofs.lemmas.Bool.{cases_Bool, cond-true, cond-false}
 use Rattle.std.proofs.lemmas.List.{map-append, append-nil, take_more}
+use Rattle.std.proofs.lemmas.Simd.{map-map}
 use Rattle.std.proofs.lemmas.List.Concat.{flat_map_single, flat_map-append}
 use Rattle.node_grid.specs.NodeSet.{has_id, without_id, IsIdSet}
 use Rattle.node_grid.specs.NodeSetLaws.{filter_filter}
@@ -17,14 +18,10 @@ use Rattle.path_order.specs.Order.{pushed, LongerPathsLaw, each_left_out, FreeMe
 
 -- ---- the paths one node longer
 
-map_then : {X Y Z : Type 0} (f : X → Y) (g : Y → Z) (xs : List X) → map g (map f xs) ≡ map (λ x. g (f x)) xs
-map_then f g [] = refl
-map_then f g (x ∷ xs) = ap (λ ys. g (f x) ∷ ys) (map_then f g xs)
-
 -- behind a first node stands what stands behind the rest of the path among the other members
 behind_first : (members : List ℕ) (c : ℕ) (path : List ℕ) → map (λ p. c ∷ p) (pushed (without_id members c) path) ≡ pushed members (c ∷ path)
 behind_first members c path =
-    map_then (λ q. path ++ q ∷ []) (λ p. c ∷ p) (outside (without_id members c) path)
+    map-map (λ p. c ∷ p) (λ q. path ++ q ∷ []) (outside (without_id members c) path)
     ∙ ap (map (λ q. (c ∷ path) ++ q ∷ [])) (outside-without members c path)
 
 behind_all : (members : List ℕ) (c : ℕ) (ps : List (List ℕ)) → map (λ p. c ∷ p) (flat_map (pushed (without_id members c)) ps) ≡ flat_map (pushed members) (map (λ p. c ∷ p) ps)

@@ -1,8 +1,8 @@
 -- Laying the members outside each path behind those outside shorter ones.
-use Rattle.std.proofs.Common.{ℕ, zero, suc, ◌≡◌, ◌<◌, ◌≤◌, ◌+◌, ◌-◌, List, [], ◌∷◌, ◌++◌, length, map, take, drop, get_or, refl, sym, ap, ap₂, subst, ◌∙◌, inl, inr, arith}
+use Rattle.std.proofs.Common.{ℕ, zero, suc, ◌≡◌, ◌<◌, ◌≤◌, ◌+◌, ◌-◌, List, [], ◌∷◌, ◌++◌, length, take, drop, get_or, sym, ap, ap₂, subst, ◌∙◌, inl, inr, arith}
 use Rattle.std.specs.List.{flat_map}
 use Rattle.std.proofs.lemmas.Bool.{cases_eq}
-use Rattle.std.proofs.lemmas.List.{take_more, flat_map_more, get_or-take, get_or-drop, get_or-map, length-map, length-take, length-drop, ext_get_or, get_or_default}
+use Rattle.std.proofs.lemmas.List.{take_more, take-take, flat_map_more, get_or-take, get_or-drop, get_or-map, length-map, length-take, length-drop, ext_get_or}
 use Rattle.std.proofs.lemmas.List.Folds.{length-flat_map-take}
 use Rattle.node_grid.specs.NodeSet.{without_id, IsIdSet}
 use Rattle.omh_paths.specs.Paths.{outside, paths_of_length, path_count, path_at}
@@ -13,7 +13,7 @@ use Rattle.omh.specs.FlatLaws.{path_count-mono}
 use Rattle.path_order.specs.Order.{each_left_out, free_members}
 use Rattle.path_order.specs.OrderLaws.{free_members_law}
 use Rattle.relay_walk.specs.Laid.{laid}
-use Rattle.relay_walk.specs.LaidLaws.{laid_twice, laid_before, laid_in}
+use Rattle.relay_walk.specs.LaidLaws.{laid_before, laid_in}
 use Rattle.relay_table.specs.Free.{free_begins, AreFree, left_out_of}
 
 -- the sets from one place until another, and what is left of those before the k-th
@@ -52,12 +52,7 @@ left_fits from until k sets low high room =
     omega (arith, h, e)
 
 pub left_all : (from until : ℕ) (sets : List (List ℕ)) → left_before from until until sets ≡ left_out_of from until sets
-left_all from until sets = ap (flat_map each_left_out) (take_again (until - from) (drop from sets))
-  where
-    take_again : (n : ℕ) (xs : List (List ℕ)) → take n (take n xs) ≡ take n xs
-    take_again zero xs = refl
-    take_again (suc n) [] = refl
-    take_again (suc n) (x ∷ xs) = ap (λ (ys : List (List ℕ)). x ∷ ys) (take_again n xs)
+left_all from until sets = ap (flat_map each_left_out) (take-take (until - from) (until - from) (drop from sets) (omega arith))
 
 pub left_none : (from until : ℕ) (sets : List (List ℕ)) → left_before from until from sets ≡ []
 left_none from until sets = let z : from - from ≡ 0 = omega arith in ap (λ (n : ℕ). flat_map each_left_out (take n (part from until sets))) z
@@ -92,17 +87,12 @@ longer_fits n members r sets ids free room =
     let l = ap (λ (s : List (List ℕ)). length s) (sym (free_members_law members r)) in
     omega (arith, e, l, length-free n members (suc r) ids)
 
-pub begins-next : (n r : ℕ) → free_begins n (r + 1) ≡ free_begins n r + path_count n r
-begins-next n r = ap (free_begins n) (next r)
-  where
-    next : (r : ℕ) → r + 1 ≡ suc r
-    next r = omega arith
-
 -- sections of paths of one node and more begin one place earlier
 pub section-begins : (n r : ℕ) → free_begins n (suc r) ≡ 1 + section_at n r
 section-begins n zero = omega arith
 section-begins n (suc r) = let e = section-begins n r in omega arith
 
+-- where those of one node more begin, as the code reckons it
 pub one_more : (n r : ℕ) → free_begins n (r + 1) ≡ free_begins n (suc r)
 one_more n r = ap (free_begins n) (next r)
   where

@@ -1,25 +1,24 @@
 -- What was heard by path, as it lies flat over the other members.
-use Rattle.std.proofs.Common.{ℕ, zero, suc, ◌≡◌, ◌≢◌, ◌<◌, ◌≤◌, ◌+◌, ◌-◌, ◌==◌, Bool, true, false, not, List, [], ◌∷◌, ◌++◌, length, map, get_or, refl, sym, ap, ap₂, subst, ◌∙◌, inl, inr, arith, eq-eqb, eqb-true, ne_eqb}
+use Rattle.std.proofs.Common.{ℕ, zero, suc, ◌≡◌, ◌≢◌, ◌<◌, ◌≤◌, ◌+◌, ◌-◌, ◌*◌, ◌==◌, Bool, true, List, [], ◌∷◌, ◌++◌, length, map, get_or, refl, sym, ap, ap₂, subst, ◌∙◌, inl, inr, arith, eq-eqb, ne_eqb}
 use Rattle.std.specs.Prelude.{nat_le, if◌then◌else◌, Option}
-use Rattle.std.proofs.lemmas.Bool.{cases_Bool, cases_lt, cases_eq, le-leb, lt-leb, cond-true, cond-false, both_ways, and_parts, not-true}
-use Rattle.std.proofs.lemmas.List.{get_or-map, length-map, length_push, ext_get_or}
+use Rattle.std.proofs.lemmas.Bool.{cases_Bool, cases_lt, cases_eq, le-leb, lt-leb, cond-true, cond-false, both_ways}
+use Rattle.std.proofs.lemmas.List.{get_or-map, length-map, length_push}
 use Rattle.node_grid.specs.NodeSet.{has_id, without_id, IsIdSet}
 use Rattle.node_grid.specs.Count.{Distinct}
 use Rattle.omh_paths.specs.declared.wrapped.Wrapped.{Wrapped}
 use Rattle.omh_paths.specs.declared.wrapped.Wrapped.TheVariants.{Fault}
-use Rattle.omh_paths.specs.Paths.{outside, paths_of_length, path_count, path_at, place_in, IsListed}
-use Rattle.omh_paths.specs.PathLists.{length-paths, place-lt, path_at-place, place-path_at, IsListed-at, Distinct-without, has-of-without, has-without, has-without-left}
+use Rattle.omh_paths.specs.Paths.{outside, paths_of_length, path_count, place_in, index_in, IsListed}
+use Rattle.omh_paths.specs.PathLists.{length-paths, place-lt, path_at-place, place-path_at, IsListed-at, Distinct-without, has-of-without, has-without, index_in-lt, at-index_in, length-outside, path_count-last, path_at-push}
 use Rattle.omh_paths.specs.MemberLaws.{Distinct-ids}
-use Rattle.omh.specs.Omh.{Ear}
 use Rattle.omh.specs.Heard.{Entry, Hearing, entry, heard_in, heard_paths, nothing_heard, ear_of}
-use Rattle.omh.specs.HeardLaws.{IsHeardPath, heard_in-at, entries_alike, has-without-me, IsHeardPath-push}
+use Rattle.omh.specs.HeardLaws.{IsHeardPath, heard_in-at, entries_alike, has-without-me}
 use Rattle.omh.specs.Flat.{section_at, flat_heard}
 use Rattle.omh.specs.FlatLaws.{section_at-le}
-use Rattle.relay_walk.specs.WalkLaws.{has_kept}
 use Rattle.relay_walk.specs.Laid.{laid}
 use Rattle.relay_walk.specs.LaidLaws.{laid_before, laid_in, laid_behind}
 use Rattle.relay_table.specs.Tabled.{kept_nodes, kept_heard, heard_among, told_in, after_frames}
 use Rattle.relay_table.specs.Settling.{other_path, HearsKept, HearsLast}
+use Rattle.relay_table.proofs.Settled.{child_low}
 
 -- ---- where terms are kept
 
@@ -161,7 +160,7 @@ place_there {V} others most len k flat d some low few =
     ∙ ap (λ (l : ℕ). get_or flat (section_at (length others) (l - 1) + place_in (paths_of_length others l) (other_path others len k)) (Fault 0)) long
     ∙ ap (λ (j : ℕ). get_or flat (section_at (length others) (len - 1) + j) (Fault 0)) (place-path_at others len k d few)
 
-kept-le : (m : ℕ) → kept_nodes m ≤ m + 1
+pub kept-le : (m : ℕ) → kept_nodes m ≤ m + 1
 kept-le zero = omega arith
 kept-le (suc zero) = omega arith
 kept-le (suc (suc m)) = omega arith
@@ -185,7 +184,7 @@ heard_at {V} n members others me rounds len k flat ids is some low few =
 -- as it is after the last round, and where nothing is relayed
 pub hears_after : {V : Type 0} (n : ℕ) (members others : List ℕ) (me rounds : ℕ) (full : Bool) (flat : List (Wrapped V)) (frames : ℕ → Option (List (Wrapped V))) (h : Hearing V)
     → IsIdSet n members → others ≡ without_id members me → h.rounds ≡ rounds → h.members ≡ members → h.me ≡ me → h.full ≡ full → h.heard ≡ heard_among members me rounds flat
-    → HearsKept rounds members others me full flat (ear_of (after_frames frames rounds h))
+    → HearsKept rounds rounds members others me full flat (ear_of (after_frames frames rounds h))
 hears_after {V} n members others me rounds full flat frames h ids is rounds_are members_are me_is full_is heard_is = record {
   rounds_are = rounds_are;
   members_are = members_are;
@@ -213,19 +212,33 @@ pub hears_last_after : {V : Type 0} (n : ℕ) (members others : List ℕ) (me ro
     → HearsLast frames members others rounds (ear_of (after_frames frames rounds h))
 hears_last_after {V} n members others me rounds flat frames h ids is some members_are heard_is k q low on =
     let d = Distinct-ids n members ids in
+    let dist = subst Distinct (sym is) (Distinct-without members me d) in
     let f : List ℕ → Wrapped V = kept_heard (kept_nodes rounds) (without_id members me) flat in
     let says : List ℕ → Wrapped V = told_in frames h.members rounds in
     let front : List ℕ = other_path others rounds k in
     let path : List ℕ = front ++ q ∷ [] in
-    let real = real_path n members others me rounds rounds k ids is some (omega arith) low in
-    let both = and_parts (not (has_id front q)) (has_id others q) (sym (has_kept (λ x. not (has_id front x)) others q) ∙ on) in
-    let left = has-without-left members me q (ap (λ (s : List ℕ). has_id s q) (sym is) ∙ both.1) in
-    let dist = subst Distinct (sym is) (Distinct-without members me d) in
-    let long : length front ≡ rounds = (IsListed-at others rounds k dist low).long in
-    let all : IsHeardPath members me rounds path = IsHeardPath-push q real left.1 (not-true _ both.0) left.0 (omega (arith, long)) in
-    let grown : length path ≡ rounds + 1 = length_push front q ∙ omega (arith, long) in
+    let listed : IsListed others rounds front = IsListed-at others rounds k dist low in
+    let w : ℕ = length others - rounds in
+    let i : ℕ = index_in (outside others front) q in
+    let within : i < w = omega (arith, index_in-lt (outside others front) q on, length-outside others front dist listed.distinct listed.within, listed.long) in
+    let there : k * w + i < path_count (length others) (suc rounds) = omega (arith, child_low k (path_count (length others) rounds) w i low within, path_count-last (length others) rounds) in
+    let at : other_path others (suc rounds) (k * w + i) ≡ path = path_at-push others rounds k i dist low within ∙ ap (λ (x : ℕ). front ++ x ∷ []) (at-index_in (outside others front) q 0 on) in
+    let real : IsHeardPath members me rounds path = subst (IsHeardPath members me rounds) at (real_path n members others me rounds (suc rounds) (k * w + i) ids is (omega arith) (omega arith) there) in
+    let grown : length path ≡ rounds + 1 = length_push front q ∙ omega (arith, listed.long) in
     ap (λ (es : List (Entry V)). heard_in (map (told_to rounds says) es) path) heard_is
     ∙ ap (λ (es : List (Entry V)). heard_in es path) (told_entries rounds says f (heard_paths members me rounds))
-    ∙ heard_in-at (λ p. if length p == rounds + 1 then says p else f p) members me rounds path d all
+    ∙ heard_in-at (λ p. if length p == rounds + 1 then says p else f p) members me rounds path d real
     ∙ cond-true (length path == rounds + 1) (says path) (f path) (eq-eqb (length path) (rounds + 1) grown)
     ∙ ap (λ (ms : List ℕ). told_in frames ms rounds path) members_are
+
+-- as it is before that
+pub hears_now : {V : Type 0} (n : ℕ) (members others : List ℕ) (me rounds : ℕ) (full : Bool) (flat : List (Wrapped V)) (h : Hearing V)
+    → IsIdSet n members → others ≡ without_id members me → h.rounds ≡ rounds → h.members ≡ members → h.me ≡ me → h.full ≡ full → h.heard ≡ heard_among members me rounds flat
+    → HearsKept rounds (kept_nodes rounds) members others me full flat (ear_of h)
+hears_now {V} n members others me rounds full flat h ids is rounds_are members_are me_is full_is heard_is = record {
+  rounds_are = rounds_are;
+  members_are = members_are;
+  me_is = me_is;
+  full_is = full_is;
+  heard = λ len k some low few. ap (λ (es : List (Entry V)). heard_in es (other_path others len k)) heard_is ∙ heard_at n members others me rounds len k flat ids is some low few;
+}

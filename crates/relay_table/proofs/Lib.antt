@@ -1,7 +1,10 @@
 pub mod Frees
 pub mod Known
+pub mod Filling
 pub mod Stations
 pub mod Walks
 pub mod Apart
 pub mod Settled
 pub mod HeardView
+pub mod Convicted
+pub mod Tables

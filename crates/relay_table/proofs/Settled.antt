@@ -1,9 +1,9 @@
 -- Settling the longest paths from the frames of the last round, and shorter ones from those.
-use Rattle.std.proofs.Common.{ℕ, zero, suc, ◌≡◌, ◌<◌, ◌≤◌, ◌+◌, ◌-◌, ◌*◌, Bool, true, false, not, List, [], ◌∷◌, ◌++◌, length, map, take, drop, get_or, refl, sym, ap, ap₂, subst, ◌∙◌, inl, inr, arith}
+use Rattle.std.proofs.Common.{ℕ, suc, ◌≡◌, ◌<◌, ◌≤◌, ◌+◌, ◌-◌, ◌*◌, Bool, true, false, not, List, [], ◌∷◌, ◌++◌, length, map, take, drop, get_or, refl, sym, ap, ap₂, subst, ◌∙◌, inl, inr, arith}
 use Rattle.std.specs.Prelude.{if◌then◌else◌, Option}
-use Rattle.std.proofs.Math.Nat.{mul-add, mul-le-mul}
+use Rattle.std.proofs.Math.Nat.{mul-le-mul}
 use Rattle.std.proofs.lemmas.Nat.{mul-add-lt}
-use Rattle.std.proofs.lemmas.Bool.{cases_Bool, cases_lt, cases_eq, cond-true, cond-false}
+use Rattle.std.proofs.lemmas.Bool.{cases_Bool, cases_eq, cond-true, cond-false}
 use Rattle.std.proofs.lemmas.List.{get_or-drop, get_or-take, get_or-map, ext_get_or, length-map, length-take, length-drop, length_push, take_all}
 use Rattle.node_grid.specs.NodeSet.{has_id, without_id, IsIdSet}
 use Rattle.node_grid.specs.Count.{bit, count, Distinct}
@@ -12,7 +12,7 @@ use Rattle.omh_paths.specs.declared.wrapped.Wrapped.TheVariants.{Fault}
 use Rattle.omh_paths.specs.Wrapped.{IsExact, unwrapped}
 use Rattle.omh_paths.specs.Majority.{majority}
 use Rattle.omh_paths.specs.Paths.{outside, paths_of_length, path_count, path_at, IsListed}
-use Rattle.omh_paths.specs.PathLists.{length-paths, path_at-push, path_count-last, IsListed-at, Distinct-without, length-outside, has-at}
+use Rattle.omh_paths.specs.PathLists.{length-paths, path_at-push, path_count-last, IsListed-at, Distinct-without, length-outside}
 use Rattle.omh_paths.specs.Tables.{tables_law}
 use Rattle.omh_paths.specs.MemberLaws.{Distinct-ids}
 use Rattle.omh.specs.Omh.{Ear, settled_within, settled_at}
@@ -89,9 +89,10 @@ module _ {V : Type 0} {n : ℕ} (read : List ℕ → Wrapped V) (members others 
   }
 
   -- what is settled for it
-  module _ {eq : V → V → Bool} (exact : IsExact eq) (full : Bool) (flat : List (Wrapped V)) (x : Ear V) (some : 0 < r) (kept : HearsKept r members others me full flat x) (last : HearsLast (entries_of read first) members others r x) where
+  module _ {eq : V → V → Bool} (exact : IsExact eq) (full : Bool) (flat : List (Wrapped V)) (x : Ear V) (some : 0 < r) (kept : HearsKept r r members others me full flat x) (last : HearsLast (entries_of read first) members others r x)
+      (section : List (Wrapped V)) (section_is : section ≡ drop (section_at (length others) (r - 1)) flat) where
     settled_next : (out : is_on_path members me free ≡ false)
-        → unwrapped (majority eq (own_said full members me (get_or (drop (section_at (length others) (r - 1)) flat) at (Fault 0)) ∷ map (next_in read now) (without_id free me))) ≡ settled_at eq x (other_path others r at)
+        → unwrapped (majority eq (own_said full members me (get_or section at (Fault 0)) ∷ map (next_in read now) (without_id free me))) ≡ settled_at eq x (other_path others r at)
     settled_next out =
         let d = Distinct-ids n members ids in
         let dx : Distinct x.members = subst Distinct (sym kept.members_are) d in
@@ -102,9 +103,9 @@ module _ {V : Type 0} {n : ℕ} (read : List ℕ → Wrapped V) (members others 
         let dist = subst Distinct (sym others_are) (Distinct-without members me d) in
         let long : length (other_path others r at) ≡ r = (IsListed-at others r at dist lo).long in
         let times : x.rounds + 1 - length (other_path others r at) ≡ 1 = omega (arith, kept.rounds_are, long) in
-        let heard : get_or (drop (section_at (length others) (r - 1)) flat) at (Fault 0) ≡ x.heard (other_path others r at) =
-        get_or-drop (section_at (length others) (r - 1)) flat at (Fault 0) ∙ sym (kept.heard r at some (omega arith) lo) in
-        let own : own_said full members me (get_or (drop (section_at (length others) (r - 1)) flat) at (Fault 0)) ≡ own_said x.full x.members x.me (x.heard (other_path others r at)) =
+        let heard : get_or section at (Fault 0) ≡ x.heard (other_path others r at) =
+        ap (λ (ts : List (Wrapped V)). get_or ts at (Fault 0)) section_is ∙ get_or-drop (section_at (length others) (r - 1)) flat at (Fault 0) ∙ sym (kept.heard r at some (omega arith) lo) in
+        let own : own_said full members me (get_or section at (Fault 0)) ≡ own_said x.full x.members x.me (x.heard (other_path others r at)) =
         ap (own_said full members me) heard
         ∙ ap (λ (b : Bool). own_said b members me (x.heard (other_path others r at))) (sym kept.full_is)
         ∙ ap₂ (λ (s : List ℕ) (i : ℕ). own_said x.full s i (x.heard (other_path others r at))) (sym kept.members_are) (sym kept.me_is) in
@@ -121,10 +122,10 @@ module _ {V : Type 0} {n : ℕ} (read : List ℕ → Wrapped V) (members others 
 
     pub settled_more : (terms new : List (Wrapped V)) (after : ℕ) → after ≡ (if is_on_path members me free then at else at + 1) → path_count (length others) r ≤ length terms
         → new ≡ (if is_on_path members me free then terms
-        else laid at (unwrapped (majority eq (own_said full members me (get_or (drop (section_at (length others) (r - 1)) flat) at (Fault 0)) ∷ map (next_in read now) (without_id free me))) ∷ []) terms)
+        else laid at (unwrapped (majority eq (own_said full members me (get_or section at (Fault 0)) ∷ map (next_in read now) (without_id free me))) ∷ []) terms)
         → AreSettledTo eq x others r at terms → AreSettledTo eq x others r after new
     settled_more terms new after goes room is was j low-j =
-        let value : Wrapped V = unwrapped (majority eq (own_said full members me (get_or (drop (section_at (length others) (r - 1)) flat) at (Fault 0)) ∷ map (next_in read now) (without_id free me))) in
+        let value : Wrapped V = unwrapped (majority eq (own_said full members me (get_or section at (Fault 0)) ∷ map (next_in read now) (without_id free me))) in
         elim (cases_Bool (is_on_path members me free)) [
           | inl on ↦
               let e : after ≡ at = goes ∙ cond-true (is_on_path members me free) at (at + 1) on in
@@ -161,8 +162,19 @@ passed_all n members others me r k ids is past =
 next_len : (len : ℕ) → len + 1 ≡ suc len
 next_len len = omega arith
 
+-- the terms of the paths behind the k-th one are there
+pub terms_fit : (n len k room : ℕ) → k < path_count n len → path_count n (len + 1) ≤ room → k * (n - len) + (n - len) ≤ room
+terms_fit n len k room low fits =
+    let m : (k + 1) * (n - len) ≤ path_count n len * (n - len) = mul-le-mul (omega arith) (le-refl (n - len)) in
+    let e : (k + 1) * (n - len) ≡ k * (n - len) + (n - len) = omega arith in
+    let all : path_count n (len + 1) ≡ path_count n len * (n - len) = ap (path_count n) (next_len len) ∙ path_count-last n len in
+    omega (arith, m, e, all, fits)
+  where
+    le-refl : (n : ℕ) → n ≤ n
+    le-refl n = omega arith
+
 -- terms of the paths behind the k-th one stand behind those of the paths before it
-child_low : (k c w i : ℕ) → k < c → i < w → k * w + i < c * w
+pub child_low : (k c w i : ℕ) → k < c → i < w → k * w + i < c * w
 child_low k c w i low within = let h = mul-add-lt k w i c low within in omega (arith, h)
 
 ahead : (k w i : ℕ) → i < w → k ≤ k * w + i
@@ -173,8 +185,9 @@ ahead k w i within = let m : k * 1 ≤ k * w = mul-le-mul (le-refl k) (omega ari
 
 module _ {V : Type 0} {eq : V → V → Bool} (exact : IsExact eq) (n : ℕ) (members others : List ℕ) (me rounds len k : ℕ) (full : Bool) (flat old now : List (Wrapped V)) (x : Ear V)
     (ids : IsIdSet n members) (others_are : others ≡ without_id members me) (some : 0 < len) (shorter : len < rounds) (low : k < path_count (length others) len)
-    (kept : HearsKept rounds members others me full flat x) (longer : AreSettled eq x others (len + 1) old) (rest : (i : ℕ) → k ≤ i → get_or now i (Fault 0) ≡ get_or old i (Fault 0))
-    (room : path_count (length others) (len + 1) ≤ length now) where
+    (kept : HearsKept rounds rounds members others me full flat x) (longer : AreSettled eq x others (len + 1) old) (rest : (i : ℕ) → k ≤ i → get_or now i (Fault 0) ≡ get_or old i (Fault 0))
+    (room : path_count (length others) (len + 1) ≤ length now)
+    (section : List (Wrapped V)) (section_is : section ≡ drop (section_at (length others) (len - 1)) flat) where
   abbrev w : ℕ
   w = length others - len
 
@@ -193,15 +206,6 @@ module _ {V : Type 0} {eq : V → V → Bool} (exact : IsExact eq) (n : ℕ) (me
   all_children : path_count (length others) (len + 1) ≡ path_count (length others) len * w
   all_children = ap (path_count (length others)) (next_len len) ∙ path_count-last (length others) len
 
-  pub terms_fit : k * w + w ≤ length now
-  terms_fit = let m : k * w + w ≤ path_count (length others) len * w = piece_fits k w (path_count (length others) len) low in omega (arith, m, all_children)
-    where
-      piece_fits : (k w c : ℕ) → k < c → k * w + w ≤ c * w
-      piece_fits k w c low = let m : (k + 1) * w ≤ c * w = mul-le-mul (omega arith) (le-refl w) in let e : (k + 1) * w ≡ k * w + w = omega arith in omega (arith, m, e)
-        where
-          le-refl : (n : ℕ) → n ≤ n
-          le-refl n = omega arith
-
   child : (i : ℕ) → i < w → get_or now (k * w + i) (Fault 0) ≡ settled_within eq x (rounds - len) (here ++ get_or (outside others here) i 0 ∷ [])
   child i within =
       let c = child_low k (path_count (length others) len) w i low within in
@@ -217,21 +221,21 @@ module _ {V : Type 0} {eq : V → V → Bool} (exact : IsExact eq) (n : ℕ) (me
   children : take w (drop (k * w) now) ≡ map (λ q. settled_within eq x (rounds - len) (here ++ q ∷ [])) (outside others here)
   children =
       let t : ℕ → Wrapped V = λ q. settled_within eq x (rounds - len) (here ++ q ∷ []) in
-      let long : length (take w (drop (k * w) now)) ≡ w = omega (arith, length-take w (drop (k * w) now), length-drop (k * w) now, terms_fit) in
+      let long : length (take w (drop (k * w) now)) ≡ w = omega (arith, length-take w (drop (k * w) now), length-drop (k * w) now, terms_fit (length others) len k (length now) low room) in
       ext_get_or (Fault 0) (take w (drop (k * w) now)) (map t (outside others here)) (omega (arith, long, wide, length-map (outside others here) t)) (λ i l.
       let within : i < w = omega (arith, long) in
       get_or-take w (drop (k * w) now) i (Fault 0) within ∙ get_or-drop (k * w) now i (Fault 0) ∙ child i within
       ∙ sym (get_or-map t (outside others here) i 0 (Fault 0) (omega (arith, wide))))
 
-  pub settled_shorter : unwrapped (majority eq (own_said full members me (get_or (drop (section_at (length others) (len - 1)) flat) k (Fault 0)) ∷ take w (drop (k * w) now))) ≡ settled_at eq x here
+  pub settled_shorter : unwrapped (majority eq (own_said full members me (get_or section k (Fault 0)) ∷ take w (drop (k * w) now))) ≡ settled_at eq x here
   settled_shorter =
       let dx : Distinct x.members = subst Distinct (sym kept.members_are) (Distinct-ids n members ids) in
       let ox : others ≡ without_id x.members x.me = others_are ∙ ap₂ (λ (s : List ℕ) (i : ℕ). without_id s i) (sym kept.members_are) (sym kept.me_is) in
       let off : has_id here x.me ≡ false = ap (has_id here) kept.me_is ∙ has-without-me members me here (λ q on. subst (λ (s : List ℕ). has_id s q ≡ true) others_are (listed.within q on)) in
       let times : x.rounds + 1 - length here ≡ suc (rounds - len) = omega (arith, kept.rounds_are, listed.long) in
-      let heard : get_or (drop (section_at (length others) (len - 1)) flat) k (Fault 0) ≡ x.heard here =
-      get_or-drop (section_at (length others) (len - 1)) flat k (Fault 0) ∙ sym (kept.heard len k some (omega arith) low) in
-      let own : own_said full members me (get_or (drop (section_at (length others) (len - 1)) flat) k (Fault 0)) ≡ own_said x.full x.members x.me (x.heard here) =
+      let heard : get_or section k (Fault 0) ≡ x.heard here =
+      ap (λ (ts : List (Wrapped V)). get_or ts k (Fault 0)) section_is ∙ get_or-drop (section_at (length others) (len - 1)) flat k (Fault 0) ∙ sym (kept.heard len k some (omega arith) low) in
+      let own : own_said full members me (get_or section k (Fault 0)) ≡ own_said x.full x.members x.me (x.heard here) =
       ap (own_said full members me) heard
       ∙ ap (λ (b : Bool). own_said b members me (x.heard here)) (sym kept.full_is)
       ∙ ap₂ (λ (s : List ℕ) (i : ℕ). own_said x.full s i (x.heard here)) (sym kept.members_are) (sym kept.me_is) in
@@ -240,7 +244,7 @@ module _ {V : Type 0} {eq : V → V → Bool} (exact : IsExact eq) (n : ℕ) (me
       ∙ ap (λ (t : ℕ). settled_within eq x t here) (sym times)
 
   pub shorter_more : (new : List (Wrapped V)) (value : Wrapped V) → k < length now → AreSettledTo eq x others len k now
-      → value ≡ unwrapped (majority eq (own_said full members me (get_or (drop (section_at (length others) (len - 1)) flat) k (Fault 0)) ∷ take w (drop (k * w) now)))
+      → value ≡ unwrapped (majority eq (own_said full members me (get_or section k (Fault 0)) ∷ take w (drop (k * w) now)))
       → new ≡ laid k (value ∷ []) now → AreSettledTo eq x others len (k + 1) new
   shorter_more new value fits was value_is is j low-j =
       ap (λ (ts : List (Wrapped V)). get_or ts j (Fault 0)) is

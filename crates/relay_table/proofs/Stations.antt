@@ -1,24 +1,24 @@
 -- What the rooms of a station are large enough for.
-use Rattle.std.proofs.Common.{ℕ, suc, ◌≡◌, ◌<◌, ◌≤◌, ◌+◌, ◌-◌, true, false, List, [], ◌∷◌, length, map, get_or, refl, sym, ap, subst, ◌∙◌, inl, inr, arith, eq-eqb, eqb-true}
-use Rattle.std.specs.Prelude.{◌==◌, ◌&&◌, not, Bool, Option}
+use Rattle.std.proofs.Common.{ℕ, zero, suc, ◌≡◌, ◌<◌, ◌≤◌, ◌+◌, ◌-◌, ◌*◌, true, false, List, [], ◌∷◌, length, map, get_or, refl, sym, ap, subst, ◌∙◌, inl, inr, arith, eq-eqb, eqb-true}
+use Rattle.std.specs.Prelude.{◌==◌, ◌&&◌, not, Bool}
 use Rattle.std.proofs.lemmas.Bool.{and_parts, or_cases}
 use Rattle.std.proofs.lemmas.List.{length-map}
-use Rattle.node_grid.specs.Capacity.{IsCapacity}
 use Rattle.node_grid.specs.CapacityLaws.{capacity-le}
 use Rattle.node_grid.specs.NodeSet.{has_id, without_id, IsIdSet}
 use Rattle.node_grid.specs.NodeSetLaws.{has-without_id}
 use Rattle.node_grid.specs.Count.{Distinct}
 use Rattle.omh_paths.specs.declared.wrapped.Wrapped.{Wrapped}
-use Rattle.omh_paths.specs.Paths.{outside, paths_of_length, path_count, path_at}
-use Rattle.omh_paths.specs.PathLists.{length-paths, Distinct-without}
-use Rattle.omh_paths.specs.MemberLaws.{Distinct-ids}
+use Rattle.omh_paths.specs.Paths.{outside, paths_of_length, path_count, path_at, index_in}
+use Rattle.omh_paths.specs.PathLists.{length-paths, Distinct-without, path_at-cons, index_in-lt, at-index_in}
+use Rattle.omh_paths.specs.MemberLaws.{Distinct-ids, path_count-few}
 use Rattle.omh.specs.Flat.{section_at}
-use Rattle.omh.specs.FlatLaws.{section_at-le, path_count-mono}
+use Rattle.omh.specs.FlatLaws.{section_at-le}
 use Rattle.omh.proofs.Flats.{few_below}
-use Rattle.relay_table.specs.Free.{free_begins, AreFree}
+use Rattle.relay_table.specs.Free.{free_begins}
 use Rattle.relay_table.specs.Rooms.{IsFreeRoom}
-use Rattle.relay_table.specs.Tabled.{IsStation, kept_nodes, told_in}
-use Rattle.relay_table.proofs.Frees.{begins-mono, begins-few}
+use Rattle.relay_table.specs.Settling.{other_path}
+use Rattle.relay_table.specs.Tabled.{IsStation, kept_nodes}
+use Rattle.relay_table.proofs.Frees.{begins-mono, begins-few, section-begins}
 
 -- ---- how many members there are
 
@@ -79,3 +79,51 @@ pub set_there : (nodes rounds : ℕ) (members : List ℕ) (sets : List (List ℕ
     → free_begins count r + k < length sets
 set_there nodes rounds members sets count r k room same few low here =
     omega (arith, room.long, set_low nodes rounds r k members few low here, ap (λ (c : ℕ). free_begins c r) same)
+
+section_ends : (n r : ℕ) → 0 < r → section_at n r ≡ section_at n (r - 1) + path_count n r
+section_ends n zero some = absurd (omega arith)
+section_ends n (suc r) some = ap (λ (k : ℕ). section_at n k + path_count n (suc r)) (back r)
+  where
+    back : (r : ℕ) → r ≡ suc r - 1
+    back r = omega arith
+
+-- where the section of the paths of r nodes begins, and that it lies within what was heard
+pub begins_within : (count n r begins room : ℕ) → count ≡ n → begins ≡ section_at count (r - 1) → 0 < r → section_at n r ≤ room → (begins ≡ section_at n (r - 1)) × (begins + path_count n r ≤ room)
+begins_within count n r begins room same is some fits =
+    let e : begins ≡ section_at n (r - 1) = is ∙ ap (λ (c : ℕ). section_at c (r - 1)) same in
+    (e, omega (arith, e, section_ends n r some, fits))
+
+-- ---- what a table has room for
+
+section-few : (n m r : ℕ) → n ≤ m → section_at n r ≤ section_at m r
+section-few n m r h = omega (arith, begins-few n m (suc r) h, section-begins n r, section-begins m r)
+
+pub section_small : (n r : ℕ) → n ≤ 16 → r ≤ 4 → section_at n r ≤ 65536 * r
+section_small n zero few short = omega arith
+section_small n (suc r) few short = omega (arith, section_small n r few (omega arith), path_count-few n (suc r) few short)
+
+kept_few : (m : ℕ) → m ≤ 3 → kept_nodes m ≤ 3
+kept_few zero h = omega arith
+kept_few (suc zero) h = omega arith
+kept_few (suc (suc m)) h = h
+
+module _ {capacity nodes rounds me : ℕ} {members others : List ℕ} (s : IsStation capacity nodes rounds me members others) where
+  pub section_fits : (len : ℕ) → len ≤ kept_nodes rounds → section_at (length others) len ≤ section_at (nodes - 1) (kept_nodes rounds)
+  section_fits len low = omega (arith, section-few (length others) (nodes - 1) len s.few, section_at-le (nodes - 1) len (kept_nodes rounds) low)
+
+  pub paths_fit : (len : ℕ) → 0 < len → len ≤ kept_nodes rounds → path_count (length others) len ≤ section_at (nodes - 1) (kept_nodes rounds)
+  paths_fit len some low = omega (arith, section_ends (length others) len some, section_fits len low)
+
+  pub rooms_small : section_at (nodes - 1) (kept_nodes rounds) ≤ 262144
+  rooms_small = omega (arith, section_small (nodes - 1) (kept_nodes rounds) (omega (arith, s.nodes_ok, capacity-le capacity s.capacity_ok)) (omega (arith, kept_few rounds s.rounds_ok)), kept_few rounds s.rounds_ok)
+
+-- ---- the paths of one node
+
+pub single_path : (others : List ℕ) (k : ℕ) → Distinct others → k < length others → other_path others 1 k ≡ get_or others k 0 ∷ []
+single_path others k d low = ap (path_at (paths_of_length others 1)) (alone k) ∙ path_at-cons others 0 k 0 0 d low (omega arith)
+  where
+    alone : (k : ℕ) → k ≡ k * 1 + 0
+    alone k = omega arith
+
+pub root_path : (others : List ℕ) (c : ℕ) → Distinct others → has_id others c ≡ true → other_path others 1 (index_in others c) ≡ c ∷ []
+root_path others c d on = single_path others (index_in others c) d (index_in-lt others c on) ∙ ap (λ (q : ℕ). q ∷ []) (at-index_in others c 0 on)

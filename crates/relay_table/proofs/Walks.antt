@@ -1,22 +1,20 @@
 -- Going through all paths of a length, with the frames of their round side by side.
-use Rattle.std.proofs.Common.{ℕ, zero, suc, ◌≡◌, ◌<◌, ◌≤◌, ◌+◌, ◌-◌, ◌*◌, ◌==◌, ◌&&◌, ◌||◌, Bool, true, false, not, List, [], ◌∷◌, ◌++◌, length, map, take, drop, get_or, refl, sym, ap, ap₂, subst, ◌∙◌, inl, inr, arith, eq-eqb, eqb-true, append-nil}
-use Rattle.std.specs.Prelude.{filter, cond, if◌then◌else◌, slice_index, Option, Some, None}
+use Rattle.std.proofs.Common.{ℕ, zero, suc, ◌≡◌, ◌<◌, ◌≤◌, ◌+◌, ◌-◌, ◌==◌, ◌&&◌, Bool, true, false, not, List, [], ◌∷◌, ◌++◌, length, map, take, drop, refl, sym, ap, ap₂, subst, ◌∙◌, inl, inr, arith, append-nil}
+use Rattle.std.specs.Prelude.{filter, if◌then◌else◌, slice_index, Option, Some, None}
 use Rattle.std.specs.List.{flat_map}
-use Rattle.std.proofs.lemmas.Bool.{cases_Bool, cond-true, cond-false, both_ways, and_parts, not-true}
-use Rattle.std.proofs.lemmas.List.{take_more, take_all, flat_map_more, length_push, get_or_push, length-map, map-append, length-append}
+use Rattle.std.proofs.lemmas.Bool.{cases_Bool, cond-true, cond-false, and_parts, not-true}
+use Rattle.std.proofs.lemmas.List.{take_all, flat_map_more, length_push, get_or_push, length-map, map-append, length-append}
 use Rattle.std.proofs.lemmas.List.Elements.{filter_more}
-use Rattle.std.proofs.lemmas.List.Folds.{flat_map-map}
 use Rattle.node_grid.specs.NodeSet.{has_id, without_id, IsIdSet}
 use Rattle.node_grid.specs.NodeSetLaws.{has-without_id}
-use Rattle.node_grid.specs.Count.{Distinct}
 use Rattle.omh_paths.specs.declared.wrapped.Wrapped.{Wrapped}
 use Rattle.omh_paths.specs.Paths.{outside, paths_of_length, path_count, path_at, IsListed}
-use Rattle.omh_paths.specs.PathLists.{outside-cons, outside-without, length-paths, IsListed-at, Distinct-without, length-without}
+use Rattle.omh_paths.specs.PathLists.{outside-cons, outside-without, length-paths, IsListed-at}
 use Rattle.omh_paths.specs.MemberLaws.{Distinct-ids, member-lt}
 use Rattle.omh_paths.specs.Tables.{tables_law}
 use Rattle.omh.specs.Written.{last_node}
 use Rattle.frames.specs.Reading.{pieces_of_width}
-use Rattle.path_order.specs.Order.{pushed, passed, IsNext}
+use Rattle.path_order.specs.Order.{pushed}
 use Rattle.frames.specs.Reading.{pieces_of_width}
 use Rattle.path_order.specs.OrderLaws.{longer_paths_law, cursors_law}
 use Rattle.relay_walk.specs.declared.round.Round.{Round}

@@ -1,5 +1,5 @@
 -- What a node heard of the relays of an item, flat over the other members, and what it makes of a round's frames.
-use Rattle.std.specs.Prelude.{ℕ, zero, suc, ◌≡◌, ◌≢◌, ◌≤◌, ◌<◌, ◌+◌, ◌-◌, ◌==◌, nat_le, not, ◌&&◌, true, false, Bool, List, [], map, length, All, slice_index_or, Option, None, Some, if◌then◌else◌}
+use Rattle.std.specs.Prelude.{ℕ, zero, suc, ◌≡◌, ◌≢◌, ◌≤◌, ◌<◌, ◌+◌, ◌-◌, ◌==◌, nat_le, not, ◌&&◌, true, false, Bool, List, [], map, length, slice_index_or, Option, None, Some, if◌then◌else◌}
 use Rattle.node_grid.specs.Capacity.{IsCapacity}
 use Rattle.node_grid.specs.NodeSet.{has_id, without_id, ids_below, ids_where, IsIdSet}
 use Rattle.omh_paths.specs.declared.wrapped.Wrapped.{Wrapped}
@@ -7,7 +7,7 @@ use Rattle.omh_paths.specs.declared.wrapped.Wrapped.TheVariants.{Plain, Fault}
 use Rattle.equivocation.specs.Conviction.{convicts}
 use Rattle.omh.specs.Omh.{settled_from}
 use Rattle.omh.specs.Heard.{Entry, Hearing, entry, ear_of, heard_paths, nothing_heard}
-use Rattle.omh.specs.Flat.{section_at, flat_heard}
+use Rattle.omh.specs.Flat.{flat_heard}
 use Rattle.omh.specs.Written.{last_node}
 use Rattle.relay_walk.specs.Walking.{says}
 

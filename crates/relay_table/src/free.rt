@@ -1,5 +1,7 @@
-ghost use Rattle.std.specs.Prelude.{◌≡◌, ◌+◌, ◌≤◌, ◌<◌, ◌∷◌, [], length, replicate, slice_index_or, IfOk};
+ghost use Rattle.std.specs.Prelude.{◌≡◌, ◌+◌, ◌≤◌, ◌<◌, ◌∷◌, []};
+ghost use Rattle.std.specs.Prelude.{length, replicate, slice_index_or, IfOk};
 ghost use Rattle.node_grid.specs.Capacity.{IsCapacity};
+ghost use Rattle.node_grid.specs.NodeSet.{IsIdSet};
 ghost use Rattle.path_order.specs.Order.{each_left_out};
 ghost use Rattle.relay_walk.specs.Laid.{laid};
 ghost use Rattle.relay_table.specs.Free.{free_begins, AreFree, left_out_of};
@@ -86,8 +88,10 @@ fn lay_longer<const N: usize>(from: usize, until: usize, sets: &mut [NodeSet<N>]
 fn lay_free<const N: usize>(members: &NodeSet<N>, m: u8, sets: &mut [NodeSet<N>])
     requires capacity { IsCapacity N }
     requires rounds { m ≤ 3 }
-    requires room { free_begins (length members.now) (m + 1) ≤ length sets.old }
+    requires room { IsIdSet N members.now
+        → free_begins (length members.now) (m + 1) ≤ length sets.old }
     requires small { length sets.old ≤ 1048576 }
+    ensures ids { IsIdSet N members.now }
     ensures free { AreFree members.now m sets.new }
     ensures room { length sets.new ≡ length sets.old }
 {
@@ -100,13 +104,13 @@ fn lay_free<const N: usize>(members: &NodeSet<N>, m: u8, sets: &mut [NodeSet<N>]
 
 /// The members outside each path of none to m members.
 #[derive(Drop)]
-pub struct FreeMembers<const N: usize> {
+pub(crate) struct FreeMembers<const N: usize> {
     sets: Vec<NodeSet<N>>,
 }
 
 impl<const N: usize> FreeMembers<N> {
     /// Room for the sets of paths of up to `m` out of `nodes` members, as of no members.
-    pub fn open(alloc: Global, nodes: u8, m: u8) -> Result<FreeMembers<N>, NoMemory>
+    pub(crate) fn open(alloc: Global, nodes: u8, m: u8) -> Result<FreeMembers<N>, NoMemory>
         requires capacity { IsCapacity N }
         requires nodes { nodes ≤ N }
         requires rounds { m ≤ 3 }
@@ -120,11 +124,13 @@ impl<const N: usize> FreeMembers<N> {
     }
 
     /// Lays the sets of paths of up to `m` of these members.
-    pub fn fill(&mut self, members: &NodeSet<N>, m: u8)
+    pub(crate) fn fill(&mut self, members: &NodeSet<N>, m: u8)
         requires capacity { IsCapacity N }
         requires rounds { m ≤ 3 }
-        requires room { free_begins (length members.now) (m + 1) ≤ length self.old.sets.items }
+        requires room { IsIdSet N members.now
+            → free_begins (length members.now) (m + 1) ≤ length self.old.sets.items }
         requires small { length self.old.sets.items ≤ 1048576 }
+        ensures ids { IsIdSet N members.now }
         ensures free { AreFree members.now m self.new.sets.items }
         ensures room { length self.new.sets.items ≡ length self.old.sets.items }
     {
@@ -132,7 +138,7 @@ impl<const N: usize> FreeMembers<N> {
     }
 
     /// The members outside a path, which stands at place `k` among those of `len` out of `members`.
-    pub fn outside(&self, members: u8, len: u8, k: usize) -> NodeSet<N>
+    pub(crate) fn outside(&self, members: u8, len: u8, k: usize) -> NodeSet<N>
         requires members { members ≤ 16 }
         requires short { len ≤ 4 }
         requires place { free_begins members len + k < length self.now.sets.items }

@@ -8,5 +8,4 @@ mod free;
 mod station;
 mod table;
 
-pub use free::FreeMembers;
 pub use table::Table;

@@ -1,10 +1,11 @@
 ghost use Rattle.std.specs.Prelude.{◌≡◌, ◌≢◌, ◌+◌, ◌≤◌, ◌<◌, ◌∷◌, [], ◌==◌, ◌&&◌, not, ℕ, suc};
-ghost use Rattle.std.specs.Prelude.{length, map, take, drop, slice_index_or, false, if◌then◌else◌};
+ghost use Rattle.std.specs.Prelude.{length, map, take, drop, slice_index_or, true, false};
+ghost use Rattle.std.specs.Prelude.{if◌then◌else◌};
 ghost use Rattle.node_grid.specs.Capacity.{IsCapacity};
 ghost use Rattle.node_grid.specs.NodeSet.{has_id, without_id, ids_below, ids_where};
 ghost use Rattle.equivocation.specs.Conviction.{convicts, is_convicted};
 ghost use Rattle.omh_paths.specs.declared.wrapped.Wrapped.TheVariants.{Plain, Fault};
-ghost use Rattle.omh_paths.specs.Wrapped.{IsExact, unwrapped};
+ghost use Rattle.omh_paths.specs.Wrapped.{IsExact, unwrapped, is_error, same};
 ghost use Rattle.omh_paths.specs.Majority.{majority};
 ghost use Rattle.omh_paths.specs.Paths.{paths_of_length, path_count, outside};
 ghost use Rattle.omh.specs.Omh.{Ear};
@@ -14,8 +15,8 @@ ghost use Rattle.relay_walk.specs.Laid.{laid};
 ghost use Rattle.relay_walk.specs.Walking.{HaveNext, IsMoved, IsWalk, next_in, entries_of};
 ghost use Rattle.relay_table.specs.Rooms.{IsRoom};
 ghost use Rattle.relay_table.specs.Settling.{is_on_path, own_said, IsSeated, IsSets};
-ghost use Rattle.relay_table.specs.Settling.{IsKeptBy, IsToldLast, AreSettled};
-ghost use Rattle.relay_table.specs.Settling.{settled_at_place, kept_ear};
+ghost use Rattle.relay_table.specs.Settling.{IsKeptBy, IsHeardBy, IsToldLast, AreSettled};
+ghost use Rattle.relay_table.specs.Settling.{settled_at_place};
 ghost use Rattle.relay_table.specs.Tabled.{AreKnown, kept_nodes, told_in, item_told};
 
 use crate::free::{FreeMembers, free_begins};
@@ -46,13 +47,16 @@ fn told_term<V: Item>(told: &[Option<V>], member: u8) -> Term<V>
     }
 }
 
+/// Whether a relay is there, and is another term than one of this item would be.
+fn disagrees<V: Item>(own: &Term<V>, relay: &Term<V>) -> bool
+    ensures { result ≡ (not (is_error (said relay.now))
+        && not (same V.eq (said relay.now) (said own.now))) }
+{
+    !relay.is_nothing() && !relay.is(own)
+}
+
 /// What is settled from the own term and so many terms, which begin at `from`.
-fn settled_behind<V: Item>(
-    terms: &[Term<V>],
-    from: usize,
-    width: usize,
-    own: &Term<V>,
-) -> Term<V>
+fn settled_behind<V: Item>(terms: &[Term<V>], from: usize, width: usize, own: &Term<V>) -> Term<V>
     requires exact { IsExact V.eq }
     requires within { from + width ≤ length terms.now }
     requires few { width ≤ 16 }
@@ -183,7 +187,7 @@ impl<const N: usize> Station<N> {
         requires heard { is_on_path self.now.members self.now.me free.now ≡ false
             → at < length heard.now }
         requires known { AreKnown (map said heard.now) }
-        requires small { at < 1048576 }
+        requires small { length settled.old ≤ 1048576 }
         ensures settled { map said settled.new
             ≡ (if is_on_path self.now.members self.now.me free.now
             then map said settled.old
@@ -225,6 +229,7 @@ impl<const N: usize> Station<N> {
         requires known { AreKnown (map said heard.now) }
         requires room { path_count (length self.now.others) self.now.rounds ≤ length settled.old }
         requires small { length heard.now ≤ 1048576 }
+        requires few { length settled.old ≤ 1048576 }
         ensures settled { (x : Ear V) → IsKeptBy self.now (map said heard.now) x
             → IsToldLast self.now (entries_of (term_in V.of_bytes) frames.old) x
             → AreSettled V.eq x self.now.others self.now.rounds (map said settled.new) }
@@ -348,9 +353,9 @@ impl<const N: usize> Station<N> {
         }
     }
 
-    /// Whether the node convicts another member, of which it heard this: whether more relays say
+    /// Whether a member of which the node heard this is convicted: whether more relays say
     /// otherwise than may be faulty.
-    fn convicts<V: Item>(&self, told: &Term<V>, relays: &[Term<V>]) -> bool
+    fn is_convicted<V: Item>(&self, told: &Term<V>, relays: &[Term<V>]) -> bool
         requires exact { IsExact V.eq }
         requires known { said told.now ≢ Fault 254 }
         requires few { length relays.now ≤ 16 }
@@ -359,16 +364,30 @@ impl<const N: usize> Station<N> {
     {
         let own = told.wrap();
         let mut voices = (self.full && self.members.has(self.me)) as u8;
-        let mut against = 0;
+        let mut against = 0u8;
         for relay in relays {
-            if !relay.is_nothing() {
-                voices += 1;
-                if !relay.is(&own) {
-                    against += 1;
-                }
-            }
+            voices += !relay.is_nothing() as u8;
+            against += disagrees(&own, relay) as u8;
         }
         self.rounds > 0 && against > tolerated(voices, self.rounds)
+    }
+
+    /// Whether the node convicts another member.
+    fn convicts<V: Item>(&self, node: u8, heard: &[Term<V>]) -> bool
+        requires exact { IsExact V.eq }
+        requires station { IsSeated self.now }
+        requires some { 0 < self.now.rounds }
+        requires node { has_id self.now.others node ≡ true }
+        requires room { section_at (length self.now.others) 2 ≤ length heard.now }
+        requires known { AreKnown (map said heard.now) }
+        ensures { (x : Ear V) → IsHeardBy self.now (map said heard.now) x
+            → result ≡ convicts V.eq x node }
+    {
+        let count = self.others.len() as usize;
+        let place = self.others.place(node) as usize;
+        let width = count - 1;
+        let from = count + place * width;
+        self.is_convicted(&heard[place], &heard[from..from + width])
     }
 
     /// The other members that the node convicts.
@@ -378,20 +397,17 @@ impl<const N: usize> Station<N> {
         requires room { section_at (length self.now.others) (kept_nodes self.now.rounds)
             ≤ length heard.now }
         requires known { AreKnown (map said heard.now) }
-        ensures { result ≡ ids_where (λ c. not (c == self.now.me) && (has_id self.now.members c
-            && convicts V.eq (kept_ear self.now.rounds self.now.members self.now.me self.now.full
-            (map said heard.now)) c)) N }
+        ensures { (x : Ear V) → IsHeardBy self.now (map said heard.now) x → result
+            ≡ ids_where (λ c. not (c == self.now.me) && (has_id self.now.members c
+            && convicts V.eq x c)) N }
     {
         let mut guilty = NodeSet::empty();
         if self.rounds == 0 {
             return guilty;
         }
-        let width = self.others.len().saturating_sub(1) as usize;
-        let pairs = &heard[self.others.len() as usize..];
-        for (place, c) in self.others.iter().enumerate() {
-            let from = place * width;
-            if self.convicts(&heard[place], &pairs[from..from + width]) {
-                guilty.put(c);
+        for node in self.others.iter() {
+            if self.convicts(node, heard) {
+                guilty.put(node);
             }
         }
         guilty

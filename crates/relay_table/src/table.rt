@@ -7,7 +7,8 @@ ghost use Rattle.omh_paths.specs.Paths.{paths_of_length};
 ghost use Rattle.omh.specs.Heard.{heard_in};
 ghost use Rattle.relay_terms.specs.Terms.{said, term_in};
 ghost use Rattle.relay_walk.specs.Walking.{IsWalk, entries_of};
-ghost use Rattle.relay_table.specs.Tabled.{unstarted, started, forgotten, others_in, kept_nodes};
+ghost use Rattle.relay_table.specs.Tabled.{AreKnown, unstarted, started, forgotten, others_in};
+ghost use Rattle.relay_table.specs.Tabled.{kept_nodes};
 ghost use Rattle.relay_table.specs.Tabled.{after_frames, after_items, settled_in, convicted_in};
 
 use crate::free::FreeMembers;
@@ -166,38 +167,14 @@ impl<V: Item, const N: usize> Table<V, N> {
         station.hear(frames, round, &self.free, self.heard.as_mut_slice());
     }
 
-    /// The nodes and the members among them are below this.
-    pub fn nodes(&self) -> u8 {
-        self.station.nodes
-    }
-
-    /// The rounds of relaying.
-    pub fn rounds(&self) -> u8 {
-        self.station.rounds
-    }
-
-    /// The members.
-    pub fn members(&self) -> NodeSet<N> {
-        self.station.members
-    }
-
-    /// Whether the node itself is a member.
-    pub fn is_member(&self) -> bool {
-        self.station.members.has(self.station.me)
-    }
-
-    /// The node itself.
-    pub fn me(&self) -> u8 {
-        self.station.me
-    }
-
     /// What was heard of the paths of `len` other members, in lexicographic order: wrapped, it is
     /// what the node passes on in that round.
     pub fn heard(&self, len: u8) -> &[Term<V>]
         requires some { 0 < len }
         requires kept { len ≤ kept_nodes self.now.rounds }
-        ensures { map said result.now
+        ensures heard { map said result.now
             ≡ map (heard_in self.now.heard) (paths_of_length (others_in self.now) len) }
+        ensures known { AreKnown (map said result.now) }
     {
         let others = self.station.others.len();
         let begins = section_at(others, len - 1);
@@ -236,7 +213,6 @@ impl<V: Item, const N: usize> Table<V, N> {
 
     /// Writes what is settled of each node's item where nothing is relayed.
     pub fn settle_items(&self, items: &mut [Term<V>])
-        requires exact { IsExact V.eq }
         requires none { self.now.rounds ≡ 0 }
         requires room { length items.old ≡ N }
         ensures { map said items.new ≡ settled_in V.eq N self.now }

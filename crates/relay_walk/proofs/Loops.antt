@@ -1,9 +1,8 @@
 -- A loop over members that reads an entry of the frame of each.
-use Rattle.std.proofs.Common.{ℕ, ◌≡◌, ◌<◌, ◌≤◌, ◌+◌, ◌*◌, ◌-◌, ◌==◌, ◌||◌, Bool, true, false, List, [], ◌∷◌, ◌++◌, length, map, take, drop, refl, sym, ap, ap₂, subst, ◌∙◌, inl, inr, arith, eq-eqb, eqb-true, append_assoc, append-nil}
+use Rattle.std.proofs.Common.{ℕ, ◌≡◌, ◌<◌, ◌+◌, ◌*◌, ◌-◌, ◌==◌, ◌||◌, Bool, true, false, List, [], ◌∷◌, ◌++◌, length, map, take, drop, refl, sym, ap, ap₂, subst, ◌∙◌, inl, inr, arith, eq-eqb, eqb-true, append_assoc, append-nil}
 use Rattle.std.specs.Prelude.{slice_index}
-use Rattle.std.proofs.lemmas.Bool.{cases_Bool, cond-true, cond-false, both_ways, or_cases, or_left, or_right}
+use Rattle.std.proofs.lemmas.Bool.{cases_Bool, cond-false, both_ways, or_cases, or_left, or_right}
 use Rattle.std.proofs.lemmas.List.{map-append, length-append}
-use Rattle.node_grid.specs.Capacity.{IsCapacity}
 use Rattle.node_grid.specs.NodeSet.{has_id, IsIdSet}
 use Rattle.node_grid.specs.Count.{bit, Distinct}
 use Rattle.node_grid.specs.ListLaws.{has_push}
@@ -186,7 +185,3 @@ one_last members now q h on = record {
 pub lasts_are : {V : Type 0} {N : ℕ} (read : List ℕ → Wrapped V) (members : List ℕ) (old now : Round N) → IsMoved members old now → ((q : ℕ) → has_id members q ≡ true → q < N)
     → map (last_in read now) members ≡ map (next_in read old) members
 lasts_are read members old now moved low = map_on (last_in read now) (next_in read old) members (λ q on. last_same members old now moved q (low q on) read on)
-
-pub fits_sixteen : (n : ℕ) → IsCapacity n → n ≤ 16
-fits_sixteen n (inl e) = omega (arith, e)
-fits_sixteen n (inr e) = omega (arith, e)

@@ -1,5 +1,5 @@
 -- The next entry of a frame is what it says of the next path.
-use Rattle.std.proofs.Common.{ℕ, ◌≡◌, ◌<◌, ◌≤◌, ◌+◌, ◌*◌, ◌-◌, ◌/◌, ◌==◌, ◌&&◌, Bool, true, false, not, List, [], ◌∷◌, ◌++◌, length, map, take, drop, refl, sym, ap, ap₂, subst, ◌∙◌, inl, inr, arith, eqb-true}
+use Rattle.std.proofs.Common.{ℕ, ◌≡◌, ◌<◌, ◌≤◌, ◌+◌, ◌*◌, ◌-◌, ◌/◌, ◌==◌, ◌&&◌, Bool, true, not, List, [], ◌∷◌, ◌++◌, length, map, take, drop, sym, ap, ap₂, subst, ◌∙◌, inl, inr, arith, eqb-true}
 use Rattle.std.specs.Prelude.{slice_index, slice_index_or, filter, Option, Some, None}
 use Rattle.std.proofs.Math.Nat.{mul-add, mul-le-mul, mul-div_cancel_left}
 use Rattle.std.proofs.Math.Bool.{and-true}
@@ -20,7 +20,7 @@ use Rattle.frames.specs.PieceLaws.{read_at}
 use Rattle.path_order.specs.Order.{passed, IsNext}
 use Rattle.path_order.specs.OrderLaws.{passed_more}
 use Rattle.relay_walk.specs.declared.round.Round.{Round}
-use Rattle.relay_walk.specs.Walking.{IsEntryAt, IsMoved, IsRound, IsWalk, frame_of, entries_of, next_in, says}
+use Rattle.relay_walk.specs.Walking.{IsEntryAt, IsMoved, IsWalk, frame_of, entries_of, next_in, says}
 
 -- the entry that stands behind those passed by is what the frame says of the path with its sender behind it
 pub next_says : {V : Type 0} (members : List ℕ) (r q k : ℕ) (values : List (Wrapped V)) → IsNext members r q k → length (path_at (paths_of_length members r) k) ≡ r

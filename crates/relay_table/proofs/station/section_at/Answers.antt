@@ -1,5 +1,4 @@
-use Rattle.std.proofs.Common.{◌+◌, suc, ap, arith}
-use Rattle.relay_table.specs.Free.{free_begins}
+use Rattle.std.proofs.Common.{arith}
 use Rattle.relay_table.proofs.Frees.{section-begins, one_more}
 use Rattle.relay_table.proofs.station.section_at.Goals as goal
 

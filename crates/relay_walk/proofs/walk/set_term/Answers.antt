@@ -1,5 +1,5 @@
-use Rattle.std.proofs.Common.{◌∷◌, [], map, ap, ◌∙◌, arith}
-use Rattle.std.proofs.lemmas.List.{map-set, length-map, length-set}
+use Rattle.std.proofs.Common.{map, ◌∙◌, arith}
+use Rattle.std.proofs.lemmas.List.{map-set, length-map}
 use Rattle.relay_terms.specs.Terms.{said}
 use Rattle.relay_walk.specs.LaidLaws.{laid_one}
 use Rattle.relay_walk.proofs.walk.set_term.Goals as goal

@@ -1,11 +1,11 @@
-use Rattle.std.proofs.Common.{ℕ, suc, ◌≡◌, ◌<◌, ◌≤◌, ◌+◌, map, length, refl, sym, ap, ◌∙◌, inl, inr, lit<, arith}
+use Rattle.std.proofs.Common.{◌<◌, ◌≤◌, map, length, refl, ap, ◌∙◌, inl, inr, lit<, arith}
 use Rattle.std.proofs.lemmas.List.{length-map}
 use Rattle.omh_paths.specs.Paths.{path_count}
 use Rattle.omh.specs.Flat.{section_at}
 use Rattle.relay_terms.specs.Terms.{said, term_in}
 use Rattle.relay_walk.specs.Walking.{entries_of}
 use Rattle.relay_table.specs.Tabled.{told_in}
-use Rattle.relay_table.proofs.Stations.{few_members, sixteen_members, sixteen_others, others_distinct, free_there, set_there, end_is, told_many}
+use Rattle.relay_table.proofs.Stations.{few_members, sixteen_members, others_distinct, free_there, set_there, end_is, told_many}
 use Rattle.relay_table.proofs.Walks.{halfway_begin, halfway_more, halfway_end, next_there, room_for}
 use Rattle.relay_table.proofs.station.Station.hear.Goals as goal
 
@@ -86,3 +86,14 @@ returns g c =
       known = i.known;
       length = i.long;
     }
+
+pub count_paths-k-end-requires-clause-nodes : goal.count_paths-k-end-requires-clause-nodes
+count_paths-k-end-requires-clause-nodes g c = omega (arith, c.len-count.ensures.count, sixteen_members c.requires.station)
+
+pub outside-outside-requires : goal.outside-outside-requires
+outside-outside-requires g c =
+    let s = c.args.self.now in
+    let st = c.requires.station in
+    let low : c.loop-k.k < path_count (length s.members) c.args.round = omega (arith, end_is c.len-count.result (length s.members) c.args.round c.count_paths-k-end.result c.count_paths-k-end.ensures.product c.len-count.ensures.count, c.loop-k-test.true) in
+    let there = set_there s.nodes s.rounds s.members c.args.free.now.sets.items c.len-count.result c.args.round c.loop-k.k c.requires.free c.len-count.ensures.count (few_members st) c.requires.round low in
+    (lit< tt, (lit< tt, (omega (arith, c.len-count.ensures.count, sixteen_members st), (omega (arith, c.requires.round, st.rounds_ok), there))))

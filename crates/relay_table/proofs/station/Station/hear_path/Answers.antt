@@ -1,4 +1,4 @@
-use Rattle.std.proofs.Common.{refl, inl, inr, lit<, ◌≡◌, ◌≤◌, ◌+◌, false, List, map, length, sym, ap, subst, ◌∙◌, arith}
+use Rattle.std.proofs.Common.{refl, inl, inr, lit<, ◌≡◌, ◌≤◌, ◌+◌, false, map, length, sym, ap, subst, ◌∙◌, arith}
 use Rattle.std.proofs.lemmas.Bool.{cond-true, cond-false}
 use Rattle.std.proofs.lemmas.List.{length-map}
 use Rattle.node_grid.specs.NodeSet.{without_id}
@@ -18,8 +18,7 @@ pass-requires g c = (
 
 pub keep-requires : goal.keep-requires
 keep-requires g c =
-    let l = ap (λ xs. length xs) c.without-others.ensures in
-    (
+    let l = ap (λ xs. length xs) c.without-others.ensures in (
       elim c.requires.capacity [ inl e ↦ rw e (lit< tt) | inr e ↦ rw e (lit< tt) ],
       (
         lit< tt,

@@ -1,7 +1,6 @@
-use Rattle.std.proofs.Common.{◌≡◌, ◌<◌, ◌≤◌, ◌+◌, ◌∷◌, [], false, map, length, get_or, refl, sym, ap, ap₂, subst, ◌∙◌, inl, inr, lit<, arith}
+use Rattle.std.proofs.Common.{◌+◌, ◌∷◌, [], map, refl, sym, subst, ◌∙◌, inl, inr, lit<}
 use Rattle.std.specs.Prelude.{slice_index_or}
-use Rattle.std.proofs.lemmas.Bool.{cond-true, cond-false}
-use Rattle.std.proofs.lemmas.List.{length-map}
+use Rattle.std.proofs.lemmas.Bool.{cond-true}
 use Rattle.node_grid.specs.NodeSet.{without_id}
 use Rattle.omh_paths.specs.declared.wrapped.Wrapped.TheVariants.{Fault}
 use Rattle.omh_paths.specs.Wrapped.{unwrapped}
@@ -10,6 +9,7 @@ use Rattle.relay_terms.specs.Terms.{said, term_in}
 use Rattle.relay_walk.specs.Laid.{laid}
 use Rattle.relay_walk.specs.Walking.{HaveNext, IsMoved, next_in}
 use Rattle.relay_table.specs.Settling.{is_on_path, own_said}
+use Rattle.relay_table.proofs.Known.{known_at}
 use Rattle.relay_table.proofs.station.Station.settle_path.Goals as goal
 
 pub pass-requires : goal.pass-requires
@@ -40,3 +40,6 @@ returns-then-is_on_path g c =
       moved = subst (λ by. IsMoved by c.args.frames.now c.pass.new.self) c.without-others.ensures c.pass.ensures;
       length = refl;
     }
+
+pub own_term-own-requires : goal.own_term-own-requires
+own_term-own-requires g c = (lit< tt, known_at c.args.heard.now c.args.at c.index-heard-at.result c.index-heard-at.is (c.requires.heard (sym c.is_on_path.ensures ∙ c.if-is_on_path.false)) c.requires.known)

@@ -1,10 +1,11 @@
-use Rattle.std.proofs.Common.{lit<, inr, inl, ◌≡◌, ◌<◌, ◌≤◌, ◌+◌, ◌∷◌, [], ◌++◌, map, length, refl, sym, ap, subst, ◌∙◌, arith}
+use Rattle.std.proofs.Common.{lit<, inr, inl, ◌∷◌, [], map, ap, subst, ◌∙◌, arith}
 use Rattle.std.proofs.lemmas.List.{length_push}
+use Rattle.node_grid.specs.CapacityLaws.{capacity-le}
 use Rattle.omh_paths.specs.Majority.{has_majority as has_most}
 use Rattle.relay_terms.specs.Terms.{said, term_in}
 use Rattle.relay_terms.specs.Tallies.{IsCount}
 use Rattle.relay_walk.specs.Walking.{last_in}
-use Rattle.relay_walk.proofs.Loops.{turn, split_more, split_all, map_more, one_last, fits_sixteen}
+use Rattle.relay_walk.proofs.Loops.{turn, split_more, split_all, map_more, one_last}
 use Rattle.relay_walk.proofs.round.Round.has_majority.Goals as goal
 
 pub loop-member-init : goal.loop-member-init
@@ -31,12 +32,12 @@ last_term-term-requires g c =
 pub add-requires-in-loop-member-clause-few_votes : goal.add-requires-in-loop-member-clause-few_votes
 add-requires-in-loop-member-clause-few_votes g c =
     let t = turn g.row.N c.args.others.now c.loop-member.yielded c.next.new.self c.loop-member.member-iterator c.in-Some.member c.iter-member-items.ensures.ids c.loop-member.invariant.split c.in-Some.ensures.steps in
-    omega (arith, t.short, c.iter-member-items.ensures.few, c.loop-member.invariant.few_votes, fits_sixteen g.row.N c.requires.capacity)
+    omega (arith, t.short, c.iter-member-items.ensures.few, c.loop-member.invariant.few_votes, capacity-le g.row.N c.requires.capacity)
 
 pub add-requires-in-loop-member-clause-few_support : goal.add-requires-in-loop-member-clause-few_support
 add-requires-in-loop-member-clause-few_support g c =
     let t = turn g.row.N c.args.others.now c.loop-member.yielded c.next.new.self c.loop-member.member-iterator c.in-Some.member c.iter-member-items.ensures.ids c.loop-member.invariant.split c.in-Some.ensures.steps in
-    omega (arith, t.short, c.iter-member-items.ensures.few, c.loop-member.invariant.few_support, fits_sixteen g.row.N c.requires.capacity)
+    omega (arith, t.short, c.iter-member-items.ensures.few, c.loop-member.invariant.few_support, capacity-le g.row.N c.requires.capacity)
 
 pub loop-member-preserved : goal.loop-member-preserved
 loop-member-preserved g c =

@@ -1,4 +1,4 @@
-use Rattle.std.proofs.Common.{lit<, inr, inl, ◌≡◌, ◌<◌, ◌+◌, ◌∷◌, [], ◌++◌, map, length, refl, sym, ap, subst, ◌∙◌, arith}
+use Rattle.std.proofs.Common.{lit<, inr, inl, ◌+◌, map, length, refl, sym, ap, subst, ◌∙◌, arith}
 use Rattle.std.proofs.lemmas.List.{length-map, length_push}
 use Rattle.relay_terms.specs.Terms.{said, term_in}
 use Rattle.relay_walk.specs.Laid.{laid}

@@ -1,4 +1,4 @@
-use Rattle.std.proofs.Common.{lit<, inr, inl, sym, subst}
+use Rattle.std.proofs.Common.{lit<, inr, inl, subst}
 use Rattle.relay_walk.specs.Walking.{IsMoved}
 use Rattle.relay_walk.proofs.Loops.{turn, split_more, split_all, moved_none, moved_more, more_at}
 use Rattle.relay_walk.proofs.round.Round.pass.Goals as goal

@@ -1,11 +1,12 @@
-use Rattle.std.proofs.Common.{lit<, inr, inl, ℕ, true, ◌≡◌, ◌<◌, ◌≤◌, ◌+◌, ◌∷◌, [], ◌++◌, map, length, refl, sym, ap, subst, ◌∙◌, arith}
+use Rattle.std.proofs.Common.{lit<, inr, inl, ℕ, true, ◌≡◌, ◌∷◌, map, sym, subst, ◌∙◌, arith}
 use Rattle.std.proofs.lemmas.List.{length_push}
+use Rattle.node_grid.specs.CapacityLaws.{capacity-le}
 use Rattle.node_grid.specs.NodeSet.{has_id}
 use Rattle.omh_paths.specs.MemberLaws.{member-lt}
 use Rattle.relay_terms.specs.Terms.{said, term_in}
 use Rattle.relay_terms.specs.Tallies.{IsTally}
 use Rattle.relay_walk.specs.Walking.{IsMoved, next_in}
-use Rattle.relay_walk.proofs.Loops.{turn, split_more, split_all, map_more, moved_none, moved_more, next_same, more_at, have_last, lasts_are, fits_sixteen}
+use Rattle.relay_walk.proofs.Loops.{turn, split_more, split_all, map_more, moved_none, moved_more, next_same, more_at, have_last, lasts_are}
 use Rattle.relay_walk.proofs.round.Round.tally.Goals as goal
 
 pub loop-member-init : goal.loop-member-init
@@ -31,7 +32,7 @@ next_term-term-requires g c =
 pub add-requires-clause-few : goal.add-requires-clause-few
 add-requires-clause-few g c =
     let t = turn g.row.N c.args.others.now c.loop-member.yielded c.next.new.self c.loop-member.member-iterator c.in-Some.member c.iter-member-items.ensures.ids c.loop-member.invariant.split c.in-Some.ensures.steps in
-    omega (arith, t.short, c.iter-member-items.ensures.few, c.loop-member.invariant.few, fits_sixteen g.row.N c.requires.capacity)
+    omega (arith, t.short, c.iter-member-items.ensures.few, c.loop-member.invariant.few, capacity-le g.row.N c.requires.capacity)
 
 pub loop-member-preserved : goal.loop-member-preserved
 loop-member-preserved g c =
