@@ -22,14 +22,14 @@ use Rattle.relay_table.proofs.Settled.{child_low}
 
 -- ---- where terms are kept
 
-kept_where : {V : Type 0} (most : ℕ) (others : List ℕ) (flat : List (Wrapped V)) (path : List ℕ) → length path ≤ most → kept_heard most others flat path ≡ flat_heard (length others) others flat path
+pub kept_where : {V : Type 0} (most : ℕ) (others : List ℕ) (flat : List (Wrapped V)) (path : List ℕ) → length path ≤ most → kept_heard most others flat path ≡ flat_heard (length others) others flat path
 kept_where most others flat path low = cond-true (nat_le (length path) most) (flat_heard (length others) others flat path) (Fault 0) (le-leb (length path) most low)
 
-not_kept : {V : Type 0} (most : ℕ) (others : List ℕ) (flat : List (Wrapped V)) (path : List ℕ) → most < length path → kept_heard most others flat path ≡ Fault 0
+pub not_kept : {V : Type 0} (most : ℕ) (others : List ℕ) (flat : List (Wrapped V)) (path : List ℕ) → most < length path → kept_heard most others flat path ≡ Fault 0
 not_kept most others flat path high = cond-false (nat_le (length path) most) (flat_heard (length others) others flat path) (Fault 0) (lt-leb (length path) most high)
 
 -- paths of other members
-others_of : {members : List ℕ} {me rounds : ℕ} {path : List ℕ} → IsHeardPath members me rounds path → (q : ℕ) → has_id path q ≡ true → has_id (without_id members me) q ≡ true
+pub others_of : {members : List ℕ} {me rounds : ℕ} {path : List ℕ} → IsHeardPath members me rounds path → (q : ℕ) → has_id path q ≡ true → has_id (without_id members me) q ≡ true
 others_of {members} {me} {rounds} {path} h q on = has-without members me q (λ e. both_ways _ h.other (ap (has_id path) (sym e) ∙ on)) (h.within q on)
 
 real_path : (n : ℕ) (members others : List ℕ) (me rounds len k : ℕ) → IsIdSet n members → others ≡ without_id members me → 0 < len → len ≤ rounds + 1 → k < path_count (length others) len → IsHeardPath members me rounds (other_path others len k)
@@ -152,7 +152,7 @@ heard_nothing {V} members me rounds flat none =
 
 -- ---- what a path's place has
 
-place_there : {V : Type 0} (others : List ℕ) (most len k : ℕ) (flat : List (Wrapped V)) → Distinct others → 0 < len → len ≤ most → k < path_count (length others) len
+pub place_there : {V : Type 0} (others : List ℕ) (most len k : ℕ) (flat : List (Wrapped V)) → Distinct others → 0 < len → len ≤ most → k < path_count (length others) len
     → kept_heard most others flat (other_path others len k) ≡ get_or flat (section_at (length others) (len - 1) + k) (Fault 0)
 place_there {V} others most len k flat d some low few =
     let long : length (other_path others len k) ≡ len = (IsListed-at others len k d few).long in

@@ -8,3 +8,5 @@ pub mod Settled
 pub mod HeardView
 pub mod Convicted
 pub mod Tables
+pub mod OneItem
+pub mod Listed

@@ -23,7 +23,7 @@ use Rattle.relay_walk.specs.Walking.{IsWalk}
 use Rattle.relay_table.specs.declared.station.Station.{Station}
 use Rattle.relay_table.specs.Rooms.{IsRoom}
 use Rattle.relay_table.specs.Settling.{IsSeated, IsKeptBy, IsHeardBy, IsToldLast, AreSettled, hearing_of, other_path, settled_at_place}
-use Rattle.relay_table.specs.Tabled.{IsStation, AreKnown, kept_nodes, unstarted, heard_among, forgotten, started, others_in, told_in, after_frames, item_told, after_items, settled_in}
+use Rattle.relay_table.specs.Tabled.{IsStation, AreKnown, kept_nodes, unstarted, heard_among, forgotten, started, others_in, told_in, after_frames, settled_in}
 use Rattle.relay_table.proofs.HeardView.{heard_laid, heard_nothing, heard_at, hears_after, hears_last_after, hears_now}
 use Rattle.relay_table.proofs.Known.{known_nothing}
 use Rattle.relay_table.proofs.Apart.{settles_last}
@@ -42,14 +42,6 @@ room_written {V} nodes rounds was seen new settled n room len is same known =
     let here : IsRoom nodes rounds new settled =
     record { heard_ok = same ∙ ap (λ (ts : List (Term V)). length ts) is ∙ room.heard_ok; settled_ok = room.settled_ok; known = known } in
     subst (λ (ts : List (Term V)). IsRoom nodes rounds ts settled) (sym (written_to was seen new n len is same)) here
-
--- the paths of one node
-singles : {Y : Type 0} (f : List ℕ → Y) (xs : List ℕ) → map f (map (λ q. q ∷ []) xs) ≡ map (λ q. f (q ∷ [])) xs
-singles f [] = refl
-singles f (x ∷ xs) = ap (λ ys. f (x ∷ []) ∷ ys) (singles f xs)
-
-pub told_singly : {Y : Type 0} (f : List ℕ → Y) (others : List ℕ) → map f (paths_of_length others 1) ≡ map (λ q. f (q ∷ [])) others
-told_singly f others = ap (map f) (paths-cons others 0 ∙ flat_map_single (λ q. q ∷ []) others) ∙ singles f others
 
 pub kept-some : (m : ℕ) → 1 ≤ kept_nodes m
 kept-some zero = omega arith
@@ -94,15 +86,6 @@ module _ {V : Type 0} {n : ℕ} (s : Station n) (own : Wrapped V) (flat : List (
       let fits = ap (λ (os : List ℕ). section_at (length os) (suc r)) st.others_ok in
       ap seen (heard_laid n s.members s.me s.rounds r flat new says st.members_ok kept (omega (arith, fits, room)) there)
       ∙ ap (after_frames frames r) view
-
-  pub hears_items : (told : List (Option V)) (new : List (Wrapped V)) → length s.others ≤ length flat → new ≡ laid 0 (map (item_told told) s.others) flat → hearing_of s own new ≡ after_items told h
-  hears_items told new room is =
-      let says : List ℕ → Wrapped V = λ path. item_told told (last_node path) in
-      let there : new ≡ laid 0 (map says (paths_of_length (without_id s.members s.me) 1)) flat =
-      is ∙ ap (λ (os : List ℕ). laid 0 (map (item_told told) os) flat) st.others_ok ∙ ap (λ (xs : List (Wrapped V)). laid 0 xs flat) (sym (told_singly says (without_id s.members s.me))) in
-      let fits = ap (λ (os : List ℕ). length os) st.others_ok in
-      ap seen (heard_laid n s.members s.me s.rounds 0 flat new says st.members_ok (kept-some s.rounds) (omega (arith, fits, room)) there)
-      ∙ ap (after_items told) view
 
   -- what is settled of each node's item, from what is settled for the paths of one node
   pub handed : (eq : V → V → Bool) (es : List (Entry V)) (settled : List (Wrapped V)) → AreSettled eq (ear_of (seen es)) s.others 1 settled

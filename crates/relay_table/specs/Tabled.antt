@@ -68,12 +68,6 @@ abbrev pub term_of : {V : Type 0} → Option V → Wrapped V
 term_of None = Fault 0
 term_of (Some v) = Plain v
 
-abbrev pub item_told : {V : Type 0} → List (Option V) → ℕ → Wrapped V
-item_told told q = term_of (slice_index_or told q None)
-
-abbrev pub after_items : {V : Type 0} → List (Option V) → Hearing V → Hearing V
-after_items told h = record h { heard = map (λ e. if length e.path == 1 then record { path = e.path; value = item_told told (last_node e.path) } else e) h.heard }
-
 -- what is settled of each node's item
 abbrev pub settled_in : {V : Type 0} → (V → V → Bool) → ℕ → Hearing V → List (Wrapped V)
 settled_in eq capacity h = map (λ c. if has_id h.members c then settled_from eq (ear_of h) h.own c else Fault 0) (ids_below capacity)

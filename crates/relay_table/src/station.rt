@@ -7,7 +7,7 @@ ghost use Rattle.equivocation.specs.Conviction.{convicts, is_convicted};
 ghost use Rattle.omh_paths.specs.declared.wrapped.Wrapped.TheVariants.{Plain, Fault};
 ghost use Rattle.omh_paths.specs.Wrapped.{IsExact, unwrapped, is_error, same};
 ghost use Rattle.omh_paths.specs.Majority.{majority};
-ghost use Rattle.omh_paths.specs.Paths.{paths_of_length, path_count, outside};
+ghost use Rattle.omh_paths.specs.Paths.{index_in, paths_of_length, path_count, outside};
 ghost use Rattle.omh.specs.Omh.{Ear};
 ghost use Rattle.omh.specs.Flat.{section_at};
 ghost use Rattle.relay_terms.specs.Terms.{said, term_in};
@@ -17,7 +17,7 @@ ghost use Rattle.relay_table.specs.Rooms.{IsRoom};
 ghost use Rattle.relay_table.specs.Settling.{is_on_path, own_said, IsSeated, IsSets};
 ghost use Rattle.relay_table.specs.Settling.{IsKeptBy, IsHeardBy, IsToldLast, AreSettled};
 ghost use Rattle.relay_table.specs.Settling.{settled_at_place};
-ghost use Rattle.relay_table.specs.Tabled.{AreKnown, kept_nodes, told_in, item_told};
+ghost use Rattle.relay_table.specs.Tabled.{AreKnown, kept_nodes, told_in, term_of};
 
 use crate::free::{FreeMembers, free_begins};
 use equivocation::tolerated;
@@ -36,12 +36,11 @@ pub(crate) fn section_at(nodes: u8, len: u8) -> usize
     free_begins(nodes, len + 1) - 1
 }
 
-/// The term of the item that a member told, or of none.
-fn told_term<V: Item>(told: &[Option<V>], member: u8) -> Term<V>
-    requires { member < length told.now }
-    ensures { said result ≡ item_told told.now member }
+/// The term of an item that was told, or of none.
+fn term_told<V: Item>(told: Option<V>) -> Term<V>
+    ensures { said result ≡ term_of told }
 {
-    match told[member as usize] {
+    match told {
         Some(item) => Term::item(item),
         None => Term::nothing(),
     }
@@ -335,22 +334,19 @@ impl<const N: usize> Station<N> {
         }
     }
 
-    /// Takes the item that each of the other members told of itself, or that it told none.
-    pub(crate) fn hear_items<V: Item>(&self, told: &[Option<V>], heard: &mut [Term<V>])
+    /// Takes the item that one of the other members told of itself, or that it told none.
+    pub(crate) fn hear_item<V: Item>(&self, member: u8, told: Option<V>, heard: &mut [Term<V>])
         requires station { IsSeated self.now }
-        requires told { length told.now ≡ N }
+        requires member { has_id self.now.others member ≡ true }
         requires room { length self.now.others ≤ length heard.old }
         requires known { AreKnown (map said heard.old) }
         ensures heard { map said heard.new
-            ≡ laid 0 (map (item_told told.now) self.now.others) (map said heard.old) }
+            ≡ laid (index_in self.now.others member) (term_of told ∷ []) (map said heard.old) }
         ensures known { AreKnown (map said heard.new) }
         ensures length { length heard.new ≡ length heard.old }
     {
-        let mut place = 0;
-        for member in self.others.iter() {
-            set_term(heard, place, told_term(told, member));
-            place += 1;
-        }
+        let place = self.others.place(member) as usize;
+        set_term(heard, place, term_told(told));
     }
 
     /// Whether a member of which the node heard this is convicted: whether more relays say

@@ -1,15 +1,15 @@
-ghost use Rattle.std.specs.Prelude.{◌≡◌, ◌≤◌, ◌<◌, ℕ, length, map, replicate, IfOk, true};
+ghost use Rattle.std.specs.Prelude.{◌≡◌, ◌∷◌, [], ◌≤◌, ◌<◌, ℕ, length, map, replicate, IfOk, true};
 ghost use Rattle.node_grid.specs.Capacity.{IsCapacity};
-ghost use Rattle.node_grid.specs.NodeSet.{has_id};
+ghost use Rattle.node_grid.specs.NodeSet.{has_id, IsIdSet};
 ghost use Rattle.omh_paths.specs.declared.wrapped.Wrapped.TheVariants.{Plain, Fault};
 ghost use Rattle.omh_paths.specs.Wrapped.{IsExact};
 ghost use Rattle.omh_paths.specs.Paths.{paths_of_length};
-ghost use Rattle.omh.specs.Heard.{heard_in};
+ghost use Rattle.omh.specs.Heard.{heard_in, heard_paths, with_heard};
 ghost use Rattle.relay_terms.specs.Terms.{said, term_in};
 ghost use Rattle.relay_walk.specs.Walking.{IsWalk, entries_of};
 ghost use Rattle.relay_table.specs.Tabled.{AreKnown, unstarted, started, forgotten, others_in};
 ghost use Rattle.relay_table.specs.Tabled.{kept_nodes};
-ghost use Rattle.relay_table.specs.Tabled.{after_frames, after_items, settled_in, convicted_in};
+ghost use Rattle.relay_table.specs.Tabled.{after_frames, term_of, settled_in, convicted_in};
 
 use crate::free::FreeMembers;
 use crate::station::{Station, section_at};
@@ -146,13 +146,14 @@ impl<V: Item, const N: usize> Table<V, N> {
         forget(self.heard.as_mut_slice());
     }
 
-    /// Takes the item that each of the other members told of itself, or that it told none.
-    pub fn hear_items(&mut self, told: &[Option<V>])
-        requires room { length told.now ≡ N }
-        ensures { self.new ≡ after_items told.now self.old }
+    /// Takes the item that one of the other members told of itself, or that it told none.
+    pub fn hear_item(&mut self, member: u8, told: Option<V>)
+        requires member { has_id (others_in self.old) member ≡ true }
+        ensures { self.new ≡ record self.old
+            { heard = map (with_heard (member ∷ []) (term_of told)) self.old.heard } }
     {
         let station = self.station;
-        station.hear_items(told, self.heard.as_mut_slice());
+        station.hear_item(member, told, self.heard.as_mut_slice());
     }
 
     /// Takes the frames of a relay round whose terms are kept.
@@ -165,6 +166,50 @@ impl<V: Item, const N: usize> Table<V, N> {
     {
         let station = self.station;
         station.hear(frames, round, &self.free, self.heard.as_mut_slice());
+    }
+
+    /// The nodes and the members among them are below this.
+    pub fn nodes(&self) -> u8
+        ensures nodes { result ≡ self.now.nodes }
+        ensures capacity { IsCapacity N }
+        ensures few { result ≤ N }
+    {
+        self.station.nodes
+    }
+
+    /// The rounds of relaying.
+    pub fn rounds(&self) -> u8
+        ensures rounds { result ≡ self.now.rounds }
+        ensures few { result ≤ 3 }
+    {
+        self.station.rounds
+    }
+
+    /// The members.
+    pub fn members(&self) -> NodeSet<N>
+        ensures members { result ≡ self.now.members }
+        ensures ids { IsIdSet N result }
+        ensures low { (q : ℕ) → has_id result q ≡ true → q < self.now.nodes }
+        ensures rounds { self.now.rounds ≤ 3 }
+        ensures paths { map (λ e. e.path) self.now.heard
+            ≡ heard_paths self.now.members self.now.me self.now.rounds }
+    {
+        self.station.members
+    }
+
+    /// Whether the node itself is a member.
+    pub fn is_member(&self) -> bool
+        ensures { result ≡ has_id self.now.members self.now.me }
+    {
+        self.station.members.has(self.station.me)
+    }
+
+    /// The node itself.
+    pub fn me(&self) -> u8
+        ensures me { result ≡ self.now.me }
+        ensures low { result < N }
+    {
+        self.station.me
     }
 
     /// What was heard of the paths of `len` other members, in lexicographic order: wrapped, it is
