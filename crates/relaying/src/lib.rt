@@ -8,6 +8,6 @@ mod saying;
 mod settling;
 
 pub use hearing::hear_round;
-pub use item::Item;
+pub use item::RelayedItem;
 pub use saying::say_round;
-pub use settling::{Settled, claims_of, rows_of, settle};
+pub use settling::{claims_of, rows_of, settle};

@@ -1,61 +1,112 @@
 //! What a node settles of the items of all members, and whom it convicts.
 
+ghost use Rattle.std.specs.Prelude.{◌≡◌, ◌==◌, ◌&&◌, ◌<◌, not, map, length};
+ghost use Rattle.node_grid.specs.Capacity.{IsCapacity};
+ghost use Rattle.node_grid.specs.NodeSet.{ids_where};
+ghost use Rattle.omh.specs.Heard.{Hearing, ear_of};
+ghost use Rattle.protocol.specs.FurtherKinds.{convicts_member};
+ghost use Rattle.protocol.specs.Settled.{plain};
+ghost use Rattle.protocol.specs.View.{as_claim};
+ghost use Rattle.relay_terms.specs.Terms.{said};
+ghost use Rattle.relay_table.specs.Tabled.{forgotten};
+ghost use Rattle.relay_rules.specs.Hearing.{after_round};
+ghost use Rattle.relay_rules.specs.Settling.{settled_in};
+ghost use Rattle.relaying.specs.Told.{IsRoundHeard, IsHeardWhereKept};
+
 use crate::hearing::{hear_round, round_of};
-use crate::item::Item;
+use crate::item::RelayedItem;
 use error_detect::SlotWatch;
 use node_grid::{Matrix, NodeSet, Row};
 use omh_paths::Wrapped;
 use relay_table::Table;
 use relay_terms::Term;
 
-/// What a node settles of each node's item, and the other members that it convicts.
-#[derive(Clone, Copy, Drop)]
-pub struct Settled<V, const N: usize> {
-    /// What is settled of each node's item: the error itself where nothing is.
-    pub items: [Term<V>; N],
-    /// The other members that it convicts by what it heard of their items.
-    pub guilty: NodeSet<N>,
+/// Hears the last round where its terms are kept.
+fn hear_kept<V: RelayedItem<N>, const N: usize>(table: &mut Table<V, N>, watch: &SlotWatch<N>)
+    requires heard { IsRoundHeard N V.kind table.old.rounds table.old watch.now }
+    ensures { IsHeardWhereKept V.form watch.now table.old table.new }
+{
+    let rounds = table.rounds();
+    if rounds < 2 {
+        hear_round(table, watch, rounds);
+    }
 }
 
-/// Takes what the frames of the last round say, settles, and forgets all that was heard.
-pub fn settle<V: Item<N>, const N: usize>(table: &mut Table<V, N>, watch: &SlotWatch<N>) -> Settled<V, N> {
-    let mut items = [Term::nothing(); N];
+/// Writes what is settled of each node's item, once the last round was heard where its terms are
+/// kept.
+fn settle_items<V: RelayedItem<N>, const N: usize>(
+    table: &mut Table<V, N>,
+    watch: &SlotWatch<N>,
+    items: &mut [Term<V>],
+)
+    requires heard { IsRoundHeard N V.kind table.old.rounds table.old watch.now }
+    requires room { length items.old ≡ N }
+    ensures settled { (was : Hearing V) → IsHeardWhereKept V.form watch.now was table.old →
+        map (λ t. plain (said t)) items.new
+        ≡ settled_in V.eq N (after_round V.form was.nodes watch.now was.rounds was) }
+    ensures kept { table.new ≡ table.old }
+{
+    let _members = table.members();
+    let _capacity = table.nodes();
     let rounds = table.rounds();
     if rounds == 0 {
-        hear_round(table, watch, 0);
-        table.settle_items(&mut items);
-        let guilty = table.convicted();
-        table.forget();
-        return Settled { items, guilty };
+        table.settle_items(items);
+        return;
     }
     let mut frames = round_of(table, watch, rounds);
-    if rounds == 1 {
-        table.hear_round(&mut frames, 1);
-        frames.rewind();
-    }
+    table.settle_round(&mut frames, items);
+}
+
+/// Takes what the frames of the last round say, settles, and forgets all that was heard: writes
+/// what is settled of each node's item, which is the error itself where nothing is, and answers the
+/// other members that the node convicts by what it heard of their items.
+pub fn settle<V: RelayedItem<N>, const N: usize>(
+    table: &mut Table<V, N>,
+    watch: &SlotWatch<N>,
+    items: &mut [Term<V>],
+) -> NodeSet<N>
+    requires heard { IsRoundHeard N V.kind table.old.rounds table.old watch.now }
+    requires room { length items.old ≡ N }
+    ensures settled { map (λ t. plain (said t)) items.new ≡ settled_in V.eq N
+        (after_round V.form table.old.nodes watch.now table.old.rounds table.old) }
+    ensures guilty { result ≡ ids_where (λ j. not (j == table.old.me)
+        && convicts_member V.eq (ear_of (after_round V.form table.old.nodes watch.now
+        table.old.rounds table.old)) j) N }
+    ensures forgotten { table.new ≡ forgotten table.old }
+{
+    let _members = table.members();
+    hear_kept(table, watch);
     let guilty = table.convicted();
-    table.settle_round(&mut frames, &mut items);
+    settle_items(table, watch, items);
     table.forget();
-    Settled { items, guilty }
+    guilty
 }
 
 /// The settled claims: `Fault(0)` where nothing is settled.
-pub fn claims_of<const N: usize>(items: &[Term<u8>; N]) -> [Wrapped<u8>; N] {
+pub fn claims_of<const N: usize>(items: &[Term<u8>; N]) -> [Wrapped<u8>; N]
+    requires capacity { IsCapacity N }
+    ensures { result ≡ map (λ t. as_claim (plain (said t))) items.now }
+{
     let mut claims = [Wrapped::Fault(0); N];
     for node in 0..N {
-        if let Some(claim) = items[node].get() {
-            claims[node] = Wrapped::Plain(claim);
+        match items[node].value() {
+            Wrapped::Plain(claim) => claims[node] = Wrapped::Plain(claim),
+            Wrapped::Fault(_) => {}
         }
     }
     claims
 }
 
 /// The settled rows.
-pub fn rows_of<const N: usize>(items: &[Term<Row<N>>; N]) -> Matrix<N> {
+pub fn rows_of<const N: usize>(items: &[Term<Row<N>>; N]) -> Matrix<N>
+    requires capacity { IsCapacity N }
+    ensures { result ≡ map (λ t. plain (said t)) items.now }
+{
     let mut rows = Matrix::empty();
     for node in 0..N as u8 {
-        if let Some(row) = items[node as usize].get() {
-            rows.set(node, row);
+        match items[node as usize].value() {
+            Wrapped::Plain(row) => rows.set(node, row),
+            Wrapped::Fault(_) => {}
         }
     }
     rows
