@@ -9,6 +9,7 @@ use super::Controller;
 use data_slot::{due_channels, own_values};
 use node_grid::kind::EQUIVOCATE;
 use noting::{note_found, note_verdicts};
+use relay_terms::Term;
 use relaying::{claims_of, hear_round, settle};
 
 impl<'c, const N: usize> Controller<'c, N> {
@@ -43,11 +44,12 @@ impl<'c, const N: usize> Controller<'c, N> {
         let Some(agreed) = &self.phase.before else {
             return;
         };
-        let settled = settle(&mut self.done, &self.watch);
-        let claims = claims_of(&settled.items);
+        let mut items = [Term::nothing(); N];
+        let guilty = settle(&mut self.done, &self.watch, &mut items);
+        let claims = claims_of(&items);
         let preview = agreed.preview(self.config, &claims);
         note_verdicts(&mut self.found.notes, &preview.verdicts);
-        self.found.notes.note_all(&settled.guilty, EQUIVOCATE);
+        self.found.notes.note_all(&guilty, EQUIVOCATE);
         self.found.claims = claims;
         self.found.due = due_channels(self.config, preview.finished_now);
         self.found.own = own_values(

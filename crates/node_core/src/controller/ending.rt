@@ -10,6 +10,7 @@ ghost use Rattle.node_steps.specs.Steps.{ended, ended_cold, finished, period_ove
 use super::{Controller, Keeping};
 use crate::outcome::{Mode, NodeRecord, copied};
 use node_grid::kind::EQUIVOCATE;
+use relay_terms::Term;
 use relaying::{rows_of, settle};
 
 /// How a node goes through a period with an agreed state.
@@ -45,10 +46,11 @@ impl<'c, const N: usize> Controller<'c, N> {
         let Some(agreed) = &self.phase.before else {
             return;
         };
-        let settled = settle(&mut self.rows, &self.watch);
-        let rows = rows_of(&settled.items);
+        let mut items = [Term::nothing(); N];
+        let guilty = settle(&mut self.rows, &self.watch, &mut items);
+        let rows = rows_of(&items);
         let mut notes = self.found.notes;
-        notes.carry_all(&settled.guilty, EQUIVOCATE);
+        notes.carry_all(&guilty, EQUIVOCATE);
         let mut after = *agreed;
         after.step(self.config, self.phase.period, &self.found.claims, &rows);
         self.kept = Keeping {
