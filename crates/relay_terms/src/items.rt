@@ -42,6 +42,11 @@ impl<const N: usize> Item for Row<N> {
     }
 
     fn read(bytes: &[u8]) -> Row<N> {
-        read_row(bytes, (bytes.len() / 2).min(N))
+        let nodes = bytes.len() / 2;
+        // Where each node has a mask, their number is known when this is compiled.
+        if nodes == N {
+            return read_row(bytes, N);
+        }
+        read_row(bytes, nodes.min(N))
     }
 }

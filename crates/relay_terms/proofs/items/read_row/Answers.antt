@@ -1,4 +1,4 @@
-use Rattle.std.proofs.Common.{◌≡◌, ◌<◌, ◌+◌, ◌-◌, ◌*◌, ◌/◌, ℕ, List, [], ◌∷◌, get_or, length, take, sym, ap, ◌∙◌, arith, map, set, replicate, ◌++◌}
+use Rattle.std.proofs.Common.{◌≡◌, ◌<◌, ◌-◌, ◌/◌, ℕ, List, get_or, length, take, sym, ap, ◌∙◌, arith, map, set, replicate, ◌++◌}
 use Rattle.std.proofs.lemmas.List.{length-map}
 use Rattle.std.specs.Int.{w16, from_be_bytes}
 use Rattle.frames.specs.Reading.{pieces_of_width}
