@@ -1,23 +1,23 @@
 -- What was heard after one member's own item.
-use Rattle.std.proofs.Common.{ℕ, ◌≡◌, ◌≢◌, ◌<◌, ◌≤◌, ◌+◌, ◌-◌, true, false, if◌then◌else◌, List, [], ◌∷◌, length, map, get_or, refl, sym, ap, ◌∙◌, inl, inr, arith}
+use Rattle.std.proofs.Common.{ℕ, ◌≡◌, ◌≢◌, ◌<◌, ◌≤◌, ◌+◌, ◌-◌, true, if◌then◌else◌, List, [], ◌∷◌, length, map, get_or, sym, ap, ◌∙◌, inl, inr, arith}
 use Rattle.std.proofs.lemmas.Bool.{cases_Bool, cases_eq, cases_lt, cond-true, cond-false, both_ways}
 use Rattle.node_grid.specs.NodeSet.{has_id, without_id, IsIdSet}
 use Rattle.node_grid.specs.Count.{Distinct}
 use Rattle.omh_paths.specs.declared.wrapped.Wrapped.{Wrapped}
 use Rattle.omh_paths.specs.declared.wrapped.Wrapped.TheVariants.{Fault}
 use Rattle.omh_paths.specs.MemberLaws.{Distinct-ids}
-use Rattle.omh_paths.specs.Paths.{same_nodes, paths_of_length, path_count, path_at, place_in, index_in}
-use Rattle.omh_paths.specs.PathLists.{same_nodes-tells, same_nodes-finds, Distinct-without, index_in-lt, place-lt, path_at-place, length-paths}
+use Rattle.omh_paths.specs.Paths.{same_nodes, paths_of_length, path_at, place_in, index_in}
+use Rattle.omh_paths.specs.PathLists.{same_nodes-tells, same_nodes-finds, Distinct-without, index_in-lt, path_at-place, length-paths}
 use Rattle.omh.specs.Flat.{section_at}
 use Rattle.omh.specs.FlatLaws.{section_at-le}
-use Rattle.omh.specs.Heard.{Hearing, heard_paths, with_heard}
+use Rattle.omh.specs.Heard.{Hearing, with_heard}
 use Rattle.omh.specs.HeardLaws.{IsHeardPath, entries_with}
 use Rattle.relay_walk.specs.Laid.{laid}
 use Rattle.relay_walk.specs.LaidLaws.{laid_before, laid_in, laid_behind}
 use Rattle.relay_table.specs.declared.station.Station.{Station}
-use Rattle.relay_table.specs.Settling.{IsSeated, hearing_of, other_path}
+use Rattle.relay_table.specs.Settling.{IsSeated, hearing_of}
 use Rattle.relay_table.specs.Tabled.{kept_nodes, kept_heard, heard_among}
-use Rattle.relay_table.proofs.HeardView.{kept_where, not_kept, others_of, place_there}
+use Rattle.relay_table.proofs.HeardView.{kept_where, not_kept, place_there}
 use Rattle.relay_table.proofs.Stations.{root_path}
 use Rattle.relay_table.proofs.Tables.{kept-some}
 

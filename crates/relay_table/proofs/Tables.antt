@@ -3,18 +3,16 @@ use Rattle.std.proofs.Common.{ℕ, zero, suc, ◌≡◌, ◌<◌, ◌≤◌, ◌
 use Rattle.std.specs.Prelude.{Option, if◌then◌else◌}
 use Rattle.std.proofs.lemmas.Bool.{cases_Bool, cond-true, cond-false, both_ways}
 use Rattle.std.proofs.lemmas.List.{take_all, drop_all, length-map, length-take, length-drop, ext_get_or, get_or-take, get_or-drop, get_or-map, length-replicate}
-use Rattle.std.proofs.lemmas.List.Concat.{flat_map_single}
 use Rattle.node_grid.specs.Capacity.{IsCapacity}
 use Rattle.node_grid.specs.NodeSetLaws.{filter_none}
 use Rattle.node_grid.specs.NodeSet.{has_id, without_id, ids_below, IsIdSet}
 use Rattle.omh_paths.specs.declared.wrapped.Wrapped.{Wrapped}
 use Rattle.omh_paths.specs.declared.wrapped.Wrapped.TheVariants.{Plain, Fault}
 use Rattle.omh_paths.specs.Paths.{paths_of_length, path_count, index_in}
-use Rattle.omh_paths.specs.PathLists.{paths-cons, has-without, index_in-lt, IsListed-at, length-paths}
+use Rattle.omh_paths.specs.PathLists.{has-without, index_in-lt, IsListed-at, length-paths}
 use Rattle.omh.specs.Omh.{Ear, settled_from, settled_at, settled_within}
 use Rattle.omh.specs.Heard.{Entry, Hearing, ear_of, heard_in, nothing_heard}
 use Rattle.omh.specs.Flat.{section_at}
-use Rattle.omh.specs.Written.{last_node}
 use Rattle.relay_terms.specs.declared.term.Term.{Term}
 use Rattle.relay_terms.specs.Terms.{said}
 use Rattle.relay_walk.specs.declared.round.Round.{Round}

@@ -123,18 +123,22 @@ impl<const N: usize> FreeMembers<N> {
         }
     }
 
-    /// Lays the sets of paths of up to `m` of these members.
-    pub(crate) fn fill(&mut self, members: &NodeSet<N>, m: u8)
+    /// Lays the sets of paths of up to `m` of these members, where they aren't those of before.
+    pub(crate) fn fill(&mut self, before: &NodeSet<N>, members: &NodeSet<N>, m: u8)
         requires capacity { IsCapacity N }
         requires rounds { m ≤ 3 }
         requires room { IsIdSet N members.now
             → free_begins (length members.now) (m + 1) ≤ length self.old.sets.items }
         requires small { length self.old.sets.items ≤ 1048576 }
+        requires ids { IsIdSet N before.now }
+        requires filled { AreFree before.now m self.old.sets.items }
         ensures ids { IsIdSet N members.now }
         ensures free { AreFree members.now m self.new.sets.items }
         ensures room { length self.new.sets.items ≡ length self.old.sets.items }
     {
-        lay_free(members, m, self.sets.as_mut_slice());
+        if members != before {
+            lay_free(members, m, self.sets.as_mut_slice());
+        }
     }
 
     /// The members outside a path, which stands at place `k` among those of `len` out of `members`.

@@ -131,7 +131,8 @@ impl<V: Item, const N: usize> Table<V, N> {
         ensures { self.new ≡ started self.old members.now me full (Plain own) }
     {
         forget(self.heard.as_mut_slice());
-        self.free.fill(members, self.station.rounds);
+        let before = self.station.members;
+        self.free.fill(&before, members, self.station.rounds);
         self.station.members = *members;
         self.station.others = members.without(me);
         self.station.me = me;

@@ -1,12 +1,12 @@
-use Rattle.std.proofs.Common.{ℕ, ◌≡◌, ◌<◌, true, ◌∷◌, [], map, length, sym, ap, subst, ◌∙◌, lit<, arith}
+use Rattle.std.proofs.Common.{◌≡◌, true, ◌∷◌, [], map, sym, ap, subst, ◌∙◌, lit<, arith}
 use Rattle.std.proofs.lemmas.List.{length-map}
-use Rattle.node_grid.specs.NodeSet.{has_id, without_id}
+use Rattle.node_grid.specs.NodeSet.{has_id}
 use Rattle.omh_paths.specs.MemberLaws.{place-index, member-lt}
 use Rattle.omh_paths.specs.Paths.{index_in}
 use Rattle.omh_paths.specs.PathLists.{index_in-lt, has-of-without}
 use Rattle.relay_terms.specs.Terms.{said}
 use Rattle.relay_walk.specs.Laid.{laid}
-use Rattle.relay_table.specs.Tabled.{AreKnown, term_of}
+use Rattle.relay_table.specs.Tabled.{AreKnown}
 use Rattle.relay_table.proofs.Known.{known_laid, known_item, known_one}
 use Rattle.relay_table.proofs.station.Station.hear_item.Goals as goal
 

@@ -36,7 +36,7 @@ fill-requires g c =
       lit< tt,
       (
         lit< tt,
-        (st.capacity_ok, (st.rounds_ok, (sets_fit g.row.N s.nodes s.rounds room c.args.members.now sets.long below, few_sets g.row.N s.nodes s.rounds room sets.long st.capacity_ok st.nodes_ok st.rounds_ok))),
+        (st.capacity_ok, (st.rounds_ok, (sets_fit g.row.N s.nodes s.rounds room c.args.members.now sets.long below, (few_sets g.row.N s.nodes s.rounds room sets.long st.capacity_ok st.nodes_ok st.rounds_ok, (st.members_ok, sets.free))))),
       ),
     )
 
