@@ -27,6 +27,7 @@ use error_reports::RowBuilder;
 use node_grid::{NodeSet, Row};
 use omh_paths::Wrapped;
 use relay_table::Table;
+use relay_terms::RelayedRow;
 use slot_plan::Slot;
 use std::marker::Model;
 
@@ -71,7 +72,7 @@ pub struct Controller<'c, const N: usize> {
     phase: Phase<N>,
     kept: Keeping<N>,
     done: Table<u8, N>,
-    rows: Table<Row<N>, N>,
+    rows: Table<RelayedRow<N>, N>,
     found: Findings<N>,
     watch: SlotWatch<N>,
     outcome: NodeRecord<N>,

@@ -7,6 +7,7 @@ ghost use Rattle.node_steps.specs.Steps.{shut, taken};
 use super::Controller;
 use data_slot::DataSlot;
 use noting::note_values;
+use relay_terms::RelayedRow;
 
 impl<'c, const N: usize> Controller<'c, N> {
     /// Closes the data slot: votes on the due channels, notes what is against the others, finishes
@@ -39,7 +40,7 @@ impl<'c, const N: usize> Controller<'c, N> {
             &agreed.members,
             self.phase.me,
             self.phase.full,
-            notes.row(),
+            RelayedRow::of(&notes.row()),
         );
     }
 }
