@@ -132,13 +132,13 @@ impl<'s, const N: usize> EventNode<'s, N> {
     {
         let config = scenario.config();
         let room = frame_bound(config.nodes, config.m, Agreed::state_len(config), 8);
-        let node = Node::open(alloc, config, id)?;
         let Ok(frame) = Vec::with_capacity(alloc, room) else {
             return Err(NoMemory);
         };
         let Ok(text) = Vec::with_capacity(alloc, 2 * room + AROUND) else {
             return Err(NoMemory);
         };
+        let node = Node::open(alloc, config, id)?;
         Ok(EventNode {
             scenario,
             id,

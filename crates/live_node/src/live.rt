@@ -68,10 +68,10 @@ impl<'s, const N: usize> Live<'s, N> {
         ensures fresh { IfOk result (λ l. IsNewLive scenario.now id l) }
         ensures longest { IfOk result (λ l. l.longest ≡ longest) }
     {
-        let node = EventNode::open(alloc, scenario, id, longest)?;
         let Ok(arrived) = vec![in alloc; 0u8; longest / 2] else {
             return Err(NoMemory);
         };
+        let node = EventNode::open(alloc, scenario, id, longest)?;
         Ok(Live { node, arrived })
     }
 
