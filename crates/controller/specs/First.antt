@@ -36,6 +36,13 @@ abbrev pub ReadsFirst : SourceView → SourceView → Result FirstLine Status �
 ReadsFirst before now (Ok first) = (bytes : List ℕ) × GivesBytes before now bytes × HasFirst first now bytes
 ReadsFirst before now (Err status) = StopsFirst status before now
 
+-- a call whose first line is no scenario of node id ends with this status, which is no success
+abbrev pub StopsScenario : List ℕ → ℕ → SinkView → SinkView → Status → Type 0
+StopsScenario line id old new Unreadable = IsUnreadable line × (new ≡ old)
+StopsScenario line id old new NoMemory = new ≡ old
+StopsScenario line id old new Refused = (text : List ℕ) × IsScenarioRefused line id text × WritesSome old new text
+StopsScenario line id old new _ = ⊥
+
 -- where a node of the first line's scenario stands before the first event
 abbrev pub at_first : LiveView capacity → List ℕ → Stand
 at_first v rest = record { node = v; number = first_event; rest = rest }

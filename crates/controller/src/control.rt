@@ -1,5 +1,5 @@
 //! The top call.
-ghost use Rattle.std.specs.Prelude.{◌≡◌, ◌<◌, ◌≤◌, [], length, IfOk, IsTrue};
+ghost use Rattle.std.specs.Prelude.{◌≡◌, ◌<◌, ◌≤◌, [], length, IfOk, IfErr, OnOk, IsTrue};
 ghost use Rattle.live_node.specs.Live.{IsNewLive};
 ghost use Rattle.input_lines.specs.Devices.{sink_seen, source_seen};
 ghost use Rattle.controller.specs.declared.status.Status.{Status as SpecStatus};
@@ -7,7 +7,8 @@ ghost use Rattle.controller.specs.Status.{number_of};
 ghost use Rattle.controller.specs.Words.{texts};
 ghost use Rattle.controller.specs.Input.{scenario_limit};
 ghost use Rattle.controller.specs.Session.{IsReady};
-ghost use Rattle.controller.specs.First.{ReadsFirst, AnswersFirst};
+ghost use Rattle.controller.specs.Outcome.{IsAcceptedText};
+ghost use Rattle.controller.specs.First.{ReadsFirst, StopsScenario, RunsNode, AnswersFirst};
 ghost use Rattle.controller.specs.Answers.{IsStatusOf};
 
 use crate::Status;
@@ -71,6 +72,55 @@ fn open<'s>(
     Ok(Session::new(live, lines))
 }
 
+/// The scenario of this line, which has a node of this number; or how a call ends in which it is none.
+fn accepted<K: Sink>(
+    alloc: Global,
+    id: u8,
+    line: &[u8],
+    sink: &mut K,
+) -> Result<Scenario<CAPACITY>, Status>
+    requires { length line.now ≤ scenario_limit }
+    ensures accepted { IfOk result (λ sc. IsAcceptedText line.now sc) }
+    ensures below { IfOk result (λ sc. id < sc.config.nodes) }
+    ensures silent { OnOk result (sink.new ≡ sink.old) }
+    ensures stops { IfErr result (StopsScenario line.now id
+        (sink_seen K.written K.faults sink.old) (sink_seen K.written K.faults sink.new)) }
+{
+    let scenario = match read::<CAPACITY>(alloc, line) {
+        Ok(scenario) => scenario,
+        Err(ScenarioError::Unreadable) => return Err(Status::Unreadable),
+        Err(ScenarioError::NoMemory) => return Err(Status::NoMemory),
+        Err(ScenarioError::Refused { rule, place }) => {
+            return Err(refuse(rule, place as u64, sink));
+        }
+    };
+    if id >= scenario.config().nodes {
+        return Err(refuse(16, 0, sink));
+    }
+    Ok(scenario)
+}
+
+/// Runs a new node: over all that comes behind the first line, or, where nothing can come, to its end.
+fn run_node<S: Source, K: Sink>(
+    session: &mut Session<'_>,
+    ends_input: bool,
+    source: &mut S,
+    sink: &mut K,
+) -> Status
+    requires ready { IsReady session.old }
+    requires number { session.old.number ≡ 2 }
+    requires rest { IsTrue ends_input → session.old.lines.rest ≡ [] }
+    ensures { RunsNode ends_input session.old.live session.old.lines.rest
+        (source_seen S.left S.given S.faults source.old)
+        (source_seen S.left S.given S.faults source.new)
+        (sink_seen K.written K.faults sink.old) (sink_seen K.written K.faults sink.new) result }
+{
+    if ends_input {
+        return session.finish(sink);
+    }
+    session.run(source, sink)
+}
+
 /// Answers an input whose first line was read.
 fn answer<S: Source, K: Sink>(
     alloc: Global,
@@ -85,23 +135,15 @@ fn answer<S: Source, K: Sink>(
         (source_seen S.left S.given S.faults source.new)
         (sink_seen K.written K.faults sink.old) (sink_seen K.written K.faults sink.new) result }
 {
-    let scenario = match read::<CAPACITY>(alloc, first.lines.line()) {
+    let scenario = match accepted(alloc, id, first.lines.line(), sink) {
         Ok(scenario) => scenario,
-        Err(ScenarioError::Unreadable) => return Status::Unreadable,
-        Err(ScenarioError::NoMemory) => return Status::NoMemory,
-        Err(ScenarioError::Refused { rule, place }) => return refuse(rule, place as u64, sink),
+        Err(status) => return status,
     };
-    if id >= scenario.config().nodes {
-        return refuse(16, 0, sink);
-    }
     let ends_input = first.ends_input;
-    let Ok(mut session) = open(alloc, &scenario, id, first.lines) else {
-        return Status::NoMemory;
-    };
-    if ends_input {
-        return session.finish(sink);
+    match open(alloc, &scenario, id, first.lines) {
+        Ok(mut session) => run_node(&mut session, ends_input, source, sink),
+        Err(_) => Status::NoMemory,
     }
-    session.run(source, sink)
 }
 
 /// Runs a node by what the source gives, and writes its answers into the sink.

@@ -1,26 +1,23 @@
 //! That what is heard can be kept at the largest size: sixteen nodes and three relay rounds.
 
 use heard::Heard;
-use node_grid::{NoMemory, Row};
+use node_grid::Row;
 use omh::Table;
 use std::io;
 use worked_rows::rows;
 
 pub fn print(rt: &HostRuntime) -> io::Result<()> {
-    let claims: Result<Heard<u8, 16>, NoMemory> = Heard::open(rt.alloc(), 16, 3);
-    let settled: Result<Heard<Row<16>, 16>, NoMemory> = Heard::open(rt.alloc(), 16, 3);
-    let plain: Result<Table<u8, 16>, NoMemory> = Table::open(rt.alloc(), 16, 3);
-    let plain_rows: Result<Table<Row<16>, 16>, NoMemory> = Table::open(rt.alloc(), 16, 3);
+    let claims = Heard::<u8, 16>::open(rt.alloc(), 16, 3).is_ok();
+    let settled = Heard::<Row<16>, 16>::open(rt.alloc(), 16, 3).is_ok();
+    let plain = Table::<u8, 16>::open(rt.alloc(), 16, 3).is_ok();
+    let plain_rows = Table::<Row<16>, 16>::open(rt.alloc(), 16, 3).is_ok();
     rows(
         rt,
         &[
-            (
-                "a store of what sixteen nodes claim can be had",
-                claims.is_ok(),
-            ),
-            ("one of their rows", settled.is_ok()),
-            ("a plain table of claims", plain.is_ok()),
-            ("one of rows", plain_rows.is_ok()),
+            ("a store of what sixteen nodes claim can be had", claims),
+            ("one of their rows", settled),
+            ("a plain table of claims", plain),
+            ("one of rows", plain_rows),
         ],
     )
 }

@@ -2,19 +2,12 @@
 
 use error_detect::SlotWatch;
 use frames::frame_bound;
-use node_grid::NoMemory;
 use std::io;
 use worked_rows::{row, rows};
 
 pub fn print(rt: &HostRuntime) -> io::Result<()> {
     let longest = frame_bound(16, 3, 1090, 8);
-    let watch: Result<SlotWatch<16>, NoMemory> = SlotWatch::open(
-        rt.alloc(),
-        16,
-        15,
-        longest,
-        longest,
-    );
+    let is_had = SlotWatch::<16>::open(rt.alloc(), 16, 15, longest, longest).is_ok();
     rows(
         rt,
         &[
@@ -35,6 +28,6 @@ pub fn print(rt: &HostRuntime) -> io::Result<()> {
     row(
         rt,
         "a watch of frames of the longest size can be had",
-        watch.is_ok(),
+        is_had,
     )
 }

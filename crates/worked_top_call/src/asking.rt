@@ -3,7 +3,7 @@
 ghost use Rattle.std.specs.Prelude.{◌≤◌};
 
 use span_io::{MemSink, MemSource};
-use std::alloc::Global;
+use std::alloc::{AllocError, Global};
 use top_call::run;
 
 /// A source in pieces of so many bytes, of which some calls fail, and a sink of so much room, which
@@ -24,6 +24,35 @@ pub struct Answer {
     pub written: Vec<u8>,
 }
 
+/// The words, each owned.
+fn words_of(alloc: Global, words: &[&str]) -> Result<Vec<String>, AllocError> {
+    let mut owned = Vec::new(alloc);
+    for word in words {
+        owned.push(word.to_string(alloc)?)?;
+    }
+    Ok(owned)
+}
+
+/// A source of this text.
+fn source_of(alloc: Global, text: &str, devices: Devices<'_>) -> Result<MemSource, AllocError>
+    requires { 1 ≤ devices.source_piece }
+{
+    let bytes = Vec::from_slice(alloc, text.as_bytes())?;
+    let fails = Vec::from_slice(alloc, devices.source_fails)?;
+    Ok(MemSource::new(bytes, devices.source_piece, fails))
+}
+
+/// A sink into which nothing was written.
+fn sink_of(alloc: Global, devices: Devices<'_>) -> anyhow::Result<MemSink>
+    requires { 1 ≤ devices.sink_piece }
+{
+    let fails = Vec::from_slice(alloc, devices.sink_fails)?;
+    let Ok(sink) = MemSink::new(alloc, devices.room, devices.sink_piece, fails) else {
+        anyhow::bail!("there is no memory for the sink");
+    };
+    Ok(sink)
+}
+
 /// Calls the program with these words and this input.
 pub fn ask(
     alloc: Global,
@@ -34,18 +63,10 @@ pub fn ask(
     requires source { 1 ≤ devices.source_piece }
     requires sink { 1 ≤ devices.sink_piece }
 {
-    let mut owned = Vec::new(alloc);
-    for word in words {
-        owned.push(word.to_string(alloc)?)?;
-    }
-    let bytes = Vec::from_slice(alloc, input.as_bytes())?;
-    let fails = Vec::from_slice(alloc, devices.source_fails)?;
-    let mut source = MemSource::new(bytes, devices.source_piece, fails);
-    let fails = Vec::from_slice(alloc, devices.sink_fails)?;
-    let Ok(mut sink) = MemSink::new(alloc, devices.room, devices.sink_piece, fails) else {
-        anyhow::bail!("there is no memory for the sink");
-    };
-    let status = run(alloc, owned.as_slice(), &mut source, &mut sink);
+    let words = words_of(alloc, words)?;
+    let mut source = source_of(alloc, input, devices)?;
+    let mut sink = sink_of(alloc, devices)?;
+    let status = run(alloc, words.as_slice(), &mut source, &mut sink);
     let written = Vec::from_slice(alloc, sink.written())?;
     Ok(Answer { status, written })
 }

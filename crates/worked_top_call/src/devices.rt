@@ -2,6 +2,7 @@
 
 use crate::asking::{Answer, Devices, ask};
 use std::alloc::Global;
+use std::io;
 use worked_rows::row;
 
 /// A scenario without faults: three nodes, one period. It has 125 bytes, and the text of its replay
@@ -27,32 +28,63 @@ const PIECES: Devices<'static> = Devices {
 };
 
 /// Prints the status and how many bytes were written.
-fn tell(rt: &HostRuntime, asked: &str, answer: &Answer) -> anyhow::Result<()> {
+fn tell(rt: &HostRuntime, asked: &str, answer: &Answer) -> io::Result<()> {
     let count = answer.written.len();
-    println!(rt; "{asked}: status {}, {count} bytes", answer.status)?;
+    println!(rt; "{asked}: status {}, {count} bytes", answer.status)
+}
+
+/// Calls the program with these words and this input, and tells of its answer.
+fn call(
+    rt: &HostRuntime,
+    asked: &str,
+    words: &[&str],
+    input: &str,
+    devices: Devices<'_>,
+) -> anyhow::Result<()>
+    requires source { 1 ≤ devices.source_piece }
+    requires sink { 1 ≤ devices.sink_piece }
+{
+    let answer = ask(rt.alloc(), words, input, devices)?;
+    tell(rt, asked, &answer)?;
     Ok(())
 }
 
-fn of_words(rt: &HostRuntime) -> anyhow::Result<()> {
-    let failing = Devices {
-        source_fails: &[0],
-        sink_fails: &[0],
-        ..PIECES
-    };
-    let answer = ask(rt.alloc(), &[], SMALLEST, failing)?;
-    tell(rt, "no words, where source and sink fail at once", &answer)?;
-    let silent = Devices {
-        source_fails: &[0],
-        ..PIECES
-    };
-    let answer = ask(rt.alloc(), &["storm", "7"], SMALLEST, silent)?;
+/// A source of which the first call fails.
+const SILENT: Devices<'static> = Devices {
+    source_fails: &[0],
+    ..PIECES
+};
+
+fn of_a_storm(rt: &HostRuntime) -> anyhow::Result<()> {
+    let answer = ask(rt.alloc(), &["storm", "7"], SMALLEST, SILENT)?;
     row(
         rt,
         "a storm, where the source fails at once: status",
         answer.status,
     )?;
-    let answer = ask(rt.alloc(), &["replay"], SMALLEST, silent)?;
-    tell(rt, "a replay, where the source fails at once", &answer)
+    Ok(())
+}
+
+fn of_words(rt: &HostRuntime) -> anyhow::Result<()> {
+    let failing = Devices {
+        sink_fails: &[0],
+        ..SILENT
+    };
+    call(
+        rt,
+        "no words, where source and sink fail at once",
+        &[],
+        SMALLEST,
+        failing,
+    )?;
+    of_a_storm(rt)?;
+    call(
+        rt,
+        "a replay, where the source fails at once",
+        &["replay"],
+        SMALLEST,
+        SILENT,
+    )
 }
 
 /// How many of the calls of the source end the program with this status and nothing written, if each
@@ -90,53 +122,63 @@ fn small_rooms(alloc: Global, input: &str, text: &[u8], status: u8) -> anyhow::R
 }
 
 fn of_reads(rt: &HostRuntime) -> anyhow::Result<()> {
-    let whole = ask(rt.alloc(), &["replay"], SMALLEST, PIECES)?;
-    tell(rt, "a replay in pieces of 7 bytes", &whole)?;
-    let alike = failing_reads(rt.alloc(), 19, 5)?;
+    call(
+        rt,
+        "a replay in pieces of 7 bytes",
+        &["replay"],
+        SMALLEST,
+        PIECES,
+    )?;
     row(
         rt,
         "of 19 calls of the source, each failing in turn, end with status 5 and nothing written",
-        alike,
+        failing_reads(rt.alloc(), 19, 5)?,
     )?;
     let behind = Devices {
         source_fails: &[19],
         ..PIECES
     };
-    let answer = ask(rt.alloc(), &["replay"], SMALLEST, behind)?;
-    tell(rt, "where the call behind the last one would fail", &answer)
+    call(
+        rt,
+        "where the call behind the last one would fail",
+        &["replay"],
+        SMALLEST,
+        behind,
+    )
 }
 
-fn of_rooms(rt: &HostRuntime) -> anyhow::Result<()> {
-    let text = ask(rt.alloc(), &["replay"], SMALLEST, PIECES)?;
-    let text = text.written.as_slice();
+/// Rooms for this text, which is a replay's.
+fn of_rooms_for(rt: &HostRuntime, text: &[u8]) -> anyhow::Result<()> {
     let just = Devices {
         room: text.len(),
         ..PIECES
     };
-    let answer = ask(rt.alloc(), &["replay"], SMALLEST, just)?;
-    tell(rt, "just room for the text", &answer)?;
-    let alike = small_rooms(rt.alloc(), SMALLEST, text, 6)?;
+    call(rt, "just room for the text", &["replay"], SMALLEST, just)?;
     row(
         rt,
         "of 441 smaller rooms, end with status 6 and are full of the text",
-        alike,
+        small_rooms(rt.alloc(), SMALLEST, text, 6)?,
     )?;
     let failing = Devices {
         sink_piece: 100,
         sink_fails: &[2],
         ..PIECES
     };
-    let answer = ask(rt.alloc(), &["replay"], SMALLEST, failing)?;
-    tell(
+    call(
         rt,
         "where call 2 of a sink that takes 100 bytes at a time fails",
-        &answer,
+        &["replay"],
+        SMALLEST,
+        failing,
     )
 }
 
-fn of_refusals(rt: &HostRuntime) -> anyhow::Result<()> {
-    let refused = ask(rt.alloc(), &["replay"], CYCLE, PIECES)?;
-    tell(rt, "tasks in a circle", &refused)?;
+fn of_rooms(rt: &HostRuntime) -> anyhow::Result<()> {
+    let text = ask(rt.alloc(), &["replay"], SMALLEST, PIECES)?;
+    of_rooms_for(rt, text.written.as_slice())
+}
+
+fn of_three_bytes(rt: &HostRuntime) -> anyhow::Result<()> {
     let small = Devices { room: 3, ..PIECES };
     let answer = ask(rt.alloc(), &["replay"], CYCLE, small)?;
     tell(rt, "with room for 3 bytes", &answer)?;
@@ -145,13 +187,23 @@ fn of_refusals(rt: &HostRuntime) -> anyhow::Result<()> {
         "they are `ref`",
         answer.written.as_slice() == b"ref".as_slice(),
     )?;
-    let alike = small_rooms(rt.alloc(), CYCLE, refused.written.as_slice(), 4)?;
+    Ok(())
+}
+
+fn of_rooms_for_a_refusal(rt: &HostRuntime) -> anyhow::Result<()> {
+    let refused = ask(rt.alloc(), &["replay"], CYCLE, PIECES)?;
     row(
         rt,
         "of 12 smaller rooms, end with status 4 and are full of the line",
-        alike,
+        small_rooms(rt.alloc(), CYCLE, refused.written.as_slice(), 4)?,
     )?;
     Ok(())
+}
+
+fn of_refusals(rt: &HostRuntime) -> anyhow::Result<()> {
+    call(rt, "tasks in a circle", &["replay"], CYCLE, PIECES)?;
+    of_three_bytes(rt)?;
+    of_rooms_for_a_refusal(rt)
 }
 
 pub fn print(rt: &HostRuntime) -> anyhow::Result<()> {
