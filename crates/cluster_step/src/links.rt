@@ -12,6 +12,7 @@ use fault_classes::FaultPlan;
 use fault_link::{Delivered, deliveries};
 use node_core::Node;
 use node_grid::NoMemory;
+use slot_plan::ON_TIME;
 use std::alloc::Global;
 use std::marker::Model;
 
@@ -91,12 +92,7 @@ fn hand<'c, const N: usize>(from: u8, arrived: &Delivered<'_>, node: &mut Node<'
 
 impl<'p, const N: usize> Link<'p, N> {
     /// Delivers to another node what arrives of a frame that a line touches.
-    pub(crate) fn deliver_changed<'c>(
-        &self,
-        sent: &[u8],
-        node: &mut Node<'c, N>,
-        scratch: &mut Scratch,
-    )
+    fn deliver_changed<'c>(&self, sent: &[u8], node: &mut Node<'c, N>, scratch: &mut Scratch)
         requires capacity { IsCapacity N }
         requires ready { IsReady self.now.plan.now node.old }
         requires other { self.now.from ≢ node.old.phase.me }
@@ -118,7 +114,7 @@ impl<'p, const N: usize> Link<'p, N> {
 
     /// Whether a line touches the frame on its way to another node. It is looked up only where one touches a frame of the
     /// sender in the period.
-    pub(crate) fn is_touched(&self, to: u8) -> bool
+    fn is_touched(&self, to: u8) -> bool
         requires capacity { IsCapacity N }
         requires to { to < self.now.plan.now.nodes }
         ensures untouched { result ≡ false → self.now.from ≢ to →
@@ -131,5 +127,20 @@ impl<'p, const N: usize> Link<'p, N> {
         self.plan
             .effect(self.period, self.slot, self.from, to)
             .is_some()
+    }
+    /// Delivers to a node what arrives of the sender's frame: nothing at the sender itself, and where
+    /// no line touches it the frame as it was sent, on time.
+    pub(crate) fn deliver<'c>(&self, sent: &[u8], node: &mut Node<'c, N>, scratch: &mut Scratch)
+        requires capacity { IsCapacity N }
+        requires ready { IsReady self.now.plan.now node.old }
+        requires short { length sent.now ≤ 90104 }
+        ensures { node.new ≡ handed_from self.now.plan.now self.now.period self.now.slot sent.now self.now.from node.old }
+    {
+        let me = node.me();
+        if self.is_touched(me) {
+            self.deliver_changed(sent, node, scratch);
+        } else if self.from != me {
+            node.deliver(self.from, ON_TIME, sent);
+        }
     }
 }

@@ -1,5 +1,5 @@
 -- What a watch keeps of a slot's deliveries, and what it finds by that.
-use Rattle.std.specs.Prelude.{◌≡◌, ◌≢◌, ℕ, suc, ◌<◌, ◌≤◌, All, IsSome, IfSome, ◌==◌, ◌||◌, Bool, true, false, List, [], ◌∷◌, Option, Some, None, nat_lt, nat_le, length, map, replicate, slice_set, if◌then◌else◌}
+use Rattle.std.specs.Prelude.{◌≡◌, ◌≢◌, ℕ, suc, ◌<◌, ◌≤◌, IsSome, IfSome, ◌==◌, ◌||◌, Bool, true, false, List, [], ◌∷◌, Option, Some, None, nat_lt, nat_le, length, map, replicate, slice_set, if◌then◌else◌}
 use Rattle.node_grid.specs.Capacity.{IsCapacity}
 use Rattle.node_grid.specs.NodeSet.{has_id}
 use Rattle.std.specs.List.{slice_index_or, range_with_len}
@@ -18,22 +18,23 @@ pub data Arrival : Type 0 where
   too_long : ℕ → Arrival
   several : Arrival
 
--- what is held of what arrived from one sender: of a delivery of the guessed bytes its tick alone
+-- what is held of what arrived from one sender: of a delivery its bytes and what is found of it, and of one of the guessed bytes its
+-- tick alone
 pub data Held : Type 0 where
   held_none : Held
-  held_bytes : ℕ → List ℕ → Held
+  held_bytes : ℕ → List ℕ → Finding → Held
   held_same : ℕ → Held
   held_long : ℕ → Held
   held_many : Held
 
--- the room for the bytes of one sender, and what is held of what arrived from it
-pub record Box : Type 0 where
-  pub room : ℕ
-  pub held : Held
+-- the greatest length of a frame, and what is held of what arrived, by sender
+pub record Boxes : Type 0 where
+  pub frame_max : ℕ
+  pub held : List Held
 
 abbrev pub is_same : Held → Bool
 is_same held_none = false
-is_same (held_bytes t b) = false
+is_same (held_bytes t b f) = false
 is_same (held_same t) = true
 is_same (held_long t) = false
 is_same held_many = false
@@ -41,15 +42,15 @@ is_same held_many = false
 -- what arrived, by what is held and what the sender was guessed to send
 abbrev pub arrival_at : List ℕ → Held → Arrival
 arrival_at bytes held_none = nothing
-arrival_at bytes (held_bytes t b) = one t b
+arrival_at bytes (held_bytes t b f) = one t b
 arrival_at bytes (held_same t) = one t bytes
 arrival_at bytes (held_long t) = too_long t
 arrival_at bytes held_many = several
 
 -- the same of senders from k on
-abbrev pub arrivals : (ℕ → List ℕ) → ℕ → List Box → List Arrival
+abbrev pub arrivals : (ℕ → List ℕ) → ℕ → List Held → List Arrival
 arrivals f k [] = []
-arrivals f k (b ∷ bs) = arrival_at (f k) b.held ∷ arrivals f (suc k) bs
+arrivals f k (h ∷ hs) = arrival_at (f k) h ∷ arrivals f (suc k) hs
 
 -- the numbers of a watch, what was expected in its last slot, whether that is open, what arrived, by sender, and what is guessed:
 -- a state, or the entries of a round of relays over all members
@@ -72,28 +73,37 @@ with_delivery room (one t b) tick bytes = several
 with_delivery room (too_long t) tick bytes = several
 with_delivery room several tick bytes = several
 
-abbrev pub with_held : ℕ → Held → ℕ → List ℕ → Held
-with_held room held_none tick bytes = if nat_lt room (length bytes) then held_long tick else held_bytes tick bytes
-with_held room (held_bytes t b) tick bytes = held_many
-with_held room (held_same t) tick bytes = held_many
-with_held room (held_long t) tick bytes = held_many
-with_held room held_many tick bytes = held_many
+abbrev pub with_held : ℕ → Held → ℕ → List ℕ → Finding → Held
+with_held room held_none tick bytes found = if nat_lt room (length bytes) then held_long tick else held_bytes tick bytes found
+with_held room (held_bytes t b f) tick bytes found = held_many
+with_held room (held_same t) tick bytes found = held_many
+with_held room (held_long t) tick bytes found = held_many
+with_held room held_many tick bytes found = held_many
 
 abbrev pub with_same : Held → ℕ → Held
 with_same held_none tick = held_same tick
-with_same (held_bytes t b) tick = held_many
+with_same (held_bytes t b f) tick = held_many
 with_same (held_same t) tick = held_many
 with_same (held_long t) tick = held_many
 with_same held_many tick = held_many
 
-abbrev pub filled : Box → ℕ → List ℕ → Box
-filled b tick bytes = record { room = b.room; held = with_held b.room b.held tick bytes }
+-- what is held of one sender
+abbrev pub held_at : Boxes → ℕ → Held
+held_at b j = slice_index_or b.held j held_none
 
-abbrev pub filled_same : Box → ℕ → Box
-filled_same b tick = record { room = b.room; held = with_same b.held tick }
+-- after one delivery more of a sender, of which this is found
+abbrev pub filled : Boxes → ℕ → ℕ → List ℕ → Finding → Boxes
+filled b from tick bytes found = record { frame_max = b.frame_max; held = slice_set b.held from (with_held b.frame_max (held_at b from) tick bytes found) }
 
-abbrev pub emptied : Box → Box
-emptied b = record { room = b.room; held = held_none }
+-- after one of the guessed bytes
+abbrev pub filled_same : Boxes → ℕ → ℕ → Boxes
+filled_same b from tick = record { frame_max = b.frame_max; held = slice_set b.held from (with_same (held_at b from) tick) }
+
+abbrev pub empty_boxes : ℕ → ℕ → Boxes
+empty_boxes nodes frame_max = record { frame_max = frame_max; held = replicate nodes held_none }
+
+abbrev pub emptied : Boxes → Boxes
+emptied b = empty_boxes (length b.held) b.frame_max
 
 -- a watch that saw no slot yet
 abbrev pub fresh : ℕ → ℕ → ℕ → Watch
@@ -177,12 +187,11 @@ told_in (Some e) j a = told_by (of_sender j e) a
 abbrev pub told_at : Watch → ℕ → Option Content
 told_at w j = told_in w.expect j (slice_index_or w.arrived j nothing)
 
--- what holds of the inside of a watch: an inbox with room for a frame for each node, and an expectation that can be read by
-pub record AreInboxes (n nodes room : ℕ) (expect : Option Expectation) (boxes : List Box) : Type 0 where
+-- what holds of the inside of a watch: an inbox for each node, and an expectation that can be read by
+pub record AreInboxes (n nodes : ℕ) (expect : Option Expectation) (held : List Held) : Type 0 where
   pub capacity : IsCapacity n
   pub few : nodes ≤ n
-  pub each : length boxes ≡ nodes
-  pub rooms : All (λ b. b.room ≡ room) boxes
+  pub each : length held ≡ nodes
   pub readable : IfSome expect (λ e. (e.nodes ≡ nodes) × (0 < e.nodes) × (e.m ≤ 3))
 
 -- once a slot is closed, the nodes that are marked are those whose finding is Good
@@ -224,16 +233,32 @@ pub record IsAsGuessed (w : Watch) (j : ℕ) : Type 0 where
   pub same : told_at w j ≡ said_at w j
 
 -- how a watch is seen
-abbrev pub watch_of : ℕ → ℕ → ℕ → Option Expectation → Bool → List Box → Option Content → Watch
-watch_of nodes me room e shown boxes g = record { nodes = nodes; me = me; frame_max = room; expect = e; is_open = shown; arrived = arrivals (frame_in e g) 0 boxes; guess = g }
+abbrev pub watch_of : ℕ → ℕ → Option Expectation → Bool → Boxes → Option Content → Watch
+watch_of nodes me e shown b g = record { nodes = nodes; me = me; frame_max = b.frame_max; expect = e; is_open = shown; arrived = arrivals (frame_in e g) 0 b.held; guess = g }
 
 -- what is guessed can be guessed of what is expected
 abbrev pub IsMeant : Option Expectation → Option Content → Type 0
 IsMeant o g = (e : Expectation) (c : Content) → o ≡ Some e → g ≡ Some c → IsGuessable e c
 
-abbrev pub no_box : Box
-no_box = record { room = 0; held = held_none }
-
 -- only what is guessed is held as the same
-abbrev pub AreSame : Option Expectation → Option Content → List Box → Type 0
-AreSame o g boxes = (j : ℕ) → is_same (slice_index_or boxes j no_box).held ≡ true → guesses o g j ≡ true
+abbrev pub AreSame : Option Expectation → Option Content → List Held → Type 0
+AreSame o g held = (j : ℕ) → is_same (slice_index_or held j held_none) ≡ true → guesses o g j ≡ true
+
+-- what is found of what is held: with bytes it is held what is found of them
+abbrev pub found_held : Held → Finding
+found_held held_none = Missing
+found_held (held_bytes t b f) = f
+found_held (held_same t) = if is_in_window t then Good else Timing
+found_held (held_long t) = if is_in_window t then Malformed else Timing
+found_held held_many = Malformed
+
+-- what is held as found of bytes is what is found of them
+abbrev pub IsFoundOf : Expectation → Held → Type 0
+IsFoundOf e held_none = Unit {0}
+IsFoundOf e (held_bytes t b f) = f ≡ found_by e (one t b)
+IsFoundOf e (held_same t) = Unit {0}
+IsFoundOf e (held_long t) = Unit {0}
+IsFoundOf e held_many = Unit {0}
+
+abbrev pub AreFound : Option Expectation → List Held → Type 0
+AreFound o held = (e : Expectation) → o ≡ Some e → (j : ℕ) → IsFoundOf (of_sender j e) (slice_index_or held j held_none)

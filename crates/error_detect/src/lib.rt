@@ -7,6 +7,7 @@ mod arrival;
 mod finding;
 mod guess;
 pub mod laws;
+mod room;
 mod rooms;
 mod watch;
 

@@ -7,17 +7,18 @@ ghost use Rattle.frames.specs.Seen.{content, expected, HasWidth};
 ghost use Rattle.frames.specs.Spelling.{head_of, body_spelling};
 ghost use Rattle.node_grid.specs.NodeSet.{has_id, ids_where};
 ghost use Rattle.error_detect.specs.Finding.{is_good_at};
-ghost use Rattle.error_detect.specs.Watching.{nothing, held_none, emptied, fresh, opened, delivered, closed, of_sender, HasRoom, finding_at, findings, told_at, guessing, guesses_at, frame_at, said_at, IsMeant, IsAsGuessed};
+ghost use Rattle.error_detect.specs.Watching.{nothing, fresh, opened, delivered, closed, of_sender, HasRoom, finding_at, findings, told_at, guessing, guesses_at, frame_at, said_at, IsMeant, IsAsGuessed};
 ghost use Rattle.error_detect.specs.Guessing.{IsGuessable};
 ghost use Rattle.error_detect.specs.Inside.{said_as, guessed_bytes};
+ghost use Rattle.error_detect.specs.Entries.{body_begin, entries_begin, HoldsBodies};
 
-use crate::arrival::Inbox;
+use crate::arrival::Arrivals;
 use crate::finding::Finding;
 use crate::guess::{Form, Guess, GuessedBytes};
 use crate::rooms::Rooms;
-use frames::{Expect, Frame, Runs};
+use frames::{Body, Expect, Frame, HEADER, Runs};
 use node_grid::{NoMemory, NodeSet};
-use std::alloc::{AllocError, Global};
+use std::alloc::Global;
 use std::marker::Model;
 
 /// What arrived from each other node in a slot, and what is found by that.
@@ -25,10 +26,9 @@ use std::marker::Model;
 pub struct SlotWatch<const N: usize> {
     nodes: u8,
     me: u8,
-    frame_max: usize,
     expect: Option<Expect<N>>,
     is_open: bool,
-    inboxes: Vec<Inbox>,
+    arrivals: Arrivals,
     good: NodeSet<N>,
     guess: Guess,
 }
@@ -42,29 +42,12 @@ impl<const N: usize> Model for SlotWatch<N> {
 
     ghost Value = { Watch };
 
-    ghost view = { λ w. watch_of w.nodes w.me w.frame_max (option_map expected w.expect) w.is_open w.inboxes.items (meaning N w.nodes w.guess) };
+    ghost view = { λ w. watch_of w.nodes w.me (option_map expected w.expect) w.is_open w.arrivals
+        (meaning N w.nodes w.guess) };
 
-    ghost invariant = { λ w. IsKept N (watch_of w.nodes w.me w.frame_max (option_map expected w.expect) w.is_open w.inboxes.items (meaning N w.nodes w.guess)) w.inboxes.items w.good w.guess };
-}
-
-/// Empty inboxes, one for each node.
-fn open_inboxes(alloc: Global, nodes: u8, room: usize) -> Result<Vec<Inbox>, AllocError>
-    ensures { IfOk result (λ v. v.items ≡ replicate nodes (record { room = room; held = held_none })) }
-{
-    let mut inboxes = Vec::new(alloc);
-    for _ in 0..nodes {
-        inboxes.push(Inbox::open(alloc, room)?)?;
-    }
-    Ok(inboxes)
-}
-
-/// Forgets what arrived from all.
-fn forget_all(inboxes: &mut [Inbox])
-    ensures { inboxes.new ≡ map emptied inboxes.old }
-{
-    for inbox in inboxes.iter_mut() {
-        inbox.forget();
-    }
+    ghost invariant = { λ w. IsKept N
+        (watch_of w.nodes w.me (option_map expected w.expect) w.is_open w.arrivals
+        (meaning N w.nodes w.guess)) w.arrivals.held w.good w.guess };
 }
 
 /// The nodes whose finding is Good.
@@ -96,7 +79,7 @@ impl<const N: usize> SlotWatch<N> {
         requires nodes { nodes ≤ N }
         ensures { IfOk result (λ w. w ≡ fresh nodes me frame_max) }
     {
-        let Ok(inboxes) = open_inboxes(alloc, nodes, frame_max) else {
+        let Ok(arrivals) = Arrivals::open(alloc, nodes, frame_max) else {
             return Err(NoMemory);
         };
         let Ok(guess) = Guess::open(alloc, guess_max) else {
@@ -105,10 +88,9 @@ impl<const N: usize> SlotWatch<N> {
         Ok(SlotWatch {
             nodes,
             me,
-            frame_max,
             expect: None,
             is_open: false,
-            inboxes,
+            arrivals,
             good: NodeSet::empty(),
             guess,
         })
@@ -125,15 +107,15 @@ impl<const N: usize> SlotWatch<N> {
         self.expect = Some(*expect);
         self.is_open = true;
         self.guess.forget();
-        forget_all(self.inboxes.as_mut_slice());
+        self.arrivals.forget();
     }
 
-    /// Exchanges the room that it has for the bytes of each sender with that of these, where it holds
-    /// no bytes of the sender and the other is as large. Called again once none are held, it gives back what it took.
+    /// Exchanges the room that it has for the bytes of all senders with these, where it holds no
+    /// bytes and they are as large. Called again once none are held, it gives back what it took.
     pub fn swap_rooms(&mut self, rooms: &mut Rooms)
         ensures { self.new ≡ self.old }
     {
-        rooms.swap(self.inboxes.as_mut_slice());
+        rooms.swap(&mut self.arrivals);
     }
 
     /// Forgets all that it saw: it stands as when it was opened.
@@ -143,17 +125,25 @@ impl<const N: usize> SlotWatch<N> {
         self.expect = None;
         self.is_open = false;
         self.guess.forget();
-        forget_all(self.inboxes.as_mut_slice());
+        self.arrivals.forget();
     }
 
-    /// A delivery from another node: bytes at a tick. Bytes longer than any frame are not kept.
+    /// A delivery from another node: bytes at a tick. What is found of them is decided now. Bytes
+    /// longer than any frame are not kept.
     pub fn deliver(&mut self, from: u8, tick: u8, bytes: &[u8])
         requires open { self.old.is_open ≡ true }
         requires node { from < self.old.nodes }
         requires other { from ≢ self.old.me }
         ensures { self.new ≡ delivered self.old from tick bytes.now }
     {
-        self.inboxes[from as usize].take(tick, bytes);
+        let Some(expect) = &self.expect else {
+            return;
+        };
+        let expected = Expect {
+            sender: from,
+            ..*expect
+        };
+        self.arrivals.take(&expected, tick, bytes);
     }
 
     /// Guesses what the slot's frames say by these bytes, or by the runs of them, and answers
@@ -258,7 +248,7 @@ impl<const N: usize> SlotWatch<N> {
         requires guessed { guesses_at self.old from ≡ true }
         ensures { self.new ≡ delivered self.old from tick (frame_at self.old from) }
     {
-        self.inboxes[from as usize].take_same(tick);
+        self.arrivals.take_same(from, tick);
     }
 
     /// The finding of a node; Good for the watch's own, and where there is no node.
@@ -270,7 +260,7 @@ impl<const N: usize> SlotWatch<N> {
         }
         match &self.expect {
             None => Finding::Good,
-            Some(expect) => self.inboxes[node as usize].finding(expect, node),
+            Some(_) => self.arrivals.finding(node),
         }
     }
 
@@ -307,7 +297,7 @@ impl<const N: usize> SlotWatch<N> {
         if node == self.me || node >= self.nodes || !self.good.has(node) {
             return false;
         }
-        self.inboxes[node as usize].is_same()
+        self.arrivals.is_same(node)
     }
 
     /// The other nodes that told in the slot that was closed last just what they were guessed to
@@ -345,15 +335,14 @@ impl<const N: usize> SlotWatch<N> {
         match &self.expect {
             None => Some(None),
             Some(expect) => {
-                let inbox = &self.inboxes[from as usize];
-                if inbox.is_same() {
+                if self.arrivals.is_same(from) {
                     return None;
                 }
                 let expect = Expect {
                     sender: from,
                     ..*expect
                 };
-                Some(Some(inbox.good_frame(&expect)))
+                Some(Some(self.arrivals.good_frame(&expect)))
             }
         }
     }
@@ -373,6 +362,37 @@ impl<const N: usize> SlotWatch<N> {
         match self.told(from) {
             Some(frame) => frame,
             None => None,
+        }
+    }
+
+    /// The room of bytes in which the frames stand of a slot in which nothing was guessed: that of
+    /// node `q` from `q * frame_max` on.
+    pub fn room(&self) -> &[u8]
+        requires unguessed { self.now.guess ≡ None }
+        ensures { HoldsBodies self.now result.now }
+    {
+        let _ = &self.nodes;
+        self.arrivals.room()
+    }
+
+    /// Where in the [`SlotWatch::room`] the entries begin that a node passed on in the slot that
+    /// was closed last, of a slot in which nothing was guessed: some exactly where its finding was
+    /// Good and its frame has entries.
+    pub fn entries_at(&self, from: u8) -> Option<usize>
+        requires closed { self.now.is_open ≡ false }
+        requires some_slot { IsSome self.now.expect }
+        requires node { from < self.now.nodes }
+        requires other { from ≢ self.now.me }
+        requires unguessed { self.now.guess ≡ None }
+        ensures { result ≡ entries_begin (body_begin self.now from) (told_at self.now from) }
+    {
+        let _ = &self.nodes;
+        let Some(frame) = self.frame(from) else {
+            return None;
+        };
+        match &frame.body {
+            Body::DoneRelay(_) | Body::ReportRelay(_) => Some(self.arrivals.begin(from) + HEADER),
+            Body::State(_) | Body::Done0(_) | Body::Data(_) | Body::Report0(_) | Body::Cold => None,
         }
     }
 }

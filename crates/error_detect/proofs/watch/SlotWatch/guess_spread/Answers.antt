@@ -11,12 +11,12 @@ use Rattle.error_detect.proofs.watch.SlotWatch.guess_spread.Goals as goal
 pub returns-clause-yes : goal.returns-clause-yes
 returns-clause-yes g c done =
     let n = c.self.inside in
-    guessed_seen g.row.N n.nodes n.me n.frame_max (option_map expected n.expect) n.is_open n.inboxes.items n.good n.guess c.put.new.self c.args.self.now c.args.form (spread c.args.runs c.args.bytes.now) c.self.view_is c.requires.before (c.put.ensures.yes done)
+    guessed_seen g.row.N n.nodes n.me (option_map expected n.expect) n.is_open n.arrivals n.good n.guess c.put.new.self c.args.self.now c.args.form (spread c.args.runs c.args.bytes.now) c.self.view_is c.requires.before (c.put.ensures.yes done)
 
 pub returns-clause-no : goal.returns-clause-no
 returns-clause-no g c undone =
     let n = c.self.inside in
-    ap (λ x. watch_of n.nodes n.me n.frame_max (option_map expected n.expect) n.is_open n.inboxes.items (meaning g.row.N n.nodes x)) (c.put.ensures.no undone) ∙ c.self.view_is
+    ap (λ x. watch_of n.nodes n.me (option_map expected n.expect) n.is_open n.arrivals (meaning g.row.N n.nodes x)) (c.put.ensures.no undone) ∙ c.self.view_is
 
 pub invariant_of-self : goal.invariant_of-self
 invariant_of-self g c =
@@ -24,8 +24,8 @@ invariant_of-self g c =
     let o = option_map expected n.expect in
     elim (cases_Bool c.put.result) [
       | inl done ↦
-          guessed_kept g.row.N n.nodes n.me n.frame_max o n.is_open n.inboxes.items n.good n.guess c.put.new.self c.args.self.now c.args.form (spread c.args.runs c.args.bytes.now) c.self.view_is c.requires.before (c.put.ensures.yes done)
+          guessed_kept g.row.N n.nodes n.me o n.is_open n.arrivals n.good n.guess c.put.new.self c.args.self.now c.args.form (spread c.args.runs c.args.bytes.now) c.self.view_is c.requires.before (c.put.ensures.yes done)
           c.self.invariant c.requires.guessable c.requires.spelt
       | inr undone ↦
-          subst (λ x. IsKept g.row.N (watch_of n.nodes n.me n.frame_max o n.is_open n.inboxes.items (meaning g.row.N n.nodes x)) n.inboxes.items n.good x) (sym (c.put.ensures.no undone)) c.self.invariant
+          subst (λ x. IsKept g.row.N (watch_of n.nodes n.me o n.is_open n.arrivals (meaning g.row.N n.nodes x)) n.arrivals.held n.good x) (sym (c.put.ensures.no undone)) c.self.invariant
     ]

@@ -14,10 +14,10 @@ returns-clause-same g c =
     let e = c.lend_room.ensures in
     elim (cases_Bool c.lend_room.result) [
       | inl lent ↦
-          ap (watch_of n.nodes n.me n.frame_max o n.is_open n.inboxes.items)
-          (same_meaning g.row.N n.nodes n.me n.frame_max o n.is_open n.inboxes.items n.good n.guess c.lend_room.new.self (e.unguessed lent) e.form)
+          ap (watch_of n.nodes n.me o n.is_open n.arrivals)
+          (same_meaning g.row.N n.nodes n.me o n.is_open n.arrivals n.good n.guess c.lend_room.new.self (e.unguessed lent) e.form)
           ∙ c.self.view_is
-      | inr not ↦ ap (λ x. watch_of n.nodes n.me n.frame_max o n.is_open n.inboxes.items (meaning g.row.N n.nodes x)) (e.no not) ∙ c.self.view_is
+      | inr not ↦ ap (λ x. watch_of n.nodes n.me o n.is_open n.arrivals (meaning g.row.N n.nodes x)) (e.no not) ∙ c.self.view_is
     ]
 
 pub invariant_of-self : goal.invariant_of-self
@@ -26,6 +26,6 @@ invariant_of-self g c =
     let o = option_map expected n.expect in
     let e = c.lend_room.ensures in
     elim (cases_Bool c.lend_room.result) [
-      | inl lent ↦ lent_kept g.row.N n.nodes n.me n.frame_max o n.is_open n.inboxes.items n.good n.guess c.lend_room.new.self (e.unguessed lent) e.form c.self.invariant
-      | inr not ↦ subst (λ x. IsKept g.row.N (watch_of n.nodes n.me n.frame_max o n.is_open n.inboxes.items (meaning g.row.N n.nodes x)) n.inboxes.items n.good x) (sym (e.no not)) c.self.invariant
+      | inl lent ↦ lent_kept g.row.N n.nodes n.me o n.is_open n.arrivals n.good n.guess c.lend_room.new.self (e.unguessed lent) e.form c.self.invariant
+      | inr not ↦ subst (λ x. IsKept g.row.N (watch_of n.nodes n.me o n.is_open n.arrivals (meaning g.row.N n.nodes x)) n.arrivals.held n.good x) (sym (e.no not)) c.self.invariant
     ]

@@ -1,37 +1,38 @@
-use Rattle.std.proofs.Common.{lit<, inl, inr, sym, ap, ◌∙◌, arith}
+use Rattle.std.proofs.Common.{◌<◌, length, lit<, inl, inr, sym, ap, ◌∙◌, arith}
 use Rattle.std.specs.Prelude.{Some, option_map}
 use Rattle.frames.specs.Seen.{expected, content}
 use Rattle.error_detect.specs.Inside.{meaning}
-use Rattle.error_detect.specs.Watching.{Watch}
+use Rattle.error_detect.specs.Watching.{Watch, held_at}
 use Rattle.error_detect.proofs.Told.{IsHeld, held_as_seen}
 use Rattle.error_detect.proofs.watch.SlotWatch.told.Goals as goal
+
+pub is_same-requires : goal.is_same-requires
+is_same-requires g c = omega (arith, c.self.invariant.inboxes.each, ap (λ (w : Watch). w.nodes) c.self.view_is, c.requires.node)
 
 pub returns-then-is_same-clause-same : goal.returns-then-is_same-clause-same
 returns-then-is_same-clause-same g c =
     let n = c.self.inside in
-    let h : IsHeld c.args.self.now (expected c.in-Some.expect) c.args.from c.index-inbox.result.now =
-    held_as_seen g.row.N n.nodes n.me n.frame_max (option_map expected n.expect) n.is_open n.inboxes.items (meaning g.row.N n.nodes n.guess) n.good n.guess _ (expected c.in-Some.expect) c.args.from
-    c.index-inbox.result.now (ap (option_map expected) c.in-Some.is) c.self.invariant c.self.view_is c.requires.closed c.requires.some_slot c.requires.node c.requires.other
-    (sym c.has.ensures ∙ c.if-not-has.false) c.index-inbox.ensures in
+    let h : IsHeld c.args.self.now (expected c.in-Some.expect) c.args.from (held_at n.arrivals c.args.from) =
+    held_as_seen g.row.N n.nodes n.me (option_map expected n.expect) n.is_open n.arrivals (meaning g.row.N n.nodes n.guess) n.good n.guess _ c.args.from c.self.invariant c.self.view_is
+    c.requires.closed c.requires.some_slot c.requires.node c.requires.other (sym c.has.ensures ∙ c.if-not-has.false) (expected c.in-Some.expect) (ap (option_map expected) c.in-Some.is) in
     h.same (sym c.is_same.ensures ∙ c.if-is_same.true)
 
 pub good_frame-requires : goal.good_frame-requires
 good_frame-requires g c =
     let n = c.self.inside in
-    let h : IsHeld c.args.self.now (expected c.in-Some.expect) c.args.from c.index-inbox.result.now =
-    held_as_seen g.row.N n.nodes n.me n.frame_max (option_map expected n.expect) n.is_open n.inboxes.items (meaning g.row.N n.nodes n.guess) n.good n.guess _ (expected c.in-Some.expect) c.args.from
-    c.index-inbox.result.now (ap (option_map expected) c.in-Some.is) c.self.invariant c.self.view_is c.requires.closed c.requires.some_slot c.requires.node c.requires.other
-    (sym c.has.ensures ∙ c.if-not-has.false) c.index-inbox.ensures in
+    let h : IsHeld c.args.self.now (expected c.in-Some.expect) c.args.from (held_at n.arrivals c.args.from) =
+    held_as_seen g.row.N n.nodes n.me (option_map expected n.expect) n.is_open n.arrivals (meaning g.row.N n.nodes n.guess) n.good n.guess _ c.args.from c.self.invariant c.self.view_is
+    c.requires.closed c.requires.some_slot c.requires.node c.requires.other (sym c.has.ensures ∙ c.if-not-has.false) (expected c.in-Some.expect) (ap (option_map expected) c.in-Some.is) in
     let cap = c.self.invariant.inboxes.capacity in
     let nodes = ap (λ (v : Watch). v.nodes) c.self.view_is in
     let held = sym c.is_same.ensures ∙ c.if-is_same.false in
-    (lit< tt, (elim cap [ inl y ↦ rw y (lit< tt) | inr y ↦ rw y (lit< tt) ], (cap, (h.readable.1, (omega (arith, h.readable.0, nodes, c.self.invariant.inboxes.few), (held, h.found held))))))
+    let low : c.args.from < length n.arrivals.held = omega (arith, c.self.invariant.inboxes.each, nodes, c.requires.node) in
+    (lit< tt, (elim cap [ inl y ↦ rw y (lit< tt) | inr y ↦ rw y (lit< tt) ], (cap, (h.readable.1, (omega (arith, h.readable.0, nodes, c.self.invariant.inboxes.few), (low, (held, h.found held)))))))
 
 pub returns-else-is_same-clause-told : goal.returns-else-is_same-clause-told
 returns-else-is_same-clause-told g c =
     let n = c.self.inside in
-    let h : IsHeld c.args.self.now (expected c.in-Some.expect) c.args.from c.index-inbox.result.now =
-    held_as_seen g.row.N n.nodes n.me n.frame_max (option_map expected n.expect) n.is_open n.inboxes.items (meaning g.row.N n.nodes n.guess) n.good n.guess _ (expected c.in-Some.expect) c.args.from
-    c.index-inbox.result.now (ap (option_map expected) c.in-Some.is) c.self.invariant c.self.view_is c.requires.closed c.requires.some_slot c.requires.node c.requires.other
-    (sym c.has.ensures ∙ c.if-not-has.false) c.index-inbox.ensures in
+    let h : IsHeld c.args.self.now (expected c.in-Some.expect) c.args.from (held_at n.arrivals c.args.from) =
+    held_as_seen g.row.N n.nodes n.me (option_map expected n.expect) n.is_open n.arrivals (meaning g.row.N n.nodes n.guess) n.good n.guess _ c.args.from c.self.invariant c.self.view_is
+    c.requires.closed c.requires.some_slot c.requires.node c.requires.other (sym c.has.ensures ∙ c.if-not-has.false) (expected c.in-Some.expect) (ap (option_map expected) c.in-Some.is) in
     ap (λ k. Some (content k c.good_frame.result.body)) (sym h.readable.0) ∙ c.good_frame.ensures.told ∙ h.told (sym c.is_same.ensures ∙ c.if-is_same.false)
