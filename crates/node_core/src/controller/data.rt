@@ -36,6 +36,6 @@ impl<'c, const N: usize> Controller<'c, N> {
         }
         self.found.notes = notes;
         self.found.votes = voted.votes;
-        self.rows.start(&agreed.members, self.phase.me, self.phase.full, notes.row());
+        self.rows.start(&agreed.members, self.phase.me, self.phase.full, RelayedRow::of(&notes.row()));
     }
 }
