@@ -23,7 +23,6 @@ use error_reports::RowBuilder;
 use node_grid::{NodeSet, Row};
 use omh_paths::Wrapped;
 use relay_table::Table;
-use relay_terms::RelayedRow;
 use slot_plan::Slot;
 use std::marker::Model;
 
@@ -68,7 +67,7 @@ pub struct Controller<'c, const N: usize> {
     phase: Phase<N>,
     kept: Keeping<N>,
     done: Table<u8, N>,
-    rows: Table<RelayedRow<N>, N>,
+    rows: Table<Row<N>, N>,
     found: Findings<N>,
     watch: SlotWatch<N>,
     outcome: NodeRecord<N>,

@@ -3,13 +3,11 @@
 
 mod count;
 mod items;
-mod relayed_row;
 mod settling;
 mod tally;
 mod term;
 
 pub use count::Count;
-pub use relayed_row::RelayedRow;
 pub use settling::settled_from;
 pub use tally::Tally;
 pub use term::{Item, Term};

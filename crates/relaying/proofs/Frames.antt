@@ -6,7 +6,6 @@ use Rattle.std.proofs.lemmas.Bool.{cases_Bool, cond-true, cond-false}
 use Rattle.std.proofs.lemmas.List.{get_or-take, get_or-drop, get_or-map}
 use Rattle.std.proofs.lemmas.Nat.{mul-le}
 use Rattle.std.proofs.Math.Nat.{mul-div_cancel_left}
-use Rattle.node_grid.specs.Capacity.{IsCapacity}
 use Rattle.node_grid.specs.NodeSet.{has_id, without_id}
 use Rattle.omh_paths.specs.declared.wrapped.Wrapped.{Wrapped}
 use Rattle.omh_paths.specs.declared.wrapped.Wrapped.TheVariants.{Fault}
@@ -91,7 +90,7 @@ expected_slot None h = absurd (cc)
 expected_slot (Some e) h = (e, refl)
 
 module _ {V : Type 0} {capacity relay_kind : ℕ} {form : ItemForm V} {width : ℕ → ℕ} {spell : ℕ → Wrapped V → List ℕ} {read : List ℕ → Wrapped V} {in_range : Expectation → V → Type 0}
-    (laws : IsRelayed capacity relay_kind form width spell read in_range) (h : Hearing V) (w : Watch) (r : ℕ) (full : IsCapacity capacity) (few : h.nodes ≤ capacity) (some : 0 < r) (short : r ≤ 3) (heard : IsRoundHeard capacity relay_kind r h w)
+    (laws : IsRelayed capacity relay_kind form width spell read in_range) (h : Hearing V) (w : Watch) (r : ℕ) (few : h.nodes ≤ capacity) (some : 0 < r) (short : r ≤ 3) (heard : IsRoundHeard capacity relay_kind r h w)
     (below : (q : ℕ) → has_id h.members q ≡ true → q < h.nodes) where
   abbrev slot : (e : Expectation) × (w.expect ≡ Some e)
   slot = expected_slot w.expect heard.closed.heard_by.some_slot
@@ -116,7 +115,7 @@ module _ {V : Type 0} {capacity relay_kind : ℕ} {form : ItemForm V} {width : �
   ranged q = IsEntry (in_range (of_sender q e)) r
 
   format : (q : ℕ) → IsFormat (width e.nodes) (spell e.nodes) read (ranged q)
-  format q = laws.format full (of_sender q e) r (let n = is_slot.nodes_are in omega (arith, few, n))
+  format q = laws.format (of_sender q e) r (let n = is_slot.nodes_are in omega (arith, few, n))
 
   told_entries : (q : ℕ) (c : Content) → has_id others q ≡ true → told_at w q ≡ Some c → IsToldAs form count (ranged q) c
   told_entries q c on told =

@@ -6,7 +6,6 @@ use Rattle.std.proofs.lemmas.Bool.{cases_lt, cond-false}
 use Rattle.std.proofs.lemmas.Grind.{flat_map-append}
 use Rattle.std.proofs.lemmas.List.{append-nil, drop_all, get_or-map, get_or_past, length-map, length-append, take_more}
 use Rattle.std.proofs.lemmas.Nat.{mul-le}
-use Rattle.node_grid.specs.Capacity.{IsCapacity}
 use Rattle.node_grid.specs.NodeSet.{has_id, without_id}
 use Rattle.node_grid.specs.Count.{Distinct}
 use Rattle.omh_paths.specs.declared.wrapped.Wrapped.{Wrapped}
@@ -59,7 +58,7 @@ not_254 (Plain v) none is = absurd (cc)
 not_254 (Fault k) none is = let a : k ≡ 0 = cc in let b : k ≡ 254 = cc in absurd (omega (arith, a, b))
 
 module _ {V : Type 0} {capacity relay_kind : ℕ} {form : ItemForm V} {width : ℕ → ℕ} {spell : ℕ → Wrapped V → List ℕ} {read : List ℕ → Wrapped V} {in_range : Expectation → V → Type 0}
-    (laws : IsRelayed capacity relay_kind form width spell read in_range) (h : Hearing V) (r : ℕ) (e : Expectation) (k : IsRoundOf capacity relay_kind in_range r h e) (size : IsCapacity capacity) (fits : h.nodes ≤ capacity) (some : 0 < r) (short : r ≤ 3)
+    (laws : IsRelayed capacity relay_kind form width spell read in_range) (h : Hearing V) (r : ℕ) (e : Expectation) (k : IsRoundOf capacity relay_kind in_range r h e) (fits : h.nodes ≤ capacity) (some : 0 < r) (short : r ≤ 3)
     (distinct : Distinct h.members) (on : has_id h.members h.me ≡ true) where
   abbrev others : List ℕ
   others = without_id h.members h.me
@@ -93,7 +92,7 @@ module _ {V : Type 0} {capacity relay_kind : ℕ} {form : ItemForm V} {width : �
       (subst (λ (n : ℕ). IsEntry (in_range e) n (wrapped (get_or terms i (Fault 0)))) one (entry_wrapped (in_range e) (r - 1) (get_or terms i (Fault 0)) (heard_terms i (Fault 0) inside)))
 
   format : IsFormat (width h.nodes) (spell h.nodes) read (IsEntry (in_range e) r)
-  format = subst (λ (n : ℕ). IsFormat (width n) (spell n) read (IsEntry (in_range e) r)) k.nodes_are (laws.format size e r (let n = k.nodes_are in omega (arith, fits, n)))
+  format = subst (λ (n : ℕ). IsFormat (width n) (spell n) read (IsEntry (in_range e) r)) k.nodes_are (laws.format e r (let n = k.nodes_are in omega (arith, fits, n)))
 
   pub own_long : length (flat_map (spell h.nodes) (relays h r)) ≡ width h.nodes * path_count (length others) r
   own_long =

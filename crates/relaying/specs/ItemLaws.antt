@@ -1,11 +1,9 @@
 -- What holds of claims and of rows as items.
-use Rattle.std.proofs.Common.{ℕ, zero, suc, List, ◌==◌, ◌≡◌, ◌≤◌, ◌+◌, ◌*◌, ◌/◌, false, length, drop, get_or, min, refl, ap, ap₂, subst, ◌∙◌, arith, eq-eqb, eqb-true, length-drop, if◌then◌else◌}
+use Rattle.std.proofs.Common.{ℕ, zero, suc, List, ◌==◌, ◌≡◌, ◌≤◌, ◌+◌, ◌*◌, ◌/◌, false, length, drop, get_or, min, refl, ap, subst, ◌∙◌, arith, eq-eqb, eqb-true, length-drop, if◌then◌else◌}
 use Rattle.std.specs.Prelude.{All, slice_index, Some, None}
 use Rattle.std.specs.Cmp.Lexicographic.{pointwise}
 use Rattle.std.proofs.lemmas.Slice.Eq.{bytes_eq-Decides}
 use Rattle.std.proofs.Math.Nat.{min-eq_left}
-use Rattle.node_grid.specs.Capacity.{IsCapacity}
-use Rattle.node_grid.specs.CapacityLaws.{capacity-le}
 use Rattle.omh_paths.specs.declared.wrapped.Wrapped.{Wrapped}
 use Rattle.omh_paths.specs.Wrapped.{IsExact}
 use Rattle.omh_paths.specs.declared.wrapped.Wrapped.TheVariants.{Plain, Fault}
@@ -27,7 +25,7 @@ abbrev pub claim_bytes : List ℕ → ℕ
 claim_bytes bytes = slice_index bytes 0
 
 abbrev pub row_bytes : ℕ → List ℕ → List ℕ
-row_bytes capacity bytes = content_row capacity (min (length bytes / 2) (min capacity 16)) bytes
+row_bytes capacity bytes = content_row capacity (min (length bytes / 2) capacity) bytes
 
 -- items are equal only where they are the same
 pub claims_exact : IsExact {V = ℕ} ◌==◌
@@ -51,18 +49,17 @@ claims_format tasks r = record { wide = f.wide; long = f.long; back = back } whe
   back (Fault zero) h = absurd (omega (arith, h.0))
   back (Fault (suc k)) h = rw (above_zero k) refl
 
-row_read : (capacity nodes : ℕ) (entry : List ℕ) → IsCapacity capacity → nodes ≤ capacity → length entry ≡ 1 + 2 * nodes → term_in (row_bytes capacity) entry ≡ relayed_row_in capacity nodes entry
-row_read capacity nodes entry size few long =
+row_read : (capacity nodes : ℕ) (entry : List ℕ) → nodes ≤ capacity → length entry ≡ 1 + 2 * nodes → term_in (row_bytes capacity) entry ≡ relayed_row_in capacity nodes entry
+row_read capacity nodes entry few long =
     let half : length (drop 1 entry) / 2 ≡ nodes = (let l = length-drop 1 entry in omega arith) in
-    let most : min capacity 16 ≡ capacity = min-eq_left (capacity-le capacity size) in
-    let low : min (length (drop 1 entry) / 2) (min capacity 16) ≡ nodes = ap₂ min half most ∙ min-eq_left few in
+    let low : min (length (drop 1 entry) / 2) capacity ≡ nodes = ap (λ (n : ℕ). min n capacity) half ∙ min-eq_left few in
     ap (λ (n : ℕ). if get_or entry 0 0 == 0 then Plain (content_row capacity n (drop 1 entry)) else Fault (get_or entry 0 0)) low
 
-rows_format : (version capacity nodes r : ℕ) → IsCapacity capacity → nodes ≤ capacity → IsFormat (1 + 2 * nodes) (relayed_row_spelling nodes) (term_in (row_bytes capacity)) (IsEntry (IsRow version capacity nodes) r)
-rows_format version capacity nodes r size few = record {
+rows_format : (version capacity nodes r : ℕ) → nodes ≤ capacity → IsFormat (1 + 2 * nodes) (relayed_row_spelling nodes) (term_in (row_bytes capacity)) (IsEntry (IsRow version capacity nodes) r)
+rows_format version capacity nodes r few = record {
   wide = f.wide;
   long = f.long;
-  back = λ x h. row_read capacity nodes (relayed_row_spelling nodes x) size few (f.long x h) ∙ f.back x h;
+  back = λ x h. row_read capacity nodes (relayed_row_spelling nodes x) few (f.long x h) ∙ f.back x h;
 } where
   f : IsFormat (1 + 2 * nodes) (relayed_row_spelling nodes) (relayed_row_in capacity nodes) (IsEntry (IsRow version capacity nodes) r)
   f = relayed_row_format version capacity nodes r
@@ -128,7 +125,7 @@ rows_begun nodes body.Cold = refl
 pub claims_relayed : (capacity : ℕ) → IsRelayed capacity claim_relay_kind claim_form (λ nodes. 2) (λ nodes. claim_spelling) (term_in claim_bytes) (λ e. IsClaim e.tasks)
 claims_relayed capacity = record {
   narrow = λ nodes few. omega arith;
-  format = λ size e r few. claims_format e.tasks r;
+  format = λ e r few. claims_format e.tasks r;
   tagged = λ e r. claims_tagged e.tasks r;
   kinded = λ es. refl;
   of_kind = claims_kinded;
@@ -141,7 +138,7 @@ claims_relayed capacity = record {
 pub rows_relayed : (capacity : ℕ) → IsRelayed capacity row_relay_kind row_form (λ nodes. 1 + 2 * nodes) relayed_row_spelling (term_in (row_bytes capacity)) (λ e. IsRow e.version capacity e.nodes)
 rows_relayed capacity = record {
   narrow = λ nodes few. omega (arith, few);
-  format = λ size e r. rows_format e.version capacity e.nodes r size;
+  format = λ e r. rows_format e.version capacity e.nodes r;
   tagged = λ e r. rows_tagged e.version capacity e.nodes r;
   kinded = λ es. refl;
   of_kind = rows_kinded;

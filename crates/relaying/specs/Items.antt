@@ -1,7 +1,6 @@
 -- How items stand in the bytes of a relay frame.
 use Rattle.std.specs.Prelude.{◌≡◌, ◌≤◌, ℕ, List, All, length, slice_index, Option, Some, None}
 use Rattle.std.specs.List.{flat_map}
-use Rattle.node_grid.specs.Capacity.{IsCapacity}
 use Rattle.omh_paths.specs.declared.wrapped.Wrapped.{Wrapped}
 use Rattle.frames.specs.declared.frame.Body.{Body}
 use Rattle.frames.specs.declared.frame.Body.TheVariants as body
@@ -21,7 +20,7 @@ first_in claimed reported _ = None
 pub record IsRelayed {V : Type 0} (capacity relay_kind : ℕ) (form : ItemForm V) (width : ℕ → ℕ) (spell : ℕ → Wrapped V → List ℕ) (read : List ℕ → Wrapped V) (in_range : Expectation → V → Type 0) : Type 0 where
   -- an entry has few bytes, as many as the width, from which it is read; the first of them is at most the number of relays
   pub narrow : (nodes : ℕ) → nodes ≤ 16 → width nodes ≤ 33
-  pub format : IsCapacity capacity → (e : Expectation) (r : ℕ) → e.nodes ≤ capacity → IsFormat (width e.nodes) (spell e.nodes) read (IsEntry (in_range e) r)
+  pub format : (e : Expectation) (r : ℕ) → e.nodes ≤ capacity → IsFormat (width e.nodes) (spell e.nodes) read (IsEntry (in_range e) r)
   pub tagged : (e : Expectation) (r : ℕ) (x : Wrapped V) → IsEntry (in_range e) r x → slice_index (spell e.nodes x) 0 ≤ r
   -- a frame is one of that kind exactly where it passes on entries; they are its body
   pub kinded : (es : List (Wrapped V)) → kind (form.relay es) ≡ relay_kind

@@ -20,7 +20,7 @@ ghost use Rattle.relaying.specs.ItemLaws.{claims_relayed, rows_relayed};
 use frames::{Body, put_done, put_row};
 use node_grid::Row;
 use omh_paths::Wrapped;
-use relay_terms::{Item, RelayedRow};
+use relay_terms::Item;
 
 /// The kind of frames that relay claims.
 const CLAIM_RELAY: u8 = 3;
@@ -64,8 +64,7 @@ pub trait RelayedItem<const N: usize>: Item {
 
     /// The item of a row of these masks.
     fn of_masks(masks: &[u16]) -> Option<Self>
-        requires capacity { IsCapacity N }
-        requires masks { length masks.now ≡ N }
+        requires { length masks.now ≡ N }
         ensures { result ≡ reported masks.now };
 
     /// Writes entry `k`, and leaves all else.
@@ -132,18 +131,7 @@ impl<const N: usize> RelayedItem<N> for u8 {
     }
 }
 
-/// The row that is relayed, or the error.
-fn as_row<const N: usize>(value: &Wrapped<RelayedRow<N>>) -> Wrapped<Row<N>>
-    requires { IsCapacity N }
-    ensures { result ≡ value.now }
-{
-    match value {
-        Wrapped::Plain(row) => Wrapped::Plain(row.row()),
-        Wrapped::Fault(relays) => Wrapped::Fault(*relays),
-    }
-}
-
-impl<const N: usize> RelayedItem<N> for RelayedRow<N> {
+impl<const N: usize> RelayedItem<N> for Row<N> {
     ghost form = { row_form };
 
     ghost width = { λ nodes. 1 + 2 * nodes };
@@ -172,25 +160,24 @@ impl<const N: usize> RelayedItem<N> for RelayedRow<N> {
         1 + 2 * nodes as usize
     }
 
-    fn of_claim(claim: u8) -> Option<RelayedRow<N>> {
+    fn of_claim(claim: u8) -> Option<Row<N>> {
         let _ = claim;
         None
     }
 
-    fn of_masks(masks: &[u16]) -> Option<RelayedRow<N>> {
+    fn of_masks(masks: &[u16]) -> Option<Row<N>> {
         let mut row = [0; N];
         row.copy_from_slice(masks);
-        Some(RelayedRow::of(&Row { masks: row }))
+        Some(Row { masks: row })
     }
 
-    fn put(out: &mut [u8], nodes: u8, k: usize, value: &Wrapped<RelayedRow<N>>) {
-        put_row(out, nodes, k, as_row(value));
+    fn put(out: &mut [u8], nodes: u8, k: usize, value: &Wrapped<Row<N>>) {
+        put_row(out, nodes, k, *value);
     }
 }
 
 /// The item that a frame of round 0 tells, or None where it tells none.
 pub(crate) fn item_of<V: RelayedItem<N>, const N: usize>(body: &Body<'_, N>) -> Option<V>
-    requires { IsCapacity N }
     ensures { (nodes : ℕ) → result ≡ V.form.item_in (content nodes body.now) }
 {
     match body {

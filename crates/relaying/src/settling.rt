@@ -16,10 +16,10 @@ ghost use Rattle.relaying.specs.Told.{IsRoundHeard, IsHeardWhereKept};
 use crate::hearing::{hear_round, round_of};
 use crate::item::RelayedItem;
 use error_detect::SlotWatch;
-use node_grid::{Matrix, NodeSet};
+use node_grid::{Matrix, NodeSet, Row};
 use omh_paths::Wrapped;
 use relay_table::Table;
-use relay_terms::{RelayedRow, Term};
+use relay_terms::Term;
 
 /// Hears the last round where its terms are kept.
 fn hear_kept<V: RelayedItem<N>, const N: usize>(table: &mut Table<V, N>, watch: &SlotWatch<N>)
@@ -98,14 +98,14 @@ pub fn claims_of<const N: usize>(items: &[Term<u8>; N]) -> [Wrapped<u8>; N]
 }
 
 /// The settled rows.
-pub fn rows_of<const N: usize>(items: &[Term<RelayedRow<N>>; N]) -> Matrix<N>
+pub fn rows_of<const N: usize>(items: &[Term<Row<N>>; N]) -> Matrix<N>
     requires capacity { IsCapacity N }
     ensures { result ≡ map (λ t. plain (said t)) items.now }
 {
     let mut rows = Matrix::empty();
     for node in 0..N as u8 {
         match items[node as usize].value() {
-            Wrapped::Plain(row) => rows.set(node, row.row()),
+            Wrapped::Plain(row) => rows.set(node, row),
             Wrapped::Fault(_) => {}
         }
     }

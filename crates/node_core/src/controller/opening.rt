@@ -19,7 +19,6 @@ use error_reports::RowBuilder;
 use node_grid::{NoMemory, NodeSet, Row};
 use omh_paths::Wrapped;
 use relay_table::Table;
-use relay_terms::RelayedRow;
 use slot_plan::Slot;
 use std::alloc::Global;
 
@@ -80,7 +79,7 @@ impl<'c, const N: usize> Controller<'c, N> {
         config: &'c Config<N>,
         me: u8,
         done: Table<u8, N>,
-        rows: Table<RelayedRow<N>, N>,
+        rows: Table<Row<N>, N>,
         watch: SlotWatch<N>,
     ) -> Controller<'c, N>
         requires place { IsPlace N config.now me }

@@ -14,7 +14,7 @@ frame-requires g c = (
 )
 
 pub item_of-requires : goal.item_of-requires
-item_of-requires g c = (elim c.requires.capacity [ inl e ↦ rw e (lit< tt) | inr e ↦ rw e (lit< tt) ], c.requires.capacity)
+item_of-requires g c = elim c.requires.capacity [ inl e ↦ rw e (lit< tt) | inr e ↦ rw e (lit< tt) ]
 
 pub returns-in-Some : goal.returns-in-Some
 returns-in-Some g c = c.item_of.ensures c.args.watch.now.nodes ∙ ap (part_told g.V.RelayedItem.form.item_in) (sym (ap (option_map (λ f. content c.args.watch.now.nodes f.body)) c.in-Some.is) ∙ c.frame.ensures.told)

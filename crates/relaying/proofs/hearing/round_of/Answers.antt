@@ -84,7 +84,7 @@ returns-clause-walk g c =
     let count : c.count_paths.result ≡ path_count (length h.members - 1) c.args.round =
     c.count_paths.ensures.product ∙ ap (λ (n : ℕ). path_count n c.args.round) (c.saturating_sub.ensures ∙ ap (λ (n : ℕ). n - 1) (c.len.ensures.count ∙ ap length c.members.ensures.members)) in
     let size = c.loop-node.invariant.size ∙ ap₂ (λ (a b : ℕ). a * b) wide count in
-    walks g.met.V.RelayedItem.laws h w c.args.round c.nodes-nodes.ensures.capacity few c.requires.some_round short c.requires.heard below c.loop-node.frames put (c.loop-node.invariant.width ∙ wide) size
+    walks g.met.V.RelayedItem.laws h w c.args.round few c.requires.some_round short c.requires.heard below c.loop-node.frames put (c.loop-node.invariant.width ∙ wide) size
 
 pub returns-clause-told : goal.returns-clause-told
 returns-clause-told g c =
@@ -101,4 +101,4 @@ returns-clause-told g c =
     let count : c.count_paths.result ≡ path_count (length h.members - 1) c.args.round =
     c.count_paths.ensures.product ∙ ap (λ (n : ℕ). path_count n c.args.round) (c.saturating_sub.ensures ∙ ap (λ (n : ℕ). n - 1) (c.len.ensures.count ∙ ap length c.members.ensures.members)) in
     let size = c.loop-node.invariant.size ∙ ap₂ (λ (a b : ℕ). a * b) wide count in
-    says_told g.met.V.RelayedItem.laws h w c.args.round c.nodes-nodes.ensures.capacity few c.requires.some_round short c.requires.heard below c.loop-node.frames put (c.loop-node.invariant.width ∙ wide) size
+    says_told g.met.V.RelayedItem.laws h w c.args.round few c.requires.some_round short c.requires.heard below c.loop-node.frames put (c.loop-node.invariant.width ∙ wide) size

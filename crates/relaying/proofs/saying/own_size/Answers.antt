@@ -33,7 +33,7 @@ returns-clause-size g c =
     let short : c.args.round ≤ 3 = omega (arith, c.requires.round, c.members.ensures.rounds) in
     ap₂ (λ (a b : ℕ). a * b) (c.entry_width.ensures ∙ ap g.V.RelayedItem.width c.nodes.ensures.nodes)
     (c.count_paths.ensures.product ∙ ap (λ (n : ℕ). path_count n c.args.round) (c.len-others.ensures.count ∙ ap length others))
-    ∙ sym (own_long g.met.V.RelayedItem.laws h c.args.round c.requires.slot.0 c.requires.slot.1 c.nodes.ensures.capacity (omega (arith, c.nodes.ensures.few, c.nodes.ensures.nodes)) c.requires.some_round short distinct (sym c.if-not-is_member.ensures))
+    ∙ sym (own_long g.met.V.RelayedItem.laws h c.args.round c.requires.slot.0 c.requires.slot.1 (omega (arith, c.nodes.ensures.few, c.nodes.ensures.nodes)) c.requires.some_round short distinct (sym c.if-not-is_member.ensures))
 
 pub returns-clause-few : goal.returns-clause-few
 returns-clause-few g c =

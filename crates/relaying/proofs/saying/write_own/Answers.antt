@@ -21,7 +21,7 @@ put_terms-requires g c =
     let short : c.args.round ≤ 3 = omega (arith, c.requires.round, c.members-members.ensures.rounds) in
     let few : h.nodes ≤ g.row.N = omega (arith, c.nodes-nodes.ensures.few, c.nodes-nodes.ensures.nodes) in
     let nodes : h.nodes ≡ c.nodes-nodes.result = sym c.nodes-nodes.ensures.nodes in
-    let can = can_put g.met.V.RelayedItem.laws h c.args.round c.requires.slot.0 c.requires.slot.1 c.nodes-nodes.ensures.capacity few c.requires.some_round short distinct (sym c.is_member.ensures ∙ c.if-is_member.true) (length c.args.out.now) c.requires.room in
+    let can = can_put g.met.V.RelayedItem.laws h c.args.round c.requires.slot.0 c.requires.slot.1 few c.requires.some_round short distinct (sym c.is_member.ensures ∙ c.if-is_member.true) (length c.args.out.now) c.requires.room in
     record {
       capacity = c.nodes-nodes.ensures.capacity;
       nodes = c.nodes-nodes.ensures.few;
@@ -39,7 +39,7 @@ returns-then-is_member g c =
     ∙ ap (λ (n : ℕ). pasted 0 (flat_map (g.V.RelayedItem.spelling n) (map wrapped (map said c.heard.result.now))) c.args.out.now) c.nodes-nodes.ensures.nodes
     ∙ ap (λ ts. pasted 0 (flat_map (g.V.RelayedItem.spelling h.nodes) (map wrapped ts)) c.args.out.now) c.heard.ensures.heard
     ∙ ap (λ ts. pasted 0 (flat_map (g.V.RelayedItem.spelling h.nodes) ts) c.args.out.now)
-    (sym (own_relays g.met.V.RelayedItem.laws h c.args.round c.requires.slot.0 c.requires.slot.1 c.nodes-nodes.ensures.capacity few c.requires.some_round short distinct (sym c.is_member.ensures ∙ c.if-is_member.true)))
+    (sym (own_relays g.met.V.RelayedItem.laws h c.args.round c.requires.slot.0 c.requires.slot.1 few c.requires.some_round short distinct (sym c.is_member.ensures ∙ c.if-is_member.true)))
 
 pub returns-else-is_member : goal.returns-else-is_member
 returns-else-is_member g c =

@@ -1,4 +1,4 @@
-use Rattle.std.proofs.Common.{ℕ, map, get_or, set, Some, None, arith, lit<, inl, inr, sym, ap, subst, ◌∙◌}
+use Rattle.std.proofs.Common.{ℕ, map, get_or, Some, None, arith, lit<, inl, inr, sym, ap, subst, ◌∙◌}
 use Rattle.std.proofs.lemmas.List.{get_or-map, length-map}
 use Rattle.node_grid.specs.Capacity.{IsCapacity}
 use Rattle.omh_paths.specs.declared.wrapped.Wrapped.TheVariants.{Fault}
@@ -20,7 +20,7 @@ loop-node-preserved g c =
     let said_at = get_or-map said c.args.items.now k _ (Fault 0) (omega (arith, c.loop-node-test.true, c.type_inv.items)) ∙ sym c.value.ensures in
     let item = λ (i : ℕ). (plain (get_or (map said c.args.items.now) i (Fault 0))) in
     elim c.match-value.branch [
-      | in-Plain w ↦ settled_one g.row.N None item k c.loop-node.rows _ (Some w.in-Plain.row) c.loop-node-test.true (w.rows-is ∙ w.set.ensures.rows ∙ ap (λ r. set c.loop-node.rows k (Some r)) w.row.ensures) (sym (ap (λ x. (plain x)) (said_at ∙ w.in-Plain.is))) c.loop-node.invariant
+      | in-Plain w ↦ settled_one g.row.N None item k c.loop-node.rows _ (Some w.in-Plain.row) c.loop-node-test.true (w.rows-is ∙ w.set.ensures.rows) (sym (ap (λ x. (plain x)) (said_at ∙ w.in-Plain.is))) c.loop-node.invariant
       | in-Fault w ↦ settled_not g.row.N None item k c.loop-node.rows _ w.rows-is (ap (λ x. (plain x)) (said_at ∙ w.in-Fault.is)) c.loop-node.invariant
     ]
 
