@@ -57,6 +57,10 @@ split_more all ys rest left q split steps = split ∙ ap (λ (xs : List ℕ). ys
 pub split_all : (all ys left : List ℕ) → all ≡ ys ++ left → left ≡ [] → all ≡ ys
 split_all all ys left split none = split ∙ ap (λ (xs : List ℕ). ys ++ xs) none ∙ append-nil ys
 
+-- one that is among all of them was gone through
+pub gone_through : (all ys left : List ℕ) (q : ℕ) → all ≡ ys ++ left → left ≡ [] → has_id all q ≡ true → has_id ys q ≡ true
+gone_through all ys left q split none on = ap (λ (xs : List ℕ). has_id xs q) (sym (split_all all ys left split none)) ∙ on
+
 -- ---- values laid at the places of nodes, one after another
 
 -- what holds of the nodes before holds of the next one too

@@ -1,7 +1,6 @@
-use Rattle.std.proofs.Common.{ℕ, ◌≡◌, slice_index_or, arith, List, sym, ap, ◌∙◌}
+use Rattle.std.proofs.Common.{ℕ, ◌≡◌, slice_index_or, arith}
 use Rattle.omh_paths.specs.declared.wrapped.Wrapped.TheVariants.{Fault}
-use Rattle.node_grid.specs.NodeSet.{has_id}
-use Rattle.odd_relays.proofs.Laying.{low_of, split_more, each_more, split_all}
+use Rattle.odd_relays.proofs.Laying.{low_of, split_more, each_more, gone_through}
 use Rattle.odd_relays.proofs.values.are_alike.Goals as goal
 
 pub is_same-requires-clause-first : goal.is_same-requires-clause-first
@@ -22,5 +21,4 @@ loop-k-preserved g c =
 pub returns : goal.returns
 returns g c = λ yes k on.
     let i = c.loop-k.invariant in
-    let all = split_all c.args.nodes.now c.loop-k.yielded c.loop-k.k-iterator i.split c.in-None.ensures.steps.0 in
-    i.same k (ap (λ (s : List ℕ). has_id s k) (sym all) ∙ on)
+    i.same k (gone_through c.args.nodes.now c.loop-k.yielded c.loop-k.k-iterator k i.split c.in-None.ensures.steps.0 on)

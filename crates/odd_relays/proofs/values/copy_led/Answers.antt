@@ -1,8 +1,7 @@
-use Rattle.std.proofs.Common.{ℕ, length, slice_index_or, ap, ◌∙◌, arith, List, sym}
+use Rattle.std.proofs.Common.{ℕ, length, slice_index_or, ap, ◌∙◌, arith}
 use Rattle.std.proofs.lemmas.List.{length-set}
 use Rattle.omh_paths.specs.declared.wrapped.Wrapped.TheVariants.{Fault}
-use Rattle.node_grid.specs.NodeSet.{has_id}
-use Rattle.odd_relays.proofs.Laying.{low_of, next_on, split_more, laid_each, split_all}
+use Rattle.odd_relays.proofs.Laying.{low_of, next_on, split_more, laid_each, gone_through}
 use Rattle.odd_relays.proofs.values.copy_led.Goals as goal
 
 pub bounds-leader_of-i : goal.bounds-leader_of-i
@@ -38,8 +37,7 @@ loop-i-preserved g c =
 pub returns-clause-laid : goal.returns-clause-laid
 returns-clause-laid g c = λ k on.
     let i = c.loop-i.invariant in
-    let all = split_all c.args.nodes.now c.loop-i.yielded c.loop-i.i-iterator i.split c.in-None.ensures.steps.0 in
-    i.laid k (ap (λ (s : List ℕ). has_id s k) (sym all) ∙ on)
+    i.laid k (gone_through c.args.nodes.now c.loop-i.yielded c.loop-i.i-iterator k i.split c.in-None.ensures.steps.0 on)
 
 pub returns-clause-places : goal.returns-clause-places
 returns-clause-places g c = c.loop-i.invariant.places

@@ -1,8 +1,7 @@
-use Rattle.std.proofs.Common.{length, refl, ap, ◌∙◌, arith, ℕ, List, sym}
+use Rattle.std.proofs.Common.{length, refl, ap, ◌∙◌, arith}
 use Rattle.std.proofs.lemmas.List.{length-set}
 use Rattle.omh_paths.specs.declared.wrapped.Wrapped.TheVariants.{Fault}
-use Rattle.node_grid.specs.NodeSet.{has_id}
-use Rattle.odd_relays.proofs.Laying.{low_of, split_more, laid_each, split_all}
+use Rattle.odd_relays.proofs.Laying.{low_of, split_more, laid_each, gone_through}
 use Rattle.odd_relays.proofs.values.fill.Goals as goal
 
 pub set_value-requires : goal.set_value-requires
@@ -25,8 +24,7 @@ loop-i-preserved g c =
 pub returns-clause-laid : goal.returns-clause-laid
 returns-clause-laid g c = λ k on.
     let i = c.loop-i.invariant in
-    let all = split_all c.args.nodes.now c.loop-i.yielded c.loop-i.i-iterator i.split c.in-None.ensures.steps.0 in
-    i.laid k (ap (λ (s : List ℕ). has_id s k) (sym all) ∙ on)
+    i.laid k (gone_through c.args.nodes.now c.loop-i.yielded c.loop-i.i-iterator k i.split c.in-None.ensures.steps.0 on)
 
 pub returns-clause-places : goal.returns-clause-places
 returns-clause-places g c = c.loop-i.invariant.places

@@ -1,9 +1,8 @@
-use Rattle.std.proofs.Common.{ℕ, ◌+◌, ◌<◌, length, refl, ap, ◌∙◌, arith, List, sym}
+use Rattle.std.proofs.Common.{ℕ, ◌+◌, ◌<◌, length, refl, ap, ◌∙◌, arith}
 use Rattle.std.proofs.lemmas.List.{length-set}
 use Rattle.node_grid.specs.CapacityLaws.{capacity-le}
 use Rattle.omh_paths.specs.declared.wrapped.Wrapped.TheVariants.{Fault}
-use Rattle.node_grid.specs.NodeSet.{has_id}
-use Rattle.odd_relays.proofs.Laying.{low_of, split_more, split_all}
+use Rattle.odd_relays.proofs.Laying.{low_of, split_more, gone_through}
 use Rattle.odd_relays.proofs.Places.{laid_at, values_apart, kept_below}
 use Rattle.odd_relays.proofs.values.fill_from.Goals as goal
 
@@ -34,8 +33,7 @@ loop-i-preserved g c =
 pub returns-clause-laid : goal.returns-clause-laid
 returns-clause-laid g c = λ k on.
     let i = c.loop-i.invariant in
-    let all = split_all c.args.nodes.now c.loop-i.yielded c.loop-i.i-iterator i.split c.in-None.ensures.steps.0 in
-    i.laid k (ap (λ (s : List ℕ). has_id s k) (sym all) ∙ on)
+    i.laid k (gone_through c.args.nodes.now c.loop-i.yielded c.loop-i.i-iterator k i.split c.in-None.ensures.steps.0 on)
 
 pub returns-clause-kept : goal.returns-clause-kept
 returns-clause-kept g c = c.loop-i.invariant.kept

@@ -1,8 +1,7 @@
-use Rattle.std.proofs.Common.{rules, ℕ, List, sym, ap, ◌∙◌, arith}
-use Rattle.node_grid.specs.NodeSet.{has_id}
+use Rattle.std.proofs.Common.{rules, ℕ, List, sym, ◌∙◌, arith}
 use Rattle.omh_paths.specs.MemberLaws.{member-lt}
 use Rattle.odd_relays.specs.Telling.{telling, convicts_commander}
-use Rattle.odd_relays.proofs.Laying.{apart, low_of, next_on, split_more, split_all}
+use Rattle.odd_relays.proofs.Laying.{apart, low_of, next_on, split_more, gone_through}
 use Rattle.odd_relays.proofs.Finding.{found_none, found_yes, found_no}
 use Rattle.odd_relays.proofs.item.Item.convicting_among.Goals as goal
 
@@ -90,8 +89,7 @@ put-requires g c = (
 pub returns-clause-convicts : goal.returns-clause-convicts
 returns-clause-convicts g c = λ k on.
     let i = c.loop-i.invariant in
-    let all = split_all c.args.nodes.now c.loop-i.yielded c.loop-i.i-iterator i.split c.in-None.ensures.steps.0 in
-    i.found.told k (ap (λ (s : List ℕ). has_id s k) (sym all) ∙ on) (member-lt g.row.N c.args.nodes.now k c.iter-i-items.ensures.ids on)
+    i.found.told k (gone_through c.args.nodes.now c.loop-i.yielded c.loop-i.i-iterator k i.split c.in-None.ensures.steps.0 on) (member-lt g.row.N c.args.nodes.now k c.iter-i-items.ensures.ids on)
 
 pub returns-clause-within : goal.returns-clause-within
 returns-clause-within g c = λ k on.

@@ -1,8 +1,8 @@
-use Rattle.std.proofs.Common.{ℕ, ◌≡◌, ◌<◌, ◌++◌, ◌∷◌, [], true, length, set, refl, ◌∙◌, arith, List, sym, ap}
+use Rattle.std.proofs.Common.{ℕ, ◌≡◌, ◌<◌, ◌++◌, ◌∷◌, [], true, length, set, refl, ◌∙◌, arith, List, ap}
 use Rattle.std.proofs.lemmas.List.{length-set}
 use Rattle.node_grid.specs.NodeSet.{has_id}
 use Rattle.odd_relays.specs.Telling.{telling}
-use Rattle.odd_relays.proofs.Laying.{low_of, split_more, through, split_all}
+use Rattle.odd_relays.proofs.Laying.{low_of, split_more, through, split_all, gone_through}
 use Rattle.odd_relays.proofs.Leading.{leader_within, leaders_within, led_more}
 use Rattle.odd_relays.proofs.item.Item.find_leaders.Goals as goal
 
@@ -36,8 +36,7 @@ loop-i-preserved g c =
 pub returns-clause-led : goal.returns-clause-led
 returns-clause-led g c = λ k on.
     let i = c.loop-i.invariant in
-    let all = split_all c.args.nodes.now c.loop-i.yielded c.loop-i.i-iterator i.split c.in-None.ensures.steps.0 in
-    i.led k (ap (λ (s : List ℕ). has_id s k) (sym all) ∙ on)
+    i.led k (gone_through c.args.nodes.now c.loop-i.yielded c.loop-i.i-iterator k i.split c.in-None.ensures.steps.0 on)
 
 pub returns-clause-places : goal.returns-clause-places
 returns-clause-places g c = c.loop-i.invariant.places

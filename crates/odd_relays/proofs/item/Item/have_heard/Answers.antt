@@ -1,8 +1,7 @@
-use Rattle.std.proofs.Common.{ℕ, ◌≡◌, List, sym, ap, ◌∙◌, arith}
-use Rattle.node_grid.specs.NodeSet.{has_id}
+use Rattle.std.proofs.Common.{ℕ, ◌≡◌, sym, ◌∙◌, arith}
 use Rattle.odd_relays.specs.Telling.{telling}
 use Rattle.odd_relays.specs.Direct.{direct_heard}
-use Rattle.odd_relays.proofs.Laying.{low_of, each_more, split_more, split_all}
+use Rattle.odd_relays.proofs.Laying.{low_of, each_more, split_more, gone_through}
 use Rattle.odd_relays.proofs.item.Item.have_heard.Goals as goal
 
 pub heard-heard-requires : goal.heard-heard-requires
@@ -25,5 +24,4 @@ loop-k-preserved g c =
 pub returns : goal.returns
 returns g c = λ yes k on.
     let i = c.loop-k.invariant in
-    let all = split_all c.args.nodes.now c.loop-k.yielded c.loop-k.k-iterator i.split c.in-None.ensures.steps.0 in
-    i.same k (ap (λ (s : List ℕ). has_id s k) (sym all) ∙ on)
+    i.same k (gone_through c.args.nodes.now c.loop-k.yielded c.loop-k.k-iterator k i.split c.in-None.ensures.steps.0 on)
