@@ -1,6 +1,5 @@
-use Rattle.std.proofs.Common.{◌≡◌, ap, subst, arith, refl}
+use Rattle.std.proofs.Common.{refl}
 use Rattle.scenario.specs.Scenario.{system_of}
-use Rattle.storm_sum.specs.Summing.{AreSums}
 use Rattle.storm_sum.proofs.Summing.{sums_first}
 use Rattle.storm_sum.proofs.sums.Sums.of_first.Goals as goal
 
