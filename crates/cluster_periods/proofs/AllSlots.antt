@@ -13,8 +13,7 @@ use Rattle.node_steps.specs.Stages.{outcome_of}
 use Rattle.node_steps.specs.Period.{slot_run, IsOver}
 use Rattle.node_steps.specs.Sending.{Fixed, fixed, fixed_of}
 use Rattle.scenario.specs.Scenario.{ScenarioView, system_of}
-use Rattle.guessed_frames.specs.Common.{frame_by}
-use Rattle.cluster_periods.specs.Slots.{handed_all, slot_all, arrivals, IsReady}
+use Rattle.cluster_periods.specs.Slots.{handed_all, slot_all, arrivals, IsReady, frame_by}
 use Rattle.cluster_periods.specs.Periods.{slots_from, IsAfter, GoesOver}
 use Rattle.cluster_periods.proofs.Arriving.{arrivals_alike}
 use Rattle.cluster_periods.proofs.Handing.{map_map}

@@ -12,14 +12,17 @@ use fault_classes::FaultPlan;
 use fault_link::{Delivered, deliveries};
 use node_core::Node;
 use node_grid::NoMemory;
+use slot_plan::ON_TIME;
 use std::alloc::Global;
 use std::marker::Model;
 
-/// Frames of so many nodes are short: each node keeps room of its own for them, which costs less than to exchange it.
+/// Frames of so many nodes are short: each node keeps room of its own for them, which costs less
+/// than to exchange it.
 const FEW_NODES: u8 = 8;
 
-/// Room that all nodes share, since they are stepped one after the other: for a frame of which a fault line sets bytes,
-/// filled once it is needed, and for the frames that arrive at a node in a slot.
+/// Room that all nodes share, since they are stepped one after the other: for a frame of which a
+/// fault line sets bytes, filled once it is needed, and for the frames that arrive at a node in a
+/// slot.
 ///
 /// Contracts see the bytes of the changed frame, and promise nothing of them.
 #[derive(Drop)]
@@ -39,7 +42,8 @@ impl Model for Scratch {
 }
 
 impl Scratch {
-    /// Takes room for the longest frame, and for one of each of so many nodes, where these are more than a few.
+    /// Takes room for the longest frame, and for one of each of so many nodes, where these are more
+    /// than a few.
     ///
     /// # Errors
     ///
@@ -82,7 +86,8 @@ fn hand<'c, const N: usize>(from: u8, arrived: &Delivered<'_>, node: &mut Node<'
     requires capacity { IsCapacity N }
     requires takes { Takes from node.old }
     requires other { from ≢ node.old.phase.me }
-    ensures { node.new ≡ handed node.old (map (arriving from) (replicate arrived.now.copies (arrived.now.tick, arrived.now.bytes.now))) }
+    ensures { node.new ≡ handed node.old (map (arriving from)
+        (replicate arrived.now.copies (arrived.now.tick, arrived.now.bytes.now))) }
 {
     for _ in 0..arrived.copies {
         node.deliver(from, arrived.tick, arrived.bytes);
@@ -91,17 +96,13 @@ fn hand<'c, const N: usize>(from: u8, arrived: &Delivered<'_>, node: &mut Node<'
 
 impl<'p, const N: usize> Link<'p, N> {
     /// Delivers to another node what arrives of a frame that a line touches.
-    pub(crate) fn deliver_changed<'c>(
-        &self,
-        sent: &[u8],
-        node: &mut Node<'c, N>,
-        scratch: &mut Scratch,
-    )
+    fn deliver_changed<'c>(&self, sent: &[u8], node: &mut Node<'c, N>, scratch: &mut Scratch)
         requires capacity { IsCapacity N }
         requires ready { IsReady self.now.plan.now node.old }
         requires other { self.now.from ≢ node.old.phase.me }
         requires short { length sent.now ≤ 90104 }
-        ensures { node.new ≡ handed_from self.now.plan.now self.now.period self.now.slot sent.now self.now.from node.old }
+        ensures { node.new ≡ handed_from self.now.plan.now self.now.period self.now.slot sent.now
+            self.now.from node.old }
     {
         scratch.fit(sent);
         let arrived = deliveries(
@@ -116,13 +117,14 @@ impl<'p, const N: usize> Link<'p, N> {
         hand(self.from, &arrived, node);
     }
 
-    /// Whether a line touches the frame on its way to another node. It is looked up only where one touches a frame of the
-    /// sender in the period.
-    pub(crate) fn is_touched(&self, to: u8) -> bool
+    /// Whether a line touches the frame on its way to another node. It is looked up only where one
+    /// touches a frame of the sender in the period.
+    fn is_touched(&self, to: u8) -> bool
         requires capacity { IsCapacity N }
         requires to { to < self.now.plan.now.nodes }
         ensures untouched { result ≡ false → self.now.from ≢ to →
-            effect_at self.now.plan.now.lines self.now.period self.now.slot self.now.from to ≡ None }
+            effect_at self.now.plan.now.lines self.now.period self.now.slot self.now.from to
+            ≡ None }
         ensures other { result ≡ true → self.now.from ≢ to }
     {
         if self.from == to || self.plan.clean(self.from, self.period) {
@@ -131,5 +133,22 @@ impl<'p, const N: usize> Link<'p, N> {
         self.plan
             .effect(self.period, self.slot, self.from, to)
             .is_some()
+    }
+
+    /// Delivers to a node what arrives of the sender's frame: nothing at the sender itself, and
+    /// where no line touches it the frame as it was sent, on time.
+    pub(crate) fn deliver<'c>(&self, sent: &[u8], node: &mut Node<'c, N>, scratch: &mut Scratch)
+        requires capacity { IsCapacity N }
+        requires ready { IsReady self.now.plan.now node.old }
+        requires short { length sent.now ≤ 90104 }
+        ensures { node.new ≡ handed_from self.now.plan.now self.now.period self.now.slot sent.now
+            self.now.from node.old }
+    {
+        let me = node.me();
+        if self.is_touched(me) {
+            self.deliver_changed(sent, node, scratch);
+        } else if self.from != me {
+            node.deliver(self.from, ON_TIME, sent);
+        }
     }
 }

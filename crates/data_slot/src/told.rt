@@ -1,10 +1,11 @@
 //! The values of the due channels that a node has, by sender and channel.
 
-ghost use Rattle.std.specs.Prelude.{◌≡◌, ℕ, ◌<◌, All, None, IsSome, length, option_map, pos};
-ghost use Rattle.std.specs.Prelude.{slice_index_or, true, false};
+ghost use Rattle.std.specs.Prelude.{◌≡◌, ℕ, ◌<◌, All, None, length, option_map, pos};
+ghost use Rattle.std.specs.Prelude.{slice_index_or, true};
 ghost use Rattle.node_grid.specs.Capacity.{IsCapacity};
 ghost use Rattle.node_grid.specs.Count.{Distinct};
 ghost use Rattle.node_grid.specs.NodeSet.{IsIdSet, has_id};
+ghost use Rattle.error_detect.specs.Watching.{IsHeardBy};
 ghost use Rattle.frames.specs.Reading.{content_values as values_of};
 ghost use Rattle.frames.specs.Seen.{content};
 ghost use Rattle.agreed_state.specs.Config.{IsConfig};
@@ -88,11 +89,7 @@ impl<'a> DataSlot<'a> {
         requires capacity { IsCapacity N }
         requires config { IsConfig N config.now }
         requires due { IsIdSet (length config.now.channels.items) self.now.due.now }
-        requires closed { watch.now.is_open ≡ false }
-        requires some_slot { IsSome watch.now.expect }
-        requires unguessed { watch.now.guess ≡ None }
-        requires nodes { watch.now.nodes ≡ config.now.nodes }
-        requires me { watch.now.me ≡ self.now.me }
+        requires heard { IsHeardBy watch.now config.now.nodes self.now.me }
         requires from { from < config.now.nodes }
         ensures { (c : ℕ) → has_id self.now.due.now c ≡ true →
             at_channel result c ≡
@@ -118,11 +115,7 @@ impl<'a> DataSlot<'a> {
         requires capacity { IsCapacity N }
         requires config { IsConfig N config.now }
         requires due { IsIdSet (length config.now.channels.items) self.now.due.now }
-        requires closed { watch.now.is_open ≡ false }
-        requires some_slot { IsSome watch.now.expect }
-        requires unguessed { watch.now.guess ≡ None }
-        requires nodes { watch.now.nodes ≡ config.now.nodes }
-        requires me { watch.now.me ≡ self.now.me }
+        requires heard { IsHeardBy watch.now config.now.nodes self.now.me }
         ensures { (q c : ℕ) → q < config.now.nodes → has_id self.now.due.now c ≡ true →
             value_told result q c ≡
             value_from self.now.me self.now.full self.now.due.now self.now.own.now

@@ -1,9 +1,10 @@
 //! The votes on the due channels, and who is off.
 
-ghost use Rattle.std.specs.Prelude.{◌≡◌, ℕ, ◌<◌, ◌==◌, ◌&&◌, All, IsSome, None, false, length};
+ghost use Rattle.std.specs.Prelude.{◌≡◌, ℕ, ◌<◌, ◌==◌, ◌&&◌, All, None, false, length};
 ghost use Rattle.std.specs.Prelude.{not, slice_index_or};
 ghost use Rattle.node_grid.specs.Capacity.{IsCapacity};
 ghost use Rattle.node_grid.specs.NodeSet.{IsIdSet, ids_where};
+ghost use Rattle.error_detect.specs.Watching.{IsHeardBy};
 ghost use Rattle.agreed_state.specs.Agreed.{IsAgreed};
 ghost use Rattle.agreed_state.specs.Config.{IsChannel, IsConfig};
 ghost use Rattle.protocol.specs.Configured.{setting_of};
@@ -58,11 +59,7 @@ impl<'a> DataSlot<'a> {
         requires config { IsConfig N config.now }
         requires agreed { IsAgreed N config.now agreed.now }
         requires due { IsIdSet (length config.now.channels.items) self.now.due.now }
-        requires closed { watch.now.is_open ≡ false }
-        requires some_slot { IsSome watch.now.expect }
-        requires unguessed { watch.now.guess ≡ None }
-        requires nodes { watch.now.nodes ≡ config.now.nodes }
-        requires me { watch.now.me ≡ self.now.me }
+        requires heard { IsHeardBy watch.now config.now.nodes self.now.me }
         ensures votes { result.votes ≡
             votes_on (setting_of config.now) self.now.me self.now.full agreed.now claims.now
             self.now.due.now self.now.own.now (only_values watch.now) }

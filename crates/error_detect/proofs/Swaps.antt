@@ -16,7 +16,7 @@ senders_commute w a b s t x y other =
     let room : ℕ = w.frame_max in
     let va : Arrival = with_delivery room (get_or w.arrived a nothing) s x in
     let vb : Arrival = with_delivery room (get_or w.arrived b nothing) t y in
-    let with_arrived : List Arrival → Watch = λ r. record { nodes = w.nodes; me = w.me; frame_max = w.frame_max; expect = w.expect; is_open = w.is_open; arrived = r; guess = w.guess } in
+    let with_arrived : List Arrival → Watch = λ r. record { nodes = w.nodes; me = w.me; frame_max = w.frame_max; expect = w.expect; is_open = w.is_open; arrived = r } in
     let seen_b : get_or (set w.arrived a va) b nothing ≡ get_or w.arrived b nothing = get_or-set_other w.arrived a b va nothing (λ e. other (sym e)) in
     let seen_a : get_or (set w.arrived b vb) a nothing ≡ get_or w.arrived a nothing = get_or-set_other w.arrived b a vb nothing other in
     ap (λ v. with_arrived (set (set w.arrived a va) b (with_delivery room v t y))) seen_b

@@ -5,12 +5,11 @@
 
 mod arrival;
 mod finding;
-mod guess;
 pub mod laws;
+mod room;
 mod rooms;
 mod watch;
 
 pub use finding::Finding;
-pub use guess::{Form, GuessedBytes};
 pub use rooms::Rooms;
 pub use watch::SlotWatch;

@@ -2,7 +2,7 @@
 
 ghost use Rattle.std.specs.Prelude.{◌≡◌};
 
-use crate::arrival::Inbox;
+use crate::arrival::Arrivals;
 use node_grid::NoMemory;
 use std::alloc::Global;
 
@@ -10,7 +10,7 @@ use std::alloc::Global;
 /// other: each has it for the time of its slot, by [`crate::SlotWatch::swap_rooms`] before and after.
 #[derive(Drop)]
 pub struct Rooms {
-    buffers: Vec<Vec<u8>>,
+    room: Vec<u8>,
 }
 
 impl Rooms {
@@ -20,24 +20,19 @@ impl Rooms {
     ///
     /// `NoMemory` where there is none.
     pub fn open(alloc: Global, nodes: u8, frame_max: usize) -> Result<Rooms, NoMemory> {
-        let mut buffers = Vec::new(alloc);
-        for _ in 0..nodes {
-            let Ok(buffer) = Vec::with_capacity(alloc, frame_max) else {
-                return Err(NoMemory);
-            };
-            let Ok(()) = buffers.push(buffer) else {
-                return Err(NoMemory);
-            };
-        }
-        Ok(Rooms { buffers })
+        let Some(size) = (nodes as usize).checked_mul(frame_max) else {
+            return Err(NoMemory);
+        };
+        let Ok(room) = Vec::with_capacity(alloc, size) else {
+            return Err(NoMemory);
+        };
+        Ok(Rooms { room })
     }
 
-    /// Exchanges these rooms with those of the inboxes, where no bytes are held.
-    pub(crate) fn swap(&mut self, inboxes: &mut [Inbox])
-        ensures { inboxes.new ≡ inboxes.old }
+    /// Exchanges this room with that of the arrivals, where no bytes are kept.
+    pub(crate) fn swap(&mut self, arrivals: &mut Arrivals)
+        ensures { arrivals.new ≡ arrivals.old }
     {
-        for node in 0..inboxes.len().min(self.buffers.len()) {
-            inboxes[node].swap_room(&mut self.buffers[node]);
-        }
+        arrivals.swap_room(&mut self.room);
     }
 }

@@ -1,5 +1,4 @@
 pub mod Bodies
 pub mod Bounds
 pub mod Words
-pub mod Repeats
 pub mod Headers

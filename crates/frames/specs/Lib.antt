@@ -11,10 +11,6 @@ pub mod ReadingLaws
 pub mod Writing
 pub mod Seen
 pub mod Bound
-pub mod Filling
-pub mod FillingLaws
-pub mod Runs
-pub mod RunsLaws
 pub use Rattle.node_grid.specs.Capacity
 pub use Rattle.node_grid.specs.Version
 pub use Rattle.node_grid.specs.Kinds

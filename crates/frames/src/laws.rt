@@ -2,7 +2,6 @@
 
 ghost use Rattle.frames.specs.SlotKinds.{SlotLaw};
 ghost use Rattle.frames.specs.Laws.{ReadsExactly, IsSpeltOnce, ReadsBack, ReadsInRange, HasNoFront, HasNoPrefix, ReadsCold, IsShort};
-ghost use Rattle.frames.specs.Runs.{RunsLaw};
 
 /// Reading gives a content exactly where the bytes are a frame that says it.
 pub fn reads_exactly()
@@ -42,11 +41,6 @@ pub fn reads_cold()
 /// Where the sizes are those for which types are laid out, what is sent is short enough for the length field.
 pub fn is_short()
     ensures { IsShort }
-{}
-
-/// The runs of pieces of one width are these pieces, each so many times.
-pub fn runs()
-    ensures { RunsLaw }
 {}
 
 /// The kind that has its place in a slot, and the relay round of a slot, are those of what the slot is.

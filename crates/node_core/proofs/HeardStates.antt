@@ -1,26 +1,22 @@
 -- The sync slot that was closed, as it is heard.
-use Rattle.std.proofs.Common.{ℕ, ◌≡◌, ◌≤◌, ◌==◌, ◌&&◌, ◌||◌, Bool, true, false, not, List, length, Option, None, Some, if◌then◌else◌, refl, sym, ap, ap₂, subst, ◌∙◌}
+use Rattle.std.proofs.Common.{ℕ, ◌≡◌, ◌≤◌, ◌==◌, ◌&&◌, ◌||◌, Bool, true, not, List, length, Option, None, Some, if◌then◌else◌, sym, ap, ap₂, subst, ◌∙◌}
 use Rattle.std.specs.Prelude.{IsSome, IfSome}
-use Rattle.std.proofs.lemmas.Bool.{false≢true, cond-true}
 use Rattle.node_grid.specs.CapacityLaws.{capacity-le}
 use Rattle.node_grid.specs.Kinds.{state}
 use Rattle.node_grid.specs.NodeSet.{ids_where}
-use Rattle.slot_plan.specs.declared.slot.Slot.{Slot}
 use Rattle.slot_plan.specs.Slots.{slot_number}
 use Rattle.omh_paths.specs.declared.wrapped.Wrapped.TheVariants.{Plain}
 use Rattle.omh.specs.Heard.{Hearing}
-use Rattle.frames.specs.Content.{Content}
 use Rattle.frames.specs.Content.Content.{State}
 use Rattle.error_detect.specs.declared.finding.Finding.{Finding}
 use Rattle.error_detect.specs.Finding.{is_good_at}
-use Rattle.error_detect.specs.Watching.{Watch, closed, findings, told_at}
+use Rattle.error_detect.specs.Watching.{Watch, closed, findings, told_at, IsHeardBy}
 use Rattle.error_reports.specs.Notes.{Notes, also_noted}
 use Rattle.agreed_state.specs.Agreed.{AgreedView}
 use Rattle.agreed_state.specs.Body.{body}
 use Rattle.protocol.specs.Arrival.{arrived, is_bad, body_said}
 use Rattle.protocol.specs.Configured.{setting_of}
 use Rattle.protocol.specs.View.{content, adopted_by, other_body, own_claim}
-use Rattle.relaying.specs.Guessed.{unguessed}
 use Rattle.noting.specs.Findings.{has_of, good_in, IsSyncOf}
 use Rattle.noting.specs.FoundLaws.{good_found}
 use Rattle.node_steps.specs.Parts.{NodeView}
@@ -28,11 +24,9 @@ use Rattle.node_steps.specs.PremiseLaws.{states_asked}
 use Rattle.node_steps.specs.Sound.{IsInSlot, IsSound}
 use Rattle.node_steps.specs.Steps.{expected_in, shut, noting, started, synced, with_sync, after_sync}
 use Rattle.node_core.specs.declared.controller.Controller.TheInside.{Inside}
-use Rattle.node_core.specs.HeardBy.{IsHeardBy}
-use Rattle.node_core.specs.Inside.{seen, IsStateOf, IsOwnState, IsGuessed, AreItsNotes, IsController}
+use Rattle.node_core.specs.Inside.{seen, AreItsNotes, IsController}
 use Rattle.node_core.proofs.NotedRows.{noted_by}
-use Rattle.node_core.proofs.Places.{in_sync}
-use Rattle.node_core.proofs.Standing.{watch_shut, not_open}
+use Rattle.node_core.proofs.Standing.{watch_shut}
 
 module _ {N : ℕ} (n : Inside N) (inv : IsController n) (sound : IsSound (seen n)) (open' : n.phase.is_open ≡ true) (first : slot_number n.config.now.m n.phase.slot ≡ 0) (u : Watch) (shut' : u ≡ closed n.watch) where
   abbrev pub v : NodeView N
@@ -50,26 +44,12 @@ module _ {N : ℕ} (n : Inside N) (inv : IsController n) (sound : IsSound (seen 
   some_slot : IsSome u.expect
   some_slot = subst IsSome (sym (ap (λ (x : Watch). x.expect) shut')) (inv.watch.expects slot.watching)
 
-  -- a node without a state of its own guesses nothing, and another one its own
-  guessed : IfSome n.watch.guess (IsOwnState n)
-  guessed = subst (λ (x : Slot). IsGuessed x n) (in_sync n.config.now.m n.phase.slot inv.slot first) (inv.guessed open' slot.watching)
-
-  none_guessed : (o : Option Content) → n.phase.full ≡ false → IfSome o (IsOwnState n) → o ≡ None
-  none_guessed None joins h = refl
-  none_guessed (Some c) joins h = absurd (false≢true (sym joins ∙ h.0))
-
-  own_guessed : (o : Option Content) (a : AgreedView) → (n.phase.full ≡ true → n.kept.state ≡ Some a)
-      → IfSome o (IsOwnState n) → IfSome o (λ c. c ≡ State (body n.config.now a))
-  own_guessed None a keeps h = tt
-  own_guessed (Some c) a keeps h = subst (λ (o : Option AgreedView). IsStateOf n.config.now o c) (keeps h.0) h.1
-
-  pub joining_watch : n.phase.full ≡ false → IsHeardBy u n.config.now.nodes n.phase.me
-  joining_watch joins = record {
+  pub heard_watch : IsHeardBy u n.config.now.nodes n.phase.me
+  heard_watch = record {
     nodes_are = ap (λ (x : Watch). x.nodes) shut' ∙ inv.watch.nodes;
     me_is = ap (λ (x : Watch). x.me) shut' ∙ inv.watch.me_is;
     closed = ap (λ (x : Watch). x.is_open) shut';
     some_slot = some_slot;
-    unguessed = ap (λ (x : Watch). x.guess) shut' ∙ none_guessed n.watch.guess joins guessed;
   }
 
   pub states_sized : (j : ℕ) → IfSome (content (arrived body_said None (told_at u j))) (λ b. length b ≤ 1152)
@@ -89,43 +69,43 @@ module _ {N : ℕ} (n : Inside N) (inv : IsController n) (sound : IsSound (seen 
 
   -- it stays Cold
   pub none_seen : (good : List ℕ) → good ≡ good_in n.config.now.nodes n.phase.me (has_of body_said w) → goes_with u ≡ None
-      → record v { phase = record v.phase { before = None }; found = record v.found { sync = good }; arrived = unguessed u } ≡ after_sync (shut v)
+      → record v { phase = record v.phase { before = None }; found = record v.found { sync = good }; arrived = u } ≡ after_sync (shut v)
   none_seen good is goes =
-      ap₂ (λ (g : List ℕ) (x : Watch). record v { phase = record v.phase { before = None }; found = record v.found { sync = g }; arrived = unguessed x }) is shut'
+      ap₂ (λ (g : List ℕ) (x : Watch). record v { phase = record v.phase { before = None }; found = record v.found { sync = g }; arrived = x }) is shut'
       ∙ ap (λ (o : Option AgreedView). synced (with_sync (shut v)) o) (sym (ap goes_with (sym shut') ∙ goes))
 
-  -- or goes on with a state
-  module _ (a : AgreedView) (goes : goes_with u ≡ Some a) where
-    pub own_state : (own : List ℕ) → own ≡ body n.config.now a → IsSyncOf own n.found.notes.nodes n.found.notes.me u
-    own_state own is = record {
+  -- the slot is a sync slot
+  pub sync_slot : IsSyncOf n.found.notes.nodes n.found.notes.me u
+  sync_slot = record {
+    heard = record {
       nodes_are = ap (λ (x : Watch). x.nodes) shut' ∙ inv.watch.nodes ∙ sym inv.notes.nodes;
       me_is = ap (λ (x : Watch). x.me) shut' ∙ inv.watch.me_is ∙ sym inv.notes.me_is;
       closed = ap (λ (x : Watch). x.is_open) shut';
       some_slot = some_slot;
-      first = subst (λ o. IfSome o (λ e. e.slot ≡ 0)) (sym (ap (λ (x : Watch). x.expect) shut' ∙ slot.expects)) first;
-      guessed = subst (λ o. IfSome o (λ c. c ≡ State own)) (sym (ap (λ (x : Watch). x.guess) shut'))
-          (subst (λ (bytes : List ℕ). IfSome n.watch.guess (λ c. c ≡ State bytes)) (sym is)
-          (own_guessed n.watch.guess a (λ full. sym (cond-true n.phase.full n.kept.state (adopted_by (setting_of n.config.now) n.phase.me (has_of body_said u)) full) ∙ goes) guessed));
-    }
+    };
+    first = subst (λ o. IfSome o (λ e. e.slot ≡ 0)) (sym (ap (λ (x : Watch). x.expect) shut' ∙ slot.expects)) first;
+  }
 
+  -- or goes on with a state
+  module _ (a : AgreedView) (goes : goes_with u ≡ Some a) where
     -- what the frames bring against the others
     abbrev pub bad : List ℕ → Watch → ℕ → ℕ → Bool
     bad own x j k = is_bad (has_of body_said x j) k || (other_body own (has_of body_said x j) && k == state)
 
     pub own_seen : (good own : List ℕ) (x : Notes) (d : Hearing ℕ) → good ≡ good_in n.config.now.nodes n.phase.me (has_of body_said w) → own ≡ body n.config.now a
         → x ≡ also_noted N n.found.notes (bad own u) → d ≡ started n.done a.standing.members n.phase.me n.phase.full (Plain (own_claim n.phase.me n.phase.inputs a))
-        → record v { phase = record v.phase { before = Some a }; found = record v.found { sync = good; notes = x.row; late = x.carried }; done = d; arrived = unguessed u } ≡ after_sync (shut v)
+        → record v { phase = record v.phase { before = Some a }; found = record v.found { sync = good; notes = x.row; late = x.carried }; done = d; arrived = u } ≡ after_sync (shut v)
     own_seen good own x d is_good is_own noted is_started =
         let notes : x ≡ record n.found.notes { row = noting v (bad (body n.config.now a) w) n.found.notes.row } =
         noted ∙ ap₂ (λ (bytes : List ℕ) (y : Watch). also_noted N n.found.notes (bad bytes y)) is_own shut'
         ∙ noted_by n.config.now n.phase.me n.found.notes inv.notes (bad (body n.config.now a) w) in
-        ap₂ (λ (y : Notes) (e : Hearing ℕ). record v { phase = record v.phase { before = Some a }; found = record v.found { sync = good; notes = y.row; late = y.carried }; done = e; arrived = unguessed u }) notes is_started
+        ap₂ (λ (y : Notes) (e : Hearing ℕ). record v { phase = record v.phase { before = Some a }; found = record v.found { sync = good; notes = y.row; late = y.carried }; done = e; arrived = u }) notes is_started
         ∙ ap₂ (λ (g : List ℕ) (y : Watch).
         record v {
           phase = record v.phase { before = Some a };
           found = record v.found { sync = g; notes = noting v (bad (body n.config.now a) w) n.found.notes.row };
           done = started n.done a.standing.members n.phase.me n.phase.full (Plain (own_claim n.phase.me n.phase.inputs a));
-          arrived = unguessed y;
+          arrived = y;
         }) is_good shut'
         ∙ ap (λ (o : Option AgreedView). synced (with_sync (shut v)) o) (sym (ap goes_with (sym shut') ∙ goes))
 
@@ -138,6 +118,4 @@ module _ {N : ℕ} (n : Inside N) (inv : IsController n) (sound : IsSound (seen 
     watch = watch_shut n.config.now n.phase.me n.watch inv.watch u shut';
     kept_notes = inv.kept_notes;
     notes = own;
-    rooms = inv.rooms;
-    guessed = λ o h. absurd (not_open n.watch u shut' h);
   }

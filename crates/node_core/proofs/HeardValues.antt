@@ -4,19 +4,16 @@ use Rattle.std.specs.Prelude.{IsSome, IfSome, nat_le, if◌then◌else◌}
 use Rattle.std.proofs.lemmas.Bool.{cond-true, cond-false}
 use Rattle.node_grid.specs.Kinds.{deviate}
 use Rattle.node_grid.specs.NodeSet.{has_id, ids_where}
-use Rattle.slot_plan.specs.declared.slot.Slot.{Slot}
-use Rattle.slot_plan.specs.declared.slot.Slot.TheVariants.{Data}
 use Rattle.slot_plan.specs.Slots.{slot_number}
 use Rattle.omh_paths.specs.declared.wrapped.Wrapped.TheVariants.{Plain}
 use Rattle.omh.specs.Heard.{Hearing}
-use Rattle.error_detect.specs.Watching.{Watch, closed, findings}
+use Rattle.error_detect.specs.Watching.{Watch, closed, findings, IsHeardBy}
 use Rattle.error_reports.specs.Notes.{Notes, also_noted}
 use Rattle.agreed_state.specs.declared.config.Config.{Config}
 use Rattle.agreed_state.specs.Agreed.{AgreedView, IsAgreed}
 use Rattle.protocol.specs.Arrival.{is_bad, values_in}
 use Rattle.protocol.specs.Configured.{setting_of}
 use Rattle.protocol.specs.View.{Setting, deviates, empty_row, votes_on}
-use Rattle.relaying.specs.Guessed.{unguessed}
 use Rattle.noting.specs.Findings.{found_bad, has_of}
 use Rattle.noting.specs.FoundLaws.{has_others, values_found}
 use Rattle.data_slot.specs.Values.{only_values}
@@ -25,10 +22,10 @@ use Rattle.node_steps.specs.PremiseLaws.{gt_is}
 use Rattle.node_steps.specs.Sound.{IsInSlot, IsSound}
 use Rattle.node_steps.specs.Steps.{expected_in, shut, taken, after_data, after_done, after_report, noting, started}
 use Rattle.node_core.specs.declared.controller.Controller.TheInside.{Inside}
-use Rattle.node_core.specs.Inside.{seen, AreItsNotes, IsGuessed, IsController}
+use Rattle.node_core.specs.Inside.{seen, AreItsNotes, IsController}
 use Rattle.node_core.proofs.NotedRows.{noted_by}
 
-module _ {N : ℕ} (n : Inside N) (inv : IsController n) (sound : IsSound (seen n)) (open' : n.phase.is_open ≡ true) (at : n.phase.slot ≡ Data) (u : Watch) (shut' : u ≡ closed n.watch) where
+module _ {N : ℕ} (n : Inside N) (inv : IsController n) (sound : IsSound (seen n)) (open' : n.phase.is_open ≡ true) (at : slot_number n.config.now.m n.phase.slot ≡ n.config.now.m + 2) (u : Watch) (shut' : u ≡ closed n.watch) where
   abbrev v : NodeView N
   v = seen n
 
@@ -37,20 +34,13 @@ module _ {N : ℕ} (n : Inside N) (inv : IsController n) (sound : IsSound (seen 
 
   -- ---- the premises of a vote
 
-  pub values_shut : u.is_open ≡ false
-  values_shut = ap (λ (w : Watch). w.is_open) shut'
-
-  pub values_expected : IsSome u.expect
-  values_expected = subst IsSome (sym (ap (λ (w : Watch). w.expect) shut')) (inv.watch.expects slot.watching)
-
-  pub values_unguessed : u.guess ≡ None
-  values_unguessed = ap (λ (w : Watch). w.guess) shut' ∙ subst (λ (x : Slot). IsGuessed x n) at (inv.guessed open' slot.watching)
-
-  pub values_nodes : u.nodes ≡ n.config.now.nodes
-  values_nodes = ap (λ (w : Watch). w.nodes) shut' ∙ inv.watch.nodes
-
-  pub values_me : u.me ≡ n.phase.me
-  values_me = ap (λ (w : Watch). w.me) shut' ∙ inv.watch.me_is
+  pub values_heard : IsHeardBy u n.config.now.nodes n.phase.me
+  values_heard = record {
+    nodes_are = ap (λ (w : Watch). w.nodes) shut' ∙ inv.watch.nodes;
+    me_is = ap (λ (w : Watch). w.me) shut' ∙ inv.watch.me_is;
+    closed = ap (λ (w : Watch). w.is_open) shut';
+    some_slot = subst IsSome (sym (ap (λ (w : Watch). w.expect) shut')) (inv.watch.expects slot.watching);
+  }
 
   module _ (a : AgreedView) (goes : n.phase.before ≡ Some a) where
     pub values_agreed : IsAgreed N n.config.now a
@@ -76,7 +66,7 @@ module _ {N : ℕ} (n : Inside N) (inv : IsController n) (sound : IsSound (seen 
     noted votes off x offs is =
         is
         ∙ values_found N n.found.notes (closed n.watch) (expected_in v v.phase.slot) off (far votes (closed n.watch))
-        (record { nodes_are = inv.watch.nodes ∙ sym inv.notes.nodes; me_is = inv.watch.me_is ∙ sym inv.notes.me_is; expects = slot.expects }) (ap (slot_number n.config.now.m) at)
+        (record { nodes_are = inv.watch.nodes ∙ sym inv.notes.nodes; me_is = inv.watch.me_is ∙ sym inv.notes.me_is; expects = slot.expects }) at
         (λ j low other. ap (λ (ids : List ℕ). has_id ids j) offs ∙ has_others (far votes (closed n.watch)) n.phase.me n.config.now.nodes j (subst (λ (k : ℕ). j < k) inv.notes.nodes low) (λ e. other (e ∙ sym inv.notes.me_is)))
         ∙ noted_by n.config.now n.phase.me n.found.notes inv.notes (more votes)
 
@@ -92,7 +82,7 @@ module _ {N : ℕ} (n : Inside N) (inv : IsController n) (sound : IsSound (seen 
         ∙ row_of n.phase.full n.found.notes (noting v (more votes) n.found.notes.row) (empty_row s)
 
     abbrev after : Notes → List (Option ℤ) → Hearing (List ℕ) → Watch → NodeView N
-    after y votes d w = record v { found = record v.found { notes = y.row; late = y.carried; votes = votes }; rows = d; arrived = unguessed w }
+    after y votes d w = record v { found = record v.found { notes = y.row; late = y.carried; votes = votes }; rows = d; arrived = w }
 
     abbrev table : List ℕ → Hearing (List ℕ)
     table r = started n.rows a.standing.members n.phase.me n.phase.full (Plain r)

@@ -1,13 +1,9 @@
 //! A node's controller: what the node knows.
 
-ghost use Rattle.std.specs.Prelude.{◌≡◌, ◌≢◌, ◌<◌, ◌≤◌, ◌-◌, [], true, All, map, length};
+ghost use Rattle.std.specs.Prelude.{◌≡◌, ◌≢◌, ◌<◌, true};
 ghost use Rattle.node_grid.specs.Capacity.{IsCapacity};
-ghost use Rattle.error_detect.specs.Multiset.{all_delivered};
 ghost use Rattle.protocol.specs.Run.{members_in};
-ghost use Rattle.guessed_frames.specs.Common.{IsGuessedIn, AreGuessedIn, frame_by, whole_from};
-ghost use Rattle.node_steps.specs.Sound.{IsSound};
-ghost use Rattle.node_steps.specs.Steps.{restarted, given_frame, frame_of};
-ghost use Rattle.node_core.specs.Telling.{SaysAsGuessed};
+ghost use Rattle.node_steps.specs.Steps.{restarted, given_frame};
 
 mod claims;
 mod data;
@@ -24,13 +20,11 @@ use agreed_state::{Agreed, Config, Inputs};
 use arrayvec::ArrayVec;
 use error_detect::{Rooms, SlotWatch};
 use error_reports::RowBuilder;
-use guessed_frames::{CommonGuess, deliver_whole, is_guessed};
-use heard::Heard;
 use node_grid::{NodeSet, Row};
 use omh_paths::Wrapped;
+use relay_table::Table;
 use slot_plan::Slot;
 use std::marker::Model;
-use std::ops::Range;
 
 /// Where a node stands.
 #[derive(Clone, Copy)]
@@ -66,31 +60,19 @@ pub struct Findings<const N: usize> {
     votes: [Option<i64>; 8],
 }
 
-/// Room for the entries of a relay frame, and a buffer that stands in for the watch's room for a
-/// guess while that is written.
-#[derive(Drop)]
-pub struct Buffers<const N: usize> {
-    claims: Vec<Wrapped<u8>>,
-    rows: Vec<Wrapped<Row<N>>>,
-    spare: Vec<u8>,
-}
-
 /// What a node knows.
 #[derive(Drop)]
 pub struct Controller<'c, const N: usize> {
     config: &'c Config<N>,
     phase: Phase<N>,
     kept: Keeping<N>,
-    done: Heard<u8, N>,
-    rows: Heard<Row<N>, N>,
+    done: Table<u8, N>,
+    rows: Table<Row<N>, N>,
     found: Findings<N>,
     watch: SlotWatch<N>,
     outcome: NodeRecord<N>,
-    buffers: Buffers<N>,
 }
 
-// Clauses see it without what is guessed of the frames of its slot, which makes no difference to
-// what they say.
 impl<'c, const N: usize> Model for Controller<'c, N> {
     ghost use Rattle.node_steps.specs.Parts.{NodeView};
 
@@ -132,78 +114,14 @@ impl<'c, const N: usize> Controller<'c, N> {
         self.watch.swap_rooms(rooms);
     }
 
-    /// A frame arrives in the open slot. Of one that is as guessed nothing but its tick is kept.
+    /// A frame arrives in the open slot.
     pub fn deliver(&mut self, from: u8, tick: u8, bytes: &[u8])
         requires open { self.old.arrived.is_open ≡ true }
         requires node { from < self.old.config.nodes }
         requires other { from ≢ self.old.phase.me }
         ensures { self.new ≡ given_frame self.old from tick bytes.now }
     {
-        if is_guessed(&self.watch, from, bytes) {
-            self.watch.deliver_same(from, tick);
-        } else {
-            self.watch.deliver(from, tick, bytes);
-        }
-    }
-
-    /// The frames of these nodes, but for its own, arrive in the open slot as they were sent, on
-    /// time.
-    pub fn deliver_whole(
-        &mut self,
-        senders: Range<u8>,
-        frames: &[Vec<u8>],
-        commons: &[CommonGuess<N>],
-    )
-        requires open { self.old.arrived.is_open ≡ true }
-        requires ascending { senders.start ≤ senders.end }
-        requires nodes { senders.end ≤ self.old.config.nodes }
-        requires each { senders.end ≤ length frames.now }
-        requires known { All (λ c. AreGuessedIn c (frame_by (map (λ f. f.items) frames.now)))
-            commons.now }
-        ensures { self.new ≡ record self.old {
-          arrived = all_delivered self.old.arrived
-              (whole_from self.old.phase.me (frame_by (map (λ f. f.items) frames.now)) senders.start
-              (senders.end - senders.start));
-        } }
-    {
-        deliver_whole(&mut self.watch, self.phase.me, senders, frames, commons);
-    }
-
-    /// Gives what it guesses of the frames of the open slot, if anything.
-    pub fn lend_guess(&self, common: &mut CommonGuess<N>)
-        requires { IsCapacity N }
-        ensures { common.new.senders ≡ [] }
-    {
-        common.take(&self.watch);
-    }
-
-    /// Whether what it says in the open slot is, where something is guessed, what it guesses of each
-    /// other node: it is Full, and the slot is the sync slot, or that of a relay round of which it
-    /// is a member.
-    fn says_as_guessed(&self) -> bool
-        requires { IsCapacity N }
-        ensures { result ≡ true → SaysAsGuessed self.now }
-    {
-        if !self.phase.full || self.phase.before.is_none() {
-            return false;
-        }
-        match self.phase.slot {
-            Slot::Sync => true,
-            Slot::Claims(round) | Slot::Rows(round) => {
-                round > 0 && self.members().has(self.phase.me)
-            }
-            Slot::Data => false,
-        }
-    }
-
-    /// Whether its frame of the open slot is known to be what is commonly guessed of it.
-    pub fn tells(&self, common: &CommonGuess<N>) -> bool
-        requires capacity { IsCapacity N }
-        requires sound { IsSound self.now }
-        requires open { self.now.phase.is_open ≡ true }
-        ensures { result ≡ true → IsGuessedIn common.now self.now.phase.me (frame_of self.now) }
-    {
-        self.says_as_guessed() && common.is_of(&self.watch)
+        self.watch.deliver(from, tick, bytes);
     }
 
     /// Forgets what it keeps from one period to the next.

@@ -102,10 +102,10 @@ module _ {N : ℕ} (config : Config N) (i p : ℕ) (g : Inputs) (k : Kept) (x : 
       let cw : Watch = all_delivered (opened w e) (ds (suc config.m)) in
       let due : ℕ = length (due_of config i p g k x a) in
       let next : config.m + 2 ≡ suc config.m + 1 = omega arith in
-      let there = subst (λ (n : ℕ). Stands config i p g k x room o a n (stage config i p g k x n (Some a) (done_table config i p g k x a (suc config.m)) rows (found_data config i p g k x a f) (opened (closed cw) (expect_at config i p g k x n members due)) o)) next
+      let there = subst (λ (n : ℕ). Stands config i p g k x room o a n (stage config i p g k x n (Some a) (done_table config i p g k x a 0) rows (found_data config i p g k x a f) (opened (closed cw) (expect_at config i p g k x n members due)) o)) next
       (Stands.voting rows f (closed cw) (next_watch w e (ds (suc config.m)) base) en em late) in
       subst (Stands config i p g k x room o a (suc config.m + 1))
-      (sym (opened_next (in_done config i p g k x a config.m rows f cw o) (suc config.m) (done_table config i p g k x a (suc config.m)) rows (found_data config i p g k x a f) (closed cw) due
+      (sym (opened_next (in_done config i p g k x a config.m rows f cw o) (suc config.m) (done_table config i p g k x a 0) rows (found_data config i p g k x a f) (closed cw) due
       (step_claims config i p g k x few a ids rows f cw o (agrees (closed cw)) (done_round config.m w base (omega arith))) (λ z. absurd (omega arith)) (sym (cond-true (suc config.m + 1 == config.m + 2) due 0 (eq-eqb (suc config.m + 1) (config.m + 2) (omega arith))))))
       there
 
@@ -116,10 +116,10 @@ module _ {N : ℕ} (config : Config N) (i p : ℕ) (g : Inputs) (k : Kept) (x : 
       let e : Expectation = expect_at config i p g k x (config.m + 2) members due in
       let cw : Watch = all_delivered (opened w e) (ds (config.m + 2)) in
       let next : config.m + 3 + 0 ≡ config.m + 2 + 1 = omega arith in
-      let there = subst (λ (n : ℕ). Stands config i p g k x room o a n (stage config i p g k x n (Some a) (done_table config i p g k x a (suc config.m)) (row_table config i p g k x a 0) (found_report config i p g k x a 0) (opened (closed cw) (expect_at config i p g k x n members 0)) o)) next
+      let there = subst (λ (n : ℕ). Stands config i p g k x room o a n (stage config i p g k x n (Some a) (done_table config i p g k x a 0) (row_table config i p g k x a 0) (found_report config i p g k x a 0) (opened (closed cw) (expect_at config i p g k x n members 0)) o)) next
       (Stands.reporting 0 (closed cw) (omega arith) (next_watch w e (ds (config.m + 2)) base)) in
       subst (Stands config i p g k x room o a (config.m + 2 + 1))
-      (sym (opened_next (in_data config i p g k x a rows f cw o) (config.m + 2) (done_table config i p g k x a (suc config.m)) (row_table config i p g k x a 0) (found_report config i p g k x a 0) (closed cw) 0
+      (sym (opened_next (in_data config i p g k x a rows f cw o) (config.m + 2) (done_table config i p g k x a 0) (row_table config i p g k x a 0) (found_report config i p g k x a 0) (closed cw) 0
       (step_data config i p g k x few a ids rows f cw o (record { each = λ j l ne. (told.values a is).each j l ne ∙ sym (has_there values_in w (config.m + 2) due j base few_due l ne) }) en em late)
       (λ z. absurd (omega arith)) (sym (cond-false (config.m + 2 + 1 == config.m + 2) due 0 (ne_eqb (config.m + 2 + 1) (config.m + 2) (λ z. absurd (omega arith)))))))
       there
@@ -130,10 +130,10 @@ module _ {N : ℕ} (config : Config N) (i p : ℕ) (g : Inputs) (k : Kept) (x : 
       let e : Expectation = expect_at config i p g k x (config.m + 3 + r) members 0 in
       let cw : Watch = all_delivered (opened w e) (ds (config.m + 3 + r)) in
       let next : config.m + 3 + suc r ≡ config.m + 3 + r + 1 = omega arith in
-      let there = subst (λ (n : ℕ). Stands config i p g k x room o a n (stage config i p g k x n (Some a) (done_table config i p g k x a (suc config.m)) (row_table config i p g k x a (suc r)) (found_report config i p g k x a (suc r)) (opened (closed cw) (expect_at config i p g k x n members 0)) o)) next
+      let there = subst (λ (n : ℕ). Stands config i p g k x room o a n (stage config i p g k x n (Some a) (done_table config i p g k x a 0) (row_table config i p g k x a (suc r)) (found_report config i p g k x a (suc r)) (opened (closed cw) (expect_at config i p g k x n members 0)) o)) next
       (Stands.reporting (suc r) (closed cw) (omega arith) (next_watch w e (ds (config.m + 3 + r)) base)) in
       subst (Stands config i p g k x room o a (config.m + 3 + r + 1))
-      (sym (opened_next (in_report config i p g k x a r cw o) (config.m + 3 + r) (done_table config i p g k x a (suc config.m)) (row_table config i p g k x a (suc r)) (found_report config i p g k x a (suc r)) (closed cw) 0
+      (sym (opened_next (in_report config i p g k x a r cw o) (config.m + 3 + r) (done_table config i p g k x a 0) (row_table config i p g k x a (suc r)) (found_report config i p g k x a (suc r)) (closed cw) 0
       (step_report config i p g k x few a ids r cw o (agrees (closed cw)) (report_round r w base (omega arith)))
       (λ z. absurd (omega arith)) (sym (cond-false (config.m + 3 + r + 1 == config.m + 2) (length (due_of config i p g k x a)) 0 (ne_eqb (config.m + 3 + r + 1) (config.m + 2) (λ z. absurd (omega arith)))))))
       there

@@ -10,7 +10,7 @@ use Rattle.node_grid.specs.NodeSet.{IsIdSet}
 use Rattle.omh_paths.specs.declared.wrapped.Wrapped.{Wrapped}
 use Rattle.omh_paths.specs.declared.wrapped.Wrapped.TheVariants.{Plain, Fault}
 use Rattle.omh_paths.specs.MemberLaws.{Distinct-ids}
-use Rattle.omh.specs.Heard.{Hearing, Entry, nothing_heard}
+use Rattle.omh.specs.Heard.{Hearing, Entry, nothing_heard, forgotten}
 use Rattle.omh.specs.HeardLaws.{entries_alike}
 use Rattle.error_detect.specs.Finding.{kind_of}
 use Rattle.error_detect.specs.Watching.{Watch, fresh, closed, opened, told_at, finding_at}
@@ -97,6 +97,10 @@ fresh_table {V} h nodes m members me full own x ids en em =
     none : (n : ℕ) → 0 < n → nat_le n 0 ≡ false
     none n h = grind (arith, nat_tests)
 
+-- so is one that let go of what was heard
+forgotten_table : {V : Type 0} (nodes m : ℕ) (members : List ℕ) (me : ℕ) (full : Bool) (own : V) (n : ℕ) (x : Rounds V) → IsIdSet nodes members → forgotten (table_at nodes m members me full own n x) ≡ table_at nodes m members me full own 0 x
+forgotten_table nodes m members me full own n x ids = fresh_table (table_at nodes m members me full own n x) nodes m members me full own x ids refl refl
+
 module _ {N : ℕ} (config : Config N) (i p : ℕ) (g : Inputs) (k : Kept) (x : Received) (few : config.nodes ≤ N) (a : AgreedView) (ids : IsIdSet config.nodes a.standing.members) where
   abbrev s : Setting
   s = setting_of config
@@ -118,18 +122,17 @@ module _ {N : ℕ} (config : Config N) (i p : ℕ) (g : Inputs) (k : Kept) (x : 
   abbrev done_taken : ℕ → Hearing (List ℕ) → Found → Watch → Outcome → NodeView N
   done_taken r rows f w o = stage config i p g k x (suc r) (Some a) (done_table config i p g k x a (suc r)) rows (found_done config i p g k x a (suc r) f) (closed w) o
 
-  -- what a done slot makes of the node before the claims are settled
-  hears : (r : ℕ) (rows : Hearing (List ℕ)) (f : Found) (w : Watch) (o : Outcome) → ((j : ℕ) → Agrees (kind_of (finding_at (closed w) j)) (told_at (closed w) j)) → IsRound claim_form a.standing.members i config.nodes r (closed w) x.done
-      → stage config i p g k x (suc r) (Some a) (after_round claim_form config.nodes (closed w) (suc r - 1) (done_table config i p g k x a r)) rows
-      (record (found_done config i p g k x a r f) { notes = row_by s i (λ j b. accuses (row_by s i (notes_done config i p g k x a r)) j b || bad_in claim_form (suc r - 1) (closed w) j b) }) (closed w) o
-      ≡ done_taken r rows f w o
-  hears r rows f w o agree round =
-      let e : suc r - 1 ≡ r = omega arith in
-      ap (λ (n : ℕ). stage config i p g k x (suc r) (Some a) (after_round claim_form config.nodes (closed w) n (done_table config i p g k x a r)) rows
-      (record (found_done config i p g k x a r f) { notes = row_by s i (λ j b. accuses (row_by s i (notes_done config i p g k x a r)) j b || bad_in claim_form n (closed w) j b) }) (closed w) o) e
-      ∙ ap₂ (λ (d : Hearing ℕ) (notes : List ℕ). stage config i p g k x (suc r) (Some a) d rows (record f { sync = synced_by s i x; notes = notes }) (closed w) o)
-      (round_more claim_form a.standing.members i config.m config.nodes r full (own_claim i g a) (closed w) x.done ids agree round)
-      (notes_next r (closed w) round)
+  -- what a done slot notes, and what is heard of claims after it
+  noted_next : (r : ℕ) (w : Watch) → IsRound claim_form a.standing.members i config.nodes r w x.done
+      → row_by s i (λ j b. accuses (row_by s i (notes_done config i p g k x a r)) j b || bad_in claim_form (suc r - 1) w j b) ≡ row_by s i (notes_done config i p g k x a (suc r))
+  noted_next r w round =
+      ap (λ (n : ℕ). row_by s i (λ j b. accuses (row_by s i (notes_done config i p g k x a r)) j b || bad_in claim_form n w j b)) (let e : suc r - 1 ≡ r = omega arith in e) ∙ notes_next r w round
+
+  heard_next : (r : ℕ) (w : Watch) → ((j : ℕ) → Agrees (kind_of (finding_at w j)) (told_at w j)) → IsRound claim_form a.standing.members i config.nodes r w x.done
+      → after_round claim_form config.nodes w (suc r - 1) (done_table config i p g k x a r) ≡ done_table config i p g k x a (suc r)
+  heard_next r w agree round =
+      ap (λ (n : ℕ). after_round claim_form config.nodes w n (done_table config i p g k x a r)) (let e : suc r - 1 ≡ r = omega arith in e)
+      ∙ round_more claim_form a.standing.members i config.m config.nodes r full (own_claim i g a) w x.done ids agree round
 
   first_tests : (r : ℕ) → r ≤ config.m → (v : NodeView N) (y z : NodeView N) → (if suc r == 0 then v else (if nat_le (suc r) (config.m + 1) then y else z)) ≡ y
   first_tests r h v y z = cond-false (suc r == 0) v _ (ne_eqb (suc r) 0 (λ e. omega arith)) ∙ cond-true (nat_le (suc r) (config.m + 1)) y z (le (suc r) (config.m + 1) (omega arith)) where
@@ -142,12 +145,18 @@ module _ {N : ℕ} (config : Config N) (i p : ℕ) (g : Inputs) (k : Kept) (x : 
   step_done r rows f w o low agree round =
       first_tests r (omega arith) _ _ _
       ∙ cond-false (suc r == config.m + 1) _ _ (ne_eqb (suc r) (config.m + 1) (λ e. omega arith))
-      ∙ hears r rows f w o agree round
+      ∙ ap₂ (λ (d : Hearing ℕ) (notes : List ℕ). stage config i p g k x (suc r) (Some a) d rows (record f { sync = synced_by s i x; notes = notes }) (closed w) o)
+      (heard_next r (closed w) agree round) (noted_next r (closed w) round)
 
   -- ---- the last done slot
 
   abbrev claims_taken : Hearing (List ℕ) → Found → Watch → Outcome → NodeView N
-  claims_taken rows f w o = stage config i p g k x (suc config.m) (Some a) (done_table config i p g k x a (suc config.m)) rows (found_data config i p g k x a f) (closed w) o
+  claims_taken rows f w o = stage config i p g k x (suc config.m) (Some a) (done_table config i p g k x a 0) rows (found_data config i p g k x a f) (closed w) o
+
+  -- the claims are settled by what was heard, where that was noted
+  abbrev by_heard : Hearing (List ℕ) → Found → Watch → Outcome → Hearing ℕ → List ℕ → NodeView N
+  by_heard rows f w o d notes =
+      claims_known (stage config i p g k x (suc config.m) (Some a) (done_table config i p g k x a config.m) rows (record f { sync = synced_by s i x; notes = notes }) w o) d a
 
   claims_are : map as_claim (settled_in nat_eq N (done_table config i p g k x a (suc config.m))) ≡ claims_of config i p g k x a
   unfolding claims_settled
@@ -158,8 +167,8 @@ module _ {N : ℕ} (config : Config N) (i p : ℕ) (g : Inputs) (k : Kept) (x : 
   step_claims rows f w o agree round =
       first_tests config.m (omega arith) _ _ _
       ∙ cond-true (suc config.m == config.m + 1) _ _ (eq-eqb (suc config.m) (config.m + 1) (omega arith))
-      ∙ ap (λ (v : NodeView N). claims_known v a) (hears config.m rows f w o agree round)
-      ∙ ap (λ claims. stage config i p g k x (suc config.m) (Some a) (done_table config i p g k x a (suc config.m)) rows
+      ∙ ap₂ (by_heard rows f (closed w) o) (heard_next config.m (closed w) agree round) (noted_next config.m (closed w) round)
+      ∙ ap (λ claims. stage config i p g k x (suc config.m) (Some a) (forgotten (done_table config i p g k x a (suc config.m))) rows
       (record {
         sync = synced_by s i x;
         notes = row_by s i (λ j b. accuses (row_by s i (λ q kd. accuses (row_by s i (notes_done config i p g k x a (suc config.m))) q kd || by_verdict config a claims q kd)) j b || by_conviction nat_eq (done_table config i p g k x a (suc config.m)) j b);
@@ -169,7 +178,8 @@ module _ {N : ℕ} (config : Config N) (i p : ℕ) (g : Inputs) (k : Kept) (x : 
         own = own_of config i p g k x a;
         votes = f.votes;
       }) (closed w) o) claims_are
-      ∙ ap (λ (notes : List ℕ). stage config i p g k x (suc config.m) (Some a) (done_table config i p g k x a (suc config.m)) rows (record (found_data config i p g k x a f) { notes = notes }) (closed w) o)
+      ∙ ap₂ (λ (d : Hearing ℕ) (notes : List ℕ). stage config i p g k x (suc config.m) (Some a) d rows (record (found_data config i p g k x a f) { notes = notes }) (closed w) o)
+      (forgotten_table config.nodes config.m a.standing.members i full (own_claim i g a) (suc config.m) x.done ids)
       (ap (λ (row : List ℕ). row_by s i (λ j b. accuses row j b || by_conviction nat_eq (done_table config i p g k x a (suc config.m)) j b))
       (notes_more s i (notes_done config i p g k x a (suc config.m)) (by_verdict config a (claims_of config i p g k x a)) (notes_verdicts config i p g k x a) few (record { each = λ j low ne b within. refl }))
       ∙ notes_more s i (notes_verdicts config i p g k x a) (by_conviction nat_eq (done_table config i p g k x a (suc config.m))) (notes_claims config i p g k x a) few (record {
@@ -252,25 +262,25 @@ module _ {N : ℕ} (config : Config N) (i p : ℕ) (g : Inputs) (k : Kept) (x : 
   -- what the data slot finds, by the votes and by the row
   abbrev by_votes : Hearing (List ℕ) → Found → Watch → Outcome → List (Option ℤ) → List ℕ → NodeView N
   by_votes rows f w o votes row =
-      stage config i p g k x (config.m + 2) (Some a) (done_table config i p g k x a (suc config.m)) (started rows a.standing.members i full (Plain row))
+      stage config i p g k x (config.m + 2) (Some a) (done_table config i p g k x a 0) (started rows a.standing.members i full (Plain row))
       (record { sync = synced_by s i x; notes = row; late = f.late; claims = claims_of config i p g k x a; due = due_of config i p g k x a; own = own_of config i p g k x a; votes = votes }) w o
 
   pub step_data : (rows : Hearing (List ℕ)) (f : Found) (w : Watch) (o : Outcome) → AreValues (closed w) → rows.nodes ≡ config.nodes → rows.rounds ≡ config.m → f.late ≡ row_by s i (rounds_closed 0 x.report)
-      → slot_taken (shut (in_data config i p g k x a rows f w o)) ≡ data_taken (done_table config i p g k x a (suc config.m)) rows w o
+      → slot_taken (shut (in_data config i p g k x a rows f w o)) ≡ data_taken (done_table config i p g k x a 0) rows w o
   step_data rows f w o h en em late =
       let cw : Watch = closed w in
       data_tests _ _ _ _
       ∙ ap (λ votes. by_votes rows f cw o votes
       (if full then row_by s i (λ j b. accuses (row_by s i (notes_claims config i p g k x a)) j b || (is_bad (has_of values_in cw j) b || (deviates s (due_of config i p g k x a) votes (only_values cw) j && b == deviate))) else empty_row s)) (votes_are cw h)
       ∙ ap (by_votes rows f cw o (votes_of config i p g k x a)) (row_is cw h)
-      ∙ ap₂ (λ (t : Hearing (List ℕ)) (l : List ℕ). stage config i p g k x (config.m + 2) (Some a) (done_table config i p g k x a (suc config.m)) t
+      ∙ ap₂ (λ (t : Hearing (List ℕ)) (l : List ℕ). stage config i p g k x (config.m + 2) (Some a) (done_table config i p g k x a 0) t
       (record { sync = synced_by s i x; notes = row_of config i p g k x a; late = l; claims = claims_of config i p g k x a; due = due_of config i p g k x a; own = own_of config i p g k x a; votes = votes_of config i p g k x a }) cw o)
       (fresh_table rows config.nodes config.m a.standing.members i full (row_of config i p g k x a) x.report ids en em) late
 
   -- ---- the report slots
 
   abbrev report_taken : ℕ → Watch → Outcome → NodeView N
-  report_taken r w o = stage config i p g k x (config.m + 3 + r) (Some a) (done_table config i p g k x a (suc config.m)) (row_table config i p g k x a (suc r)) (found_report config i p g k x a (suc r)) (closed w) o
+  report_taken r w o = stage config i p g k x (config.m + 3 + r) (Some a) (done_table config i p g k x a 0) (row_table config i p g k x a (suc r)) (found_report config i p g k x a (suc r)) (closed w) o
 
   report_tests : (r : ℕ) (u v y z : NodeView N) → (if config.m + 3 + r == 0 then u else (if nat_le (config.m + 3 + r) (config.m + 1) then v else (if config.m + 3 + r == config.m + 2 then y else z))) ≡ z
   report_tests r u v y z =
@@ -287,9 +297,9 @@ module _ {N : ℕ} (config : Config N) (i p : ℕ) (g : Inputs) (k : Kept) (x : 
       let cw : Watch = closed w in
       let e : config.m + 3 + r - (config.m + 3) ≡ r = omega arith in
       report_tests r _ _ _ _
-      ∙ ap (λ (n : ℕ). stage config i p g k x (config.m + 3 + r) (Some a) (done_table config i p g k x a (suc config.m)) (after_round row_form config.nodes cw n (row_table config i p g k x a r))
+      ∙ ap (λ (n : ℕ). stage config i p g k x (config.m + 3 + r) (Some a) (done_table config i p g k x a 0) (after_round row_form config.nodes cw n (row_table config i p g k x a r))
       (record (found_report config i p g k x a r) { late = row_by s i (λ j b. accuses (row_by s i (rounds_closed r x.report)) j b || bad_in row_form n cw j b) }) cw o) e
-      ∙ ap₂ (λ (t : Hearing (List ℕ)) (l : List ℕ). stage config i p g k x (config.m + 3 + r) (Some a) (done_table config i p g k x a (suc config.m)) t (record (found_report config i p g k x a r) { late = l }) cw o)
+      ∙ ap₂ (λ (t : Hearing (List ℕ)) (l : List ℕ). stage config i p g k x (config.m + 3 + r) (Some a) (done_table config i p g k x a 0) t (record (found_report config i p g k x a r) { late = l }) cw o)
       (round_more row_form a.standing.members i config.m config.nodes r full (row_of config i p g k x a) cw x.report ids agree round)
       (notes_more s i (rounds_closed r x.report) (bad_in row_form r cw) (rounds_closed (suc r) x.report) few (record { each = λ j low ne b within. closed_more row_form a.standing.members i config.nodes r cw x.report round j low ne b }))
 
@@ -320,16 +330,16 @@ module _ {N : ℕ} (config : Config N) (i p : ℕ) (g : Inputs) (k : Kept) (x : 
   rows_are : settled_in (pointwise ◌==◌) N (row_table config i p g k x a (suc config.m)) ≡ settled_items (pointwise ◌==◌) N config.m i full a.standing.members x.report (row_of config i p g k x a)
   rows_are = settled_tabled (pointwise ◌==◌) N config.nodes config.m a.standing.members i full (row_of config i p g k x a) x.report ids
 
-  -- the end of the period, by the settled rows and what is carried over
-  abbrev by_rows : ℕ → Watch → List (Option (List ℕ)) → List ℕ → NodeView N
-  by_rows t w rows late =
+  -- the end of the period, by the settled rows, what is carried over and what is left of the rows that were heard
+  abbrev by_rows : ℕ → Watch → List (Option (List ℕ)) → List ℕ → Hearing (List ℕ) → NodeView N
+  by_rows t w rows late h =
       let after = agreed_after N config p a (claims_of config i p g k x a) rows in
       record {
         config = config;
         phase = record { me = i; period = p; slot = t; is_open = false; inputs = g; full = full; before = Some a };
         kept = record { state = Some after; carried = late; votes = votes_of config i p g k x a; owns = own_of config i p g k x a };
-        done = done_table config i p g k x a (suc config.m);
-        rows = row_table config i p g k x a (suc config.m);
+        done = done_table config i p g k x a 0;
+        rows = h;
         found = found_report config i p g k x a (suc config.m);
         arrived = w;
         outcome = record {
@@ -346,11 +356,13 @@ module _ {N : ℕ} (config : Config N) (i p : ℕ) (g : Inputs) (k : Kept) (x : 
       }
 
   pub step_end : (w : Watch) (o : Outcome) → next_open (report_taken config.m w o)
-      ≡ over (config.m + 3 + config.m) (done_table config i p g k x a (suc config.m)) (row_table config i p g k x a (suc config.m)) (found_report config i p g k x a (suc config.m)) (fresh w.nodes w.me w.frame_max) (through s i p g k x full a)
+      ≡ over (config.m + 3 + config.m) (done_table config i p g k x a 0) (row_table config i p g k x a 0) (found_report config i p g k x a (suc config.m)) (fresh w.nodes w.me w.frame_max) (through s i p g k x full a)
   unfolding through
   step_end w o =
       cond-true (config.m + 3 + config.m == 2 * config.m + 3) _ _ (eq-eqb (config.m + 3 + config.m) (2 * config.m + 3) (omega arith))
-      ∙ ap₂ (by_rows (config.m + 3 + config.m) (fresh w.nodes w.me w.frame_max)) rows_are carried_is
+      ∙ ap₂ (λ (rows : List (Option (List ℕ))) (late : List ℕ). by_rows (config.m + 3 + config.m) (fresh w.nodes w.me w.frame_max) rows late (forgotten (row_table config i p g k x a (suc config.m)))) rows_are carried_is
+      ∙ ap (by_rows (config.m + 3 + config.m) (fresh w.nodes w.me w.frame_max) (settled_items (pointwise ◌==◌) N config.m i full a.standing.members x.report (row_of config i p g k x a)) (carried_by s i full a x))
+      (forgotten_table config.nodes config.m a.standing.members i full (row_of config i p g k x a) (suc config.m) x.report ids)
 
   -- ---- the sync slot
 

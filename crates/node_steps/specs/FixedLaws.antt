@@ -5,7 +5,7 @@ use Rattle.error_detect.specs.Watching.{Watch, delivered}
 use Rattle.error_detect.specs.Multiset.{Arriving, all_delivered}
 use Rattle.agreed_state.specs.Agreed.{AgreedView}
 use Rattle.node_steps.specs.Parts.{NodeView}
-use Rattle.node_steps.specs.Steps.{after_slot, slot_taken, shut, taken, after_sync, synced, with_sync, after_done, after_data, after_report, heard_done, claims_known, finished}
+use Rattle.node_steps.specs.Steps.{after_slot, slot_taken, shut, taken, after_sync, synced, with_sync, after_done, after_data, after_report, done_noted, done_heard, claims_known, finished}
 use Rattle.node_steps.specs.Period.{slots_run}
 use Rattle.node_steps.specs.Sending.{Fixed, fixed}
 
@@ -39,7 +39,7 @@ taken_place : {N : ℕ} (v : NodeView N) (o : Option AgreedView) → place (take
 taken_place v None = refl
 taken_place {N} v (Some a) =
     if_alike {X = NodeView N} place (place v) (nat_le v.phase.slot (v.config.m + 1)) (after_done v a) _
-    (if_alike {X = NodeView N} place (place v) (v.phase.slot == v.config.m + 1) (claims_known (heard_done v) a) (heard_done v) refl refl)
+    (if_alike {X = NodeView N} place (place v) (v.phase.slot == v.config.m + 1) (claims_known (done_noted v) (done_heard v) a) (record (done_noted v) { done = done_heard v }) refl refl)
     (if_alike {X = NodeView N} place (place v) (v.phase.slot == v.config.m + 2) (after_data v a) (after_report v) refl refl)
 
 pub slot_place : {N : ℕ} (v : NodeView N) → place (slot_taken (shut v)) ≡ place v

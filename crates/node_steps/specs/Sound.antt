@@ -1,5 +1,5 @@
 -- What holds of a node between calls, and of one that took a slot.
-use Rattle.std.specs.Prelude.{◌≡◌, ℕ, ◌+◌, ◌*◌, ◌<◌, ◌≤◌, true, length, Some, All, IfSome}
+use Rattle.std.specs.Prelude.{◌≡◌, ℕ, ◌+◌, ◌*◌, ◌<◌, ◌≤◌, true, false, length, Some, All, IfSome}
 use Rattle.node_grid.specs.NodeSet.{IsIdSet}
 use Rattle.omh.specs.Heard.{Hearing}
 use Rattle.frames.specs.Content.{IsClaim, IsRow, IsValue}
@@ -55,9 +55,10 @@ pub record IsSound {N : ℕ} (v : NodeView N) : Type 0 where
   pub sizes : HasSizes v
   pub in_slot : v.phase.is_open ≡ true → IsInSlot v
 
--- a node that took what its slot says
+-- a node that took what its slot says, which is closed
 pub record IsTaken {N : ℕ} (v : NodeView N) : Type 0 where
   pub sizes : HasSizes v
+  pub closed : v.arrived.is_open ≡ false
   pub within : v.phase.slot ≤ 2 * v.config.m + 3
   pub done : IfSome v.phase.before (λ a. Hears v.done v.phase.me a)
   pub rows : v.config.m + 2 ≤ v.phase.slot → IfSome v.phase.before (λ a. Hears v.rows v.phase.me a)

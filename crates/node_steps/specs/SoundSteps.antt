@@ -13,6 +13,7 @@ use Rattle.omh_paths.specs.declared.wrapped.Wrapped.{Wrapped}
 use Rattle.omh_paths.specs.declared.wrapped.Wrapped.TheVariants.{Plain, Fault}
 use Rattle.omh_paths.specs.Majority.{majority}
 use Rattle.omh_paths.specs.Paths.{same_nodes}
+use Rattle.omh.specs.Heard.{Hearing, forgotten}
 use Rattle.agreed_state.specs.declared.config.Config.{Config}
 use Rattle.agreed_state.specs.declared.config.Inputs.{Inputs}
 use Rattle.agreed_state.specs.Config.{IsConfig}
@@ -24,7 +25,7 @@ use Rattle.protocol.specs.Arrival.{Arrival, body_said, claim_form, row_form, is_
 use Rattle.protocol.specs.View.{adopted_by, bodies_for, deviates, empty_row, channel_room}
 use Rattle.node_steps.specs.Parts.{Found, NodeView}
 use Rattle.protocol.specs.Configured.{setting_of}
-use Rattle.node_steps.specs.Steps.{expected_in, with_notes, shut, synced, with_sync, after_sync, taken, slot_taken, after_done, after_data, after_report, heard_done, claims_known, finished, period_over, next_open, after_slot, begun, restarted, given_frame}
+use Rattle.node_steps.specs.Steps.{expected_in, with_notes, shut, synced, with_sync, after_sync, taken, slot_taken, after_done, after_data, after_report, done_noted, done_heard, claims_known, finished, period_over, next_open, after_slot, begun, restarted, given_frame}
 use Rattle.data_slot.specs.Values.{only_values}
 use Rattle.noting.specs.Findings.{has_of}
 use Rattle.relay_rules.specs.Ranged.{IsRanged}
@@ -35,7 +36,7 @@ use Rattle.protocol.specs.RowLaws.{row_by_is_row, empty_is_row}
 use Rattle.protocol.specs.ValueLaws.{own_values_fit}
 use Rattle.node_steps.specs.NoValueLaws.{no_values_fit}
 use Rattle.node_steps.specs.HeardInRange.{claims_speak, rows_speak, round_ranged, nothing_ranged}
-use Rattle.node_steps.specs.Sound.{FoundInRange, HasSizes, Hears, IsInSlot, IsSound, IsTable, IsTaken}
+use Rattle.node_steps.specs.Sound.{FoundInRange, HasSizes, Hears, IsInSlot, IsSound, IsTaken}
 
 if_some : {X : Type 0} (P : X → Type 0) (o : Option X) → ((x : X) → o ≡ Some x → P x) → IfSome o P
 if_some P None h = tt
@@ -66,6 +67,7 @@ found_synced v h = record { due = h.found.due; notes = h.found.notes; late = h.f
 sync_taken : {N : ℕ} (v : NodeView N) (o : Option AgreedView) → IsConfig N v.config → HasSizes v → v.phase.slot ≡ 0 → IfSome o (λ a. IsAgreed N v.config a) → IsTaken (synced (with_sync (shut v)) o)
 sync_taken v None ok h zero' a = record {
   sizes = record { kept = h.kept; before = tt; done = h.done; rows = h.rows; found = found_synced v h; readings = h.readings };
+  closed = refl;
   within = omega arith;
   done = tt;
   rows = λ l. tt;
@@ -84,6 +86,7 @@ sync_taken v (Some b) ok h zero' a = record {
     found = with_row v.config (with_sync (shut v)).found _ (found_synced v h) (row_by_is_row (setting_of v.config) v.phase.me _ ok.few_nodes);
     readings = h.readings;
   };
+  closed = refl;
   within = omega arith;
   done = record { members = refl; me_is = refl };
   rows = λ l. absurd (omega arith);
@@ -92,11 +95,16 @@ sync_taken v (Some b) ok h zero' a = record {
 -- a done slot
 done_taken : {N : ℕ} (v : NodeView N) (a : AgreedView) → IsConfig N v.config → HasSizes v → IsInSlot v → 0 < v.phase.slot → v.phase.slot ≤ v.config.m + 1 → v.phase.before ≡ Some a → IsTaken (after_done (shut v) a)
 done_taken {N} v a ok h s some low goes = elim (cases_Bool (v.phase.slot == v.config.m + 1)) [
-  | inl y ↦ subst (IsTaken {N = N}) (sym (cond-true (v.phase.slot == v.config.m + 1) (claims_known (heard_done (shut v)) a) (heard_done (shut v)) y)) (record {
+  | inl y ↦ subst (IsTaken {N = N}) (sym (cond-true (v.phase.slot == v.config.m + 1) settled heard y)) (record {
     sizes = record {
       kept = h.kept;
       before = h.before;
-      done = done;
+      done = record {
+        nodes_are = h.done.nodes_are;
+        rounds_are = h.done.rounds_are;
+        own_range = h.done.own_range;
+        range = nothing_ranged (IsClaim (length v.config.graph.tasks)) v.done.members v.done.me v.done.rounds;
+      };
       rows = h.rows;
       found = record {
         due = IsIdSet-filter _ (length v.config.channels.items);
@@ -106,14 +114,16 @@ done_taken {N} v a ok h s some low goes = elim (cases_Bool (v.phase.slot == v.co
       };
       readings = h.readings;
     };
+    closed = refl;
     within = s.within;
-    done = hears v.phase.before (s.done some);
+    done = hears (forgotten (done_heard (shut v))) refl refl v.phase.before (s.done some);
     rows = λ l. absurd (omega arith);
   })
-  | inr n ↦ subst (IsTaken {N = N}) (sym (cond-false (v.phase.slot == v.config.m + 1) (claims_known (heard_done (shut v)) a) (heard_done (shut v)) n)) (record {
-    sizes = record { kept = h.kept; before = h.before; done = done; rows = h.rows; found = with_row v.config v.found _ h.found (row_by_is_row (setting_of v.config) v.phase.me _ ok.few_nodes); readings = h.readings };
+  | inr n ↦ subst (IsTaken {N = N}) (sym (cond-false (v.phase.slot == v.config.m + 1) settled heard n)) (record {
+    sizes = record { kept = h.kept; before = h.before; done = record { nodes_are = h.done.nodes_are; rounds_are = h.done.rounds_are; own_range = h.done.own_range; range = ranged }; rows = h.rows; found = with_row v.config v.found _ h.found (row_by_is_row (setting_of v.config) v.phase.me _ ok.few_nodes); readings = h.readings };
+    closed = refl;
     within = s.within;
-    done = hears v.phase.before (s.done some);
+    done = hears (done_heard (shut v)) refl refl v.phase.before (s.done some);
     rows = λ l. absurd (omega arith);
   })
 ]
@@ -121,17 +131,20 @@ done_taken {N} v a ok h s some low goes = elim (cases_Bool (v.phase.slot == v.co
     e : Expectation
     e = expected_in v v.phase.slot
 
-    ranged : IsRanged (IsClaim (length v.config.graph.tasks)) (heard_done (shut v)).done.heard
+    settled : NodeView N
+    settled = claims_known (done_noted (shut v)) (done_heard (shut v)) a
+
+    heard : NodeView N
+    heard = record (done_noted (shut v)) { done = done_heard (shut v) }
+
+    ranged : IsRanged (IsClaim (length v.config.graph.tasks)) (done_heard (shut v)).heard
     ranged = round_ranged claim_form (IsClaim (length v.config.graph.tasks)) (closed v.arrived) e v.config.nodes (v.phase.slot - 1) v.done s.expects (λ j. claims_speak (of_sender j e))
         (cond-true (nat_le v.phase.slot (v.config.m + 1)) (v.phase.slot - 1) (v.phase.slot - (v.config.m + 3)) (le_is v.phase.slot (v.config.m + 1) low))
         (hears_distinct v v.done.members a h goes (subst (λ (o : Option AgreedView). IfSome o (λ b. Hears v.done v.phase.me b)) goes (s.done some)).members) h.done.range
 
-    done : IsTable (IsClaim (length v.config.graph.tasks)) v.config.nodes v.config.m (heard_done (shut v)).done
-    done = record { nodes_are = h.done.nodes_are; rounds_are = h.done.rounds_are; own_range = h.done.own_range; range = ranged }
-
-    hears : (o : Option AgreedView) → IfSome o (λ b. Hears v.done v.phase.me b) → IfSome o (λ b. Hears (heard_done (shut v)).done v.phase.me b)
-    hears None x = tt
-    hears (Some b) x = record { members = x.members; me_is = x.me_is }
+    hears : (d : Hearing ℕ) → d.members ≡ v.done.members → d.me ≡ v.done.me → (o : Option AgreedView) → IfSome o (λ b. Hears v.done v.phase.me b) → IfSome o (λ b. Hears d v.phase.me b)
+    hears d members me None x = tt
+    hears d members me (Some b) x = record { members = members ∙ x.members; me_is = me ∙ x.me_is }
 
 -- the data slot
 data_taken : {N : ℕ} (v : NodeView N) (a : AgreedView) → IsConfig N v.config → HasSizes v → IsInSlot v → v.phase.slot ≡ v.config.m + 2 → v.phase.before ≡ Some a → IsTaken (after_data (shut v) a)
@@ -144,6 +157,7 @@ data_taken {N} v a ok h s at goes = record {
     found = record { due = h.found.due; notes = row v.phase.full; late = h.found.late; values = h.found.values };
     readings = h.readings;
   };
+  closed = refl;
   within = s.within;
   done = s.done (omega arith);
   rows = λ l. subst (λ (o : Option AgreedView). IfSome o (λ b. Hears (after_data (shut v) a).rows v.phase.me b)) (sym goes) (record { members = refl; me_is = refl });
@@ -164,6 +178,7 @@ report_taken {N} v a ok h s late goes = record {
     found = record { due = h.found.due; notes = h.found.notes; late = row_by_is_row (setting_of v.config) v.phase.me _ ok.few_nodes; values = h.found.values };
     readings = h.readings;
   };
+  closed = refl;
   within = s.within;
   done = s.done (omega arith);
   rows = λ l. hears v.phase.before (s.rows late);
@@ -190,6 +205,7 @@ gt_told a b h = grind (arith, nat_tests)
 later_taken : {N : ℕ} (v : NodeView N) (o : Option AgreedView) → IsConfig N v.config → HasSizes v → IsInSlot v → 0 < v.phase.slot → v.phase.before ≡ o → IsTaken (taken (shut v) o)
 later_taken v None ok h s some goes = record {
   sizes = sizes_shut v h;
+  closed = refl;
   within = s.within;
   done = s.done some;
   rows = λ l. subst (λ (o : Option AgreedView). IfSome o (λ b. Hears v.rows v.phase.me b)) (sym goes) tt;
@@ -231,7 +247,12 @@ end_sound {N} w (Some a) ok h goes = record {
     };
     before = h.before;
     done = h.done;
-    rows = h.rows;
+    rows = record {
+      nodes_are = h.rows.nodes_are;
+      rounds_are = h.rows.rounds_are;
+      own_range = h.rows.own_range;
+      range = nothing_ranged (IsRow w.config.version N w.config.nodes) w.rows.members w.rows.me w.rows.rounds;
+    };
     found = h.found;
     readings = h.readings;
   };

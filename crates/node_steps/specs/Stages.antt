@@ -105,10 +105,10 @@ module _ {N : ℕ} (config : Config N) (i p : ℕ) (g : Inputs) (k : Kept) (x : 
     in_done r rows f w o = stage (suc r) (Some a) (done_table r) rows (found_done r f) w o
 
     abbrev pub in_data : Hearing (List ℕ) → Found → Watch → Outcome → NodeView N
-    in_data rows f w o = stage (config.m + 2) (Some a) (done_table (suc config.m)) rows (found_data f) w o
+    in_data rows f w o = stage (config.m + 2) (Some a) (done_table 0) rows (found_data f) w o
 
     abbrev pub in_report : ℕ → Watch → Outcome → NodeView N
-    in_report r w o = stage (config.m + 3 + r) (Some a) (done_table (suc config.m)) (row_table r) (found_report r) w o
+    in_report r w o = stage (config.m + 3 + r) (Some a) (done_table 0) (row_table r) (found_report r) w o
 
 -- the record of a period's view
 abbrev pub outcome_of : View → Outcome

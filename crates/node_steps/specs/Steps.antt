@@ -4,7 +4,7 @@ use Rattle.std.specs.Cmp.Lexicographic.{pointwise}
 use Rattle.node_grid.specs.Kinds.{state, claim, overrun, deviate, equivocate}
 use Rattle.omh_paths.specs.declared.wrapped.Wrapped.{Wrapped}
 use Rattle.omh_paths.specs.declared.wrapped.Wrapped.TheVariants.{Plain, Fault}
-use Rattle.omh.specs.Heard.{Hearing, ear_of, nothing_heard}
+use Rattle.omh.specs.Heard.{Hearing, ear_of, nothing_heard, forgotten}
 use Rattle.frames.specs.Content.{Content, Expectation}
 use Rattle.frames.specs.Content.Content.{State as StateFrame, Done0, DoneRelay, Data, Report0, ReportRelay, Cold as ColdFrame}
 use Rattle.frames.specs.Spelling.{spelling}
@@ -69,24 +69,27 @@ after_sync v = synced (with_sync v) (if v.phase.full then v.kept.state else adop
 abbrev pub by_conviction : {V : Type 0} → (V → V → Bool) → Hearing V → ℕ → ℕ → Bool
 by_conviction eq h j k = convicts_member eq (ear_of h) j && k == equivocate
 
--- the claims are settled: verdicts, convictions, due channels and own values
-abbrev pub claims_known : {N : ℕ} → NodeView N → AgreedView → NodeView N
-claims_known {N} v a =
+-- the claims are settled by what was heard of them, which is let go: verdicts, convictions, due channels and own values
+abbrev pub claims_known : {N : ℕ} → NodeView N → Hearing ℕ → AgreedView → NodeView N
+claims_known {N} v h a =
     let s = setting_of v.config in
-    let claims = map as_claim (settled_in nat_eq N v.done) in
+    let claims = map as_claim (settled_in nat_eq N h) in
     let w = with_notes v (λ j k. let x = verdict v.config.graph a.standing.members a.copies claims j in (x.claim && k == claim) || (x.overrun && k == overrun)) in
-    let u = with_notes w (by_conviction nat_eq v.done) in
-    record u { found = record u.found { claims = claims; due = due_channels s a claims; own = own_values s v.phase.me v.phase.period v.phase.inputs v.kept } }
+    let u = with_notes w (by_conviction nat_eq h) in
+    record u { done = forgotten h; found = record u.found { claims = claims; due = due_channels s a claims; own = own_values s v.phase.me v.phase.period v.phase.inputs v.kept } }
 
--- what a done slot says
-abbrev pub heard_done : {N : ℕ} → NodeView N → NodeView N
-heard_done v = record (with_notes v (bad_in claim_form (v.phase.slot - 1) v.arrived)) { done = after_round claim_form v.config.nodes v.arrived (v.phase.slot - 1) v.done }
+-- what a done slot says against others
+abbrev pub done_noted : {N : ℕ} → NodeView N → NodeView N
+done_noted v = with_notes v (bad_in claim_form (v.phase.slot - 1) v.arrived)
+
+-- what was heard of claims after a done slot
+abbrev pub done_heard : {N : ℕ} → NodeView N → Hearing ℕ
+done_heard v = after_round claim_form v.config.nodes v.arrived (v.phase.slot - 1) v.done
 
 -- a done slot
 abbrev pub after_done : {N : ℕ} → NodeView N → AgreedView → NodeView N
 after_done v a =
-    let w = heard_done v in
-    if v.phase.slot == v.config.m + 1 then claims_known w a else w
+    if v.phase.slot == v.config.m + 1 then claims_known (done_noted v) (done_heard v) a else record (done_noted v) { done = done_heard v }
 
 -- the data slot: votes, and the node's own row, which is its item in the report slots
 abbrev pub after_data : {N : ℕ} → NodeView N → AgreedView → NodeView N
@@ -97,17 +100,26 @@ after_data v a =
     let row = if v.phase.full then w.found.notes else empty_row s in
     record w { found = record w.found { notes = row; votes = votes }; rows = started v.rows a.standing.members v.phase.me v.phase.full (Plain row) }
 
+-- what a report slot says against others
+abbrev pub report_noted : {N : ℕ} → NodeView N → NodeView N
+report_noted v = with_late v (bad_in row_form (v.phase.slot - (v.config.m + 3)) v.arrived)
+
+-- what was heard of rows after a report slot
+abbrev pub report_heard : {N : ℕ} → NodeView N → Hearing (List ℕ)
+report_heard v = after_round row_form v.config.nodes v.arrived (v.phase.slot - (v.config.m + 3)) v.rows
+
 -- a report slot
 abbrev pub after_report : {N : ℕ} → NodeView N → NodeView N
-after_report v = record (with_late v (bad_in row_form (v.phase.slot - (v.config.m + 3)) v.arrived)) { rows = after_round row_form v.config.nodes v.arrived (v.phase.slot - (v.config.m + 3)) v.rows }
+after_report v = record (report_noted v) { rows = report_heard v }
 
--- the end of a period
-abbrev pub ended : {N : ℕ} → NodeView N → AgreedView → NodeView N
-ended {N} v a =
-    let rows = settled_in (pointwise ◌==◌) N v.rows in
+-- the end of a period: the rows are settled by what was heard of them, which is let go
+abbrev pub ended : {N : ℕ} → NodeView N → Hearing (List ℕ) → AgreedView → NodeView N
+ended {N} v h a =
+    let rows = settled_in (pointwise ◌==◌) N h in
     let after = agreed_after N v.config v.phase.period a v.found.claims rows in
     record v {
-      kept = record { state = Some after; carried = noting v (by_conviction (pointwise ◌==◌) v.rows) v.found.late; votes = v.found.votes; owns = v.found.own };
+      kept = record { state = Some after; carried = noting v (by_conviction (pointwise ◌==◌) h) v.found.late; votes = v.found.votes; owns = v.found.own };
+      rows = forgotten h;
       outcome = record {
         mode = if v.phase.full then Full else Joining;
         agreed = Some after;
@@ -146,7 +158,7 @@ slot_taken v = if v.phase.slot == 0 then after_sync v else taken v v.phase.befor
 
 abbrev pub finished : {N : ℕ} → NodeView N → Option AgreedView → NodeView N
 finished v None = ended_cold v
-finished v (Some a) = ended v a
+finished v (Some a) = ended v v.rows a
 
 -- with this slot open
 abbrev pub slot_open : {N : ℕ} → NodeView N → ℕ → NodeView N

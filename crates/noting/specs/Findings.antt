@@ -5,7 +5,7 @@ use Rattle.frames.specs.Content.{Content, State}
 use Rattle.error_detect.specs.declared.finding.Finding.{Finding}
 use Rattle.error_detect.specs.declared.finding.Finding.TheVariants.{Good}
 use Rattle.error_detect.specs.Finding.{kind_of}
-use Rattle.error_detect.specs.Watching.{Watch, finding_at, told_at}
+use Rattle.error_detect.specs.Watching.{Watch, finding_at, told_at, IsHeardBy}
 use Rattle.error_reports.specs.Notes.{is_kind}
 use Rattle.protocol.specs.Arrival.{Arrival, ItemForm, arrived, is_bad, is_good}
 
@@ -25,11 +25,7 @@ good_in nodes me sync = ids_where (λ j. not (j == me) && is_good (sync j)) node
 abbrev pub found_bad : List Finding → ℕ → ℕ → Bool
 found_bad found j k = is_kind (kind_of (slice_index_or found j Good)) k
 
--- a closed sync slot of a node, one of so many, with this state: if anything is guessed of the frames, it is this
-pub record IsSyncOf (own : List ℕ) (nodes me : ℕ) (w : Watch) : Type 0 where
-  pub nodes_are : w.nodes ≡ nodes
-  pub me_is : w.me ≡ me
-  pub closed : w.is_open ≡ false
-  pub some_slot : IsSome w.expect
+-- a closed sync slot of a node, one of so many
+pub record IsSyncOf (nodes me : ℕ) (w : Watch) : Type 0 where
+  pub heard : IsHeardBy w nodes me
   pub first : IfSome w.expect (λ e. e.slot ≡ 0)
-  pub guessed : IfSome w.guess (λ c. c ≡ State own)

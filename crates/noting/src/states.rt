@@ -3,7 +3,7 @@
 ghost use Rattle.std.specs.Prelude.{◌≡◌, ◌≢◌, ◌<◌, ◌≤◌, ◌==◌, ◌||◌, ◌&&◌, Some, None, if◌then◌else◌};
 ghost use Rattle.node_grid.specs.Capacity.{IsCapacity};
 ghost use Rattle.node_grid.specs.Kinds.{state};
-ghost use Rattle.error_detect.specs.Watching.{findings, told_at};
+ghost use Rattle.error_detect.specs.Watching.{findings, told_at, IsHeardBy};
 ghost use Rattle.error_reports.specs.Notes.{also_noted};
 ghost use Rattle.protocol.specs.Arrival.{arrived, is_bad, body_said};
 ghost use Rattle.protocol.specs.View.{other_body};
@@ -18,12 +18,12 @@ use node_grid::kind::STATE;
 /// Whether another node tells another state than this in the closed sync slot.
 fn tells_other<const N: usize>(watch: &SlotWatch<N>, own: &[u8], node: u8) -> bool
     requires capacity { IsCapacity N }
-    requires sync { IsSyncOf own.now watch.now.nodes watch.now.me watch.now }
+    requires heard { IsHeardBy watch.now watch.now.nodes watch.now.me }
     requires node { node < watch.now.nodes }
     requires other { node ≢ watch.now.me }
     ensures { result ≡ other_body own.now (arrived body_said None (told_at watch.now node)) }
 {
-    let Some(Some(frame)) = watch.told(node) else {
+    let Some(frame) = watch.frame(node) else {
         return false;
     };
     match &frame.body {
@@ -34,7 +34,7 @@ fn tells_other<const N: usize>(watch: &SlotWatch<N>, own: &[u8], node: u8) -> bo
 }
 
 /// Notes what was found of the frames of the closed sync slot, and the nodes whose state is another one than the node's
-/// own, in this period's row. `own` is that state as a frame has it; a frame that was guessed to tell it isn't read.
+/// own, in this period's row. `own` is that state as a frame has it.
 pub fn note_states<const N: usize>(
     notes: &mut RowBuilder<N>,
     watch: &SlotWatch<N>,
@@ -43,7 +43,7 @@ pub fn note_states<const N: usize>(
 )
     requires capacity { IsCapacity N }
     requires few { notes.old.kinds ≤ 16 }
-    requires sync { IsSyncOf own.now notes.old.nodes notes.old.me watch.now }
+    requires sync { IsSyncOf notes.old.nodes notes.old.me watch.now }
     requires found { found.now ≡ findings N watch.now }
     ensures { notes.new ≡ also_noted N notes.old
         (λ j k. is_bad (has_of body_said watch.now j) k ||
@@ -53,7 +53,7 @@ pub fn note_states<const N: usize>(
     notes.note_each(
         |j| -> Option<u8>
             requires capacity { IsCapacity N }
-            requires sync { IsSyncOf own.now watch.now.nodes watch.now.me watch.now }
+            requires heard { IsHeardBy watch.now watch.now.nodes watch.now.me }
             requires node { j < watch.now.nodes }
             requires other { j ≢ watch.now.me }
             ensures { result ≡ (if other_body own.entry.now

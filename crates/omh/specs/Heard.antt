@@ -49,3 +49,7 @@ nothing_heard members me rounds = map (entry (λ path. Fault 0)) (heard_paths me
 -- the entry after a value was heard for a path
 abbrev pub with_heard : {V : Type 0} → List ℕ → Wrapped V → Entry V → Entry V
 with_heard path value e = if same_nodes e.path path then record { path = e.path; value = value } else e
+
+-- the same node once it has forgotten what it heard
+abbrev pub forgotten : {V : Type 0} → Hearing V → Hearing V
+forgotten h = record h { heard = nothing_heard h.members h.me h.rounds }

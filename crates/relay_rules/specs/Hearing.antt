@@ -35,13 +35,6 @@ pushed members r q = map (λ p. p ++ q ∷ []) (paths_of_length (without_id memb
 abbrev pub paths_from : List ℕ → ℕ → ℕ → ℕ → List (List ℕ)
 paths_from members me r q = filter (λ p. not (has_id p me)) (pushed members r q)
 
--- a watch of this node whose slot was closed
-pub record IsHeardBy (w : Watch) (nodes me : ℕ) : Type 0 where
-  pub nodes_are : w.nodes ≡ nodes
-  pub me_is : w.me ≡ me
-  pub closed : w.is_open ≡ false
-  pub some_slot : IsSome w.expect
-
 -- the paths of which the frame of q tells this node in round r
 abbrev pub paths_told : List ℕ → ℕ → ℕ → ℕ → List (List ℕ)
 paths_told members me r q = if has_id members q && not (q == me) then paths_from members me r q else []

@@ -1,7 +1,7 @@
 -- Tables of what is settled, filled in node by node.
-use Rattle.std.proofs.Common.{ℕ, ◌≡◌, ◌≢◌, ◌+◌, ◌<◌, ◌≤◌, List, length, length-set, set, replicate, get_or, get_or-set_other, get_or-set_same, ap, ◌∙◌, sym, inl, inr, arith}
+use Rattle.std.proofs.Common.{ℕ, ◌≡◌, ◌≢◌, ◌+◌, ◌<◌, ◌≤◌, List, length, map, length-set, set, replicate, get_or, get_or-set_other, get_or-set_same, ap, ◌∙◌, sym, inl, inr, arith}
 use Rattle.std.proofs.lemmas.Bool.{cases_lt, cases_eq}
-use Rattle.std.proofs.lemmas.List.{length-replicate, get_or-replicate, get_or_past}
+use Rattle.std.proofs.lemmas.List.{length-map, get_or-map, ext_get_or, length-replicate, get_or-replicate, get_or_past}
 
 -- a table that has below i what a function says, and nothing from there on
 pub record IsFilledBelow {X : Type 0} (capacity : ℕ) (nothing : X) (item : ℕ → X) (i : ℕ) (xs : List X) : Type 0 where
@@ -41,3 +41,10 @@ module _ {X : Type 0} (capacity : ℕ) (nothing : X) (item : ℕ → X) where
     ];
     rest = λ k h. ap (λ zs. get_or zs k nothing) kept ∙ f.rest k (omega arith);
   }
+
+-- filled up to the capacity it is what the function says of another list
+pub filled_all : {X Y : Type 0} (capacity i : ℕ) (nothing : X) (f : Y → X) (ys : List Y) (d : Y) (xs : List X) → length ys ≡ capacity → capacity ≤ i → IsFilledBelow capacity nothing (λ k. f (get_or ys k d)) i xs → xs ≡ map f ys
+filled_all capacity i nothing f ys d xs long end filled =
+    let w = filled.wide in
+    let m = length-map ys f in
+    ext_get_or nothing xs (map f ys) (omega (arith, w, m, long)) (λ k low. filled.so_far k (omega (arith, low, w, end)) ∙ sym (get_or-map f ys k d nothing (omega (arith, low, w, long))))

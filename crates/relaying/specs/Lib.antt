@@ -1,9 +1,7 @@
 pub mod Items
 pub mod ItemLaws
-pub mod Table
 pub mod Round
-pub mod Guessed
-pub mod Tabled
+pub mod Told
 pub use Rattle.relay_rules.specs.Hearing
 pub use Rattle.relay_rules.specs.HearingLaws
 pub use Rattle.relay_rules.specs.Relaying

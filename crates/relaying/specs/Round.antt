@@ -1,5 +1,8 @@
 -- A relay slot of what was heard of an item.
-use Rattle.std.specs.Prelude.{◌≡◌, ℕ}
+use Rattle.std.specs.Prelude.{◌≡◌, ◌≢◌, ◌<◌, ◌≤◌, ◌*◌, ℕ, List, length, slice_index_or}
+use Rattle.omh_paths.specs.declared.wrapped.Wrapped.{Wrapped}
+use Rattle.omh_paths.specs.declared.wrapped.Wrapped.TheVariants.{Fault}
+use Rattle.omh_paths.specs.Wrapped.{wrapped}
 use Rattle.omh.specs.Heard.{Hearing}
 use Rattle.frames.specs.Content.{Expectation, kind_in, round_in}
 use Rattle.relay_rules.specs.Ranged.{HeardIn, IsRanged}
@@ -14,3 +17,9 @@ pub record IsRoundOf {V : Type 0} (capacity kind : ℕ) (in_range : Expectation 
   pub members_are : e.members ≡ h.members
   pub own_ranged : HeardIn (in_range e) 0 h.own
   pub ranged : IsRanged (in_range e) h.heard
+
+-- terms can be wrapped and put, entry by entry, into so many bytes: none was wrapped often, and each entry has this width
+pub record CanPut {V : Type 0} (width : ℕ) (spell : Wrapped V → List ℕ) (terms : List (Wrapped V)) (size : ℕ) : Type 0 where
+  pub few : (k : ℕ) → slice_index_or terms k (Fault 0) ≢ Fault 254
+  pub wide : (k : ℕ) → k < length terms → length (spell (wrapped (slice_index_or terms k (Fault 0)))) ≡ width
+  pub room : width * length terms ≤ size

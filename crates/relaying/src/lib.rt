@@ -2,15 +2,12 @@
 //! settles: once for claims and rows.
 #![tactic(auto)]
 
-mod copying;
-mod guessing;
 mod hearing;
 mod item;
 mod saying;
 mod settling;
-mod writing;
 
 pub use hearing::hear_round;
-pub use item::Item;
-pub use saying::{guess_round, say_round};
-pub use settling::{convicted, settle_claims, settle_member, settle_rows};
+pub use item::RelayedItem;
+pub use saying::say_round;
+pub use settling::{claims_of, rows_of, settle};

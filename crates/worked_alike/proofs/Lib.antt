@@ -1,4 +1,4 @@
-mod Kept
 mod Paths
+mod Rounds
 mod Standing
 mod Told

@@ -1,8 +1,9 @@
 -- Paths of all but one of the members, and those that are one longer.
-use Rattle.std.proofs.Common.{ℕ, ◌≡◌, ◌<◌, not, ◌==◌, ◌||◌, true, false, List, [], ◌∷◌, ◌++◌, sym, ap, ◌∙◌, inl, inr, eqb-true, ne_eqb}
+use Rattle.std.proofs.Common.{ℕ, ◌≡◌, ◌<◌, not, ◌==◌, ◌||◌, true, false, List, [], ◌∷◌, ◌++◌, sym, ap, ◌∙◌, inl, inr, refl, eqb-true, ne_eqb}
+use Rattle.std.specs.List.{filter}
 use Rattle.std.proofs.lemmas.Bool.{or_cases, both_ways, cases_lt}
 use Rattle.node_grid.specs.NodeSet.{has_id, without_id, minus_of, ids_below}
-use Rattle.node_grid.specs.NodeSetLaws.{hasnt-filter}
+use Rattle.node_grid.specs.NodeSetLaws.{hasnt-filter, filter_every}
 use Rattle.node_grid.specs.ListLaws.{has_push}
 use Rattle.omh_paths.specs.PathLaws.{off_from}
 use Rattle.omh_paths.specs.PathLists.{has-of-without, has-without-left}
@@ -36,7 +37,15 @@ longer_among nodes path q within member x on = elim (or_cases (has_id path x) (q
 pub longer_avoids : (members path : List ℕ) (me q : ℕ) → has_id path me ≡ false → has_id (without_id members me) q ≡ true → has_id (path ++ q ∷ []) me ≡ false
 longer_avoids members path me q off other = off_from path q me off (has-without-left members me q other).0
 
--- the first n nodes but some
+-- the first n nodes, and these but some
+pub first_ids : (n : ℕ) (all : List ℕ) → all ≡ ids_below n → (q : ℕ) → has_id all q ≡ true → q < n
+first_ids n all e q on = elim (cases_lt q n) [
+  | inl low ↦ low
+  | inr past ↦
+      let every : filter (λ (k : ℕ). true) (ids_below n) ≡ ids_below n = filter_every (λ (k : ℕ). true) 0 n (λ k l u. refl) in
+      absurd (both_ways _ (ap (λ (s : List ℕ). has_id s q) (sym every) ∙ hasnt-filter (λ (k : ℕ). true) n q past) (sym (ap (λ (s : List ℕ). has_id s q) e) ∙ on))
+]
+
 pub low_ids : (n : ℕ) (out all left : List ℕ) → all ≡ ids_below n → left ≡ minus_of all out → (q : ℕ) → has_id left q ≡ true → q < n
 low_ids n out all left e f q on = elim (cases_lt q n) [
   | inl low ↦ low

@@ -5,6 +5,9 @@ mod charges;
 mod draws;
 mod largest;
 mod lies;
+mod relays;
+mod sayings;
+mod seats;
 mod tables;
 
 fn main(rt: HostRuntime) -> anyhow::Result<()> {

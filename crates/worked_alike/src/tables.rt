@@ -1,94 +1,35 @@
-//! What a node heard, settles, relays, and whom it convicts: the plain table of it, and the store
-//! that keeps it by frames.
+//! What a node passes on, settles, and whom it convicts, of what it heard: by the plain table, and
+//! by the one that a run keeps.
 
-ghost use Rattle.std.specs.Prelude.{ℕ, ◌≡◌, ◌≢◌, ◌<◌, ◌≤◌, ◌+◌, All, true, false, length, IfOk};
+ghost use Rattle.std.specs.Prelude.{ℕ, ◌≡◌, ◌≢◌, ◌+◌, ◌-◌, ◌<◌, ◌≤◌, map, true, false, length};
+ghost use Rattle.std.specs.Prelude.{IfOk};
 ghost use Rattle.node_grid.specs.NodeSet.{has_id, without_id};
 ghost use Rattle.omh_paths.specs.declared.wrapped.Wrapped.TheVariants.{Fault};
 ghost use Rattle.omh_paths.specs.Paths.{path_count};
-ghost use Rattle.heard.specs.Keep.{IsSmall};
+ghost use Rattle.relay_terms.specs.Terms.{said};
+ghost use Rattle.relay_table.specs.Tabled.{AreKnown, kept_nodes};
 
 use crate::draws::Draws;
+use crate::relays::Relays;
+use crate::sayings::{Saying, any_relay, any_told, as_relayed, heard, passed_on, taken_back};
+use crate::seats::Seat;
 use equivocation::convict;
-use heard::Heard;
 use node_grid::{NoMemory, NodeSet};
-use omh::Table;
+use omh::Table as PlainTable;
 use omh_paths::{Path, Wrapped, count_paths, unrank};
+use relay_table::Table;
+use relay_terms::Term;
 use std::alloc::{AllocError, Global};
 use worked_rows::row;
 
 /// How many nodes are drawn for each number of relay rounds.
 const DRAWN: u32 = 60;
 
-/// A node that hears: of so many nodes and relay rounds, which are members, who it is, whether it
-/// is Full, and how many of sixteen values that others say are odd.
-#[derive(Clone, Copy)]
-struct Seat {
-    nodes: u8,
-    rounds: u8,
-    members: NodeSet<16>,
-    me: u8,
-    full: bool,
-    odd: u16,
-    ghost few: { nodes ≤ 16 },
-    ghost short: { rounds ≤ 3 },
-    ghost low: { (q : ℕ) → has_id members q ≡ true → q < nodes },
-    ghost among: { me < nodes },
-}
+/// How many periods each of them goes through, with other members in each.
+const PERIODS: u32 = 2;
 
-impl Seat {
-    /// A drawn one with so many relay rounds.
-    fn drawn(draws: &mut Draws, rounds: u8) -> Seat
-        requires { rounds ≤ 3 }
-    {
-        let nodes = 4 + draws.below(13) as u8;
-        let all = NodeSet::full(nodes);
-        let out = draws.nodes().minus(&draws.nodes()).minus(&draws.nodes());
-        let members = all.minus(&out);
-        Seat {
-            nodes,
-            rounds,
-            members,
-            me: draws.below(nodes as u16) as u8,
-            full: draws.is_one_of_sixteen(12),
-            odd: draws.below(10),
-        }
-    }
-}
-
-/// What a member's frame of a relay round says.
-#[derive(Clone, Copy, PartialEq, Eq)]
-enum Saying {
-    /// No frame comes.
-    Nothing,
-    /// What was heard of each commander itself, wrapped by each relay.
-    Expected,
-    /// What the node itself passes on.
-    Echo,
-    /// What is expected, but for some values.
-    Odd,
-}
-
-impl Saying {
-    fn drawn(draws: &mut Draws) -> Saying {
-        match draws.next() % 8 {
-            0 => Saying::Nothing,
-            1 | 2 | 3 => Saying::Expected,
-            4 | 5 => Saying::Echo,
-            _ => Saying::Odd,
-        }
-    }
-}
-
-/// A value as it may be relayed: an error was wrapped at most three times.
-fn small(value: Wrapped<u8>) -> Wrapped<u8>
-    ensures small { IsSmall 3 result }
-    ensures known { result ≢ Fault 255 }
-{
-    match value {
-        Wrapped::Plain(item) => Wrapped::Plain(item),
-        Wrapped::Fault(count) => Wrapped::Fault(count.min(3)),
-    }
-}
+/// The item of the node itself.
+const OWN: u8 = 2;
 
 /// How many of the sixteen nodes are in a set.
 fn size_of(set: &NodeSet<16>) -> u8
@@ -98,96 +39,69 @@ fn size_of(set: &NodeSet<16>) -> u8
     set.len()
 }
 
-/// Any value that was relayed up to so many times.
-fn any_value(draws: &mut Draws, relays: u8) -> Wrapped<u8> {
-    if draws.is_one_of_sixteen(4) {
-        Wrapped::Fault((draws.next() % (relays as u16 + 1)) as u8)
-    } else {
-        Wrapped::Plain((draws.next() % 3) as u8)
-    }
-}
-
-/// A value that one more relay passed on.
-fn passed_on(value: Wrapped<u8>) -> Wrapped<u8> {
-    match value {
-        Wrapped::Plain(item) => Wrapped::Plain(item),
-        Wrapped::Fault(count) => Wrapped::Fault(count.saturating_add(1)),
-    }
-}
-
-/// What was heard, of what is passed on of it.
-fn taken_back(value: Wrapped<u8>) -> Wrapped<u8>
-    ensures { result ≢ Fault 255 }
+/// What is passed on of the path at a place, if there is such a path.
+fn passed_on_at(terms: &[Term<u8>], place: usize) -> Option<Wrapped<u8>>
+    requires { AreKnown (map said terms.now) }
 {
-    match value {
-        Wrapped::Plain(item) => Wrapped::Plain(item),
-        Wrapped::Fault(count) => Wrapped::Fault(count.saturating_sub(1)),
+    if place < terms.len() {
+        Some(terms[place].wrap().value())
+    } else {
+        None
     }
 }
 
-/// A member's turn to relay in a round.
+/// How many answers were compared, and whether all of them are alike.
+#[derive(Clone, Copy)]
+struct Alike {
+    compared: u32,
+    all: bool,
+}
+
+impl Alike {
+    fn none() -> Alike {
+        Alike {
+            compared: 0,
+            all: true,
+        }
+    }
+
+    /// Takes up two answers.
+    fn add(&mut self, are_alike: bool) {
+        self.compared = self.compared.saturating_add(1);
+        self.all = are_alike && self.all;
+    }
+}
+
+/// What a node answered in its periods, beside the plain program.
+#[derive(Clone, Copy)]
+struct Answers {
+    settle: Alike,
+    relay: Alike,
+    convict: Alike,
+    /// Whether it convicted a member.
+    convicts: bool,
+    /// Whether it settled no item of a member.
+    errs: bool,
+}
+
+impl Answers {
+    fn none() -> Answers {
+        Answers {
+            settle: Alike::none(),
+            relay: Alike::none(),
+            convict: Alike::none(),
+            convicts: false,
+            errs: false,
+        }
+    }
+}
+
+/// A member's turn to relay in a round, and what its frame says.
 #[derive(Clone, Copy)]
 struct Turn {
     sender: u8,
     round: u8,
-}
-
-/// A member's frame of a relay round: a value for each path of the others.
-#[derive(Drop)]
-struct Frame {
-    sender: u8,
-    round: u8,
-    others: NodeSet<16>,
-    values: Vec<Wrapped<u8>>,
-    ghost some: { 0 < round },
-    ghost few: { round ≤ 3 },
-    ghost count: { length values.items ≡ path_count (length others) round },
-}
-
-/// Puts the values of a frame into the table of node `me`, path by path.
-fn put_frame(table: &mut Table<u8, 16>, frame: &Frame, me: u8)
-    requires me { me ≡ table.old.me }
-    requires sender { has_id (without_id table.old.members me) frame.now.sender ≡ true }
-    requires others { frame.now.others ≡ without_id table.old.members frame.now.sender }
-    requires short { frame.now.round ≤ table.old.rounds }
-    ensures { table.new ≡ record table.old { heard = table.new.heard } }
-{
-    for k in 0..frame.values.len() {
-        let path = unrank(&frame.others, frame.round, k);
-        if path.has(me) {
-            continue;
-        }
-        table.put(&path.then(frame.sender), small(frame.values[k]));
-    }
-}
-
-/// Lets the store hear all values of a frame.
-fn hear_values(heard: &mut Heard<u8, 16>, frame: &Frame)
-    requires { All (IsSmall 3) frame.now.values.items }
-{
-    let paths = count_paths(size_of(&heard.members()).saturating_sub(1), frame.round);
-    if frame.values.len() == paths {
-        heard.hear_frame(frame.sender, frame.round, frame.values.as_slice());
-    }
-}
-
-/// Lets the store hear a frame that says this.
-fn hear_frame(heard: &mut Heard<u8, 16>, frame: &Frame, saying: Saying)
-    requires { All (IsSmall 3) frame.now.values.items }
-{
-    let (q, r) = (frame.sender, frame.round);
-    let is_taken = match saying {
-        Saying::Nothing => {
-            heard.miss_frame(q, r);
-            true
-        }
-        Saying::Expected => heard.hear_expected(q, r),
-        Saying::Echo => heard.hear_echo(q, r),
-        Saying::Odd => false,
-    };
-    if !is_taken {
-        hear_values(heard, frame);
-    }
+    saying: Saying,
 }
 
 /// What one node heard, in both; and what it heard of each node itself.
@@ -195,32 +109,68 @@ fn hear_frame(heard: &mut Heard<u8, 16>, frame: &Frame, saying: Saying)
 struct Pair {
     seat: Seat,
     roots: [Wrapped<u8>; 16],
-    table: Table<u8, 16>,
-    heard: Heard<u8, 16>,
-    ghost members: { table.members ≡ seat.members },
-    ghost me: { table.me ≡ seat.me },
-    ghost rounds: { table.rounds ≡ seat.rounds },
+    plain: PlainTable<u8, 16>,
+    live: Table<u8, 16>,
+    ghost nodes: { (plain.nodes ≡ seat.nodes) × (live.nodes ≡ seat.nodes) },
+    ghost rounds: { (plain.rounds ≡ seat.rounds) × (live.rounds ≡ seat.rounds) },
+    ghost members: { (plain.members ≡ seat.members) × (live.members ≡ seat.members) },
+    ghost me: { (plain.me ≡ seat.me) × (live.me ≡ seat.me) },
 }
 
 impl Pair {
-    fn open(alloc: Global, seat: &Seat) -> Result<Pair, NoMemory> {
-        let mut table: Table<u8, 16> = Table::open(alloc, seat.nodes, seat.rounds)?;
-        let mut heard: Heard<u8, 16> = Heard::open(alloc, seat.nodes, seat.rounds)?;
-        table.start(&seat.members, seat.me, seat.full, Wrapped::Plain(2));
-        heard.start(&seat.members, seat.me, seat.full, Wrapped::Plain(2));
+    /// Both tables of a node, before there are members.
+    fn open(alloc: Global, nodes: u8, rounds: u8) -> Result<Pair, NoMemory>
+        requires some_nodes { 0 < nodes }
+        requires few { nodes ≤ 16 }
+        requires some { 0 < rounds }
+        requires short { rounds ≤ 3 }
+    {
         Ok(Pair {
-            seat: *seat,
+            seat: Seat::first(nodes, rounds),
             roots: [Wrapped::Fault(0); 16],
-            table,
-            heard,
+            plain: PlainTable::open(alloc, nodes, rounds)?,
+            live: Table::open(alloc, nodes, rounds)?,
         })
+    }
+
+    /// Begins a period with drawn members.
+    fn start(&mut self, draws: &mut Draws) {
+        let seat = self.seat.drawn(draws);
+        self.plain
+            .start(&seat.members, seat.me, seat.full, Wrapped::Plain(OWN));
+        self.live.start(&seat.members, seat.me, seat.full, OWN);
+        self.roots = [Wrapped::Fault(0); 16];
+        self.seat = seat;
     }
 
     /// Whether this is another member.
     fn is_other(&self, q: u8) -> bool
-        ensures { result ≡ true → has_id (without_id self.now.seat.members self.now.seat.me) q ≡ true }
+        ensures other { result ≡ true
+            → has_id (without_id self.now.seat.members self.now.seat.me) q ≡ true }
+        ensures low { result ≡ true → q < self.now.seat.nodes }
     {
         self.seat.members.without(self.seat.me).has(q)
+    }
+
+    /// Hears what another member tells of itself, if it tells an item.
+    fn hear_item(&mut self, member: u8, told: Option<u8>)
+        requires { has_id (without_id self.old.seat.members self.old.seat.me) member ≡ true }
+        ensures { self.new.seat ≡ self.old.seat }
+    {
+        self.plain.put(&Path::root(member), heard(told));
+        self.live.hear_item(member, told);
+        if member < 16 {
+            self.roots[member as usize] = heard(told);
+        }
+    }
+
+    /// Hears what each other member tells of itself.
+    fn hear_items(&mut self, draws: &mut Draws) {
+        for member in 0..self.seat.nodes {
+            if self.is_other(member) {
+                self.hear_item(member, any_told(draws));
+            }
+        }
     }
 
     /// What is expected to be said of a node after so many relays.
@@ -237,20 +187,22 @@ impl Pair {
 
     /// What a member's frame says of a path of other members.
     fn said(&self, draws: &mut Draws, saying: Saying, path: &Path) -> Wrapped<u8>
-        requires members { (q : ℕ) → has_id path.now q ≡ true → has_id self.now.seat.members q ≡ true }
+        requires members { (q : ℕ) → has_id path.now q ≡ true
+            → has_id self.now.seat.members q ≡ true }
+        requires some { 0 < length path.now }
         requires short { length path.now ≤ self.now.seat.rounds }
     {
         let relays = path.len();
         if path.has(self.seat.me) {
-            return any_value(draws, relays);
+            return any_relay(draws, relays);
         }
         match saying {
             Saying::Nothing => Wrapped::Fault(0),
-            Saying::Echo => self.table.relay(path),
+            Saying::Echo => self.plain.relay(path),
             Saying::Expected => self.expected(path.at(0), relays),
             Saying::Odd => {
                 if draws.is_one_of_sixteen(self.seat.odd) {
-                    any_value(draws, relays)
+                    any_relay(draws, relays)
                 } else {
                     self.expected(path.at(0), relays)
                 }
@@ -258,149 +210,119 @@ impl Pair {
         }
     }
 
-    /// A member's frame of a relay round, which says this.
-    fn frame(
-        &self,
-        rt: &HostRuntime,
-        draws: &mut Draws,
-        saying: Saying,
-        turn: Turn,
-    ) -> Result<Frame, AllocError>
+    /// Puts what a member says of a path of others into the plain table, where the node itself
+    /// isn't on it.
+    fn put_relay(&mut self, path: &Path, sender: u8, value: Wrapped<u8>)
+        requires path { (q : ℕ) → has_id path.now q ≡ true
+            → has_id (without_id self.old.seat.members sender) q ≡ true }
+        requires short { length path.now ≤ self.old.seat.rounds }
+        requires sender { has_id (without_id self.old.seat.members self.old.seat.me) sender ≡ true }
+        requires known { value ≢ Fault 255 }
+        ensures { self.new.seat ≡ self.old.seat }
+    {
+        if !path.has(self.seat.me) {
+            self.plain.put(&path.then(sender), value);
+        }
+    }
+
+    /// Takes a member's frame: each entry is put into the plain table, and written.
+    fn take_frame(&mut self, draws: &mut Draws, turn: Turn, relays: &mut Relays)
+        requires sender { has_id (without_id self.old.seat.members self.old.seat.me) turn.sender
+            ≡ true }
         requires low { turn.sender < 16 }
         requires some { 0 < turn.round }
-        requires short { turn.round ≤ self.now.seat.rounds }
-        ensures is { IfOk result (λ f. (f.sender ≡ turn.sender) × ((f.round ≡ turn.round) × (f.others ≡ without_id self.now.seat.members turn.sender))) }
-        ensures small { IfOk result (λ f. All (IsSmall 3) f.values.items) }
+        requires short { turn.round ≤ self.old.seat.rounds }
+        requires entries { relays.old.entries
+            ≡ path_count (length self.old.seat.members - 1) turn.round }
+        ensures seat { self.new.seat ≡ self.old.seat }
+        ensures entries { relays.new.entries ≡ relays.old.entries }
+        ensures came { relays.new.came ≡ relays.old.came }
     {
-        let Turn { sender, round } = turn;
-        let others = self.seat.members.without(sender);
-        let mut values = Vec::new(rt.alloc());
-        for k in 0..count_paths(size_of(&others), round) {
-            let path = unrank(&others, round, k);
-            let value = self.said(draws, saying, &path);
-            values.push(small(value))?;
-        }
-        Ok(Frame {
+        let Turn {
             sender,
             round,
-            others,
-            values,
-        })
-    }
-
-    /// Hears of another member itself.
-    fn hear_root(&mut self, draws: &mut Draws, q: u8)
-        requires { has_id (without_id self.old.seat.members self.old.seat.me) q ≡ true }
-    {
-        let value = small(any_value(draws, 0));
-        self.table.put(&Path::root(q), value);
-        if value == Wrapped::Fault(0) {
-            self.heard.miss_frame(q, 0);
-        } else {
-            self.heard.put_root(q, value);
-        }
-        if q < 16 {
-            self.roots[q as usize] = value;
+            saying,
+        } = turn;
+        let others = self.seat.members.without(sender);
+        for place in 0..count_paths(size_of(&others), round) {
+            let path = unrank(&others, round, place);
+            let value = as_relayed(self.said(draws, saying, &path));
+            relays.write(sender, place, value);
+            self.put_relay(&path, sender, value);
         }
     }
 
-    /// Hears a node's frame of a round, if it is another member and there is such a round.
-    fn hear(
+    /// The frames of a relay round that come, as the plain table heard them.
+    fn relays(
         &mut self,
         rt: &HostRuntime,
         draws: &mut Draws,
-        q: u8,
-        r: u8,
-    ) -> Result<(), AllocError> {
-        if !self.is_other(q) || q >= 16 || r > self.seat.rounds {
-            return Ok(());
-        }
-        if r == 0 {
-            self.hear_root(draws, q);
-            return Ok(());
-        }
-        let saying = Saying::drawn(draws);
-        let turn = Turn {
-            sender: q,
-            round: r,
-        };
-        let frame = self.frame(rt, draws, saying, turn)?;
-        let me = self.seat.me;
-        put_frame(&mut self.table, &frame, me);
-        hear_frame(&mut self.heard, &frame, saying);
-        Ok(())
-    }
-
-    /// Hears all frames of all rounds, and up to three drawn ones once more.
-    fn hear_all(&mut self, rt: &HostRuntime, draws: &mut Draws) -> Result<(), AllocError> {
-        let seat = self.seat;
-        for r in 0..seat.rounds + 1 {
-            for q in 0..seat.nodes {
-                self.hear(rt, draws, q, r)?;
+        round: u8,
+    ) -> Result<Relays, AllocError>
+        requires some { 0 < round }
+        requires short { round ≤ self.old.seat.rounds }
+        ensures seat { self.new.seat ≡ self.old.seat }
+        ensures entries { IfOk result (λ relays. relays.entries
+            ≡ path_count (length self.old.seat.members - 1) round) }
+        ensures came { IfOk result (λ relays. (q : ℕ) → has_id relays.came q ≡ true
+            → has_id (without_id self.old.seat.members self.old.seat.me) q ≡ true) }
+    {
+        let entries = count_paths(size_of(&self.seat.members).saturating_sub(1), round);
+        let mut relays = Relays::open(rt.alloc(), entries)?;
+        for sender in 0..16u8 {
+            let saying = Saying::drawn(draws);
+            if self.is_other(sender) && saying != Saying::Nothing {
+                let turn = Turn {
+                    sender,
+                    round,
+                    saying,
+                };
+                self.take_frame(draws, turn, &mut relays);
+                relays.take(sender);
             }
         }
-        for _ in 0..draws.below(4) {
-            let q = draws.below(16) as u8;
-            let r = draws.below(4) as u8;
-            self.hear(rt, draws, q, r)?;
-        }
-        Ok(())
+        Ok(relays)
     }
 
-    /// Whether both settle a node alike, if it is a member.
-    fn settles_alike(&mut self, c: u8) -> bool {
-        if !self.seat.members.has(c) || !self.heard.members().has(c) {
-            return !self.seat.members.has(c);
-        }
-        self.table.settle(c) == self.heard.settle(c)
+    /// Lets the table hear the frames of a relay round.
+    fn hear_round(&mut self, relays: &Relays, round: u8)
+        requires some { 0 < round }
+        requires short { round ≤ self.old.seat.rounds }
+        requires kept { round < kept_nodes self.old.seat.rounds }
+        requires entries { relays.now.entries ≡ path_count (length self.old.seat.members - 1) round }
+        requires came { (q : ℕ) → has_id relays.now.came q ≡ true
+            → has_id (without_id self.old.seat.members self.old.seat.me) q ≡ true }
+        ensures { self.new.seat ≡ self.old.seat }
+    {
+        let mut frames = relays.round();
+        self.live.hear_round(&mut frames, round);
     }
 
-    /// Whether both settle each member alike.
-    fn settle_alike(&mut self) -> bool {
-        let mut are_alike = true;
-        for c in 0..16 {
-            are_alike = self.settles_alike(c) && are_alike;
-        }
-        are_alike
-    }
-
-    /// Whether both pass on the same of each path of so many of the others.
-    fn relay_paths_alike(&self, len: u8) -> bool
-        requires some { 0 < len }
-        requires short { len ≤ self.now.seat.rounds + 1 }
+    /// Compares what both pass on in a relay round.
+    fn relay_alike(&self, round: u8, alike: &mut Alike)
+        requires some { 0 < round }
+        requires short { round ≤ self.now.seat.rounds }
     {
         let others = self.seat.members.without(self.seat.me);
-        for place in 0..count_paths(size_of(&others), len) {
-            let path = unrank(&others, len, place);
-            if self.table.relay(&path) != self.heard.relay(&path) {
-                return false;
-            }
+        let terms = self.live.heard(round);
+        for place in 0..count_paths(size_of(&others), round) {
+            let path = unrank(&others, round, place);
+            let plain = self.plain.relay(&path);
+            alike.add(passed_on_at(terms, place) == Some(plain));
         }
-        true
     }
 
-    /// Whether both pass on the same of each path.
-    fn relay_alike(&self) -> bool {
-        for relays in 0..self.seat.rounds + 1 {
-            if !self.relay_paths_alike(relays + 1) {
-                return false;
-            }
-        }
-        true
-    }
-
-    /// What the table has of another member itself.
+    /// What the plain table has of another member itself.
     fn heard_of(&self, c: u8) -> Wrapped<u8>
         requires { has_id (without_id self.now.seat.members self.now.seat.me) c ≡ true }
         ensures { result ≢ Fault 255 }
     {
-        taken_back(self.table.relay(&Path::root(c)))
+        taken_back(self.plain.relay(&Path::root(c)))
     }
 
-    /// Whether the node convicts another member, by the plain test over what the table has.
+    /// Whether the node convicts another member, by the plain test over what the plain table has.
     fn convicts_plainly(&self, c: u8) -> bool
-        requires member { has_id (without_id self.now.seat.members self.now.seat.me) c ≡ true }
-        requires some { 0 < self.now.seat.rounds }
+        requires { has_id (without_id self.now.seat.members self.now.seat.me) c ≡ true }
     {
         let seat = &self.seat;
         let others = seat.members.without(seat.me);
@@ -409,7 +331,7 @@ impl Pair {
         for place in 0..count_paths(size_of(&others), 2) {
             let path = unrank(&others, 2, place);
             if path.at(0) == c && count < 15 {
-                relays[count] = taken_back(self.table.relay(&path));
+                relays[count] = taken_back(self.plain.relay(&path));
                 count += 1;
             }
         }
@@ -417,56 +339,136 @@ impl Pair {
         convict(self.heard_of(c), &relays[..count], is_counted, seat.rounds)
     }
 
-    /// Whether the node convicts a member.
-    fn convicts_somebody(&mut self) -> bool {
+    /// Compares whom both convict.
+    fn convict_alike(&self, answers: &mut Answers) {
+        let convicted = self.live.convicted();
         for c in 0..16 {
-            if self.heard.convicts(c) {
-                return true;
-            }
+            let is_convicted = self.is_other(c) && self.convicts_plainly(c);
+            answers.convict.add(convicted.has(c) == is_convicted);
         }
-        false
+        answers.convicts = answers.convicts || !convicted.is_empty();
     }
 
-    /// Whether each node is convicted by both, or by neither. Without a relay round nobody is.
-    fn convict_alike(&mut self) -> bool {
-        let mut are_alike = true;
-        for c in 0..16 {
-            let is_convicted = self.seat.rounds > 0 && self.is_other(c) && self.convicts_plainly(c);
-            are_alike = self.heard.convicts(c) == is_convicted && are_alike;
+    /// What the plain table settles of a node's item: nothing where it is no member.
+    fn settled_plainly(&mut self, c: u8) -> Wrapped<u8>
+        ensures { self.new.seat ≡ self.old.seat }
+    {
+        if self.seat.members.has(c) {
+            self.plain.settle(c)
+        } else {
+            Wrapped::Fault(0)
         }
-        are_alike
+    }
+
+    /// Compares what both settle once the frames of the last relay round came.
+    fn settle_alike(&mut self, relays: &Relays, answers: &mut Answers)
+        requires entries { relays.now.entries
+            ≡ path_count (length self.old.seat.members - 1) self.old.seat.rounds }
+        requires came { (q : ℕ) → has_id relays.now.came q ≡ true
+            → has_id (without_id self.old.seat.members self.old.seat.me) q ≡ true }
+    {
+        let mut items = [Term::nothing(); 16];
+        let mut frames = relays.round();
+        self.live.settle_round(&mut frames, &mut items);
+        for c in 0..16u8 {
+            let item = &items[c as usize];
+            let plain = self.settled_plainly(c);
+            answers.settle.add(item.value() == plain);
+            answers.errs = answers.errs || self.is_other(c) && item.is_nothing();
+        }
+    }
+
+    /// Ends a period: hears the frames of the last relay round where their terms are kept,
+    /// convicts, settles, and forgets.
+    fn end(
+        &mut self,
+        rt: &HostRuntime,
+        draws: &mut Draws,
+        answers: &mut Answers,
+    ) -> Result<(), AllocError> {
+        let rounds = self.seat.rounds;
+        self.relay_alike(rounds, &mut answers.relay);
+        let relays = self.relays(rt, draws, rounds)?;
+        if rounds < 2 {
+            self.hear_round(&relays, rounds);
+        }
+        self.convict_alike(answers);
+        self.settle_alike(&relays, answers);
+        self.live.forget();
+        Ok(())
+    }
+
+    /// Goes through a period with drawn members and frames, as a node of a run does.
+    fn period(
+        &mut self,
+        rt: &HostRuntime,
+        draws: &mut Draws,
+        answers: &mut Answers,
+    ) -> Result<(), AllocError> {
+        self.start(draws);
+        self.hear_items(draws);
+        for round in 1..self.seat.rounds {
+            self.relay_alike(round, &mut answers.relay);
+            let relays = self.relays(rt, draws, round)?;
+            self.hear_round(&relays, round);
+        }
+        self.end(rt, draws, answers)
     }
 }
 
-/// How many drawn nodes settle, relay and convict alike, and how many convict somebody.
+/// How many drawn nodes settle, relay and convict alike, how many convict somebody, how many settle
+/// no item of some member, and how many answers were compared.
 #[derive(Clone, Copy, Default)]
 struct Counts {
     settle: u32,
     relay: u32,
     convict: u32,
     convicting: u32,
+    erring: u32,
+    compared: u32,
 }
 
-/// Adds one drawn node with so many relay rounds.
-fn count_one(
-    rt: &HostRuntime,
-    draws: &mut Draws,
-    rounds: u8,
-    counts: &mut Counts,
-) -> anyhow::Result<()>
-    requires { rounds ≤ 3 }
+impl Counts {
+    /// Adds one drawn node.
+    fn add(&mut self, answers: &Answers) {
+        self.settle = self.settle.saturating_add(answers.settle.all as u32);
+        self.relay = self.relay.saturating_add(answers.relay.all as u32);
+        self.convict = self.convict.saturating_add(answers.convict.all as u32);
+        self.convicting = self.convicting.saturating_add(answers.convicts as u32);
+        self.erring = self.erring.saturating_add(answers.errs as u32);
+        for alike in [answers.settle, answers.relay, answers.convict] {
+            self.compared = self.compared.saturating_add(alike.compared);
+        }
+    }
+}
+
+/// What a drawn node with so many relay rounds answers in its periods.
+fn answers_of_one(rt: &HostRuntime, draws: &mut Draws, rounds: u8) -> anyhow::Result<Answers>
+    requires some { 0 < rounds }
+    requires short { rounds ≤ 3 }
 {
-    let seat = Seat::drawn(draws, rounds);
-    let Ok(mut pair) = Pair::open(rt.alloc(), &seat) else {
+    let nodes = 4 + draws.below(13) as u8;
+    let Ok(mut pair) = Pair::open(rt.alloc(), nodes, rounds) else {
         return Err(AllocError.into());
     };
-    pair.hear_all(rt, draws)?;
-    counts.settle = counts.settle.saturating_add(pair.settle_alike() as u32);
-    counts.relay = counts.relay.saturating_add(pair.relay_alike() as u32);
-    counts.convicting = counts
-        .convicting
-        .saturating_add(pair.convicts_somebody() as u32);
-    counts.convict = counts.convict.saturating_add(pair.convict_alike() as u32);
+    let mut answers = Answers::none();
+    for _ in 0..PERIODS {
+        pair.period(rt, draws, &mut answers)?;
+    }
+    Ok(answers)
+}
+
+/// Prints what was counted.
+fn print_counts(rt: &HostRuntime, counts: &Counts) -> anyhow::Result<()> {
+    row(rt, "  nodes drawn", DRAWN)?;
+    row(rt, "  of which settle alike", counts.settle)?;
+    row(rt, "  relay alike", counts.relay)?;
+    row(rt, "  convict alike", counts.convict)?;
+    row(rt, "  answers compared", counts.compared)?;
+    row(rt, "  some convict a member", counts.convicting > 0)?;
+    row(rt, "  some convict nobody", counts.convicting < DRAWN)?;
+    row(rt, "  some settle no item of a member", counts.erring > 0)?;
+    row(rt, "  some settle one of each", counts.erring < DRAWN)?;
     Ok(())
 }
 
@@ -475,15 +477,10 @@ pub fn print(rt: &HostRuntime) -> anyhow::Result<()> {
     for rounds in 1..4 {
         let mut counts = Counts::default();
         for _ in 0..DRAWN {
-            count_one(rt, &mut draws, rounds, &mut counts)?;
+            counts.add(&answers_of_one(rt, &mut draws, rounds)?);
         }
         row(rt, "relay rounds", rounds)?;
-        row(rt, "  nodes drawn", DRAWN)?;
-        row(rt, "  of which settle alike", counts.settle)?;
-        row(rt, "  relay alike", counts.relay)?;
-        row(rt, "  convict alike", counts.convict)?;
-        row(rt, "  some convict a member", counts.convicting > 0)?;
-        row(rt, "  some convict nobody", counts.convicting < DRAWN)?;
+        print_counts(rt, &counts)?;
     }
     Ok(())
 }

@@ -8,13 +8,7 @@ use worked_rows::{row, rows};
 
 pub fn print(rt: &HostRuntime) -> io::Result<()> {
     let longest = frame_bound(16, 3, 1090, 8);
-    let watch: Result<SlotWatch<16>, NoMemory> = SlotWatch::open(
-        rt.alloc(),
-        16,
-        15,
-        longest,
-        longest,
-    );
+    let watch: Result<SlotWatch<16>, NoMemory> = SlotWatch::open(rt.alloc(), 16, 15, longest);
     rows(
         rt,
         &[

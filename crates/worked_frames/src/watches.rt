@@ -47,7 +47,7 @@ fn found(rt: &HostRuntime, asked: &str, arriving: &[(u8, &[u8])]) -> anyhow::Res
     let Ok(mut rooms) = Rooms::open(rt.alloc(), 4, longest) else {
         return Err(AllocError.into());
     };
-    let Ok(mut watch) = SlotWatch::<8>::open(rt.alloc(), 4, 0, longest, 0) else {
+    let Ok(mut watch) = SlotWatch::<8>::open(rt.alloc(), 4, 0, longest) else {
         return Err(AllocError.into());
     };
     watch.swap_rooms(&mut rooms);

@@ -7,7 +7,6 @@ ghost use Rattle.node_steps.specs.Steps.{shut, taken};
 use super::Controller;
 use data_slot::DataSlot;
 use noting::note_values;
-use omh_paths::Wrapped;
 
 impl<'c, const N: usize> Controller<'c, N> {
     /// Closes the data slot: votes on the due channels, notes what is against the others, finishes
@@ -36,11 +35,6 @@ impl<'c, const N: usize> Controller<'c, N> {
         }
         self.found.notes = notes;
         self.found.votes = voted.votes;
-        self.rows.start(
-            &agreed.members,
-            self.phase.me,
-            self.phase.full,
-            Wrapped::Plain(notes.row()),
-        );
+        self.rows.start(&agreed.members, self.phase.me, self.phase.full, notes.row());
     }
 }

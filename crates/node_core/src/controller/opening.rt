@@ -1,26 +1,24 @@
 //! A node before its first period.
 
-ghost use Rattle.std.specs.Prelude.{◌≡◌, ℕ, ◌*◌, ◌+◌, ◌<◌, ◌≤◌, IfOk, Ok};
+ghost use Rattle.std.specs.Prelude.{◌≡◌, ◌<◌, ◌≤◌, IfOk};
 ghost use Rattle.node_grid.specs.Capacity.{IsCapacity};
 ghost use Rattle.node_grid.specs.Version.{kind_count};
-ghost use Rattle.omh_paths.specs.declared.wrapped.Wrapped.TheVariants.{Fault};
-ghost use Rattle.omh_paths.specs.Paths.{path_count};
 ghost use Rattle.frames.specs.Bound.{IsGreatest};
 ghost use Rattle.error_detect.specs.Watching.{fresh};
 ghost use Rattle.agreed_state.specs.Body.{state_len};
 ghost use Rattle.agreed_state.specs.Config.{IsConfig};
-ghost use Rattle.node_steps.specs.Fresh.{newly_open, unused};
-ghost use Rattle.node_core.specs.Inside.{HasRooms, found_of, none_found};
+ghost use Rattle.node_steps.specs.Fresh.{newly_open};
+ghost use Rattle.node_core.specs.Inside.{found_of, none_found, IsPlace, AreUnused};
 
-use super::{Buffers, Controller, Findings, Keeping, Phase};
+use super::{Controller, Findings, Keeping, Phase};
 use crate::outcome::NodeRecord;
 use agreed_state::{Agreed, Config, Inputs};
 use arrayvec::ArrayVec;
 use error_detect::SlotWatch;
 use error_reports::RowBuilder;
-use heard::Heard;
 use node_grid::{NoMemory, NodeSet, Row};
-use omh_paths::{Wrapped, count_paths};
+use omh_paths::Wrapped;
+use relay_table::Table;
 use slot_plan::Slot;
 use std::alloc::Global;
 
@@ -30,66 +28,6 @@ fn kind_count(version: u8) -> u8
     ensures few { result ≤ 16 }
 {
     if version == 1 { 8 } else { 16 }
-}
-
-/// The most entries that the table of a relay round has among so many nodes, in `m` rounds.
-fn most_entries(nodes: u8, m: u8) -> usize
-    requires nodes { nodes ≤ 16 }
-    requires rounds { m ≤ 3 }
-    ensures most { (r : ℕ) → r ≤ m → path_count nodes r ≤ result }
-    ensures few { result ≤ 65536 }
-{
-    let mut most = 0;
-    for round in 0..m + 1 {
-        let count = count_paths(nodes, round);
-        if most < count {
-            most = count;
-        }
-    }
-    most
-}
-
-/// The most bytes that the table of a relay round has among so many nodes, in `m` rounds.
-fn most_bytes(nodes: u8, m: u8) -> usize
-    requires nodes { nodes ≤ 16 }
-    requires rounds { m ≤ 3 }
-    ensures { (r : ℕ) → r ≤ m → path_count nodes r * (1 + 2 * nodes) ≤ result }
-{
-    most_entries(nodes, m) * (1 + 2 * nodes as usize)
-}
-
-/// Both of two, where both could be had.
-fn both<A: Drop, B: Drop>(
-    one: Result<A, NoMemory>,
-    other: Result<B, NoMemory>,
-) -> Result<(A, B), NoMemory>
-    ensures { IfOk result (λ p. (one ≡ Ok p.0) × (other ≡ Ok p.1)) }
-{
-    let one = one?;
-    let other = other?;
-    Ok((one, other))
-}
-
-impl<const N: usize> Buffers<N> {
-    /// Room for the entries of frames of so many nodes, in `m` rounds.
-    fn open(alloc: Global, nodes: u8, m: u8) -> Result<Buffers<N>, NoMemory>
-        requires nodes { nodes ≤ 16 }
-        requires rounds { m ≤ 3 }
-        ensures { IfOk result (λ b. HasRooms nodes m b) }
-    {
-        let most = most_entries(nodes, m);
-        let Ok(claims) = Vec::with_capacity(alloc, most) else {
-            return Err(NoMemory);
-        };
-        let Ok(rows) = Vec::with_capacity(alloc, most) else {
-            return Err(NoMemory);
-        };
-        Ok(Buffers {
-            claims,
-            rows,
-            spare: Vec::new(alloc),
-        })
-    }
 }
 
 impl<const N: usize> Findings<N> {
@@ -126,39 +64,29 @@ impl<'c, const N: usize> Controller<'c, N> {
         requires capacity { IsCapacity N }
         requires config { IsConfig N config.now }
         requires me { me < config.now.nodes }
-        requires greatest { IsGreatest config.now.nodes config.now.m (state_len config.now) 8 frame_max }
+        requires greatest { IsGreatest config.now.nodes config.now.m (state_len config.now) 8
+            frame_max }
         ensures { IfOk result (λ p. p ≡ newly_open config.now me frame_max) }
     {
-        let tables = both(
-            Heard::open(alloc, config.nodes, config.m),
-            Heard::open(alloc, config.nodes, config.m),
-        );
-        let guess_max = most_bytes(config.nodes, config.m);
-        let rooms = both(
-            SlotWatch::open(alloc, config.nodes, me, frame_max, guess_max),
-            Buffers::open(alloc, config.nodes, config.m),
-        );
-        let ((done, rows), (watch, buffers)) = both(tables, rooms)?;
-        Ok(Controller::before_first(config, me, done, rows, watch, buffers))
+        let done = Table::open(alloc, config.nodes, config.m)?;
+        let rows = Table::open(alloc, config.nodes, config.m)?;
+        let watch = SlotWatch::open(alloc, config.nodes, me, frame_max)?;
+        Ok(Controller::before_first(config, me, done, rows, watch))
     }
 
     /// Node `me` before the first period, with these tables, of which none was used yet.
     fn before_first(
         config: &'c Config<N>,
         me: u8,
-        done: Heard<u8, N>,
-        rows: Heard<Row<N>, N>,
+        done: Table<u8, N>,
+        rows: Table<Row<N>, N>,
         watch: SlotWatch<N>,
-        buffers: Buffers<N>,
     ) -> Controller<'c, N>
-        requires capacity { IsCapacity N }
-        requires config { IsConfig N config.now }
-        requires me { me < config.now.nodes }
-        requires done { done ≡ unused config.now.nodes config.now.m }
-        requires rows { rows ≡ unused config.now.nodes config.now.m }
+        requires place { IsPlace N config.now me }
+        requires unused { AreUnused config.now done rows }
         requires watch { watch ≡ fresh config.now.nodes me watch.frame_max }
-        requires greatest { IsGreatest config.now.nodes config.now.m (state_len config.now) 8 watch.frame_max }
-        requires rooms { HasRooms config.now.nodes config.now.m buffers }
+        requires greatest { IsGreatest config.now.nodes config.now.m (state_len config.now) 8
+            watch.frame_max }
         ensures { result ≡ newly_open config.now me watch.entry.frame_max }
     {
         let notes = RowBuilder::new(config.nodes, me, kind_count(config.version));
@@ -187,7 +115,6 @@ impl<'c, const N: usize> Controller<'c, N> {
             found: Findings::none(notes),
             watch,
             outcome: NodeRecord::cold(),
-            buffers,
         }
     }
 }

@@ -1,36 +1,27 @@
 //! From slot to slot, and from period to period.
 
-ghost use Rattle.std.specs.Prelude.{◌≡◌, ◌+◌, ◌≤◌, true, length, IfSome};
+ghost use Rattle.std.specs.Prelude.{◌≡◌, ◌+◌, ◌≤◌, true, length};
 ghost use Rattle.node_grid.specs.Capacity.{IsCapacity};
 ghost use Rattle.slot_plan.specs.Slots.{slot_number, IsSlot};
 ghost use Rattle.frames.specs.Seen.{expected};
-ghost use Rattle.agreed_state.specs.Agreed.{IsAgreed};
 ghost use Rattle.node_steps.specs.Sound.{IsSound, IsTaken};
-ghost use Rattle.node_steps.specs.Steps.{after_slot, begun, expected_in, next_open, slot_open};
+ghost use Rattle.node_steps.specs.Steps.{after_slot, begun, expected_in, slot_open};
 
 use super::{Controller, Findings, Phase};
 use agreed_state::Inputs;
-use error_detect::Form;
 use frames::Expect;
 use node_grid::NodeSet;
-use relaying::guess_round;
 use slot_plan::Slot;
 
 impl<'c, const N: usize> Controller<'c, N> {
-    /// Begins a period, and opens its first slot, in which a node that has a state guesses that
-    /// each other one tells the same.
+    /// Begins a period, and opens its first slot.
     pub fn begin(&mut self, period: u32, inputs: &Inputs)
-        requires capacity { IsCapacity N }
-        requires kept { IfSome self.old.kept.state (λ a. IsAgreed N self.old.config a) }
+        requires { IsCapacity N }
         ensures { self.new ≡ begun self.old period inputs.now }
     {
         let me = self.phase.me;
         let expect = self.config.expect(period, 0, me, &NodeSet::empty(), 0);
         self.watch.open_slot(&expect);
-        if let Some(agreed) = &self.kept.state {
-            let state = agreed.body(self.config);
-            self.watch.guess(Form::State, state.as_slice());
-        }
         self.phase = Phase {
             me,
             period,
@@ -59,8 +50,7 @@ impl<'c, const N: usize> Controller<'c, N> {
             .expect(self.phase.period, number, self.phase.me, &members, due)
     }
 
-    /// Opens a slot after the first one. In a relay slot it guesses that each other member passes
-    /// on what the node itself does.
+    /// Opens a slot after the first one.
     fn open_slot(&mut self, slot: Slot)
         requires capacity { IsCapacity N }
         requires slot { IsSlot self.old.config.m slot }
@@ -71,29 +61,6 @@ impl<'c, const N: usize> Controller<'c, N> {
         let expect = self.expectation(slot);
         self.watch.open_slot(&expect);
         self.phase.slot = slot;
-        let round = slot.round();
-        if round == 0 || self.phase.before.is_none() {
-            return;
-        }
-        let spare = &mut self.buffers.spare;
-        match slot {
-            Slot::Claims(_) => guess_round(&mut self.watch, &self.done, round, spare),
-            Slot::Rows(_) => guess_round(&mut self.watch, &self.rows, round, spare),
-            Slot::Sync | Slot::Data => {}
-        }
-    }
-
-    /// Opens the next slot, or ends the period where that was the last one.
-    fn open_next(&mut self)
-        requires capacity { IsCapacity N }
-        requires taken { IsTaken self.old }
-        ensures { self.new ≡ next_open self.old }
-    {
-        let number = self.phase.slot.number(self.config.m);
-        match Slot::at(self.config.m, number + 1) {
-            Some(slot) => self.open_slot(slot),
-            None => self.end_period(),
-        }
     }
 
     /// Ends the open slot: takes what it says, and opens the next one, or ends the period.
@@ -103,8 +70,13 @@ impl<'c, const N: usize> Controller<'c, N> {
         requires open { self.old.phase.is_open ≡ true }
         ensures { self.new ≡ after_slot self.old }
     {
-        let _ = &self.config;
-        self.take_slot();
-        self.open_next();
+        let number = self.phase.slot.number(self.config.m);
+        match Slot::at(self.config.m, number + 1) {
+            Some(next) => {
+                self.take_slot();
+                self.open_slot(next);
+            }
+            None => self.end_period(),
+        }
     }
 }

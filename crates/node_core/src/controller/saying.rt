@@ -81,7 +81,7 @@ impl<'c, const N: usize> Controller<'c, N> {
             return;
         }
         let expect = self.expectation(Slot::Claims(round));
-        say_round(&self.watch, &self.done, &expect, round, out);
+        say_round(&self.done, &expect, round, out);
     }
 
     /// Writes the node's own values of the due channels, in the data slot.
@@ -124,7 +124,7 @@ impl<'c, const N: usize> Controller<'c, N> {
             return;
         }
         let expect = self.expectation(Slot::Rows(round));
-        say_round(&self.watch, &self.rows, &expect, round, out);
+        say_round(&self.rows, &expect, round, out);
     }
 
     /// Writes what the Full node says, by the slot.

@@ -1,6 +1,6 @@
 //! What a slot's end takes of what the slot says.
 
-ghost use Rattle.std.specs.Prelude.{◌≡◌, true};
+ghost use Rattle.std.specs.Prelude.{◌≡◌, ◌+◌, ◌*◌, ◌<◌, true};
 ghost use Rattle.node_steps.specs.Sound.{IsSound};
 ghost use Rattle.node_steps.specs.Steps.{shut, slot_taken};
 
@@ -8,10 +8,11 @@ use super::Controller;
 use slot_plan::Slot;
 
 impl<'c, const N: usize> Controller<'c, N> {
-    /// Closes the open slot, and takes what it says.
+    /// Closes the open slot, which isn't the last one of the period, and takes what it says.
     pub(super) fn take_slot(&mut self)
         requires sound { IsSound self.old }
         requires open { self.old.phase.is_open ≡ true }
+        requires early { self.old.phase.slot < 2 * self.old.config.m + 3 }
         ensures { self.new ≡ slot_taken (shut self.old) }
     {
         match self.phase.slot {

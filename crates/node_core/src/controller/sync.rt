@@ -2,7 +2,7 @@
 
 ghost use Rattle.std.specs.Prelude.{◌≡◌, ◌≤◌, true, false, None, IfSome, if◌then◌else◌, length};
 ghost use Rattle.node_grid.specs.Capacity.{IsCapacity};
-ghost use Rattle.error_detect.specs.Watching.{told_at};
+ghost use Rattle.error_detect.specs.Watching.{told_at, IsHeardBy};
 ghost use Rattle.agreed_state.specs.Agreed.{IsAgreed};
 ghost use Rattle.agreed_state.specs.Config.{IsConfig};
 ghost use Rattle.protocol.specs.Arrival.{arrived, body_said};
@@ -11,7 +11,6 @@ ghost use Rattle.protocol.specs.View.{adopted_by, content};
 ghost use Rattle.noting.specs.Findings.{has_of};
 ghost use Rattle.node_steps.specs.Sound.{IsSound};
 ghost use Rattle.node_steps.specs.Steps.{after_sync, shut};
-ghost use Rattle.node_core.specs.HeardBy.{IsHeardBy};
 
 use super::{Controller, Phase};
 use crate::adopting::adopt;
@@ -19,7 +18,6 @@ use crate::claim::own_claim;
 use agreed_state::{Agreed, Config};
 use error_detect::SlotWatch;
 use noting::{good_senders, note_states};
-use omh_paths::Wrapped;
 
 /// The state with which a node goes through a period: the one that it keeps where it had one when
 /// the period began, and else one that it adopts from the closed sync slot, if it can.
@@ -32,8 +30,7 @@ fn state_of_period<const N: usize>(
     requires capacity { IsCapacity N }
     requires config { IsConfig N config.now }
     requires kept { IfSome kept.now (λ a. IsAgreed N config.now a) }
-    requires watching { phase.now.full ≡ false →
-        IsHeardBy watch.now config.now.nodes phase.now.me }
+    requires watching { IsHeardBy watch.now config.now.nodes phase.now.me }
     requires sized { (j : _) →
         IfSome (content (arrived body_said None (told_at watch.now j))) (λ b. length b ≤ 1152) }
     ensures state { result ≡ (if phase.now.full then kept.now
@@ -71,6 +68,6 @@ impl<'c, const N: usize> Controller<'c, N> {
         let body = agreed.body(self.config);
         note_states(&mut self.found.notes, &self.watch, &found, body.as_slice());
         let claim = own_claim(agreed, me, &self.phase.inputs);
-        self.done.start(&agreed.members, me, self.phase.full, Wrapped::Plain(claim));
+        self.done.start(&agreed.members, me, self.phase.full, claim);
     }
 }

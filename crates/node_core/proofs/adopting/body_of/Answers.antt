@@ -47,7 +47,7 @@ frame-requires g c =
           heard.closed,
           (
             heard.some_slot,
-            (subst (λ (n : ℕ). c.args.node < n) (sym heard.nodes_are) c.if-node-nodes.false, (λ e. c.if-node-me.false (e ∙ heard.me_is), heard.unguessed)),
+            (subst (λ (n : ℕ). c.args.node < n) (sym heard.nodes_are) c.if-node-nodes.false, λ e. c.if-node-me.false (e ∙ heard.me_is)),
           ),
         ),
       ),

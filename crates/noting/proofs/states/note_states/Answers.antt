@@ -17,7 +17,7 @@ returns g c =
     let own = c.args.own.now in
     let found = c.args.found.now in
     let sync = c.requires.sync in
-    let slot = the_slot w.expect sync.some_slot sync.first in
+    let slot = the_slot w.expect sync.heard.some_slot sync.first in
     let gives : ℕ → Option ℕ = λ j. if other_body own (arrived body_said None (told_at w j)) then Some state else None in
     c.note_each.ensures.row gives (λ j x low used other ran. search rules)
     ∙ ap (λ (v : Notes). also_noted g.row.N v (λ j k. is_kind (gives j) k)) c.note_found.ensures
@@ -26,6 +26,6 @@ returns g c =
     (λ j k low used other within.
     ap₂ ◌||◌
     (ap (λ (fs : List Finding). found_bad fs j k) c.requires.found
-    ∙ states_found g.row.N n w slot.0 (record { nodes_are = sync.nodes_are; me_is = sync.me_is; expects = slot.1 }) slot.2 j k low used other within)
+    ∙ states_found g.row.N n w slot.0 (record { nodes_are = sync.heard.nodes_are; me_is = sync.heard.me_is; expects = slot.1 }) slot.2 j k low used other within)
     (kind_where (other_body own (arrived body_said None (told_at w j))) state k
-    ∙ ap (λ (b : Bool). b && k == state) (other_told own w slot.0 j slot.1 (let z = sync.nodes_are in omega arith) (λ q. other (q ∙ sync.me_is)))))
+    ∙ ap (λ (b : Bool). b && k == state) (other_told own w slot.0 j slot.1 (let z = sync.heard.nodes_are in omega arith) (λ q. other (q ∙ sync.heard.me_is)))))

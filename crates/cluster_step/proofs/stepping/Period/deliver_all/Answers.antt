@@ -1,8 +1,7 @@
 use Rattle.std.proofs.Common.{ℕ, ◌≡◌, ◌-◌, List, map, inl, inr, lit<, ap, ap₂, ◌∙◌, arith}
 use Rattle.agreed_state.specs.declared.config.Config.{Config}
-use Rattle.guessed_frames.specs.Common.{frame_by}
 use Rattle.scenario.specs.Scenario.{ScenarioView}
-use Rattle.cluster_periods.specs.Slots.{by_senders}
+use Rattle.cluster_periods.specs.Slots.{by_senders, frame_by}
 use Rattle.cluster_step.proofs.Pieces.{all_here, ready_still}
 use Rattle.cluster_step.proofs.stepping.Period.deliver_all.Goals as goal
 
@@ -15,56 +14,14 @@ config-requires g c = elim c.requires.capacity [ inl e ↦ rw e (lit< tt, lit< t
 pub deliver_senders-requires : goal.deliver_senders-requires
 deliver_senders-requires g c =
     let sc : ScenarioView g.row.N = c.args.self.now.scenario.now in
-    let nodes : c.config.result.now.nodes ≡ sc.config.nodes = ap (λ (y : Config g.row.N). y.nodes) c.config.ensures.config in (
-      lit< tt,
-      (
-        lit< tt,
-        (
-          elim c.requires.capacity [ inl e ↦ rw e (lit< tt) | inr e ↦ rw e (lit< tt) ],
-          (
-            c.requires.capacity,
-            (
-              c.requires.ready,
-              (
-                c.requires.slot,
-                (
-                  omega (arith, nodes, c.order-order.ensures.order, c.order-order.ensures.scenario.order),
-                  (omega (arith, nodes), (c.requires.each, (c.requires.short, c.requires.known))),
-                ),
-              ),
-            ),
-          ),
-        ),
-      ),
-    )
+    let nodes : c.config.result.now.nodes ≡ sc.config.nodes = ap (λ (y : Config g.row.N). y.nodes) c.config.ensures.config in
+    (lit< tt, (elim c.requires.capacity [ inl e ↦ rw e (lit< tt) | inr e ↦ rw e (lit< tt) ], (c.requires.capacity, (c.requires.ready, (c.requires.slot, ((omega (arith, nodes, c.order-order.ensures.order, c.order-order.ensures.scenario.order), omega (arith, nodes)), c.requires.frames))))))
 
 pub deliver_senders-requires-2 : goal.deliver_senders-requires-2
 deliver_senders-requires-2 g c =
-    let sc : ScenarioView g.row.N = c.args.self.now.scenario.now in (
-      lit< tt,
-      (
-        lit< tt,
-        (
-          elim c.requires.capacity [ inl e ↦ rw e (lit< tt) | inr e ↦ rw e (lit< tt) ],
-          (
-            c.requires.capacity,
-            (
-              ready_still sc.plan c.args.node.now c.deliver_senders.new.node _ c.deliver_senders.ensures c.requires.ready,
-              (
-                c.requires.slot,
-                (
-                  omega arith,
-                  (
-                    omega (arith, c.order-order.ensures.order, c.order-order.ensures.scenario.order),
-                    (c.requires.each, (c.requires.short, c.requires.known)),
-                  ),
-                ),
-              ),
-            ),
-          ),
-        ),
-      ),
-    )
+    let sc : ScenarioView g.row.N = c.args.self.now.scenario.now in
+    let ready = ready_still sc.plan c.args.node.now c.deliver_senders.new.node _ c.deliver_senders.ensures c.requires.ready in
+    (lit< tt, (elim c.requires.capacity [ inl e ↦ rw e (lit< tt) | inr e ↦ rw e (lit< tt) ], (c.requires.capacity, (ready, (c.requires.slot, ((omega arith, omega (arith, c.order-order.ensures.order, c.order-order.ensures.scenario.order)), c.requires.frames))))))
 
 pub returns : goal.returns
 returns g c =

@@ -53,17 +53,17 @@ step_slot-requires g c =
         (
           elim c.requires.capacity [ inl e ↦ rw e (lit< tt) | inr e ↦ rw e (lit< tt) ],
           (
-            lit< tt,
+            c.requires.capacity,
             (
-              c.requires.capacity,
+              low,
               (
-                low,
+                subst (All (IsReady sc.plan)) (sym at) (is.ready c.loop-slot.slot low),
                 (
-                  subst (All (IsReady sc.plan)) (sym at) (is.ready c.loop-slot.slot low),
-                  (
-                    omega (arith, c.loop-slot.auto.nodes, c.begin_all.auto.nodes, many_nodes sc room p c.args.nodes.now c.requires.before.before, shape.nodes),
-                    (omega (arith, c.loop-slot.auto.nodes, c.begin_all.auto.nodes, many_nodes sc room p c.args.nodes.now c.requires.before.before, wf.system.config.few_nodes), (all_short sc room c.loop-slot.nodes c.loop-slot.shown wf.system.config c.requires.capacity c.requires.before.greatest shape (subst (All (λ (v : NodeView g.row.N). v.arrived.frame_max ≤ room)) (sym at) (is.roomy c.loop-slot.slot low)), shape)),
-                  ),
+                  record {
+                    each = omega (arith, c.loop-slot.auto.nodes, c.begin_all.auto.nodes, many_nodes sc room p c.args.nodes.now c.requires.before.before, shape.nodes);
+                    short = all_short sc room c.loop-slot.nodes c.loop-slot.shown wf.system.config c.requires.capacity c.requires.before.greatest shape (subst (All (λ (v : NodeView g.row.N). v.arrived.frame_max ≤ room)) (sym at) (is.roomy c.loop-slot.slot low));
+                  },
+                  shape,
                 ),
               ),
             ),

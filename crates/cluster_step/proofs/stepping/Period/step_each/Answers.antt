@@ -1,8 +1,7 @@
-use Rattle.cluster_step.proofs.Shared.{offset_fits}
+use Rattle.cluster_step.proofs.Slotting.{offset_fits}
 use Rattle.std.proofs.Common.{ℕ, List, [], get_or, inl, inr, lit<, ap, subst, sym, ◌∙◌, arith, ◌<◌, refl, length}
-use Rattle.std.specs.Prelude.{All, slice_index_or}
+use Rattle.std.specs.Prelude.{slice_index_or}
 use Rattle.slot_plan.specs.Slots.{slot_count}
-use Rattle.guessed_frames.specs.Common.{Common, AreGuessedIn, frame_by}
 use Rattle.node_steps.specs.Parts.{NodeView}
 use Rattle.scenario.specs.Scenario.{ScenarioView}
 use Rattle.cluster_periods.specs.Slots.{through_slot, IsReady}
@@ -23,23 +22,8 @@ step_node-requires g c =
     let ready : IsReady sc.plan node = subst (IsReady sc.plan) c.node-item.is (holds_here (IsReady sc.plan) (through_slot sc.plan sc.order sc.config.nodes c.args.self.now.number c.args.slot frames) c.args.nodes.now c.loop-node.nodes c.loop-node.node-index c.node-item.result c.loop-node-test.true c.loop-node.invariant c.node-item.is c.requires.ready) in (
       lit< tt,
       (
-        lit< tt,
-        (
-          elim c.requires.capacity [ inl e ↦ rw e (lit< tt) | inr e ↦ rw e (lit< tt) ],
-          (
-            c.requires.capacity,
-            (
-              ready,
-              (
-                c.requires.slot,
-                (
-                  c.frames-frames.ensures.each ∙ c.requires.shape.nodes,
-                  (c.frames-frames.ensures.short, subst (λ (fs : List (List ℕ)). All (λ (x : Common). AreGuessedIn x (frame_by fs)) c.args.commons.now) (sym c.frames-frames.ensures.bytes) c.requires.known),
-                ),
-              ),
-            ),
-          ),
-        ),
+        elim c.requires.capacity [ inl e ↦ rw e (lit< tt) | inr e ↦ rw e (lit< tt) ],
+        (c.requires.capacity, (ready, (c.requires.slot, record { each = c.frames-frames.ensures.each ∙ c.requires.shape.nodes; short = c.frames-frames.ensures.short }))),
       ),
     )
 
@@ -63,4 +47,4 @@ pub loop-node-smaller : goal.loop-node-smaller
 loop-node-smaller g c = omega (arith, c.loop-node-test.true)
 
 pub offset_bounds-nodes-node-index : goal.offset_bounds-nodes-node-index
-offset_bounds-nodes-node-index g c = record { fits = offset_fits c.loop-node.node-index (length c.args.nodes.now) _ c.loop-node-test.true c.well_formed.1.1.1.1.0.1 }
+offset_bounds-nodes-node-index g c = record { fits = offset_fits c.loop-node.node-index (length c.args.nodes.now) _ c.loop-node-test.true c.well_formed.1.1.1.0.1 }

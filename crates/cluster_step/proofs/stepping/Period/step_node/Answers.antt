@@ -14,17 +14,8 @@ deliver_all-requires g c =
     let sc : ScenarioView g.row.N = c.args.self.now.scenario.now in (
       lit< tt,
       (
-        lit< tt,
-        (
-          elim c.requires.capacity [ inl e ↦ rw e (lit< tt) | inr e ↦ rw e (lit< tt) ],
-          (
-            c.requires.capacity,
-            (
-              subst (IsReady sc.plan) (sym c.swap_rooms.ensures) c.requires.ready,
-              (c.requires.slot, (c.requires.each, (c.requires.short, c.requires.known))),
-            ),
-          ),
-        ),
+        elim c.requires.capacity [ inl e ↦ rw e (lit< tt) | inr e ↦ rw e (lit< tt) ],
+        (c.requires.capacity, (subst (IsReady sc.plan) (sym c.swap_rooms.ensures) c.requires.ready, (c.requires.slot, c.requires.frames))),
       ),
     )
 

@@ -1,7 +1,6 @@
-use Rattle.std.proofs.Common.{ℕ, List, [], map, inl, inr, lit<, ap, subst, sym, arith}
-use Rattle.std.specs.Prelude.{All, slice_index_or}
+use Rattle.std.proofs.Common.{[], map, inl, inr, lit<, ap, arith}
+use Rattle.std.specs.Prelude.{slice_index_or}
 use Rattle.slot_plan.specs.Slots.{slot_count}
-use Rattle.guessed_frames.specs.Common.{Common, AreGuessedIn, frame_by}
 use Rattle.node_steps.specs.Steps.{frame_of}
 use Rattle.cluster_step.proofs.Slotting.{slot_done, open_all, shape_kept, taken_frames}
 use Rattle.cluster_step.proofs.stepping.Period.step_slot.Goals as goal
@@ -18,46 +17,22 @@ take_frames-requires g c =
             omega (arith, c.requires.slot, ap slot_count shape.m),
             (
               open_all c.args.self.now.scenario.now.plan c.args.nodes.now c.requires.ready,
-              (c.requires.each, c.requires.short),
+              (c.requires.room.each, c.requires.room.short),
             ),
           ),
         ),
       ),
     )
 
-pub find_commons-requires : goal.find_commons-requires
-find_commons-requires g c = (
-  elim c.requires.capacity [ inl e ↦ rw e (lit< tt) | inr e ↦ rw e (lit< tt) ],
-  (
-    lit< tt,
-    (
-      c.requires.capacity,
-      (open_all c.args.self.now.scenario.now.plan c.args.nodes.now c.requires.ready, c.requires.few),
-    ),
-  ),
-)
-
 pub step_each-requires : goal.step_each-requires
 step_each-requires g c =
-    let taken = taken_frames c.args.slot c.args.shown.now c.take_frames.new.self (map frame_of c.args.nodes.now) (let many = c.requires.shape.slots in omega (arith, c.requires.slot, many)) c.take_frames.ensures in (
+    let shape = shape_kept c.args.self.now.scenario.now.config c.args.slot c.args.shown.now c.take_frames.new.self (map frame_of c.args.nodes.now) c.requires.shape c.take_frames.ensures in (
       lit< tt,
       (
         elim c.requires.capacity [ inl e ↦ rw e (lit< tt) | inr e ↦ rw e (lit< tt) ],
         (
-          lit< tt,
-          (
-            elim c.requires.capacity [ inl e ↦ rw e (lit< tt) | inr e ↦ rw e (lit< tt) ],
-            (
-              c.requires.capacity,
-              (
-                c.requires.ready,
-                (
-                  shape_kept c.args.self.now.scenario.now.config c.args.slot c.args.shown.now c.take_frames.new.self (map frame_of c.args.nodes.now) c.requires.shape c.take_frames.ensures,
-                  (c.requires.slot, subst (λ (fs : List (List ℕ)). All (λ (x : Common). AreGuessedIn x (frame_by fs)) c.find_commons.new.commons) (sym taken) c.find_commons.ensures),
-                ),
-              ),
-            ),
-          ),
+          elim c.requires.capacity [ inl e ↦ rw e (lit< tt) | inr e ↦ rw e (lit< tt) ],
+          (c.requires.capacity, (c.requires.ready, (shape, c.requires.slot))),
         ),
       ),
     )

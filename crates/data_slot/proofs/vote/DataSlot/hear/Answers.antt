@@ -34,7 +34,7 @@ values_from-requires g c =
       lit< tt,
       (
         elim cap [ inl e ↦ rw e (lit< tt) | inr e ↦ rw e (lit< tt) ],
-        (cap, (r.config, (r.due, (r.closed, (r.some_slot, (r.unguessed, (r.nodes, (r.me, c.loop-from-test.true)))))))),
+        (cap, (r.config, (r.due, (r.heard, c.loop-from-test.true)))),
       ),
     )
 

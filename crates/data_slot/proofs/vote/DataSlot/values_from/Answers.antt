@@ -20,9 +20,9 @@ returns-then-from-self g c x on =
     let slot = c.args.self.now in
     let w = c.args.watch.now in
     c.values_in_frame.ensures x on
-    ∙ ap (λ n. value_in slot.due.now (arrived values_in None (option_map (λ f. content n f.body) c.frame.result)) x) (sym c.requires.nodes)
+    ∙ ap (λ n. value_in slot.due.now (arrived values_in None (option_map (λ f. content n f.body) c.frame.result)) x) (sym c.requires.heard.nodes_are)
     ∙ ap (λ o. value_in slot.due.now (arrived values_in None o) x) c.frame.ensures.told
-    ∙ from_other slot.me slot.full slot.due.now slot.own.now w c.args.from x c.if-from-self.true c.requires.some_slot (subst (λ n. c.args.from < n) (sym c.requires.nodes) c.requires.from) c.requires.me
+    ∙ from_other slot.me slot.full slot.due.now slot.own.now w c.args.from x c.if-from-self.true c.requires.heard.some_slot (subst (λ n. c.args.from < n) (sym c.requires.heard.nodes_are) c.requires.from) c.requires.heard.me_is
 
 pub returns-then-self : goal.returns-then-self
 returns-then-self g c x on =

@@ -47,4 +47,4 @@ returns-clause-off g c =
 pub hear-told-requires : goal.hear-told-requires
 hear-told-requires g c =
     let cap : IsCapacity g.row.N = c.requires.capacity in
-    (lit< tt, (elim cap [ inl e ↦ rw e (lit< tt) | inr e ↦ rw e (lit< tt) ], (elim cap [ inl e ↦ rw e (lit< tt) | inr e ↦ rw e (lit< tt) ], (cap, (c.requires.config, (c.requires.due, (c.requires.closed, (c.requires.some_slot, (c.requires.unguessed, (c.requires.nodes, c.requires.me))))))))))
+    (lit< tt, (elim cap [ inl e ↦ rw e (lit< tt) | inr e ↦ rw e (lit< tt) ], (elim cap [ inl e ↦ rw e (lit< tt) | inr e ↦ rw e (lit< tt) ], (cap, (c.requires.config, (c.requires.due, c.requires.heard))))))

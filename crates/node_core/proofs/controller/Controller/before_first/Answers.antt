@@ -1,12 +1,10 @@
 use Rattle.std.proofs.Common.{ap₂, sym, ap, subst, ◌∙◌, inl, inr, lit<, ℕ, ◌≡◌, List, Some, replicate}
 use Rattle.error_detect.specs.Watching.{Watch, fresh}
 use Rattle.error_reports.specs.Notes.{Notes}
-use Rattle.agreed_state.specs.ConfigLaws.{few_rounds}
 use Rattle.node_core.specs.Inside.{AreItsNotes, none_found}
 use Rattle.omh.specs.Heard.{Hearing}
 use Rattle.agreed_state.specs.Agreed.{AgreedView, first_agreed}
 use Rattle.agreed_state.specs.declared.config.Config.{Config}
-use Rattle.relaying.specs.Guessed.{unguessed}
 use Rattle.protocol.specs.Configured.{setting_of}
 use Rattle.protocol.specs.View.{first_kept}
 use Rattle.node_steps.specs.Fresh.{newly_open, unused}
@@ -17,22 +15,21 @@ use Rattle.node_core.proofs.controller.Controller.before_first.Goals as goal
 
 pub new-notes-requires : goal.new-notes-requires
 new-notes-requires g c = (
-  elim c.requires.capacity [ inl e ↦ rw e (lit< tt) | inr e ↦ rw e (lit< tt) ],
-  (c.requires.capacity, (c.requires.config.few_nodes, c.kind_count.ensures.few)),
+  elim c.requires.place.capacity [ inl e ↦ rw e (lit< tt) | inr e ↦ rw e (lit< tt) ],
+  (c.requires.place.capacity, (c.requires.place.few, c.kind_count.ensures.few)),
 )
 
 pub first-requires : goal.first-requires
 first-requires g c = (
-  elim c.requires.capacity [ inl e ↦ rw e (lit< tt) | inr e ↦ rw e (lit< tt) ],
-  (elim c.requires.capacity [ inl e ↦ rw e (lit< tt) | inr e ↦ rw e (lit< tt) ], (c.requires.capacity, c.requires.config)),
+  elim c.requires.place.capacity [ inl e ↦ rw e (lit< tt) | inr e ↦ rw e (lit< tt) ],
+  (elim c.requires.place.capacity [ inl e ↦ rw e (lit< tt) | inr e ↦ rw e (lit< tt) ], (c.requires.place.capacity, c.requires.place.config_is)),
 )
 
 pub cold-requires : goal.cold-requires
-cold-requires g c = (elim c.requires.capacity [ inl e ↦ rw e (lit< tt) | inr e ↦ rw e (lit< tt) ], c.requires.capacity)
+cold-requires g c = (elim c.requires.place.capacity [ inl e ↦ rw e (lit< tt) | inr e ↦ rw e (lit< tt) ], c.requires.place.capacity)
 
 pub invariant_of-result : goal.invariant_of-result
 invariant_of-result g c =
-    let ok = c.requires.config in
     let w = c.requires.watch in
     let its : AreItsNotes c.args.config.now c.args.me c.new-notes.result = record {
       nodes = ap (λ (x : Notes). x.nodes) c.new-notes.ensures;
@@ -40,7 +37,7 @@ invariant_of-result g c =
       kinds = ap (λ (x : Notes). x.kinds) c.new-notes.ensures ∙ c.kind_count.ensures.count;
     } in
     record {
-      place = record { capacity = c.requires.capacity; few = ok.few_nodes; me_low = c.requires.me; few_rounds = few_rounds g.row.N c.args.config.now ok; config_is = ok };
+      place = c.requires.place;
       slot = tt;
       watch = record {
         nodes = ap (λ (x : Watch). x.nodes) w;
@@ -50,15 +47,13 @@ invariant_of-result g c =
       };
       kept_notes = its;
       notes = subst (AreItsNotes c.args.config.now c.args.me) (sym c.none.ensures.notes) its;
-      rooms = c.requires.rooms;
-      guessed = λ o h. absurd (shut_open (ap (λ (x : Watch). x.is_open) w) h);
     }
 
 pub kind_count-requires : goal.kind_count-requires
 kind_count-requires g c = tt
 
 pub none-requires : goal.none-requires
-none-requires g c = (elim c.requires.capacity [ inl e ↦ rw e (lit< tt) | inr e ↦ rw e (lit< tt) ], (elim c.requires.capacity [ inl e ↦ rw e (lit< tt) | inr e ↦ rw e (lit< tt) ], c.requires.capacity))
+none-requires g c = (elim c.requires.place.capacity [ inl e ↦ rw e (lit< tt) | inr e ↦ rw e (lit< tt) ], (elim c.requires.place.capacity [ inl e ↦ rw e (lit< tt) | inr e ↦ rw e (lit< tt) ], c.requires.place.capacity))
 
 -- what is opened is seen as a node before its first period
 abbrev made : {N : ℕ} → Config N → ℕ → ℕ → AgreedView → List ℕ → Hearing ℕ → Hearing (List ℕ) → Found → Watch → Outcome → NodeView N
@@ -67,7 +62,7 @@ made config me frame_max a carried done rows found w o = record (newly_open conf
   done = done;
   rows = rows;
   found = found;
-  arrived = unguessed w;
+  arrived = w;
   outcome = o;
 }
 
@@ -81,4 +76,4 @@ module _ {N : ℕ} (config : Config N) (me frame_max : ℕ) (a : AgreedView) (x 
       ∙ ap (λ (p : Outcome). made config me frame_max (first_agreed N config) (replicate N 0) (unused config.nodes config.m) (unused config.nodes config.m) (none_found N (record { nodes = config.nodes; me = me; kinds = 0; row = replicate N 0; carried = replicate N 0 })) (fresh config.nodes me frame_max) p) cold
 
 pub returns : goal.returns
-returns g c = fresh_seen c.args.config.now c.args.me c.args.watch.frame_max _ _ _ _ _ _ _ c.first.ensures.first c.new-notes.ensures c.requires.done c.requires.rows c.none.ensures.found c.requires.watch c.cold.ensures
+returns g c = fresh_seen c.args.config.now c.args.me c.args.watch.frame_max _ _ _ _ _ _ _ c.first.ensures.first c.new-notes.ensures c.requires.unused.done_is c.requires.unused.rows_are c.none.ensures.found c.requires.watch c.cold.ensures

@@ -8,12 +8,11 @@ use Rattle.error_detect.specs.Watching.{Watch, findings}
 use Rattle.error_reports.specs.Notes.{Notes}
 use Rattle.agreed_state.specs.Agreed.{AgreedView, IsAgreed}
 use Rattle.protocol.specs.RowLaws.{kinds-few}
-use Rattle.relaying.specs.Guessed.{unguessed}
 use Rattle.node_steps.specs.Parts.{NodeView}
 use Rattle.node_steps.specs.Sound.{IsSound}
 use Rattle.node_steps.specs.Steps.{started, after_sync, shut}
 use Rattle.node_core.specs.Inside.{seen}
-use Rattle.node_core.proofs.HeardStates.{joining_watch, states_sized, good_are, none_seen, own_state, own_seen, states_kept}
+use Rattle.node_core.proofs.HeardStates.{heard_watch, states_sized, good_are, none_seen, sync_slot, own_seen, states_kept}
 use Rattle.node_core.proofs.controller.Controller.hear_states.Goals as goal
 
 pub close-found-requires : goal.close-found-requires
@@ -35,7 +34,7 @@ state_of_period-self-inside-requires g c =
     let first : (seen n).phase.slot ≡ 0 = ap (λ (v : NodeView g.row.N). v.phase.slot) is ∙ c.requires.slot in
     let u : Watch = c.close-found.new.self in
     let shut' = c.close-found.ensures.closed in
-    (elim inv.place.capacity [ inl e ↦ rw e (lit< tt) | inr e ↦ rw e (lit< tt) ], (lit< tt, (elim inv.place.capacity [ inl e ↦ rw e (lit< tt) | inr e ↦ rw e (lit< tt) ], (elim inv.place.capacity [ inl e ↦ rw e (lit< tt) | inr e ↦ rw e (lit< tt) ], (inv.place.capacity, (inv.place.config_is, (sound.sizes.kept.state, (joining_watch n inv sound open' first u shut', states_sized n inv sound open' first u shut'))))))))
+    (elim inv.place.capacity [ inl e ↦ rw e (lit< tt) | inr e ↦ rw e (lit< tt) ], (lit< tt, (elim inv.place.capacity [ inl e ↦ rw e (lit< tt) | inr e ↦ rw e (lit< tt) ], (elim inv.place.capacity [ inl e ↦ rw e (lit< tt) | inr e ↦ rw e (lit< tt) ], (inv.place.capacity, (inv.place.config_is, (sound.sizes.kept.state, (heard_watch n inv sound open' first u shut', states_sized n inv sound open' first u shut'))))))))
 
 pub invariant_of-self : goal.invariant_of-self
 invariant_of-self g c =
@@ -59,7 +58,7 @@ returns-in_default g c =
     let first : (seen n).phase.slot ≡ 0 = ap (λ (v : NodeView g.row.N). v.phase.slot) is ∙ c.requires.slot in
     let u : Watch = c.close-found.new.self in
     let shut' = c.close-found.ensures.closed in
-    ap (λ (o : Option AgreedView). record (seen n) { phase = record (seen n).phase { before = o }; found = record (seen n).found { sync = c.good_senders-self-inside.result }; arrived = unguessed u }) c.in_default.is
+    ap (λ (o : Option AgreedView). record (seen n) { phase = record (seen n).phase { before = o }; found = record (seen n).found { sync = c.good_senders-self-inside.result }; arrived = u }) c.in_default.is
     ∙ none_seen n inv sound open' first u shut' c.good_senders-self-inside.result (c.good_senders-self-inside.ensures ∙ good_are n inv sound open' first u shut' c.close-found.result c.close-found.ensures.found)
     (sym c.state_of_period-self-inside.ensures.state ∙ c.in_default.is)
     ∙ ap (λ (v : NodeView g.row.N). after_sync (shut v)) is
@@ -80,9 +79,7 @@ note_states-requires g c =
     let first : (seen n).phase.slot ≡ 0 = ap (λ (v : NodeView g.row.N). v.phase.slot) is ∙ c.requires.slot in
     let u : Watch = c.close-found.new.self in
     let shut' = c.close-found.ensures.closed in
-    let goes = sym c.state_of_period-self-inside.ensures.state ∙ c.in-Some.is in
-    let own = own_state n inv sound open' first u shut' c.in-Some.agreed goes c.as_slice.result.now (c.as_slice.ensures.value ∙ c.body-body.ensures.bytes) in
-    (elim inv.place.capacity [ inl e ↦ rw e (lit< tt) | inr e ↦ rw e (lit< tt) ], (lit< tt, (elim inv.place.capacity [ inl e ↦ rw e (lit< tt) | inr e ↦ rw e (lit< tt) ], (inv.place.capacity, (subst (λ (k : ℕ). k ≤ 16) (sym inv.notes.kinds) (kinds-few n.config.now.version), (own, c.close-found.ensures.found ∙ ap (findings g.row.N) (sym shut')))))))
+    (elim inv.place.capacity [ inl e ↦ rw e (lit< tt) | inr e ↦ rw e (lit< tt) ], (lit< tt, (elim inv.place.capacity [ inl e ↦ rw e (lit< tt) | inr e ↦ rw e (lit< tt) ], (inv.place.capacity, (subst (λ (k : ℕ). k ≤ 16) (sym inv.notes.kinds) (kinds-few n.config.now.version), (sync_slot n inv sound open' first u shut', c.close-found.ensures.found ∙ ap (findings g.row.N) (sym shut')))))))
 
 pub own_claim-claim-requires : goal.own_claim-claim-requires
 own_claim-claim-requires g c =
@@ -101,10 +98,10 @@ start-requires g c =
       lit< tt,
       (
         lit< tt,
-        record {
-          members = λ q on. let low = member-lt n.config.now.nodes a.standing.members q agreed.standing.set (ap (λ (ms : List ℕ). has_id ms q) (sym members) ∙ on) in omega (arith, low, nodes);
-          me = let low = inv.place.me_low in omega (arith, low, nodes);
-        },
+        (
+          λ q on. (let low = member-lt n.config.now.nodes a.standing.members q agreed.standing.set (ap (λ (ms : List ℕ). has_id ms q) (sym members) ∙ on) in omega (arith, low, nodes)),
+          let low = inv.place.me_low in omega (arith, low, nodes),
+        ),
       ),
     )
 
@@ -138,7 +135,7 @@ returns g c =
     let d : Hearing ℕ = c.start.new.self in
     let started' = c.start.ensures
     ∙ ap₂ (λ (ms : List ℕ) (claim : ℕ). started n.done ms n.phase.me n.phase.full (Plain claim)) (ap (λ (y : AgreedView). y.standing.members) c.agreed.view_is) c.own_claim-claim.ensures in
-    ap (λ (o : Option AgreedView). record (seen n) { phase = record (seen n).phase { before = o }; found = record (seen n).found { sync = c.good_senders-self-inside.result; notes = x.row; late = x.carried }; done = d; arrived = unguessed u }) c.in-Some.is
+    ap (λ (o : Option AgreedView). record (seen n) { phase = record (seen n).phase { before = o }; found = record (seen n).found { sync = c.good_senders-self-inside.result; notes = x.row; late = x.carried }; done = d; arrived = u }) c.in-Some.is
     ∙ own_seen n inv sound open' first u shut' a goes c.good_senders-self-inside.result c.as_slice.result.now x d (c.good_senders-self-inside.ensures ∙ good_are n inv sound open' first u shut' c.close-found.result c.close-found.ensures.found)
     (c.as_slice.ensures.value ∙ c.body-body.ensures.bytes) c.note_states.ensures started'
     ∙ ap (λ (v : NodeView g.row.N). after_sync (shut v)) is

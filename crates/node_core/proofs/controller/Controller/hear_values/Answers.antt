@@ -17,9 +17,8 @@ use Rattle.node_steps.specs.Parts.{NodeView}
 use Rattle.node_steps.specs.Sound.{IsSound}
 use Rattle.node_steps.specs.Steps.{shut, taken, started}
 use Rattle.node_core.specs.Inside.{seen, AreItsNotes}
-use Rattle.node_core.proofs.Places.{in_data}
-use Rattle.node_core.proofs.Standing.{watch_shut, not_open}
-use Rattle.node_core.proofs.HeardValues.{values_shut, values_expected, values_unguessed, values_nodes, values_me, values_agreed, values_seen, values_taken, still_notes}
+use Rattle.node_core.proofs.Standing.{watch_shut}
+use Rattle.node_core.proofs.HeardValues.{values_heard, values_agreed, values_seen, values_taken, still_notes}
 use Rattle.node_core.proofs.controller.Controller.hear_values.Given as given
 use Rattle.node_core.proofs.controller.Controller.hear_values.Goals as goal
 use Rattle.node_core.proofs.controller.Controller.hear_values.Goals.{then-not-self, else-not-self}
@@ -41,8 +40,6 @@ invariant_of-self g c =
       watch = watch_shut n.config.now n.phase.me n.watch inv.watch c.close-found.new.self shut';
       kept_notes = inv.kept_notes;
       notes = inv.notes;
-      rooms = inv.rooms;
-      guessed = λ o h. absurd (not_open n.watch c.close-found.new.self shut' h);
     }
 
 pub vote-voted-requires : goal.vote-voted-requires
@@ -52,7 +49,6 @@ vote-voted-requires g c =
     let sound : IsSound (seen n) = subst (IsSound {N = g.row.N}) (sym c.self.view_is) c.requires.sound in
     let open' : n.phase.is_open ≡ true = ap (λ (v : NodeView g.row.N). v.phase.is_open) c.self.view_is ∙ c.requires.open in
     let number : (seen n).phase.slot ≡ n.config.now.m + 2 = subst (λ (v : NodeView g.row.N). v.phase.slot ≡ v.config.m + 2) (sym c.self.view_is) c.requires.slot in
-    let at = in_data n.config.now.m n.phase.slot inv.slot number in
     let u = c.close-found.new.self in
     let shut' = c.close-found.ensures.closed in
     let ids : IsIdSet (length n.config.now.channels.items) c.as_slice.result.now = subst (IsIdSet (length n.config.now.channels.items)) (sym c.as_slice.ensures.value) sound.sizes.found.due in (
@@ -70,8 +66,8 @@ vote-voted-requires g c =
                 (
                   inv.place.config_is,
                   (
-                    values_agreed n inv sound open' at u shut' c.in-Some.agreed c.in-Some.is,
-                    (ids, (values_shut n inv sound open' at u shut', (values_expected n inv sound open' at u shut', (values_unguessed n inv sound open' at u shut', (values_nodes n inv sound open' at u shut', values_me n inv sound open' at u shut'))))),
+                    values_agreed n inv sound open' number u shut' c.in-Some.agreed c.in-Some.is,
+                    (ids, values_heard n inv sound open' number u shut'),
                   ),
                 ),
               ),
@@ -108,23 +104,19 @@ start-requires g c =
     let sound : IsSound (seen n) = subst (IsSound {N = g.row.N}) (sym c.self.view_is) c.requires.sound in
     let open' : n.phase.is_open ≡ true = ap (λ (v : NodeView g.row.N). v.phase.is_open) c.self.view_is ∙ c.requires.open in
     let number : (seen n).phase.slot ≡ n.config.now.m + 2 = subst (λ (v : NodeView g.row.N). v.phase.slot ≡ v.config.m + 2) (sym c.self.view_is) c.requires.slot in
-    let at = in_data n.config.now.m n.phase.slot inv.slot number in
     let a : AgreedView = c.in-Some.agreed in
-    let agreed = values_agreed n inv sound open' at c.close-found.new.self c.close-found.ensures.closed a c.in-Some.is in
+    let agreed = values_agreed n inv sound open' number c.close-found.new.self c.close-found.ensures.closed a c.in-Some.is in
     let members : c.agreed.inside.members ≡ a.standing.members = ap (λ (b : AgreedView). b.standing.members) c.agreed.view_is in
     let size = sound.sizes.rows.nodes_are in (
       elim inv.place.capacity [ inl e ↦ rw e (lit< tt) | inr e ↦ rw e (lit< tt) ],
       (
         lit< tt,
-        record {
-          members = λ q on. let l = member-lt n.config.now.nodes a.standing.members q agreed.standing.set (subst (λ (ms : List ℕ). has_id ms q ≡ true) members on) in omega (arith, l, size);
-          me = let l = inv.place.me_low in omega (arith, l, size);
-        },
+        (
+          λ q on. (let l = member-lt n.config.now.nodes a.standing.members q agreed.standing.set (subst (λ (ms : List ℕ). has_id ms q ≡ true) members on) in omega (arith, l, size)),
+          let l = inv.place.me_low in omega (arith, l, size),
+        ),
       ),
     )
-
-pub start-requires-room-V-Value : goal.start-requires-room-V-Value
-start-requires-room-V-Value g c = λ κs. elim c.self.invariant.place.capacity [ inl e ↦ rw e (lit< tt) | inr e ↦ rw e (lit< tt) ]
 
 pub start-requires-room-V-Eq : goal.start-requires-room-V-Eq
 start-requires-room-V-Eq g c = λ κs. elim c.self.invariant.place.capacity [ inl e ↦ rw e (lit< tt) | inr e ↦ rw e (lit< tt) ]
@@ -145,8 +137,6 @@ invariant_of-self-2 g c =
       watch = watch_shut n.config.now n.phase.me n.watch inv.watch c.close-found.new.self shut';
       kept_notes = inv.kept_notes;
       notes = subst (AreItsNotes n.config.now n.phase.me) (sym (told_is g c)) (still_notes n.config.now n.phase.me n.phase.full c.note_values.new.notes (replicate g.row.N 0) noted);
-      rooms = inv.rooms;
-      guessed = λ o h. absurd (not_open n.watch c.close-found.new.self shut' h);
     }
 
 pub returns : goal.returns
@@ -157,7 +147,6 @@ returns g c =
     let sound : IsSound (seen n) = subst (IsSound {N = g.row.N}) (sym is) c.requires.sound in
     let open' : n.phase.is_open ≡ true = ap (λ (v : NodeView g.row.N). v.phase.is_open) is ∙ c.requires.open in
     let number : (seen n).phase.slot ≡ n.config.now.m + 2 = subst (λ (v : NodeView g.row.N). v.phase.slot ≡ v.config.m + 2) (sym is) c.requires.slot in
-    let at = in_data n.config.now.m n.phase.slot inv.slot number in
     let a : AgreedView = c.in-Some.agreed in
     let u : Watch = c.close-found.new.self in
     let s = setting_of n.config.now in
@@ -167,7 +156,7 @@ returns g c =
     let noted = c.note_values.ensures ∙ ap (λ (fs : List Finding). also_noted g.row.N n.found.notes (λ j k. found_bad fs j k || (has_id c.vote-voted.result.off j && k == deviate))) c.close-found.ensures.found in
     let members : c.agreed.inside.members ≡ a.standing.members = ap (λ (b : AgreedView). b.standing.members) c.agreed.view_is in
     let heard = c.start.ensures ∙ ap₂ (λ (ms r : List ℕ). started n.rows ms n.phase.me n.phase.full (Plain r)) members c.row.ensures in
-    values_seen n inv sound open' at u c.close-found.ensures.closed a c.in-Some.is votes c.vote-voted.result.off c.note_values.new.notes c.if-not-self.notes c.start.new.self voted offs noted (told_is g c) heard
+    values_seen n inv sound open' number u c.close-found.ensures.closed a c.in-Some.is votes c.vote-voted.result.off c.note_values.new.notes c.if-not-self.notes c.start.new.self voted offs noted (told_is g c) heard
     ∙ sym (values_taken (seen n) a number) ∙ ap (λ (o : Option AgreedView). taken (shut (seen n)) o) (sym c.in-Some.is)
     ∙ ap (λ (v : NodeView g.row.N). taken (shut v) v.phase.before) is
 

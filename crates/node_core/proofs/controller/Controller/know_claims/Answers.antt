@@ -1,23 +1,27 @@
-use Rattle.std.proofs.Common.{ℕ, ◌≡◌, ◌≤◌, ◌==◌, ◌&&◌, not, Option, inl, inr, lit<, sym, ap, subst, ◌∙◌, arith}
+use Rattle.std.proofs.Common.{ℕ, ◌≡◌, ◌≤◌, Option, inl, inr, lit<, sym, ap, subst, ◌∙◌, arith}
 use Rattle.std.specs.Prelude.{nat_eq, IfSome}
-use Rattle.node_grid.specs.NodeSet.{ids_where}
-use Rattle.omh.specs.Heard.{Hearing, ear_of}
+use Rattle.omh.specs.Heard.{Hearing}
+use Rattle.std.proofs.lemmas.List.{length-replicate}
 use Rattle.error_reports.specs.Notes.{Notes}
 use Rattle.agreed_state.specs.Agreed.{AgreedView, IsAgreed}
-use Rattle.protocol.specs.FurtherKinds.{convicts_member}
+use Rattle.protocol.specs.Arrival.{claim_form}
+use Rattle.relaying.specs.Hearing.{after_round}
+use Rattle.relaying.specs.Settling.{settled_in}
 use Rattle.protocol.specs.RowLaws.{kinds-few}
 use Rattle.data_slot.specs.DueLaws.{dues_are}
 use Rattle.node_steps.specs.Parts.{NodeView}
 use Rattle.node_steps.specs.Sound.{Hears}
 use Rattle.node_steps.specs.Steps.{claims_known}
 use Rattle.node_core.specs.Inside.{seen}
-use Rattle.node_core.proofs.KnownClaims.{claims_taken, guess_kept}
+use Rattle.node_core.specs.Closing.{IsDoneClosed}
+use Rattle.node_core.proofs.KnownClaims.{settled_claims, claims_taken}
 use Rattle.node_core.proofs.controller.Controller.know_claims.Goals as goal
 
-pub settle_claims-claims-requires : goal.settle_claims-claims-requires
-settle_claims-claims-requires g c =
-    let cap = c.self.invariant.place.capacity in
-    (lit< tt, (elim cap [ inl e ↦ rw e (lit< tt) | inr e ↦ rw e (lit< tt) ], cap))
+pub settle-guilty-requires : goal.settle-guilty-requires
+settle-guilty-requires g c = (lit< tt, (lit< tt, (lit< tt, (subst (λ (v : NodeView g.row.N). IsDoneClosed v.done.rounds v) (sym c.self.view_is) c.requires.closed, length-replicate g.row.N _))))
+
+pub claims_of-claims-requires : goal.claims_of-claims-requires
+claims_of-claims-requires g c = (elim c.self.invariant.place.capacity [ inl e ↦ rw e (lit< tt) | inr e ↦ rw e (lit< tt) ], (elim c.self.invariant.place.capacity [ inl e ↦ rw e (lit< tt) | inr e ↦ rw e (lit< tt) ], c.self.invariant.place.capacity))
 
 pub preview-preview-requires : goal.preview-preview-requires
 preview-preview-requires g c =
@@ -48,8 +52,6 @@ invariant_of-self g c =
         me_is = ap (λ (x : Notes). x.me) k ∙ ap (λ (x : Notes). x.me) l ∙ inv.notes.me_is;
         kinds = ap (λ (x : Notes). x.kinds) k ∙ ap (λ (x : Notes). x.kinds) l ∙ inv.notes.kinds;
       };
-      rooms = inv.rooms;
-      guessed = λ o h. guess_kept n.phase.slot n _ _ (c.convicted-guilty.ensures.kept ∙ c.settle_claims-claims.ensures.kept) (inv.guessed o h);
     }
 
 pub returns : goal.returns
@@ -58,27 +60,23 @@ returns g c =
     let inv = c.self.invariant in
     let is = c.self.view_is in
     let a : AgreedView = c.in-Some.agreed in
-    let claims = c.settle_claims-claims.result in
+    let claims = c.claims_of-claims.result in
     let y : Notes = c.note_all.new.self in
     let new : NodeView g.row.N = record (seen n) {
-      done = c.convicted-guilty.new.heard;
+      done = c.settle-guilty.new.table;
       found = record (seen n).found { notes = y.row; late = y.carried; claims = claims; due = c.due_channels-self-inside.result.items; own = c.own_values-self-inside.result };
     } in
+    let h : Hearing ℕ = after_round claim_form n.done.nodes n.watch n.done.rounds n.done in
     let hears : Hears n.done n.phase.me a =
     subst (λ (o : Option AgreedView). IfSome o (λ b. Hears n.done n.phase.me b)) c.in-Some.is
     (subst (λ (v : NodeView g.row.N). IfSome v.phase.before (λ b. Hears v.done v.phase.me b)) (sym is) c.requires.hears) in
-    let guilty = c.convicted-guilty.ensures.convicted
-    ∙ ap (λ (h : Hearing ℕ). ids_where (λ j. not (j == h.me) && convicts_member nat_eq (ear_of h) j) g.row.N) c.settle_claims-claims.ensures.kept in
+    let settled = c.claims_of-claims.ensures ∙ settled_claims c.settle-guilty.new.items (settled_in nat_eq g.row.N h) c.settle-guilty.ensures.settled in
     let due = c.due_channels-self-inside.ensures ∙ dues_are n.config.now a claims c.preview-preview.result.finished_now c.preview-preview.ensures.finished_now inv.place.config_is in
-    let known : new ≡ claims_known (seen n) a =
-    claims_taken n inv a hears claims c.preview-preview.result.verdicts c.note_verdicts.new.notes y c.convicted-guilty.result c.due_channels-self-inside.result.items c.own_values-self-inside.result c.convicted-guilty.new.heard
-    c.settle_claims-claims.ensures.settled c.preview-preview.ensures.verdicts c.note_verdicts.ensures guilty c.note_all.ensures due (c.own_values-self-inside.ensures n.kept.state n.kept.notes.carried)
-    (c.convicted-guilty.ensures.kept ∙ c.settle_claims-claims.ensures.kept) in
-    subst (λ (v : NodeView g.row.N). IfSome v.phase.before (λ b. new ≡ claims_known v b)) is
-    (subst (λ (o : Option AgreedView). IfSome o (λ b. new ≡ claims_known (seen n) b)) (sym c.in-Some.is) known)
-
-pub convicted-guilty-requires : goal.convicted-guilty-requires
-convicted-guilty-requires g c = (lit< tt, (lit< tt, c.self.invariant.place.capacity))
+    let known : new ≡ claims_known (seen n) h a =
+    claims_taken n inv a h (record { members = hears.members; me_is = hears.me_is }) claims c.preview-preview.result.verdicts c.note_verdicts.new.notes y c.settle-guilty.result c.due_channels-self-inside.result.items c.own_values-self-inside.result c.settle-guilty.new.table
+    settled c.preview-preview.ensures.verdicts c.note_verdicts.ensures c.settle-guilty.ensures.guilty c.note_all.ensures due (c.own_values-self-inside.ensures n.kept.state n.kept.notes.carried) c.settle-guilty.ensures.forgotten in
+    subst (λ (v : NodeView g.row.N). IfSome v.phase.before (λ b. new ≡ claims_known v (after_round claim_form v.done.nodes v.arrived v.done.rounds v.done) b)) is
+    (subst (λ (o : Option AgreedView). IfSome o (λ b. new ≡ claims_known (seen n) h b)) (sym c.in-Some.is) known)
 
 pub due_channels-self-inside-requires : goal.due_channels-self-inside-requires
 due_channels-self-inside-requires g c = (elim c.self.invariant.place.capacity [ inl e ↦ rw e (lit< tt) | inr e ↦ rw e (lit< tt) ], c.self.invariant.place.config_is)

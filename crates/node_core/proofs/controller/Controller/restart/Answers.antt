@@ -1,6 +1,5 @@
-use Rattle.std.proofs.Common.{ap, refl, inl, inr, lit<, ◌∙◌}
+use Rattle.std.proofs.Common.{ap, inl, inr, lit<, ◌∙◌}
 use Rattle.error_reports.specs.Notes.{Notes}
-use Rattle.node_core.proofs.Standing.{guess_forgotten}
 use Rattle.node_core.proofs.controller.Controller.restart.Goals as goal
 
 pub forget-requires : goal.forget-requires
@@ -20,6 +19,4 @@ invariant_of-self g c =
         kinds = ap (λ (x : Notes). x.kinds) k ∙ inv.kept_notes.kinds;
       };
       notes = inv.notes;
-      rooms = inv.rooms;
-      guessed = λ o h. guess_forgotten c.self.inside.phase.slot c.self.inside _ refl (inv.guessed o h);
     }

@@ -1,4 +1,4 @@
-use Rattle.std.proofs.Common.{◌≡◌, ◌<◌, ◌≤◌, ◌+◌, ℕ, List, length, arith, inl, inr, lit<, refl, sym, ap, subst, ◌∙◌}
+use Rattle.std.proofs.Common.{◌≡◌, ◌<◌, ◌≤◌, ℕ, List, length, arith, inl, inr, lit<, refl, sym, ap, subst, ◌∙◌}
 use Rattle.std.specs.Prelude.{vec_capacity}
 use Rattle.frames.specs.Content.Content.{Done0}
 use Rattle.protocol.specs.View.{own_claim}
@@ -6,7 +6,6 @@ use Rattle.node_steps.specs.Parts.{NodeView}
 use Rattle.node_steps.specs.PremiseLaws.{few_due}
 use Rattle.node_core.proofs.Behind.{config_ok}
 use Rattle.node_core.proofs.RelaySaid.{claims_asked_now, claims_frame}
-use Rattle.node_core.proofs.WatchSaid.{claims_nodes, expects_now, claims_echoed_now}
 use Rattle.node_core.proofs.Spelt.{inside_fits, says_claim}
 use Rattle.node_core.proofs.controller.Controller.say_claims.Goals as goal
 
@@ -43,11 +42,7 @@ say_round-requires g c =
     let asked = claims_asked_now n v is c.args.agreed.now c.requires.own s.sizes (s.in_slot c.requires.ready.is_open) _ c.args.round some low c.requires.slot c.expectation-expect.ensures in
     let frame = claims_frame n v is c.args.agreed.now c.requires.own s.sizes (s.in_slot c.requires.ready.is_open) _ c.args.round some low c.requires.slot c.expectation-expect.ensures in
     let room = inside_fits n v (vec_capacity c.args.out.now) c.self.invariant is c.requires.ready in
-    let here = s.in_slot c.requires.ready.is_open in
-    let nodes = claims_nodes n c.self.invariant v is here c.requires.ready.is_open s.sizes in
-    let expects = expects_now n c.self.invariant v is here c.requires.ready.is_open _ (1 + c.args.round) c.requires.slot c.expectation-expect.ensures in
-    let echoed = claims_echoed_now n c.self.invariant v is here c.requires.ready.is_open c.args.round some low c.requires.slot in
-    (lit< tt, (lit< tt, (lit< tt, (some, (omega (arith, low, rounds), (nodes, (expects, (asked, (echoed, subst (λ (bytes : List ℕ). length bytes ≤ vec_capacity c.args.out.now) (sym frame) room)))))))))
+    (lit< tt, (lit< tt, (some, (omega (arith, low, rounds), (asked, subst (λ (bytes : List ℕ). length bytes ≤ vec_capacity c.args.out.now) (sym frame) room)))))
 
 pub returns-clause-written : goal.returns-clause-written
 returns-clause-written g c =

@@ -7,7 +7,6 @@ use Rattle.node_steps.specs.Parts.{NodeView}
 use Rattle.node_steps.specs.PremiseLaws.{few_due, few_capacity}
 use Rattle.node_core.proofs.Behind.{config_ok}
 use Rattle.node_core.proofs.RelaySaid.{rows_asked_now, rows_frame}
-use Rattle.node_core.proofs.WatchSaid.{rows_nodes, expects_now, rows_echoed_now}
 use Rattle.node_core.proofs.Spelt.{inside_fits, says_row}
 use Rattle.node_core.proofs.controller.Controller.say_rows.Goals as goal
 
@@ -33,8 +32,8 @@ expectation-expect-requires g c = (elim c.self.invariant.place.capacity [ inl e 
 pub say_round-requires-room-V-Item : goal.say_round-requires-room-V-Item
 say_round-requires-room-V-Item g c = λ κs. elim c.self.invariant.place.capacity [ inl e ↦ rw e (lit< tt) | inr e ↦ rw e (lit< tt) ]
 
-pub say_round-requires-room-V-Value : goal.say_round-requires-room-V-Value
-say_round-requires-room-V-Value g c = λ κs. elim c.self.invariant.place.capacity [ inl e ↦ rw e (lit< tt) | inr e ↦ rw e (lit< tt) ]
+pub say_round-requires-room-V-RelayedItem : goal.say_round-requires-room-V-RelayedItem
+say_round-requires-room-V-RelayedItem g c = λ κs. elim c.self.invariant.place.capacity [ inl e ↦ rw e (lit< tt) | inr e ↦ rw e (lit< tt) ]
 
 pub say_round-requires-room-V-Eq : goal.say_round-requires-room-V-Eq
 say_round-requires-room-V-Eq g c = λ κs. elim c.self.invariant.place.capacity [ inl e ↦ rw e (lit< tt) | inr e ↦ rw e (lit< tt) ]
@@ -54,11 +53,7 @@ say_round-requires g c =
     let asked = rows_asked_now n v is c.args.agreed.now c.requires.own s.sizes (s.in_slot c.requires.ready.is_open) _ c.args.round some low c.requires.slot c.expectation-expect.ensures in
     let frame = rows_frame n v is c.args.agreed.now c.requires.own s.sizes (s.in_slot c.requires.ready.is_open) _ c.args.round some c.requires.slot c.expectation-expect.ensures in
     let room = inside_fits n v (vec_capacity c.args.out.now) c.self.invariant is c.requires.ready in
-    let here = s.in_slot c.requires.ready.is_open in
-    let nodes = rows_nodes n c.self.invariant v is here c.requires.ready.is_open s.sizes in
-    let expects = expects_now n c.self.invariant v is here c.requires.ready.is_open _ (v.config.m + 3 + c.args.round) c.requires.slot c.expectation-expect.ensures in
-    let echoed = rows_echoed_now n c.self.invariant v is here c.requires.ready.is_open c.args.round some c.requires.slot in
-    (lit< tt, (elim c.self.invariant.place.capacity [ inl e ↦ rw e (lit< tt) | inr e ↦ rw e (lit< tt) ], (lit< tt, (some, (omega (arith, low, rounds), (nodes, (expects, (asked, (echoed, subst (λ (bytes : List ℕ). length bytes ≤ vec_capacity c.args.out.now) (sym frame) room)))))))))
+    (elim c.self.invariant.place.capacity [ inl e ↦ rw e (lit< tt) | inr e ↦ rw e (lit< tt) ], (lit< tt, (some, (omega (arith, low, rounds), (asked, subst (λ (bytes : List ℕ). length bytes ≤ vec_capacity c.args.out.now) (sym frame) room)))))
 
 pub returns-clause-written : goal.returns-clause-written
 returns-clause-written g c =

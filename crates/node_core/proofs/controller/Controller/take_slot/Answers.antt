@@ -29,8 +29,8 @@ pub hear_rows-requires : goal.hear_rows-requires
 hear_rows-requires g c =
     let inv = c.self.invariant in
     let at = stands_in c.self.inside c.args.self.now inv c.self.view_is (Rows c.in-Rows.round) c.in-Rows.is in
-    let low = is_slot c.self.inside c.args.self.now inv c.self.view_is (Rows c.in-Rows.round) c.in-Rows.is in
-    (elim inv.place.capacity [ inl e ↦ rw e (lit< tt) | inr e ↦ rw e (lit< tt) ], (c.requires.sound, (c.requires.open, (at, low))))
+    let early = c.requires.early in
+    (elim inv.place.capacity [ inl e ↦ rw e (lit< tt) | inr e ↦ rw e (lit< tt) ], (c.requires.sound, (c.requires.open, (at, omega (arith, at, early)))))
 
 pub returns-in-Sync : goal.returns-in-Sync
 returns-in-Sync g c =

@@ -11,7 +11,7 @@ relay-requires c =
     let within = c.unrank-path.ensures.within in (
       lit< tt,
       (
-        (λ x on. ap (λ (s : List ℕ). has_id s x) self.members ∙ among_members self.seat.members others path self.seat.me c.without-others.ensures within x on),
-        (rw self.me (avoids self.seat.members others path self.seat.me c.without-others.ensures within), omega (arith, c.unrank-path.ensures.long, c.requires.some, self.rounds)),
+        (λ x on. ap (λ (s : List ℕ). has_id s x) self.members.0 ∙ among_members self.seat.members others path self.seat.me c.without-others.ensures within x on),
+        (rw self.me.0 (avoids self.seat.members others path self.seat.me c.without-others.ensures within), omega (arith, c.unrank-path.ensures.long, self.seat.some, self.rounds.0)),
       ),
     )

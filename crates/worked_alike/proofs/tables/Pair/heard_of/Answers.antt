@@ -11,7 +11,7 @@ relay-requires c =
     let member = has-of-without self.seat.members self.seat.me q c.requires in (
       lit< tt,
       (
-        (λ x on. ap (λ (s : List ℕ). has_id s x) self.members ∙ root_among self.seat.members q member x (ap (λ (p : List ℕ). has_id p x) (sym c.root.ensures) ∙ on)),
-        (rw (c.root.ensures, self.me) (root_avoids self.seat.members self.seat.me q c.requires), omega (arith, ap length c.root.ensures)),
+        (λ x on. ap (λ (s : List ℕ). has_id s x) self.members.0 ∙ root_among self.seat.members q member x (ap (λ (p : List ℕ). has_id p x) (sym c.root.ensures) ∙ on)),
+        (rw (c.root.ensures, self.me.0) (root_avoids self.seat.members self.seat.me q c.requires), omega (arith, ap length c.root.ensures)),
       ),
     )

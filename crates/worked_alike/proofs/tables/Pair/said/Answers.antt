@@ -7,7 +7,7 @@ relay-requires c =
     let self = c.args.self.now in (
       lit< tt,
       (
-        (λ x on. ap (λ (s : List ℕ). has_id s x) self.members ∙ c.requires.members x on),
-        (rw self.me (sym c.has.ensures ∙ c.if-has.false), omega (arith, c.requires.short, self.rounds)),
+        (λ x on. ap (λ (s : List ℕ). has_id s x) self.members.0 ∙ c.requires.members x on),
+        (rw self.me.0 (sym c.has.ensures ∙ c.if-has.false), omega (arith, c.requires.short, self.rounds.0)),
       ),
     )

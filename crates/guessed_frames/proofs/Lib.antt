@@ -1,9 +1,0 @@
-pub mod Expanded
-pub mod Marks
-pub mod Steps
-pub mod Copied
-pub mod Sides
-pub mod Bodies
-pub mod RunParts
-pub mod OwnRuns
-pub mod Wholes

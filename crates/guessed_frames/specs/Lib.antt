@@ -1,4 +1,0 @@
-pub mod Comparing
-pub mod Runs
-pub mod Copying
-pub mod Common

@@ -1,0 +1,12 @@
+pub mod Frees
+pub mod Known
+pub mod Filling
+pub mod Stations
+pub mod Walks
+pub mod Apart
+pub mod Settled
+pub mod HeardView
+pub mod Convicted
+pub mod Tables
+pub mod OneItem
+pub mod Listed

@@ -1,0 +1,4 @@
+pub mod Free
+pub mod Tabled
+pub mod Rooms
+pub mod Settling

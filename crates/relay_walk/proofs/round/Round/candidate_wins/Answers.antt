@@ -1,0 +1,15 @@
+use Rattle.std.proofs.Common.{◌∷◌, map, sym, ap, ◌∙◌}
+use Rattle.omh_paths.specs.Majority.{has_majority as has_most}
+use Rattle.relay_terms.specs.Terms.{said, term_in}
+use Rattle.relay_terms.specs.TallyLaws.{one_has}
+use Rattle.relay_walk.specs.Walking.{last_in}
+use Rattle.relay_walk.proofs.round.Round.candidate_wins.Goals as goal
+
+pub returns-then-is_contested : goal.returns-then-is_contested
+returns-then-is_contested g c =
+    c.has_majority.ensures ∙ ap (λ x. has_most g.V.PartialEq.eq (said c.args.own.now ∷ map (last_in (term_in g.V.Item.of_bytes) c.args.self.now) c.args.others.now) (said x)) c.candidate.ensures
+
+pub returns-else-is_contested : goal.returns-else-is_contested
+returns-else-is_contested g c =
+    sym (one_has c.requires.exact (said c.args.own.now ∷ map (last_in (term_in g.V.Item.of_bytes) c.args.self.now) c.args.others.now) (said c.args.tally.now.candidate) c.args.tally.now.lead
+    (c.requires.tally.calm (sym c.is_contested.ensures ∙ c.if-is_contested.false)) c.requires.good)

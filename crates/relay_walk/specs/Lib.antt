@@ -1,0 +1,4 @@
+pub mod Laid
+pub mod LaidLaws
+pub mod Walking
+pub mod WalkLaws

@@ -1,6 +1,0 @@
-use Rattle.frames.specs.Seen.{expected}
-use Rattle.relaying.specs.Tabled.{HasGuess}
-use Rattle.relaying.proofs.guessing.write_triples.Given as goal
-
-abbrev pub invariant-loop-i : goal.invariant-loop-i
-invariant-loop-i g l = HasGuess (g.V.Item.in_range (expected l.expect)) (g.V.Item.spelling l.heard.nodes) 3 l.heard l.out
