@@ -1,7 +1,7 @@
 -- The frames of a round that were taken up, one after another in one room.
 use Rattle.std.proofs.Common.{ℕ, ◌≡◌, ◌≢◌, ◌<◌, ◌≤◌, ◌+◌, ◌*◌, ◌==◌, ◌||◌, true, false, List, [], length, length-set, get_or-set_other, get_or-set_same, sym, ap, ap₂, ◌∙◌, inl, inr, refl, arith, eqb-true, eq-eqb, ◌⊎◌, zero, suc}
 use Rattle.std.specs.Prelude.{◌-◌, slice_index, slice_set, replicate}
-use Rattle.std.proofs.Math.Nat.{mul-add, mul-le-mul}
+use Rattle.std.proofs.Math.Nat.{mul-le-mul}
 use Rattle.std.proofs.lemmas.List.{length-replicate}
 use Rattle.std.proofs.lemmas.Bool.{cases_eq, cases_lt, both_ways, or_cases}
 use Rattle.node_grid.specs.NodeSet.{has_id, with_id, without_id}
@@ -32,6 +32,21 @@ none_taken came size round begins next none = record {
   nobody : (q : ℕ) → has_id round.present q ≡ true → ⊥
   nobody q on = let e : false ≡ true = sym (ap (λ (s : List ℕ). has_id s q) none) ∙ on in cc
 
+-- who is in a set after one was put
+added : (old new : List ℕ) (k q : ℕ) → new ≡ with_id 16 old k → has_id new q ≡ true → (q ≡ k) ⊎ ((q ≢ k) × (has_id old q ≡ true))
+added old new k q e is = elim (cases_lt q 16) [
+  | inl below ↦ elim (or_cases (q == k) (has_id old q) (sym (has-with_id 16 old k q below) ∙ sym (ap (λ (s : List ℕ). has_id s q) e) ∙ is)) [
+    | inl y ↦ inl (eqb-true q k y)
+    | inr before ↦ elim (cases_eq q k) [ inl same ↦ inl same | inr ne ↦ inr (ne, before) ]
+  ]
+  | inr above ↦ absurd (both_ways _ (ap (λ (s : List ℕ). has_id s q) e ∙ hasnt-filter (λ j. (j == k) || has_id old j) 16 q above) is)
+]
+
+-- one of these nodes came, as all before it
+pub came_more : (others old new : List ℕ) (k : ℕ) → new ≡ with_id 16 old k → has_id others k ≡ true → ((q : ℕ) → has_id old q ≡ true → has_id others q ≡ true)
+    → (q : ℕ) → has_id new q ≡ true → has_id others q ≡ true
+came_more others old new k e on before q is = elim (added old new k q e is) [ inl same ↦ ap (has_id others) same ∙ on | inr there ↦ before q there.1 ]
+
 pub one_taken : (came : List ℕ) (size k : ℕ) (old new : Round 16) → k < 16 → has_id came k ≡ true → AreTaken came size old
     → new.begins ≡ slice_set old.begins k (k * size) → new.next ≡ slice_set old.next k (k * size) → new.present ≡ with_id 16 old.present k → AreTaken came size new
 one_taken came size k old new low on taken begins next present = record {
@@ -49,13 +64,7 @@ one_taken came size k old new low on taken begins next present = record {
   ];
 } where
   came_is : (q : ℕ) → has_id new.present q ≡ true → (q ≡ k) ⊎ ((q ≢ k) × (has_id old.present q ≡ true))
-  came_is q is = elim (cases_lt q 16) [
-    | inl below ↦ elim (or_cases (q == k) (has_id old.present q) (sym (has-with_id 16 old.present k q below) ∙ sym (ap (λ (s : List ℕ). has_id s q) present) ∙ is)) [
-      | inl y ↦ inl (eqb-true q k y)
-      | inr before ↦ elim (cases_eq q k) [ inl e ↦ inl e | inr ne ↦ inr (ne, before) ]
-    ]
-    | inr above ↦ absurd (both_ways _ (ap (λ (s : List ℕ). has_id s q) present ∙ hasnt-filter (λ j. (j == k) || has_id old.present j) 16 q above) is)
-  ]
+  came_is q is = added old.present new.present k q present is
 
 -- so they are a round, from its beginning
 pub walks : (came room : List ℕ) (entries : ℕ) (round : Round 16) → length room ≡ 32 * entries → ((j : ℕ) → slice_index room (2 * j) < 254)

@@ -41,7 +41,8 @@ fn are_charged_alike(rows: &Matrix<16>, members: &NodeSet<16>) -> bool {
     true
 }
 
-/// Whether a row with one kind noted of each of these nodes is the same where they are noted one by one.
+/// Whether a row with one kind noted of each of these nodes is the same where they are noted one by
+/// one.
 fn are_noted_alike(accused: &NodeSet<16>, kind: u8) -> bool {
     let mut each: RowBuilder<16> = RowBuilder::new(16, 0, 16);
     let mut all: RowBuilder<16> = RowBuilder::new(16, 0, 16);

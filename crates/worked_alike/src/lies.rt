@@ -42,7 +42,8 @@ fn drawn_lie(draws: &mut Draws) -> Option<Lie<16>>
 
 /// Up to so many drawn lies.
 fn drawn_lies(alloc: Global, draws: &mut Draws, most: u16) -> Result<Vec<Lie<16>>, AllocError>
-    ensures { IfOk result (λ lies. (length lies.items ≤ most) × (All (λ lie. IsLie 12 (lie_of lie)) lies.items)) }
+    ensures { IfOk result (λ lies. (length lies.items ≤ most)
+        × (All (λ lie. IsLie 12 (lie_of lie)) lies.items)) }
 {
     let mut lies = Vec::new(alloc);
     for _ in 0..most {

@@ -3,7 +3,7 @@
 
 ghost use Rattle.std.specs.Prelude.{ℕ, ◌≡◌, ◌≢◌, ◌+◌, ◌-◌, ◌<◌, ◌≤◌, map, true, false, length};
 ghost use Rattle.std.specs.Prelude.{IfOk};
-ghost use Rattle.node_grid.specs.NodeSet.{has_id, without_id};
+ghost use Rattle.node_grid.specs.NodeSet.{has_id, without_id, IsIdSet};
 ghost use Rattle.omh_paths.specs.declared.wrapped.Wrapped.TheVariants.{Fault};
 ghost use Rattle.omh_paths.specs.Paths.{path_count};
 ghost use Rattle.relay_terms.specs.Terms.{said};
@@ -35,6 +35,7 @@ const OWN: u8 = 2;
 fn size_of(set: &NodeSet<16>) -> u8
     ensures count { result ≡ length set.now }
     ensures few { result ≤ 16 }
+    ensures ids { IsIdSet 16 set.now }
 {
     set.len()
 }
@@ -145,9 +146,8 @@ impl Pair {
 
     /// Whether this is another member.
     fn is_other(&self, q: u8) -> bool
-        ensures other { result ≡ true
+        ensures { result ≡ true
             → has_id (without_id self.now.seat.members self.now.seat.me) q ≡ true }
-        ensures low { result ≡ true → q < self.now.seat.nodes }
     {
         self.seat.members.without(self.seat.me).has(q)
     }
@@ -244,7 +244,8 @@ impl Pair {
             saying,
         } = turn;
         let others = self.seat.members.without(sender);
-        for place in 0..count_paths(size_of(&others), round) {
+        let count = size_of(&self.seat.members).saturating_sub(1);
+        for place in 0..count_paths(count, round) {
             let path = unrank(&others, round, place);
             let value = as_relayed(self.said(draws, saying, &path));
             relays.write(sender, place, value);
@@ -289,7 +290,8 @@ impl Pair {
         requires some { 0 < round }
         requires short { round ≤ self.old.seat.rounds }
         requires kept { round < kept_nodes self.old.seat.rounds }
-        requires entries { relays.now.entries ≡ path_count (length self.old.seat.members - 1) round }
+        requires entries { relays.now.entries
+            ≡ path_count (length self.old.seat.members - 1) round }
         requires came { (q : ℕ) → has_id relays.now.came q ≡ true
             → has_id (without_id self.old.seat.members self.old.seat.me) q ≡ true }
         ensures { self.new.seat ≡ self.old.seat }
