@@ -248,10 +248,26 @@ def clauses_of(source: str) -> Iterator[str]:
         yield kept[found.end() : at - 1]
 
 
+def end_of_contract(source: str, at: int) -> int:
+    """Where the contract of a function ends that begins before this place: at its body, or at the `;` in its place."""
+    depth = 0
+    while at < len(source):
+        letter = source[at]
+        if letter == "{" and depth == 0:
+            before = source[source.rfind("\n", 0, at) + 1 : at]
+            if not re.search(r"\b(?:requires|ensures|invariant|decreases|ghost)\b", before):
+                return at
+        elif letter == ";" and depth == 0:
+            return at
+        depth += {"(": 1, "[": 1, "{": 1, ")": -1, "]": -1, "}": -1}.get(letter, 0)
+        at += 1
+    return at
+
+
 def public_contracts(source: str) -> Iterator[str]:
     """The clauses of each public function of a source."""
-    for found in re.finditer(r"^ *pub fn .*?(?=^ *\{ *$|\{\}$|;$)", source, re.M | re.S):
-        yield "\n".join(clauses_of(found[0]))
+    for found in re.finditer(r"^ *pub fn ", source, re.M):
+        yield "\n".join(clauses_of(source[found.start() : end_of_contract(source, found.end())]))
 
 
 def rows_of(text: str) -> Dict[str, List[str]]:

@@ -1,5 +1,5 @@
-//! The run of a scenario, period by period, with all nodes worked out together: what nodes keep, hear, settle and vote
-//! alike is worked out once.
+//! The run of a scenario, period by period, with all nodes worked out together: what nodes keep,
+//! hear, settle and vote alike is worked out once.
 //!
 //! All memory of a run is taken when it is opened.
 #![tactic(auto)]

@@ -1,6 +1,7 @@
 //! The data slot of a period.
 
-ghost use Rattle.std.specs.Prelude.{◌≡◌, ◌<◌, ◌≤◌, ℕ, List, Option, true, Some, [], length, replicate};
+ghost use Rattle.std.specs.Prelude.{◌≡◌, ◌<◌, ◌≤◌, ℕ, List, Option, true, Some, [], length};
+ghost use Rattle.std.specs.Prelude.{replicate};
 ghost use Rattle.std.specs.Prelude.{slice_index_or, if◌then◌else◌, ◌⊎◌};
 ghost use Rattle.node_grid.specs.Capacity.{IsCapacity};
 ghost use Rattle.node_grid.specs.NodeSet.{has_id};
@@ -111,7 +112,8 @@ fn vote_each<D: Dues<N>, const N: usize>(
 {
     let own = slot.own_told();
     let mut voters = each_alone();
-    // By the first of a group the node of it whose votes serve others, and N where there is none yet.
+    // By the first of a group the node of it whose votes serve others, and N where there is none
+    // yet.
     let mut leaders = [N as u8; N];
     for i in 0..slot.config.nodes {
         if let Some(state) = made.states.get(i) {

@@ -1,4 +1,5 @@
-//! The writing and the reading of the longest relay frame of eight nodes, beside a copy of its bytes.
+//! The writing and the reading of the longest relay frame of eight nodes, beside a copy of its
+//! bytes.
 
 ghost use Rattle.std.specs.Prelude.{◌≡◌};
 

@@ -1,5 +1,5 @@
-//! Times one part of the product, which its word names: `frames`, `plan`, `settle`, or the reading of standard input, `json`
-//! of its JSON alone and `judged` of the whole scenario.
+//! Times one part of the product, which its word names: `frames`, `plan`, `settle`, or the reading
+//! of standard input, `json` of its JSON alone and `judged` of the whole scenario.
 //!
 //! Without a word it reads and prints nothing.
 #![tactic(auto)]

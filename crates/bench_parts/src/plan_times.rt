@@ -1,4 +1,5 @@
-//! The making of a full fault plan, a million look-ups of effects beside as many loads, and the judging of 60,000 lines.
+//! The making of a full fault plan, a million look-ups of effects beside as many loads, and the
+//! judging of 60,000 lines.
 
 ghost use Rattle.std.specs.Prelude.{◌≡◌, ◌≢◌, ◌<◌, ◌≤◌, ◌+◌, ◌*◌, ◌^◌, length};
 
@@ -155,7 +156,8 @@ fn loaded(table: &[u16], places: &[Place]) -> u32 {
     sum
 }
 
-/// How many of these frames a line of the plan touches, and how many microseconds the look-ups take.
+/// How many of these frames a line of the plan touches, and how many microseconds the look-ups
+/// take.
 fn time_look_ups(rt: &HostRuntime, plan: &FaultPlan<8>, places: &[Place]) -> io::Result<(u32, u128)>
     requires nodes { plan.now.nodes ≡ 8 }
     requires rounds { plan.now.rounds ≡ 2 }

@@ -1,7 +1,8 @@
-//! The first reading of a scenario from standard input in a process: of its JSON alone, or of the whole.
+//! The first reading of a scenario from standard input in a process: of its JSON alone, or of the
+//! whole.
 //!
-//! A process times one reading, since the program reads one scenario, in memory that it uses for the first time. As in the
-//! program, the memory of the JSON value is left until the process ends.
+//! A process times one reading, since the program reads one scenario, in memory that it uses for
+//! the first time. As in the program, the memory of the JSON value is left until the process ends.
 
 use json::Scratch;
 use json_parts::value_of;
@@ -59,7 +60,8 @@ fn time_judged(rt: &HostRuntime, bytes: &[u8]) -> io::Result<()> {
     println!(rt; "{took} us")
 }
 
-/// Reads standard input and prints what the reading of its JSON takes, or, where it is judged, that of the whole.
+/// Reads standard input and prints what the reading of its JSON takes, or, where it is judged, that
+/// of the whole.
 pub fn measure(rt: &HostRuntime, is_judged: bool) -> io::Result<()> {
     let mut source = StdSource::new(rt.stdin());
     let Ok(bytes) = read_all(rt.alloc(), &mut source, LIMIT) else {

@@ -1,4 +1,5 @@
-//! One settle over a full table of rows, beside the plain recursive program and beside a copy of what it reads.
+//! One settle over a full table of rows, beside the plain recursive program and beside a copy of
+//! what it reads.
 
 mod plain;
 
@@ -175,7 +176,8 @@ fn compare<const N: usize>(
     )
 }
 
-/// Fills the table and the plain program alike, and times one settle by both for the last of N members.
+/// Fills the table and the plain program alike, and times one settle by both for the last of N
+/// members.
 fn measure_table<const N: usize>(
     rt: &HostRuntime,
     table: &mut Table<Row<N>, N>,

@@ -7,7 +7,8 @@ pub fn more_room()
     ensures { MoreRoomLaw }
 {}
 
-/// What is accepted with room for 16 nodes, and has at most 8, is accepted with room for 8, and has the same texts.
+/// What is accepted with room for 16 nodes, and has at most 8, is accepted with room for 8, and has
+/// the same texts.
 pub fn less_room()
     ensures { LessRoomLaw }
 {}

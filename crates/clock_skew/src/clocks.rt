@@ -1,4 +1,5 @@
-//! The clocks of all nodes before a period: what each node reads of the others, and where the clocks stand after it.
+//! The clocks of all nodes before a period: what each node reads of the others, and where the
+//! clocks stand after it.
 
 ghost use Rattle.std.specs.Prelude.{◌≡◌, ◌^◌, ◌<◌, All, map, pos};
 ghost use Rattle.node_grid.specs.Capacity.{IsCapacity};
@@ -17,7 +18,8 @@ fn start_of<const N: usize>(plan: &ClockPlan<N>, nodes: u8, i: u8) -> i64
     if i < nodes { plan.start(i) } else { 0 }
 }
 
-/// Where the clocks of all nodes start, of a plan for so many nodes. Behind these the numbers are 0.
+/// Where the clocks of all nodes start, of a plan for so many nodes. Behind these the numbers are
+/// 0.
 pub fn starts<const N: usize>(plan: &ClockPlan<N>, nodes: u8) -> [i64; N]
     requires capacity { IsCapacity N }
     requires nodes { nodes ≡ plan.now.nodes }
@@ -44,14 +46,16 @@ pub struct Clocks<'a, const N: usize> {
 }
 
 impl<'a, const N: usize> Clocks<'a, N> {
-    /// What node `i` reads of node `j`: how far that clock is ahead of its own, with an error and the lie that it is
-    /// told. It is 0 of a node that isn't in use.
+    /// What node `i` reads of node `j`: how far that clock is ahead of its own, with an error and
+    /// the lie that it is told. It is 0 of a node that isn't in use.
     fn reading(&self, lies: &[i64; N], i: u8, j: u8) -> i64
         requires steady { AreSteady N self.now.plan.now self.now.nodes self.now.offset.now }
         requires reader { i < self.now.nodes }
-        requires lies { lies.now ≡ map (λ k. lie_at self.now.plan.now k i self.now.period) (ids_below N) }
+        requires lies { lies.now ≡ map (λ k. lie_at self.now.plan.now k i self.now.period)
+            (ids_below N) }
         requires near { All (IsUpTo (pos (2 ^ 40))) lies.now }
-        ensures reading { result ≡ read_by self.now.plan.now self.now.nodes self.now.offset.now self.now.period i j }
+        ensures reading { result ≡ read_by self.now.plan.now self.now.nodes self.now.offset.now
+            self.now.period i j }
         ensures range { IsReading result }
     {
         if j >= self.nodes {
@@ -65,7 +69,8 @@ impl<'a, const N: usize> Clocks<'a, N> {
     pub fn readings(&self, i: u8) -> [i64; N]
         requires steady { AreSteady N self.now.plan.now self.now.nodes self.now.offset.now }
         requires reader { i < self.now.nodes }
-        ensures readings { result ≡ map (read_by self.now.plan.now self.now.nodes self.now.offset.now self.now.period i) (ids_below N) }
+        ensures readings { result ≡ map (read_by self.now.plan.now self.now.nodes
+            self.now.offset.now self.now.period i) (ids_below N) }
         ensures range { All IsReading result }
     {
         let lies = self.plan.lies_to(i, self.period);
@@ -76,11 +81,13 @@ impl<'a, const N: usize> Clocks<'a, N> {
         readings
     }
 
-    /// The offset of node `i` after the period, by its correction and its drift. It is 0 of a node that isn't in use.
+    /// The offset of node `i` after the period, by its correction and its drift. It is 0 of a node
+    /// that isn't in use.
     fn moved(&self, correction: &[i64; N], i: u8) -> i64
         requires steady { AreSteady N self.now.plan.now self.now.nodes self.now.offset.now }
         requires corrections { All IsReading correction.now }
-        ensures { result ≡ moved self.now.plan.now self.now.nodes self.now.offset.now correction.now self.now.period i }
+        ensures { result ≡ moved self.now.plan.now self.now.nodes self.now.offset.now correction.now
+            self.now.period i }
     {
         if i >= self.nodes {
             return 0;
@@ -92,7 +99,8 @@ impl<'a, const N: usize> Clocks<'a, N> {
     pub fn all_moved(&self, correction: &[i64; N]) -> [i64; N]
         requires steady { AreSteady N self.now.plan.now self.now.nodes self.now.offset.now }
         requires corrections { All IsReading correction.now }
-        ensures { result ≡ map (moved self.now.plan.now self.now.nodes self.now.offset.now correction.now self.now.period) (ids_below N) }
+        ensures { result ≡ map (moved self.now.plan.now self.now.nodes self.now.offset.now
+            correction.now self.now.period) (ids_below N) }
     {
         let mut after = [0; N];
         for i in 0..N as u8 {

@@ -1,7 +1,9 @@
-//! What the periods of all nodes amount to, over the definitions alone. Each function's promise is its law.
+//! What the periods of all nodes amount to, over the definitions alone. Each function's promise is
+//! its law.
 
 ghost use Rattle.cluster_periods.specs.Periods.{PeriodsLaw};
-ghost use Rattle.cluster_periods.specs.Laws.{ClaimLaw, SafeLaw, ConvictionLaw, CopyLaw, ClockLaw, LifetimeLaw, PromiseLaw, OrderLaw};
+ghost use Rattle.cluster_periods.specs.Laws.{ClaimLaw, SafeLaw, ConvictionLaw, CopyLaw, ClockLaw};
+ghost use Rattle.cluster_periods.specs.Laws.{LifetimeLaw, PromiseLaw, OrderLaw};
 
 use node_steps::laws::period;
 use safety::laws::convergence::{skew, skew_from_start, starts, values};
@@ -12,7 +14,8 @@ use safety::laws::lifetime::{
 use safety::laws::runs::{run_clocks, run_convictions, run_copies, runs};
 use safety::laws::talk::{delivery, saying};
 
-/// Each period of the nodes of a scenario is that of its run: their frames, what they keep, and what they record.
+/// Each period of the nodes of a scenario is that of its run: their frames, what they keep, and
+/// what they record.
 pub fn periods()
     ensures { PeriodsLaw }
 {
@@ -21,7 +24,8 @@ pub fn periods()
     saying();
 }
 
-/// A record tells whether its period tolerates its faults, and whether it and all periods before it do.
+/// A record tells whether its period tolerates its faults, and whether it and all periods before it
+/// do.
 pub fn claims()
     ensures { ClaimLaw }
 {}
@@ -33,24 +37,24 @@ pub fn safe()
     runs();
 }
 
-/// In each claimed period no sound node convicts a member that isn't asymmetric, and each convicts one of which enough
-/// nonfaulty members heard something else than it did.
+/// In each claimed period no sound node convicts a member that isn't asymmetric, and each convicts
+/// one of which enough nonfaulty members heard something else than it did.
 pub fn convictions()
     ensures { ConvictionLaw }
 {
     run_convictions();
 }
 
-/// In each claimed period the votes of sound nodes on copies are close within the group of the copies, which they know
-/// alike.
+/// In each claimed period the votes of sound nodes on copies are close within the group of the
+/// copies, which they know alike.
 pub fn copies()
     ensures { CopyLaw }
 {
     run_copies();
 }
 
-/// In each claimed period the clocks of sound nodes are near: at most half as far apart as before, rounded up, and
-/// twice the error and the drift.
+/// In each claimed period the clocks of sound nodes are near: at most half as far apart as before,
+/// rounded up, and twice the error and the drift.
 pub fn clocks()
     ensures { ClockLaw }
 {

@@ -1,4 +1,5 @@
-//! The clocks of all nodes, period by period: each node corrects its own by what it reads of those that it recorded.
+//! The clocks of all nodes, period by period: each node corrects its own by what it reads of those
+//! that it recorded.
 
 ghost use Rattle.std.specs.Prelude.{◌≡◌, ◌<◌, All, map, length, option_map};
 ghost use Rattle.node_grid.specs.Capacity.{IsCapacity};
@@ -11,7 +12,8 @@ ghost use Rattle.node_steps.specs.Stages.{outcome_of};
 ghost use Rattle.scenario.specs.Scenario.{system_of};
 ghost use Rattle.cluster_periods.specs.Record.{clock_in};
 ghost use Rattle.cluster_record.specs.Shown.{clock_shown};
-ghost use Rattle.cluster_record.specs.Clocking.{AreOthers, correction_by, offsets_kept, offsets_before};
+ghost use Rattle.cluster_record.specs.Clocking.{AreOthers, correction_by, offsets_kept};
+ghost use Rattle.cluster_record.specs.Clocking.{offsets_before};
 
 use clock_skew::{Clocks, correction, starts};
 use node_core::{Mode, NodeRecord};
@@ -27,7 +29,8 @@ pub struct ClockRecord<const N: usize> {
     pub offset: [i64; N],
 }
 
-/// By how much node `i` corrects its clock, by what it recorded. It is 0 of a node that isn't in use.
+/// By how much node `i` corrects its clock, by what it recorded. It is 0 of a node that isn't in
+/// use.
 fn correction_of<const N: usize>(
     clocks: &Clocks<'_, N>,
     records: &[NodeRecord<N>],
@@ -37,7 +40,8 @@ fn correction_of<const N: usize>(
     requires steady { AreSteady N clocks.now.plan.now clocks.now.nodes clocks.now.offset.now }
     requires each { length records.now ≡ clocks.now.nodes }
     requires others { AreOthers records.now }
-    ensures correction { result ≡ correction_by N clocks.now.plan.now m clocks.now.offset.now clocks.now.period records.now i }
+    ensures correction { result ≡ correction_by N clocks.now.plan.now m clocks.now.offset.now
+        clocks.now.period records.now i }
     ensures range { IsReading result }
 {
     let Some(record) = records.get(i as usize) else {
@@ -56,7 +60,8 @@ fn corrections<const N: usize>(clocks: &Clocks<'_, N>, records: &[NodeRecord<N>]
     requires steady { AreSteady N clocks.now.plan.now clocks.now.nodes clocks.now.offset.now }
     requires each { length records.now ≡ clocks.now.nodes }
     requires others { AreOthers records.now }
-    ensures corrections { result ≡ map (correction_by N clocks.now.plan.now m clocks.now.offset.now clocks.now.period records.now) (ids_below N) }
+    ensures corrections { result ≡ map (correction_by N clocks.now.plan.now m clocks.now.offset.now
+        clocks.now.period records.now) (ids_below N) }
     ensures range { All IsReading result }
 {
     let mut corrections = [0; N];
@@ -80,7 +85,8 @@ pub fn first_clocks<const N: usize>(scenario: &Scenario<N>) -> Option<ClockRecor
     })
 }
 
-/// The clocks of a period, from those before it and from what all nodes recorded; none where the scenario has none.
+/// The clocks of a period, from those before it and from what all nodes recorded; none where the
+/// scenario has none.
 pub(crate) fn next_clocks<const N: usize>(
     scenario: &Scenario<N>,
     period: u32,
@@ -89,9 +95,12 @@ pub(crate) fn next_clocks<const N: usize>(
 ) -> Option<ClockRecord<N>>
     requires capacity { IsCapacity N }
     requires in_run { period < scenario.now.periods }
-    requires records { records.now ≡ map (λ i. outcome_of (view (run_of (system_of scenario.now)) i period)) (ids_below scenario.now.config.nodes) }
-    requires offsets { offsets_kept (option_map clock_shown before) ≡ offsets_before scenario.now period }
-    ensures { option_map clock_shown result ≡ option_map (λ c. clock_in (system_of scenario.now) c period) scenario.now.clock }
+    requires records { records.now ≡ map (λ i. outcome_of
+        (view (run_of (system_of scenario.now)) i period)) (ids_below scenario.now.config.nodes) }
+    requires offsets { offsets_kept (option_map clock_shown before)
+        ≡ offsets_before scenario.now period }
+    ensures { option_map clock_shown result
+        ≡ option_map (λ c. clock_in (system_of scenario.now) c period) scenario.now.clock }
 {
     offsets();
     let Some(plan) = scenario.clock() else {

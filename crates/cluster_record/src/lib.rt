@@ -1,4 +1,5 @@
-//! The record of a period of all nodes: the frames that they sent, what each made of them, and how they corrected their clocks.
+//! The record of a period of all nodes: the frames that they sent, what each made of them, and how
+//! they corrected their clocks.
 //!
 //! All memory of a record is taken when it is opened.
 #![tactic(auto)]

@@ -1,6 +1,7 @@
 //! What is shown of a period.
 
-ghost use Rattle.std.specs.Prelude.{◌≡◌, ◌<◌, ◌≤◌, ◌+◌, ◌*◌, [], Some, All, map, length, slice_get, slice_index_or};
+ghost use Rattle.std.specs.Prelude.{◌≡◌, ◌<◌, ◌≤◌, ◌+◌, ◌*◌, [], Some, All, map, length, slice_get};
+ghost use Rattle.std.specs.Prelude.{slice_index_or};
 ghost use Rattle.node_grid.specs.Capacity.{IsCapacity};
 ghost use Rattle.slot_plan.specs.Slots.{slot_count};
 ghost use Rattle.cluster_periods.specs.Record.{frame_at};
@@ -28,7 +29,8 @@ pub struct PeriodRecord<const N: usize> {
     pub retire: u16,
     /// The reference node, the least node of class N, where there is one.
     pub reference: Option<u8>,
-    /// The members in the reference node's agreed state when the period began; none without such a state.
+    /// The members in the reference node's agreed state when the period began; none without such a
+    /// state.
     pub members: NodeSet<N>,
     /// How many members there are, and how many of each faulty class.
     pub budget: Budget,

@@ -4,7 +4,8 @@ ghost use Rattle.run_text.specs.PeriodText.{refused_text};
 ghost use Rattle.input_lines.specs.Devices.{sink_seen, source_seen, WritesSome};
 ghost use Rattle.controller.specs.Input.{event_limit};
 ghost use Rattle.controller.specs.Course.{closing};
-ghost use Rattle.controller.specs.Session.{line_status, AnswersLine, TakesLines, Rounds, Concludes, Runs, IsReady, stand};
+ghost use Rattle.controller.specs.Session.{line_status, AnswersLine, TakesLines, Rounds, Concludes};
+ghost use Rattle.controller.specs.Session.{Runs, IsReady, stand};
 
 use crate::Status;
 use input_lines::{LineError, Lines};

@@ -11,6 +11,7 @@ pub mod Rows
 pub mod Early
 pub mod Narrow
 pub mod Gathered
+pub mod Pushed
 pub mod Lies
 pub mod Refusals
 pub mod Versions

@@ -3,7 +3,9 @@ ghost use Rattle.std.specs.Prelude.{◌≡◌, ◌<◌, ◌≤◌, map, pos, IfO
 ghost use Rattle.node_grid.specs.NodeSet.{ids_below};
 ghost use Rattle.scenario.specs.Seen.{policy_view, channel_view, task_view, lie_view, clock_view};
 ghost use Rattle.drawn_scenarios.specs.Choices.{AreClockChoices};
-ghost use Rattle.drawn_scenarios.specs.Cluster.{version_of, policy, sensor_of, copies_of, channels_of, copy_count, task_of, tasks_of, frame_of, clock_of};
+ghost use Rattle.drawn_scenarios.specs.Cluster.{version_of, policy, sensor_of, copies_of};
+ghost use Rattle.drawn_scenarios.specs.Cluster.{channels_of, copy_count, task_of, tasks_of};
+ghost use Rattle.drawn_scenarios.specs.Cluster.{frame_of, clock_of};
 
 use crate::choices::ClockChoices;
 use crate::options::Options;

@@ -1,7 +1,10 @@
 //! Which nodes fall ill, when, for how long and how: drawn from a generator.
 ghost use Rattle.std.specs.Prelude.{◌≡◌, ◌+◌, ◌-◌, ◌*◌, ◌^◌, ◌<◌, ◌≤◌, ℤ, Option, IfOk, OnOk};
 ghost use Rattle.drawn_scenarios.specs.Adding.{Draws, AddsBouts};
-ghost use Rattle.drawn_scenarios.specs.Bouts.{value_drawn, accusation_drawn, two_values, split_drawn, lie_drawn, maybe_lie, maybe_lies, benign, symmetric, asymmetric, conduct_drawn, bout_drawn, channel_count, story, drawn_bouts};
+ghost use Rattle.drawn_scenarios.specs.Bouts.{value_drawn, accusation_drawn, two_values};
+ghost use Rattle.drawn_scenarios.specs.Bouts.{split_drawn, lie_drawn, maybe_lie, maybe_lies};
+ghost use Rattle.drawn_scenarios.specs.Bouts.{benign, symmetric, asymmetric, conduct_drawn};
+ghost use Rattle.drawn_scenarios.specs.Bouts.{bout_drawn, channel_count, story, drawn_bouts};
 
 use crate::bout::{Bout, Conduct, Fault};
 use crate::choices::FaultClass;

@@ -1,8 +1,11 @@
 //! The fault lines, restarts and lies of bouts, as parts of a scenario.
 ghost use Rattle.std.specs.Prelude.{◌≡◌, ◌<◌, ◌≤◌, ◌++◌, ◌∷◌, [], map, IfOk, OnOk};
 ghost use Rattle.std.specs.List.{flat_map};
-ghost use Rattle.scenario.specs.Seen.{numbers_view, effect_view, fault_view, restart_view, lie_view};
-ghost use Rattle.drawn_scenarios.specs.Lines.{effect_of, slots_of, group, some_of, rest_of, line, lines_of, lie, lies_of, restarts_in, restarts_at, restarts_of};
+ghost use Rattle.scenario.specs.Seen.{numbers_view, effect_view, fault_view, restart_view};
+ghost use Rattle.scenario.specs.Seen.{lie_view};
+ghost use Rattle.drawn_scenarios.specs.Lines.{effect_of, slots_of, group, some_of, rest_of, line};
+ghost use Rattle.drawn_scenarios.specs.Lines.{lines_of, lie, lies_of, restarts_in, restarts_at};
+ghost use Rattle.drawn_scenarios.specs.Lines.{restarts_of};
 
 use crate::bout::{Bout, Conduct, Fault};
 use crate::options::Options;

@@ -2,7 +2,9 @@
 ghost use Rattle.std.specs.Prelude.{◌≡◌, ◌<◌, pos, None, Some};
 ghost use Rattle.std.specs.Option.{option_map};
 ghost use Rattle.scenario.specs.Numbers.{is_between, natural};
-ghost use Rattle.drawn_scenarios.specs.Options.{has_few_rounds, has_few_faulty, cluster_refusal, illness_refusal, clock_refusal, options_refusal, clock_choices_of, choices_of};
+ghost use Rattle.drawn_scenarios.specs.Options.{has_few_rounds, has_few_faulty, cluster_refusal};
+ghost use Rattle.drawn_scenarios.specs.Options.{illness_refusal, clock_refusal, options_refusal};
+ghost use Rattle.drawn_scenarios.specs.Options.{clock_choices_of, choices_of};
 
 use crate::choices::{Choices, ClockChoices};
 use crate::option_parts::{ClockOptionParts, OptionParts, OptionsError};

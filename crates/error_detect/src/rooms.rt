@@ -7,7 +7,8 @@ use node_grid::NoMemory;
 use std::alloc::Global;
 
 /// Room for the bytes of one frame of each sender, for watches that take their slots one after the
-/// other: each has it for the time of its slot, by [`crate::SlotWatch::swap_rooms`] before and after.
+/// other: each has it for the time of its slot, by [`crate::SlotWatch::swap_rooms`] before and
+/// after.
 #[derive(Drop)]
 pub struct Rooms {
     room: Vec<u8>,

@@ -1,12 +1,14 @@
 //! What arrived from each sender in a slot.
 
-ghost use Rattle.std.specs.Prelude.{ℕ, ◌≡◌, ◌≢◌, ◌<◌, ◌≤◌, true, false, None, IfOk, IfSome, IfNone, IsSome, option_map, length, map, replicate, take};
+ghost use Rattle.std.specs.Prelude.{ℕ, ◌≡◌, ◌≢◌, ◌<◌, ◌≤◌, true, false, None, IfOk, IfSome, IfNone};
+ghost use Rattle.std.specs.Prelude.{IsSome, option_map, length, map, replicate, take};
 ghost use Rattle.node_grid.specs.Capacity.{IsCapacity};
 ghost use Rattle.frames.specs.Seen.{content, expected, HasWidth};
 ghost use Rattle.frames.specs.Spelling.{head_of};
 ghost use Rattle.node_grid.specs.NodeSet.{has_id, ids_where};
 ghost use Rattle.error_detect.specs.Finding.{is_good_at};
-ghost use Rattle.error_detect.specs.Watching.{fresh, opened, delivered, closed, of_sender, HasRoom, finding_at, findings, told_at};
+ghost use Rattle.error_detect.specs.Watching.{fresh, opened, delivered, closed, of_sender, HasRoom};
+ghost use Rattle.error_detect.specs.Watching.{finding_at, findings, told_at};
 ghost use Rattle.error_detect.specs.Entries.{body_begin, entries_begin, HoldsBodies};
 
 use crate::arrival::Arrivals;
@@ -86,7 +88,8 @@ impl<const N: usize> SlotWatch<N> {
         })
     }
 
-    /// Opens a slot in which this is expected of each sender, whatever sender it names, and forgets the last one.
+    /// Opens a slot in which this is expected of each sender, whatever sender it names, and forgets
+    /// the last one.
     pub fn open_slot(&mut self, expect: &Expect<N>)
         requires nodes { expect.now.nodes ≡ self.old.nodes }
         requires some_nodes { 0 < expect.now.nodes }
@@ -134,7 +137,8 @@ impl<const N: usize> SlotWatch<N> {
         self.arrivals.take(&expected, tick, bytes);
     }
 
-    /// What is expected of each sender of the last slot, whatever sender it names; None before the first slot.
+    /// What is expected of each sender of the last slot, whatever sender it names; None before the
+    /// first slot.
     pub fn expect(&self) -> Option<&Expect<N>>
         ensures is { option_map (λ e. expected e.now) result ≡ self.now.expect }
         ensures capacity { IsCapacity N }
@@ -171,7 +175,8 @@ impl<const N: usize> SlotWatch<N> {
         found
     }
 
-    /// Closes the slot and answers the finding of each node; Good for the watch's own, and where there is no node.
+    /// Closes the slot and answers the finding of each node; Good for the watch's own, and where
+    /// there is no node.
     pub fn close(&mut self) -> [Finding; N]
         requires open { self.old.is_open ≡ true }
         ensures found { result ≡ findings N self.old }
@@ -189,9 +194,11 @@ impl<const N: usize> SlotWatch<N> {
         requires some_slot { IsSome self.now.expect }
         requires node { from < self.now.nodes }
         requires other { from ≢ self.now.me }
-        ensures head { IfSome result (λ f. IfSome self.now.expect (λ e. f.head ≡ head_of (of_sender from e))) }
+        ensures head { IfSome result (λ f. IfSome self.now.expect (λ e. f.head
+            ≡ head_of (of_sender from e))) }
         ensures widths { IfSome result (λ f. HasWidth self.now.nodes f.body) }
-        ensures told { option_map (λ f. content self.now.nodes f.body) result ≡ told_at self.now from }
+        ensures told { option_map (λ f. content self.now.nodes f.body) result
+            ≡ told_at self.now from }
     {
         if !self.good.has(from) {
             return None;

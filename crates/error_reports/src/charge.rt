@@ -9,9 +9,9 @@ const KIND_ROOM: u8 = 16;
 
 /// The mask of the kinds that `node` is charged with, by the settled `rows` of the other `members`.
 ///
-/// A row counts where it is there, stands for a member, and isn't the node's own. The node is charged with each
-/// kind that more than half of the rows that count give it; where no row counts, with nothing. Whether `node` is
-/// a member makes no difference.
+/// A row counts where it is there, stands for a member, and isn't the node's own. The node is
+/// charged with each kind that more than half of the rows that count give it; where no row counts,
+/// with nothing. Whether `node` is a member makes no difference.
 pub fn charged<const N: usize>(rows: &Matrix<N>, members: &NodeSet<N>, node: u8) -> u16
     requires capacity { IsCapacity N }
     requires in_range { node < N }

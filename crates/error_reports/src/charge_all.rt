@@ -10,14 +10,16 @@ use node_grid::{Matrix, NodeSet, Planes};
 /// A limit that no count of accusers passes.
 const NO_CHARGE: u8 = 31;
 
-/// The mask of the kinds that each node below `nodes` is charged with, by the settled `rows` of the `members`; 0 for
-/// the other nodes.
+/// The mask of the kinds that each node below `nodes` is charged with, by the settled `rows` of the
+/// `members`; 0 for the other nodes.
 ///
-/// Entry j is what `charged` gives for node j. All kinds of all nodes are counted together, by planes of bits.
+/// Entry j is what `charged` gives for node j. All kinds of all nodes are counted together, by
+/// planes of bits.
 pub fn charged_all<const N: usize>(rows: &Matrix<N>, members: &NodeSet<N>, nodes: u8) -> [u16; N]
     requires capacity { IsCapacity N }
     requires nodes { nodes ≤ N }
-    ensures charged { (j : ℕ) → j < nodes → slice_index result j ≡ charged_mask rows.now members.now j }
+    ensures charged { (j : ℕ) → j < nodes → slice_index result j
+        ≡ charged_mask rows.now members.now j }
     ensures rest { (j : ℕ) → nodes ≤ j → j < N → slice_index result j ≡ 0 }
 {
     let (accusers, senders) = tally(rows, members);
@@ -26,10 +28,12 @@ pub fn charged_all<const N: usize>(rows: &Matrix<N>, members: &NodeSet<N>, nodes
         .masks
 }
 
-/// How many rows give each node each kind, those of the nodes themselves apart, and how many rows there are.
+/// How many rows give each node each kind, those of the nodes themselves apart, and how many rows
+/// there are.
 fn tally<const N: usize>(rows: &Matrix<N>, members: &NodeSet<N>) -> (Planes<N>, u8)
     requires { IsCapacity N }
-    ensures accusers { EachCount N (λ j k. count_at result.0 j k ≡ count (is_accuser rows.now j k) members.now) }
+    ensures accusers { EachCount N (λ j k. count_at result.0 j k
+        ≡ count (is_accuser rows.now j k) members.now) }
     ensures senders { result.1 ≡ count (is_sender rows.now) members.now }
     ensures few { result.1 ≤ 16 }
     ensures members { IsIdSet N members.now }
@@ -53,7 +57,8 @@ fn limits<const N: usize>(rows: &Matrix<N>, members: &NodeSet<N>, nodes: u8, sen
     requires nodes { nodes ≤ N }
     requires members { IsIdSet N members.now }
     requires senders { senders ≡ count (is_sender rows.now) members.now }
-    ensures voters { (j : ℕ) → j < nodes → slice_index result j ≡ count (is_voter rows.now j) members.now / 2 }
+    ensures voters { (j : ℕ) → j < nodes → slice_index result j
+        ≡ count (is_voter rows.now j) members.now / 2 }
     ensures rest { (j : ℕ) → nodes ≤ j → j < N → slice_index result j ≡ 31 }
 {
     let mut limits = [NO_CHARGE; N];

@@ -11,8 +11,8 @@ use std::marker::Model;
 
 /// What one node notes against the others, in this period and for the next one.
 ///
-/// What a node finds in a period's report slots comes too late for the row that it has sent by then: it is carried
-/// over to the next period's row.
+/// What a node finds in a period's report slots comes too late for the row that it has sent by
+/// then: it is carried over to the next period's row.
 #[derive(Clone, Copy)]
 pub struct RowBuilder<const N: usize> {
     nodes: u8,
@@ -28,11 +28,29 @@ impl<const N: usize> Model for RowBuilder<N> {
 
     ghost Value = { Notes };
 
-    ghost view = { λ b. record { nodes = b.nodes; me = b.me; kinds = b.kinds; row = b.row; carried = b.carried } };
+    ghost view = { λ b. record {
+      nodes = b.nodes;
+      me = b.me;
+      kinds = b.kinds;
+      row = b.row;
+      carried = b.carried;
+    } };
 
-    ghost invariant = { λ b. AreNotes N (record { nodes = b.nodes; me = b.me; kinds = b.kinds; row = b.row; carried = b.carried }) };
+    ghost invariant = { λ b. AreNotes N (record {
+      nodes = b.nodes;
+      me = b.me;
+      kinds = b.kinds;
+      row = b.row;
+      carried = b.carried;
+    }) };
 
-    ghost inverse = { λ n. record { nodes = n.nodes; me = n.me; kinds = n.kinds; row = n.row; carried = n.carried } };
+    ghost inverse = { λ n. record {
+      nodes = n.nodes;
+      me = n.me;
+      kinds = n.kinds;
+      row = n.row;
+      carried = n.carried;
+    } };
 }
 
 /// This kind, where it is so.
@@ -69,7 +87,8 @@ fn joined(mask: u16, kind: Option<u8>, kinds: u8) -> u16
     (mask | bit_of(kind, kinds)) & all_kinds(kinds)
 }
 
-/// What a row says of the nodes other than `me`, and besides the kind of error that `kind_of` gives of each.
+/// What a row says of the nodes other than `me`, and besides the kind of error that `kind_of` gives
+/// of each.
 fn besides<const N: usize, F: Fn(u8) -> Option<u8>>(
     row: &Row<N>,
     nodes: u8,
@@ -94,13 +113,19 @@ fn besides<const N: usize, F: Fn(u8) -> Option<u8>>(
 }
 
 impl<const N: usize> RowBuilder<N> {
-    /// Node `me` of so many nodes notes nothing yet. A row has room for kinds below `kinds`: 8 in version 1, and 16 in
-    /// version 2.
+    /// Node `me` of so many nodes notes nothing yet. A row has room for kinds below `kinds`: 8 in
+    /// version 1, and 16 in version 2.
     pub fn new(nodes: u8, me: u8, kinds: u8) -> Self
         requires capacity { IsCapacity N }
         requires nodes { nodes ≤ N }
         requires kinds { kinds ≤ 16 }
-        ensures { result ≡ record { nodes = nodes; me = me; kinds = kinds; row = replicate N 0; carried = replicate N 0 } }
+        ensures { result ≡ record {
+          nodes = nodes;
+          me = me;
+          kinds = kinds;
+          row = replicate N 0;
+          carried = replicate N 0;
+        } }
     {
         RowBuilder {
             nodes,
@@ -111,7 +136,8 @@ impl<const N: usize> RowBuilder<N> {
         }
     }
 
-    /// Notes an error of this kind of `node`, in this period's row. `node_grid::kind` names the kinds.
+    /// Notes an error of this kind of `node`, in this period's row. `node_grid::kind` names the
+    /// kinds.
     pub fn note(&mut self, node: u8, kind: u8)
         requires node { node < self.old.nodes }
         requires kind { kind < self.old.kinds }
@@ -133,8 +159,8 @@ impl<const N: usize> RowBuilder<N> {
         self.carried.masks[node as usize] |= 1 << kind;
     }
 
-    /// Notes of each other node in use the kind of error that `kind_of` gives, if any, in this period's row. A kind that
-    /// a row has no room for is left out.
+    /// Notes of each other node in use the kind of error that `kind_of` gives, if any, in this
+    /// period's row. A kind that a row has no room for is left out.
     pub fn note_each<F: Fn(u8) -> Option<u8>>(&mut self, kind_of: F)
         requires { (j : ℕ) → j < N → j < self.old.nodes → j ≢ self.old.me → F.pre kind_of j }
         ensures kept { self.new ≡ record self.old { row = self.new.row } }
@@ -156,8 +182,8 @@ impl<const N: usize> RowBuilder<N> {
         self.carried = besides(&self.carried, self.nodes, self.me, self.kinds, kind_of);
     }
 
-    /// Notes an error of this kind of each other node in use that is in the set, in this period's row. A kind that a row
-    /// has no room for is left out.
+    /// Notes an error of this kind of each other node in use that is in the set, in this period's
+    /// row. A kind that a row has no room for is left out.
     pub fn note_all(&mut self, accused: &NodeSet<N>, kind: u8)
         ensures { self.new ≡ also_noted N self.old (of_each accused.now kind) }
     {
@@ -202,7 +228,8 @@ impl<const N: usize> RowBuilder<N> {
         self.row = Row::zero();
     }
 
-    /// Begins the next period: its row is what was carried over, and nothing is carried from there on.
+    /// Begins the next period: its row is what was carried over, and nothing is carried from there
+    /// on.
     pub fn next_period(&mut self)
         ensures { self.new ≡ record self.old { row = self.old.carried; carried = replicate N 0 } }
     {

@@ -24,7 +24,8 @@ pub fn blocks_of<const N: usize>(
 ) -> Result<Blocks, AllocError>
     requires shape { IsShape N shape.now.nodes shape.now.slots shape.now.periods }
     requires long { length senders.now ≡ shape.now.periods }
-    ensures { IfOk result (AreBlocks (is_in shape.now.nodes senders.now) shape.now.nodes shape.now.periods) }
+    ensures { IfOk result (AreBlocks (is_in shape.now.nodes senders.now) shape.now.nodes
+        shape.now.periods) }
 {
     let nodes = shape.nodes as usize;
     let mut numbers = vec![in alloc; 0u16; shape.periods as usize * nodes]?;

@@ -35,7 +35,8 @@ impl Budget {
 
     /// Whether `m` relay rounds tolerate this: `a <= m` and `n > 2a + 2s + b + m`.
     ///
-    /// The bound of `n` is that of the hybrid fault model of Thambidurai and Park (1988), with every round counted.
+    /// The bound of `n` is that of the hybrid fault model of Thambidurai and Park (1988), with
+    /// every round counted.
     pub fn holds(&self, m: u8) -> bool
         ensures { IsTrue result ↔ Holds self.now m }
     {

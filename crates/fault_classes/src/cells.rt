@@ -1,9 +1,12 @@
-ghost use Rattle.std.specs.Prelude.{◌≡◌, ℕ, ◌+◌, ◌*◌, ◌^◌, ◌<◌, ◌≤◌, ◌⊎◌, [], true, Some, None, MatchBool, MatchResult, length, map, min, vec_len};
+ghost use Rattle.std.specs.Prelude.{◌≡◌, ℕ, ◌+◌, ◌*◌, ◌^◌, ◌<◌, ◌≤◌, ◌⊎◌, [], true, Some, None};
+ghost use Rattle.std.specs.Prelude.{MatchBool, MatchResult, length, map, min, vec_len};
 ghost use Rattle.std.specs.List.{list_all, list_any};
 ghost use Rattle.fault_classes.specs.Blocks.{AreBlocks};
 ghost use Rattle.fault_classes.specs.Line.{line_of, slots_in};
 ghost use Rattle.fault_classes.specs.Rules.{is_line, first_overlap};
-ghost use Rattle.fault_classes.specs.Cells.{IsShape, IsTable, IsMarked, IsTaken, itself, in_row, in_block, place_at, touches_block, touches_cell, mark_of};
+ghost use Rattle.fault_classes.specs.Cells.{IsShape, IsTable, IsMarked, IsTaken, itself, in_row};
+ghost use Rattle.fault_classes.specs.Cells.{in_block, place_at, touches_block, touches_cell};
+ghost use Rattle.fault_classes.specs.Cells.{mark_of};
 
 use crate::blocks::Blocks;
 use crate::{FaultLine, PlanError};
@@ -18,7 +21,8 @@ pub struct Shape {
     pub periods: u32,
 }
 
-/// Marks the cells of these receivers in one row, all of which have to be free; else the answer is false.
+/// Marks the cells of these receivers in one row, all of which have to be free; else the answer is
+/// false.
 fn mark_row<const N: usize>(
     cells: &mut [u16],
     nodes: u8,
@@ -29,7 +33,8 @@ fn mark_row<const N: usize>(
     requires few { length cells.old < 2 ^ 32 }
     requires within { row * nodes + nodes ≤ length cells.old }
     requires some { 0 < nodes }
-    ensures { MatchBool result (IsMarked itself (in_row nodes row to.now) mark cells.old cells.new) (IsTaken itself (in_row nodes row to.now) cells.old) }
+    ensures { MatchBool result (IsMarked itself (in_row nodes row to.now) mark cells.old cells.new)
+        (IsTaken itself (in_row nodes row to.now) cells.old) }
 {
     let start = row * nodes as usize;
     for id in 0..nodes {
@@ -55,8 +60,13 @@ fn mark_block<const N: usize>(
     requires shape { IsShape N shape.now.nodes shape.now.slots shape.now.periods }
     requires few { length cells.old < 2 ^ 32 }
     requires small { block < 2 ^ 20 }
-    requires within { (block * shape.now.slots + shape.now.slots) * shape.now.nodes ≤ length cells.old }
-    ensures { MatchBool result (IsMarked itself (in_block shape.now.nodes shape.now.slots block line.now.to (slots_in line.now.slots)) mark cells.old cells.new) (IsTaken itself (in_block shape.now.nodes shape.now.slots block line.now.to (slots_in line.now.slots)) cells.old) }
+    requires within { (block * shape.now.slots + shape.now.slots) * shape.now.nodes
+        ≤ length cells.old }
+    ensures { MatchBool result (IsMarked itself
+        (in_block shape.now.nodes shape.now.slots block line.now.to (slots_in line.now.slots)) mark
+        cells.old cells.new) (IsTaken itself
+        (in_block shape.now.nodes shape.now.slots block line.now.to (slots_in line.now.slots))
+        cells.old) }
 {
     let slots = line.slots;
     for slot in 0..shape.slots {
@@ -79,10 +89,16 @@ fn mark_line<const N: usize>(
     mark: u16,
 ) -> bool
     requires shape { IsShape N shape.now.nodes shape.now.slots shape.now.periods }
-    requires blocks { AreBlocks (λ k. touches_block shape.now.nodes k (line_of line.now)) shape.now.nodes shape.now.periods blocks.now }
-    requires line { is_line shape.now.nodes shape.now.slots shape.now.periods (line_of line.now) ≡ true }
+    requires blocks { AreBlocks (λ k. touches_block shape.now.nodes k (line_of line.now))
+        shape.now.nodes shape.now.periods blocks.now }
+    requires line { is_line shape.now.nodes shape.now.slots shape.now.periods (line_of line.now)
+        ≡ true }
     requires whole { length cells.old ≡ (blocks.now.last + 1) * shape.now.slots * shape.now.nodes }
-    ensures { MatchBool result (IsMarked (place_at shape.now.nodes shape.now.slots blocks.now.numbers.items) (λ c. touches_cell shape.now.nodes shape.now.slots c (line_of line.now)) mark cells.old cells.new) (IsTaken (place_at shape.now.nodes shape.now.slots blocks.now.numbers.items) (λ c. touches_cell shape.now.nodes shape.now.slots c (line_of line.now)) cells.old) }
+    ensures { MatchBool result (IsMarked (place_at shape.now.nodes shape.now.slots
+        blocks.now.numbers.items) (λ c. touches_cell shape.now.nodes shape.now.slots c
+        (line_of line.now)) mark cells.old cells.new)
+        (IsTaken (place_at shape.now.nodes shape.now.slots blocks.now.numbers.items)
+        (λ c. touches_cell shape.now.nodes shape.now.slots c (line_of line.now)) cells.old) }
 {
     for period in line.first..line.last + 1 {
         let block = blocks.numbers[period as usize * shape.nodes as usize + line.from as usize];
@@ -101,10 +117,15 @@ pub fn cells_of<const N: usize>(
     lines: &[FaultLine<N>],
 ) -> Result<Vec<u16>, PlanError>
     requires shape { IsShape N shape.now.nodes shape.now.slots shape.now.periods }
-    requires blocks { AreBlocks (λ k. list_any (touches_block shape.now.nodes k) (map line_of lines.now)) shape.now.nodes shape.now.periods blocks.now }
+    requires blocks { AreBlocks (λ k. list_any (touches_block shape.now.nodes k)
+        (map line_of lines.now)) shape.now.nodes shape.now.periods blocks.now }
     requires few { length lines.now < 2 ^ 32 }
-    requires lines { list_all (is_line shape.now.nodes shape.now.slots shape.now.periods) (map line_of lines.now) ≡ true }
-    ensures { MatchResult result (λ v. IsTable shape.now.nodes shape.now.slots blocks.now (map line_of lines.now) v.items × (first_overlap [] (map line_of lines.now) ≡ None)) (λ e. (e ≡ PlanError.NoMemory) ⊎ ((k : ℕ) × (e ≡ PlanError.Overlap k) × (first_overlap [] (map line_of lines.now) ≡ Some k))) }
+    requires lines { list_all (is_line shape.now.nodes shape.now.slots shape.now.periods)
+        (map line_of lines.now) ≡ true }
+    ensures { MatchResult result (λ v. IsTable shape.now.nodes shape.now.slots blocks.now
+        (map line_of lines.now) v.items × (first_overlap [] (map line_of lines.now) ≡ None))
+        (λ e. (e ≡ PlanError.NoMemory) ⊎ ((k : ℕ) × (e ≡ PlanError.Overlap k)
+        × (first_overlap [] (map line_of lines.now) ≡ Some k))) }
 {
     let count = (blocks.last as usize + 1) * shape.slots as usize * shape.nodes as usize;
     let Ok(mut cells) = vec![in alloc; 0u16; count] else {

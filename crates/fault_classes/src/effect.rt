@@ -1,4 +1,5 @@
-/// What a fault line does to each frame that it touches. A frame that no line touches arrives once, at tick 15.
+/// What a fault line does to each frame that it touches. A frame that no line touches arrives once,
+/// at tick 15.
 #[derive(Drop)]
 pub enum Effect {
     /// Nothing arrives.

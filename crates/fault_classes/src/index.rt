@@ -1,4 +1,5 @@
-ghost use Rattle.std.specs.Prelude.{◌≡◌, ℕ, ◌^◌, ◌<◌, ◌≤◌, ◌⊎◌, true, not, None, Some, IfOk, MatchResult, map, length, option_map, slice_index};
+ghost use Rattle.std.specs.Prelude.{◌≡◌, ℕ, ◌^◌, ◌<◌, ◌≤◌, ◌⊎◌, true, not, None, Some, IfOk};
+ghost use Rattle.std.specs.Prelude.{MatchResult, map, length, option_map, slice_index};
 ghost use Rattle.fault_classes.specs.Change.{change_of};
 ghost use Rattle.fault_classes.specs.Line.{line_of, effect_at, touches};
 ghost use Rattle.slot_plan.specs.Slots.{slot_count};
@@ -41,9 +42,11 @@ impl<const N: usize> Model for PlanIndex<N> {
 
     ghost Value = { Plan };
 
-    ghost view = { λ x. plan_of x.shape.nodes x.rounds x.shape.periods (map line_of x.lines.items) x.restarts.items };
+    ghost view = { λ x. plan_of x.shape.nodes x.rounds x.shape.periods (map line_of x.lines.items)
+        x.restarts.items };
 
-    ghost invariant = { λ x. IsIndex N (plan_of x.shape.nodes x.rounds x.shape.periods (map line_of x.lines.items) x.restarts.items) x.shape.slots x.restarting.items x.touches };
+    ghost invariant = { λ x. IsIndex N (plan_of x.shape.nodes x.rounds x.shape.periods
+        (map line_of x.lines.items) x.restarts.items) x.shape.slots x.restarting.items x.touches };
 }
 
 /// Which line touches each frame, where no rule refuses these lines and restarts.
@@ -57,8 +60,10 @@ fn accepted_touches<const N: usize>(
     requires few_lines { length lines.now < 2 ^ 32 }
     requires few_restarts { length restarts.now < 2 ^ 32 }
     ensures { MatchResult result
-        (λ v. AreAccepted shape.now.nodes shape.now.slots shape.now.periods (map line_of lines.now) restarts.now v)
-        (λ e. IsRefusedBy shape.now.nodes shape.now.slots shape.now.periods (map line_of lines.now) restarts.now e) }
+        (λ v. AreAccepted shape.now.nodes shape.now.slots shape.now.periods (map line_of lines.now)
+        restarts.now v)
+        (λ e. IsRefusedBy shape.now.nodes shape.now.slots shape.now.periods (map line_of lines.now)
+        restarts.now e) }
 {
     if let Some(place) = first_bad_line(lines, shape) {
         return Err(PlanError::Range(place));
@@ -106,7 +111,9 @@ impl<const N: usize> PlanIndex<N> {
         requires shape { IsShape N nodes (slot_count m) periods }
         requires few_lines { length lines.items < 2 ^ 32 }
         requires few_restarts { length restarts.items < 2 ^ 32 }
-        ensures { let plan = plan_of nodes m periods (map line_of lines.entry.items) restarts.items in MatchResult result (λ x. (x ≡ plan) × (refusal_of plan ≡ None)) (λ e. (e ≡ PlanError.NoMemory) ⊎ (refusal_of plan ≡ Some e)) }
+        ensures { let plan = plan_of nodes m periods (map line_of lines.entry.items) restarts.items
+            in MatchResult result (λ x. (x ≡ plan) × (refusal_of plan ≡ None))
+            (λ e. (e ≡ PlanError.NoMemory) ⊎ (refusal_of plan ≡ Some e)) }
     {
         let shape = Shape {
             nodes,
@@ -157,15 +164,19 @@ impl<const N: usize> PlanIndex<N> {
         self.restarts.len() as u32
     }
 
-    /// For each receiver the number of the line that touches a node's frame in a slot: 0 for none, and 1 for the first
-    /// line.
+    /// For each receiver the number of the line that touches a node's frame in a slot: 0 for none,
+    /// and 1 for the first line.
     pub fn numbers(&self, period: u32, slot: u8, from: u8) -> &[u16]
         requires period { period < self.now.periods }
         requires slot { slot < slot_count self.now.rounds }
         requires from { from < self.now.nodes }
         ensures long { length result.now ≡ self.now.nodes }
-        ensures entries { (to : ℕ) → to < self.now.nodes → slice_index result.now to ≡ entry_of (touches period slot from to) self.now.lines }
-        ensures alike { (one other : ℕ) → one < self.now.nodes → other < self.now.nodes → slice_index result.now one ≡ slice_index result.now other → effect_at self.now.lines period slot from one ≡ effect_at self.now.lines period slot from other }
+        ensures entries { (to : ℕ) → to < self.now.nodes → slice_index result.now to
+            ≡ entry_of (touches period slot from to) self.now.lines }
+        ensures alike { (one other : ℕ) → one < self.now.nodes → other < self.now.nodes →
+            slice_index result.now one ≡ slice_index result.now other →
+            effect_at self.now.lines period slot from one
+            ≡ effect_at self.now.lines period slot from other }
     {
         let nodes = self.shape.nodes as usize;
         let block = self.touches.blocks.numbers[period as usize * nodes + from as usize];
@@ -179,7 +190,8 @@ impl<const N: usize> PlanIndex<N> {
         requires slot { slot < slot_count self.now.rounds }
         requires from { from < self.now.nodes }
         requires to { to < self.now.nodes }
-        ensures { option_map (λ e. change_of e.now) result ≡ effect_at self.now.lines period slot from to }
+        ensures { option_map (λ e. change_of e.now) result
+            ≡ effect_at self.now.lines period slot from to }
     {
         let row = self.numbers(period, slot, from);
         let number = row[to as usize];

@@ -1,5 +1,6 @@
 //! What the class of a node tells of its frames, for all plans: each function's promise is the law.
-ghost use Rattle.fault_classes.specs.Laws.{CleanLaw, BenignLaw, SymmetricLaw, RecoveryLaw, SoundnessLaw, BudgetLaw};
+ghost use Rattle.fault_classes.specs.Laws.{CleanLaw, BenignLaw, SymmetricLaw, RecoveryLaw};
+ghost use Rattle.fault_classes.specs.Laws.{SoundnessLaw, BudgetLaw};
 
 /// No line touches a frame of a sound node.
 pub fn clean()
@@ -16,7 +17,8 @@ pub fn symmetric()
     ensures { SymmetricLaw }
 {}
 
-/// Where a node joins, the nodes of class N outnumber those that it may take for good and that aren't.
+/// Where a node joins, the nodes of class N outnumber those that it may take for good and that
+/// aren't.
 pub fn recovery()
     ensures { RecoveryLaw }
 {}

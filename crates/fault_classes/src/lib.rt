@@ -1,8 +1,9 @@
-//! Fault lines, what they make of a node in each period, and how many faulty nodes a period tolerates.
+//! Fault lines, what they make of a node in each period, and how many faulty nodes a period
+//! tolerates.
 //!
-//! A fault line changes the frames of one sender on stated links, periods and slots. From the lines and the restarts
-//! alone each node has a class in each period, after the benign, symmetric and asymmetric faults of Thambidurai and
-//! Park (1988).
+//! A fault line changes the frames of one sender on stated links, periods and slots. From the lines
+//! and the restarts alone each node has a class in each period, after the benign, symmetric and
+//! asymmetric faults of Thambidurai and Park (1988).
 #![tactic(auto)]
 
 mod blocks;

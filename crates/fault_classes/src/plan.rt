@@ -1,9 +1,11 @@
-ghost use Rattle.std.specs.Prelude.{◌≡◌, ◌≢◌, ℕ, ◌^◌, ◌<◌, ◌≤◌, ◌⊎◌, None, Some, All, MatchResult, map, length, option_map};
+ghost use Rattle.std.specs.Prelude.{◌≡◌, ◌≢◌, ℕ, ◌^◌, ◌<◌, ◌≤◌, ◌⊎◌, None, Some, All, MatchResult};
+ghost use Rattle.std.specs.Prelude.{map, length, option_map};
 ghost use Rattle.node_grid.specs.Capacity.{IsCapacity};
 ghost use Rattle.fault_classes.specs.Change.{change_of};
 ghost use Rattle.fault_classes.specs.Line.{line_of, effect_at};
 ghost use Rattle.slot_plan.specs.Slots.{slot_count};
-ghost use Rattle.fault_classes.specs.Plan.{plan_of, restarts_at, is_clean, is_sound_in, class_of, reference_of};
+ghost use Rattle.fault_classes.specs.Plan.{plan_of, restarts_at, is_clean, is_sound_in, class_of};
+ghost use Rattle.fault_classes.specs.Plan.{reference_of};
 ghost use Rattle.fault_classes.specs.Rules.{IsPlan, refusal_of};
 ghost use Rattle.fault_classes.specs.Budget.{IsBudget};
 
@@ -37,14 +39,15 @@ impl<const N: usize> Model for FaultPlan<N> {
 }
 
 impl<const N: usize> FaultPlan<N> {
-    /// The plan of these lines and restarts, for so many nodes, `m` relay rounds and so many periods.
+    /// The plan of these lines and restarts, for so many nodes, `m` relay rounds and so many
+    /// periods.
     ///
     /// # Errors
     ///
-    /// `Range`: a line is out of range; `Overlap`: it shares a link, a period and a slot with a line before it;
-    /// `Restart`: a restart is out of range or doesn't come after the one before it; `TooMany`: there are more than
-    /// 4,096 lines. Each comes only where no earlier one does, and names the first such place. `NoMemory`: there was
-    /// no memory.
+    /// `Range`: a line is out of range; `Overlap`: it shares a link, a period and a slot with a
+    /// line before it; `Restart`: a restart is out of range or doesn't come after the one before
+    /// it; `TooMany`: there are more than 4,096 lines. Each comes only where no earlier one does,
+    /// and names the first such place. `NoMemory`: there was no memory.
     pub fn new(
         alloc: Global,
         nodes: u8,
@@ -62,7 +65,9 @@ impl<const N: usize> FaultPlan<N> {
         requires few_periods { periods ≤ 1024 }
         requires few_lines { length lines.items < 2 ^ 32 }
         requires few_restarts { length restarts.items < 2 ^ 32 }
-        ensures { let plan = plan_of nodes m periods (map line_of lines.entry.items) restarts.items in MatchResult result (λ x. (x ≡ plan) × (refusal_of plan ≡ None)) (λ e. (e ≡ PlanError.NoMemory) ⊎ (refusal_of plan ≡ Some e)) }
+        ensures { let plan = plan_of nodes m periods (map line_of lines.entry.items) restarts.items
+            in MatchResult result (λ x. (x ≡ plan) × (refusal_of plan ≡ None))
+            (λ e. (e ≡ PlanError.NoMemory) ⊎ (refusal_of plan ≡ Some e)) }
     {
         let index = PlanIndex::new(alloc, nodes, m, periods, lines, restarts)?;
         let Ok(standings) = standings_of(alloc, &index) else {
@@ -71,14 +76,16 @@ impl<const N: usize> FaultPlan<N> {
         Ok(FaultPlan { index, standings })
     }
 
-    /// The effect of the one line that has the link, the period and the slot; None exactly where no line has them.
+    /// The effect of the one line that has the link, the period and the slot; None exactly where no
+    /// line has them.
     pub fn effect(&self, period: u32, slot: u8, from: u8, to: u8) -> Option<&Effect>
         requires period { period < self.now.periods }
         requires slot { slot < slot_count self.now.rounds }
         requires from { from < self.now.nodes }
         requires to { to < self.now.nodes }
         requires link { from ≢ to }
-        ensures { option_map (λ e. change_of e.now) result ≡ effect_at self.now.lines period slot from to }
+        ensures { option_map (λ e. change_of e.now) result
+            ≡ effect_at self.now.lines period slot from to }
     {
         self.index.effect(period, slot, from, to)
     }
@@ -121,7 +128,8 @@ impl<const N: usize> FaultPlan<N> {
         standing.classes[node as usize]
     }
 
-    /// The reference node of the period, the least node of class N; None exactly where there is none.
+    /// The reference node of the period, the least node of class N; None exactly where there is
+    /// none.
     pub fn reference(&self, period: u32) -> Option<u8>
         requires { period < self.now.periods }
         ensures { result ≡ reference_of self.now period }

@@ -1,7 +1,8 @@
 ghost use Rattle.std.specs.Prelude.{◌≡◌, ℕ, ◌^◌, ◌<◌, ◌≤◌, None, map, length};
 ghost use Rattle.fault_classes.specs.Change.{change_of};
 ghost use Rattle.fault_classes.specs.Line.{line_of, slots_in};
-ghost use Rattle.fault_classes.specs.Rules.{is_change, are_below, is_line, first_bad_line, comes_after, first_bad_restart};
+ghost use Rattle.fault_classes.specs.Rules.{is_change, are_below, is_line, first_bad_line};
+ghost use Rattle.fault_classes.specs.Rules.{comes_after, first_bad_restart};
 
 use crate::cells::Shape;
 use crate::{Effect, FaultLine, Restart};
@@ -59,7 +60,8 @@ fn is_line<const N: usize>(line: &FaultLine<N>, shape: &Shape) -> bool
 /// The place of the first line that is out of range.
 pub fn first_bad_line<const N: usize>(lines: &[FaultLine<N>], shape: &Shape) -> Option<u32>
     requires { length lines.now < 2 ^ 32 }
-    ensures { result ≡ first_bad_line shape.now.nodes shape.now.slots shape.now.periods 0 (map line_of lines.now) }
+    ensures { result ≡ first_bad_line shape.now.nodes shape.now.slots shape.now.periods 0
+        (map line_of lines.now) }
 {
     for (place, line) in lines.iter().enumerate() {
         if !is_line(line, shape) {

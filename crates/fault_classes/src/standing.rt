@@ -2,10 +2,13 @@ ghost use Rattle.std.specs.Prelude.{◌≡◌, ◌≢◌, ℕ, suc, ◌<◌, ◌
 ghost use Rattle.node_grid.specs.Capacity.{IsCapacity};
 ghost use Rattle.node_grid.specs.NodeSet.{has_id, ids_where};
 ghost use Rattle.node_grid.specs.Class.{is_sound};
-ghost use Rattle.fault_classes.specs.Change.{change_of, is_untouched, is_manifest, same_change, same_effect};
+ghost use Rattle.fault_classes.specs.Change.{change_of, is_untouched, is_manifest, same_change};
+ghost use Rattle.fault_classes.specs.Change.{same_effect};
 ghost use Rattle.fault_classes.specs.Line.{effect_at};
 ghost use Rattle.slot_plan.specs.Slots.{slot_count};
-ghost use Rattle.fault_classes.specs.Plan.{each_in_slot, each_frame, is_symmetric_at, is_symmetric_in, is_clean, steady, sound_before, recovers_in, joins_in, class_of};
+ghost use Rattle.fault_classes.specs.Plan.{each_in_slot, each_frame, is_symmetric_at};
+ghost use Rattle.fault_classes.specs.Plan.{is_symmetric_in, is_clean, steady, sound_before};
+ghost use Rattle.fault_classes.specs.Plan.{recovers_in, joins_in, class_of};
 ghost use Rattle.fault_classes.specs.Standing.{IsStanding, AreStandings};
 
 use crate::Effect;
@@ -85,7 +88,8 @@ fn is_same_change(one: &Effect, other: &Effect) -> bool
 
 /// Whether the same befalls two frames.
 fn is_same(one: Option<&Effect>, other: Option<&Effect>) -> bool
-    ensures { result ≡ same_effect (option_map (λ e. change_of e.now) one.entry) (option_map (λ e. change_of e.now) other.entry) }
+    ensures { result ≡ same_effect (option_map (λ e. change_of e.now) one.entry)
+        (option_map (λ e. change_of e.now) other.entry) }
 {
     match (one, other) {
         (None, None) => true,
@@ -152,7 +156,8 @@ fn clean_nodes<const N: usize>(index: &PlanIndex<N>, period: u32) -> NodeSet<N>
     all.minus(&index.touched(period))
 }
 
-/// Whether a node is of class N, where these are clean in the period and those were sound before it.
+/// Whether a node is of class N, where these are clean in the period and those were sound before
+/// it.
 fn is_steady<const N: usize>(
     index: &PlanIndex<N>,
     period: u32,
@@ -181,7 +186,8 @@ fn steady_nodes<const N: usize>(
     requires period { period < index.now.periods }
     requires clean { clean.now ≡ ids_where (is_clean index.now period) index.now.nodes }
     requires before { before.now ≡ ids_where (sound_before index.now period) index.now.nodes }
-    ensures { result ≡ ids_where (steady index.now period (sound_before index.now period)) index.now.nodes }
+    ensures { result ≡ ids_where (steady index.now period (sound_before index.now period))
+        index.now.nodes }
 {
     let mut found = NodeSet::empty();
     for node in 0..index.nodes() {
@@ -198,8 +204,10 @@ fn recovers<const N: usize>(index: &PlanIndex<N>, period: u32, node: u8, good: &
     requires nodes { index.now.nodes ≤ N }
     requires period { period < index.now.periods }
     requires node { node < index.now.nodes }
-    requires good { good.now ≡ ids_where (steady index.now period (sound_before index.now period)) index.now.nodes }
-    ensures { result ≡ recovers_in index.now period (steady index.now period (sound_before index.now period)) node }
+    requires good { good.now ≡ ids_where (steady index.now period (sound_before index.now period))
+        index.now.nodes }
+    ensures { result ≡ recovers_in index.now period
+        (steady index.now period (sound_before index.now period)) node }
 {
     let mut strays = 0;
     for other in 0..index.nodes() {
@@ -221,7 +229,9 @@ fn is_stray<const N: usize>(
     requires period { period < index.now.periods }
     requires node { node < index.now.nodes }
     requires other { other < index.now.nodes }
-    ensures { result ≡ (not (other == node) && (not (has_id good.now other) && not (is_manifest (effect_at index.now.lines period 0 other node)))) }
+    ensures { result ≡ (not (other == node)
+        && (not (has_id good.now other) && not
+        (is_manifest (effect_at index.now.lines period 0 other node)))) }
 {
     other != node && !good.has(other) && !is_manifest(index.effect(period, 0, other, node))
 }
@@ -240,7 +250,8 @@ fn class_in<const N: usize>(
     requires period { period < index.now.periods }
     requires node { node < index.now.nodes }
     requires clean { clean.now ≡ ids_where (is_clean index.now period) index.now.nodes }
-    requires good { good.now ≡ ids_where (steady index.now period (sound_before index.now period)) index.now.nodes }
+    requires good { good.now ≡ ids_where (steady index.now period (sound_before index.now period))
+        index.now.nodes }
     ensures { result ≡ class_of index.now period node }
 {
     if good.has(node) {
@@ -271,7 +282,8 @@ fn joins<const N: usize>(
     requires period { period < index.now.periods }
     requires node { node < index.now.nodes }
     requires clean { clean.now ≡ ids_where (is_clean index.now period) index.now.nodes }
-    requires good { good.now ≡ ids_where (steady index.now period (sound_before index.now period)) index.now.nodes }
+    requires good { good.now ≡ ids_where (steady index.now period (sound_before index.now period))
+        index.now.nodes }
     ensures { result ≡ joins_in index.now period (sound_before index.now period) node }
 {
     index.is_restarting(node, period) && clean.has(node) && recovers(index, period, node, good)

@@ -1,4 +1,5 @@
-ghost use Rattle.std.specs.Prelude.{◌≡◌, ℕ, ◌^◌, ◌<◌, ◌≤◌, ◌⊎◌, [], true, None, Some, IfOk, MatchResult, length, map};
+ghost use Rattle.std.specs.Prelude.{◌≡◌, ℕ, ◌^◌, ◌<◌, ◌≤◌, ◌⊎◌, [], true, None, Some, IfOk};
+ghost use Rattle.std.specs.Prelude.{MatchResult, length, map};
 ghost use Rattle.std.specs.List.{list_all};
 ghost use Rattle.node_grid.specs.Capacity.{IsCapacity};
 ghost use Rattle.fault_classes.specs.Line.{line_of};
@@ -45,7 +46,8 @@ fn touched_sets<const N: usize>(
     shape: &Shape,
 ) -> Result<Vec<NodeSet<N>>, AllocError>
     requires shape { IsShape N shape.now.nodes shape.now.slots shape.now.periods }
-    requires lines { list_all (is_line shape.now.nodes shape.now.slots shape.now.periods) (map line_of lines.now) ≡ true }
+    requires lines { list_all (is_line shape.now.nodes shape.now.slots shape.now.periods)
+        (map line_of lines.now) ≡ true }
     ensures { IfOk result (λ v. IsTouched N shape.now.periods (map line_of lines.now) v.items) }
 {
     let mut sets = vec![in alloc; NodeSet::empty(); shape.periods as usize]?;
@@ -63,8 +65,12 @@ pub fn touches_of<const N: usize>(
 ) -> Result<Touches<N>, PlanError>
     requires shape { IsShape N shape.now.nodes shape.now.slots shape.now.periods }
     requires few { length lines.now < 2 ^ 32 }
-    requires lines { list_all (is_line shape.now.nodes shape.now.slots shape.now.periods) (map line_of lines.now) ≡ true }
-    ensures { MatchResult result (λ v. AreTouches shape.now.nodes shape.now.slots shape.now.periods (map line_of lines.now) v × (first_overlap [] (map line_of lines.now) ≡ None)) (λ e. (e ≡ PlanError.NoMemory) ⊎ ((k : ℕ) × (e ≡ PlanError.Overlap k) × (first_overlap [] (map line_of lines.now) ≡ Some k))) }
+    requires lines { list_all (is_line shape.now.nodes shape.now.slots shape.now.periods)
+        (map line_of lines.now) ≡ true }
+    ensures { MatchResult result (λ v. AreTouches shape.now.nodes shape.now.slots shape.now.periods
+        (map line_of lines.now) v × (first_overlap [] (map line_of lines.now) ≡ None))
+        (λ e. (e ≡ PlanError.NoMemory) ⊎ ((k : ℕ) × (e ≡ PlanError.Overlap k)
+        × (first_overlap [] (map line_of lines.now) ≡ Some k))) }
 {
     let Ok(senders) = touched_sets(alloc, lines, shape) else {
         return Err(PlanError::NoMemory);

@@ -25,8 +25,8 @@ pub struct Delivered<'a> {
 
 /// What arrives at node `to` of the frame `sent` by node `from` in this slot of the period.
 ///
-/// The bytes are those of `sent`, of the plan, or of `scratch`, which is written only where a line sets bytes of the
-/// frame.
+/// The bytes are those of `sent`, of the plan, or of `scratch`, which is written only where a line
+/// sets bytes of the frame.
 pub fn deliveries<'a, const N: usize>(
     plan: &'a FaultPlan<N>,
     period: u32,
@@ -42,7 +42,8 @@ pub fn deliveries<'a, const N: usize>(
     requires to { to < plan.now.nodes }
     requires link { from ≢ to }
     requires room { length scratch.old ≡ length sent.now }
-    ensures { replicate result.copies (result.tick, result.bytes.now) ≡ delivered_of (effect_at plan.now.lines period slot from to) sent.now }
+    ensures { replicate result.copies (result.tick, result.bytes.now)
+        ≡ delivered_of (effect_at plan.now.lines period slot from to) sent.now }
 {
     arrival(plan.effect(period, slot, from, to), sent, scratch)
 }
@@ -50,7 +51,8 @@ pub fn deliveries<'a, const N: usize>(
 /// What arrives of a frame by an effect.
 fn arrival<'a>(effect: Option<&'a Effect>, sent: &'a [u8], scratch: &'a mut [u8]) -> Delivered<'a>
     requires { length scratch.old ≡ length sent.now }
-    ensures { replicate result.copies (result.tick, result.bytes.now) ≡ delivered_of (option_map (λ e. change_of e.now) effect.entry) sent.now }
+    ensures { replicate result.copies (result.tick, result.bytes.now)
+        ≡ delivered_of (option_map (λ e. change_of e.now) effect.entry) sent.now }
 {
     match effect {
         None => once(ON_TIME, sent),

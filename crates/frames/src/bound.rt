@@ -6,8 +6,9 @@ ghost use Rattle.frames.specs.Bound.{IsGreatest, most_entries};
 use crate::encoding::HEADER;
 use omh_paths::count_paths;
 
-/// The greatest length of a frame among so many nodes, with `m` relay rounds, states of `state_len` bytes and at most
-/// `due` due channels, over all slots, senders and sets of members: at most 90,104.
+/// The greatest length of a frame among so many nodes, with `m` relay rounds, states of `state_len`
+/// bytes and at most `due` due channels, over all slots, senders and sets of members: at most
+/// 90,104.
 pub fn frame_bound(nodes: u8, m: u8, state_len: u16, due: u8) -> usize
     requires nodes { nodes ≤ 16 }
     requires rounds { m ≤ 3 }

@@ -1,6 +1,7 @@
 //! The entries of relay frames.
 
-ghost use Rattle.std.specs.Prelude.{ℕ, ◌≡◌, ◌≢◌, ◌+◌, ◌*◌, ◌/◌, ◌%◌, ◌<◌, ◌≤◌, ◌==◌, true, length, slice_index_or};
+ghost use Rattle.std.specs.Prelude.{ℕ, ◌≡◌, ◌≢◌, ◌+◌, ◌*◌, ◌/◌, ◌%◌, ◌<◌, ◌≤◌, ◌==◌, true, length};
+ghost use Rattle.std.specs.Prelude.{slice_index_or};
 ghost use Rattle.std.specs.Int.{w16, to_be_bytes};
 ghost use Rattle.std.specs.List.{flat_map};
 ghost use Rattle.node_grid.specs.Capacity.{IsCapacity};
@@ -56,9 +57,11 @@ impl<'a> Cells<'a> {
 
     /// The bytes of all entries.
     pub(crate) fn bytes(&self) -> &[u8]
-        ensures claims { self.now.width ≡ 2 → flat_map claim_spelling (content_claims self.now.bytes.now) ≡ result.now }
+        ensures claims { self.now.width ≡ 2 →
+            flat_map claim_spelling (content_claims self.now.bytes.now) ≡ result.now }
         ensures rows { (capacity nodes : ℕ) → self.now.width ≡ 1 + 2 * nodes →
-            flat_map (relayed_row_spelling nodes) (content_rows capacity nodes self.now.bytes.now) ≡ result.now }
+            flat_map (relayed_row_spelling nodes) (content_rows capacity nodes self.now.bytes.now)
+            ≡ result.now }
     {
         self.bytes
     }
@@ -68,9 +71,12 @@ impl<'a> Cells<'a> {
         requires some { from < until }
         requires within { until ≤ length self.now.bytes.now / self.now.width }
         ensures claims { result ≡ true → self.now.width ≡ 2 → (k : ℕ) → from ≤ k → k < until →
-            slice_index_or (content_claims self.now.bytes.now) k (Fault 0) ≡ slice_index_or (content_claims self.now.bytes.now) from (Fault 0) }
-        ensures rows { result ≡ true → (capacity nodes : ℕ) → self.now.width ≡ 1 + 2 * nodes → (k : ℕ) → from ≤ k → k < until →
-            slice_index_or (content_rows capacity nodes self.now.bytes.now) k (Fault 0) ≡ slice_index_or (content_rows capacity nodes self.now.bytes.now) from (Fault 0) }
+            slice_index_or (content_claims self.now.bytes.now) k (Fault 0)
+            ≡ slice_index_or (content_claims self.now.bytes.now) from (Fault 0) }
+        ensures rows { result ≡ true → (capacity nodes : ℕ) → self.now.width ≡ 1 + 2 * nodes →
+            (k : ℕ) → from ≤ k → k < until →
+            slice_index_or (content_rows capacity nodes self.now.bytes.now) k (Fault 0)
+            ≡ slice_index_or (content_rows capacity nodes self.now.bytes.now) from (Fault 0) }
     {
         are_alike(self.bytes, self.width, from, until)
     }
@@ -103,11 +109,13 @@ impl<'a> Cells<'a> {
     }
 }
 
-/// Whether all pieces of one width from one place up to another are the same bytes as the first of them.
+/// Whether all pieces of one width from one place up to another are the same bytes as the first of
+/// them.
 fn are_alike(bytes: &[u8], width: usize, from: usize, until: usize) -> bool
     requires some { from < until }
     requires within { until * width ≤ length bytes.now }
-    ensures { result ≡ true → (k : ℕ) → from ≤ k → k < until → piece width bytes.now k ≡ piece width bytes.now from }
+    ensures { result ≡ true → (k : ℕ) → from ≤ k → k < until → piece width bytes.now k
+        ≡ piece width bytes.now from }
 {
     let first = from * width;
     let last = until * width - width;
@@ -159,7 +167,8 @@ pub fn put_row<const N: usize>(out: &mut [u8], nodes: u8, k: usize, value: Wrapp
     requires nodes { nodes ≤ N }
     requires fits { (1 + 2 * nodes) * k + (1 + 2 * nodes) ≤ length out.old }
     requires some { value ≢ Fault 0 }
-    ensures { out.new ≡ pasted ((1 + 2 * nodes) * k) (relayed_row_spelling nodes value.entry) out.old }
+    ensures { out.new ≡ pasted ((1 + 2 * nodes) * k) (relayed_row_spelling nodes value.entry)
+        out.old }
 {
     let width = 1 + 2 * nodes as usize;
     let at = width * k;

@@ -1,12 +1,14 @@
 //! Reading frames.
 
-ghost use Rattle.std.specs.Prelude.{◌≡◌, ◌↔◌, IsTrue, ◌+◌, ◌-◌, ◌*◌, ◌/◌, ◌<◌, ◌≤◌, ◌==◌, ◌&&◌, List, length, IfSome, IfNone, option_map, take, drop};
+ghost use Rattle.std.specs.Prelude.{◌≡◌, ◌↔◌, IsTrue, ◌+◌, ◌-◌, ◌*◌, ◌/◌, ◌<◌, ◌≤◌, ◌==◌, ◌&&◌};
+ghost use Rattle.std.specs.Prelude.{List, length, IfSome, IfNone, option_map, take, drop};
 ghost use Rattle.std.specs.List.{list_all};
 ghost use Rattle.node_grid.specs.Capacity.{IsCapacity};
 ghost use Rattle.frames.specs.Content.{Content, entries_due, round_in};
 ghost use Rattle.frames.specs.Spelling.{IsFrame, head_of, header_spelling};
 ghost use Rattle.frames.specs.Reading.{reading, pieces_of_width, fits_claim, fits_value};
-ghost use Rattle.frames.specs.Checks.{is_claim_entry, is_row_entry, is_value, are_masks, has_claim, has_claims, has_values, has_row, has_rows, IsBody};
+ghost use Rattle.frames.specs.Checks.{is_claim_entry, is_row_entry, is_value, are_masks, has_claim};
+ghost use Rattle.frames.specs.Checks.{has_claims, has_values, has_row, has_rows, IsBody};
 ghost use Rattle.frames.specs.Seen.{content, expected, HasWidth};
 
 use crate::cells::{Cells, read_row};
@@ -131,7 +133,8 @@ impl<const N: usize> Expect<N> {
         }
     }
 
-    /// The number of entries of a relay frame: one for each path of as many members, without the sender, as its round.
+    /// The number of entries of a relay frame: one for each path of as many members, without the
+    /// sender, as its round.
     fn entries_due(&self) -> usize
         requires capacity { IsCapacity N }
         requires rounds { self.now.m ≤ 3 }
@@ -197,15 +200,18 @@ impl<const N: usize> Expect<N> {
     }
 }
 
-/// What a body of a kind says; None exactly where it isn't in the grammar of the kind, or has no place in the slot.
+/// What a body of a kind says; None exactly where it isn't in the grammar of the kind, or has no
+/// place in the slot.
 fn body_of<'a, const N: usize>(expect: &Expect<N>, kind: u8, bytes: &'a [u8]) -> Option<Body<'a, N>>
     requires capacity { IsCapacity N }
     requires some_nodes { 0 < expect.now.nodes }
     requires nodes { expect.now.nodes ≤ N }
     requires rounds { expect.now.m ≤ 3 }
-    ensures some { IfSome result (λ b. IsBody (expected expect.now) kind (content expect.now.nodes b) bytes.now) }
+    ensures some { IfSome result (λ b. IsBody (expected expect.now) kind
+        (content expect.now.nodes b) bytes.now) }
     ensures widths { IfSome result (λ b. HasWidth expect.now.nodes b) }
-    ensures none { IfNone result ((c : Content) → IsBody (expected expect.now) kind c bytes.now → ⊥) }
+    ensures none { IfNone result ((c : Content) → IsBody (expected expect.now) kind c bytes.now →
+        ⊥) }
 {
     if kind == Kind::Cold.number() {
         return if bytes.is_empty() {
@@ -238,7 +244,8 @@ fn body_of<'a, const N: usize>(expect: &Expect<N>, kind: u8, bytes: &'a [u8]) ->
 
 /// Whether the first bytes are the header that is expected of a frame of this kind and size.
 fn has_header<const N: usize>(expect: &Expect<N>, front: &[u8], kind: u8, size: u32) -> bool
-    ensures { IsTrue result ↔ (front.now ≡ header_spelling (head_of (expected expect.now)) kind size) }
+    ensures { IsTrue result ↔ (front.now ≡ header_spelling (head_of (expected expect.now)) kind
+        size) }
 {
     is_header(front, expect.head(), kind, size)
 }
@@ -250,7 +257,8 @@ fn frame_of<'a, const N: usize>(expect: &Expect<N>, bytes: &'a [u8]) -> Option<F
     requires nodes { expect.now.nodes ≤ N }
     requires rounds { expect.now.m ≤ 3 }
     ensures head { IfSome result (λ f. f.head ≡ head_of (expected expect.now)) }
-    ensures some { IfSome result (λ f. IsFrame (expected expect.now) (content expect.now.nodes f.body) bytes.now) }
+    ensures some { IfSome result (λ f. IsFrame (expected expect.now)
+        (content expect.now.nodes f.body) bytes.now) }
     ensures widths { IfSome result (λ f. HasWidth expect.now.nodes f.body) }
     ensures none { IfNone result ((c : Content) → IsFrame (expected expect.now) c bytes.now → ⊥) }
 {
@@ -276,18 +284,21 @@ fn frame_of<'a, const N: usize>(expect: &Expect<N>, bytes: &'a [u8]) -> Option<F
 
 /// The frame that the bytes are for what is expected.
 ///
-/// Answers None exactly where they are none: a field of the header is another one, a byte is missing or left over, the
-/// kind has no place in the slot, or the body isn't in the grammar of its kind. Any bytes may be given.
+/// Answers None exactly where they are none: a field of the header is another one, a byte is
+/// missing or left over, the kind has no place in the slot, or the body isn't in the grammar of its
+/// kind. Any bytes may be given.
 pub fn decode<'a, const N: usize>(expect: &Expect<N>, bytes: &'a [u8]) -> Option<Frame<'a, N>>
     requires capacity { IsCapacity N }
     requires some_nodes { 0 < expect.now.nodes }
     requires nodes { expect.now.nodes ≤ N }
     requires rounds { expect.now.m ≤ 3 }
     ensures head { IfSome result (λ f. f.head ≡ head_of (expected expect.now)) }
-    ensures some { IfSome result (λ f. IsFrame (expected expect.now) (content expect.now.nodes f.body) bytes.now) }
+    ensures some { IfSome result (λ f. IsFrame (expected expect.now)
+        (content expect.now.nodes f.body) bytes.now) }
     ensures widths { IfSome result (λ f. HasWidth expect.now.nodes f.body) }
     ensures none { IfNone result ((c : Content) → IsFrame (expected expect.now) c bytes.now → ⊥) }
-    ensures reading { option_map (λ f. content expect.now.nodes f.body) result ≡ reading (expected expect.now) bytes.now }
+    ensures reading { option_map (λ f. content expect.now.nodes f.body) result
+        ≡ reading (expected expect.now) bytes.now }
 {
     frame_of(expect, bytes)
 }

@@ -59,7 +59,8 @@ impl Kind {
         }
     }
 
-    /// The kind that has its place in a slot, where there are `m` relay rounds; Cold where there is no such slot.
+    /// The kind that has its place in a slot, where there are `m` relay rounds; Cold where there is
+    /// no such slot.
     pub(crate) fn in_slot(m: u8, slot: u8) -> Kind
         requires { m ≤ 3 }
         ensures { number_of result ≡ kind_in m slot }

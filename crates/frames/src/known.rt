@@ -20,8 +20,10 @@ fn known_body<'a, const N: usize>(expect: &Expect<N>, kind: u8, bytes: &'a [u8])
     requires nodes { expect.now.nodes ≤ N }
     requires first { 1 ≤ kind }
     requires last { kind ≤ 7 }
-    requires said { IsSaid (expected expect.now) (content_said (expected expect.now) kind bytes.now) bytes.now }
-    ensures says { content expect.now.nodes result ≡ content_said (expected expect.now) kind bytes.now }
+    requires said { IsSaid (expected expect.now) (content_said (expected expect.now) kind bytes.now)
+        bytes.now }
+    ensures says { content expect.now.nodes result
+        ≡ content_said (expected expect.now) kind bytes.now }
     ensures widths { HasWidth expect.now.nodes result }
 {
     match Kind::numbered(kind) {
@@ -46,7 +48,8 @@ pub fn decode_known<'a, const N: usize>(expect: &Expect<N>, bytes: &'a [u8]) -> 
     ensures head { result.head ≡ head_of (expected expect.now) }
     ensures frame { IsFrame (expected expect.now) (content expect.now.nodes result.body) bytes.now }
     ensures widths { HasWidth expect.now.nodes result.body }
-    ensures reading { Some (content expect.now.nodes result.body) ≡ reading (expected expect.now) bytes.now }
+    ensures reading { Some (content expect.now.nodes result.body)
+        ≡ reading (expected expect.now) bytes.now }
 {
     let (front, body) = bytes.split_at(HEADER);
     Frame {

@@ -1,6 +1,7 @@
 //! Frames between nodes: one grammar, read and written.
 //!
-//! A frame is a header of 14 bytes and a body. All numbers are big-endian. Nothing here takes memory.
+//! A frame is a header of 14 bytes and a body. All numbers are big-endian. Nothing here takes
+//! memory.
 #![tactic(auto)]
 
 mod bound;

@@ -47,7 +47,8 @@ pub(crate) fn are_zero(bytes: &[u8]) -> bool
 /// The high bytes of four masks.
 const HIGH: u64 = 0xff00_ff00_ff00_ff00;
 
-/// Whether the bytes are masks below 256, two bytes each: four masks at a time, and then one by one.
+/// Whether the bytes are masks below 256, two bytes each: four masks at a time, and then one by
+/// one.
 fn are_small(bytes: &[u8]) -> bool
     ensures { result ≡ are_masks 1 bytes.now }
 {
@@ -65,7 +66,8 @@ fn are_small(bytes: &[u8]) -> bool
     true
 }
 
-/// Whether the bytes are masks of the version, two bytes each: any in version 2, and below 256 in version 1.
+/// Whether the bytes are masks of the version, two bytes each: any in version 2, and below 256 in
+/// version 1.
 pub(crate) fn are_masks(version: u8, bytes: &[u8]) -> bool
     ensures { result ≡ are_masks version bytes.now }
 {

@@ -127,7 +127,8 @@ pub fn complete<const N: usize>(
     ensures nothing { (j : ℕ) (d : Belief N) → state_at states.now j ≡ None →
         slice_index_or beliefs.new j d ≡ slice_index_or beliefs.old j d }
     ensures noted { (i : ℕ) (a : AgreedView) (d : Belief N) → i < N →
-        state_at states.now i ≡ Some a → notes_at notes.new i ≡ also_noted N (notes_at notes.old i) (by_verdicts (verdicts N
+        state_at states.now i ≡ Some a → notes_at notes.new i
+        ≡ also_noted N (notes_at notes.old i) (by_verdicts (verdicts N
         config.now.graph a.standing.members a.copies (belief_of d beliefs.old groups.now i).done)) }
     ensures cold { (i : ℕ) → i < N → state_at states.now i ≡ None →
         notes_at notes.new i ≡ notes_at notes.old i }

@@ -45,7 +45,8 @@ pub fn step<const N: usize>(
     requires shared { AreShared N groups.now states.old }
     requires many { length beliefs.now ≡ N }
     ensures stepped { (i : ℕ) (a : AgreedView) (d : Belief N) → i < N →
-        state_at states.old i ≡ Some a → state_at states.new i ≡ Some (agreed_after N config.now period a
+        state_at states.old i ≡ Some a → state_at states.new i
+        ≡ Some (agreed_after N config.now period a
         (belief_of d beliefs.now groups.now i).done (belief_of d beliefs.now groups.now i).rows) }
     ensures cold { (i : ℕ) → i < N → state_at states.old i ≡ None → state_at states.new i ≡ None }
     ensures agreed { AreAgreed config.now states.new }

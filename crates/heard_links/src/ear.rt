@@ -1,6 +1,7 @@
 //! All that nodes hear of a phase, as settling asks for it.
 
-ghost use Rattle.std.specs.Prelude.{ℕ, ◌≡◌, ◌≢◌, ◌<◌, ◌≤◌, ◌+◌, ◌-◌, ◌++◌, ◌∷◌, [], true, false, List, length, None, IfSome, if◌then◌else◌};
+ghost use Rattle.std.specs.Prelude.{ℕ, ◌≡◌, ◌≢◌, ◌<◌, ◌≤◌, ◌+◌, ◌-◌, ◌++◌, ◌∷◌, [], true, false};
+ghost use Rattle.std.specs.Prelude.{List, length, None, IfSome, if◌then◌else◌};
 ghost use Rattle.node_grid.specs.NodeSet.{has_id};
 ghost use Rattle.std.specs.List.{list_all};
 ghost use Rattle.omh_paths.specs.declared.wrapped.Wrapped.TheVariants.{Fault};
@@ -9,7 +10,8 @@ ghost use Rattle.settled_paths.specs.Passing.{HearAlike};
 ghost use Rattle.protocol.specs.Heard.{heard};
 ghost use Rattle.protocol.specs.Talk.{rounds_upto};
 ghost use Rattle.heard_links.specs.Talks.{IsSet, members_at};
-ghost use Rattle.heard_links.specs.Hearing.{IsHeard, IsAlikeFrom, is_asked, is_asked_by, is_even, talk_in};
+ghost use Rattle.heard_links.specs.Hearing.{IsHeard, IsAlikeFrom, is_asked, is_asked_by, is_even};
+ghost use Rattle.heard_links.specs.Hearing.{talk_in};
 ghost use Rattle.heard_links.specs.Passing.{ArePassedOn, says_of};
 
 use crate::came::Came;
@@ -39,7 +41,8 @@ impl<'a, 'p, V: Item<N>, const N: usize> Model for Ear<'a, 'p, V, N> {
 
     ghost view = { λ e. (e.links.now, e.phase.now) };
 
-    ghost invariant = { λ e. IsHeard V.form V.first_slot V.tells e.phase.now e.links.now (e.phase.now.config.now.m + 1) };
+    ghost invariant = { λ e. IsHeard V.form V.first_slot V.tells e.phase.now e.links.now
+        (e.phase.now.config.now.m + 1) };
 }
 
 /// What nodes hear by what was taken of a phase. All of it is small; nothing is said of frames that
@@ -184,8 +187,8 @@ impl<V: Item<N>, const N: usize> Links<V, N> {
         }
     }
 
-    /// Whether two other nodes with the same members hear the same of all words in a round, in place
-    /// of what is said.
+    /// Whether two other nodes with the same members hear the same of all words in a round, in
+    /// place of what is said.
     fn is_round_alike(&self, phase: &Phase<'_, N>, round: u8, i: u8, j: u8) -> bool
         requires heard { IsHeard V.form V.first_slot V.tells phase.now self.now
             (phase.now.config.now.m + 1) }

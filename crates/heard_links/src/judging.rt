@@ -1,13 +1,15 @@
 //! What came over each touched link.
 
-ghost use Rattle.std.specs.Prelude.{ℕ, ◌≡◌, ◌≢◌, ◌<◌, ◌≤◌, ◌+◌, ◌⊎◌, ◌==◌, ◌||◌, not, true, false, [], slice_index_or, IsSome, None};
+ghost use Rattle.std.specs.Prelude.{ℕ, ◌≡◌, ◌≢◌, ◌<◌, ◌≤◌, ◌+◌, ◌⊎◌, ◌==◌, ◌||◌, not, true, false};
+ghost use Rattle.std.specs.Prelude.{[], slice_index_or, IsSome, None};
 ghost use Rattle.std.specs.Cmp.Lexicographic.{pointwise};
 ghost use Rattle.node_grid.specs.Capacity.{IsCapacity};
 ghost use Rattle.node_grid.specs.NodeSet.{has_id};
 ghost use Rattle.fault_classes.specs.Change.{change_of};
 ghost use Rattle.heard_links.specs.Talks.{AreUneven, IsEvenTo, IsJudged, IsSet, members_at};
 ghost use Rattle.heard_links.specs.declared.came.Came.TheVariants as came;
-ghost use Rattle.heard_links.specs.Hearing.{ActsAs, IsCame, IsHeard, came_at, item_of, link_at, talk_in, is_even, frame_kind};
+ghost use Rattle.heard_links.specs.Hearing.{ActsAs, IsCame, IsHeard, came_at, item_of, link_at};
+ghost use Rattle.heard_links.specs.Hearing.{talk_in, is_even, frame_kind};
 ghost use Rattle.protocol.specs.Talk.{rounds_upto};
 
 use crate::came::Came;

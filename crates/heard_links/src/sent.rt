@@ -30,7 +30,8 @@ impl<'a, 'p, V: Item<N>, const N: usize> Model for Sent<'a, 'p, V, N> {
 
     ghost view = { λ s. (s.links.now, s.phase.now, s.round, s.from) };
 
-    ghost invariant = { λ s. IsSender V.form V.first_slot V.tells s.phase.now s.links.now s.round s.from };
+    ghost invariant = { λ s. IsSender V.form V.first_slot V.tells s.phase.now s.links.now s.round
+        s.from };
 }
 
 impl<V: Item<N>, const N: usize> Links<V, N> {

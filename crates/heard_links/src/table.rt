@@ -1,12 +1,14 @@
 //! Opening the table, and looks at it.
 
-ghost use Rattle.std.specs.Prelude.{ℕ, ◌≡◌, ◌≢◌, ◌<◌, ◌≤◌, ◌+◌, ◌*◌, ◌==◌, true, false, [], length, replicate, slice_index_or, IfOk, if◌then◌else◌};
+ghost use Rattle.std.specs.Prelude.{ℕ, ◌≡◌, ◌≢◌, ◌<◌, ◌≤◌, ◌+◌, ◌*◌, ◌==◌, true, false, [], length};
+ghost use Rattle.std.specs.Prelude.{replicate, slice_index_or, IfOk, if◌then◌else◌};
 ghost use Rattle.node_grid.specs.Capacity.{IsCapacity};
 ghost use Rattle.node_grid.specs.NodeSet.{has_id};
 ghost use Rattle.omh_paths.specs.declared.wrapped.Wrapped.TheVariants.{Plain, Fault};
 ghost use Rattle.protocol.specs.Talk.{rounds_upto};
 ghost use Rattle.heard_links.specs.declared.came.Came.TheVariants as came;
-ghost use Rattle.heard_links.specs.Hearing.{link_at, came_at, item_of, talk_in, IsHeard, is_even, frame_kind};
+ghost use Rattle.heard_links.specs.Hearing.{link_at, came_at, item_of, talk_in, IsHeard, is_even};
+ghost use Rattle.heard_links.specs.Hearing.{frame_kind};
 
 use crate::came::Came;
 use crate::links::Links;

@@ -43,7 +43,8 @@ impl<const N: usize> Sending<'_, N> {
     fn body_told(&self, from: u8, to: u8) -> Option<StateBody>
         requires sending { IsSending self.now }
         requires to { to < self.now.slot.config.now.nodes }
-        ensures { bytes_in result ≡ body_at self.now.slot.config.now.nodes to (told_by self.now to) from }
+        ensures { bytes_in result ≡ body_at self.now.slot.config.now.nodes to (told_by self.now to)
+            from }
     {
         if from >= self.slot.config.nodes || from == to {
             return None;

@@ -1,6 +1,7 @@
 //! What a node makes of the frames of the slot.
 
-ghost use Rattle.std.specs.Prelude.{◌≡◌, ◌≢◌, ◌↔◌, ℕ, ◌<◌, ◌≤◌, ◌==◌, ◌&&◌, not, Some, IsTrue, if◌then◌else◌, slice_index_or};
+ghost use Rattle.std.specs.Prelude.{◌≡◌, ◌≢◌, ◌↔◌, ℕ, ◌<◌, ◌≤◌, ◌==◌, ◌&&◌, not, Some, IsTrue};
+ghost use Rattle.std.specs.Prelude.{if◌then◌else◌, slice_index_or};
 ghost use Rattle.node_grid.specs.Capacity.{IsCapacity};
 ghost use Rattle.node_grid.specs.NodeSet.{has_id, ids_where};
 ghost use Rattle.error_reports.specs.Notes.{also_noted, is_kind};
@@ -12,7 +13,8 @@ ghost use Rattle.shared_states.specs.Sharing.{state_at, IsShared};
 ghost use Rattle.heard_states.specs.declared.hearing.Heard.TheVariants.{Bad, Same, Other};
 ghost use Rattle.heard_states.specs.Told.{sent_by};
 ghost use Rattle.heard_states.specs.declared.sending.Told.TheVariants.{Sent};
-ghost use Rattle.heard_states.specs.Hearing.{told_as, told_by, heard_kind, is_heard_well, IsHeardAs, IsSending};
+ghost use Rattle.heard_states.specs.Hearing.{told_as, told_by, heard_kind, is_heard_well};
+ghost use Rattle.heard_states.specs.Hearing.{IsHeardAs, IsSending};
 
 use crate::sending::{Sending, Told};
 use error_reports::RowBuilder;
@@ -80,7 +82,8 @@ impl<const N: usize> Sending<'_, N> {
         requires sending { IsSending self.now }
         ensures { (i : ℕ) → (IsTrue (has_id alike.now from) ↔ IsShared self.now.states.now i from) →
             told_as self.now.slot.config.now
-            (sent_by self.now.senders.full self.now.states.now from) Sent ≡ told_by self.now i from →
+            (sent_by self.now.senders.full self.now.states.now from) Sent
+            ≡ told_by self.now i from →
             IsHeardAs self.now.slot.config.now (state_at self.now.states.now i) result
             (told_by self.now i from) }
     {
@@ -98,7 +101,8 @@ impl<const N: usize> Sending<'_, N> {
         requires to { to < self.now.slot.config.now.nodes }
         requires other { from ≢ to }
         requires alike { IsTrue (has_id alike.now from) ↔ IsShared self.now.states.now to from }
-        ensures { IsHeardAs self.now.slot.config.now (state_at self.now.states.now to) result (told_by self.now to from) }
+        ensures { IsHeardAs self.now.slot.config.now (state_at self.now.states.now to) result
+            (told_by self.now to from) }
     {
         match self.told(from, to) {
             Told::Bad(kind) => Heard::Bad(kind),
@@ -114,7 +118,8 @@ impl<const N: usize> Sending<'_, N> {
         requires to { to < self.now.slot.config.now.nodes }
         requires other { from ≢ to }
         requires alike { IsTrue (has_id alike.now from) ↔ IsShared self.now.states.now to from }
-        ensures { IsHeardAs self.now.slot.config.now (state_at self.now.states.now to) result (told_by self.now to from) }
+        ensures { IsHeardAs self.now.slot.config.now (state_at self.now.states.now to) result
+            (told_by self.now to from) }
     {
         let Some(effect) = self.effect(from, to) else {
             return self.heard_sent(from, alike);
@@ -149,7 +154,8 @@ impl<const N: usize> Sending<'_, N> {
 pub(crate) fn good_of<const N: usize>(heard: &[Heard; N], nodes: u8, to: u8) -> NodeSet<N>
     requires capacity { IsCapacity N }
     requires nodes { nodes ≤ N }
-    ensures { result ≡ ids_where (λ j. not (j == to) && is_heard_well (slice_index_or heard.now j (Bad 0))) nodes }
+    ensures { result ≡ ids_where (λ j. not (j == to)
+        && is_heard_well (slice_index_or heard.now j (Bad 0))) nodes }
 {
     let mut good = NodeSet::empty();
     for from in 0..nodes {
@@ -163,7 +169,8 @@ pub(crate) fn good_of<const N: usize>(heard: &[Heard; N], nodes: u8, to: u8) -> 
 /// Notes what a node makes of the frames.
 pub(crate) fn note_heard<const N: usize>(heard: &[Heard; N], notes: &mut RowBuilder<N>)
     requires { IsCapacity N }
-    ensures { notes.new ≡ also_noted N notes.old (λ j k. is_kind (heard_kind (slice_index_or heard.now j (Bad 0))) k) }
+    ensures { notes.new ≡ also_noted N notes.old
+        (λ j k. is_kind (heard_kind (slice_index_or heard.now j (Bad 0))) k) }
 {
     notes.note_each(
         |j| -> Option<u8>

@@ -107,7 +107,8 @@ impl<const N: usize> Sending<'_, N> {
     fn told_touched(&self, from: u8, effect: &Effect) -> Told
         requires sending { IsSending self.now }
         requires from { from < self.now.slot.config.now.nodes }
-        ensures { told_as self.now.slot.config.now (sent_by self.now.senders.full self.now.states.now from) result ≡
+        ensures { told_as self.now.slot.config.now
+            (sent_by self.now.senders.full self.now.states.now from) result ≡
             arriving body_said (Some (change_of effect.now))
             (expected_of self.now.slot.config.now self.now.slot.period from)
             (expected_of self.now.slot.config.now self.now.slot.period from)
@@ -128,9 +129,11 @@ impl<const N: usize> Sending<'_, N> {
     fn told_read(&self, from: u8, effect: &Effect, state: &[u8]) -> Told
         requires sending { IsSending self.now }
         requires from { from < self.now.slot.config.now.nodes }
-        requires state { (a : AgreedView) → sent_by self.now.senders.full self.now.states.now from ≡ Some a →
+        requires state { (a : AgreedView) → sent_by self.now.senders.full self.now.states.now from
+            ≡ Some a →
             state.now ≡ body_of self.now.slot.config.now a }
-        ensures { told_as self.now.slot.config.now (sent_by self.now.senders.full self.now.states.now from) result ≡
+        ensures { told_as self.now.slot.config.now
+            (sent_by self.now.senders.full self.now.states.now from) result ≡
             arriving body_said (Some (change_of effect.now))
             (expected_of self.now.slot.config.now self.now.slot.period from)
             (expected_of self.now.slot.config.now self.now.slot.period from)
@@ -175,7 +178,8 @@ impl<const N: usize> Sending<'_, N> {
         requires from { from < self.now.slot.config.now.nodes }
         requires to { to < self.now.slot.config.now.nodes }
         requires other { from ≢ to }
-        ensures { told_as self.now.slot.config.now (sent_by self.now.senders.full self.now.states.now from) result ≡
+        ensures { told_as self.now.slot.config.now
+            (sent_by self.now.senders.full self.now.states.now from) result ≡
             told_by self.now to from }
     {
         match self.effect(from, to) {

@@ -1,6 +1,7 @@
 //! The slot, for all nodes.
 
-ghost use Rattle.std.specs.Prelude.{◌≡◌, ◌≢◌, ℕ, ◌<◌, ◌≤◌, ◌==◌, ◌&&◌, not, [], true, false, None, Some, length, slice_index_or};
+ghost use Rattle.std.specs.Prelude.{◌≡◌, ◌≢◌, ℕ, ◌<◌, ◌≤◌, ◌==◌, ◌&&◌, not, [], true, false, None};
+ghost use Rattle.std.specs.Prelude.{Some, length, slice_index_or};
 ghost use Rattle.node_grid.specs.NodeSet.{IsIdSet, has_id, ids_where};
 ghost use Rattle.fault_classes.specs.Line.{effect_at};
 ghost use Rattle.error_reports.specs.Notes.{also_noted};

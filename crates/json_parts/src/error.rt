@@ -9,7 +9,8 @@ use std::alloc::AllocError;
 pub enum PartError {
     /// There is no memory for it.
     NoMemory,
-    /// The value isn't such a part: a key is missing, unknown or of another type, or a text is another one.
+    /// The value isn't such a part: a key is missing, unknown or of another type, or a text is
+    /// another one.
     NoPart,
 }
 

@@ -20,7 +20,8 @@ fn is_name(key: &str, names: &[&str]) -> bool
 
 /// Whether each key is one of these names.
 fn are_names(members: &[(&str, Value<'_>)], names: &[&str]) -> bool
-    ensures { result ≡ list_all (λ m. is_among (map (λ name. name.now) names.now) m.0.now) members.now }
+    ensures { result ≡ list_all (λ m. is_among (map (λ name. name.now) names.now) m.0.now)
+        members.now }
 {
     members.iter().all(|member| is_name(member.0, names))
 }

@@ -77,7 +77,8 @@ pub fn required_list<'a, F: Form<'a>>(
     value: &Value<'a>,
     key: &str,
 ) -> Result<Vec<F::Part>, PartError>
-    ensures { Gives (λ v. map F.seen v.items) (required key.now (list_of (F.reads form.now)) (view value.now)) result }
+    ensures { Gives (λ v. map F.seen v.items)
+        (required key.now (list_of (F.reads form.now)) (view value.now)) result }
 {
     list(alloc, form, member(value, key).ok_or(PartError::NoPart)?)
 }
@@ -92,7 +93,8 @@ pub fn optional<'a, F: Form<'a>>(
     value: &Value<'a>,
     key: &str,
 ) -> Result<Option<F::Part>, PartError>
-    ensures { Gives (option_map F.seen) (optional key.now None (λ d. option_map Some (F.reads form.now d)) (view value.now)) result }
+    ensures { Gives (option_map F.seen) (optional key.now None
+        (λ d. option_map Some (F.reads form.now d)) (view value.now)) result }
 {
     match member(value, key) {
         None => Ok(None),
@@ -110,7 +112,8 @@ pub fn optional_list<'a, F: Form<'a>>(
     value: &Value<'a>,
     key: &str,
 ) -> Result<Vec<F::Part>, PartError>
-    ensures { Gives (λ v. map F.seen v.items) (optional key.now [] (list_of (F.reads form.now)) (view value.now)) result }
+    ensures { Gives (λ v. map F.seen v.items)
+        (optional key.now [] (list_of (F.reads form.now)) (view value.now)) result }
 {
     match member(value, key) {
         None => Ok(Vec::new(alloc)),
@@ -118,7 +121,8 @@ pub fn optional_list<'a, F: Form<'a>>(
     }
 }
 
-/// The part at the one key of an object; none where the value has other keys, or no such part there.
+/// The part at the one key of an object; none where the value has other keys, or no such part
+/// there.
 ///
 /// # Errors
 /// Where there is no memory.
@@ -128,7 +132,8 @@ pub fn lone<'a, F: Form<'a>>(
     value: &Value<'a>,
     key: &str,
 ) -> Result<Option<F::Part>, AllocError>
-    ensures { IfOk result (λ o. option_map F.seen o ≡ lone key.now (F.reads form.now) (view value.now)) }
+    ensures { IfOk result (λ o. option_map F.seen o
+        ≡ lone key.now (F.reads form.now) (view value.now)) }
 {
     if !has_keys(value, &[key]) {
         return Ok(None);

@@ -2,7 +2,8 @@
 ghost use Rattle.std.specs.Prelude.{◌≡◌, Some, None, IfOk, IsErrOf};
 ghost use Rattle.json.specs.Value.{value_view, items_view, members_view};
 ghost use Rattle.serde_json.specs.Data.{Data};
-ghost use Rattle.json_parts.specs.Meaning.{view, tree_of, has_readings, items_have_readings, members_have_readings};
+ghost use Rattle.json_parts.specs.Meaning.{view, tree_of, has_readings, items_have_readings};
+ghost use Rattle.json_parts.specs.Meaning.{members_have_readings};
 ghost use Rattle.json_parts.specs.Reading.{Reads};
 
 use crate::numerals::has_reading;
@@ -79,7 +80,8 @@ fn tree<'a>(alloc: Global, text: &'a str, scratch: &'a mut Scratch) -> Result<Va
     Ok(value)
 }
 
-/// The value that JSON text has. Its texts are borrowed from the bytes, or from `scratch` where they have escapes.
+/// The value that JSON text has. Its texts are borrowed from the bytes, or from `scratch` where
+/// they have escapes.
 ///
 /// # Errors
 /// `Unreadable` exactly where the bytes are no JSON text; `NoMemory`.

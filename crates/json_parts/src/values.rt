@@ -17,7 +17,8 @@ pub fn member<'v, 'a>(value: &'v Value<'a>, key: &str) -> Option<&'v Value<'a>>
 
 /// The items of a list.
 pub fn items<'v, 'a>(value: &'v Value<'a>) -> Option<&'v Vec<Value<'a>>>
-    ensures { option_map (λ vs. items_data (items_view vs.now.items)) result ≡ as_array (view value.now) }
+    ensures { option_map (λ vs. items_data (items_view vs.now.items)) result
+        ≡ as_array (view value.now) }
 {
     match value {
         Value::Array(items) => Some(items),
@@ -39,7 +40,8 @@ pub fn text<'a>(value: &Value<'a>) -> Option<&'a str>
     value.as_str()
 }
 
-/// The whole number in the range of 64 bits that the value is; none where it is written with a point, an exponent or as `-0`.
+/// The whole number in the range of 64 bits that the value is; none where it is written with a
+/// point, an exponent or as `-0`.
 pub fn whole(value: &Value<'_>) -> Option<i64>
     ensures { result ≡ whole (view value.now) }
 {

@@ -7,7 +7,8 @@ ghost use Rattle.scenario.specs.Scenario.{IsScenario};
 ghost use Rattle.scenario.specs.Given.{scenario_of};
 ghost use Rattle.drawn_scenarios.specs.Drawn.{drawn_parts};
 ghost use Rattle.input_lines.specs.Devices.{sink_seen};
-ghost use Rattle.judge.specs.Rows.{scenario_rows, has_few_nodes, room_for, HasRows, IsRowsOf, drawn_rows};
+ghost use Rattle.judge.specs.Rows.{scenario_rows, has_few_nodes, room_for, HasRows, IsRowsOf};
+ghost use Rattle.judge.specs.Rows.{drawn_rows};
 ghost use Rattle.judge.specs.Writing.{written, WritesRows, HasRooms};
 
 use at_once::Run;
@@ -260,7 +261,8 @@ impl Bench {
         ensures rooms { HasRooms self.new }
         ensures rows { WritesRows (sink_seen K.written K.faults sink.old)
             (sink_seen K.written K.faults sink.new)
-            (λ text. text ≡ drawn_rows drawing.entry.options.now.choices drawing.entry.seed index) result }
+            (λ text. text ≡ drawn_rows drawing.entry.options.now.choices drawing.entry.seed index)
+            result }
     {
         let alloc = self.alloc;
         if drawing.options.choices.nodes as usize <= FEW {

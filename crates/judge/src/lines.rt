@@ -4,7 +4,8 @@ ghost use Rattle.input_lines.specs.Devices.{sink_seen, source_seen};
 ghost use Rattle.input_lines.specs.Numbers.{next_number};
 ghost use Rattle.judge.specs.Rows.{limit, IsRowsOf};
 ghost use Rattle.judge.specs.Writing.{WritesRows, HasRooms};
-ghost use Rattle.judge.specs.Session.{line_status, row_status, stand, IsReady, TakesLines, Rounds, Concludes, Runs};
+ghost use Rattle.judge.specs.Session.{line_status, row_status, stand, IsReady, TakesLines, Rounds};
+ghost use Rattle.judge.specs.Session.{Concludes, Runs};
 
 use crate::Status;
 use crate::bench::{Bench, RowError};

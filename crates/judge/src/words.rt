@@ -36,13 +36,15 @@ pub struct Draw {
 pub enum Command {
     /// No words: each line of the input is a scenario that is judged.
     Lines,
-    /// `draw SEED FIRST COUNT`: these are drawn by the options on the line of the input, and judged.
+    /// `draw SEED FIRST COUNT`: these are drawn by the options on the line of the input, and
+    /// judged.
     Draw(Draws),
     /// `show SEED INDEX`: this one is drawn, and written.
     Show(Draw),
 }
 
-/// The number that a word is in decimal, at most `most`, without a sign and without zeros before it.
+/// The number that a word is in decimal, at most `most`, without a sign and without zeros before
+/// it.
 fn number_to(most: u64, word: &str) -> Option<u64>
     ensures found { IfSome result (λ n. word.now ≡ decimal n) }
     ensures small { IfSome result (λ n. n ≤ most) }

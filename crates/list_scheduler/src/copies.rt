@@ -1,6 +1,7 @@
 ghost use Rattle.std.specs.Prelude.{◌≡◌, ℕ, ◌<◌, is_some};
 ghost use Rattle.node_grid.specs.Capacity.{IsCapacity};
-ghost use Rattle.list_scheduler.specs.Copies.{copy_at, table, IsTable, with_copy, works, running, is_idle, is_passed};
+ghost use Rattle.list_scheduler.specs.Copies.{copy_at, table, IsTable, with_copy, works, running};
+ghost use Rattle.list_scheduler.specs.Copies.{is_idle, is_passed};
 ghost use Rattle.list_scheduler.specs.Schedule.{left_by, all_idle};
 
 use std::marker::Model;
@@ -89,8 +90,8 @@ impl<const N: usize> Copies<N> {
         self.rows[t as usize][node as usize] = state;
     }
 
-    /// The node's running copy of the least task: the task, and since how many periods it runs. None exactly
-    /// where no copy runs on the node.
+    /// The node's running copy of the least task: the task, and since how many periods it runs.
+    /// None exactly where no copy runs on the node.
     pub fn running(&self, node: u8) -> Option<(u8, u16)>
         requires capacity { IsCapacity N }
         requires node { node < N }

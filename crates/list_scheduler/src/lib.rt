@@ -1,4 +1,5 @@
-//! The priority-list scheduler: which copies of tasks run, pass and fail, by claims that are settled.
+//! The priority-list scheduler: which copies of tasks run, pass and fail, by claims that are
+//! settled.
 //!
 //! Tasks stand in the order of their priority. Nothing here takes memory.
 #![tactic(auto)]

@@ -1,13 +1,15 @@
 //! A whole period of the schedule, task by task.
 
-ghost use Rattle.std.specs.Prelude.{◌≡◌, ℕ, ◌+◌, ◌%◌, ◌==◌, ◌<◌, ◌&&◌, true, false, length, None, is_some};
+ghost use Rattle.std.specs.Prelude.{◌≡◌, ℕ, ◌+◌, ◌%◌, ◌==◌, ◌<◌, ◌&&◌, true, false, length, None};
+ghost use Rattle.std.specs.Prelude.{is_some};
 ghost use Rattle.std.specs.List.{list_all};
 ghost use Rattle.node_grid.specs.Capacity.{IsCapacity};
 ghost use Rattle.node_grid.specs.NodeSet.{has_id, ids_where};
 ghost use Rattle.task_graph.specs.Graph.{GraphView, task_at};
 ghost use Rattle.list_scheduler.specs.declared.copies.CopyState.TheVariants.{Idle, Running};
 ghost use Rattle.list_scheduler.specs.Copies.{copy_at, table, works, running, with_copy, IsCopies};
-ghost use Rattle.list_scheduler.specs.Schedule.{claim_of, worked_on, left_copy, finished, is_eligible, picked, copies_after};
+ghost use Rattle.list_scheduler.specs.Schedule.{claim_of, worked_on, left_copy, finished};
+ghost use Rattle.list_scheduler.specs.Schedule.{is_eligible, picked, copies_after};
 ghost use Rattle.list_scheduler.specs.ByTask.{moved_state, moved, moved_task, is_open, started};
 
 use crate::schedule::next_state;
@@ -17,9 +19,9 @@ use omh_paths::Wrapped;
 use task_graph::TaskGraph;
 
 impl<const N: usize> Copies<N> {
-    /// A whole period: the settled claims of the members `before` complete copies, what then runs on nodes outside
-    /// the members `after` fails, all copies are idle again where a frame ends, and each member that runs nothing
-    /// starts its next task.
+    /// A whole period: the settled claims of the members `before` complete copies, what then runs
+    /// on nodes outside the members `after` fails, all copies are idle again where a frame ends,
+    /// and each member that runs nothing starts its next task.
     pub fn step(
         &mut self,
         graph: &TaskGraph<N>,
@@ -30,7 +32,8 @@ impl<const N: usize> Copies<N> {
     )
         requires capacity { IsCapacity N }
         requires copies { IsCopies graph.now self.old }
-        ensures { (frame p : ℕ) → frame_ends ≡ ((p + 1) % frame == 0) → self.new ≡ copies_after N graph.now frame p before.now after.now self.old claims.now }
+        ensures { (frame p : ℕ) → frame_ends ≡ ((p + 1) % frame == 0) → self.new
+            ≡ copies_after N graph.now frame p before.now after.now self.old claims.now }
     {
         // Proofs need here that the members are a set.
         let _ = after.len();
@@ -43,7 +46,8 @@ impl<const N: usize> Copies<N> {
         }
     }
 
-    // Completes copies and fails those that then run outside the members `after`; answers the nodes that run one.
+    // Completes copies and fails those that then run outside the members `after`; answers the nodes
+    // that run one.
     fn move_all(
         &mut self,
         graph: &TaskGraph<N>,
@@ -53,7 +57,8 @@ impl<const N: usize> Copies<N> {
     ) -> NodeSet<N>
         requires capacity { IsCapacity N }
         requires copies { IsCopies graph.now self.old }
-        ensures copies { self.new ≡ table N (moved graph.now before.now after.now self.old claims.now) }
+        ensures copies { self.new ≡ table N
+            (moved graph.now before.now after.now self.old claims.now) }
         ensures busy { result ≡ ids_where (λ q. is_some (works self.new q)) N }
     {
         // Proofs need here that the copies are a table.
@@ -76,9 +81,13 @@ impl<const N: usize> Copies<N> {
     ) -> NodeSet<N>
         requires capacity { IsCapacity N }
         requires task { t < length graph.now.tasks }
-        requires idle { (q : ℕ) → has_id (task_at graph.now.tasks t).nodes q ≡ false → copy_at self.old t q ≡ Idle }
-        ensures copies { self.new ≡ table N (moved_task t graph.now before.now after.now self.old claims.now) }
-        ensures busy { result ≡ ids_where (λ q. is_some (running (moved graph.now before.now after.now self.old claims.now t q))) N }
+        requires idle { (q : ℕ) → has_id (task_at graph.now.tasks t).nodes q ≡ false →
+            copy_at self.old t q ≡ Idle }
+        ensures copies { self.new ≡ table N
+            (moved_task t graph.now before.now after.now self.old claims.now) }
+        ensures busy { result ≡ ids_where
+            (λ q. is_some (running (moved graph.now before.now after.now self.old claims.now t q)))
+            N }
     {
         // Proofs need here that the copies are a table.
         let _ = &self.rows;
@@ -105,8 +114,11 @@ impl<const N: usize> Copies<N> {
         requires capacity { IsCapacity N }
         requires task { t < length graph.now.tasks }
         requires node { node < N }
-        ensures copies { self.new ≡ table N (with_copy self.old t node (moved_state graph.now t was is claim (copy_at self.old t node))) }
-        ensures runs { result ≡ is_some (running (moved_state graph.now t was is claim (copy_at self.old t node))) }
+        ensures copies { self.new ≡ table N
+            (with_copy self.old t node (moved_state graph.now t was is claim
+            (copy_at self.old t node))) }
+        ensures runs { result ≡ is_some (running
+            (moved_state graph.now t was is claim (copy_at self.old t node))) }
     {
         // Proofs need here that the copies are a table, and that the graph is one.
         let _ = &self.rows;
@@ -140,7 +152,8 @@ impl<const N: usize> Copies<N> {
     fn starters(&self, graph: &TaskGraph<N>, t: u8, free: &NodeSet<N>) -> NodeSet<N>
         requires capacity { IsCapacity N }
         requires task { t < length graph.now.tasks }
-        ensures { result ≡ ids_where (λ q. has_id free.now q && is_eligible graph.now self.now q t) N }
+        ensures { result ≡ ids_where (λ q. has_id free.now q && is_eligible graph.now self.now q t)
+            N }
     {
         let open = self.open_nodes(graph, t, free);
         if open.is_empty() {
@@ -196,7 +209,8 @@ impl<const N: usize> Copies<N> {
     }
 }
 
-// A copy of task `t` that ran for so many periods, after its node's claim, by whether the node was and is a member.
+// A copy of task `t` that ran for so many periods, after its node's claim, by whether the node was
+// and is a member.
 fn state_after<const N: usize>(
     graph: &TaskGraph<N>,
     t: u8,

@@ -3,7 +3,8 @@ ghost use Rattle.node_grid.specs.NodeSet.{has_id, ids_where};
 ghost use Rattle.node_grid.specs.Capacity.{IsCapacity};
 ghost use Rattle.task_graph.specs.Graph.{GraphView};
 ghost use Rattle.list_scheduler.specs.Copies.{copy_at, table, works, IsCopies};
-ghost use Rattle.list_scheduler.specs.Schedule.{no_verdict, claims_task, claims, verdict_at, worked_on, completed, finished, picked};
+ghost use Rattle.list_scheduler.specs.Schedule.{no_verdict, claims_task, claims, verdict_at};
+ghost use Rattle.list_scheduler.specs.Schedule.{worked_on, completed, finished, picked};
 ghost use Rattle.list_scheduler.specs.OneNode.{completed_by, verdicts};
 
 use crate::{Copies, CopyState};
@@ -101,8 +102,8 @@ fn verdict_on<const N: usize>(
 }
 
 impl<const N: usize> Copies<N> {
-    /// Whether task `t` is finished: at least as many of its copies passed as it needs, those of nodes that
-    /// aren't members too.
+    /// Whether task `t` is finished: at least as many of its copies passed as it needs, those of
+    /// nodes that aren't members too.
     pub fn finished(&self, graph: &TaskGraph<N>, t: u8) -> bool
         requires capacity { IsCapacity N }
         requires task { t < length graph.now.tasks }
@@ -117,10 +118,11 @@ impl<const N: usize> Copies<N> {
         graph.task(t).need <= passed
     }
 
-    /// Completes copies by the members' settled claims, one for each node, and answers the verdict on each node.
+    /// Completes copies by the members' settled claims, one for each node, and answers the verdict
+    /// on each node.
     ///
-    /// A claim is a task, or 255 for none; a `Fault` is an error and claims nothing. A node that isn't a member
-    /// keeps its copies and has no verdict.
+    /// A claim is a task, or 255 for none; a `Fault` is an error and claims nothing. A node that
+    /// isn't a member keeps its copies and has no verdict.
     pub fn complete(
         &mut self,
         graph: &TaskGraph<N>,
@@ -178,8 +180,8 @@ impl<const N: usize> Copies<N> {
         verdict_on(graph, t, periods, claim)
     }
 
-    /// Starts for each member without a running copy the least task that it may start: the node is allowed,
-    /// its copy is idle, and all predecessors are finished.
+    /// Starts for each member without a running copy the least task that it may start: the node is
+    /// allowed, its copy is idle, and all predecessors are finished.
     pub fn pick(&mut self, graph: &TaskGraph<N>, members: &NodeSet<N>)
         requires capacity { IsCapacity N }
         requires copies { IsCopies graph.now self.old }

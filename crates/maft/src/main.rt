@@ -1,5 +1,6 @@
-//! Replays a scenario of a cluster of operations controllers, and prints what every node believes. What it promises is the
-//! contract of `maft`, in crates/top_call; here the words are taken, and the devices are made.
+//! Replays a scenario of a cluster of operations controllers, and prints what every node believes.
+//! What it promises is the contract of `maft`, in crates/top_call; here the words are taken, and
+//! the devices are made.
 #![tactic(auto)]
 
 use program_words::words_after_name;

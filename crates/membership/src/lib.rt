@@ -1,12 +1,14 @@
 //! Members: which nodes take part in the agreement, by their counts of penalties.
 //!
-//! Exclusion and readmission by counts follow Kieckhafer et al. (1988) in outline; that not all members leave at
-//! once is this project's own. Nothing here takes memory or refuses anything.
+//! Exclusion and readmission by counts follow Kieckhafer et al. (1988) in outline; that not all
+//! members leave at once is this project's own. Nothing here takes memory or refuses anything.
 #![tactic(auto)]
 
-ghost use Rattle.std.specs.Prelude.{◌≡◌, ℕ, Bool, ◌≤◌, ◌&&◌, not, replicate, if◌then◌else◌, slice_index};
+ghost use Rattle.std.specs.Prelude.{◌≡◌, ℕ, Bool, ◌≤◌, ◌&&◌, not, replicate, if◌then◌else◌};
+ghost use Rattle.std.specs.Prelude.{slice_index};
 ghost use Rattle.node_grid.specs.Capacity.{IsCapacity};
-ghost use Rattle.membership.specs.Members.{remains, joins, all_would_leave, members_after, times_after, left_after};
+ghost use Rattle.membership.specs.Members.{remains, joins, all_would_leave, members_after};
+ghost use Rattle.membership.specs.Members.{times_after, left_after};
 
 use node_grid::NodeSet;
 use penalty::{Counts, Policy};
@@ -28,12 +30,13 @@ impl<const N: usize> Left<N> {
     }
 }
 
-/// The members after a period, from those before it and the new counts of the `nodes` nodes in use; `left` is how
-/// often each of them left, before the period and then after it.
+/// The members after a period, from those before it and the new counts of the `nodes` nodes in use;
+/// `left` is how often each of them left, before the period and then after it.
 ///
-/// A member with a count of at least `exclude` leaves; where all members would leave, none leaves. Where `retire`
-/// isn't 0, the number in `left` of each node that leaves rises by 1, and at 65535 it stays. A node that isn't a
-/// member joins where its count is at most `readmit`, and either `retire` is 0 or it left less than `retire` times.
+/// A member with a count of at least `exclude` leaves; where all members would leave, none leaves.
+/// Where `retire` isn't 0, the number in `left` of each node that leaves rises by 1, and at 65535
+/// it stays. A node that isn't a member joins where its count is at most `readmit`, and either
+/// `retire` is 0 or it left less than `retire` times.
 pub fn next<const N: usize>(
     members: &NodeSet<N>,
     nodes: u8,
@@ -43,8 +46,10 @@ pub fn next<const N: usize>(
 ) -> NodeSet<N>
     requires capacity { IsCapacity N }
     requires nodes { nodes ≤ N }
-    ensures members { result ≡ members_after policy.now nodes members.now (λ j. slice_index counts.now.counts j) (λ j. slice_index left.old.times j) }
-    ensures left { left.new.times ≡ left_after policy.now nodes members.now (λ j. slice_index counts.now.counts j) left.old.times }
+    ensures members { result ≡ members_after policy.now nodes members.now
+        (λ j. slice_index counts.now.counts j) (λ j. slice_index left.old.times j) }
+    ensures left { left.new.times ≡ left_after policy.now nodes members.now
+        (λ j. slice_index counts.now.counts j) left.old.times }
 {
     let all_leave = all_would_leave(members, counts, policy);
     let mut next = NodeSet::empty();
@@ -61,10 +66,11 @@ pub fn next<const N: usize>(
     next
 }
 
-/// Whether a node is a member after the step: by whether it was one, whether all members would leave, its count, and
-/// how often it left.
+/// Whether a node is a member after the step: by whether it was one, whether all members would
+/// leave, its count, and how often it left.
 fn stays(policy: &Policy, was: bool, all_leave: bool, count: u16, times: u16) -> bool
-    ensures { result ≡ (if was then remains policy.now all_leave count else joins policy.now count times) }
+    ensures { result ≡ (if was then remains policy.now all_leave count else joins policy.now count
+        times) }
 {
     if was {
         count < policy.exclude || all_leave
@@ -73,7 +79,8 @@ fn stays(policy: &Policy, was: bool, all_leave: bool, count: u16, times: u16) ->
     }
 }
 
-/// How often a node left after the step, by whether it was a member before it and stays or becomes one.
+/// How often a node left after the step, by whether it was a member before it and stays or becomes
+/// one.
 fn times_after(policy: &Policy, was: bool, stays: bool, times: u16) -> u16
     ensures { result ≡ times_after policy.now (was && not stays) times }
 {

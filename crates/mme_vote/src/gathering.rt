@@ -7,8 +7,8 @@ use crate::vote;
 use arrayvec::ArrayVec;
 use node_grid::NodeSet;
 
-/// The vote over the values of those members that have one, which tolerates `m` wrong ones. `value_of` gives the value
-/// of a node. None exactly where no member has a value.
+/// The vote over the values of those members that have one, which tolerates `m` wrong ones.
+/// `value_of` gives the value of a node. None exactly where no member has a value.
 pub fn vote_of_members<const N: usize, F: Fn(u8) -> Option<i64>>(
     members: &NodeSet<N>,
     value_of: F,
@@ -16,7 +16,9 @@ pub fn vote_of_members<const N: usize, F: Fn(u8) -> Option<i64>>(
 ) -> Option<i64>
     requires capacity { IsCapacity N }
     requires values { (k : ℕ) → k < N → F.pre value_of k }
-    ensures { (values : ℕ → Option ℤ) → ((k : ℕ) (value : Option ℤ) → k < N → F.post value_of k value → value ≡ values k) → result ≡ vote_of (filter_map values members.now) m }
+    ensures { (values : ℕ → Option ℤ) → ((k : ℕ) (value : Option ℤ) → k < N →
+        F.post value_of k value → value ≡ values k) → result
+        ≡ vote_of (filter_map values members.now) m }
 {
     let mut present: ArrayVec<i64, 16> = ArrayVec::new();
     for k in members.iter() {

@@ -18,8 +18,8 @@ use std::marker::Model;
 
 /// A node, stepped period by period by its log.
 ///
-/// Contracts see the log and how many periods were run. That the node is what the log's view leaves after so many periods
-/// is kept by the type.
+/// Contracts see the log and how many periods were run. That the node is what the log's view leaves
+/// after so many periods is kept by the type.
 #[derive(Drop)]
 pub struct Alone<'s, const N: usize> {
     input: &'s Record<N>,

@@ -10,7 +10,8 @@ ghost use Rattle.node_alone.specs.Stepping.{handed, from_slot, IsFromOther, IsRe
 use crate::table::Table;
 use node_core::Node;
 
-/// Delivers the entries of the open slot to the node, from entry `next` on. Answers the first entry of a later slot.
+/// Delivers the entries of the open slot to the node, from entry `next` on. Answers the first entry
+/// of a later slot.
 fn deliver_slot<'c, const N: usize>(
     node: &mut Node<'c, N>,
     entries: &Table,
@@ -44,7 +45,8 @@ pub(crate) fn run_slots<'c, const N: usize>(
     count: u8,
 ) -> usize
     requires capacity { IsCapacity N }
-    requires ready { (t : ℕ) → t < count → IsReady (slots_run (arrivals entries.now period) t node.old) entries.now }
+    requires ready { (t : ℕ) → t < count →
+        IsReady (slots_run (arrivals entries.now period) t node.old) entries.now }
     requires ascends { Ascends entries.now }
     requires rest { drop next entries.now ≡ from_slot period 0 entries.now }
     ensures after { node.new ≡ slots_run (arrivals entries.now period) count node.old }

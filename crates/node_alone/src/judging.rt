@@ -1,6 +1,7 @@
 //! The rules on the entries of a record.
 
-ghost use Rattle.std.specs.Prelude.{◌≡◌, ◌≤◌, ◌<◌, pos, None, Some, IfOk, IfErr, option_map, map, length, if◌then◌else◌};
+ghost use Rattle.std.specs.Prelude.{◌≡◌, ◌≤◌, ◌<◌, pos, None, Some, IfOk, IfErr, option_map, map};
+ghost use Rattle.std.specs.Prelude.{length, if◌then◌else◌};
 ghost use Rattle.slot_plan.specs.Ticks.{last_tick};
 ghost use Rattle.scenario.specs.Numbers.{is_between, is_below, natural};
 ghost use Rattle.scenario.specs.Rules.{at_place};
@@ -16,7 +17,8 @@ use scenario::{ScenarioError, bytes_of_hex};
 use slot_plan::LAST_TICK;
 use std::alloc::{AllocError, Global};
 
-/// Which numbers an entry of node `id`'s log can have: those of nodes, slots and periods are below these counts.
+/// Which numbers an entry of node `id`'s log can have: those of nodes, slots and periods are below
+/// these counts.
 #[derive(Clone, Copy)]
 pub(crate) struct Limits {
     pub(crate) nodes: u8,
@@ -25,7 +27,8 @@ pub(crate) struct Limits {
     pub(crate) id: u8,
 }
 
-/// The refusal by a rule at a place; where the place is in no list that can be held, there is no memory.
+/// The refusal by a rule at a place; where the place is in no list that can be held, there is no
+/// memory.
 pub(crate) fn refused(rule: u8, place: usize) -> ScenarioError
     ensures { Tells (Some (rule, place)) result }
 {
@@ -58,7 +61,12 @@ fn is_tick(number: i64) -> bool
 
 /// Whether an entry's numbers are in range.
 fn is_placed(part: &EntryPart<'_>, nodes: u8, slots: u8, periods: u32, id: u8) -> bool
-    ensures { result ≡ is_entry_placed (record { nodes = nodes; slots = slots; periods = periods; id = id }) (part_view part.now) }
+    ensures { result ≡ is_entry_placed (record {
+      nodes = nodes;
+      slots = slots;
+      periods = periods;
+      id = id;
+    }) (part_view part.now) }
 {
     is_below(part.period, periods as usize)
         && is_below(part.slot, slots as usize)
@@ -69,7 +77,9 @@ fn is_placed(part: &EntryPart<'_>, nodes: u8, slots: u8, periods: u32, id: u8) -
 
 /// The entry that the parts are, where they are in range.
 fn entry(alloc: Global, part: &EntryPart<'_>, limits: &Limits) -> Result<Option<Entry>, AllocError>
-    ensures { IfOk result (λ o. option_map entry_view o ≡ (if is_entry (limits_view limits.now) (part_view part.now) then Some (entry_of (part_view part.now)) else None)) }
+    ensures { IfOk result (λ o. option_map entry_view o
+        ≡ (if is_entry (limits_view limits.now) (part_view part.now) then Some
+        (entry_of (part_view part.now)) else None)) }
 {
     if !is_placed(part, limits.nodes, limits.slots, limits.periods, limits.id) {
         return Ok(None);
@@ -99,9 +109,11 @@ pub(crate) fn entries(
     parts: &[EntryPart<'_>],
     limits: &Limits,
 ) -> Result<Table, ScenarioError>
-    ensures accepted { IfOk result (λ v. first_bad_entry (limits_view limits.now) 0 0 0 (map part_view parts.now) ≡ None) }
+    ensures accepted { IfOk result (λ v. first_bad_entry (limits_view limits.now) 0 0 0
+        (map part_view parts.now) ≡ None) }
     ensures says { IfOk result (λ v. v ≡ map entry_of (map part_view parts.now)) }
-    ensures refused { IfErr result (Tells (at_place 17 (first_bad_entry (limits_view limits.now) 0 0 0 (map part_view parts.now)))) }
+    ensures refused { IfErr result (Tells
+        (at_place 17 (first_bad_entry (limits_view limits.now) 0 0 0 (map part_view parts.now)))) }
 {
     let Ok(mut found) = Table::with_capacity(alloc, parts.len()) else {
         return Err(ScenarioError::NoMemory);

@@ -1,5 +1,5 @@
-//! One node's log, replayed without the cluster: the node is delivered what the log says it was delivered, and shows what it
-//! makes of each period.
+//! One node's log, replayed without the cluster: the node is delivered what the log says it was
+//! delivered, and shows what it makes of each period.
 #![tactic(auto)]
 
 mod alone;

@@ -5,7 +5,8 @@ ghost use Rattle.json.specs.Value.{items_view};
 ghost use Rattle.json_parts.specs.Meaning.{view, items_data};
 ghost use Rattle.json_parts.specs.Part.{Gives};
 ghost use Rattle.json_parts.specs.Reading.{required};
-ghost use Rattle.node_alone.specs.Parts.{EntryParts, entry_of_items, entry_in, entry_at, any_object, record_parts};
+ghost use Rattle.node_alone.specs.Parts.{EntryParts, entry_of_items, entry_in, entry_at};
+ghost use Rattle.node_alone.specs.Parts.{any_object, record_parts};
 ghost use Rattle.node_alone.specs.Seen.{part_view, parts_view};
 
 use json::Value;
@@ -37,7 +38,9 @@ fn entry_of<'a>(
     tick: &Value<'a>,
     hex: &Value<'a>,
 ) -> Option<EntryPart<'a>>
-    ensures { option_map part_view result ≡ entry_of_items (view period.now) (view slot.now) (view from.now) (view tick.now) (view hex.now) }
+    ensures { option_map part_view result
+        ≡ entry_of_items (view period.now) (view slot.now) (view from.now) (view tick.now)
+        (view hex.now) }
 {
     Some(EntryPart {
         period: whole(period)?,

@@ -20,7 +20,8 @@ use slot_plan::slot_count;
 use std::alloc::Global;
 use std::marker::Model;
 
-/// The log of one node: a scenario, and what the node was delivered in each slot, from the first period on.
+/// The log of one node: a scenario, and what the node was delivered in each slot, from the first
+/// period on.
 #[derive(Drop)]
 pub struct Record<const N: usize> {
     scenario: Scenario<N>,
@@ -36,7 +37,8 @@ impl<const N: usize> Model for Record<N> {
 
     ghost view = { λ r. record { scenario = r.scenario; id = r.id; entries = r.entries } };
 
-    ghost invariant = { λ r. IsRecord {N = N} (record { scenario = r.scenario; id = r.id; entries = r.entries }) };
+    ghost invariant = { λ r. IsRecord {N = N}
+        (record { scenario = r.scenario; id = r.id; entries = r.entries }) };
 }
 
 /// The limits of an entry of node `id`'s log, under the scenario.
@@ -62,7 +64,8 @@ impl<const N: usize> Record<N> {
     /// - `NoMemory` may come at any time.
     pub fn read(alloc: Global, bytes: &[u8], id: u8) -> Result<Record<N>, ScenarioError>
         requires { IsCapacity N }
-        ensures accepted { IfOk result (λ r. (d : Data) × Reads bytes.now d × IsAcceptedRecord id d r) }
+        ensures accepted { IfOk result (λ r. (d : Data) × Reads bytes.now d
+            × IsAcceptedRecord id d r) }
         ensures unreadable { IsErrOf result ScenarioError.Unreadable →
             (d : Data) → Reads bytes.now d → ⊥ }
         ensures refused { (rule place : ℕ) → IsErrOf result (ScenarioError.Refused rule place) →

@@ -1,6 +1,7 @@
 /// How a node stands in one period: what its frames may do to the others.
 ///
-/// Benign, symmetric and asymmetric faults are those of Thambidurai and Park (1988); `J` is this project's own.
+/// Benign, symmetric and asymmetric faults are those of Thambidurai and Park (1988); `J` is this
+/// project's own.
 #[derive(Clone, Copy, PartialEq, Eq)]
 pub enum Class {
     /// Nonfaulty: sound, and not restarting in the period.

@@ -1,6 +1,8 @@
-//! Sets of nodes, classes of nodes, rows of accusations, matrices of such rows, and counts by planes of bits.
+//! Sets of nodes, classes of nodes, rows of accusations, matrices of such rows, and counts by
+//! planes of bits.
 //!
-//! Nodes are numbers below a capacity `N`, which is 8 or 16. Nothing here takes memory or refuses anything.
+//! Nodes are numbers below a capacity `N`, which is 8 or 16. Nothing here takes memory or refuses
+//! anything.
 #![tactic(auto)]
 
 mod class;

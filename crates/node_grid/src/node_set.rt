@@ -1,5 +1,8 @@
-ghost use Rattle.std.specs.Prelude.{◌≡◌, ℕ, ◌+◌, ◌^◌, ◌<◌, ◌≤◌, List, [], ◌∷◌, ◌++◌, length, slice_get, slice_index, drop, IfSome, IsTrue, ◌↔◌, ◌==◌, All};
-ghost use Rattle.node_grid.specs.NodeSet.{ids_below, has_id, with_id, without_id, union_of, minus_of, common_of, place_of, bits_set, mask_of, IsIdSet};
+ghost use Rattle.std.specs.Prelude.{◌≡◌, ℕ, ◌+◌, ◌^◌, ◌<◌, ◌≤◌, List, [], ◌∷◌, ◌++◌, length};
+ghost use Rattle.std.specs.Prelude.{slice_get, slice_index, drop, IfSome, IsTrue, ◌↔◌, ◌==◌, All};
+ghost use Rattle.node_grid.specs.NodeSet.{ids_below, has_id, with_id, without_id, union_of};
+ghost use Rattle.node_grid.specs.NodeSet.{minus_of, common_of, place_of, bits_set, mask_of};
+ghost use Rattle.node_grid.specs.NodeSet.{IsIdSet};
 ghost use Rattle.std.specs.Cmp.Lexicographic.{pointwise};
 ghost use Rattle.std.specs.Cmp.Rules.{comparing};
 ghost use Rattle.std.proofs.Common.{rules};
@@ -136,7 +139,8 @@ impl<const N: usize> NodeSet<N> {
         }
     }
 
-    /// The member at a place, in ascending order; None exactly where there are no more members than that.
+    /// The member at a place, in ascending order; None exactly where there are no more members than
+    /// that.
     pub fn nth(&self, place: u8) -> Option<u8>
         ensures node { result ≡ slice_get self.now place }
         ensures within { IfSome result (λ x. x < N) }

@@ -1,4 +1,5 @@
-ghost use Rattle.std.specs.Prelude.{◌≡◌, ℕ, ◌+◌, ◌<◌, ◌≤◌, slice_index, replicate, bit_xor, bit_and};
+ghost use Rattle.std.specs.Prelude.{◌≡◌, ℕ, ◌+◌, ◌<◌, ◌≤◌, slice_index, replicate, bit_xor};
+ghost use Rattle.std.specs.Prelude.{bit_and};
 ghost use Rattle.std.specs.Int.{bit_at};
 ghost use Rattle.node_grid.specs.Capacity.{IsCapacity};
 ghost use Rattle.node_grid.specs.Planes.{count_at, EachCount, more_mask};
@@ -11,8 +12,9 @@ const PLANES: usize = 5;
 
 /// How often each node was accused of each kind, up to 31 times.
 ///
-/// The counts lie in planes of bits: bit k of the word at plane x and node j is bit x of the count of node j and
-/// kind k. So all kinds of a node are counted at once, by an addition and a comparison of whole words.
+/// The counts lie in planes of bits: bit k of the word at plane x and node j is bit x of the count
+/// of node j and kind k. So all kinds of a node are counted at once, by an addition and a
+/// comparison of whole words.
 #[derive(Clone, Copy)]
 pub struct Planes<const N: usize> {
     planes: [[u16; N]; PLANES],
@@ -44,7 +46,8 @@ impl<const N: usize> Planes<N> {
     pub fn add(&mut self, row: &Row<N>)
         requires capacity { IsCapacity N }
         requires room { EachCount N (λ j k. count_at self.old j k < 31) }
-        ensures { EachCount N (λ j k. count_at self.new j k ≡ count_at self.old j k + bit_at (slice_index row.now j) k) }
+        ensures { EachCount N (λ j k. count_at self.new j k
+            ≡ count_at self.old j k + bit_at (slice_index row.now j) k) }
     {
         let mut carry = row.masks;
         for plane in 0..PLANES {
@@ -61,12 +64,13 @@ impl<const N: usize> Planes<N> {
         &self.planes
     }
 
-    /// The row whose mask of node j has bit k exactly where the count of node j and kind k is greater than the
-    /// limit of j.
+    /// The row whose mask of node j has bit k exactly where the count of node j and kind k is
+    /// greater than the limit of j.
     pub fn more_than(&self, limits: &[u8; N]) -> Row<N>
         requires capacity { IsCapacity N }
         requires limits { (j : ℕ) → j < N → slice_index limits.now j ≤ 31 }
-        ensures { (j : ℕ) → j < N → slice_index result j ≡ more_mask self.now j (slice_index limits.now j) }
+        ensures { (j : ℕ) → j < N → slice_index result j
+            ≡ more_mask self.now j (slice_index limits.now j) }
     {
         let mut row = Row::zero();
         for node in 0..N {
@@ -99,7 +103,8 @@ fn above<const N: usize>(planes: &[[u16; N]; PLANES], node: usize, limit: u8) ->
 /// The lower bits of the sums of two planes, bit by bit.
 fn sum_bits<const N: usize>(one: &[u16; N], other: &[u16; N]) -> [u16; N]
     requires { IsCapacity N }
-    ensures { (j : ℕ) → j < N → slice_index result j ≡ bit_xor (slice_index one.now j) (slice_index other.now j) }
+    ensures { (j : ℕ) → j < N → slice_index result j
+        ≡ bit_xor (slice_index one.now j) (slice_index other.now j) }
 {
     let mut sums = [0; N];
     for node in 0..N {
@@ -111,7 +116,8 @@ fn sum_bits<const N: usize>(one: &[u16; N], other: &[u16; N]) -> [u16; N]
 /// The carries of the sums of two planes, bit by bit.
 fn carry_bits<const N: usize>(one: &[u16; N], other: &[u16; N]) -> [u16; N]
     requires { IsCapacity N }
-    ensures { (j : ℕ) → j < N → slice_index result j ≡ bit_and (slice_index one.now j) (slice_index other.now j) }
+    ensures { (j : ℕ) → j < N → slice_index result j
+        ≡ bit_and (slice_index one.now j) (slice_index other.now j) }
 {
     let mut carries = [0; N];
     for node in 0..N {

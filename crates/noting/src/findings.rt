@@ -27,7 +27,8 @@ fn kind_of(found: Finding) -> Option<u8>
     }
 }
 
-/// Notes what was found of the frames of a slot, in this period's row. `found` has a finding for each node.
+/// Notes what was found of the frames of a slot, in this period's row. `found` has a finding for
+/// each node.
 pub fn note_found<const N: usize>(notes: &mut RowBuilder<N>, found: &[Finding; N])
     requires capacity { IsCapacity N }
     ensures { notes.new ≡ also_noted N notes.old (found_bad found.now) }
@@ -53,8 +54,8 @@ pub fn carry_found<const N: usize>(notes: &mut RowBuilder<N>, found: &[Finding; 
     );
 }
 
-/// Notes what was found of the frames of the data slot, and the nodes of which a value is too far from the vote, in
-/// this period's row.
+/// Notes what was found of the frames of the data slot, and the nodes of which a value is too far
+/// from the vote, in this period's row.
 pub fn note_values<const N: usize>(
     notes: &mut RowBuilder<N>,
     found: &[Finding; N],

@@ -1,7 +1,8 @@
 //! What a node notes of the other nodes, on its row under construction.
 //!
-//! A frame that was found Good in a slot is one of the slot's, so findings alone tell what there is against the
-//! frames of a slot: nothing is read again. Nothing here takes memory or refuses anything.
+//! A frame that was found Good in a slot is one of the slot's, so findings alone tell what there is
+//! against the frames of a slot: nothing is read again. Nothing here takes memory or refuses
+//! anything.
 #![tactic(auto)]
 
 mod findings;

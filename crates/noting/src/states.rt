@@ -1,6 +1,7 @@
 //! What the sync slot says against a state.
 
-ghost use Rattle.std.specs.Prelude.{◌≡◌, ◌≢◌, ◌<◌, ◌≤◌, ◌==◌, ◌||◌, ◌&&◌, Some, None, if◌then◌else◌};
+ghost use Rattle.std.specs.Prelude.{◌≡◌, ◌≢◌, ◌<◌, ◌≤◌, ◌==◌, ◌||◌, ◌&&◌, Some, None};
+ghost use Rattle.std.specs.Prelude.{if◌then◌else◌};
 ghost use Rattle.node_grid.specs.Capacity.{IsCapacity};
 ghost use Rattle.node_grid.specs.Kinds.{state};
 ghost use Rattle.error_detect.specs.Watching.{findings, told_at, IsHeardBy};
@@ -33,8 +34,8 @@ fn tells_other<const N: usize>(watch: &SlotWatch<N>, own: &[u8], node: u8) -> bo
     }
 }
 
-/// Notes what was found of the frames of the closed sync slot, and the nodes whose state is another one than the node's
-/// own, in this period's row. `own` is that state as a frame has it.
+/// Notes what was found of the frames of the closed sync slot, and the nodes whose state is another
+/// one than the node's own, in this period's row. `own` is that state as a frame has it.
 pub fn note_states<const N: usize>(
     notes: &mut RowBuilder<N>,
     watch: &SlotWatch<N>,

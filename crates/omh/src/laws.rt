@@ -1,10 +1,12 @@
 //! The laws of the agreement rule, over its definitions alone.
 //!
-//! After the hybrid oral messages of Thambidurai and Park (1988) and of Lincoln and Rushby (1993). The rule itself, OMH,
-//! is this project's own, and nothing here is a claim about the published algorithms.
+//! After the hybrid oral messages of Thambidurai and Park (1988) and of Lincoln and Rushby (1993).
+//! The rule itself, OMH, is this project's own, and nothing here is a claim about the published
+//! algorithms.
 
 ghost use Rattle.omh_paths.specs.Wrapped.{IsExact};
-ghost use Rattle.omh.specs.Laws.{UniformLaw, AgreementLaw, ItemsAgree, ItemsStand, ItemsFail, ListenersLaw, EachWorldFits, LastPutLaw};
+ghost use Rattle.omh.specs.Laws.{UniformLaw, AgreementLaw, ItemsAgree, ItemsStand, ItemsFail};
+ghost use Rattle.omh.specs.Laws.{ListenersLaw, EachWorldFits, LastPutLaw};
 
 /// Uniform law: what all sound nodes outside a path heard for it, each of them settles.
 pub fn uniform<V: Copy + Eq>()
@@ -12,14 +14,15 @@ pub fn uniform<V: Copy + Eq>()
     ensures { UniformLaw V.eq }
 {}
 
-/// Agreement law: all sound nodes outside a path settle it alike, whatever its last node said to each.
+/// Agreement law: all sound nodes outside a path settle it alike, whatever its last node said to
+/// each.
 pub fn agreement<V: Copy + Eq>()
     requires { IsExact V.eq }
     ensures { AgreementLaw V.eq }
 {}
 
-/// What that says of the members' items within the budget: sound nodes settle them alike, those of nonfaulty members as
-/// they are, and those of silent ones as the error.
+/// What that says of the members' items within the budget: sound nodes settle them alike, those of
+/// nonfaulty members as they are, and those of silent ones as the error.
 pub fn items<V: Copy + Eq>()
     requires { IsExact V.eq }
     ensures agree { ItemsAgree V.eq }
@@ -27,7 +30,8 @@ pub fn items<V: Copy + Eq>()
     ensures fail { ItemsFail V.eq }
 {}
 
-/// Listeners' law: a sound node that is no member, or is joining, settles what each nonfaulty member settles.
+/// Listeners' law: a sound node that is no member, or is joining, settles what each nonfaulty
+/// member settles.
 pub fn listeners<V: Copy + Eq>()
     requires { IsExact V.eq }
     ensures { ListenersLaw V.eq }
@@ -38,7 +42,8 @@ pub fn worlds<V: Copy + Eq>()
     ensures { EachWorldFits V }
 {}
 
-/// What was heard for a path, after any calls of `put`, is what was put for it last, and the error where nothing was.
+/// What was heard for a path, after any calls of `put`, is what was put for it last, and the error
+/// where nothing was.
 pub fn last_put<V: Copy + Eq>()
     ensures { LastPutLaw V }
 {}

@@ -1,4 +1,5 @@
-ghost use Rattle.std.specs.Prelude.{◌≡◌, ◌≢◌, ℕ, ◌+◌, ◌*◌, ◌<◌, ◌≤◌, ◌∷◌, ◌++◌, [], length, slice_set, slice_index_or, take, drop, true, if◌then◌else◌};
+ghost use Rattle.std.specs.Prelude.{◌≡◌, ◌≢◌, ℕ, ◌+◌, ◌*◌, ◌<◌, ◌≤◌, ◌∷◌, ◌++◌, [], length};
+ghost use Rattle.std.specs.Prelude.{slice_set, slice_index_or, take, drop, true, if◌then◌else◌};
 ghost use Rattle.node_grid.specs.Capacity.{IsCapacity};
 ghost use Rattle.node_grid.specs.Count.{Distinct};
 ghost use Rattle.node_grid.specs.NodeSet.{has_id};
@@ -7,7 +8,8 @@ ghost use Rattle.omh_paths.specs.Wrapped.{wrapped, unwrapped, IsExact};
 ghost use Rattle.omh_paths.specs.Majority.{majority};
 ghost use Rattle.omh_paths.specs.Paths.{outside, index_in};
 ghost use Rattle.omh.specs.Omh.{settled_at};
-ghost use Rattle.omh.specs.Flat.{section_at, flat_place, flat_ear, IsStation, IsRoom, IsBranch, AreSettled, laid_own, path_settled};
+ghost use Rattle.omh.specs.Flat.{section_at, flat_place, flat_ear, IsStation, IsRoom, IsBranch};
+ghost use Rattle.omh.specs.Flat.{AreSettled, laid_own, path_settled};
 
 use node_grid::NodeSet;
 use omh_paths::{Path, Wrapped, count_paths, majority, rank, unrank};
@@ -105,7 +107,8 @@ pub struct Station<const N: usize> {
 impl<const N: usize> Station<N> {
     /// The place of what was heard for a path.
     pub fn place(&self, path: &Path) -> usize
-        requires station { IsStation N self.now.nodes self.now.rounds self.now.members self.now.count }
+        requires station { IsStation N self.now.nodes self.now.rounds self.now.members
+            self.now.count }
         requires within { (q : ℕ) → has_id path.now q ≡ true → has_id self.now.members q ≡ true }
         requires short { length path.now ≤ self.now.rounds + 1 }
         ensures place { result ≡ flat_place self.now.nodes self.now.members path.now }
@@ -118,7 +121,8 @@ impl<const N: usize> Station<N> {
 
     /// The place of a member among the members.
     fn member_place(&self, member: u8) -> usize
-        requires station { IsStation N self.now.nodes self.now.rounds self.now.members self.now.count }
+        requires station { IsStation N self.now.nodes self.now.rounds self.now.members
+            self.now.count }
         requires member { has_id self.now.members member ≡ true }
         ensures place { result ≡ index_in self.now.members member }
         ensures in_range { result < length self.now.members }
@@ -128,7 +132,8 @@ impl<const N: usize> Station<N> {
 
     /// The paths of so many relays behind the commander at this place.
     fn branch(&self, commander: usize, relays: u8) -> Branch
-        requires station { IsStation N self.now.nodes self.now.rounds self.now.members self.now.count }
+        requires station { IsStation N self.now.nodes self.now.rounds self.now.members
+            self.now.count }
         requires member { commander < length self.now.members }
         requires few { relays ≤ self.now.rounds }
         ensures { IsBranch self.now.nodes self.now.rounds self.now.members commander relays result }
@@ -154,7 +159,8 @@ impl<const N: usize> Station<N> {
         }
     }
 
-    /// Lays the node's own term among those of the members outside the path, whose terms begin at `from`.
+    /// Lays the node's own term among those of the members outside the path, whose terms begin at
+    /// `from`.
     fn lay_own<V: Copy + Eq>(
         &self,
         path: &Path,
@@ -162,11 +168,13 @@ impl<const N: usize> Station<N> {
         own: Wrapped<V>,
         work: &mut [Wrapped<V>],
     )
-        requires station { IsStation N self.now.nodes self.now.rounds self.now.members self.now.count }
+        requires station { IsStation N self.now.nodes self.now.rounds self.now.members
+            self.now.count }
         requires within { (q : ℕ) → has_id path.now q ≡ true → has_id self.now.members q ≡ true }
         requires room { from + length (outside self.now.members path.now) ≤ length work.old }
         requires small { from ≤ 65536 }
-        ensures { work.new ≡ laid_own (outside self.now.members path.now) self.now.me from own work.old }
+        ensures { work.new ≡ laid_own (outside self.now.members path.now) self.now.me from own
+            work.old }
     {
         let others = outside(&self.members, path);
         if others.has(self.me) {
@@ -174,7 +182,8 @@ impl<const N: usize> Station<N> {
         }
     }
 
-    /// Settles the path at place `k` from the terms of its majority, which begin at `k * width`, with its own term among them.
+    /// Settles the path at place `k` from the terms of its majority, which begin at `k * width`,
+    /// with its own term among them.
     fn settle_path<V: Copy + Eq>(
         &self,
         path: &Path,
@@ -184,20 +193,23 @@ impl<const N: usize> Station<N> {
         work: &mut [Wrapped<V>],
     )
         requires exact { IsExact V.eq }
-        requires station { IsStation N self.now.nodes self.now.rounds self.now.members self.now.count }
+        requires station { IsStation N self.now.nodes self.now.rounds self.now.members
+            self.now.count }
         requires within { (q : ℕ) → has_id path.now q ≡ true → has_id self.now.members q ≡ true }
         requires width { width ≡ length (outside self.now.members path.now) }
         requires room { k * width + width ≤ length work.old }
         requires place { k < length work.old }
         requires small { k * width + width ≤ 65536 }
-        ensures { work.new ≡ path_settled V.eq (outside self.now.members path.now) self.now.me k width own work.old }
+        ensures { work.new ≡ path_settled V.eq (outside self.now.members path.now) self.now.me k
+            width own work.old }
     {
         self.lay_own(path, k * width, own, work);
         let settled = settled_from_terms(work, k * width, width);
         set_value(work, k, settled);
     }
 
-    /// Settles all paths of so many relays behind the commander, in place of what was settled for those of one relay more.
+    /// Settles all paths of so many relays behind the commander, in place of what was settled for
+    /// those of one relay more.
     fn settle_shorter<V: Copy + Eq>(
         &self,
         commander: usize,
@@ -206,12 +218,16 @@ impl<const N: usize> Station<N> {
         work: &mut [Wrapped<V>],
     )
         requires exact { IsExact V.eq }
-        requires station { IsStation N self.now.nodes self.now.rounds self.now.members self.now.count }
+        requires station { IsStation N self.now.nodes self.now.rounds self.now.members
+            self.now.count }
         requires room { IsRoom self.now.nodes self.now.rounds heard.now work.old }
         requires member { commander < length self.now.members }
         requires shorter { relays < self.now.rounds }
-        requires longer { AreSettled V.eq (flat_ear self.now.nodes self.now.rounds self.now.members self.now.me self.now.full heard.now) commander (relays + 1) work.old }
-        ensures { AreSettled V.eq (flat_ear self.now.nodes self.now.rounds self.now.members self.now.me self.now.full heard.now) commander relays work.new }
+        requires longer { AreSettled V.eq
+            (flat_ear self.now.nodes self.now.rounds self.now.members self.now.me self.now.full
+            heard.now) commander (relays + 1) work.old }
+        ensures { AreSettled V.eq (flat_ear self.now.nodes self.now.rounds self.now.members
+            self.now.me self.now.full heard.now) commander relays work.new }
     {
         let branch = self.branch(commander, relays);
         let width = self.count.saturating_sub(relays + 1) as usize;
@@ -230,11 +246,14 @@ impl<const N: usize> Station<N> {
         work: &mut [Wrapped<V>],
     ) -> Wrapped<V>
         requires exact { IsExact V.eq }
-        requires station { IsStation N self.now.nodes self.now.rounds self.now.members self.now.count }
+        requires station { IsStation N self.now.nodes self.now.rounds self.now.members
+            self.now.count }
         requires room { IsRoom self.now.nodes self.now.rounds heard.now work.old }
         requires member { has_id self.now.members commander ≡ true }
         requires other { commander ≢ self.now.me }
-        ensures { result ≡ settled_at V.eq (flat_ear self.now.nodes self.now.rounds self.now.members self.now.me self.now.full heard.now) (commander ∷ []) }
+        ensures { result ≡ settled_at V.eq
+            (flat_ear self.now.nodes self.now.rounds self.now.members self.now.me self.now.full
+            heard.now) (commander ∷ []) }
     {
         let place = self.member_place(commander);
         let longest = self.branch(place, self.rounds);

@@ -1,4 +1,5 @@
-ghost use Rattle.std.specs.Prelude.{◌≡◌, ◌≢◌, ℕ, ◌+◌, ◌<◌, ◌≤◌, ◌∷◌, [], length, IfOk, map, true, false, replicate};
+ghost use Rattle.std.specs.Prelude.{◌≡◌, ◌≢◌, ℕ, ◌+◌, ◌<◌, ◌≤◌, ◌∷◌, [], length, IfOk, map, true};
+ghost use Rattle.std.specs.Prelude.{false, replicate};
 ghost use Rattle.node_grid.specs.Capacity.{IsCapacity};
 ghost use Rattle.node_grid.specs.NodeSet.{has_id};
 ghost use Rattle.omh_paths.specs.declared.wrapped.Wrapped.TheVariants.{Fault};
@@ -35,8 +36,8 @@ fn forget<V: Copy + Eq>(values: &mut [Wrapped<V>])
 
 /// What one node heard of the relays of an item, path by path, and what it settles from that.
 ///
-/// All its memory is taken by [`Table::open`]. Values lie flat: those for the paths of one length after those for shorter
-/// ones, each at the place of its path in lexicographic order.
+/// All its memory is taken by [`Table::open`]. Values lie flat: those for the paths of one length
+/// after those for shorter ones, each at the place of its path in lexicographic order.
 #[derive(Drop)]
 pub struct Table<V, const N: usize> {
     station: Station<N>,
@@ -53,9 +54,19 @@ impl<V, const N: usize> Model for Table<V, N> {
 
     ghost use Rattle.omh.specs.Flat.{heard_flat, IsStation, IsRoom};
 
-    ghost view = { λ t. record { nodes = t.station.nodes; rounds = t.station.rounds; members = t.station.members; me = t.station.me; full = t.station.full; own = t.own; heard = heard_flat t.station.nodes t.station.rounds t.station.members t.station.me t.heard.items } };
+    ghost view = { λ t. record {
+      nodes = t.station.nodes;
+      rounds = t.station.rounds;
+      members = t.station.members;
+      me = t.station.me;
+      full = t.station.full;
+      own = t.own;
+      heard = heard_flat t.station.nodes t.station.rounds t.station.members t.station.me
+          t.heard.items;
+    } };
 
-    ghost invariant = { λ t. IsStation N t.station.nodes t.station.rounds t.station.members t.station.count × IsRoom t.station.nodes t.station.rounds t.heard.items t.work.items };
+    ghost invariant = { λ t. IsStation N t.station.nodes t.station.rounds t.station.members
+        t.station.count × IsRoom t.station.nodes t.station.rounds t.heard.items t.work.items };
 }
 
 impl<V: Copy + Eq + Drop, const N: usize> Table<V, N> {
@@ -64,7 +75,15 @@ impl<V: Copy + Eq + Drop, const N: usize> Table<V, N> {
         requires capacity { IsCapacity N }
         requires nodes { nodes ≤ N }
         requires rounds { m ≤ 3 }
-        ensures { IfOk result (λ t. t ≡ record { nodes = nodes; rounds = m; members = []; me = 0; full = false; own = Fault 0; heard = nothing_heard [] 0 m }) }
+        ensures { IfOk result (λ t. t ≡ record {
+          nodes = nodes;
+          rounds = m;
+          members = [];
+          me = 0;
+          full = false;
+          own = Fault 0;
+          heard = nothing_heard [] 0 m;
+        }) }
     {
         let Ok(heard) = unheard(alloc, section_at(nodes, m + 1)) else {
             return Err(NoMemory);
@@ -88,11 +107,20 @@ impl<V: Copy + Eq + Drop, const N: usize> Table<V, N> {
         })
     }
 
-    /// Forgets all that was heard, and takes up the members, the node itself, whether it is Full, and its own item.
+    /// Forgets all that was heard, and takes up the members, the node itself, whether it is Full,
+    /// and its own item.
     pub fn start(&mut self, members: &NodeSet<N>, me: u8, full: bool, own: Wrapped<V>)
         requires members { (q : ℕ) → has_id members.now q ≡ true → q < self.old.nodes }
         requires me { me < self.old.nodes }
-        ensures { self.new ≡ record { nodes = self.old.nodes; rounds = self.old.rounds; members = members.now; me = me; full = full; own = own; heard = nothing_heard members.now me self.old.rounds } }
+        ensures { self.new ≡ record {
+          nodes = self.old.nodes;
+          rounds = self.old.rounds;
+          members = members.now;
+          me = me;
+          full = full;
+          own = own;
+          heard = nothing_heard members.now me self.old.rounds;
+        } }
     {
         forget(self.heard.as_mut_slice());
         self.station.members = *members;
@@ -108,7 +136,8 @@ impl<V: Copy + Eq + Drop, const N: usize> Table<V, N> {
         requires others { has_id path.now self.old.me ≡ false }
         requires short { length path.now ≤ self.old.rounds + 1 }
         requires known { value ≢ Fault 255 }
-        ensures { self.new ≡ record self.old { heard = map (with_heard path.now value) self.old.heard } }
+        ensures { self.new ≡ record self.old
+            { heard = map (with_heard path.now value) self.old.heard } }
     {
         let place = self.station.place(path);
         self.heard[place] = value;
@@ -124,8 +153,8 @@ impl<V: Copy + Eq + Drop, const N: usize> Table<V, N> {
         self.heard[self.station.place(path)].wrap()
     }
 
-    /// What the node settles for the item of a member: its own item where it is Full and that member, and else what
-    /// follows from what it heard. All that was heard stays.
+    /// What the node settles for the item of a member: its own item where it is Full and that
+    /// member, and else what follows from what it heard. All that was heard stays.
     pub fn settle(&mut self, commander: u8) -> Wrapped<V>
         requires exact { IsExact V.eq }
         requires member { has_id self.old.members commander ≡ true }

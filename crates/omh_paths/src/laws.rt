@@ -5,13 +5,15 @@ ghost use Rattle.omh_paths.specs.Majority.{MajorityLaw};
 ghost use Rattle.omh_paths.specs.Paths.{PathsLaw, RanksLaw};
 ghost use Rattle.omh_paths.specs.Tables.{TablesLaw};
 
-/// What the majority is: the value at more than half of the places that hold no error, or `Fault(1)`.
+/// What the majority is: the value at more than half of the places that hold no error, or
+/// `Fault(1)`.
 pub fn majorities<V: Copy + Eq>()
     requires { IsExact V.eq }
     ensures { MajorityLaw V.eq }
 {}
 
-/// The list of all paths of so many members of a set has each of them once and nothing else, in lexicographic order.
+/// The list of all paths of so many members of a set has each of them once and nothing else, in
+/// lexicographic order.
 pub fn paths()
     ensures { PathsLaw }
 {}

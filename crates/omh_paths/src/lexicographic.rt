@@ -6,7 +6,8 @@ ghost use Rattle.omh_paths.specs.Paths.{paths_of_length, path_count, place_in, p
 use crate::path::{MAX_NODES, Path};
 use node_grid::NodeSet;
 
-/// The number of paths of `len` nodes out of `k`: k (k - 1) .. (k - len + 1), and 0 where `len` is more than `k`.
+/// The number of paths of `len` nodes out of `k`: k (k - 1) .. (k - len + 1), and 0 where `len` is
+/// more than `k`.
 pub fn count_paths(k: u8, len: u8) -> usize
     requires nodes { k ≤ 16 }
     requires short { len ≤ 4 }
@@ -35,7 +36,8 @@ fn product(k: u8, len: u8) -> usize
     }
 }
 
-/// The member that an index begins with, where `behind` places belong to each member, and the place among those.
+/// The member that an index begins with, where `behind` places belong to each member, and the place
+/// among those.
 ///
 /// This counts up from the least member: there are few, and a division would take longer.
 fn split_place<const N: usize>(set: &NodeSet<N>, behind: usize, index: usize) -> (u8, usize)
@@ -73,7 +75,8 @@ pub fn rank<const N: usize>(set: &NodeSet<N>, path: &Path) -> usize
     place
 }
 
-/// The path of `len` nodes over the set that stands at a place in lexicographic order: the inverse of [`rank`].
+/// The path of `len` nodes over the set that stands at a place in lexicographic order: the inverse
+/// of [`rank`].
 pub fn unrank<const N: usize>(set: &NodeSet<N>, len: u8, index: usize) -> Path
     requires capacity { IsCapacity N }
     requires some { 0 < len }

@@ -33,7 +33,8 @@ impl Model for Path {
     ghost use Rattle.omh_paths.specs.Layout.{padded-front, length-front};
     ghost use Rattle.std.proofs.Common.{ap₂};
 
-    ghost inverse_ok = { λ a h. ap₂ (λ nodes len. record { nodes = nodes; len = len }) (padded-front h) (length-front h) };
+    ghost inverse_ok = { λ a h. ap₂ (λ nodes len. record { nodes = nodes; len = len })
+        (padded-front h) (length-front h) };
 }
 
 impl Path {

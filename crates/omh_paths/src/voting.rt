@@ -23,8 +23,8 @@ impl<V: Copy + Eq> Wrapped<V> {
     }
 }
 
-/// The only value that can have the majority: each value of another kind takes away one place that it leads by (Boyer
-/// and Moore 1991).
+/// The only value that can have the majority: each value of another kind takes away one place that
+/// it leads by (Boyer and Moore 1991).
 fn candidate<V: Copy + Eq>(values: &[Wrapped<V>]) -> Wrapped<V>
     requires { IsExact V.eq }
     ensures { IsOnlyCandidate V.eq values.now result }
@@ -66,7 +66,8 @@ fn has_majority<V: Copy + Eq>(values: &[Wrapped<V>], value: Wrapped<V>) -> bool
     support > votes / 2
 }
 
-/// The value that more than half of those that aren't `Fault(0)` have; `Fault(1)` exactly where there is none.
+/// The value that more than half of those that aren't `Fault(0)` have; `Fault(1)` exactly where
+/// there is none.
 ///
 /// `Fault(0)` is left out as in the hybrid majority of Lincoln and Rushby (1993).
 pub fn majority<V: Copy + Eq>(values: &[Wrapped<V>]) -> Wrapped<V>

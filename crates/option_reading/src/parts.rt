@@ -10,7 +10,9 @@ ghost use Rattle.json_parts.specs.Part.{Gives};
 ghost use Rattle.drawn_scenarios.specs.declared.choices.Classes.{Classes as ClassesAre};
 ghost use Rattle.drawn_scenarios.specs.declared.choices.FaultClass.{FaultClass as FaultClassIs};
 ghost use Rattle.drawn_scenarios.specs.declared.option_parts.ClockOptionParts.{ClockOptionParts as ClockIs};
-ghost use Rattle.option_reading.specs.Keys.{class_at, is_benign, is_symmetric, is_asymmetric, classes_of, classes_at, clock_at, copies_in, option_fields, options_read};
+ghost use Rattle.option_reading.specs.Keys.{class_at, is_benign, is_symmetric, is_asymmetric};
+ghost use Rattle.option_reading.specs.Keys.{classes_of, classes_at, clock_at, copies_in};
+ghost use Rattle.option_reading.specs.Keys.{option_fields, options_read};
 
 use drawn_scenarios::{Classes, ClockOptionParts, FaultClass, OptionParts};
 use json::Value;

@@ -3,7 +3,8 @@ ghost use Rattle.std.specs.Prelude.{◌≡◌, ℕ, Some, IfOk, IsErrOf};
 ghost use Rattle.json_parts.specs.Meaning.{view};
 ghost use Rattle.drawn_scenarios.specs.Options.{choices_of};
 ghost use Rattle.drawn_scenarios.specs.declared.option_parts.OptionParts.{OptionParts as OptionPartsAre};
-ghost use Rattle.option_reading.specs.Verdict.{value_refusal, IsAccepted, IsAcceptedText, IsUnreadable, IsRefusedText};
+ghost use Rattle.option_reading.specs.Verdict.{value_refusal, IsAccepted, IsAcceptedText};
+ghost use Rattle.option_reading.specs.Verdict.{IsUnreadable, IsRefusedText};
 
 use crate::parts::parts;
 use drawn_scenarios::Options;

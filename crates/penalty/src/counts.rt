@@ -1,12 +1,13 @@
 ghost use Rattle.std.specs.Prelude.{◌≡◌, ℕ, ◌<◌, ◌≤◌, ◌+◌, ◌^◌, replicate, slice_index};
 ghost use Rattle.node_grid.specs.Capacity.{IsCapacity};
 ghost use Rattle.penalty.specs.Policy.{IsPolicy};
-ghost use Rattle.penalty.specs.Step.{penalty, count_after, streak_after, counts_after, streaks_after, IsCounted};
+ghost use Rattle.penalty.specs.Step.{penalty, count_after, streak_after, counts_after};
+ghost use Rattle.penalty.specs.Step.{streaks_after, IsCounted};
 
 use crate::Policy;
 
-/// For each node the penalties that it has gathered, and its streak: how many periods it has gone without a charge
-/// since the last one, or since its last full streak.
+/// For each node the penalties that it has gathered, and its streak: how many periods it has gone
+/// without a charge since the last one, or since its last full streak.
 #[derive(Clone, Copy, PartialEq, Eq)]
 pub struct Counts<const N: usize> {
     /// At most the policy's `cap`; 0 for a node that isn't in use.
@@ -28,14 +29,17 @@ impl<const N: usize> Counts<N> {
         }
     }
 
-    /// A period's step, in which each of the `nodes` nodes in use is charged with the kinds of its mask.
+    /// A period's step, in which each of the `nodes` nodes in use is charged with the kinds of its
+    /// mask.
     pub fn step(&mut self, policy: &Policy, nodes: u8, charged: &[u16; N])
         requires capacity { IsCapacity N }
         requires nodes { nodes ≤ N }
         requires policy { IsPolicy policy.now }
         requires counted { IsCounted policy.now nodes self.old.counts self.old.streaks }
-        ensures counts { self.new.counts ≡ counts_after policy.now nodes (λ j. slice_index charged.now j) self.old.counts self.old.streaks }
-        ensures streaks { self.new.streaks ≡ streaks_after policy.now nodes (λ j. slice_index charged.now j) self.old.streaks }
+        ensures counts { self.new.counts ≡ counts_after policy.now nodes
+            (λ j. slice_index charged.now j) self.old.counts self.old.streaks }
+        ensures streaks { self.new.streaks
+            ≡ streaks_after policy.now nodes (λ j. slice_index charged.now j) self.old.streaks }
         ensures counted { IsCounted policy.now nodes self.new.counts self.new.streaks }
     {
         for node in 0..nodes as usize {

@@ -1,8 +1,9 @@
 //! Counts of penalties, and the policy that says how they rise and fall.
 //!
-//! A node that is charged with errors has a count that rises by their weights; periods without a charge let it fall
-//! again. Counts, exclusion and readmission follow Kieckhafer et al. (1988) in outline; weights, credit, streak and
-//! cap are this project's own. Nothing here takes memory or refuses anything.
+//! A node that is charged with errors has a count that rises by their weights; periods without a
+//! charge let it fall again. Counts, exclusion and readmission follow Kieckhafer et al. (1988) in
+//! outline; weights, credit, streak and cap are this project's own. Nothing here takes memory or
+//! refuses anything.
 #![tactic(auto)]
 
 mod counts;
@@ -24,6 +25,7 @@ pub struct Policy {
     pub streak: u16,
     /// No count rises above this: 1 to 60000.
     pub cap: u16,
-    /// A node that left the members so often never joins them again: 0 to 60000, where 0 is for no limit.
+    /// A node that left the members so often never joins them again: 0 to 60000, where 0 is for no
+    /// limit.
     pub retire: u16,
 }

@@ -33,8 +33,8 @@ struct Example<'a, const N: usize> {
     pub beliefs: &'a Printer<BELIEFS>,
 }
 
-/// A node of the group to which more than half of the nodes belong, where there is such a group, and
-/// else any node.
+/// A node of the group to which more than half of the nodes belong, where there is such a group,
+/// and else any node.
 fn common_node<const N: usize>(shown: &Shown<N>) -> u8
     requires { IsPrintable shown.now }
     ensures { result < N }

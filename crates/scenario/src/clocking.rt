@@ -1,11 +1,14 @@
 //! From the parts of a clock to the clocks of the nodes, and the rules on clocks and lies.
-ghost use Rattle.std.specs.Prelude.{◌≡◌, ◌≤◌, ◌≤ℤ◌, ◌<◌, ℕ, pos, All, None, Some, IfOk, IfErr, IfSome, true, is_some, map, option_map, length};
+ghost use Rattle.std.specs.Prelude.{◌≡◌, ◌≤◌, ◌≤ℤ◌, ◌<◌, ℕ, pos, All, None, Some, IfOk, IfErr};
+ghost use Rattle.std.specs.Prelude.{IfSome, true, is_some, map, option_map, length};
 ghost use Rattle.node_grid.specs.Capacity.{IsCapacity};
 ghost use Rattle.clock_skew.specs.Clock.{lie_of};
 ghost use Rattle.scenario.specs.Numbers.{natural};
 ghost use Rattle.scenario.specs.Line.{lie_in};
 ghost use Rattle.scenario.specs.Given.{padded, clock_given};
-ghost use Rattle.scenario.specs.Rules.{at_place, first_bad, are_rows, are_up_to, is_bound, is_drift, is_clock, hears, is_to_all, may_tell, is_fair, is_said, is_lie, fits_lie, clock_refused};
+ghost use Rattle.scenario.specs.Rules.{at_place, first_bad, are_rows, are_up_to, is_bound};
+ghost use Rattle.scenario.specs.Rules.{is_drift, is_clock, hears, is_to_all, may_tell, is_fair};
+ghost use Rattle.scenario.specs.Rules.{is_said, is_lie, fits_lie, clock_refused};
 ghost use Rattle.scenario.specs.Seen.{lie_view, clock_view};
 ghost use Rattle.scenario.specs.Verdict.{Tells};
 
@@ -113,7 +116,8 @@ fn is_to_all<const N: usize>(lie: &Lie<N>, nodes: u8) -> bool
     true
 }
 
-/// Whether a node of this class may tell a lie: an unsound one may, and a symmetric one tells it to all others.
+/// Whether a node of this class may tell a lie: an unsound one may, and a symmetric one tells it to
+/// all others.
 fn may_tell(class: Class, to_all: bool) -> bool
     ensures { result ≡ may_tell to_all class }
 {
@@ -196,7 +200,8 @@ fn lie<const N: usize>(
 /// The lies that the parts are.
 ///
 /// # Errors
-/// `Refused` with rule 19 and the place of the first that isn't one, or is one too many; `NoMemory`.
+/// `Refused` with rule 19 and the place of the first that isn't one, or is one too many;
+/// `NoMemory`.
 fn lies<const N: usize>(
     alloc: Global,
     parts: &[LiePart],
@@ -209,7 +214,8 @@ fn lies<const N: usize>(
     requires nodes { nodes ≡ plan.now.nodes }
     requires periods { periods ≡ plan.now.periods }
     requires few_periods { periods ≤ 1024 }
-    ensures lies { IfOk result (λ v. map lie_of v.items ≡ map (lie_in nodes) (map lie_view parts.now)) }
+    ensures lies { IfOk result (λ v. map lie_of v.items
+        ≡ map (lie_in nodes) (map lie_view parts.now)) }
     ensures unrefused { IfOk result (λ v.
         first_bad (fits_lie plan.now) 0 (map lie_view parts.now) ≡ None) }
     ensures refused { IfErr result (Tells (at_place 19
@@ -263,8 +269,10 @@ fn clocks<const N: usize>(
     requires periods { periods ≡ plan.now.periods }
     requires few_periods { periods ≤ 1024 }
     ensures clock { IfOk result (λ c. c ≡ clock_given N nodes (clock_view part.now)) }
-    ensures unrefused { IfOk result (λ c. clock_refused nodes plan.now (Some (clock_view part.now)) ≡ None) }
-    ensures refused { IfErr result (Tells (clock_refused nodes plan.now (Some (clock_view part.now)))) }
+    ensures unrefused { IfOk result (λ c. clock_refused nodes plan.now (Some (clock_view part.now))
+        ≡ None) }
+    ensures refused { IfErr result (Tells
+        (clock_refused nodes plan.now (Some (clock_view part.now)))) }
 {
     if !part.is_clock(nodes as usize) {
         return Err(refused(18, 0));

@@ -1,7 +1,8 @@
 //! The bytes that a text is in hexadecimal.
 //!
 //! It is read in two passes without a branch in either, so that many digits are read at once.
-ghost use Rattle.std.specs.Prelude.{◌≡◌, ◌*◌, ℕ, true, false, None, Some, Ok, IfOk, length, option_map};
+ghost use Rattle.std.specs.Prelude.{◌≡◌, ◌*◌, ℕ, true, false, None, Some, Ok, IfOk, length};
+ghost use Rattle.std.specs.Prelude.{option_map};
 ghost use Rattle.std.specs.List.{list_all};
 ghost use Rattle.std.specs.Result.{result_ok};
 ghost use Rattle.hex.specs.Hex.{decode_of, decode_pairs, is_hex_digit, pair_value};
@@ -25,7 +26,8 @@ fn are_digits(digits: &[u8]) -> bool
     all
 }
 
-/// The byte of two digits. Their values are found together: the low bits of a letter's code are 9 less than its value.
+/// The byte of two digits. Their values are found together: the low bits of a letter's code are 9
+/// less than its value.
 fn byte_of(high: u8, low: u8) -> u8
     requires high { is_hex_digit high ≡ true }
     requires low { is_hex_digit low ≡ true }

@@ -1,4 +1,5 @@
-//! Scenarios read from JSON: text or a value to the parts of a scenario, which are then judged by its rules.
+//! Scenarios read from JSON: text or a value to the parts of a scenario, which are then judged by
+//! its rules.
 #![tactic(auto)]
 
 mod accepting;

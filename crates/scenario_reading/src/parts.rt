@@ -1,15 +1,26 @@
 //! From a JSON value to the parts of a scenario.
 //!
-//! Each call answers `NoPart` where a key is missing, unknown or of another type, or a text is another one, and `NoMemory`
-//! where there is none.
+//! Each call answers `NoPart` where a key is missing, unknown or of another type, or a text is
+//! another one, and `NoMemory` where there is none.
 ghost use Rattle.std.specs.Prelude.{◌≡◌, not, None, pos, map, option_map};
 ghost use Rattle.std.specs.Ordering.{int_eq};
 ghost use Rattle.json_parts.specs.Meaning.{view};
 ghost use Rattle.json_parts.specs.Part.{Gives};
-ghost use Rattle.scenario.specs.Parts.{Numbers as NumbersAre, EffectParts, FaultParts, RestartParts, PolicyParts, ChannelParts, TaskParts, LieParts, ClockParts};
+ghost use Rattle.scenario.specs.Parts.{Numbers as NumbersAre, EffectParts, FaultParts};
+ghost use Rattle.scenario.specs.Parts.{RestartParts, PolicyParts, ChannelParts, TaskParts};
+ghost use Rattle.scenario.specs.Parts.{LieParts, ClockParts};
 ghost use Rattle.json_parts.specs.Reading.{object_of, has_keys};
-ghost use Rattle.scenario_reading.specs.Keys.{policy_names, policy_fields, policy_at, state_names, state_fields, sensor_names, sensor_fields, copy_names, copy_fields, channel_at, task_key, numbers_at, set_names, set_fields, effect_by, effect_key, fault_at, restart_at, lie_key, clock_at, scenario_names, size_fields, policy_in, channels_in, tasks_in, faults_in, restarts_in, clock_key, other_fields, scenario_fields, parts_in, parts_read};
-ghost use Rattle.scenario.specs.Seen.{numbers_view, effect_view, fault_view, restart_view, policy_view, channel_view, task_view, lie_view, clock_view, parts_view};
+ghost use Rattle.scenario_reading.specs.Keys.{policy_names, policy_fields, policy_at, state_names};
+ghost use Rattle.scenario_reading.specs.Keys.{state_fields, sensor_names, sensor_fields};
+ghost use Rattle.scenario_reading.specs.Keys.{copy_names, copy_fields, channel_at, task_key};
+ghost use Rattle.scenario_reading.specs.Keys.{numbers_at, set_names, set_fields, effect_by};
+ghost use Rattle.scenario_reading.specs.Keys.{effect_key, fault_at, restart_at, lie_key, clock_at};
+ghost use Rattle.scenario_reading.specs.Keys.{scenario_names, size_fields, policy_in, channels_in};
+ghost use Rattle.scenario_reading.specs.Keys.{tasks_in, faults_in, restarts_in, clock_key};
+ghost use Rattle.scenario_reading.specs.Keys.{other_fields, scenario_fields, parts_in, parts_read};
+ghost use Rattle.scenario.specs.Seen.{numbers_view, effect_view, fault_view, restart_view};
+ghost use Rattle.scenario.specs.Seen.{policy_view, channel_view, task_view, lie_view, clock_view};
+ghost use Rattle.scenario.specs.Seen.{parts_view};
 ghost use Rattle.scenario_reading.specs.Sizes.{sizes_view};
 
 use json::Value;
@@ -497,7 +508,8 @@ fn parts_in(alloc: Global, value: &Value<'_>, version: i64) -> Result<Parts, Par
     }
 }
 
-/// The parts of the scenario that a JSON value holds. Which keys and texts are known is a matter of its version.
+/// The parts of the scenario that a JSON value holds. Which keys and texts are known is a matter of
+/// its version.
 ///
 /// # Errors
 /// `NoPart` exactly where it holds none; `NoMemory`.

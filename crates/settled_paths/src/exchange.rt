@@ -54,7 +54,8 @@ impl<const N: usize> Exchange<N> {
     pub(crate) fn level(&self, relays: u8) -> Level
         requires exchange { IsExchange N self.now.rounds self.now.members self.now.commander }
         requires few { relays ≤ self.now.rounds }
-        ensures { IsLevel self.now.members (index_in self.now.members self.now.commander) relays result }
+        ensures { IsLevel self.now.members (index_in self.now.members self.now.commander) relays
+            result }
     {
         let others = self.members.len() - 1;
         let paths = count_paths(others, relays);
@@ -69,9 +70,11 @@ impl<const N: usize> Exchange<N> {
     pub(crate) fn path(&self, relays: u8, level: &Level, k: usize) -> Path
         requires exchange { IsExchange N self.now.rounds self.now.members self.now.commander }
         requires few { relays ≤ self.now.rounds }
-        requires level { IsLevel self.now.members (index_in self.now.members self.now.commander) relays level.now }
+        requires level { IsLevel self.now.members (index_in self.now.members self.now.commander)
+            relays level.now }
         requires within { k < level.now.paths }
-        ensures path { result ≡ relay_path self.now.members (index_in self.now.members self.now.commander) relays k }
+        ensures path { result ≡ relay_path self.now.members
+            (index_in self.now.members self.now.commander) relays k }
         ensures long { length result ≡ relays + 1 }
         ensures within { (q : ℕ) → has_id result q ≡ true → has_id self.now.members q ≡ true }
     {

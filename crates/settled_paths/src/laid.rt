@@ -1,4 +1,5 @@
-ghost use Rattle.std.specs.Prelude.{◌≡◌, ◌≢◌, ℕ, ◌+◌, ◌<◌, ◌≤◌, ◌⊎◌, ◌∷◌, [], length, slice_index_or, IfOk, true, false};
+ghost use Rattle.std.specs.Prelude.{◌≡◌, ◌≢◌, ℕ, ◌+◌, ◌<◌, ◌≤◌, ◌⊎◌, ◌∷◌, [], length};
+ghost use Rattle.std.specs.Prelude.{slice_index_or, IfOk, true, false};
 ghost use Rattle.node_grid.specs.Capacity.{IsCapacity};
 ghost use Rattle.node_grid.specs.NodeSet.{has_id};
 ghost use Rattle.omh_paths.specs.declared.wrapped.Wrapped.TheVariants.{Fault};
@@ -81,8 +82,13 @@ impl<V: Copy + Eq + Drop> Laid<V> {
         requires member { has_id exchange.now.members exchange.now.commander ≡ true }
         requires own { IsSmall 252 own }
         requires places { length all.old ≡ N }
-        ensures settled { (i : ℕ) → has_id exchange.now.awake i ≡ true → exchange.now.commander ≢ i → slice_index_or all.new i (Fault 0) ≡ settled V.eq (passing_world exchange.now.rounds exchange.now.members exchange.now.full own (T.says touched.now)) i (exchange.now.commander ∷ []) }
-        ensures others { (i : ℕ) → (has_id exchange.now.awake i ≡ false) ⊎ (exchange.now.commander ≡ i) → slice_index_or all.new i (Fault 0) ≡ slice_index_or all.old i (Fault 0) }
+        ensures settled { (i : ℕ) → has_id exchange.now.awake i ≡ true →
+            exchange.now.commander ≢ i → slice_index_or all.new i (Fault 0)
+            ≡ settled V.eq (passing_world exchange.now.rounds exchange.now.members exchange.now.full
+            own (T.says touched.now)) i (exchange.now.commander ∷ []) }
+        ensures others { (i : ℕ) → (has_id exchange.now.awake i ≡ false)
+            ⊎ (exchange.now.commander ≡ i) → slice_index_or all.new i (Fault 0)
+            ≡ slice_index_or all.old i (Fault 0) }
         ensures places { length all.new ≡ N }
         ensures kept { self.new ≡ self.old }
     {

@@ -2,8 +2,8 @@
 
 ghost use Rattle.settled_paths.specs.Laws.{PassingLaw};
 
-/// Passing law: what an awake node settles for another member's item follows from who relays it, what
-/// the commander says of it, and what nodes hear in place of what is passed on.
+/// Passing law: what an awake node settles for another member's item follows from who relays it,
+/// what the commander says of it, and what nodes hear in place of what is passed on.
 pub fn passing<V: Copy + Eq>()
     ensures { PassingLaw V.eq }
 {}

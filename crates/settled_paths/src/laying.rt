@@ -1,6 +1,7 @@
 //! What is passed on of an item, laid once for all receivers.
 
-ghost use Rattle.std.specs.Prelude.{◌≡◌, ◌≢◌, ℕ, ◌+◌, ◌-◌, ◌*◌, ◌<◌, ◌≤◌, ◌∷◌, ◌++◌, ◌⊎◌, [], List, Option, length, slice_index_or, true, if◌then◌else◌};
+ghost use Rattle.std.specs.Prelude.{◌≡◌, ◌≢◌, ℕ, ◌+◌, ◌-◌, ◌*◌, ◌<◌, ◌≤◌, ◌∷◌, ◌++◌, ◌⊎◌, [], List};
+ghost use Rattle.std.specs.Prelude.{Option, length, slice_index_or, true, if◌then◌else◌};
 ghost use Rattle.omh_paths.specs.declared.wrapped.Wrapped.{Wrapped};
 ghost use Rattle.node_grid.specs.NodeSet.{has_id};
 ghost use Rattle.omh_paths.specs.declared.wrapped.Wrapped.TheVariants.{Fault};
@@ -48,9 +49,16 @@ impl<const N: usize> Exchange<N> {
         requires known { IsSmall 254 passed }
         requires room { from + length (outside self.now.members path.now) ≤ length laid.old }
         requires small { from ≤ 4194304 }
-        ensures each { (j : ℕ) → j < length (outside self.now.members path.now) → slice_index_or laid.new (from + j) (Fault 0) ≡ passes self.now.full (T.says touched.now) path.now passed (slice_index_or (outside self.now.members path.now) j 0) }
-        ensures few { (most : ℕ) → 252 ≤ most → IsSmall most passed → (j : ℕ) → j < length (outside self.now.members path.now) → IsSmall (most + 1) (slice_index_or laid.new (from + j) (Fault 0)) }
-        ensures kept { (k : ℕ) → (k < from) ⊎ (from + length (outside self.now.members path.now) ≤ k) → slice_index_or laid.new k (Fault 0) ≡ slice_index_or laid.old k (Fault 0) }
+        ensures each { (j : ℕ) → j < length (outside self.now.members path.now) →
+            slice_index_or laid.new (from + j) (Fault 0)
+            ≡ passes self.now.full (T.says touched.now) path.now passed
+            (slice_index_or (outside self.now.members path.now) j 0) }
+        ensures few { (most : ℕ) → 252 ≤ most → IsSmall most passed → (j : ℕ) → j
+            < length (outside self.now.members path.now) →
+            IsSmall (most + 1) (slice_index_or laid.new (from + j) (Fault 0)) }
+        ensures kept { (k : ℕ) → (k < from)
+            ⊎ (from + length (outside self.now.members path.now) ≤ k) →
+            slice_index_or laid.new k (Fault 0) ≡ slice_index_or laid.old k (Fault 0) }
         ensures room { length laid.new ≡ length laid.old }
     {
         let mut place = from;
@@ -60,8 +68,8 @@ impl<const N: usize> Exchange<N> {
         }
     }
 
-    /// Lays what is passed on of all paths of so many relays, where that of shorter ones is laid, by
-    /// what is said in place of what is passed on of these.
+    /// Lays what is passed on of all paths of so many relays, where that of shorter ones is laid,
+    /// by what is said in place of what is passed on of these.
     fn lay_level<V: Copy + Eq, T: Touched<V>>(
         &self,
         relays: u8,
@@ -71,7 +79,8 @@ impl<const N: usize> Exchange<N> {
         requires exchange { IsExchange N self.now.rounds self.now.members self.now.commander }
         requires shorter { relays < self.now.rounds }
         requires small { AreSmall self.now.members relays laid.old }
-        requires room { level_at (length self.now.members - 1) (self.now.rounds + 1) ≤ length laid.old }
+        requires room { level_at (length self.now.members - 1) (self.now.rounds + 1)
+            ≤ length laid.old }
         ensures laid { (own : Wrapped V) (says : ℕ → List ℕ → Option (Wrapped V)) →
             ((i : ℕ) (path : List ℕ) → length path ≡ relays + 1 →
             says i path ≡ T.says touched.now i path) →
@@ -102,8 +111,13 @@ impl<const N: usize> Exchange<N> {
         requires exchange { IsExchange N self.now.rounds self.now.members self.now.commander }
         requires shorter { relays < self.now.rounds }
         requires small { AreSmall self.now.members relays laid.old }
-        requires room { level_at (length self.now.members - 1) (self.now.rounds + 1) ≤ length laid.old }
-        ensures laid { (own : Wrapped V) → AreLaid self.now.members self.now.full own (T.says touched.now) (index_in self.now.members self.now.commander) relays laid.old → AreLaid self.now.members self.now.full own (T.says touched.now) (index_in self.now.members self.now.commander) (relays + 1) laid.new }
+        requires room { level_at (length self.now.members - 1) (self.now.rounds + 1)
+            ≤ length laid.old }
+        ensures laid { (own : Wrapped V) →
+            AreLaid self.now.members self.now.full own (T.says touched.now)
+            (index_in self.now.members self.now.commander) relays laid.old →
+            AreLaid self.now.members self.now.full own (T.says touched.now)
+            (index_in self.now.members self.now.commander) (relays + 1) laid.new }
         ensures small { AreSmall self.now.members (relays + 1) laid.new }
         ensures room { length laid.new ≡ length laid.old }
     {
@@ -124,8 +138,10 @@ impl<const N: usize> Exchange<N> {
     )
         requires exchange { IsExchange N self.now.rounds self.now.members self.now.commander }
         requires own { IsSmall 252 own }
-        requires room { level_at (length self.now.members - 1) (self.now.rounds + 1) ≤ length laid.old }
-        ensures laid { AreLaid self.now.members self.now.full own (T.says touched.now) (index_in self.now.members self.now.commander) self.now.rounds laid.new }
+        requires room { level_at (length self.now.members - 1) (self.now.rounds + 1)
+            ≤ length laid.old }
+        ensures laid { AreLaid self.now.members self.now.full own (T.says touched.now)
+            (index_in self.now.members self.now.commander) self.now.rounds laid.new }
         ensures room { length laid.new ≡ length laid.old }
     {
         set_value(laid, 0, own);

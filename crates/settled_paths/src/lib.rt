@@ -2,8 +2,8 @@
 //!
 //! Any number of members may pass on anything. What is passed on of an item is laid once for all
 //! receivers, path by path: the tree of exponential information gathering (Bar-Noy, Dolev, Dwork
-//! and Strong 1987), laid flat. Each receiver settles the longest paths from what it heard in the last
-//! round, and then the shorter ones, length by length.
+//! and Strong 1987), laid flat. Each receiver settles the longest paths from what it heard in the
+//! last round, and then the shorter ones, length by length.
 #![tactic(auto)]
 
 mod exchange;

@@ -1,7 +1,8 @@
 //! What a receiver settles: the longest paths from what it hears in the last round, then the
 //! shorter ones.
 
-ghost use Rattle.std.specs.Prelude.{◌≡◌, ◌≢◌, ℕ, Bool, List, ◌+◌, ◌-◌, ◌*◌, ◌<◌, ◌≤◌, ◌⊎◌, ◌∷◌, ◌++◌, [], length, slice_index_or, true, false, if◌then◌else◌};
+ghost use Rattle.std.specs.Prelude.{◌≡◌, ◌≢◌, ℕ, Bool, List, ◌+◌, ◌-◌, ◌*◌, ◌<◌, ◌≤◌, ◌⊎◌, ◌∷◌};
+ghost use Rattle.std.specs.Prelude.{◌++◌, [], length, slice_index_or, true, false, if◌then◌else◌};
 ghost use Rattle.node_grid.specs.NodeSet.{has_id};
 ghost use Rattle.omh_paths.specs.declared.wrapped.Wrapped.{Wrapped};
 ghost use Rattle.omh_paths.specs.declared.wrapped.Wrapped.TheVariants.{Fault};
@@ -10,7 +11,8 @@ ghost use Rattle.omh_paths.specs.Paths.{outside, path_count, index_in};
 ghost use Rattle.omh.specs.Omh.{settled_at, settled};
 ghost use Rattle.omh.specs.Flat.{AreSettled, path_settled};
 ghost use Rattle.settled_paths.specs.Passing.{or_passed, instead, HearAlike, passing_world};
-ghost use Rattle.settled_paths.specs.Levels.{level_at, EachEar, IsExchange, AreLaid, AreOwnTerms, AreLastTerms};
+ghost use Rattle.settled_paths.specs.Levels.{level_at, EachEar, IsExchange, AreLaid, AreOwnTerms};
+ghost use Rattle.settled_paths.specs.Levels.{AreLastTerms};
 
 use crate::exchange::Exchange;
 use crate::touched::{Touched, Untouched, heard, term};
@@ -34,7 +36,11 @@ impl<const N: usize> Exchange<N> {
         requires short { length path.now < 4 }
         requires passed { length (outside self.now.members path.now) ≤ length passed.now }
         requires room { length (outside self.now.members path.now) ≤ length terms.old }
-        ensures each { (j : ℕ) → j < length (outside self.now.members path.now) → slice_index_or terms.new j (Fault 0) ≡ or_passed (instead (T.says touched.now) i path.now (slice_index_or (outside self.now.members path.now) j 0)) (slice_index_or passed.now j (Fault 0)) }
+        ensures each { (j : ℕ) → j < length (outside self.now.members path.now) →
+            slice_index_or terms.new j (Fault 0)
+            ≡ or_passed (instead (T.says touched.now) i path.now
+            (slice_index_or (outside self.now.members path.now) j 0))
+            (slice_index_or passed.now j (Fault 0)) }
         ensures room { length terms.new ≡ length terms.old }
     {
         let mut place = 0;
@@ -58,10 +64,16 @@ impl<const N: usize> Exchange<N> {
         requires exact { IsExact V.eq }
         requires exchange { IsExchange N self.now.rounds self.now.members self.now.commander }
         requires some { 0 < self.now.rounds }
-        requires laid { level_at (length self.now.members - 1) (self.now.rounds + 1) ≤ length laid.now }
-        requires longest { level_at (length self.now.members - 1) self.now.rounds ≤ length longest.old }
+        requires laid { level_at (length self.now.members - 1) (self.now.rounds + 1)
+            ≤ length laid.now }
+        requires longest { level_at (length self.now.members - 1) self.now.rounds
+            ≤ length longest.old }
         requires terms { 16 ≤ length terms.old }
-        ensures settled { (me : ℕ) → EachEar self.now.rounds self.now.members me (λ x. AreLastTerms V.eq x (index_in self.now.members self.now.commander) i (T.says touched.now) (self.now.rounds - 1) laid.now → AreSettled V.eq x (index_in self.now.members self.now.commander) (self.now.rounds - 1) longest.new) }
+        ensures settled { (me : ℕ) → EachEar self.now.rounds self.now.members me
+            (λ x. AreLastTerms V.eq x (index_in self.now.members self.now.commander) i
+            (T.says touched.now) (self.now.rounds - 1) laid.now →
+            AreSettled V.eq x (index_in self.now.members self.now.commander) (self.now.rounds - 1)
+            longest.new) }
         ensures longest { length longest.new ≡ length longest.old }
         ensures terms { length terms.new ≡ length terms.old }
     {
@@ -91,10 +103,16 @@ impl<const N: usize> Exchange<N> {
         requires exact { IsExact V.eq }
         requires exchange { IsExchange N self.now.rounds self.now.members self.now.commander }
         requires some { 0 < self.now.rounds }
-        requires laid { level_at (length self.now.members - 1) (self.now.rounds + 1) ≤ length laid.now }
-        requires longest { level_at (length self.now.members - 1) self.now.rounds ≤ length longest.old }
+        requires laid { level_at (length self.now.members - 1) (self.now.rounds + 1)
+            ≤ length laid.now }
+        requires longest { level_at (length self.now.members - 1) self.now.rounds
+            ≤ length longest.old }
         requires terms { 16 ≤ length terms.old }
-        ensures settled { (me : ℕ) → EachEar self.now.rounds self.now.members me (λ x. AreLastTerms V.eq x (index_in self.now.members self.now.commander) i (T.says touched.now) (self.now.rounds - 1) laid.now → AreSettled V.eq x (index_in self.now.members self.now.commander) (self.now.rounds - 1) longest.new) }
+        ensures settled { (me : ℕ) → EachEar self.now.rounds self.now.members me
+            (λ x. AreLastTerms V.eq x (index_in self.now.members self.now.commander) i
+            (T.says touched.now) (self.now.rounds - 1) laid.now →
+            AreSettled V.eq x (index_in self.now.members self.now.commander) (self.now.rounds - 1)
+            longest.new) }
         ensures longest { length longest.new ≡ length longest.old }
         ensures terms { length terms.new ≡ length terms.old }
     {
@@ -118,7 +136,9 @@ impl<const N: usize> Exchange<N> {
         requires within { (q : ℕ) → has_id path.now q ≡ true → q < N }
         requires room { from + length (outside self.now.members path.now) ≤ length laid.now }
         requires small { from ≤ 4194304 }
-        ensures { has_id (outside self.now.members path.now) i ≡ true → result ≡ slice_index_or laid.now (from + index_in (outside self.now.members path.now) i) (Fault 0) }
+        ensures { has_id (outside self.now.members path.now) i ≡ true → result
+            ≡ slice_index_or laid.now (from + index_in (outside self.now.members path.now) i)
+            (Fault 0) }
     {
         let others = outside(&self.members, path);
         if others.has(i) {
@@ -141,10 +161,13 @@ impl<const N: usize> Exchange<N> {
         requires exact { IsExact V.eq }
         requires node { i < N }
         requires within { (q : ℕ) → has_id path.now q ≡ true → q < N }
-        requires room { k * length (outside self.now.members path.now) + length (outside self.now.members path.now) ≤ length work.old }
+        requires room { k * length (outside self.now.members path.now) + length
+            (outside self.now.members path.now) ≤ length work.old }
         requires place { k < length work.old }
-        requires small { k * length (outside self.now.members path.now) + length (outside self.now.members path.now) ≤ 65536 }
-        ensures { work.new ≡ path_settled V.eq (outside self.now.members path.now) i k (length (outside self.now.members path.now)) own work.old }
+        requires small { k * length (outside self.now.members path.now) + length
+            (outside self.now.members path.now) ≤ 65536 }
+        ensures { work.new ≡ path_settled V.eq (outside self.now.members path.now) i k
+            (length (outside self.now.members path.now)) own work.old }
     {
         let others = outside(&self.members, path);
         let width = others.len() as usize;
@@ -168,9 +191,13 @@ impl<const N: usize> Exchange<N> {
         requires exchange { IsExchange N self.now.rounds self.now.members self.now.commander }
         requires shorter { relays + 1 < self.now.rounds }
         requires node { i < N }
-        requires laid { level_at (length self.now.members - 1) (self.now.rounds + 1) ≤ length laid.now }
+        requires laid { level_at (length self.now.members - 1) (self.now.rounds + 1)
+            ≤ length laid.now }
         requires work { level_at (length self.now.members - 1) self.now.rounds ≤ length work.old }
-        ensures settled { EachEar self.now.rounds self.now.members i (λ x. AreOwnTerms x (index_in self.now.members self.now.commander) laid.now → AreSettled V.eq x (index_in self.now.members self.now.commander) (relays + 1) work.old → AreSettled V.eq x (index_in self.now.members self.now.commander) relays work.new) }
+        ensures settled { EachEar self.now.rounds self.now.members i
+            (λ x. AreOwnTerms x (index_in self.now.members self.now.commander) laid.now →
+            AreSettled V.eq x (index_in self.now.members self.now.commander) (relays + 1) work.old →
+            AreSettled V.eq x (index_in self.now.members self.now.commander) relays work.new) }
         ensures work { length work.new ≡ length work.old }
     {
         let level = self.level(relays);
@@ -196,10 +223,15 @@ impl<const N: usize> Exchange<N> {
         requires some { 0 < self.now.rounds }
         requires other { self.now.commander ≢ i }
         requires node { i < N }
-        requires laid { level_at (length self.now.members - 1) (self.now.rounds + 1) ≤ length laid.now }
-        requires longest { level_at (length self.now.members - 1) self.now.rounds ≤ length longest.now }
+        requires laid { level_at (length self.now.members - 1) (self.now.rounds + 1)
+            ≤ length laid.now }
+        requires longest { level_at (length self.now.members - 1) self.now.rounds
+            ≤ length longest.now }
         requires work { level_at (length self.now.members - 1) self.now.rounds ≤ length work.old }
-        ensures settled { EachEar self.now.rounds self.now.members i (λ x. AreOwnTerms x (index_in self.now.members self.now.commander) laid.now → AreSettled V.eq x (index_in self.now.members self.now.commander) (self.now.rounds - 1) longest.now → result ≡ settled_at V.eq x (self.now.commander ∷ [])) }
+        ensures settled { EachEar self.now.rounds self.now.members i
+            (λ x. AreOwnTerms x (index_in self.now.members self.now.commander) laid.now →
+            AreSettled V.eq x (index_in self.now.members self.now.commander) (self.now.rounds - 1)
+            longest.now → result ≡ settled_at V.eq x (self.now.commander ∷ [])) }
         ensures work { length work.new ≡ length work.old }
     {
         let last = self.rounds - 1;
@@ -223,7 +255,8 @@ impl<const N: usize> Exchange<N> {
         requires first { has_id nodes.now first ≡ true }
         ensures first { has_id result first ≡ true }
         ensures within { (i : ℕ) → has_id result i ≡ true → has_id nodes.now i ≡ true }
-        ensures alike { (i : ℕ) → has_id result i ≡ true → HearAlike (T.says touched.now) first i (self.now.rounds + 1) }
+        ensures alike { (i : ℕ) → has_id result i ≡ true →
+            HearAlike (T.says touched.now) first i (self.now.rounds + 1) }
     {
         let mut alike = NodeSet::empty();
         for i in nodes.iter() {
@@ -248,12 +281,20 @@ impl<const N: usize> Exchange<N> {
         requires exchange { IsExchange N self.now.rounds self.now.members self.now.commander }
         requires some { 0 < self.now.rounds }
         requires others { has_id nodes.now self.now.commander ≡ false }
-        requires laid { level_at (length self.now.members - 1) (self.now.rounds + 1) ≤ length laid.now }
-        requires longest { level_at (length self.now.members - 1) self.now.rounds ≤ length longest.now }
+        requires laid { level_at (length self.now.members - 1) (self.now.rounds + 1)
+            ≤ length laid.now }
+        requires longest { level_at (length self.now.members - 1) self.now.rounds
+            ≤ length longest.now }
         requires work { level_at (length self.now.members - 1) self.now.rounds ≤ length work.old }
         requires places { length all.old ≡ N }
-        ensures settled { (i : ℕ) → has_id nodes.now i ≡ true → EachEar self.now.rounds self.now.members i (λ x. AreOwnTerms x (index_in self.now.members self.now.commander) laid.now → AreSettled V.eq x (index_in self.now.members self.now.commander) (self.now.rounds - 1) longest.now → slice_index_or all.new i (Fault 0) ≡ settled_at V.eq x (self.now.commander ∷ [])) }
-        ensures kept { (i : ℕ) → has_id nodes.now i ≡ false → slice_index_or all.new i (Fault 0) ≡ slice_index_or all.old i (Fault 0) }
+        ensures settled { (i : ℕ) → has_id nodes.now i ≡ true →
+            EachEar self.now.rounds self.now.members i
+            (λ x. AreOwnTerms x (index_in self.now.members self.now.commander) laid.now →
+            AreSettled V.eq x (index_in self.now.members self.now.commander) (self.now.rounds - 1)
+            longest.now → slice_index_or all.new i (Fault 0)
+            ≡ settled_at V.eq x (self.now.commander ∷ [])) }
+        ensures kept { (i : ℕ) → has_id nodes.now i ≡ false → slice_index_or all.new i (Fault 0)
+            ≡ slice_index_or all.old i (Fault 0) }
         ensures work { length work.new ≡ length work.old }
         ensures places { length all.new ≡ N }
     {
@@ -277,13 +318,22 @@ impl<const N: usize> Exchange<N> {
         requires exact { IsExact V.eq }
         requires exchange { IsExchange N self.now.rounds self.now.members self.now.commander }
         requires some { 0 < self.now.rounds }
-        requires laid { level_at (length self.now.members - 1) (self.now.rounds + 1) ≤ length laid.now }
-        requires longest { level_at (length self.now.members - 1) self.now.rounds ≤ length longest.old }
+        requires laid { level_at (length self.now.members - 1) (self.now.rounds + 1)
+            ≤ length laid.now }
+        requires longest { level_at (length self.now.members - 1) self.now.rounds
+            ≤ length longest.old }
         requires work { level_at (length self.now.members - 1) self.now.rounds ≤ length work.old }
         requires terms { 16 ≤ length work.old }
         requires places { length all.old ≡ N }
-        ensures settled { (own : Wrapped V) → AreLaid self.now.members self.now.full own (T.says touched.now) (index_in self.now.members self.now.commander) self.now.rounds laid.now → (i : ℕ) → has_id self.now.awake i ≡ true → self.now.commander ≢ i → slice_index_or all.new i (Fault 0) ≡ settled V.eq (passing_world self.now.rounds self.now.members self.now.full own (T.says touched.now)) i (self.now.commander ∷ []) }
-        ensures kept { (i : ℕ) → (has_id self.now.awake i ≡ false) ⊎ (self.now.commander ≡ i) → slice_index_or all.new i (Fault 0) ≡ slice_index_or all.old i (Fault 0) }
+        ensures settled { (own : Wrapped V) →
+            AreLaid self.now.members self.now.full own (T.says touched.now)
+            (index_in self.now.members self.now.commander) self.now.rounds laid.now → (i : ℕ) →
+            has_id self.now.awake i ≡ true → self.now.commander ≢ i →
+            slice_index_or all.new i (Fault 0)
+            ≡ settled V.eq (passing_world self.now.rounds self.now.members self.now.full own
+            (T.says touched.now)) i (self.now.commander ∷ []) }
+        ensures kept { (i : ℕ) → (has_id self.now.awake i ≡ false) ⊎ (self.now.commander ≡ i) →
+            slice_index_or all.new i (Fault 0) ≡ slice_index_or all.old i (Fault 0) }
         ensures longest { length longest.new ≡ length longest.old }
         ensures work { length work.new ≡ length work.old }
         ensures places { length all.new ≡ N }
@@ -311,8 +361,12 @@ impl<const N: usize> Exchange<N> {
         requires none { self.now.rounds ≡ 0 }
         requires commander { self.now.commander < N }
         requires places { length all.old ≡ N }
-        ensures settled { (i : ℕ) → has_id self.now.awake i ≡ true → self.now.commander ≢ i → slice_index_or all.new i (Fault 0) ≡ settled V.eq (passing_world self.now.rounds self.now.members self.now.full own (T.says touched.now)) i (self.now.commander ∷ []) }
-        ensures kept { (i : ℕ) → (has_id self.now.awake i ≡ false) ⊎ (self.now.commander ≡ i) → slice_index_or all.new i (Fault 0) ≡ slice_index_or all.old i (Fault 0) }
+        ensures settled { (i : ℕ) → has_id self.now.awake i ≡ true → self.now.commander ≢ i →
+            slice_index_or all.new i (Fault 0)
+            ≡ settled V.eq (passing_world self.now.rounds self.now.members self.now.full own
+            (T.says touched.now)) i (self.now.commander ∷ []) }
+        ensures kept { (i : ℕ) → (has_id self.now.awake i ≡ false) ⊎ (self.now.commander ≡ i) →
+            slice_index_or all.new i (Fault 0) ≡ slice_index_or all.old i (Fault 0) }
         ensures places { length all.new ≡ N }
     {
         let root = Path::root(self.commander);

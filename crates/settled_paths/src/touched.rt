@@ -1,4 +1,5 @@
-ghost use Rattle.std.specs.Prelude.{◌≡◌, ◌≢◌, ℕ, ◌+◌, ◌<◌, ◌≤◌, ◌++◌, ◌∷◌, [], List, Option, None, length, true, false, IfSome};
+ghost use Rattle.std.specs.Prelude.{◌≡◌, ◌≢◌, ℕ, ◌+◌, ◌<◌, ◌≤◌, ◌++◌, ◌∷◌, [], List, Option, None};
+ghost use Rattle.std.specs.Prelude.{length, true, false, IfSome};
 ghost use Rattle.node_grid.specs.NodeSet.{has_id};
 ghost use Rattle.omh_paths.specs.declared.wrapped.Wrapped.{Wrapped};
 ghost use Rattle.omh.specs.Written.{IsSmall};

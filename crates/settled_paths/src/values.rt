@@ -1,6 +1,7 @@
 //! Values in a list.
 
-ghost use Rattle.std.specs.Prelude.{◌≡◌, ◌≢◌, ℕ, ◌+◌, ◌*◌, ◌<◌, ◌≤◌, ◌++◌, length, slice_set, slice_index_or, take, drop, IfOk, replicate};
+ghost use Rattle.std.specs.Prelude.{◌≡◌, ◌≢◌, ℕ, ◌+◌, ◌*◌, ◌<◌, ◌≤◌, ◌++◌, length, slice_set};
+ghost use Rattle.std.specs.Prelude.{slice_index_or, take, drop, IfOk, replicate};
 ghost use Rattle.omh_paths.specs.declared.wrapped.Wrapped.TheVariants.{Fault};
 ghost use Rattle.omh_paths.specs.Wrapped.{unwrapped, IsExact};
 ghost use Rattle.omh_paths.specs.Majority.{majority};

@@ -1,6 +1,7 @@
 //! By node the place of its state in a list.
 
-ghost use Rattle.std.specs.Prelude.{◌≡◌, ◌≢◌, ◌↔◌, ℕ, ◌<◌, ◌≤◌, ◌==◌, ◌&&◌, true, IsTrue, length, slice_get, slice_index, if◌then◌else◌};
+ghost use Rattle.std.specs.Prelude.{◌≡◌, ◌≢◌, ◌↔◌, ℕ, ◌<◌, ◌≤◌, ◌==◌, ◌&&◌, true, IsTrue, length};
+ghost use Rattle.std.specs.Prelude.{slice_get, slice_index, if◌then◌else◌};
 ghost use Rattle.node_grid.specs.Capacity.{IsCapacity};
 ghost use Rattle.node_grid.specs.NodeSet.{IsIdSet, has_id, ids_where};
 ghost use Rattle.shared_states.specs.Places.{ArePlaced, AreAtOne, IsAlike, LeadAlike};

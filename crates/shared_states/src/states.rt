@@ -1,11 +1,13 @@
 //! The agreed states of all nodes.
 
-ghost use Rattle.std.specs.Prelude.{◌≡◌, ◌↔◌, ℕ, ◌<◌, true, IsTrue, length, replicate, is_some, IfOk};
+ghost use Rattle.std.specs.Prelude.{◌≡◌, ◌↔◌, ℕ, ◌<◌, true, IsTrue, length, replicate, is_some};
+ghost use Rattle.std.specs.Prelude.{IfOk};
 ghost use Rattle.std.specs.Option.{option_map};
 ghost use Rattle.node_grid.specs.Capacity.{IsCapacity};
 ghost use Rattle.node_grid.specs.NodeSet.{has_id, ids_where};
 ghost use Rattle.agreed_state.specs.Config.{IsConfig};
-ghost use Rattle.shared_states.specs.Sharing.{state_at, first_states, without_state, with_state, shared_with, IsShared, IsOne};
+ghost use Rattle.shared_states.specs.Sharing.{state_at, first_states, without_state, with_state};
+ghost use Rattle.shared_states.specs.Sharing.{shared_with, IsShared, IsOne};
 
 use crate::places::{are_at_one, free_place, join, nodes_alike, nodes_at, put_at};
 use agreed_state::{Agreed, Config};

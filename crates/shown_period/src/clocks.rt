@@ -9,7 +9,8 @@ ghost use Rattle.clock_skew.specs.Reading.{AreSteady};
 ghost use Rattle.scenario.specs.Scenario.{system_of};
 ghost use Rattle.cluster_periods.specs.Record.{clock_in};
 ghost use Rattle.cluster_record.specs.Shown.{clock_shown};
-ghost use Rattle.cluster_record.specs.Clocking.{AreOthers, correction_by, offsets_kept, offsets_before};
+ghost use Rattle.cluster_record.specs.Clocking.{AreOthers, correction_by, offsets_kept};
+ghost use Rattle.cluster_record.specs.Clocking.{offsets_before};
 ghost use Rattle.shown_period.specs.Outcomes.{outcomes};
 ghost use Rattle.shown_period.specs.Whole.{AreMade};
 
@@ -25,7 +26,8 @@ fn correction_of<const N: usize>(clocks: &Clocks<'_, N>, made: &Made<N>, m: u8, 
     requires node { i < N }
     requires steady { AreSteady N clocks.now.plan.now clocks.now.nodes clocks.now.offset.now }
     requires others { AreOthers (outcomes made.now clocks.now.nodes) }
-    ensures correction { result ≡ correction_by N clocks.now.plan.now m clocks.now.offset.now clocks.now.period (outcomes made.now clocks.now.nodes) i }
+    ensures correction { result ≡ correction_by N clocks.now.plan.now m clocks.now.offset.now
+        clocks.now.period (outcomes made.now clocks.now.nodes) i }
     ensures range { IsReading result }
 {
     if i >= clocks.nodes {
@@ -45,7 +47,8 @@ fn correction_of<const N: usize>(clocks: &Clocks<'_, N>, made: &Made<N>, m: u8, 
 fn corrections<const N: usize>(clocks: &Clocks<'_, N>, made: &Made<N>, m: u8) -> [i64; N]
     requires steady { AreSteady N clocks.now.plan.now clocks.now.nodes clocks.now.offset.now }
     requires others { AreOthers (outcomes made.now clocks.now.nodes) }
-    ensures corrections { result ≡ map (correction_by N clocks.now.plan.now m clocks.now.offset.now clocks.now.period (outcomes made.now clocks.now.nodes)) (ids_below N) }
+    ensures corrections { result ≡ map (correction_by N clocks.now.plan.now m clocks.now.offset.now
+        clocks.now.period (outcomes made.now clocks.now.nodes)) (ids_below N) }
     ensures range { All IsReading result }
 {
     let mut corrections = [0; N];
@@ -66,8 +69,10 @@ pub(crate) fn next_clocks<const N: usize>(
     requires capacity { IsCapacity N }
     requires in_run { period < scenario.now.periods }
     requires made { AreMade scenario.now period made.now }
-    requires offsets { offsets_kept (option_map clock_shown before) ≡ offsets_before scenario.now period }
-    ensures { option_map clock_shown result ≡ option_map (λ c. clock_in (system_of scenario.now) c period) scenario.now.clock }
+    requires offsets { offsets_kept (option_map clock_shown before)
+        ≡ offsets_before scenario.now period }
+    ensures { option_map clock_shown result
+        ≡ option_map (λ c. clock_in (system_of scenario.now) c period) scenario.now.clock }
 {
     offsets();
     let Some(plan) = scenario.clock() else {

@@ -1,11 +1,13 @@
 //! What all nodes made of a period.
 
-ghost use Rattle.std.specs.Prelude.{◌≡◌, ◌≢◌, ℕ, ◌<◌, IfOk, length, option_map, replicate, slice_get, slice_set};
+ghost use Rattle.std.specs.Prelude.{◌≡◌, ◌≢◌, ℕ, ◌<◌, IfOk, length, option_map, replicate};
+ghost use Rattle.std.specs.Prelude.{slice_get, slice_set};
 ghost use Rattle.node_grid.specs.Capacity.{IsCapacity};
 ghost use Rattle.agreed_state.specs.Config.{IsConfig};
 ghost use Rattle.node_steps.specs.Outcome.{cold_outcome};
 ghost use Rattle.shared_states.specs.Sharing.{first_states, state_at};
-ghost use Rattle.shown_period.specs.Outcomes.{HasBeliefs, mode_with, modes_through, members_through, outcome_at};
+ghost use Rattle.shown_period.specs.Outcomes.{HasBeliefs, mode_with, modes_through};
+ghost use Rattle.shown_period.specs.Outcomes.{members_through, outcome_at};
 ghost use Rattle.protocol.specs.Run.{members_in};
 ghost use Rattle.shown_period.specs.Whole.{AreAlike};
 
@@ -101,7 +103,8 @@ impl<const N: usize> Made<N> {
     pub(crate) fn open(alloc: Global, config: &Config<N>) -> Result<Self, NoMemory>
         requires capacity { IsCapacity N }
         requires config { IsConfig N config.now }
-        ensures { IfOk result (λ made. (made.states ≡ first_states N config.now) × HasBeliefs made) }
+        ensures { IfOk result (λ made. (made.states ≡ first_states N config.now)
+            × HasBeliefs made) }
     {
         let Ok(beliefs) = no_beliefs(alloc) else {
             return Err(NoMemory);
@@ -122,7 +125,10 @@ impl<const N: usize> Made<N> {
     /// when it began, and by the states that are kept now, behind the sync slot.
     pub fn go_through(&mut self, full: &NodeSet<N>)
         requires { IsCapacity N }
-        ensures { self.new ≡ record self.old { modes = modes_through N full.now self.old.states; members = members_through N self.old.states } }
+        ensures { self.new ≡ record self.old {
+          modes = modes_through N full.now self.old.states;
+          members = members_through N self.old.states;
+        } }
     {
         self.modes = modes_through(full, &self.states);
         self.members = members_through(&self.states);
@@ -135,7 +141,8 @@ impl<const N: usize> Made<N> {
         ensures nothing { AreAlike (outcome_at self.new i) (cold_outcome N) }
         ensures group { self.new.group ≡ slice_set self.old.group i i }
         ensures found { self.new.found ≡ slice_set self.old.found i (replicate N 0) }
-        ensures places { (k : ℕ) → k ≢ i → slice_get self.new.beliefs.items k ≡ slice_get self.old.beliefs.items k }
+        ensures places { (k : ℕ) → k ≢ i → slice_get self.new.beliefs.items k
+            ≡ slice_get self.old.beliefs.items k }
         ensures many { length self.new.beliefs.items ≡ N }
         ensures modes { self.new.modes ≡ self.old.modes }
         ensures members { self.new.members ≡ self.old.members }

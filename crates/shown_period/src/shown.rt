@@ -64,7 +64,8 @@ impl<const N: usize> Shown<N> {
         requires capacity { IsCapacity N }
         requires begun { IsBegun scenario.now period self.old.head }
         requires made { AreMade scenario.now period self.old.made }
-        ensures shows { record_of self.new ≡ without_frames (period_record (system_of scenario.now) scenario.now.clock period) }
+        ensures shows { record_of self.new
+            ≡ without_frames (period_record (system_of scenario.now) scenario.now.clock period) }
         ensures before { IsBefore scenario.now (period + 1) self.new.head }
         ensures made { self.new.made ≡ self.old.made }
     {

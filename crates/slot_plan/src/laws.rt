@@ -1,4 +1,5 @@
-//! Where the slots of a period lie, for all numbers of relay rounds: each function's promise is the law.
+//! Where the slots of a period lie, for all numbers of relay rounds: each function's promise is the
+//! law.
 ghost use Rattle.slot_plan.specs.SlotLaws.{PlaceLaw, NumberLaw, CountLaw};
 
 /// The slot with the number of a slot is that slot.

@@ -1,9 +1,10 @@
 //! What each slot of a period is, and when in a slot a frame is in time.
 //!
-//! In each slot every node sends one frame. With `m` relay rounds a period has 2m + 4 slots: agreed states; claims, and
-//! m rounds of what was heard of them; values; rows, and m rounds of what was heard of them. So claims and rows are each
-//! told by an exchange of oral messages with m + 1 rounds (Lincoln and Rushby 1993), one slot a round. Time in a slot
-//! is counted in ticks. Nothing here takes memory or refuses anything.
+//! In each slot every node sends one frame. With `m` relay rounds a period has 2m + 4 slots: agreed
+//! states; claims, and m rounds of what was heard of them; values; rows, and m rounds of what was
+//! heard of them. So claims and rows are each told by an exchange of oral messages with m + 1
+//! rounds (Lincoln and Rushby 1993), one slot a round. Time in a slot is counted in ticks. Nothing
+//! here takes memory or refuses anything.
 #![tactic(auto)]
 
 ghost use Rattle.std.specs.Prelude.{◌≡◌, ◌≤◌};

@@ -6,16 +6,19 @@ ghost use Rattle.slot_plan.specs.Slots.{slot_at, slot_number, round_of, slot_cou
 pub enum Slot {
     /// Their agreed states, by which a node that restarts comes back.
     Sync,
-    /// Their own claims in round 0, and in round r, from 1 to m, what they heard of claims in the round before.
+    /// Their own claims in round 0, and in round r, from 1 to m, what they heard of claims in the
+    /// round before.
     Claims(u8),
     /// Their values of the due channels.
     Data,
-    /// Their own rows in round 0, and in round r, from 1 to m, what they heard of rows in the round before.
+    /// Their own rows in round 0, and in round r, from 1 to m, what they heard of rows in the round
+    /// before.
     Rows(u8),
 }
 
 impl Slot {
-    /// What slot number `number` is, where there are `m` relay rounds; None exactly where a period has no such slot.
+    /// What slot number `number` is, where there are `m` relay rounds; None exactly where a period
+    /// has no such slot.
     pub fn at(m: u8, number: u8) -> Option<Slot>
         ensures slot { result ≡ slot_at m number }
         ensures number { IfSome result (λ x. IsSlot m x × (slot_number m x ≡ number)) }

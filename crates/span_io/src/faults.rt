@@ -1,7 +1,7 @@
 //! Counts of a device's faults, which nothing but what a reader or a writer answered raises.
 //!
-//! Their numbers are seen here alone: a device has no other way to count a fault than to hand over what was answered
-//! inside.
+//! Their numbers are seen here alone: a device has no other way to count a fault than to hand over
+//! what was answered inside.
 ghost use Rattle.std.specs.Prelude.{◌≡◌, ◌≤◌, Ok, IfOk};
 ghost use Rattle.span_io.specs.Causes.{HasCause};
 
@@ -31,8 +31,8 @@ impl ReadFaults {
         ReadFaults { count: 0 }
     }
 
-    /// What a read is answered where the reader inside answered this: its count, or a failure, which is counted. A
-    /// count of 0 is the end of the input, and no failure.
+    /// What a read is answered where the reader inside answered this: its count, or a failure,
+    /// which is counted. A count of 0 is the end of the input, and no failure.
     pub(crate) fn answer(&mut self, inside: io::Result<usize>) -> Result<usize, Failed>
         ensures told { IfOk result (λ count. inside ≡ Ok count) }
         ensures asked { IfOk inside (λ count. result ≡ Ok count) }
@@ -70,8 +70,8 @@ impl WriteFaults {
         WriteFaults { count: 0 }
     }
 
-    /// What a write is answered where the writer inside answered this: its count, or a failure, which is counted. A
-    /// writer that took nothing failed.
+    /// What a write is answered where the writer inside answered this: its count, or a failure,
+    /// which is counted. A writer that took nothing failed.
     pub(crate) fn answer(&mut self, inside: io::Result<usize>) -> Result<usize, Failed>
         ensures told { IfOk result (λ count. inside ≡ Ok count) }
         ensures some { IfOk result (λ count. 1 ≤ count) }

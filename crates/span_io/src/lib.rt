@@ -1,8 +1,8 @@
 //! Bytes in and bytes out, over sources and sinks that tell their bytes and count their faults.
 //!
-//! A source or a sink may fail at any call. It says so only where its count of faults rose, and the count rises in
-//! failing calls alone, so that whoever reads it knows whether the outside was honest. Sources and sinks in memory tell
-//! their bytes; those over the real devices tell none.
+//! A source or a sink may fail at any call. It says so only where its count of faults rose, and the
+//! count rises in failing calls alone, so that whoever reads it knows whether the outside was
+//! honest. Sources and sinks in memory tell their bytes; those over the real devices tell none.
 #![tactic(auto)]
 
 ghost use Rattle.std.specs.Prelude.{ℕ, ◌<◌, List, length, Option, IfOk};
@@ -36,10 +36,12 @@ pub trait Source {
     /// How often it failed; the number stands still at 2^64 - 1.
     ghost faults: { Self → ℕ };
 
-    /// Puts the next bytes at the front of `buf`, and answers how many. Zero is the end of the input.
+    /// Puts the next bytes at the front of `buf`, and answers how many. Zero is the end of the
+    /// input.
     ///
     /// # Errors
-    /// `Failed` comes only where the count of faults rose, and an `Ok` leaves it. Nothing was taken then.
+    /// `Failed` comes only where the count of faults rose, and an `Ok` leaves it. Nothing was taken
+    /// then.
     fn read(&mut self, buf: &mut [u8]) -> Result<usize, Failed>
         requires { 0 < length buf.old }
         ensures bound { ReadsAtMost result buf.new }
@@ -58,7 +60,8 @@ pub trait Sink {
     /// Writes bytes from the front of `bytes`, at least one, and answers how many.
     ///
     /// # Errors
-    /// `Failed` comes only where the count of faults rose, and an `Ok` leaves it. Nothing was written then.
+    /// `Failed` comes only where the count of faults rose, and an `Ok` leaves it. Nothing was
+    /// written then.
     fn write(&mut self, bytes: &[u8]) -> Result<usize, Failed>
         requires { 0 < length bytes.now }
         ensures bound { IfOk result (IsOneTo (length bytes.now)) }

@@ -1,5 +1,6 @@
 //! A source and a sink in memory, whose calls fail where a list says so.
-ghost use Rattle.std.specs.Prelude.{◌≡◌, ◌+◌, ◌-◌, ◌^◌, ◌<◌, ◌≤◌, ◌↔◌, [], length, take, min, Some, IfOk, IsErr, Contains, ◌⊎◌};
+ghost use Rattle.std.specs.Prelude.{◌≡◌, ◌+◌, ◌-◌, ◌^◌, ◌<◌, ◌≤◌, ◌↔◌, [], length, take, min, Some};
+ghost use Rattle.std.specs.Prelude.{IfOk, IsErr, Contains, ◌⊎◌};
 ghost use Rattle.std.specs.Io.{ReadsAtMost};
 ghost use Rattle.std.specs.Io.KnownBytes.{ReadConsumes, WriteAppends};
 ghost use Rattle.span_io.specs.Causes.{HasCause, CountsGiven, IsOneTo};
@@ -41,8 +42,8 @@ impl Model for MemSource {
 }
 
 impl MemSource {
-    /// The source that gives `bytes`, at most `piece` of them a call. Its calls with the numbers in `fails`, counted
-    /// from 0, fail.
+    /// The source that gives `bytes`, at most `piece` of them a call. Its calls with the numbers in
+    /// `fails`, counted from 0, fail.
     pub fn new(bytes: Vec<u8>, piece: usize, fails: Vec<u64>) -> MemSource
         requires { 1 ≤ piece }
         ensures { result ≡ record {
@@ -128,12 +129,14 @@ impl Model for MemSink {
       faults = s.faults;
     } };
 
-    ghost invariant = { λ s. (1 ≤ s.piece) × (vec_len s.bytes ≤ s.room) × (s.room ≤ vec_capacity s.bytes) };
+    ghost invariant = { λ s. (1 ≤ s.piece) × (vec_len s.bytes ≤ s.room)
+        × (s.room ≤ vec_capacity s.bytes) };
 }
 
 impl MemSink {
-    /// The sink that takes at most `piece` bytes a call and `room` bytes in all. Its calls with the numbers in `fails`,
-    /// counted from 0, fail, and so does every call once `room` bytes were written.
+    /// The sink that takes at most `piece` bytes a call and `room` bytes in all. Its calls with the
+    /// numbers in `fails`, counted from 0, fail, and so does every call once `room` bytes were
+    /// written.
     ///
     /// # Errors
     /// `NoMemory` where there is no memory for the room. All memory of the sink is taken here.
@@ -182,7 +185,8 @@ impl Sink for MemSink {
     fn write(&mut self, bytes: &[u8]) -> Result<usize, Failed>
         requires { 0 < length bytes.now }
         ensures bound { IfOk result (IsOneTo (length bytes.now)) }
-        ensures bytes { WriteAppends (Some self.old.written) (Some self.new.written) result bytes.now }
+        ensures bytes { WriteAppends (Some self.old.written) (Some self.new.written) result
+            bytes.now }
         ensures cause { HasCause self.old.faults self.new.faults result }
 
         // Which calls fail, and how much the others take.

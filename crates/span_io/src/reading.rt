@@ -1,5 +1,6 @@
 //! Reading an input whole.
-ghost use Rattle.std.specs.Prelude.{◌≡◌, ◌+◌, ◌^◌, ◌<◌, ◌≤◌, ◌⊎◌, length, OnOk, IfOk, IfSome, IsErrOf};
+ghost use Rattle.std.specs.Prelude.{◌≡◌, ◌+◌, ◌^◌, ◌<◌, ◌≤◌, ◌⊎◌, length, OnOk, IfOk, IfSome};
+ghost use Rattle.std.specs.Prelude.{IsErrOf};
 ghost use Rattle.std.specs.Io.KnownBytes.{IsAtEnd};
 ghost use Rattle.span_io.specs.Causes.{Rose, GivenPast, TakesSome, Takes};
 
@@ -42,9 +43,10 @@ const PIECE: usize = 4096;
 /// All bytes up to the end of the input, which are at most `limit`.
 ///
 /// # Errors
-/// - `Failed` comes only where the source's count of faults rose, and the count changes in no other case.
-/// - `TooLong` comes where the source gave more than `limit` bytes and no read failed before. `limit + 1` bytes were
-///   taken then.
+/// - `Failed` comes only where the source's count of faults rose, and the count changes in no other
+///   case.
+/// - `TooLong` comes where the source gave more than `limit` bytes and no read failed before.
+///   `limit + 1` bytes were taken then.
 /// - `NoMemory` may come at any time.
 ///
 /// After an error bytes may have been taken: what is left then is a suffix of what was left.
@@ -58,11 +60,13 @@ pub fn read_all<S: Source>(
     ensures end { OnOk result (IsAtEnd (S.left source.new)) }
     ensures within { IfOk result (λ bytes. length bytes.items ≤ limit) }
 
-    ensures failed { IsErrOf result ReadError.Failed → Rose (S.faults source.old) (S.faults source.new) }
+    ensures failed { IsErrOf result ReadError.Failed →
+        Rose (S.faults source.old) (S.faults source.new) }
     ensures later { S.faults source.old ≤ S.faults source.new }
     ensures faults { IsErrOf result ReadError.Failed ⊎ (S.faults source.new ≡ S.faults source.old) }
 
-    // Where the source tells what is left, it was too long; and every source gave more than the limit.
+    // Where the source tells what is left, it was too long; and every source gave more than the
+    // limit.
     ensures too_long { IsErrOf result ReadError.TooLong →
         Takes (limit + 1) (S.left source.old) (S.left source.new) }
     ensures too_long_given { IsErrOf result ReadError.TooLong →

@@ -23,7 +23,8 @@ pub fn policy(alloc: Global) -> Result<PolicyPart, AllocError>
 
 /// Adds a row of readings.
 fn push_row(rows: &mut Vec<Vec<i64>>, alloc: Global, row: &[i64]) -> Result<(), AllocError>
-    ensures { OnOk result (map (λ r. r.items) rows.new.items ≡ map (λ r. r.items) rows.old.items ++ row.now ∷ []) }
+    ensures { OnOk result (map (λ r. r.items) rows.new.items ≡ map (λ r. r.items) rows.old.items
+        ++ row.now ∷ []) }
 {
     rows.push(Vec::from_slice(alloc, row)?)?;
     Ok(())

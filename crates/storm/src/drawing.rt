@@ -1,7 +1,8 @@
 //! The fault lines and the restarts of a storm, drawn block by block.
 ghost use Rattle.std.specs.Prelude.{◌≡◌, ◌<◌, ◌≤◌, map, IfOk, OnOk};
 ghost use Rattle.scenario.specs.Seen.{fault_view, restart_view};
-ghost use Rattle.storm.specs.Storm.{told_by, lies_drawn, told_row, each_drawn, others, lines_by, block, storm, lines_of, restarts_of};
+ghost use Rattle.storm.specs.Storm.{told_by, lies_drawn, told_row, each_drawn, others, lines_by};
+ghost use Rattle.storm.specs.Storm.{block, storm, lines_of, restarts_of};
 ghost use Rattle.storm.specs.Parts.{fault_of, restart_parts};
 ghost use Rattle.storm.specs.Adding.{Adds, AddsBlock};
 
@@ -32,8 +33,10 @@ pub struct Drawn {
 /// # Errors
 /// Want of memory.
 pub fn draw_storm(alloc: Global, seed: u64) -> Result<Drawn, AllocError>
-    ensures faults { IfOk result (λ s. map fault_view s.faults.items ≡ map fault_of (lines_of (storm seed))) }
-    ensures restarts { IfOk result (λ s. map restart_view s.restarts.items ≡ map restart_parts (restarts_of (storm seed))) }
+    ensures faults { IfOk result (λ s. map fault_view s.faults.items
+        ≡ map fault_of (lines_of (storm seed))) }
+    ensures restarts { IfOk result (λ s. map restart_view s.restarts.items
+        ≡ map restart_parts (restarts_of (storm seed))) }
 {
     let mut generator = generator(seed);
     let mut faults = Vec::new(alloc);
@@ -53,7 +56,8 @@ fn push_block(
     k: u32,
 ) -> Result<(), AllocError>
     requires { k < 64 }
-    ensures { OnOk result (AddsBlock faults.old.items faults.new.items restarts.old.items restarts.new.items generator.old generator.new (block k)) }
+    ensures { OnOk result (AddsBlock faults.old.items faults.new.items restarts.old.items
+        restarts.new.items generator.old generator.new (block k)) }
 {
     let node = 5 + draw(generator, 3) as u8;
     let case = draw(generator, 4);
@@ -80,7 +84,8 @@ fn push_lines(
     case: u32,
 ) -> Result<(), AllocError>
     requires { spell.node < 8 }
-    ensures { OnOk result (Adds faults.old.items faults.new.items generator.old generator.new (lines_by spell case)) }
+    ensures { OnOk result (Adds faults.old.items faults.new.items generator.old generator.new
+        (lines_by spell case)) }
 {
     if case == 0 {
         faults.push(line_to_others(alloc, spell, all_slots(alloc)?, EffectPart::Drop)?)?;
@@ -105,7 +110,8 @@ fn push_mixed(
     alloc: Global,
     spell: Spell,
 ) -> Result<(), AllocError>
-    ensures { OnOk result (Adds faults.old.items faults.new.items generator.old generator.new (each_drawn (lies_drawn spell) (others spell))) }
+    ensures { OnOk result (Adds faults.old.items faults.new.items generator.old generator.new
+        (each_drawn (lies_drawn spell) (others spell))) }
 {
     for receiver in 0..8 {
         if receiver != spell.node {
@@ -126,7 +132,8 @@ fn push_told(
     way: u32,
 ) -> Result<(), AllocError>
     requires { receiver < 8 }
-    ensures { OnOk result (Adds faults.old.items faults.new.items generator.old generator.new (told_by spell receiver way)) }
+    ensures { OnOk result (Adds faults.old.items faults.new.items generator.old generator.new
+        (told_by spell receiver way)) }
 {
     if way == 0 {
         return Ok(());
@@ -147,7 +154,8 @@ fn push_rows(
     alloc: Global,
     spell: Spell,
 ) -> Result<(), AllocError>
-    ensures { OnOk result (Adds faults.old.items faults.new.items generator.old generator.new (each_drawn (told_row spell) (others spell))) }
+    ensures { OnOk result (Adds faults.old.items faults.new.items generator.old generator.new
+        (each_drawn (told_row spell) (others spell))) }
 {
     for receiver in 0..8 {
         if receiver != spell.node {

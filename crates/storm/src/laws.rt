@@ -7,8 +7,8 @@ pub fn unrefused()
     ensures { UnrefusedLaw }
 {}
 
-/// A storm has at most 448 fault lines and 64 restarts, and each of its periods is claimed, has at most one faulty node, and spares
-/// nodes 0 to 4.
+/// A storm has at most 448 fault lines and 64 restarts, and each of its periods is claimed, has at
+/// most one faulty node, and spares nodes 0 to 4.
 pub fn weathered()
     ensures { StormLaw }
 {

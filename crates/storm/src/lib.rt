@@ -1,4 +1,5 @@
-//! Storms: from a number a large valid scenario, in each of whose periods the cluster tolerates its faults.
+//! Storms: from a number a large valid scenario, in each of whose periods the cluster tolerates its
+//! faults.
 #![tactic(auto)]
 
 mod cluster;

@@ -18,7 +18,8 @@ fn line(
     slots: NumbersPart,
     effect: EffectPart,
 ) -> Result<FaultPart, AllocError>
-    ensures { IfOk result (λ x. fault_view x ≡ fault_by spell (numbers_view to) (numbers_view slots) (effect_view effect)) }
+    ensures { IfOk result (λ x. fault_view x
+        ≡ fault_by spell (numbers_view to) (numbers_view slots) (effect_view effect)) }
 {
     Ok(FaultPart {
         from: i64::from(spell.node),
@@ -37,7 +38,8 @@ pub fn line_to_one(
     slot: u8,
     effect: EffectPart,
 ) -> Result<FaultPart, AllocError>
-    ensures { IfOk result (λ x. fault_view x ≡ fault_by spell (numbers_of (receiver ∷ [])) (numbers_of (slot ∷ [])) (effect_view effect)) }
+    ensures { IfOk result (λ x. fault_view x
+        ≡ fault_by spell (numbers_of (receiver ∷ [])) (numbers_of (slot ∷ [])) (effect_view effect)) }
 {
     let to = only(alloc, receiver)?;
     let slots = only(alloc, slot)?;
@@ -51,7 +53,8 @@ pub fn line_to_others(
     slots: NumbersPart,
     effect: EffectPart,
 ) -> Result<FaultPart, AllocError>
-    ensures { IfOk result (λ x. fault_view x ≡ fault_by spell (numbers_of (others spell)) (numbers_view slots) (effect_view effect)) }
+    ensures { IfOk result (λ x. fault_view x
+        ≡ fault_by spell (numbers_of (others spell)) (numbers_view slots) (effect_view effect)) }
 {
     let to = others(alloc, spell)?;
     line(alloc, spell, to, slots, effect)

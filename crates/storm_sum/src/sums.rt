@@ -85,7 +85,8 @@ impl Sums {
     /// Adds a period.
     fn add(&mut self, shown: &Shown<8>)
         requires nodes { shown.now.head.nodes ≤ 8 }
-        requires reference { (r : ℕ) → shown.now.head.reference ≡ Some r → r < shown.now.head.nodes }
+        requires reference { (r : ℕ) → shown.now.head.reference ≡ Some r → r
+            < shown.now.head.nodes }
         requires few_claimed { self.old.claimed ≤ 1024 }
         requires few_excluded { self.old.excluded ≤ 8192 }
         requires few_readmitted { self.old.readmitted ≤ 8192 }

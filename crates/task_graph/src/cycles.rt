@@ -1,4 +1,5 @@
-//! Which tasks come after themselves: the transitive closure of the direct predecessors, in masks of tasks.
+//! Which tasks come after themselves: the transitive closure of the direct predecessors, in masks
+//! of tasks.
 
 ghost use Rattle.std.specs.Prelude.{◌≡◌, ℕ, ◌<◌, ◌≤◌, MatchOption, length, slice_index, true};
 ghost use Rattle.node_grid.specs.NodeSet.{has_id};
@@ -50,7 +51,8 @@ fn close<const N: usize>(nodes: u8, tasks: &[Task<N>], masks: &mut [u32; 32])
 // The least task that comes after itself, where all tasks are in range.
 pub(crate) fn first_cyclic<const N: usize>(nodes: u8, tasks: &[Task<N>]) -> Option<u8>
     requires { (t : ℕ) → ¬ IsOut nodes tasks.now t }
-    ensures { MatchOption result ((t : ℕ) → ¬ IsCyclic tasks.now t) (λ t. IsLeast (IsCyclic tasks.now) t) }
+    ensures { MatchOption result ((t : ℕ) →
+        ¬ IsCyclic tasks.now t) (λ t. IsLeast (IsCyclic tasks.now) t) }
 {
     let mut masks = predecessors(nodes, tasks);
     close(nodes, tasks, &mut masks);

@@ -1,4 +1,5 @@
-ghost use Rattle.std.specs.Prelude.{◌≡◌, ℕ, ◌<◌, ◌≤◌, ◌↔◌, length, slice_get, Some, Err, IsOk, IfOk, ◌==◌};
+ghost use Rattle.std.specs.Prelude.{◌≡◌, ℕ, ◌<◌, ◌≤◌, ◌↔◌, length, slice_get, Some, Err, IsOk};
+ghost use Rattle.std.specs.Prelude.{IfOk, ◌==◌};
 ghost use Rattle.node_grid.specs.Capacity.{IsCapacity};
 ghost use Rattle.task_graph.specs.Graph.{IsOut, IsCyclic, IsLeast, IsTasks, IsGraph, task_at};
 ghost use Rattle.task_graph.specs.Refusal.{IsRefusal};
@@ -65,15 +66,16 @@ impl<const N: usize> Model for TaskGraph<N> {
 impl<const N: usize> TaskGraph<N> {
     /// The graph of these tasks over nodes 0 to `nodes - 1`, from 3 to `N` of them.
     ///
-    /// `Range(t)` comes exactly where a task is out of range and t is the least such task, and `Cycle(t)`
-    /// exactly where none is and t is the least task that comes after itself.
+    /// `Range(t)` comes exactly where a task is out of range and t is the least such task, and
+    /// `Cycle(t)` exactly where none is and t is the least task that comes after itself.
     pub fn new(nodes: u8, tasks: Vec<Task<N>>) -> Result<TaskGraph<N>, GraphError>
         requires capacity { IsCapacity N }
         requires some { 3 ≤ nodes }
         requires few { nodes ≤ N }
         ensures ok { IfOk result (λ g. g ≡ record { nodes = nodes; tasks = tasks.entry.items }) }
         ensures accepted { IsOk result ↔ IsTasks nodes tasks.entry.items }
-        ensures refused { (e : GraphError) → (result ≡ Err e) ↔ IsRefusal nodes tasks.entry.items e }
+        ensures refused { (e : GraphError) →
+            (result ≡ Err e) ↔ IsRefusal nodes tasks.entry.items e }
     {
         if let Some(t) = first_out_of_range(nodes, &tasks) {
             return Err(GraphError::Range(t));

@@ -1,4 +1,5 @@
-//! Task graphs: tasks that come after other tasks, in range and without a cycle. Nothing here takes memory.
+//! Task graphs: tasks that come after other tasks, in range and without a cycle. Nothing here takes
+//! memory.
 #![tactic(auto)]
 
 mod cycles;

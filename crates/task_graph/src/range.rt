@@ -60,7 +60,8 @@ fn fits<const N: usize>(nodes: u8, count: usize, t: usize, task: &Task<N>) -> bo
 
 // The least task that is out of range.
 pub(crate) fn first_out_of_range<const N: usize>(nodes: u8, tasks: &[Task<N>]) -> Option<u8>
-    ensures { MatchOption result ((t : ℕ) → ¬ IsOut nodes tasks.now t) (λ t. IsLeast (IsOut nodes tasks.now) t) }
+    ensures { MatchOption result ((t : ℕ) → ¬ IsOut nodes tasks.now t)
+        (λ t. IsLeast (IsOut nodes tasks.now) t) }
 {
     for (t, task) in tasks.iter().enumerate() {
         if !fits(nodes, tasks.len(), t, task) {

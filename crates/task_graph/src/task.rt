@@ -25,5 +25,11 @@ impl<const N: usize> Model for Task<N> {
 
     ghost Value = { TaskView };
 
-    ghost view = { λ t. record { after = t.after.items; nodes = t.nodes; need = t.need; min = t.min; max = t.max } };
+    ghost view = { λ t. record {
+      after = t.after.items;
+      nodes = t.nodes;
+      need = t.need;
+      min = t.min;
+      max = t.max;
+    } };
 }

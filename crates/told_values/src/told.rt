@@ -13,8 +13,8 @@ use crate::places::said_by_channel;
 use crate::slot::DataSlot;
 
 impl<'a, D: Dues<N>, const N: usize> DataSlot<'a, D, N> {
-    /// A node's own values of its due channels, by channel; None where it isn't Full, as only a Full
-    /// node votes on them.
+    /// A node's own values of its due channels, by channel; None where it isn't Full, as only a
+    /// Full node votes on them.
     fn own_values(&self, i: u8) -> Option<[i64; 8]>
         requires capacity { IsCapacity N }
         requires slot { IsDataSlot (slot_of D.dues self.now) }
@@ -30,8 +30,9 @@ impl<'a, D: Dues<N>, const N: usize> DataSlot<'a, D, N> {
         }
     }
 
-    /// The own values of all nodes of their due channels, with None for those that aren't Full: what
-    /// each node has of the others where no line touches a frame and the same channels are due.
+    /// The own values of all nodes of their due channels, with None for those that aren't Full:
+    /// what each node has of the others where no line touches a frame and the same channels are
+    /// due.
     pub fn own_told(&self) -> [Option<[i64; 8]>; N]
         requires capacity { IsCapacity N }
         requires slot { IsDataSlot (slot_of D.dues self.now) }

@@ -22,7 +22,8 @@ fn write_next<const N: usize, K: Sink>(
     requires same { alone.old ≡ record { input = log.now; run = period } }
     requires more { period < log.now.scenario.periods }
     ensures ran { alone.new ≡ record { input = log.now; run = period + 1 } }
-    ensures wrote { Writes (K.written sink.old) (K.written sink.new) (K.faults sink.old) (K.faults sink.new) (log_printed log.now period) result }
+    ensures wrote { Writes (K.written sink.old) (K.written sink.new) (K.faults sink.old)
+        (K.faults sink.new) (log_printed log.now period) result }
 {
     let config = log.config();
     write_alone(
@@ -43,7 +44,8 @@ fn write_run<const N: usize, K: Sink>(
 ) -> Result<(), WriteFault>
     requires capacity { IsCapacity N }
     requires fresh { alone.old ≡ record { input = log.now; run = 0 } }
-    ensures { Writes (K.written sink.old) (K.written sink.new) (K.faults sink.old) (K.faults sink.new) (log_text log.now) result }
+    ensures { Writes (K.written sink.old) (K.written sink.new) (K.faults sink.old)
+        (K.faults sink.new) (log_text log.now) result }
 {
     let periods = log.periods();
     'periods: for period in 0..periods {
@@ -56,7 +58,8 @@ fn write_run<const N: usize, K: Sink>(
 ///
 /// # Errors
 ///
-/// - `WriteFault` comes only where the sink's count of faults rose. A prefix of the text was written then.
+/// - `WriteFault` comes only where the sink's count of faults rose. A prefix of the text was
+///   written then.
 /// - `NoMemory` may come at any time. Nothing was written then.
 pub(crate) fn write_log<const N: usize, K: Sink>(
     alloc: Global,
@@ -64,7 +67,8 @@ pub(crate) fn write_log<const N: usize, K: Sink>(
     sink: &mut K,
 ) -> Result<(), ReplayError>
     requires { IsCapacity N }
-    ensures { IsLogRun log.now (K.written sink.old) (K.written sink.new) (K.faults sink.old) (K.faults sink.new) result }
+    ensures { IsLogRun log.now (K.written sink.old) (K.written sink.new) (K.faults sink.old)
+        (K.faults sink.new) result }
 {
     let Ok(mut alone) = Alone::open(alloc, log) else {
         return Err(ReplayError::NoMemory);

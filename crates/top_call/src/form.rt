@@ -34,7 +34,8 @@ impl Form {
 pub enum Reading {
     /// A scenario is run, and printed in this form.
     Scenario(Form),
-    /// `node I`: the log of this node, at most 15, is replayed, and what the node believed is printed.
+    /// `node I`: the log of this node, at most 15, is replayed, and what the node believed is
+    /// printed.
     Log(u8),
 }
 
@@ -84,7 +85,8 @@ fn number_of(word: &str) -> Option<u64>
 fn number_after(words: &[String], first: &str) -> Option<u64>
     ensures found { IfSome result (λ n. texts words.now ≡ first.now ∷ decimal n ∷ []) }
     ensures small { IfSome result (λ n. n < 2 ^ 64) }
-    ensures none { result ≡ None → (n : ℕ) → n < 2 ^ 64 → (texts words.now ≡ first.now ∷ decimal n ∷ []) → ⊥ }
+    ensures none { result ≡ None → (n : ℕ) → n < 2 ^ 64 →
+        (texts words.now ≡ first.now ∷ decimal n ∷ []) → ⊥ }
 {
     if words.len() != 2 {
         return None;

@@ -1,13 +1,15 @@
-//! What holds of the runs that the program prints, over the definitions alone. Each function's promise is its law.
-ghost use Rattle.top_call.specs.Laws.{SafeRunLaw, AcceptedRunLaw, OrderLaw, OneTextLaw, FewNodesLaw, AloneTextLaw, AcceptedLogLaw};
+//! What holds of the runs that the program prints, over the definitions alone. Each function's
+//! promise is its law.
+ghost use Rattle.top_call.specs.Laws.{SafeRunLaw, AcceptedRunLaw, OrderLaw, OneTextLaw};
+ghost use Rattle.top_call.specs.Laws.{FewNodesLaw, AloneTextLaw, AcceptedLogLaw};
 
 use capacities::laws as rooms;
 use cluster_periods::laws;
 use node_alone::laws::{accepted_records, alone};
 use scenario_reading::laws::accepted_values;
 
-/// Each claimed period of a scenario keeps what is promised of it, and its line says `claim yes` exactly where it is
-/// claimed.
+/// Each claimed period of a scenario keeps what is promised of it, and its line says `claim yes`
+/// exactly where it is claimed.
 pub fn safe_runs()
     ensures { SafeRunLaw }
 {
@@ -38,7 +40,8 @@ pub fn one_text()
     rooms::less_room();
 }
 
-/// What is accepted with room for 8 nodes is accepted with room for 16, has the same text, and is a safe run there too.
+/// What is accepted with room for 8 nodes is accepted with room for 16, has the same text, and is a
+/// safe run there too.
 pub fn few_nodes()
     ensures { FewNodesLaw }
 {
@@ -47,8 +50,8 @@ pub fn few_nodes()
     accepted_values();
 }
 
-/// Where the log of a node holds what a run delivers to it, the text of the log is that node's lines of the run's replay, but
-/// for the class.
+/// Where the log of a node holds what a run delivers to it, the text of the log is that node's
+/// lines of the run's replay, but for the class.
 pub fn alone_text()
     ensures { AloneTextLaw }
 {

@@ -1,13 +1,16 @@
-//! Replays a scenario of a cluster of operations controllers, and prints what every node believes. The theorem is clause
-//! `done` of [`maft`]: for every accepted scenario, and every period up to which all periods' members satisfy
-//! n > 2a + 2s + b + m with a at most m, the sound nodes hold equal penalty counts, memberships and schedules; no node
-//! that was nonfaulty throughout is penalised or excluded; what every nonfaulty member reports of a node raises its count
-//! by the configured weights, up to the cap; and votes lie within the nonfaulty members' own values, at most half of their
-//! spread apart, rounded up. Besides, no sound node convicts a member that isn't asymmetric of telling different things, and
-//! each convicts one of which enough nonfaulty members heard something else than it did; votes of a task's copies lie
-//! within the values of the nonfaulty nodes of their group, as near as that, where the group keeps its own bound; and the
-//! clocks of sound nodes are, after the period, at most half as far apart as those of the nonfaulty members were, rounded
-//! up, and twice epsilon and drift. It holds of the run whose text was written.
+//! Replays a scenario of a cluster of operations controllers, and prints what every node believes.
+//! The theorem is clause `done` of [`maft`]: for every accepted scenario, and every period up to
+//! which all periods' members satisfy n > 2a + 2s + b + m with a at most m, the sound nodes hold
+//! equal penalty counts, memberships and schedules; no node that was nonfaulty throughout is
+//! penalised or excluded; what every nonfaulty member reports of a node raises its count by the
+//! configured weights, up to the cap; and votes lie within the nonfaulty members' own values, at
+//! most half of their spread apart, rounded up. Besides, no sound node convicts a member that isn't
+//! asymmetric of telling different things, and each convicts one of which enough nonfaulty members
+//! heard something else than it did; votes of a task's copies lie within the values of the
+//! nonfaulty nodes of their group, as near as that, where the group keeps its own bound; and the
+//! clocks of sound nodes are, after the period, at most half as far apart as those of the nonfaulty
+//! members were, rounded up, and twice epsilon and drift. It holds of the run whose text was
+//! written.
 //!
 //! Premise by premise, with the file in which each word is defined:
 //!
@@ -30,17 +33,19 @@
 //! | the text of the run | `run_text` in specs/Run; `period_record` in cluster_periods/specs/Record; run_text/specs PeriodText, NodeText, TraceText |
 //! | a period's line says `claim yes` exactly where the period is claimed | `told` of `IsSafeRun` in specs/Run |
 //!
-//! For `storm SEED` nothing is read, and all periods of that storm are claimed and keep what is promised (`Withstands` in
-//! storm_sum/specs/Laws). For `node I` the text is what the node believed by its log (`view_alone` in node_alone/specs/View);
-//! of it nothing is claimed but that, and law `accepted_logs`: a log of what a run delivers has the text of that node's lines
-//! in the run's replay, but for the class.
+//! For `storm SEED` nothing is read, and all periods of that storm are claimed and keep what is
+//! promised (`Withstands` in storm_sum/specs/Laws). For `node I` the text is what the node believed
+//! by its log (`view_alone` in node_alone/specs/View); of it nothing is claimed but that, and law
+//! `accepted_logs`: a log of what a run delivers has the text of that node's lines in the run's
+//! replay, but for the class.
 //!
-//! What is accepted is a scenario of which the laws speak: law `accepted` of scenario, and from it `accepted_runs` and
-//! `accepted_logs` of this crate. The program `maft` makes the devices and leaves with what [`run`] answers, which is the number
-//! of the status of [`maft`].
+//! What is accepted is a scenario of which the laws speak: law `accepted` of scenario, and from it
+//! `accepted_runs` and `accepted_logs` of this crate. The program `maft` makes the devices and
+//! leaves with what [`run`] answers, which is the number of the status of [`maft`].
 //!
-//! Nothing else is assumed. A source and a sink that don't tell their bytes are promised nothing of bytes. Want of memory
-//! is the one free answer; each other answer says its cause, and the bytes decide it where no device failed.
+//! Nothing else is assumed. A source and a sink that don't tell their bytes are promised nothing of
+//! bytes. Want of memory is the one free answer; each other answer says its cause, and the bytes
+//! decide it where no device failed.
 #![tactic(auto)]
 
 mod alone;

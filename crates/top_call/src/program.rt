@@ -9,14 +9,17 @@ ghost use Rattle.scenario.specs.Scenario.{ScenarioView};
 ghost use Rattle.scenario_reading.specs.Verdict.{IsAcceptedValue};
 ghost use Rattle.run_text.specs.PeriodText.{refused_text};
 ghost use Rattle.top_call.specs.declared.form.Reading.{Reading as SpecReading};
-ghost use Rattle.top_call.specs.declared.form.Reading.TheVariants.{Scenario as SpecScenario, Log as SpecLog};
+ghost use Rattle.top_call.specs.declared.form.Reading.TheVariants.{Scenario as SpecScenario};
+ghost use Rattle.top_call.specs.declared.form.Reading.TheVariants.{Log as SpecLog};
 ghost use Rattle.top_call.specs.declared.form.Command.{Command as SpecCommand};
 ghost use Rattle.top_call.specs.declared.form.Command.TheVariants.{Read as SpecRead};
 ghost use Rattle.top_call.specs.declared.status.Status.{Status as SpecStatus};
 ghost use Rattle.top_call.specs.Status.{number_of};
 ghost use Rattle.top_call.specs.Words.{texts, Calls};
 ghost use Rattle.top_call.specs.Run.{IsRun};
-ghost use Rattle.top_call.specs.Answers.{input_limit, capacity, status_of, AnswersValue, IsRefused, IsUnreadable, IsWhole, IsRead, IsUntouched, WritesSome, HasText, IsDecided, Answers, AnswersStorm, IsStatusOf};
+ghost use Rattle.top_call.specs.Answers.{input_limit, capacity, status_of, AnswersValue, IsRefused};
+ghost use Rattle.top_call.specs.Answers.{IsUnreadable, IsWhole, IsRead, IsUntouched, WritesSome};
+ghost use Rattle.top_call.specs.Answers.{HasText, IsDecided, Answers, AnswersStorm, IsStatusOf};
 
 use crate::alone::write_log;
 use crate::form::command_of;
@@ -73,7 +76,8 @@ fn write_form<const N: usize, K: Sink>(
     sink: &mut K,
 ) -> Result<(), ReplayError>
     requires { IsCapacity N }
-    ensures { IsRun form scenario.now (K.written sink.old) (K.written sink.new) (K.faults sink.old) (K.faults sink.new) result }
+    ensures { IsRun form scenario.now (K.written sink.old) (K.written sink.new) (K.faults sink.old)
+        (K.faults sink.new) result }
 {
     match form {
         Form::Replay => replay_at(alloc, scenario, false, sink),
@@ -93,8 +97,10 @@ fn write_few<K: Sink>(
     form: Form,
     sink: &mut K,
 ) -> Result<(), ReplayError>
-    ensures { (d : Data) → IsAcceptedValue d scenario.now → (sc : ScenarioView capacity) × IsAcceptedValue d sc
-        × IsRun form sc (K.written sink.old) (K.written sink.new) (K.faults sink.old) (K.faults sink.new) result }
+    ensures { (d : Data) → IsAcceptedValue d scenario.now → (sc : ScenarioView capacity)
+        × IsAcceptedValue d sc
+        × IsRun form sc (K.written sink.old) (K.written sink.new) (K.faults sink.old)
+        (K.faults sink.new) result }
 {
     few_nodes();
     write_form(alloc, scenario, form, sink)
@@ -102,7 +108,8 @@ fn write_few<K: Sink>(
 
 /// Answers the JSON value of a scenario.
 fn answer_value<K: Sink>(alloc: Global, form: Form, value: &Value<'_>, sink: &mut K) -> Status
-    ensures { AnswersValue form (view value.now) (K.written sink.old) (K.written sink.new) (K.faults sink.old) (K.faults sink.new) result }
+    ensures { AnswersValue form (view value.now) (K.written sink.old) (K.written sink.new)
+        (K.faults sink.old) (K.faults sink.new) result }
 {
     if has_few_nodes(value) {
         match from_value::<FEW>(alloc, value) {
@@ -122,9 +129,11 @@ fn answer_value<K: Sink>(alloc: Global, form: Form, value: &Value<'_>, sink: &mu
     }
 }
 
-/// Answers the bytes of a scenario, and leaves the memory of their JSON value until the process ends.
+/// Answers the bytes of a scenario, and leaves the memory of their JSON value until the process
+/// ends.
 fn answer_scenario<K: Sink>(alloc: Global, form: Form, bytes: &[u8], sink: &mut K) -> Status
-    ensures { Answers (SpecScenario form) bytes.now (K.written sink.old) (K.written sink.new) (K.faults sink.old) (K.faults sink.new) result }
+    ensures { Answers (SpecScenario form) bytes.now (K.written sink.old) (K.written sink.new)
+        (K.faults sink.old) (K.faults sink.new) result }
 {
     let mut scratch = Scratch::new(alloc);
     match value_of(alloc, bytes, &mut scratch) {
@@ -140,7 +149,8 @@ fn answer_scenario<K: Sink>(alloc: Global, form: Form, bytes: &[u8], sink: &mut 
 
 /// Answers the bytes of a node's log.
 fn answer_log<K: Sink>(alloc: Global, id: u8, bytes: &[u8], sink: &mut K) -> Status
-    ensures { Answers (SpecLog id) bytes.now (K.written sink.old) (K.written sink.new) (K.faults sink.old) (K.faults sink.new) result }
+    ensures { Answers (SpecLog id) bytes.now (K.written sink.old) (K.written sink.new)
+        (K.faults sink.old) (K.faults sink.new) result }
 {
     let log = match Record::<CAPACITY>::read(alloc, bytes, id) {
         Ok(log) => log,
@@ -156,7 +166,8 @@ fn answer_log<K: Sink>(alloc: Global, id: u8, bytes: &[u8], sink: &mut K) -> Sta
 
 /// Answers the bytes of an input.
 fn answer<K: Sink>(alloc: Global, reading: Reading, bytes: &[u8], sink: &mut K) -> Status
-    ensures { Answers reading bytes.now (K.written sink.old) (K.written sink.new) (K.faults sink.old) (K.faults sink.new) result }
+    ensures { Answers reading bytes.now (K.written sink.old) (K.written sink.new)
+        (K.faults sink.old) (K.faults sink.new) result }
 {
     match reading {
         Reading::Scenario(form) => answer_scenario(alloc, form, bytes, sink),
@@ -166,7 +177,8 @@ fn answer<K: Sink>(alloc: Global, reading: Reading, bytes: &[u8], sink: &mut K) 
 
 /// Answers the number of a storm.
 fn answer_storm<K: Sink>(alloc: Global, seed: u64, sink: &mut K) -> Status
-    ensures { AnswersStorm seed (K.written sink.old) (K.written sink.new) (K.faults sink.old) (K.faults sink.new) result }
+    ensures { AnswersStorm seed (K.written sink.old) (K.written sink.new) (K.faults sink.old)
+        (K.faults sink.new) result }
 {
     storm_sum::laws::withstands();
     let Ok(sum) = storm_sum::summary(alloc, seed) else {
@@ -180,47 +192,66 @@ fn answer_storm<K: Sink>(alloc: Global, seed: u64, sink: &mut K) -> Status
 
 /// Answers the words, by what the source gives, into the sink.
 ///
-/// What the words may be is told at `Command`: a scenario or a node's log is read and run, or a storm is made and run, and
-/// the text of it is written. What each status says is told at `Status`; the first cause in the order Usage, ReadFault,
-/// TooLong, Unreadable, Refused, WriteFault decides. Want of memory is the one free answer, and nothing was written then.
+/// What the words may be is told at `Command`: a scenario or a node's log is read and run, or a
+/// storm is made and run, and the text of it is written. What each status says is told at `Status`;
+/// the first cause in the order Usage, ReadFault, TooLong, Unreadable, Refused, WriteFault decides.
+/// Want of memory is the one free answer, and nothing was written then.
 pub fn maft<S: Source, K: Sink>(
     alloc: Global,
     words: &[String],
     source: &mut S,
     sink: &mut K,
 ) -> Status
-    ensures usage { (result ≡ Status.Usage) ↔ ((command : SpecCommand) → Calls (texts words.now) command → ⊥) }
-    ensures usage_untouched { result ≡ Status.Usage → IsUntouched (S.left source.old) (S.left source.new)
+    ensures usage { (result ≡ Status.Usage) ↔ ((command : SpecCommand) →
+        Calls (texts words.now) command → ⊥) }
+    ensures usage_untouched { result ≡ Status.Usage →
+        IsUntouched (S.left source.old) (S.left source.new)
         (S.given source.old) (S.given source.new) (K.written sink.old) (K.written sink.new) }
     ensures read_fault { result ≡ Status.ReadFault →
-        Rose (S.faults source.old) (S.faults source.new) × Keeps (K.written sink.old) (K.written sink.new) }
+        Rose (S.faults source.old) (S.faults source.new)
+        × Keeps (K.written sink.old) (K.written sink.new) }
 
-    // A source whose count of faults changed is answered so, also where it gave bytes after the fault; and a sink, where
-    // it took bytes after the fault, but where the line of a refusal was to be written.
+    // A source whose count of faults changed is answered so, also where it gave bytes after the
+    // fault; and a sink, where it took bytes after the fault, but where the line of a refusal was
+    // to be written.
     ensures faults { (result ≡ Status.ReadFault) ⊎ (S.faults source.new ≡ S.faults source.old) }
-    ensures sink_faults { (result ≡ Status.WriteFault) ⊎ ((result ≡ Status.Refused) ⊎ (K.faults sink.new ≡ K.faults sink.old)) }
-    ensures too_long { result ≡ Status.TooLong → IfSome (S.left source.old) (λ bytes. input_limit < length bytes)
-        × GivenPast input_limit (S.given source.old) (S.given source.new) × Keeps (K.written sink.old) (K.written sink.new) }
-    ensures unreadable { result ≡ Status.Unreadable → (bytes : List ℕ) × IsWhole (S.left source.old) (S.left source.new) bytes
+    ensures sink_faults { (result ≡ Status.WriteFault)
+        ⊎ ((result ≡ Status.Refused) ⊎ (K.faults sink.new ≡ K.faults sink.old)) }
+    ensures too_long { result ≡ Status.TooLong →
+        IfSome (S.left source.old) (λ bytes. input_limit < length bytes)
+        × GivenPast input_limit (S.given source.old) (S.given source.new)
+        × Keeps (K.written sink.old) (K.written sink.new) }
+    ensures unreadable { result ≡ Status.Unreadable → (bytes : List ℕ)
+        × IsWhole (S.left source.old) (S.left source.new) bytes
         × IsUnreadable bytes × Keeps (K.written sink.old) (K.written sink.new) }
-    ensures refused { result ≡ Status.Refused → (reading : SpecReading) × (bytes : List ℕ) × (rule : ℕ) × (place : ℕ)
-        × Calls (texts words.now) (SpecRead reading) × IsWhole (S.left source.old) (S.left source.new) bytes × IsRefused reading bytes rule place
-        × WritesSome (K.written sink.old) (K.written sink.new) (K.faults sink.old) (K.faults sink.new) (refused_text rule place) }
-    ensures write_fault { result ≡ Status.WriteFault → (command : SpecCommand) × (bytes : List ℕ) × (text : List ℕ)
+    ensures refused { result ≡ Status.Refused → (reading : SpecReading) × (bytes : List ℕ)
+        × (rule : ℕ) × (place : ℕ)
+        × Calls (texts words.now) (SpecRead reading)
+        × IsWhole (S.left source.old) (S.left source.new) bytes × IsRefused reading bytes rule place
+        × WritesSome (K.written sink.old) (K.written sink.new) (K.faults sink.old)
+        (K.faults sink.new) (refused_text rule place) }
+    ensures write_fault { result ≡ Status.WriteFault → (command : SpecCommand) × (bytes : List ℕ)
+        × (text : List ℕ)
         × Calls (texts words.now) command × IsRead command (S.left source.old) (S.left source.new)
         (S.given source.old) (S.given source.new) bytes × HasText command bytes text
-        × AppendsPrefix (K.written sink.old) (K.written sink.new) text × Rose (K.faults sink.old) (K.faults sink.new) }
+        × AppendsPrefix (K.written sink.old) (K.written sink.new) text
+        × Rose (K.faults sink.old) (K.faults sink.new) }
     ensures no_memory { result ≡ Status.NoMemory → Keeps (K.written sink.old) (K.written sink.new) }
 
-    // The headline: what was read is accepted, its text was written, and each claimed period of a run is safe.
-    ensures done { result ≡ Status.Done → (command : SpecCommand) × (bytes : List ℕ) × (text : List ℕ)
+    // The headline: what was read is accepted, its text was written, and each claimed period of a
+    // run is safe.
+    ensures done { result ≡ Status.Done → (command : SpecCommand) × (bytes : List ℕ)
+        × (text : List ℕ)
         × Calls (texts words.now) command × IsRead command (S.left source.old) (S.left source.new)
         (S.given source.old) (S.given source.new) bytes × HasText command bytes text
         × Appends (K.written sink.old) (K.written sink.new) text }
 
-    // Where neither count of faults rose, words and bytes decide the answer, but for want of memory.
-    ensures decided { (result ≡ Status.Usage) ⊎ ((command : SpecCommand) × Calls (texts words.now) command
-        × IsDecided command (S.left source.old) (S.faults source.old) (S.faults source.new) (K.faults sink.old) (K.faults sink.new) result) }
+    // Where neither count of faults rose, words and bytes decide the answer, but for want of
+    // memory.
+    ensures decided { (result ≡ Status.Usage)
+        ⊎ ((command : SpecCommand) × Calls (texts words.now) command
+        × IsDecided command (S.left source.old) (S.faults source.old) (S.faults source.new)
+        (K.faults sink.old) (K.faults sink.new) result) }
 {
     let reading = match command_of(words) {
         None => return Status::Usage,

@@ -195,8 +195,8 @@ fn run_and_write<const N: usize, K: Sink>(
 ///
 /// # Errors
 ///
-/// - `WriteFault` comes only where the sink's count of faults rose. A prefix of the text was written
-///   then.
+/// - `WriteFault` comes only where the sink's count of faults rose. A prefix of the text was
+///   written then.
 /// - `NoMemory` may come at any time. Nothing was written then.
 pub fn replay_at<const N: usize, K: Sink>(
     alloc: Global,

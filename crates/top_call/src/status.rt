@@ -10,7 +10,8 @@ pub enum Status {
     Usage,
     /// The input is no JSON text. Nothing was written.
     Unreadable,
-    /// A rule refuses the scenario. Its line was written, or a prefix of it where the output failed.
+    /// A rule refuses the scenario. Its line was written, or a prefix of it where the output
+    /// failed.
     Refused,
     /// The input failed. Nothing was written.
     ReadFault,

@@ -24,7 +24,8 @@ pub(crate) fn read<'a, const N: usize>(receiver: &Expect<N>, bytes: &'a [u8]) ->
     requires some_nodes { 0 < receiver.now.nodes }
     requires nodes { receiver.now.nodes ≤ N }
     requires rounds { receiver.now.m ≤ 3 }
-    ensures { seen receiver.now.nodes result ≡ arrived_as (reading (expected receiver.now) bytes.now) }
+    ensures { seen receiver.now.nodes result
+        ≡ arrived_as (reading (expected receiver.now) bytes.now) }
 {
     let Some(frame) = decode(receiver, bytes) else {
         return Arrived::Bad(MALFORMED);

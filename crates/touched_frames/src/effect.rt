@@ -20,7 +20,8 @@ use slot_plan::is_in_window;
 /// The kind of error that is found of a frame with this effect whatever the frame says: it doesn't
 /// come, not whole, more than once or not in time. None where that depends on its bytes.
 pub fn unread_kind(effect: &Effect) -> Option<u8>
-    ensures found { IfSome result (λ k. (sender receiver : Expectation) (c : Content) → IsInRange sender c → arrives Some (Some (change_of effect.now)) sender receiver c ≡ Bad k) }
+    ensures found { IfSome result (λ k. (sender receiver : Expectation) (c : Content) →
+        IsInRange sender c → arrives Some (Some (change_of effect.now)) sender receiver c ≡ Bad k) }
     ensures unread { is_none result ≡ needs_bytes (change_of effect.now) }
 {
     match effect {
@@ -74,10 +75,14 @@ pub fn arrives<'a, const N: usize>(
     requires nodes { receiver.now.nodes ≤ N }
     requires rounds { receiver.now.m ≤ 3 }
     requires widths { HasWidth receiver.now.nodes frame.now.body }
-    requires short { length (body_spelling receiver.now.nodes (content receiver.now.nodes frame.now.body)) < 2 ^ 32 }
-    requires room { length (spelling receiver.now.nodes frame.now.head (content receiver.now.nodes frame.now.body)) ≤ length room.old }
-    ensures { (sender : Expectation) → IsSentAs sender receiver.now.nodes frame.now.head (content receiver.now.nodes frame.now.body) →
-        seen receiver.now.nodes result ≡ arrives Some (Some (change_of effect.now)) sender (expected receiver.now) (content receiver.now.nodes frame.now.body) }
+    requires short { length (body_spelling receiver.now.nodes
+        (content receiver.now.nodes frame.now.body)) < 2 ^ 32 }
+    requires room { length (spelling receiver.now.nodes frame.now.head
+        (content receiver.now.nodes frame.now.body)) ≤ length room.old }
+    ensures { (sender : Expectation) → IsSentAs sender receiver.now.nodes frame.now.head
+        (content receiver.now.nodes frame.now.body) →
+        seen receiver.now.nodes result ≡ arrives Some (Some (change_of effect.now)) sender
+        (expected receiver.now) (content receiver.now.nodes frame.now.body) }
 {
     if let Some(kind) = unread_kind(effect) {
         return Arrived::Bad(kind);

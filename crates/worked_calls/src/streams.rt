@@ -31,7 +31,8 @@ fn read<S: Source>(rt: &HostRuntime, asked: &str, source: &mut S, most: usize) -
     Ok(())
 }
 
-/// Prints how many of five bytes a source gives in pieces of 2, some calls of which fail, or why it doesn't.
+/// Prints how many of five bytes a source gives in pieces of 2, some calls of which fail, or why it
+/// doesn't.
 fn read_memory(rt: &HostRuntime, asked: &str, fails: &[u64], most: usize) -> anyhow::Result<()>
     requires { most ≤ 10000 }
 {

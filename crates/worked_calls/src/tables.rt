@@ -11,7 +11,8 @@ use omh_paths::{Wrapped, count_paths, unrank};
 use std::alloc::AllocError;
 use worked_rows::row;
 
-/// Puts what was heard for the path at this place among those of so many of the others, if there is one.
+/// Puts what was heard for the path at this place among those of so many of the others, if there is
+/// one.
 fn put(table: &mut Table<u8, 8>, others: &NodeSet<8>, len: u8, place: usize, value: Wrapped<u8>)
     requires some { 0 < len }
     requires few { len ≤ 4 }
@@ -27,7 +28,8 @@ fn put(table: &mut Table<u8, 8>, others: &NodeSet<8>, len: u8, place: usize, val
     }
 }
 
-/// What the node passes on of the path at this place among those of so many of the others, if there is one.
+/// What the node passes on of the path at this place among those of so many of the others, if there
+/// is one.
 fn passed_on(
     table: &Table<u8, 8>,
     others: &NodeSet<8>,
@@ -71,7 +73,8 @@ impl Relay {
     }
 }
 
-/// What a node of four with one relay round hears: of node 3 itself, and of it from each of the two other nodes.
+/// What a node of four with one relay round hears: of node 3 itself, and of it from each of the two
+/// other nodes.
 #[derive(Clone, Copy)]
 struct Hears {
     me: u8,

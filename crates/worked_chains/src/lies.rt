@@ -1,6 +1,7 @@
 //! What drawn odd members pass on.
 
-ghost use Rattle.std.specs.Prelude.{ℕ, ◌≡◌, ◌≢◌, ◌+◌, ◌*◌, ◌<◌, ◌≤◌, ◌%◌, length, true, List, drop, take};
+ghost use Rattle.std.specs.Prelude.{ℕ, ◌≡◌, ◌≢◌, ◌+◌, ◌*◌, ◌<◌, ◌≤◌, ◌%◌, length, true, List, drop};
+ghost use Rattle.std.specs.Prelude.{take};
 ghost use Rattle.omh_paths.specs.declared.wrapped.Wrapped.TheVariants.{Fault};
 ghost use Rattle.worked_chains.specs.Lies.{mixed, drawn_value, account_of, drawn_lie};
 

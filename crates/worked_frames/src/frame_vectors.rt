@@ -15,7 +15,8 @@ struct Vector {
     bytes: &'static [u8],
 }
 
-/// What is expected in this slot of this period from this sender, of so many nodes, all members, with so many relay rounds.
+/// What is expected in this slot of this period from this sender, of so many nodes, all members,
+/// with so many relay rounds.
 fn expect(nodes: u8, m: u8, period: u32, slot: u8, sender: u8) -> Expect<8>
     requires { nodes ≤ 8 }
 {

@@ -1,4 +1,5 @@
-//! Worked rows of frames and of what a node finds of a slot: a line for each, what was asked and what was answered.
+//! Worked rows of frames and of what a node finds of a slot: a line for each, what was asked and
+//! what was answered.
 //!
 //! The stored output was worked out from the rules by hand.
 #![tactic(auto)]

@@ -41,7 +41,8 @@ fn name_of(finding: Finding) -> &'static str {
     }
 }
 
-/// Prints what node 0 finds of node 2, of which these frames arrive, two at most, and whether it claims nothing then.
+/// Prints what node 0 finds of node 2, of which these frames arrive, two at most, and whether it
+/// claims nothing then.
 fn found(rt: &HostRuntime, asked: &str, arriving: &[(u8, &[u8])]) -> anyhow::Result<()> {
     let longest = frame_bound(4, 0, 18, 0);
     let Ok(mut rooms) = Rooms::open(rt.alloc(), 4, longest) else {

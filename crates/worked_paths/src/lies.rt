@@ -16,7 +16,8 @@ pub struct Lies {
     codes: [u8; 64],
 }
 
-/// What a number stands for: nothing is changed, nothing is heard, an error of an error, or a value.
+/// What a number stands for: nothing is changed, nothing is heard, an error of an error, or a
+/// value.
 fn lie(code: u8) -> Option<Wrapped<u8>>
     ensures is { result ≡ lie code }
     ensures small { IfSome result (λ v. IsSmall 252 v) }
@@ -30,7 +31,8 @@ fn lie(code: u8) -> Option<Wrapped<u8>>
 }
 
 impl Lies {
-    /// Drawn lies about paths of at most so many nodes: each node says the truth to half of the others.
+    /// Drawn lies about paths of at most so many nodes: each node says the truth to half of the
+    /// others.
     pub fn draw(draws: &mut Draws, longest: u8) -> Lies {
         let mut codes = [0; 64];
         for code in codes.iter_mut() {

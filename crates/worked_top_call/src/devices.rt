@@ -55,8 +55,8 @@ fn of_words(rt: &HostRuntime) -> anyhow::Result<()> {
     tell(rt, "a replay, where the source fails at once", &answer)
 }
 
-/// How many of the calls of the source end the program with this status and nothing written, if each
-/// fails in turn.
+/// How many of the calls of the source end the program with this status and nothing written, if
+/// each fails in turn.
 fn failing_reads(alloc: Global, calls: u64, status: u8) -> anyhow::Result<u64> {
     let mut alike = 0;
     for call in 0..calls {

@@ -1,6 +1,8 @@
-//! The agreement rule as a plain program: a list of what was heard, searched path by path, and a recursion on paths.
+//! The agreement rule as a plain program: a list of what was heard, searched path by path, and a
+//! recursion on paths.
 
-ghost use Rattle.std.specs.Prelude.{◌≡◌, ◌≢◌, ℕ, ◌+◌, ◌≤◌, ◌++◌, ◌∷◌, [], List, All, length, IfOk, OnOk};
+ghost use Rattle.std.specs.Prelude.{◌≡◌, ◌≢◌, ℕ, ◌+◌, ◌≤◌, ◌++◌, ◌∷◌, [], List, All, length, IfOk};
+ghost use Rattle.std.specs.Prelude.{OnOk};
 ghost use Rattle.omh_paths.specs.declared.wrapped.Wrapped.TheVariants.{Fault};
 ghost use Rattle.omh_paths.specs.Wrapped.{IsExact};
 ghost use Rattle.omh_paths.specs.Paths.{same_nodes};
@@ -52,7 +54,8 @@ pub struct PlainTable<V> {
 impl<V: Copy + Eq + Drop> PlainTable<V> {
     /// Adds what was heard for a path for which nothing was heard before.
     pub fn hear(&mut self, path: &Path, value: Wrapped<V>) -> Result<(), AllocError>
-        ensures heard { OnOk result (self.new.heard.items ≡ self.old.heard.items ++ record { path = path.now; value = value } ∷ []) }
+        ensures heard { OnOk result (self.new.heard.items ≡ self.old.heard.items
+            ++ record { path = path.now; value = value } ∷ []) }
         ensures settings { self.new ≡ record self.old { heard = self.new.heard } }
     {
         self.heard.push(Entry { path: *path, value })?;
@@ -111,7 +114,8 @@ impl<V: Copy + Eq + Drop> PlainTable<V> {
         Ok(settled)
     }
 
-    /// What the node settles for the item of a member, where its own item is `own`; `work` is left as it was.
+    /// What the node settles for the item of a member, where its own item is `own`; `work` is left
+    /// as it was.
     pub fn settle(
         &self,
         commander: u8,
@@ -121,7 +125,8 @@ impl<V: Copy + Eq + Drop> PlainTable<V> {
         requires exact { IsExact V.eq }
         requires known { All (λ e. e.value ≢ Fault 255) self.now.heard.items }
         requires few { self.now.rounds ≤ 3 }
-        ensures settled { IfOk result (λ v. v ≡ settled_from V.eq (plain_ear self.now) own commander) }
+        ensures settled { IfOk result (λ v. v
+            ≡ settled_from V.eq (plain_ear self.now) own commander) }
         ensures kept { OnOk result (work.new.items ≡ work.old.items) }
     {
         if commander == self.me {

@@ -27,7 +27,8 @@ fn take_records<'c, const N: usize>(nodes: &[Node<'c, N>], records: &mut [NodeRe
     }
 }
 
-/// The members with which the reference node began the period; none without one, or where it had no agreed state.
+/// The members with which the reference node began the period; none without one, or where it had no
+/// agreed state.
 fn members_of<const N: usize>(records: &[NodeRecord<N>], reference: Option<u8>) -> NodeSet<N>
     requires { IsCapacity N }
     ensures { result ≡ members_shown records.now reference }
@@ -73,7 +74,8 @@ fn classes_of<const N: usize>(plan: &FaultPlan<N>, nodes: u8, period: u32) -> [C
 }
 
 impl<const N: usize> PeriodRecord<N> {
-    /// Shows what all nodes made of a period of the scenario that they went through. The frames stay as they are.
+    /// Shows what all nodes made of a period of the scenario that they went through. The frames
+    /// stay as they are.
     ///
     /// The record must be one of the period before it.
     pub fn fill<'c>(&mut self, scenario: &Scenario<N>, period: u32, nodes: &[Node<'c, N>])
@@ -81,7 +83,8 @@ impl<const N: usize> PeriodRecord<N> {
         requires in_run { period < scenario.now.periods }
         requires taken { IsShownBefore scenario.now period self.old }
         requires after { AreNodes scenario.now (period + 1) nodes.now }
-        ensures { self.new ≡ record (period_record (system_of scenario.now) scenario.now.clock period) { sent = self.old.sent } }
+        ensures { self.new ≡ record (period_record (system_of scenario.now) scenario.now.clock
+            period) { sent = self.old.sent } }
     {
         take_records(nodes, self.records.as_mut_slice());
         let plan = scenario.plan();

@@ -84,7 +84,8 @@ fn no_records<const N: usize>(alloc: Global, nodes: u8) -> Result<Vec<NodeRecord
 }
 
 impl<const N: usize> PeriodRecord<N> {
-    /// A record with all the room that a run of the configuration takes, before the first period, with these clocks.
+    /// A record with all the room that a run of the configuration takes, before the first period,
+    /// with these clocks.
     ///
     /// # Errors
     ///

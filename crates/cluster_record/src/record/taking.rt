@@ -32,7 +32,8 @@ impl<const N: usize> PeriodRecord<N> {
         requires open { All (λ v. v.phase.is_open ≡ true) nodes.now }
         requires each { length nodes.now ≡ self.old.nodes }
         requires short { AreShort self.old.nodes self.old.m nodes.now }
-        ensures { self.new ≡ record self.old { sent = slice_set self.old.sent slot (map frame_of nodes.now) } }
+        ensures { self.new ≡ record self.old
+            { sent = slice_set self.old.sent slot (map frame_of nodes.now) } }
     {
         let room = self.room;
         say_all(nodes, self.sent[slot as usize].as_mut_slice(), room);

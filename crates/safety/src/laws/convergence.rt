@@ -1,7 +1,8 @@
 //! How values and clocks come together over many claimed periods. Distances of values are in the
 //! units of values, those of clocks in the units of offsets.
 
-ghost use Rattle.safety.specs.Convergence.{ValuesConvergeLaw, StartsConvergeLaw, ClocksSettleLaw, StartedClocksLaw};
+ghost use Rattle.safety.specs.Convergence.{ValuesConvergeLaw, StartsConvergeLaw, ClocksSettleLaw};
+ghost use Rattle.safety.specs.Convergence.{StartedClocksLaw};
 
 use crate::laws::clocks;
 use crate::laws::talk::reception;

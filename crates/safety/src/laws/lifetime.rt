@@ -1,7 +1,8 @@
 //! What becomes of one node over many claimed periods: once well, back among the members, and out.
 //! Counts are in the units of weights, streaks and deadlines in periods.
 
-ghost use Rattle.safety.specs.Lifetime.{StandingLaw, WellLaw, RecoveryLaw, ReturnLaw, RemainLaw, LightLaw, ExclusionLaw};
+ghost use Rattle.safety.specs.Lifetime.{StandingLaw, WellLaw, RecoveryLaw, ReturnLaw, RemainLaw};
+ghost use Rattle.safety.specs.Lifetime.{LightLaw, ExclusionLaw};
 ghost use Rattle.safety.specs.Manifest.{ManifestLaw, ManifestExclusionLaw, SilenceLaw};
 
 use crate::laws::runs::runs;

@@ -8,7 +8,8 @@ use crate::laws::clocks::claimed_clocks;
 use crate::laws::talk::reception;
 use crate::laws::views::{safety, start, step};
 
-/// Each claimed period of each run is safe, with any further kinds of accusation that spare the nonfaulty nodes.
+/// Each claimed period of each run is safe, with any further kinds of accusation that spare the
+/// nonfaulty nodes.
 pub fn sparing()
     ensures { SparingLaw }
 {
@@ -24,7 +25,8 @@ pub fn sparing_clocks()
     claimed_clocks();
 }
 
-/// Each claimed period of each run is safe: the theorem, of nodes that accuse those whom they convict.
+/// Each claimed period of each run is safe: the theorem, of nodes that accuse those whom they
+/// convict.
 pub fn runs()
     ensures { RunLaw }
 {
@@ -41,7 +43,8 @@ pub fn run_convictions()
     step();
 }
 
-/// In each claimed period of each run the copies of a task have one group, and votes within it are close.
+/// In each claimed period of each run the copies of a task have one group, and votes within it are
+/// close.
 pub fn run_copies()
     ensures { RunCopiesLaw }
 {

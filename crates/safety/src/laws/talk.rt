@@ -3,7 +3,8 @@
 ghost use Rattle.safety.specs.Talk.{DeliveryLaw, SayingLaw};
 ghost use Rattle.safety.specs.Runs.{ReceptionLaw};
 
-/// What each node has of the frames of a period is what was delivered to it of the frames that were sent.
+/// What each node has of the frames of a period is what was delivered to it of the frames that were
+/// sent.
 pub fn delivery()
     ensures { DeliveryLaw }
 {}

@@ -1,6 +1,8 @@
-//! What the views of sound nodes have in common in a period of a cluster, and the induction over periods.
+//! What the views of sound nodes have in common in a period of a cluster, and the induction over
+//! periods.
 
-ghost use Rattle.safety.specs.Views.{SyncLaw, ClaimsLaw, DataLaw, ReportsLaw, StartLaw, StepLaw, SafetyLaw};
+ghost use Rattle.safety.specs.Views.{SyncLaw, ClaimsLaw, DataLaw, ReportsLaw, StartLaw, StepLaw};
+ghost use Rattle.safety.specs.Views.{SafetyLaw};
 ghost use Rattle.safety.specs.Convictions.{ConvictionsLaw, SparedLaw};
 
 /// Each sound node goes through a period with the agreed state of the nonfaulty ones.
@@ -45,8 +47,8 @@ pub fn safety()
     step();
 }
 
-/// Sound nodes convict nobody but asymmetric members, and each convicts one of which enough nonfaulty members heard
-/// something else than it did.
+/// Sound nodes convict nobody but asymmetric members, and each convicts one of which enough
+/// nonfaulty members heard something else than it did.
 pub fn convictions()
     ensures { ConvictionsLaw }
 {}

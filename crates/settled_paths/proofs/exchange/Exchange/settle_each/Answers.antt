@@ -1,4 +1,4 @@
-use Rattle.std.proofs.Common.{ℕ, ◌≡◌, ◌≢◌, ◌-◌, ◌∷◌, [], Bool, List, length, ap, ◌∙◌, arith}
+use Rattle.std.proofs.Common.{ℕ, ◌≡◌, ◌≢◌, ◌-◌, ◌∷◌, [], Bool, List, length, sym, ap, ◌∙◌, arith}
 use Rattle.std.proofs.lemmas.Bool.{both_ways}
 use Rattle.std.proofs.lemmas.List.{length-set}
 use Rattle.node_grid.specs.NodeSet.{has_id}
@@ -8,7 +8,7 @@ use Rattle.omh_paths.specs.Paths.{index_in}
 use Rattle.omh.specs.Omh.{settled_at}
 use Rattle.omh.specs.Flat.{AreSettled}
 use Rattle.settled_paths.specs.Levels.{AreOwnTerms, ear_in}
-use Rattle.settled_paths.proofs.Loops.{next_on, low_of, apart, split_more, laid_each, laid_kept}
+use Rattle.settled_paths.proofs.Loops.{next_on, low_of, apart, split_more, split_all, laid_each, laid_kept}
 use Rattle.settled_paths.proofs.exchange.Exchange.settle_each.Goals as goal
 
 pub settle_from-settled-requires : goal.settle_from-settled-requires
@@ -56,3 +56,18 @@ loop-i-preserved g c =
           let other : k ≢ q = λ e. both_ways _ off (ap (has_id nodes) e ∙ on) in
           laid_kept c.loop-i.all c.set_value.new.values k q c.settle_from-settled.result (Fault 0) other c.set_value.ensures ∙ i.kept k off;
     }
+
+pub returns-clause-settled : goal.returns-clause-settled
+returns-clause-settled g c = λ k on.
+    let i = c.loop-i.invariant in
+    let all = split_all c.args.nodes.now c.loop-i.yielded c.loop-i.i-iterator i.split c.in-None.ensures.steps.0 in
+    i.settled k (ap (λ (s : List ℕ). has_id s k) (sym all) ∙ on)
+
+pub returns-clause-kept : goal.returns-clause-kept
+returns-clause-kept g c = c.loop-i.invariant.kept
+
+pub returns-clause-work : goal.returns-clause-work
+returns-clause-work g c = c.loop-i.invariant.work
+
+pub returns-clause-places : goal.returns-clause-places
+returns-clause-places g c = c.loop-i.invariant.places

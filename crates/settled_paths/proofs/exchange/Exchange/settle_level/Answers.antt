@@ -73,3 +73,12 @@ loop-k-preserved g c =
           (omega (arith, t.narrow, c.lay_terms.ensures.room, i.terms, c.requires.terms)) (omega (arith, low, i.longest, c.requires.longest)) c.lay_terms.ensures.each c.settled_from_terms-settled.ensures c.set_value.ensures
           (i.done me full h lasts) k l;
     }
+
+pub returns-clause-settled : goal.returns-clause-settled
+returns-clause-settled g c = λ me full h lasts k l. c.loop-k.invariant.done me full h lasts k (omega (arith, l, c.level-level.ensures.paths_are, c.loop-k-test.false))
+
+pub returns-clause-longest : goal.returns-clause-longest
+returns-clause-longest g c = c.loop-k.invariant.longest
+
+pub returns-clause-terms : goal.returns-clause-terms
+returns-clause-terms g c = c.loop-k.invariant.terms
