@@ -1,12 +1,11 @@
 ghost use Rattle.std.specs.Prelude.{◌≡◌, ◌≢◌, ℕ, ◌-◌, ◌^◌, ◌<◌, ◌≤◌, ◌==◌, ◌||◌};
 ghost use Rattle.std.specs.Prelude.{Option, None, Some, if◌then◌else◌, replicate};
 ghost use Rattle.std.specs.Int.{bit_at};
-ghost use Rattle.node_grid.specs.Capacity.{IsCapacity};
 ghost use Rattle.node_grid.specs.NodeSet.{ids_where, mask_of, has_id};
 ghost use Rattle.error_reports.specs.Notes.{with_kind, noted_besides, is_kind, of_each};
 ghost use Rattle.error_reports.specs.Notes.{also_noted, also_carried, GivesKinds};
 
-use node_grid::{NodeSet, Row};
+use node_grid::{Capacity, NodeSet, Nodes, Row};
 use std::marker::Model;
 
 /// What one node notes against the others, in this period and for the next one.
@@ -77,7 +76,8 @@ fn besides<const N: usize, F: Fn(u8) -> Option<u8>>(
     kinds: u8,
     kind_of: F,
 ) -> Row<N>
-    requires capacity { IsCapacity N }
+where
+    Nodes: Capacity<N>,
     requires nodes { nodes ≤ N }
     requires kinds { kinds ≤ 16 }
     requires callable { (j : ℕ) → j < N → j < nodes → j ≢ me → F.pre kind_of j }
@@ -93,11 +93,13 @@ fn besides<const N: usize, F: Fn(u8) -> Option<u8>>(
     Row { masks }
 }
 
-impl<const N: usize> RowBuilder<N> {
+impl<const N: usize> RowBuilder<N>
+where
+    Nodes: Capacity<N>,
+{
     /// Node `me` of so many nodes notes nothing yet. A row has room for kinds below `kinds`: 8 in version 1, and 16 in
     /// version 2.
     pub fn new(nodes: u8, me: u8, kinds: u8) -> Self
-        requires capacity { IsCapacity N }
         requires nodes { nodes ≤ N }
         requires kinds { kinds ≤ 16 }
         ensures { result ≡ record { nodes = nodes; me = me; kinds = kinds; row = replicate N 0; carried = replicate N 0 } }

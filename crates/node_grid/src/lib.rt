@@ -3,12 +3,14 @@
 //! Nodes are numbers below a capacity `N`, which is 8 or 16. Nothing here takes memory or refuses anything.
 #![tactic(auto)]
 
+mod capacity;
 mod class;
 pub mod kind;
 mod matrix;
 mod node_set;
 mod planes;
 
+pub use capacity::{Capacity, Nodes};
 pub use class::Class;
 pub use matrix::{Matrix, Row};
 pub use node_set::{Ids, NodeSet};

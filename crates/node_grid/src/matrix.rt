@@ -1,8 +1,8 @@
 ghost use Rattle.std.specs.Prelude.{◌≡◌, ℕ, ◌<◌, List, Option, Some, None, replicate, slice_set, length};
 ghost use Rattle.std.specs.Option.{option_copied};
-ghost use Rattle.node_grid.specs.Capacity.{IsCapacity};
 ghost use Rattle.node_grid.specs.Matrix.{row_at};
 
+use crate::{Capacity, Nodes};
 use std::marker::Model;
 
 /// What one node accuses each node of: a mask of kinds for each node.
@@ -26,7 +26,8 @@ impl<const N: usize> Model for Row<N> {
 impl<const N: usize> Row<N> {
     /// The row that accuses nobody.
     pub fn zero() -> Self
-        requires { IsCapacity N }
+    where
+        Nodes: Capacity<N>,
         ensures { result ≡ replicate N 0 }
     {
         Row { masks: [0; N] }
@@ -53,7 +54,8 @@ impl<const N: usize> Model for Matrix<N> {
 impl<const N: usize> Matrix<N> {
     /// No row at any node.
     pub fn empty() -> Self
-        requires { IsCapacity N }
+    where
+        Nodes: Capacity<N>,
         ensures { result ≡ replicate N None }
     {
         Matrix { rows: [None; N] }
@@ -61,7 +63,8 @@ impl<const N: usize> Matrix<N> {
 
     /// Puts the row of node `q`, in place of one that stood there.
     pub fn set(&mut self, q: u8, row: Row<N>)
-        requires capacity { IsCapacity N }
+    where
+        Nodes: Capacity<N>,
         requires in_range { q < N }
         ensures rows { self.new ≡ slice_set self.old q (Some row.entry) }
         ensures length { length self.new ≡ N }
@@ -71,7 +74,8 @@ impl<const N: usize> Matrix<N> {
 
     /// The row of node `q`; None exactly where no row stands there, as for a `q` of N or more.
     pub fn get(&self, q: u8) -> Option<&Row<N>>
-        requires { IsCapacity N }
+    where
+        Nodes: Capacity<N>,
         ensures row { option_copied result ≡ row_at self.now q }
         ensures length { length self.now ≡ N }
     {

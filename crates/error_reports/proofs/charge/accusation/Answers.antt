@@ -1,4 +1,4 @@
-use Rattle.std.proofs.Common.{◌≡◌, ◌&&◌, not, Bool, None, sym, ap, arith, eq-eqb, lit<, inl, inr, false, ◌∙◌, ◌==◌, true, Some, ap₂, get_or}
+use Rattle.std.proofs.Common.{rules, ◌≡◌, ◌&&◌, not, Bool, None, sym, ap, arith, eq-eqb, lit<, inl, inr, false, ◌∙◌, ◌==◌, true, Some, ap₂, get_or}
 use Rattle.node_grid.specs.Capacity.{IsCapacity}
 use Rattle.std.proofs.lemmas.Bool.{cond-false, cond-true, and_from, ne_eqb}
 use Rattle.error_reports.specs.Charge.{is_sender, is_voter, is_row, is_accuser, row_accuses}
@@ -14,16 +14,13 @@ returns-then-member-node g c =
 
 pub get-requires : goal.get-requires
 get-requires g c =
-    let cap : IsCapacity g.row.N = c.requires.capacity in (
+    let cap : IsCapacity g.row.N = search rules in (
       elim cap [ inl e ↦ rw e (lit< tt) | inr e ↦ rw e (lit< tt) ],
-      (
-        elim cap [ inl e ↦ rw e (lit< tt) | inr e ↦ rw e (lit< tt) ],
-        cap,
-      ),
+      elim cap [ inl e ↦ rw e (lit< tt) | inr e ↦ rw e (lit< tt) ],
     )
 
 pub offset_bounds-row-inside-node : goal.offset_bounds-row-inside-node
-offset_bounds-row-inside-node g c = let r = c.requires.in_range in let cap : IsCapacity g.row.N = c.requires.capacity in omega arith
+offset_bounds-row-inside-node g c = let r = c.requires.in_range in let cap : IsCapacity g.row.N = search rules in omega arith
 
 pub bounds-row-inside-node : goal.bounds-row-inside-node
 bounds-row-inside-node g c = c.requires.in_range
