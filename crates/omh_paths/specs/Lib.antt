@@ -1,4 +1,5 @@
 pub mod Wrapped
+pub mod ValueLaws
 pub mod Majority
 pub mod Paths
 pub mod MajorityLaws

@@ -6,10 +6,12 @@
 pub mod laws;
 mod lexicographic;
 mod path;
+mod value;
 mod voting;
 mod wrapped;
 
 pub use lexicographic::{count_paths, rank, unrank};
 pub use path::Path;
+pub use value::Value;
 pub use voting::majority;
 pub use wrapped::Wrapped;

@@ -2,7 +2,6 @@ ghost use Rattle.std.specs.Prelude.{◌≡◌, ◌≢◌, ℕ, ◌+◌, ◌<◌,
 ghost use Rattle.node_grid.specs.Capacity.{IsCapacity};
 ghost use Rattle.node_grid.specs.NodeSet.{has_id};
 ghost use Rattle.omh_paths.specs.declared.wrapped.Wrapped.TheVariants.{Fault};
-ghost use Rattle.omh_paths.specs.Wrapped.{IsExact};
 ghost use Rattle.omh.specs.Omh.{settled};
 ghost use Rattle.omh.specs.Written.{IsSmall};
 ghost use Rattle.settled_paths.specs.Passing.{passing_world};
@@ -11,7 +10,7 @@ use crate::exchange::{Exchange, level_at};
 use crate::touched::Touched;
 use crate::values::blank;
 use node_grid::NoMemory;
-use omh_paths::Wrapped;
+use omh_paths::{Value, Wrapped};
 use std::alloc::Global;
 use std::marker::Model;
 
@@ -38,7 +37,7 @@ impl<V> Model for Laid<V> {
     ghost invariant = { λ l. HasRoom l.nodes l.rounds l.laid.items l.longest.items l.work.items };
 }
 
-impl<V: Copy + Eq + Drop> Laid<V> {
+impl<V: Value> Laid<V> {
     /// Room for the items of `nodes` nodes, at most 16, relayed in `rounds` rounds, at most 3.
     pub fn open(alloc: Global, nodes: u8, rounds: u8) -> Result<Laid<V>, NoMemory>
         requires nodes { nodes ≤ 16 }
@@ -74,7 +73,6 @@ impl<V: Copy + Eq + Drop> Laid<V> {
         touched: &T,
         all: &mut [Wrapped<V>],
     )
-        requires exact { IsExact V.eq }
         requires capacity { IsCapacity N }
         requires rounds { exchange.now.rounds ≡ self.old.rounds }
         requires nodes { (q : ℕ) → has_id exchange.now.members q ≡ true → q < self.old.nodes }

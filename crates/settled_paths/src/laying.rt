@@ -13,11 +13,11 @@ use crate::exchange::Exchange;
 use crate::touched::{Touched, Untouched, heard};
 use crate::values::{set_value, value_at};
 use omh::outside;
-use omh_paths::{Path, Wrapped};
+use omh_paths::{Path, Value, Wrapped};
 
 impl<const N: usize> Exchange<N> {
     /// What a member passes on of a path, whose last node passed this on.
-    fn passed_on<V: Copy + Eq, T: Touched<V>>(
+    fn passed_on<V: Value, T: Touched<V>>(
         &self,
         q: u8,
         path: &Path,
@@ -36,7 +36,7 @@ impl<const N: usize> Exchange<N> {
     }
 
     /// Lays what each member outside a path passes on of it, one after another from this place on.
-    fn lay_behind<V: Copy + Eq, T: Touched<V>>(
+    fn lay_behind<V: Value, T: Touched<V>>(
         &self,
         path: &Path,
         passed: Wrapped<V>,
@@ -62,12 +62,7 @@ impl<const N: usize> Exchange<N> {
 
     /// Lays what is passed on of all paths of so many relays, where that of shorter ones is laid, by
     /// what is said in place of what is passed on of these.
-    fn lay_level<V: Copy + Eq, T: Touched<V>>(
-        &self,
-        relays: u8,
-        touched: &T,
-        laid: &mut [Wrapped<V>],
-    )
+    fn lay_level<V: Value, T: Touched<V>>(&self, relays: u8, touched: &T, laid: &mut [Wrapped<V>])
         requires exchange { IsExchange N self.now.rounds self.now.members self.now.commander }
         requires shorter { relays < self.now.rounds }
         requires small { AreSmall self.now.members relays laid.old }
@@ -93,12 +88,7 @@ impl<const N: usize> Exchange<N> {
     }
 
     /// Lays what is passed on of all paths of so many relays, where that of shorter ones is laid.
-    fn lay_longer<V: Copy + Eq, T: Touched<V>>(
-        &self,
-        relays: u8,
-        touched: &T,
-        laid: &mut [Wrapped<V>],
-    )
+    fn lay_longer<V: Value, T: Touched<V>>(&self, relays: u8, touched: &T, laid: &mut [Wrapped<V>])
         requires exchange { IsExchange N self.now.rounds self.now.members self.now.commander }
         requires shorter { relays < self.now.rounds }
         requires small { AreSmall self.now.members relays laid.old }
@@ -116,7 +106,7 @@ impl<const N: usize> Exchange<N> {
 
     /// Lays what is passed on of the item, where its commander says this of it: for each path
     /// behind the commander, shorter ones first, what the path's last node passes on.
-    pub(crate) fn lay<V: Copy + Eq, T: Touched<V>>(
+    pub(crate) fn lay<V: Value, T: Touched<V>>(
         &self,
         own: Wrapped<V>,
         touched: &T,

@@ -20,11 +20,8 @@ settle_from-settled-requires g c =
     let low = low_of g.row.N nodes c.loop-i.yielded c.next.new.self c.loop-i.i-iterator q c.iter-i-items.ensures.ids i.split c.in-Some.ensures.steps in (
       omega arith,
       (
-        c.requires.exact,
-        (
-          c.requires.exchange,
-          (c.requires.some, (apart nodes c.args.self.now.commander q c.requires.others on, (low, (c.requires.laid, (c.requires.longest, omega (arith, c.requires.work, i.work)))))),
-        ),
+        c.requires.exchange,
+        (c.requires.some, (apart nodes c.args.self.now.commander q c.requires.others on, (low, (c.requires.laid, (c.requires.longest, omega (arith, c.requires.work, i.work)))))),
       ),
     )
 

@@ -46,11 +46,8 @@ settle_each-requires g c =
       (
         omega arith,
         (
-          c.requires.exact,
-          (
-            c.requires.exchange,
-            (c.requires.some, (off, (c.requires.laid, (omega (arith, longest, c.requires.longest), (omega (arith, work, c.requires.work), c.loop-first.invariant.places))))),
-          ),
+          c.requires.exchange,
+          (c.requires.some, (off, (c.requires.laid, (omega (arith, longest, c.requires.longest), (omega (arith, work, c.requires.work), c.loop-first.invariant.places))))),
         ),
       ),
     )
