@@ -118,4 +118,6 @@ def main() -> None:
             costs = ", ".join(f"{form} {period(form, {slot}) - without:,}" for form in FORMS[:3])
             print(f"  slot {slot}, {' '.join(map(str, wire.carries(slot, m)))}: {costs}", flush=True)
 
-main()
+
+if __name__ == "__main__":
+    main()

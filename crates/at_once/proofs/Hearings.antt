@@ -1,5 +1,5 @@
 -- How nodes go through a period once its sync slot is over.
-use Rattle.std.proofs.Common.{ℕ, ℤ, ◌≡◌, ◌≢◌, ◌<◌, ◌≤◌, ◌+◌, ◌&&◌, Bool, true, false, List, [], length, set, get_or, get_or-set_other, get_or-set_same, replicate, Option, None, Some, refl, sym, ap, subst, ◌∙◌, inl, inr, arith, nat_lt, lt-ltb}
+use Rattle.std.proofs.Common.{ℕ, ◌≡◌, ◌≢◌, ◌<◌, ◌≤◌, ◌+◌, ◌&&◌, Bool, true, false, List, [], length, set, get_or, get_or-set_other, get_or-set_same, replicate, Option, None, Some, refl, sym, ap, subst, ◌∙◌, inl, inr, arith, nat_lt, lt-ltb}
 use Rattle.std.specs.Prelude.{is_some, slice_get, slice_index}
 use Rattle.std.proofs.lemmas.Bool.{cases_Bool, cases_eq, cases_lt, false≢true, le-ltb}
 use Rattle.std.proofs.lemmas.Option.{slice_get-get_or}
@@ -25,7 +25,7 @@ use Rattle.shown_period.specs.Outcomes.{HasBeliefs, belief_at, done_in, rows_in,
 use Rattle.shown_period.specs.Whole.{AreAlike}
 use Rattle.at_once.specs.declared.keeping.Keeping.{Keeping}
 use Rattle.at_once.specs.Parts.{setting, goes, is_full, through, has, notes_synced}
-use Rattle.at_once.specs.Kept.{notes_at, of_node, AreUsed, AreBegun}
+use Rattle.at_once.specs.Kept.{notes_at, AreUsed, AreBegun}
 use Rattle.at_once.specs.Course.{awake_in, IsNothing, IsGoing, AreLeft, AreSynced}
 use Rattle.at_once.proofs.Making.{synced_is}
 
@@ -147,7 +147,7 @@ module _ {N : ℕ} (sc : ScenarioView N) (slot : SyncSlot N) (cap : IsCapacity N
     -- what all have of the slot
     module _ (full : List ℕ) (full-is : full ≡ awake_in N states) (now : List (Option AgreedView)) (l : Keeping N) (heard : List (List ℕ))
         (ready : AreReady slot now l.notes.items) (h : AreHeard slot (system_of sc) k.notes.items now l.notes.items heard)
-        (many : length l.notes.items ≡ N) (votes-are : l.votes ≡ k.votes) (owns-are : l.owns ≡ k.owns) (made : Made N) (made' : Made N)
+        (many : length l.notes.items ≡ N) (made : Made N) (made' : Made N)
         (modes-are : made.modes ≡ modes_through N full now) (members-are : made.members ≡ members_through N now) (states-are : made.states ≡ now) (sync-are : made.sync ≡ heard)
         (left : AreLeft sc.config.nodes made made') where
       in_slot : (i : ℕ) → i < sc.config.nodes → i < slot.config.now.nodes
@@ -207,7 +207,7 @@ module _ {N : ℕ} (sc : ScenarioView N) (slot : SyncSlot N) (cap : IsCapacity N
           ∙ ap (λ (x : Notes). also_noted N x (noted_states sc.config a (has sc slot.period i).sync)) (begun.notes i low)
           ∙ sym (synced_is sc slot.period i a)
 
-      pub all_synced : AreSynced sc slot.period full made' l
+      pub all_synced : AreSynced sc slot.period full made' l.notes.items
       all_synced = record {
         going = going;
         shaped = record {
@@ -216,9 +216,5 @@ module _ {N : ℕ} (sc : ScenarioView N) (slot : SyncSlot N) (cap : IsCapacity N
           me = λ i low. shaped_by (λ (x : Notes). x.me) (λ x row. refl) i low ∙ begun.shaped.me i low;
           kinds = λ i low. shaped_by (λ (x : Notes). x.kinds) (λ x row. refl) i low ∙ begun.shaped.kinds i low;
         };
-        notes = noted_now;
-        unvoted = record {
-          votes = λ i low. ap (λ (xs : List (List (Option ℤ))). of_node xs i) votes-are ∙ begun.votes i low;
-          owns = λ i low. ap (λ (xs : List (List (Option ℤ))). of_node xs i) owns-are ∙ begun.owns i low;
-        };
+        notes_are = noted_now;
       }

@@ -23,7 +23,7 @@ use Rattle.touched_items.specs.ItemLaws.{row_told}
 use Rattle.heard_links.specs.declared.phase.Phase.{Phase}
 use Rattle.item_phase.specs.declared.item_phase.ItemPhase.{ItemPhase}
 use Rattle.item_phase.specs.Settled.{listener}
-use Rattle.item_phase.specs.Noted.{rounds_of}
+use Rattle.item_phase.specs.Noted.{rounds_of, IsCarrier}
 use Rattle.item_phase.specs.Laws.{OfRunLaw}
 use Rattle.view_law.specs.Made.{notes_begun}
 use Rattle.view_law.specs.Laws.{IsCarriedWithin}
@@ -69,15 +69,9 @@ shaped_late {N} config few nodes bad late old new shaped many each = record {
   kinds = λ i low. ap (λ (y : Notes). y.kinds) (each i (omega arith)) ∙ (carried_whose N (has_id nodes i) (notes_at old i) (bad i) (late i)).2 ∙ shaped.kinds i low;
 }
 
--- what is to be known of the notes of a node that carries more over
-pub record CarriesFor {N : ℕ} (config : Config N) (i : ℕ) (n : Notes) : Type 0 where
-  pub nodes : n.nodes ≡ config.nodes
-  pub me : n.me ≡ i
-  pub kinds : n.kinds ≡ kind_count config.version
-  pub within : IsCarriedWithin N n
-
-pub carries_for : {N : ℕ} (config : Config N) (old : List Notes) (i : ℕ) (n : Notes) → i < config.nodes → AreShaped {N = N} config old → IsCarriedWithin N (notes_at old i) → n ≡ notes_at old i → CarriesFor config i n
-carries_for {N} config old i n low shaped within is = subst (CarriesFor config i) (sym is) record {
+-- the notes of a node are to carry more over
+pub carries_for : {N : ℕ} (config : Config N) (old : List Notes) (i : ℕ) (n : Notes) → i < config.nodes → AreShaped {N = N} config old → IsCarriedWithin N (notes_at old i) → n ≡ notes_at old i → IsCarrier config i n
+carries_for {N} config old i n low shaped within is = subst (IsCarrier config i) (sym is) record {
   nodes = shaped.nodes i low;
   me = shaped.me i low;
   kinds = shaped.kinds i low;

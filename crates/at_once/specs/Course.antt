@@ -56,11 +56,10 @@ pub record IsUnvoted {N : ℕ} (sc : ScenarioView N) (p : ℕ) (k : Keeping N) :
   pub owns : (i : ℕ) → i < sc.config.nodes → of_node k.owns i ≡ (goes sc p i).owns
 
 -- after the sync slot
-pub record AreSynced {N : ℕ} (sc : ScenarioView N) (p : ℕ) (full : List ℕ) (made : Made N) (k : Keeping N) : Type 0 where
+pub record AreSynced {N : ℕ} (sc : ScenarioView N) (p : ℕ) (full : List ℕ) (made : Made N) (notes : List Notes) : Type 0 where
   pub going : IsGoing sc p full made
-  pub shaped : AreShaped {N = N} sc.config k.notes.items
-  pub notes : AreNotedAs sc p (notes_synced sc p) k.notes.items
-  pub unvoted : IsUnvoted sc p k
+  pub shaped : AreShaped {N = N} sc.config notes
+  pub notes_are : AreNotedAs sc p (notes_synced sc p) notes
 
 -- groups of nodes with one state, which settled the claims alike: what is settled and what is due stands at their firsts
 pub record AreClaimed {N : ℕ} (sc : ScenarioView N) (p : ℕ) (made : Made N) (groups : List ℕ) : Type 0 where
@@ -87,6 +86,13 @@ pub record AreVoted {N : ℕ} (sc : ScenarioView N) (p : ℕ) (k : Keeping N) : 
 -- each node's own row
 abbrev pub AreFound : {N : ℕ} → ScenarioView N → ℕ → Made N → Type 0
 AreFound sc p made = (i : ℕ) (a : AgreedView) → i < sc.config.nodes → through sc p i ≡ Some a → found_at made i ≡ found_in sc p i a
+
+-- before the slots of rows: the groups of the claims, what each voted, and its own row
+pub record AreReporting {N : ℕ} (sc : ScenarioView N) (p : ℕ) (full : List ℕ) (made : Made N) (k : Keeping N) (groups : List ℕ) : Type 0 where
+  pub going : IsGoing sc p full made
+  pub claimed : AreClaimed sc p made groups
+  pub voted : AreVoted sc p k
+  pub found : AreFound sc p made
 
 -- after the slots of rows: groups of nodes that besides vote and settle the rows alike
 pub record AreReported {N : ℕ} (sc : ScenarioView N) (p : ℕ) (full : List ℕ) (made : Made N) (k : Keeping N) (groups : List ℕ) : Type 0 where

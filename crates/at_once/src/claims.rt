@@ -20,9 +20,8 @@ ghost use Rattle.shared_states.specs.declared.belief.Belief.{Belief};
 ghost use Rattle.grouped_nodes.specs.Grouping.{first_of, AreFirsts};
 ghost use Rattle.grouped_nodes.specs.Shared.{AreShared};
 ghost use Rattle.view_law.specs.Laws.{IsWithin};
-ghost use Rattle.at_once.specs.Parts.{notes_synced};
-ghost use Rattle.at_once.specs.Kept.{AreShaped, AreNotedAs, notes_at};
-ghost use Rattle.at_once.specs.Course.{IsGoing, AreSettled};
+ghost use Rattle.at_once.specs.Kept.{AreShaped, notes_at};
+ghost use Rattle.at_once.specs.Course.{IsGoing, AreSynced, AreSettled};
 ghost use Rattle.at_once.specs.Phases.{IsPhaseAt, AreTold, AreClaimsSettled, SettleAlike};
 ghost use Rattle.at_once.specs.Phases.{node_claims, blames};
 
@@ -83,10 +82,8 @@ impl<const N: usize> Period<'_, N> {
     ) -> Groups<N>
         requires capacity { IsCapacity N }
         requires in_run { self.now.number < self.now.scenario.now.periods }
-        requires going { IsGoing self.now.scenario.now self.now.number full.now made.old }
-        requires shaped { AreShaped {N = N} self.now.scenario.now.config notes.old }
-        requires noted { AreNotedAs self.now.scenario.now self.now.number
-            (notes_synced self.now.scenario.now self.now.number) notes.old }
+        requires synced { AreSynced self.now.scenario.now self.now.number full.now made.old
+            notes.old }
         requires room { claims.old.settling ≡ record {
           nodes = self.now.scenario.now.config.nodes;
           rounds = self.now.scenario.now.config.m;
@@ -201,7 +198,6 @@ fn group_by_claims<const N: usize>(
     phase: &Phase<'_, N>,
     states: &SharedStates<N>,
 ) -> Groups<N>
-    requires capacity { IsCapacity N }
     requires settled { AreClaimsSettled phase.now claims.now }
     ensures firsts { AreFirsts N result }
     ensures shared { AreShared N result states.now }
@@ -214,10 +210,7 @@ fn group_by_claims<const N: usize>(
     let groups = Groups::by(
         &phase.awake,
         |r, i| -> bool
-            requires capacity { IsCapacity N }
-            requires settled { AreClaimsSettled phase.now claims.now }
-            requires one { r < N }
-            requires other { i < N }
+            requires { AreClaimsSettled phase.now claims.now }
             ensures shared { result ≡ true → IsShared states.entry.now r i }
             ensures alike { result ≡ true →
                 SettleAlike nat_eq claim_form phase.entry.now claims.entry.now r i }

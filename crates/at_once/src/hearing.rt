@@ -4,7 +4,7 @@ ghost use Rattle.std.specs.Prelude.{◌≡◌, ◌<◌, ◌≤◌, length};
 ghost use Rattle.node_grid.specs.Capacity.{IsCapacity};
 ghost use Rattle.shown_period.specs.Outcomes.{HasBeliefs};
 ghost use Rattle.at_once.specs.Kept.{AreBegun};
-ghost use Rattle.at_once.specs.Course.{awake_in, AreSynced, AreLeft};
+ghost use Rattle.at_once.specs.Course.{awake_in, IsUnvoted, AreSynced, AreLeft};
 
 use crate::keeping::Keeping;
 use crate::period::Period;
@@ -34,7 +34,6 @@ impl<const N: usize> Period<'_, N> {
     /// Hears the sync slot: afterwards each node has the state with which it goes through the
     /// period. One that stays Cold believes nothing.
     pub(crate) fn hear(&self, full: &NodeSet<N>, made: &mut Made<N>, keeping: &mut Keeping<N>)
-        requires capacity { IsCapacity N }
         requires in_run { self.now.number < self.now.scenario.now.periods }
         requires begun { AreBegun self.now.scenario.now self.now.number made.old.states
             keeping.old }
@@ -42,7 +41,8 @@ impl<const N: usize> Period<'_, N> {
         requires long { length made.old.states ≡ N }
         requires beliefs { HasBeliefs made.old }
         ensures synced { AreSynced self.now.scenario.now self.now.number full.now made.new
-            keeping.new }
+            keeping.new.notes.items }
+        ensures unvoted { IsUnvoted self.now.scenario.now self.now.number keeping.new }
         ensures beliefs { HasBeliefs made.new }
     {
         let config = self.scenario.config();

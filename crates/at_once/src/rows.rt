@@ -6,20 +6,19 @@ ghost use Rattle.std.specs.Cmp.Lexicographic.{pointwise};
 ghost use Rattle.node_grid.specs.Capacity.{IsCapacity};
 ghost use Rattle.node_grid.specs.NodeSet.{has_id};
 ghost use Rattle.node_grid.specs.Kinds.{equivocate};
-ghost use Rattle.node_grid.specs.Version.{kind_count};
 ghost use Rattle.error_reports.specs.Notes.{also_carried, of_each};
 ghost use Rattle.protocol.specs.Arrival.{row_form};
 ghost use Rattle.protocol.specs.Heard.{rounds_bad};
 ghost use Rattle.touched_items.specs.ItemLaws.{row_told};
 ghost use Rattle.heard_links.specs.Hearing.{item_of};
 ghost use Rattle.item_phase.specs.Settled.{listener};
-ghost use Rattle.item_phase.specs.Noted.{rounds_of};
+ghost use Rattle.item_phase.specs.Noted.{rounds_of, IsCarrier};
 ghost use Rattle.shared_states.specs.declared.belief.Belief.{Belief};
 ghost use Rattle.shown_period.specs.Outcomes.{found_at};
 ghost use Rattle.grouped_nodes.specs.Grouping.{first_of, AreFirsts};
 ghost use Rattle.view_law.specs.Laws.{IsCarriedWithin};
 ghost use Rattle.at_once.specs.Kept.{AreShaped, notes_at, of_node};
-ghost use Rattle.at_once.specs.Course.{IsGoing, AreClaimed, AreVoted, AreFound, AreReported};
+ghost use Rattle.at_once.specs.Course.{IsGoing, AreFound, AreReporting, AreReported};
 ghost use Rattle.at_once.specs.Values.{AreVoters};
 ghost use Rattle.at_once.specs.Phases.{AreTold, AreRowsSettled, SettleAlike, node_rows, blames};
 
@@ -104,13 +103,9 @@ fn carry_at<const N: usize>(
     i: u8,
     notes: &mut RowBuilder<N>,
 )
-    requires capacity { IsCapacity N }
     requires settled { AreRowsSettled phase.now rows.now }
     requires node { has_id phase.now.awake i ≡ true }
-    requires nodes { notes.old.nodes ≡ phase.now.config.now.nodes }
-    requires me { notes.old.me ≡ i }
-    requires kinds { notes.old.kinds ≡ kind_count phase.now.config.now.version }
-    requires within { IsCarriedWithin N notes.old }
+    requires notes { IsCarrier phase.now.config.now i notes.old }
     ensures { notes.new ≡ also_carried N (also_carried N notes.old
         (rounds_bad phase.now.config.now.m (rounds_of row_form phase.now rows.now.links i)))
         (blames (pointwise ◌==◌) (listener row_form phase.now rows.now.links i)) }
@@ -128,7 +123,6 @@ fn group_by_rows<const N: usize>(
     phase: &Phase<'_, N>,
     keeping: &Keeping<N>,
 ) -> Groups<N>
-    requires capacity { IsCapacity N }
     requires settled { AreRowsSettled phase.now rows.now }
     requires voters { AreVoters N keeping.now.votes keeping.now.voters }
     ensures firsts { AreFirsts N result }
@@ -147,16 +141,14 @@ fn group_by_rows<const N: usize>(
         |r, i| -> bool
             requires settled { AreRowsSettled phase.now rows.now }
             requires voters { AreVoters N keeping.now.votes keeping.now.voters }
-            requires one { r < N }
-            requires other { i < N }
             ensures votes { result ≡ true →
                 of_node keeping.entry.now.votes r ≡ of_node keeping.entry.now.votes i }
             ensures alike { result ≡ true →
                 SettleAlike (pointwise ◌==◌) row_form phase.entry.now rows.entry.now r i }
         {
-            keeping.vote_alike(r, i)
-                && phase.awake.has(r)
+            phase.awake.has(r)
                 && phase.awake.has(i)
+                && keeping.vote_alike(r, i)
                 && rows.are_alike(phase, r, i)
         },
     );
@@ -235,10 +227,8 @@ impl<const N: usize> Period<'_, N> {
     ) -> Groups<N>
         requires capacity { IsCapacity N }
         requires in_run { self.now.number < self.now.scenario.now.periods }
-        requires going { IsGoing self.now.scenario.now self.now.number full.now made.old }
-        requires claimed { AreClaimed self.now.scenario.now self.now.number made.old groups.now }
-        requires voted { AreVoted self.now.scenario.now self.now.number keeping.old }
-        requires found { AreFound self.now.scenario.now self.now.number made.old }
+        requires reporting { AreReporting self.now.scenario.now self.now.number full.now made.old
+            keeping.old groups.now }
         requires room { rows.old.settling ≡ record {
           nodes = self.now.scenario.now.config.nodes;
           rounds = self.now.scenario.now.config.m;

@@ -138,7 +138,6 @@ impl<const N: usize> Period<'_, N> {
         rows: &mut ItemPhase<Row<N>, N>,
         keeping: &mut Keeping<N>,
     )
-        requires capacity { IsCapacity N }
         requires in_run { self.now.number < self.now.scenario.now.periods }
         requires begun { AreBegun self.now.scenario.now self.now.number made.old.states
             keeping.old }

@@ -11,7 +11,7 @@ ghost use Rattle.protocol.specs.View.{Received, own_values};
 ghost use Rattle.scenario.specs.Scenario.{inputs_of};
 ghost use Rattle.shared_states.specs.Sharing.{state_at, AreAgreed};
 ghost use Rattle.grouped_nodes.specs.Shared.{AreShared};
-ghost use Rattle.told_values.specs.Slot.{slot_of, AreOwnTold, Hears, IsDataSlot};
+ghost use Rattle.told_values.specs.Slot.{slot_of, AreOwnTold, Hears};
 ghost use Rattle.told_values.specs.Within.{IsWithin};
 ghost use Rattle.at_once.specs.Kept.{notes_at, of_node, AreShaped};
 ghost use Rattle.at_once.specs.Course.{IsUnvoted, AreSettled, AreVoted};
@@ -21,7 +21,7 @@ use crate::dues::GroupDues;
 use crate::keeping::Keeping;
 use crate::period::Period;
 use agreed_state::Agreed;
-use data_slot::own_values;
+use data_slot::{KeptValues, own_values};
 use error_reports::RowBuilder;
 use grouped_nodes::Groups;
 use node_grid::{NodeSet, Row};
@@ -46,10 +46,8 @@ fn vote_at<D: Dues<N>, const N: usize>(
     claims: &[Wrapped<u8>; N],
     own: &[Option<[i64; 8]>; N],
 ) -> Voted<N>
-    requires capacity { IsCapacity N }
-    requires slot { IsDataSlot (slot_of D.dues slot.now) }
-    requires node { i < slot.now.config.now.nodes }
-    requires agreed { IsAgreed N slot.now.config.now state.now }
+    requires node { i < slot.now.config.nodes }
+    requires agreed { IsAgreed N slot.now.config state.now }
     requires own { AreOwnTold (slot_of D.dues slot.now) own.now }
     ensures { (x : Received) → Hears (slot_of D.dues slot.now) i x →
         IsVoteOf (slot_of D.dues slot.now) state.now claims.now i x result.votes result.off }
@@ -63,9 +61,7 @@ fn vote_at<D: Dues<N>, const N: usize>(
 /// Whose votes serve later nodes of the group: those of the node that voted last where no line
 /// touches a frame to it, or else those of the one before.
 fn leader_after<D: Dues<N>, const N: usize>(slot: &DataSlot<'_, D, N>, before: u8, last: u8) -> u8
-    requires capacity { IsCapacity N }
-    requires slot { IsDataSlot (slot_of D.dues slot.now) }
-    requires node { last < slot.now.config.now.nodes }
+    requires { last < slot.now.config.nodes }
     ensures { (result ≡ last) ⊎ (result ≡ before) }
 {
     if slot.is_untouched(last) {
@@ -98,24 +94,23 @@ fn vote_each<D: Dues<N>, const N: usize>(
     votes: &mut [[Option<i64>; 8]; N],
     off: &mut [NodeSet<N>; N],
 ) -> [u8; N]
-    requires capacity { IsCapacity N }
-    requires slot { IsDataSlot (slot_of D.dues slot.now) }
-    requires agreed { AreAgreed slot.now.config.now made.now.states }
+    requires agreed { AreAgreed slot.now.config made.now.states }
     requires shared { AreShared N groups.now made.now.states }
     requires many { length made.now.beliefs.items ≡ N }
     ensures votes { (x : ℕ → Received) → HearEach (slot_of D.dues slot.now) x →
-        (i : ℕ) (a : AgreedView) → i < slot.now.config.now.nodes →
+        (i : ℕ) (a : AgreedView) → i < slot.now.config.nodes →
         state_at made.now.states i ≡ Some a →
         IsVoteOf (slot_of D.dues slot.now) a (done_at groups.now made.now.beliefs.items i) i (x i)
         (of_node votes.new i) (slice_index_or off.new i []) }
     ensures voters { AreVoters N votes.new result }
 {
+    let nodes = slot.nodes();
     let own = slot.own_told();
     let mut voters = each_alone();
     // By the first of a group the node of it whose votes serve others, and N where there is none
     // yet.
     let mut leaders = [N as u8; N];
-    for i in 0..slot.config.nodes {
+    for i in 0..nodes {
         if let Some(state) = made.states.get(i) {
             let first = groups.of(i);
             let leader = leaders[first as usize];
@@ -143,17 +138,16 @@ fn note_each<D: Dues<N>, const N: usize>(
     off: &[NodeSet<N>; N],
     notes: &mut [RowBuilder<N>],
 )
-    requires capacity { IsCapacity N }
-    requires slot { IsDataSlot (slot_of D.dues slot.now) }
-    requires shaped { AreShaped slot.now.config.now notes.old }
-    requires within { (i : ℕ) → i < slot.now.config.now.nodes → has_id awake.now i ≡ true →
+    requires shaped { AreShaped slot.now.config notes.old }
+    requires within { (i : ℕ) → i < slot.now.config.nodes → has_id awake.now i ≡ true →
         IsWithin N (notes_at notes.old i) }
-    ensures noted { (i : ℕ) → i < slot.now.config.now.nodes → has_id awake.now i ≡ true →
+    ensures noted { (i : ℕ) → i < slot.now.config.nodes → has_id awake.now i ≡ true →
         IsNotedOf (slot_of D.dues slot.now) i (slice_index_or off.now i [])
         (notes_at notes.old i) (notes_at notes.new i) }
-    ensures shaped { AreShaped slot.now.config.now notes.new }
+    ensures shaped { AreShaped slot.now.config notes.new }
 {
-    for i in 0..slot.config.nodes {
+    let nodes = slot.nodes();
+    for i in 0..nodes {
         if awake.has(i) {
             slot.note(i, &off[i as usize], &mut notes[i as usize]);
         }
@@ -178,7 +172,11 @@ impl<const N: usize> Period<'_, N> {
         for i in 0..config.nodes {
             let inputs = self.scenario.inputs(i, self.number);
             let at = i as usize;
-            owns[at] = own_values(config, i, self.number, &inputs, &votes[at], &owns[at]);
+            let kept = KeptValues {
+                votes: &votes[at],
+                owns: &owns[at],
+            };
+            owns[at] = own_values(config, i, self.number, &inputs, &kept);
         }
     }
 

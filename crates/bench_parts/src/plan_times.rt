@@ -3,7 +3,7 @@
 
 ghost use Rattle.std.specs.Prelude.{◌≡◌, ◌≢◌, ◌<◌, ◌≤◌, ◌+◌, ◌*◌, ◌^◌, length};
 
-use fault_classes::{Effect, FaultLine, FaultPlan, PlanError};
+use fault_classes::{Effect, FaultLine, FaultPlan, PlanError, PlanSize};
 use node_grid::NodeSet;
 use std::alloc::{AllocError, Global};
 use std::io;
@@ -15,6 +15,12 @@ const NODES: u8 = 8;
 const SLOTS: u8 = 8;
 
 const PERIODS: u32 = 1024;
+
+const SIZE: PlanSize = PlanSize {
+    nodes: NODES,
+    rounds: 2,
+    periods: PERIODS,
+};
 
 /// The lines of the full plan, and the look-ups in it.
 const LINES: u32 = 4096;
@@ -197,7 +203,7 @@ fn measure_plan(rt: &HostRuntime) -> io::Result<()> {
         return Ok(());
     }
     let start = Instant::now(rt)?;
-    let made = FaultPlan::new(rt.alloc(), NODES, 2, PERIODS, lines, Vec::new(rt.alloc()));
+    let made = FaultPlan::new(rt.alloc(), SIZE, lines, Vec::new(rt.alloc()));
     let making = start.elapsed(rt);
     let Ok(plan) = made else {
         return println!(rt; "no plan");
@@ -211,7 +217,7 @@ fn measure_plan(rt: &HostRuntime) -> io::Result<()> {
 fn are_too_many(alloc: Global, lines: Vec<FaultLine<8>>) -> bool
     requires { length lines.items < 2 ^ 32 }
 {
-    let made = FaultPlan::new(alloc, NODES, 2, PERIODS, lines, Vec::new(alloc));
+    let made = FaultPlan::new(alloc, SIZE, lines, Vec::new(alloc));
     matches!(made, Err(PlanError::TooMany))
 }
 

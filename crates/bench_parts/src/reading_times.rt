@@ -60,6 +60,13 @@ fn time_judged(rt: &HostRuntime, bytes: &[u8]) -> io::Result<()> {
     println!(rt; "{took} us")
 }
 
+/// The scenario on standard input, if it is one.
+pub fn scenario_in(rt: &HostRuntime) -> Option<Scenario<16>> {
+    let mut source = StdSource::new(rt.stdin());
+    let bytes = read_all(rt.alloc(), &mut source, LIMIT).ok()?;
+    scenario_of(rt.alloc(), bytes.as_slice()).ok()
+}
+
 /// Reads standard input and prints what the reading of its JSON takes, or, where it is judged, that
 /// of the whole.
 pub fn measure(rt: &HostRuntime, is_judged: bool) -> io::Result<()> {

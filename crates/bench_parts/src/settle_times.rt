@@ -36,17 +36,16 @@ fn value_at<const N: usize>(place: usize) -> Wrapped<Row<N>>
     Wrapped::Plain(row)
 }
 
-/// Puts values for all paths of `len` of the others into both.
+/// Puts values for all paths of one more of the others than this into both.
 fn fill_length<const N: usize>(
     table: &mut Table<Row<N>, N>,
     plain: &mut PlainTable<Row<N>>,
     others: &NodeSet<N>,
-    len: u8,
+    relays: u8,
 ) -> Result<(), AllocError>
     requires capacity { IsCapacity N }
-    requires some { 0 < len }
-    requires few { len ≤ 4 }
-    requires short { len ≤ table.old.rounds + 1 }
+    requires few { relays ≤ 3 }
+    requires short { relays ≤ table.old.rounds }
     requires others { others.now ≡ without_id table.old.members table.old.me }
     requires known { All (λ e. e.value ≢ Fault 255) plain.old.heard.items }
     ensures table { OnOk result (table.new ≡ record table.old { heard = table.new.heard }) }
@@ -54,6 +53,7 @@ fn fill_length<const N: usize>(
     ensures known { OnOk result (All (λ e. e.value ≢ Fault 255) plain.new.heard.items) }
 {
     let count = others.len();
+    let len = relays + 1;
     for place in 0..count_paths(count, len) {
         let path = unrank(others, len, place);
         table.put(&path, value_at(place));
@@ -78,8 +78,8 @@ fn fill<const N: usize>(
     ensures plain { OnOk result (plain.new ≡ record plain.old { heard = plain.new.heard }) }
     ensures known { OnOk result (All (λ e. e.value ≢ Fault 255) plain.new.heard.items) }
 {
-    for shorter in 0..rounds + 1 {
-        fill_length(table, plain, others, shorter + 1)?;
+    for relays in 0..rounds + 1 {
+        fill_length(table, plain, others, relays)?;
     }
     Ok(())
 }

@@ -9,7 +9,7 @@ ghost use Rattle.cluster_periods.specs.Slots.{arriving, handed, handed_from, IsR
 use cluster_record::LONGEST_FRAME;
 use error_detect::Rooms;
 use fault_classes::FaultPlan;
-use fault_link::{Delivered, deliveries};
+use fault_link::{Delivered, Transmission, deliveries};
 use node_core::Node;
 use node_grid::NoMemory;
 use slot_plan::ON_TIME;
@@ -105,15 +105,14 @@ impl<'p, const N: usize> Link<'p, N> {
             self.now.from node.old }
     {
         scratch.fit(sent);
-        let arrived = deliveries(
-            self.plan,
-            self.period,
-            self.slot,
-            self.from,
-            node.me(),
-            sent,
-            &mut scratch.bytes.as_mut_slice()[..sent.len()],
-        );
+        let on = Transmission {
+            period: self.period,
+            slot: self.slot,
+            from: self.from,
+            to: node.me(),
+        };
+        let room = &mut scratch.bytes.as_mut_slice()[..sent.len()];
+        let arrived = deliveries(self.plan, on, sent, room);
         hand(self.from, &arrived, node);
     }
 

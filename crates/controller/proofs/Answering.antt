@@ -1,6 +1,6 @@
 -- What is answered behind the first line, as the outcome of the whole input.
-use Rattle.std.proofs.Common.{◌≡◌, ℕ, ◌-◌, ◌^◌, ◌≤◌, Bool, true, false, List, [], ◌∷◌, ◌++◌, length, length-append, arith, append_assoc, append-nil, Option, None, Some, inl, inr, refl, sym, ap, ◌∙◌, subst}
-use Rattle.std.specs.Io.KnownBytes.{Consumes, IsAtEnd}
+use Rattle.std.proofs.Common.{◌≡◌, ℕ, ◌-◌, ◌^◌, ◌≤◌, Bool, true, false, List, [], ◌∷◌, ◌++◌, length, length-append, arith, append_assoc, append-nil, inl, inr, refl, sym, ap, ◌∙◌, subst}
+use Rattle.std.specs.Io.KnownBytes.{IsAtEnd}
 use Rattle.std.proofs.KnownBytes.{Consumes-trans}
 use Rattle.span_io.specs.Causes.{Rose}
 use Rattle.input_lines.specs.Lines.{line_feed, IsUnbroken}
@@ -18,8 +18,8 @@ use Rattle.controller.specs.Session.{Stand, Concludes, Runs, RunsTo, Took, with_
 use Rattle.controller.specs.First.{HasFirst, IsFirst, StopsFirst, at_first, RunsNode, NodeAnswers, AnswersFirst}
 use Rattle.controller.specs.Answers.{HasOutcome}
 use Rattle.controller.specs.declared.control.FirstLine.{FirstLine}
-use Rattle.controller.specs.declared.status.Status.{Status}
-use Rattle.controller.specs.declared.status.Status.TheVariants.{Done, Usage, Unreadable, Refused, ReadFault, WriteFault, NoMemory, TooLong}
+use Rattle.program_words.specs.declared.status.Status.{Status}
+use Rattle.program_words.specs.declared.status.Status.TheVariants.{Done, Usage, Unreadable, Refused, ReadFault, WriteFault, NoMemory, TooLong}
 use Rattle.controller.proofs.Explaining.{Explains}
 
 -- ---- inputs

@@ -1,9 +1,7 @@
 -- The words of a call.
-use Rattle.std.proofs.Common.{◌≡◌, ℕ, ◌<◌, ◌^◌, List, [], ◌∷◌, length, get_or, ap, arith, sym, ◌∙◌, Bool, true, false, Result, Ok, Err}
-use Rattle.std.specs.Prelude.{String, string_bytes, decimal}
-use Rattle.std.specs.Str.Parse.{ParsesUnsigned}
+use Rattle.std.proofs.Common.{◌≡◌, ℕ, List, [], ◌∷◌, length, get_or, ap, arith, sym}
+use Rattle.std.specs.Prelude.{String, string_bytes}
 use Rattle.std.specs.declared.alloc.Global.{Global}
-use Rattle.std.proofs.lemmas.Fmt.{parse-decimal}
 use Rattle.controller.specs.Words.{texts}
 
 -- the text of a lone word

@@ -9,7 +9,7 @@ use Rattle.input_lines.specs.Numbers.{next_number, number_behind}
 use Rattle.controller.specs.Input.{event_limit}
 use Rattle.controller.specs.Course.{Course, Ending, ending_behind, behind, line_refusal, after_step, course}
 use Rattle.controller.specs.Course.Course.{Stands, Ends}
-use Rattle.controller.specs.declared.status.Status.TheVariants.{TooLong}
+use Rattle.program_words.specs.declared.status.Status.TheVariants.{TooLong}
 
 -- ---- a step
 

@@ -13,8 +13,8 @@ use Rattle.controller.specs.Input.{scenario_limit}
 use Rattle.controller.specs.Course.{Ending, ending_of}
 use Rattle.controller.specs.Outcome.{capacity, first_event, IsAcceptedText, IsUnreadable, IsRefusedText, IsForeign, IsNode, IsOutcome}
 use Rattle.controller.specs.Answers.{AllEnd, Decides}
-use Rattle.controller.specs.declared.status.Status.{Status}
-use Rattle.controller.specs.declared.status.Status.TheVariants.{Done, Usage, Unreadable, Refused, ReadFault, WriteFault, NoMemory, TooLong}
+use Rattle.program_words.specs.declared.status.Status.{Status}
+use Rattle.program_words.specs.declared.status.Status.TheVariants.{Done, Usage, Unreadable, Refused, ReadFault, WriteFault, NoMemory, TooLong}
 
 -- a text is that of one value alone
 same_value : (line : List ℕ) (d e : Data) → Reads line d → Reads line e → d ≡ e

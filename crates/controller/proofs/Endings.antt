@@ -11,7 +11,7 @@ use Rattle.controller.specs.Input.{event_limit}
 use Rattle.controller.specs.Course.{Course, Ending, ending_behind, behind, line_refusal, course, closing, course_end, ending_of}
 use Rattle.controller.specs.Course.Course.{Stands, Ends}
 use Rattle.controller.specs.Session.{Stand, Took}
-use Rattle.controller.specs.declared.status.Status.TheVariants.{TooLong}
+use Rattle.program_words.specs.declared.status.Status.TheVariants.{TooLong}
 use Rattle.controller.proofs.Courses.{course_both, course_ended, line_long}
 
 -- the end of all that is told, by how the lines are split and where they lead

@@ -6,8 +6,8 @@ use Rattle.span_io.specs.Causes.{Rose}
 use Rattle.input_lines.specs.Devices.{WritesAll, WritesFront, WritesSome, Devices}
 use Rattle.controller.specs.Words.{Calls}
 use Rattle.controller.specs.Answers.{HasOutcome, HasPart, IsAnsweredSoFar, Decides, IsDecided, IsStatusOf}
-use Rattle.controller.specs.declared.status.Status.{Status}
-use Rattle.controller.specs.declared.status.Status.TheVariants.{Done, Usage, Unreadable, Refused, ReadFault, WriteFault, NoMemory, TooLong}
+use Rattle.program_words.specs.declared.status.Status.{Status}
+use Rattle.program_words.specs.declared.status.Status.TheVariants.{Done, Usage, Unreadable, Refused, ReadFault, WriteFault, NoMemory, TooLong}
 use Rattle.controller.proofs.Deciding.{decides, of_told, no_memory}
 
 -- the source failed no more often than before

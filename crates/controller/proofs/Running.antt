@@ -1,14 +1,13 @@
 -- A session that reads more and more.
-use Rattle.std.proofs.Common.{◌≡◌, ℕ, List, [], ◌++◌, length-append, arith, append_assoc, append-nil, refl, sym, ap, ◌∙◌, subst, inl, inr, Option, None, Some}
-use Rattle.std.specs.Io.KnownBytes.{Consumes, Keeps, IsAtEnd}
-use Rattle.std.proofs.KnownBytes.{Consumes-nil, Consumes-trans}
+use Rattle.std.proofs.Common.{◌≡◌, ℕ, List, [], ◌++◌, append_assoc, append-nil, refl, sym, ap, ◌∙◌, subst, inl, inr}
+use Rattle.std.specs.Io.KnownBytes.{IsAtEnd}
 use Rattle.span_io.specs.Causes.{Rose}
 use Rattle.input_lines.specs.Reading.{SourceView, GivesBytes}
 use Rattle.input_lines.specs.Devices.{told_left, SinkView, WritesAll, all_all, all_front, all_some, nothing_left, gave_both, consumes_kept}
 use Rattle.controller.specs.Course.{Ending, ending_behind, behind, course, closing, ending_of}
 use Rattle.controller.specs.Session.{Stand, Took, CaughtUp, Stops, StopsRound, Concludes, Runs, with_more}
-use Rattle.controller.specs.declared.status.Status.{Status}
-use Rattle.controller.specs.declared.status.Status.TheVariants.{Done, Usage, Unreadable, Refused, ReadFault, WriteFault, NoMemory, TooLong}
+use Rattle.program_words.specs.declared.status.Status.{Status}
+use Rattle.program_words.specs.declared.status.Status.TheVariants.{Done, Usage, Unreadable, Refused, ReadFault, WriteFault, NoMemory, TooLong}
 use Rattle.controller.proofs.Courses.{course_both}
 use Rattle.input_lines.specs.Splits.{begins_both, begins_same}
 use Rattle.controller.proofs.Taking.{took_more}

@@ -11,8 +11,8 @@ use Rattle.run_text.specs.PeriodText.{refused_text}
 use Rattle.input_lines.specs.Devices.{sink_seen, WritesAll, WritesFront, WritesSome, all_some}
 use Rattle.controller.specs.Outcome.{capacity}
 use Rattle.controller.specs.Session.{StopsAtLine}
-use Rattle.controller.specs.declared.status.Status.{Status}
-use Rattle.controller.specs.declared.status.Status.TheVariants.{Refused}
+use Rattle.program_words.specs.declared.status.Status.{Status}
+use Rattle.program_words.specs.declared.status.Status.TheVariants.{Refused}
 use Rattle.controller.proofs.Courses.{step_rule}
 
 pub kept_nothing : (a b : Option (List ℕ)) → Keeps a b → Appends a b []

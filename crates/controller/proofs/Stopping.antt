@@ -6,8 +6,8 @@ use Rattle.input_lines.specs.Devices.{SinkView, WritesAll, all_some, all_front}
 use Rattle.controller.specs.Input.{event_limit}
 use Rattle.controller.specs.Course.{line_refusal}
 use Rattle.controller.specs.Session.{Stand, StopsAtLine, Stops, Took}
-use Rattle.controller.specs.declared.status.Status.{Status}
-use Rattle.controller.specs.declared.status.Status.TheVariants.{Done, Usage, Unreadable, Refused, ReadFault, WriteFault, NoMemory, TooLong}
+use Rattle.program_words.specs.declared.status.Status.{Status}
+use Rattle.program_words.specs.declared.status.Status.TheVariants.{Done, Usage, Unreadable, Refused, ReadFault, WriteFault, NoMemory, TooLong}
 use Rattle.controller.proofs.Taking.{took_line, took_refused}
 
 -- lines were taken, and the call ends at the one behind them

@@ -1,9 +1,6 @@
 -- Lines that are taken one after another.
-use Rattle.std.proofs.Common.{◌≡◌, ℕ, ◌≤◌, List, [], ◌∷◌, ◌++◌, length, append_assoc, refl, sym, ap, ◌∙◌, subst}
-use Rattle.std.specs.Prelude.{flat_map}
-use Rattle.std.proofs.lemmas.List.Concat.{flat_map-append}
-use Rattle.std.proofs.lemmas.List.Elements.{All-append}
-use Rattle.input_lines.specs.Lines.{line_feed, with_feed, IsUnbroken}
+use Rattle.std.proofs.Common.{◌≡◌, ℕ, ◌≤◌, List, [], ◌∷◌, ◌++◌, length, append_assoc, refl, sym, ap, ◌∙◌}
+use Rattle.input_lines.specs.Lines.{line_feed, IsUnbroken}
 use Rattle.input_lines.specs.Laws.{Begins}
 use Rattle.input_lines.specs.Splits.{begin, take_line, begins_both, begins_same}
 use Rattle.live_node.specs.Live.{LiveView, line_step}
@@ -14,7 +11,7 @@ use Rattle.controller.specs.Course.{behind, line_refusal, course}
 use Rattle.controller.specs.Course.Course.{Ends}
 use Rattle.controller.specs.Outcome.{capacity}
 use Rattle.controller.specs.Session.{Stand, Took, with_more}
-use Rattle.controller.specs.declared.status.Status.TheVariants.{Refused}
+use Rattle.program_words.specs.declared.status.Status.TheVariants.{Refused}
 use Rattle.controller.proofs.Courses.{course_both, line_goes, line_refused}
 
 pub took_nothing : (s : Stand) → Took s s [] []

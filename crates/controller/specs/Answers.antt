@@ -1,19 +1,18 @@
 -- What the top call says of its status.
 use Rattle.std.specs.Prelude.{◌≡◌, ℕ, ◌-◌, ◌^◌, ◌<◌, ◌≤◌, ◌↔◌, ◌⊎◌, List, [], length, Option, IfSome}
-use Rattle.std.specs.Io.KnownBytes.{Consumes, Keeps, IsAtEnd}
+use Rattle.std.specs.Io.KnownBytes.{Consumes, IsAtEnd}
 use Rattle.span_io.specs.Causes.{Rose}
 use Rattle.scenario.specs.Scenario.{ScenarioView}
 use Rattle.live_node.specs.Live.{LiveView}
 use Rattle.input_lines.specs.Lines.{IsUnbroken}
-use Rattle.input_lines.specs.Reading.{SourceView}
 use Rattle.input_lines.specs.FirstLine.{first_line, behind_first}
-use Rattle.input_lines.specs.Devices.{IsInput, SinkView, WritesAll, WritesFront, WritesSome, Devices, IsUntouched}
+use Rattle.input_lines.specs.Devices.{IsInput, WritesAll, WritesFront, WritesSome, Devices, IsUntouched}
 use Rattle.controller.specs.Words.{Calls}
 use Rattle.controller.specs.Input.{scenario_limit}
 use Rattle.controller.specs.Course.{ending_of}
 use Rattle.controller.specs.Outcome.{capacity, first_event, IsAcceptedText, IsUnreadable, IsRefusedText, IsNode, IsAnswered, EndsSo, IsOutcome}
-use Rattle.controller.specs.declared.status.Status.{Status}
-use Rattle.controller.specs.declared.status.Status.TheVariants.{Done, Usage, Unreadable, Refused, ReadFault, WriteFault, NoMemory, TooLong}
+use Rattle.program_words.specs.declared.status.Status.{Status}
+use Rattle.program_words.specs.declared.status.Status.TheVariants.{Done, Usage, Unreadable, Refused, ReadFault, WriteFault, NoMemory, TooLong}
 
 -- the words call for a node, whose whole input ends so
 pub record HasOutcome (words : List (List ℕ)) (left : Option (List ℕ)) (status : Status) (text : List ℕ) : Type 0 where

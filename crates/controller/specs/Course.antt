@@ -1,13 +1,13 @@
 -- Where the lines of events lead a node, and how its text ends.
-use Rattle.std.specs.Prelude.{ℕ, ◌+◌, ◌-◌, ◌^◌, min, nat_lt, List, [], ◌∷◌, ◌++◌, length, if◌then◌else◌}
+use Rattle.std.specs.Prelude.{ℕ, nat_lt, List, [], ◌∷◌, ◌++◌, length, if◌then◌else◌}
 use Rattle.run_text.specs.PeriodText.{refused_text, end_text}
 use Rattle.live_node.specs.Live.{LiveView, Step, is_open, unknown_rule, line_step}
 use Rattle.live_node.specs.Live.Step.{Goes, Refuses}
 use Rattle.input_lines.specs.Lines.{lines_of, rest_of}
 use Rattle.input_lines.specs.Numbers.{next_number, number_behind}
 use Rattle.controller.specs.Input.{event_limit}
-use Rattle.controller.specs.declared.status.Status.{Status}
-use Rattle.controller.specs.declared.status.Status.TheVariants.{Done, Refused, TooLong}
+use Rattle.program_words.specs.declared.status.Status.{Status}
+use Rattle.program_words.specs.declared.status.Status.TheVariants.{Done, Refused, TooLong}
 
 -- how a call ends, and all that is written then
 pub record Ending : Type 0 where

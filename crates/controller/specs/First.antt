@@ -11,8 +11,8 @@ use Rattle.controller.specs.Course.{closing}
 use Rattle.controller.specs.Outcome.{capacity, first_event, IsUnreadable, IsScenarioRefused, IsNode}
 use Rattle.controller.specs.Session.{Stand, Concludes, Runs}
 use Rattle.controller.specs.declared.control.FirstLine.{FirstLine}
-use Rattle.controller.specs.declared.status.Status.{Status}
-use Rattle.controller.specs.declared.status.Status.TheVariants.{Usage, Unreadable, Refused, ReadFault, NoMemory, TooLong}
+use Rattle.program_words.specs.declared.status.Status.{Status}
+use Rattle.program_words.specs.declared.status.Status.TheVariants.{Usage, Unreadable, Refused, ReadFault, NoMemory, TooLong}
 
 -- the bytes are the first line and nothing more, at the end of the input; or they are it, a line feed, and the rest
 abbrev pub IsFirst : FirstLine → SourceView → List ℕ → Bool → Type 0

@@ -1,4 +1,3 @@
-pub mod Status
 pub mod Words
 pub mod Input
 pub mod Course

@@ -11,8 +11,8 @@ use Rattle.input_lines.specs.FirstLine.{first_line, behind_first}
 use Rattle.controller.specs.Input.{scenario_limit}
 use Rattle.controller.specs.Course.{course, ending_of}
 use Rattle.controller.specs.Course.Course.{Stands}
-use Rattle.controller.specs.declared.status.Status.{Status}
-use Rattle.controller.specs.declared.status.Status.TheVariants.{Done, Usage, Unreadable, Refused, ReadFault, WriteFault, NoMemory, TooLong}
+use Rattle.program_words.specs.declared.status.Status.{Status}
+use Rattle.program_words.specs.declared.status.Status.TheVariants.{Done, Usage, Unreadable, Refused, ReadFault, WriteFault, NoMemory, TooLong}
 
 -- how many nodes a cluster has room for
 abbrev pub capacity : ℕ

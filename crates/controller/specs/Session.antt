@@ -1,7 +1,7 @@
 -- Where a session stands, and what its calls do.
-use Rattle.std.specs.Prelude.{◌≡◌, ℕ, ◌-◌, ◌^◌, ◌<◌, ◌≤◌, ◌⊎◌, Bool, true, false, List, [], ◌++◌, length, Option, Result, Ok, Err}
-use Rattle.std.specs.Io.KnownBytes.{Appends, Consumes, IsAtEnd}
-use Rattle.span_io.specs.Causes.{Rose, AppendsPrefix}
+use Rattle.std.specs.Prelude.{◌≡◌, ℕ, ◌-◌, ◌^◌, ◌<◌, ◌≤◌, ◌⊎◌, Bool, true, false, List, [], ◌++◌, length, Result, Ok, Err}
+use Rattle.std.specs.Io.KnownBytes.{Consumes, IsAtEnd}
+use Rattle.span_io.specs.Causes.{Rose}
 use Rattle.input_lines.specs.Lines.{IsUnbroken}
 use Rattle.input_lines.specs.Laws.{Begins}
 use Rattle.input_lines.specs.Reading.{IsLong, SourceView, GivesBytes, GivesNothing}
@@ -16,8 +16,8 @@ use Rattle.controller.specs.Course.{Ending, course, line_refusal, ending_of}
 use Rattle.controller.specs.Course.Course.{Stands, Ends}
 use Rattle.controller.specs.Outcome.{capacity}
 use Rattle.controller.specs.declared.session.Session.{Session}
-use Rattle.controller.specs.declared.status.Status.{Status}
-use Rattle.controller.specs.declared.status.Status.TheVariants.{Done, Refused, ReadFault, WriteFault, NoMemory, TooLong}
+use Rattle.program_words.specs.declared.status.Status.{Status}
+use Rattle.program_words.specs.declared.status.Status.TheVariants.{Done, Refused, ReadFault, WriteFault, NoMemory, TooLong}
 
 -- the node, the number of the line that comes next, and what was read and not taken
 pub record Stand : Type 0 where

@@ -2,8 +2,8 @@
 ghost use Rattle.std.specs.Prelude.{◌≡◌, ◌<◌, ◌≤◌, [], length, IfOk, IsTrue};
 ghost use Rattle.live_node.specs.Live.{IsNewLive};
 ghost use Rattle.input_lines.specs.Devices.{sink_seen, source_seen};
-ghost use Rattle.controller.specs.declared.status.Status.{Status as SpecStatus};
-ghost use Rattle.controller.specs.Status.{number_of};
+ghost use Rattle.program_words.specs.declared.status.Status.{Status as SpecStatus};
+ghost use Rattle.program_words.specs.Status.{number_of};
 ghost use Rattle.controller.specs.Words.{texts};
 ghost use Rattle.controller.specs.Input.{scenario_limit};
 ghost use Rattle.controller.specs.Session.{IsReady};
@@ -107,8 +107,9 @@ fn answer<S: Source, K: Sink>(
 /// Runs a node by what the source gives, and writes its answers into the sink.
 ///
 /// The words are the node's number. The first line is its scenario, and each further line tells it
-/// an event, which is answered before more is read. What each status says is told at `Status`, and
-/// clause by clause at `IsStatusOf`.
+/// an event, which is answered before more is read. What each status says is told clause by clause
+/// at `IsStatusOf`: the answers to the lines before the one with which the call ends were written,
+/// but a prefix of them after WriteFault, and nothing where there was no memory.
 pub fn control<S: Source, K: Sink>(
     alloc: Global,
     words: &[String],

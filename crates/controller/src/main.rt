@@ -11,13 +11,12 @@
 mod control;
 pub mod laws;
 mod session;
-mod status;
 mod words;
 
 pub use control::{control, run};
+pub use program_words::Status;
 use program_words::words_after_name;
 use span_io::{StdSink, StdSource};
-pub use status::Status;
 use std::env;
 use std::process::ExitCode;
 

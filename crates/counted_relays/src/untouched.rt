@@ -1,6 +1,5 @@
 ghost use Rattle.std.specs.Prelude.{◌≡◌, ◌≢◌, ℕ, ◌<◌, ◌≤◌, ◌⊎◌, ◌∷◌, [], length, slice_index_or};
 ghost use Rattle.std.specs.Prelude.{slice_set, true, false};
-ghost use Rattle.node_grid.specs.Capacity.{IsCapacity};
 ghost use Rattle.node_grid.specs.NodeSet.{has_id};
 ghost use Rattle.omh_paths.specs.declared.wrapped.Wrapped.TheVariants.{Fault};
 ghost use Rattle.omh_paths.specs.Wrapped.{IsExact};
@@ -93,7 +92,6 @@ pub fn settle_untouched<V: Copy + Eq, T: Touched<V>, const N: usize>(
     all: &mut [Wrapped<V>],
 ) -> bool
     requires exact { IsExact V.eq }
-    requires capacity { IsCapacity N }
     requires rounds { exchange.now.rounds ≤ 3 }
     requires member { has_id exchange.now.members exchange.now.commander ≡ true }
     requires places { length all.old ≡ N }

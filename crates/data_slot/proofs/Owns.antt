@@ -15,9 +15,9 @@ use Rattle.data_slot.specs.Own.{own_by}
 -- the own value of a channel by its number, by the votes and own values of the period before
 abbrev pub own_at : {n : ℕ} → Config n → ℕ → ℕ → Inputs → List (Option ℤ) → List (Option ℤ) → ℕ → Option ℤ
 own_at config i p g votes owns c =
-    if nat_lt c (length config.channels.items) then Some (own_by (slice_index_or config.channels.items c no_channel) i p (slice_index_or g.reading c (pos 0)) (value_at votes c) (value_at owns c)) else None
+    if nat_lt c (length config.channels.items) then Some (own_by (slice_index_or config.channels.items c no_channel) i p (slice_index_or g.reading c (pos 0)) (first_there (value_at votes c) (value_at owns c))) else None
 
-own_is : {n : ℕ} (ch : Channel n) (i p : ℕ) (g : Inputs) (k : Kept) (c : ℕ) → own_by ch i p (slice_index_or g.reading c (pos 0)) (value_at k.votes c) (value_at k.owns c) ≡ own_from i p g k c ch
+own_is : {n : ℕ} (ch : Channel n) (i p : ℕ) (g : Inputs) (k : Kept) (c : ℕ) → own_by ch i p (slice_index_or g.reading c (pos 0)) (first_there (value_at k.votes c) (value_at k.owns c)) ≡ own_from i p g k c ch
 own_is (State delta start step) i zero g k c = refl
 own_is (State delta start step) i (suc p) g k c = cond-false (suc p == 0) (slice_index_or start i (pos 0)) (cut (first_there (value_at k.votes c) (value_at k.owns c) +ℤ step)) (ne_eqb (suc p) 0 (λ e. absurd (omega arith)))
 own_is (Sensor delta task) i zero g k c = refl

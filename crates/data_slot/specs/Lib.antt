@@ -1,5 +1,6 @@
 pub mod Due
 pub mod DueLaws
+pub mod DueSets
 pub mod Own
 pub mod TaskMasks
 pub mod Told

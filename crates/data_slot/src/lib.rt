@@ -8,6 +8,6 @@ mod told;
 mod vote;
 
 pub use due::due_channels;
-pub use own::{own_values, put_values};
+pub use own::{KeptValues, own_in, own_values, put_values};
 pub use told::own_by_channel;
 pub use vote::{DataSlot, Voted, is_off, vote_due};

@@ -1,6 +1,6 @@
 //! A node's own values.
 
-ghost use Rattle.std.specs.Prelude.{◌≡◌, ℕ, ◌*◌, ◌<◌, ◌≤◌, ◌+ℤ◌, List, Option, All, map, length};
+ghost use Rattle.std.specs.Prelude.{◌≡◌, ℕ, ◌*◌, ◌<◌, ◌≤◌, ◌+ℤ◌, List, Option, map, length};
 ghost use Rattle.std.specs.List.{flat_map};
 ghost use Rattle.frames.specs.Spelling.{value_spelling};
 ghost use Rattle.frames.specs.Writing.{pasted};
@@ -41,37 +41,44 @@ fn first_there(vote: Option<i64>, own: Option<i64>) -> i64
     }
 }
 
-/// The last vote, or else the last own value, with the step, cut to the range of values; 0 takes
-/// the place of both.
-fn carried_on(vote: Option<i64>, own: Option<i64>, step: i64) -> i64
-    ensures { result ≡ cut (first_there vote own +ℤ step) }
+/// The last value with the step, cut to the range of values.
+fn carried_on(last: i64, step: i64) -> i64
+    ensures { result ≡ cut (last +ℤ step) }
 {
-    let last = first_there(vote, own);
     cut(last as i128 + step as i128)
 }
 
-/// A node's own value of a channel, by what it reads of it, and by the last vote and own value.
+/// A node's own value of a channel, by what it reads of it, and by the last vote, or else the last
+/// own value.
 fn own_value<const N: usize>(
     channel: &Channel<N>,
     me: u8,
     period: u32,
     reading: i64,
-    vote: Option<i64>,
-    own: Option<i64>,
+    last: i64,
 ) -> i64
     requires { me < N }
-    ensures { result ≡ own_by channel.now me period reading vote own }
+    ensures { result ≡ own_by channel.now me period reading last }
 {
     match channel {
         Channel::State { start, step, .. } => {
             if period == 0 {
                 start[me as usize]
             } else {
-                carried_on(vote, own, *step)
+                carried_on(last, *step)
             }
         }
         Channel::Sensor { .. } | Channel::Copy { .. } => reading,
     }
+}
+
+/// What a node keeps of the values of the period before, by channel.
+#[derive(Drop)]
+pub struct KeptValues<'a> {
+    /// The votes.
+    pub votes: &'a [Option<i64>; 8],
+    /// Its own values.
+    pub owns: &'a [Option<i64>; 8],
 }
 
 /// A node's own values in a period by channel, with none in the places behind the channels, from
@@ -85,8 +92,7 @@ pub fn own_values<const N: usize>(
     me: u8,
     period: u32,
     inputs: &Inputs,
-    votes: &[Option<i64>; 8],
-    owns: &[Option<i64>; 8],
+    kept: &KeptValues<'_>,
 ) -> [Option<i64>; 8]
     requires config { IsConfig N config.now }
     requires me { me < N }
@@ -94,10 +100,12 @@ pub fn own_values<const N: usize>(
         own_values (setting_of config.now) me period inputs.now (record {
           state = state;
           carried = carried;
-          votes = votes.now;
-          owns = owns.now;
+          votes = kept.now.votes.now;
+          owns = kept.now.owns.now;
         }) }
 {
+    let votes = kept.votes;
+    let owns = kept.owns;
     let mut values = [None; 8];
     for c in 0..config.channels.len() {
         values[c] = Some(own_value(
@@ -105,29 +113,25 @@ pub fn own_values<const N: usize>(
             me,
             period,
             inputs.reading[c],
-            votes[c],
-            owns[c],
+            first_there(votes[c], owns[c]),
         ));
     }
     values
 }
 
 /// A node's own value of a channel, and 0 where it has none.
-pub(crate) fn own_in(own: &[Option<i64>; 8], c: u8) -> i64
-    requires { c < 8 }
+pub fn own_in(own: &[Option<i64>; 8], c: u8) -> i64
     ensures { result ≡ own_in own.now c }
 {
-    match own[c as usize] {
-        Some(value) => value,
-        None => 0,
+    match own.get(c as usize) {
+        Some(Some(value)) => *value,
+        Some(None) | None => 0,
     }
 }
 
 /// Writes a node's own values of the due channels to the front of `out`, 8 bytes each.
 pub fn put_values(own: &[Option<i64>; 8], due: &[u8], out: &mut [u8])
-    requires low { All (λ c. c < 8) due.now }
-    requires few { length due.now ≤ 8 }
-    requires room { 8 * length due.now ≤ length out.old }
+    requires { 8 * length due.now ≤ length out.old }
     ensures { out.new ≡ pasted 0 (flat_map value_spelling (map (own_in own.now) due.now)) out.old }
 {
     for k in 0..due.len() {

@@ -29,8 +29,7 @@ fn value_or_zero(values: &Values<'_>, k: usize) -> i64
 
 /// The values of a data frame by channel, and 0 in the places of those that aren't due.
 fn values_by_channel(values: &Values<'_>, due: &[u8]) -> [i64; 8]
-    requires distinct { Distinct due.now }
-    requires low { All (λ c. c < 8) due.now }
+    requires { IsIdSet 8 due.now }
     ensures { (c : ℕ) → has_id due.now c ≡ true →
         slice_index_or result c (pos 0) ≡ value_of due.now (values_of values.now.bytes.now) c }
 {
@@ -48,8 +47,7 @@ fn values_in_frame<const N: usize>(
     due: &[u8],
 ) -> Option<[i64; 8]>
     requires capacity { IsCapacity N }
-    requires distinct { Distinct due.now }
-    requires low { All (λ c. c < 8) due.now }
+    requires due { IsIdSet 8 due.now }
     ensures { (c : ℕ) → has_id due.now c ≡ true →
         at_channel result c ≡
         value_in due.now

@@ -6,12 +6,12 @@ ghost use Rattle.node_grid.specs.Capacity.{IsCapacity};
 ghost use Rattle.node_grid.specs.NodeSet.{IsIdSet, ids_where};
 ghost use Rattle.error_detect.specs.Watching.{IsHeardBy};
 ghost use Rattle.agreed_state.specs.Agreed.{IsAgreed};
-ghost use Rattle.agreed_state.specs.Config.{IsChannel, IsConfig};
+ghost use Rattle.agreed_state.specs.Config.{IsConfig};
 ghost use Rattle.protocol.specs.Configured.{setting_of};
 ghost use Rattle.protocol.specs.View.{deviates, is_far, votes_on};
 ghost use Rattle.data_slot.specs.Told.{value_told};
 ghost use Rattle.data_slot.specs.Values.{by_channel, only_values};
-ghost use Rattle.data_slot.specs.Votes.{is_off, vote_among, vote_due, vote_over};
+ghost use Rattle.data_slot.specs.Votes.{is_off, vote_among, vote_due};
 
 use agreed_state::{Agreed, Config};
 use copy_vote::group_vote;
@@ -151,17 +151,15 @@ fn vote_over<const N: usize>(
     agreed: &Agreed<N>,
     claims: &[Wrapped<u8>; N],
     told: &[Option<[i64; 8]>; N],
-    channel: &Channel<N>,
     c: u8,
 ) -> Option<i64>
     requires capacity { IsCapacity N }
     requires config { IsConfig N config.now }
     requires agreed { IsAgreed N config.now agreed.now }
-    requires channel { IsChannel config.now.nodes (length config.now.graph.tasks) channel.now }
-    requires number { c < 8 }
-    ensures { result ≡ vote_over config.now agreed.now claims.now told.now channel.now c }
+    requires channel { c < length config.now.channels.items }
+    ensures { result ≡ vote_due config.now agreed.now claims.now told.now c }
 {
-    match channel {
+    match &config.channels[c as usize] {
         Channel::Copy { task, lies, .. } => {
             let group = agreed.passed_after(config, claims, *task);
             group_vote(&group, &values_told(told, c), *lies)
@@ -189,8 +187,7 @@ pub fn vote_due<const N: usize>(
     let mut votes = [None; 8];
     for k in 0..due.len() {
         let c = due[k];
-        let channel = &config.channels[c as usize];
-        votes[c as usize] = vote_over(config, agreed, claims, told, channel, c);
+        votes[c as usize] = vote_over(config, agreed, claims, told, c);
     }
     votes
 }

@@ -1,8 +1,9 @@
 //! Bytes in room that a buffer has.
 
 ghost use Rattle.std.specs.Prelude.{◌≡◌, ◌+◌, ◌≤◌, length, take, vec_capacity};
-ghost use Rattle.frames.specs.Writing.{pasted};
 ghost use Rattle.error_detect.specs.Putting.{IsPut};
+
+use frames::write_at;
 
 /// Makes a buffer at least so long, where it has room for that.
 pub(crate) fn lengthen(bytes: &mut Vec<u8>, size: usize)
@@ -15,15 +16,6 @@ pub(crate) fn lengthen(bytes: &mut Vec<u8>, size: usize)
     if bytes.len() < size {
         let _within_room = bytes.resize(size, 0).is_ok();
     }
-}
-
-/// Writes bytes over those from a place on.
-fn write_at(out: &mut [u8], at: usize, bytes: &[u8])
-    requires { at + length bytes.now ≤ length out.old }
-    ensures { out.new ≡ pasted at bytes.now out.old }
-{
-    let end = at + bytes.len();
-    out[at..end].copy_from_slice(bytes);
 }
 
 /// Writes bytes from a place of a buffer on that has room for them.

@@ -22,12 +22,9 @@ change_of (code.Raw bytes) = Raw bytes.items
 
 -- whether every receiver sees by itself that the frame is faulty
 abbrev pub is_manifest_change : Change → Bool
-is_manifest_change Drop = true
-is_manifest_change (Cut k) = true
-is_manifest_change Twice = true
-is_manifest_change (Time t) = true
 is_manifest_change (Set at bytes) = false
 is_manifest_change (Raw bytes) = false
+is_manifest_change _ = true
 
 abbrev pub same_change : Change → Change → Bool
 same_change Drop Drop = true

@@ -5,6 +5,7 @@ use Rattle.std.specs.Option.{option_map, option_or}
 use Rattle.node_grid.specs.Capacity.{IsCapacity}
 use Rattle.node_grid.specs.NodeSet.{has_id}
 use Rattle.fault_classes.specs.declared.line.Restart.{Restart}
+use Rattle.fault_classes.specs.declared.size.PlanSize.{PlanSize}
 use Rattle.fault_classes.specs.declared.error.PlanError.{PlanError}
 use Rattle.fault_classes.specs.declared.error.PlanError.TheVariants as error
 use Rattle.fault_classes.specs.Change.{Change}
@@ -65,6 +66,16 @@ refusal_of plan =
     (option_or (option_map error.Overlap (first_overlap [] plan.lines))
     (option_or (option_map error.Restart (first_bad_restart plan.nodes plan.periods None 0 plan.restarts))
     (if nat_lt 4096 (length plan.lines) then Some error.TooMany else None)))
+
+-- the size of a plan for at most n nodes
+pub record IsSize (n : ℕ) (size : PlanSize) : Type 0 where
+  pub capacity : IsCapacity n
+  pub some_nodes : 3 ≤ size.nodes
+  pub few_nodes : size.nodes ≤ n
+  pub rounds : size.rounds < size.nodes
+  pub few_rounds : size.rounds ≤ 3
+  pub some_periods : 1 ≤ size.periods
+  pub few_periods : size.periods ≤ 1024
 
 -- a plan for at most n nodes that no rule refuses
 pub record IsPlan (n : ℕ) (plan : Plan) : Type 0 where

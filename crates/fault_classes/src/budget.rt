@@ -1,4 +1,4 @@
-ghost use Rattle.std.specs.Prelude.{◌≡◌, ◌<◌, ◌↔◌, IsTrue};
+ghost use Rattle.std.specs.Prelude.{◌≡◌, ◌+◌, ◌<◌, ◌↔◌, IsTrue};
 
 use node_grid::Class;
 
@@ -20,9 +20,7 @@ impl Budget {
 
     /// Counts a member of this class, which `n` counts already.
     pub(crate) fn add(&mut self, class: Class)
-        requires a { self.old.a < 255 }
-        requires s { self.old.s < 255 }
-        requires b { self.old.b < 255 }
+        requires { self.old.a + self.old.s + self.old.b < 255 }
         ensures { self.new ≡ with_member self.old class }
     {
         match class {

@@ -4,16 +4,15 @@ ghost use Rattle.fault_classes.specs.Change.{change_of};
 ghost use Rattle.fault_classes.specs.Line.{line_of, effect_at, touches};
 ghost use Rattle.slot_plan.specs.Slots.{slot_count};
 ghost use Rattle.fault_classes.specs.Plan.{plan_of, restarts_at, is_clean};
-ghost use Rattle.fault_classes.specs.Rules.{refusal_of, first_bad_restart};
+ghost use Rattle.fault_classes.specs.Rules.{IsSize, refusal_of, first_bad_restart};
 ghost use Rattle.fault_classes.specs.Cells.{IsShape, entry_of};
 ghost use Rattle.fault_classes.specs.Index.{IsRestarting, AreAccepted, IsRefusedBy};
-ghost use Rattle.node_grid.specs.Capacity.{IsCapacity};
 ghost use Rattle.node_grid.specs.NodeSet.{ids_where};
 
 use crate::cells::Shape;
 use crate::rules::{first_bad_line, first_bad_restart};
 use crate::touches::{Touches, touches_of};
-use crate::{Effect, FaultLine, PlanError, Restart};
+use crate::{Effect, FaultLine, PlanError, PlanSize, Restart};
 use node_grid::NodeSet;
 use slot_plan::slot_count;
 use std::alloc::{AllocError, Global};
@@ -82,15 +81,13 @@ fn accepted_touches<const N: usize>(
 fn restarting_sets<const N: usize>(
     alloc: Global,
     restarts: &[Restart],
-    nodes: u8,
-    periods: u32,
+    size: PlanSize,
 ) -> Result<Vec<NodeSet<N>>, AllocError>
-    requires capacity { IsCapacity N }
-    requires nodes { nodes ≤ N }
-    requires in_order { first_bad_restart nodes periods None 0 restarts.now ≡ None }
-    ensures { IfOk result (λ v. IsRestarting N periods restarts.now v.items) }
+    requires size { IsSize N size }
+    requires in_order { first_bad_restart size.nodes size.periods None 0 restarts.now ≡ None }
+    ensures { IfOk result (λ v. IsRestarting N size.periods restarts.now v.items) }
 {
-    let mut sets = vec![in alloc; NodeSet::empty(); periods as usize]?;
+    let mut sets = vec![in alloc; NodeSet::empty(); size.periods as usize]?;
     for restart in restarts {
         let set = &mut sets[restart.period as usize];
         set.put(restart.node);
@@ -102,31 +99,30 @@ impl<const N: usize> PlanIndex<N> {
     /// The plan of these lines and restarts with its index.
     pub fn new(
         alloc: Global,
-        nodes: u8,
-        m: u8,
-        periods: u32,
+        size: PlanSize,
         lines: Vec<FaultLine<N>>,
         restarts: Vec<Restart>,
     ) -> Result<Self, PlanError>
-        requires shape { IsShape N nodes (slot_count m) periods }
+        requires size { IsSize N size }
         requires few_lines { length lines.items < 2 ^ 32 }
         requires few_restarts { length restarts.items < 2 ^ 32 }
-        ensures { let plan = plan_of nodes m periods (map line_of lines.entry.items) restarts.items
-            in MatchResult result (λ x. (x ≡ plan) × (refusal_of plan ≡ None))
+        ensures { let plan = plan_of size.nodes size.rounds size.periods
+            (map line_of lines.entry.items) restarts.items in MatchResult result
+            (λ x. (x ≡ plan) × (refusal_of plan ≡ None))
             (λ e. (e ≡ PlanError.NoMemory) ⊎ (refusal_of plan ≡ Some e)) }
     {
         let shape = Shape {
-            nodes,
-            slots: slot_count(m),
-            periods,
+            nodes: size.nodes,
+            slots: slot_count(size.rounds),
+            periods: size.periods,
         };
         let touches = accepted_touches(alloc, &shape, lines.as_slice(), restarts.as_slice())?;
-        let Ok(restarting) = restarting_sets(alloc, restarts.as_slice(), nodes, periods) else {
+        let Ok(restarting) = restarting_sets(alloc, restarts.as_slice(), size) else {
             return Err(PlanError::NoMemory);
         };
         Ok(PlanIndex {
             shape,
-            rounds: m,
+            rounds: size.rounds,
             lines,
             restarts,
             restarting,
@@ -135,7 +131,8 @@ impl<const N: usize> PlanIndex<N> {
     }
 
     pub fn nodes(&self) -> u8
-        ensures { result ≡ self.now.nodes }
+        ensures nodes { result ≡ self.now.nodes }
+        ensures shape { IsShape N self.now.nodes (slot_count self.now.rounds) self.now.periods }
     {
         self.shape.nodes
     }

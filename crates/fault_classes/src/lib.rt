@@ -16,6 +16,7 @@ pub mod laws;
 mod line;
 mod plan;
 mod rules;
+mod size;
 mod standing;
 mod touches;
 
@@ -25,3 +26,4 @@ pub use error::PlanError;
 pub use line::{FaultLine, Restart};
 pub use node_grid::Class;
 pub use plan::FaultPlan;
+pub use size::PlanSize;

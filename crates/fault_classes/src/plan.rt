@@ -1,17 +1,16 @@
 ghost use Rattle.std.specs.Prelude.{◌≡◌, ◌≢◌, ℕ, ◌^◌, ◌<◌, ◌≤◌, ◌⊎◌, None, Some, All, MatchResult};
 ghost use Rattle.std.specs.Prelude.{map, length, option_map};
-ghost use Rattle.node_grid.specs.Capacity.{IsCapacity};
 ghost use Rattle.fault_classes.specs.Change.{change_of};
 ghost use Rattle.fault_classes.specs.Line.{line_of, effect_at};
 ghost use Rattle.slot_plan.specs.Slots.{slot_count};
 ghost use Rattle.fault_classes.specs.Plan.{plan_of, restarts_at, is_clean, is_sound_in, class_of};
 ghost use Rattle.fault_classes.specs.Plan.{reference_of};
-ghost use Rattle.fault_classes.specs.Rules.{IsPlan, refusal_of};
+ghost use Rattle.fault_classes.specs.Rules.{IsSize, IsPlan, refusal_of};
 ghost use Rattle.fault_classes.specs.Budget.{IsBudget};
 
 use crate::index::PlanIndex;
 use crate::standing::{Standing, is_sound, standings_of};
-use crate::{Budget, Effect, FaultLine, PlanError, Restart};
+use crate::{Budget, Effect, FaultLine, PlanError, PlanSize, Restart};
 use node_grid::{Class, NodeSet};
 use std::alloc::Global;
 use std::marker::Model;
@@ -39,8 +38,7 @@ impl<const N: usize> Model for FaultPlan<N> {
 }
 
 impl<const N: usize> FaultPlan<N> {
-    /// The plan of these lines and restarts, for so many nodes, `m` relay rounds and so many
-    /// periods.
+    /// The plan of these lines and restarts, of this size.
     ///
     /// # Errors
     ///
@@ -50,26 +48,19 @@ impl<const N: usize> FaultPlan<N> {
     /// and names the first such place. `NoMemory`: there was no memory.
     pub fn new(
         alloc: Global,
-        nodes: u8,
-        m: u8,
-        periods: u32,
+        size: PlanSize,
         lines: Vec<FaultLine<N>>,
         restarts: Vec<Restart>,
     ) -> Result<FaultPlan<N>, PlanError>
-        requires capacity { IsCapacity N }
-        requires some_nodes { 3 ≤ nodes }
-        requires few_nodes { nodes ≤ N }
-        requires rounds { m < nodes }
-        requires few_rounds { m ≤ 3 }
-        requires some_periods { 1 ≤ periods }
-        requires few_periods { periods ≤ 1024 }
+        requires size { IsSize N size }
         requires few_lines { length lines.items < 2 ^ 32 }
         requires few_restarts { length restarts.items < 2 ^ 32 }
-        ensures { let plan = plan_of nodes m periods (map line_of lines.entry.items) restarts.items
-            in MatchResult result (λ x. (x ≡ plan) × (refusal_of plan ≡ None))
+        ensures { let plan = plan_of size.nodes size.rounds size.periods
+            (map line_of lines.entry.items) restarts.items in MatchResult result
+            (λ x. (x ≡ plan) × (refusal_of plan ≡ None))
             (λ e. (e ≡ PlanError.NoMemory) ⊎ (refusal_of plan ≡ Some e)) }
     {
-        let index = PlanIndex::new(alloc, nodes, m, periods, lines, restarts)?;
+        let index = PlanIndex::new(alloc, size, lines, restarts)?;
         let Ok(standings) = standings_of(alloc, &index) else {
             return Err(PlanError::NoMemory);
         };

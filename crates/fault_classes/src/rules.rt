@@ -46,7 +46,8 @@ fn are_slots(mask: u16, slots: u8) -> bool
 
 /// Whether a line is one of a plan of this shape.
 fn is_line<const N: usize>(line: &FaultLine<N>, shape: &Shape) -> bool
-    ensures { result ≡ is_line shape.now.nodes shape.now.slots shape.now.periods (line_of line.now) }
+    ensures { result ≡ is_line shape.now.nodes shape.now.slots shape.now.periods
+        (line_of line.now) }
 {
     line.from < shape.nodes
         && are_nodes(&line.to, shape.nodes)

@@ -27,6 +27,17 @@ pub struct Standing<const N: usize> {
     pub reference: Option<u8>,
 }
 
+/// What the lines do in one period.
+#[derive(Drop)]
+struct PeriodLines<'a, const N: usize> {
+    index: &'a PlanIndex<N>,
+    period: u32,
+    /// The nodes whose frames no line touches.
+    clean: NodeSet<N>,
+    ghost in_plan: { period < index.now.periods },
+    ghost unharmed: { clean ≡ ids_where (is_clean index.now period) index.now.nodes },
+}
+
 /// Whether a receiver sees by itself that the frame is faulty.
 fn is_manifest(effect: Option<&Effect>) -> bool
     ensures { result ≡ is_manifest (option_map (λ e. change_of e.now) effect.entry) }
@@ -35,35 +46,6 @@ fn is_manifest(effect: Option<&Effect>) -> bool
         Some(Effect::Drop | Effect::Cut(_) | Effect::Twice | Effect::Time(_)) => true,
         Some(Effect::Set { .. } | Effect::Raw(_)) | None => false,
     }
-}
-
-/// Whether each other node gets a manifest fault from the node in a slot.
-fn is_benign_at<const N: usize>(index: &PlanIndex<N>, period: u32, node: u8, slot: u8) -> bool
-    requires period { period < index.now.periods }
-    requires node { node < index.now.nodes }
-    requires slot { slot < slot_count index.now.rounds }
-    ensures { result ≡ each_in_slot index.now is_manifest period node slot }
-{
-    for to in 0..index.nodes() {
-        if to != node && !is_manifest(index.effect(period, slot, node, to)) {
-            return false;
-        }
-    }
-    true
-}
-
-/// Whether each other node gets a manifest fault from the node in every slot.
-fn is_benign<const N: usize>(index: &PlanIndex<N>, period: u32, node: u8) -> bool
-    requires period { period < index.now.periods }
-    requires node { node < index.now.nodes }
-    ensures { result ≡ each_frame index.now is_manifest period node }
-{
-    for slot in 0..index.slots() {
-        if !is_benign_at(index, period, node, slot) {
-            return false;
-        }
-    }
-    true
 }
 
 /// Whether two effects are equal.
@@ -106,212 +88,196 @@ fn first_other(node: u8) -> u8
     if node == 0 { 1 } else { 0 }
 }
 
-/// Whether the same befalls the node's frames to all other nodes in a slot.
-fn is_symmetric_at<const N: usize>(index: &PlanIndex<N>, period: u32, node: u8, slot: u8) -> bool
-    requires period { period < index.now.periods }
-    requires node { node < index.now.nodes }
-    requires slot { slot < slot_count index.now.rounds }
-    requires some { 2 ≤ index.now.nodes }
-    ensures { result ≡ is_symmetric_at index.now period node slot }
-{
-    let first = first_other(node);
-    let row = index.numbers(period, slot, node);
-    for to in 0..index.nodes() {
-        if to != node
-            && row[to as usize] != row[first as usize]
-            && !is_same(
-                index.effect(period, slot, node, first),
-                index.effect(period, slot, node, to),
-            )
-        {
-            return false;
+impl<'a, const N: usize> PeriodLines<'a, N> {
+    /// What the lines do in this period.
+    fn of(index: &'a PlanIndex<N>, period: u32) -> PeriodLines<'a, N>
+        requires { period < index.now.periods }
+        ensures index { result.index.now ≡ index.now }
+        ensures period { result.period ≡ period }
+    {
+        let all = NodeSet::full(index.nodes());
+        let clean = all.minus(&index.touched(period));
+        PeriodLines {
+            index,
+            period,
+            clean,
         }
     }
-    true
-}
 
-/// Whether the same befalls the node's frames to all other nodes in each slot.
-fn is_symmetric<const N: usize>(index: &PlanIndex<N>, period: u32, node: u8) -> bool
-    requires period { period < index.now.periods }
-    requires node { node < index.now.nodes }
-    requires some { 2 ≤ index.now.nodes }
-    ensures { result ≡ is_symmetric_in index.now period node }
-{
-    for slot in 0..index.slots() {
-        if !is_symmetric_at(index, period, node, slot) {
-            return false;
+    /// Whether each other node gets a manifest fault from the node in a slot.
+    fn is_benign_at(&self, node: u8, slot: u8) -> bool
+        requires node { node < self.now.index.now.nodes }
+        requires slot { slot < slot_count self.now.index.now.rounds }
+        ensures { result ≡ each_in_slot self.now.index.now is_manifest self.now.period node slot }
+    {
+        for to in 0..self.index.nodes() {
+            if to != node && !is_manifest(self.index.effect(self.period, slot, node, to)) {
+                return false;
+            }
+        }
+        true
+    }
+
+    /// Whether each other node gets a manifest fault from the node in every slot.
+    fn is_benign(&self, node: u8) -> bool
+        requires { node < self.now.index.now.nodes }
+        ensures { result ≡ each_frame self.now.index.now is_manifest self.now.period node }
+    {
+        for slot in 0..self.index.slots() {
+            if !self.is_benign_at(node, slot) {
+                return false;
+            }
+        }
+        true
+    }
+
+    /// Whether the same befalls the node's frames to all other nodes in a slot.
+    fn is_symmetric_at(&self, node: u8, slot: u8) -> bool
+        requires node { node < self.now.index.now.nodes }
+        requires slot { slot < slot_count self.now.index.now.rounds }
+        ensures { result ≡ is_symmetric_at self.now.index.now self.now.period node slot }
+    {
+        let first = first_other(node);
+        let row = self.index.numbers(self.period, slot, node);
+        for to in 0..self.index.nodes() {
+            if to != node
+                && row[to as usize] != row[first as usize]
+                && !is_same(
+                    self.index.effect(self.period, slot, node, first),
+                    self.index.effect(self.period, slot, node, to),
+                )
+            {
+                return false;
+            }
+        }
+        true
+    }
+
+    /// Whether the same befalls the node's frames to all other nodes in each slot.
+    fn is_symmetric(&self, node: u8) -> bool
+        requires { node < self.now.index.now.nodes }
+        ensures { result ≡ is_symmetric_in self.now.index.now self.now.period node }
+    {
+        for slot in 0..self.index.slots() {
+            if !self.is_symmetric_at(node, slot) {
+                return false;
+            }
+        }
+        true
+    }
+
+    /// Whether a node is of class N, where these were sound before the period.
+    fn is_steady(&self, node: u8, before: &NodeSet<N>) -> bool
+        requires node { node < self.now.index.now.nodes }
+        requires before { before.now ≡ ids_where
+            (sound_before self.now.index.now self.now.period) self.now.index.now.nodes }
+        ensures { result ≡ steady self.now.index.now self.now.period
+            (sound_before self.now.index.now self.now.period) node }
+    {
+        !self.index.is_restarting(node, self.period) && self.clean.has(node) && before.has(node)
+    }
+
+    /// The nodes of class N, where these were sound before the period.
+    fn steady_nodes(&self, before: &NodeSet<N>) -> NodeSet<N>
+        requires { before.now ≡ ids_where (sound_before self.now.index.now self.now.period)
+            self.now.index.now.nodes }
+        ensures { result ≡ ids_where (steady self.now.index.now self.now.period
+            (sound_before self.now.index.now self.now.period)) self.now.index.now.nodes }
+    {
+        let nodes = self.index.nodes();
+        let mut found = NodeSet::empty();
+        for node in 0..nodes {
+            if self.is_steady(node, before) {
+                found.put(node);
+            }
+        }
+        found
+    }
+
+    /// Whether the good nodes outnumber the others whose frame in slot 0 the node takes for right.
+    fn recovers(&self, node: u8, good: &NodeSet<N>) -> bool
+        requires node { node < self.now.index.now.nodes }
+        requires good { good.now ≡ ids_where (steady self.now.index.now self.now.period
+            (sound_before self.now.index.now self.now.period)) self.now.index.now.nodes }
+        ensures { result ≡ recovers_in self.now.index.now self.now.period
+            (steady self.now.index.now self.now.period
+            (sound_before self.now.index.now self.now.period)) node }
+    {
+        let mut strays = 0;
+        for other in 0..self.index.nodes() {
+            if self.is_stray(node, other, good) {
+                strays += 1;
+            }
+        }
+        strays < good.len()
+    }
+
+    /// Whether the node takes the frame of another node in slot 0 for right, though that isn't
+    /// good.
+    fn is_stray(&self, node: u8, other: u8, good: &NodeSet<N>) -> bool
+        requires node { node < self.now.index.now.nodes }
+        requires other { other < self.now.index.now.nodes }
+        ensures { result ≡ (not (other == node) && (not (has_id good.now other) && not (is_manifest
+            (effect_at self.now.index.now.lines self.now.period 0 other node)))) }
+    {
+        other != node
+            && !good.has(other)
+            && !is_manifest(self.index.effect(self.period, 0, other, node))
+    }
+
+    /// The class of a node; one that isn't sound, but that no line touches, is symmetric.
+    fn class_of(&self, node: u8, good: &NodeSet<N>) -> Class
+        requires node { node < self.now.index.now.nodes }
+        requires good { good.now ≡ ids_where (steady self.now.index.now self.now.period
+            (sound_before self.now.index.now self.now.period)) self.now.index.now.nodes }
+        ensures { result ≡ class_of self.now.index.now self.now.period node }
+    {
+        // Proofs need here that there is another node.
+        let _ = self.index.nodes();
+        if good.has(node) {
+            Class::N
+        } else if self.joins(node, good) {
+            Class::J
+        } else if self.clean.has(node) {
+            Class::S
+        } else if self.is_benign(node) {
+            Class::B
+        } else if self.is_symmetric(node) {
+            Class::S
+        } else {
+            Class::A
         }
     }
-    true
-}
 
-/// The nodes whose frames no line touches.
-fn clean_nodes<const N: usize>(index: &PlanIndex<N>, period: u32) -> NodeSet<N>
-    requires capacity { IsCapacity N }
-    requires nodes { index.now.nodes ≤ N }
-    requires period { period < index.now.periods }
-    ensures { result ≡ ids_where (is_clean index.now period) index.now.nodes }
-{
-    let all = NodeSet::full(index.nodes());
-    all.minus(&index.touched(period))
-}
+    /// Whether a node restarts and is sound.
+    fn joins(&self, node: u8, good: &NodeSet<N>) -> bool
+        requires node { node < self.now.index.now.nodes }
+        requires good { good.now ≡ ids_where (steady self.now.index.now self.now.period
+            (sound_before self.now.index.now self.now.period)) self.now.index.now.nodes }
+        ensures { result ≡ joins_in self.now.index.now self.now.period
+            (sound_before self.now.index.now self.now.period) node }
+    {
+        self.index.is_restarting(node, self.period)
+            && self.clean.has(node)
+            && self.recovers(node, good)
+    }
 
-/// Whether a node is of class N, where these are clean in the period and those were sound before
-/// it.
-fn is_steady<const N: usize>(
-    index: &PlanIndex<N>,
-    period: u32,
-    node: u8,
-    clean: &NodeSet<N>,
-    before: &NodeSet<N>,
-) -> bool
-    requires period { period < index.now.periods }
-    requires node { node < index.now.nodes }
-    requires clean { clean.now ≡ ids_where (is_clean index.now period) index.now.nodes }
-    requires before { before.now ≡ ids_where (sound_before index.now period) index.now.nodes }
-    ensures { result ≡ steady index.now period (sound_before index.now period) node }
-{
-    !index.is_restarting(node, period) && clean.has(node) && before.has(node)
-}
-
-/// The nodes of class N, where these are clean in the period and those were sound before it.
-fn steady_nodes<const N: usize>(
-    index: &PlanIndex<N>,
-    period: u32,
-    clean: &NodeSet<N>,
-    before: &NodeSet<N>,
-) -> NodeSet<N>
-    requires capacity { IsCapacity N }
-    requires nodes { index.now.nodes ≤ N }
-    requires period { period < index.now.periods }
-    requires clean { clean.now ≡ ids_where (is_clean index.now period) index.now.nodes }
-    requires before { before.now ≡ ids_where (sound_before index.now period) index.now.nodes }
-    ensures { result ≡ ids_where (steady index.now period (sound_before index.now period))
-        index.now.nodes }
-{
-    let mut found = NodeSet::empty();
-    for node in 0..index.nodes() {
-        if is_steady(index, period, node, clean, before) {
-            found.put(node);
+    /// How the nodes stand, where these were sound before the period.
+    fn standing(&self, before: &NodeSet<N>) -> Standing<N>
+        requires { before.now ≡ ids_where (sound_before self.now.index.now self.now.period)
+            self.now.index.now.nodes }
+        ensures { IsStanding self.now.index.now self.now.period result }
+    {
+        let good = self.steady_nodes(before);
+        let mut classes = [Class::A; N];
+        for node in 0..self.index.nodes() {
+            classes[node as usize] = self.class_of(node, &good);
         }
-    }
-    found
-}
-
-/// Whether the good nodes outnumber the others whose frame in slot 0 the node takes for right.
-fn recovers<const N: usize>(index: &PlanIndex<N>, period: u32, node: u8, good: &NodeSet<N>) -> bool
-    requires capacity { IsCapacity N }
-    requires nodes { index.now.nodes ≤ N }
-    requires period { period < index.now.periods }
-    requires node { node < index.now.nodes }
-    requires good { good.now ≡ ids_where (steady index.now period (sound_before index.now period))
-        index.now.nodes }
-    ensures { result ≡ recovers_in index.now period
-        (steady index.now period (sound_before index.now period)) node }
-{
-    let mut strays = 0;
-    for other in 0..index.nodes() {
-        if is_stray(index, period, node, other, good) {
-            strays += 1;
+        Standing {
+            clean: self.clean,
+            classes,
+            reference: good.least(),
         }
-    }
-    strays < good.len()
-}
-
-/// Whether the node takes the frame of another node in slot 0 for right, though that isn't good.
-fn is_stray<const N: usize>(
-    index: &PlanIndex<N>,
-    period: u32,
-    node: u8,
-    other: u8,
-    good: &NodeSet<N>,
-) -> bool
-    requires period { period < index.now.periods }
-    requires node { node < index.now.nodes }
-    requires other { other < index.now.nodes }
-    ensures { result ≡ (not (other == node)
-        && (not (has_id good.now other) && not
-        (is_manifest (effect_at index.now.lines period 0 other node)))) }
-{
-    other != node && !good.has(other) && !is_manifest(index.effect(period, 0, other, node))
-}
-
-/// The class of a node; one that isn't sound, but that no line touches, is symmetric.
-fn class_in<const N: usize>(
-    index: &PlanIndex<N>,
-    period: u32,
-    node: u8,
-    clean: &NodeSet<N>,
-    good: &NodeSet<N>,
-) -> Class
-    requires capacity { IsCapacity N }
-    requires nodes { index.now.nodes ≤ N }
-    requires some { 2 ≤ index.now.nodes }
-    requires period { period < index.now.periods }
-    requires node { node < index.now.nodes }
-    requires clean { clean.now ≡ ids_where (is_clean index.now period) index.now.nodes }
-    requires good { good.now ≡ ids_where (steady index.now period (sound_before index.now period))
-        index.now.nodes }
-    ensures { result ≡ class_of index.now period node }
-{
-    if good.has(node) {
-        Class::N
-    } else if joins(index, period, node, clean, good) {
-        Class::J
-    } else if clean.has(node) {
-        Class::S
-    } else if is_benign(index, period, node) {
-        Class::B
-    } else if is_symmetric(index, period, node) {
-        Class::S
-    } else {
-        Class::A
-    }
-}
-
-/// Whether a node restarts and is sound.
-fn joins<const N: usize>(
-    index: &PlanIndex<N>,
-    period: u32,
-    node: u8,
-    clean: &NodeSet<N>,
-    good: &NodeSet<N>,
-) -> bool
-    requires capacity { IsCapacity N }
-    requires nodes { index.now.nodes ≤ N }
-    requires period { period < index.now.periods }
-    requires node { node < index.now.nodes }
-    requires clean { clean.now ≡ ids_where (is_clean index.now period) index.now.nodes }
-    requires good { good.now ≡ ids_where (steady index.now period (sound_before index.now period))
-        index.now.nodes }
-    ensures { result ≡ joins_in index.now period (sound_before index.now period) node }
-{
-    index.is_restarting(node, period) && clean.has(node) && recovers(index, period, node, good)
-}
-
-/// How the nodes stand in a period, where these were sound before it.
-fn standing_in<const N: usize>(
-    index: &PlanIndex<N>,
-    period: u32,
-    before: &NodeSet<N>,
-) -> Standing<N>
-    requires capacity { IsCapacity N }
-    requires nodes { index.now.nodes ≤ N }
-    requires some { 2 ≤ index.now.nodes }
-    requires period { period < index.now.periods }
-    requires before { before.now ≡ ids_where (sound_before index.now period) index.now.nodes }
-    ensures { IsStanding index.now period result }
-{
-    let clean = clean_nodes(index, period);
-    let good = steady_nodes(index, period, &clean, before);
-    let mut classes = [Class::A; N];
-    for node in 0..index.nodes() {
-        classes[node as usize] = class_in(index, period, node, &clean, &good);
-    }
-    Standing {
-        clean,
-        classes,
-        reference: good.least(),
     }
 }
 
@@ -331,13 +297,12 @@ fn sound_nodes<const N: usize>(
     period: u32,
     standing: &Standing<N>,
 ) -> NodeSet<N>
-    requires capacity { IsCapacity N }
-    requires nodes { index.now.nodes ≤ N }
-    requires standing { IsStanding index.now period standing.now }
+    requires { IsStanding index.now period standing.now }
     ensures { result ≡ ids_where (sound_before index.now (suc period)) index.now.nodes }
 {
+    let nodes = index.nodes();
     let mut found = NodeSet::empty();
-    for node in 0..index.nodes() {
+    for node in 0..nodes {
         if is_sound(standing.classes[node as usize]) {
             found.put(node);
         }
@@ -350,15 +315,12 @@ pub fn standings_of<const N: usize>(
     alloc: Global,
     index: &PlanIndex<N>,
 ) -> Result<Vec<Standing<N>>, AllocError>
-    requires capacity { IsCapacity N }
-    requires nodes { index.now.nodes ≤ N }
-    requires some { 2 ≤ index.now.nodes }
     ensures { IfOk result (λ v. AreStandings index.now v.items) }
 {
     let mut before = NodeSet::full(index.nodes());
     let mut standings = Vec::with_capacity(alloc, index.periods() as usize)?;
     for period in 0..index.periods() {
-        let standing = standing_in(index, period, &before);
+        let standing = PeriodLines::of(index, period).standing(&before);
         before = sound_nodes(index, period, &standing);
         standings.push(standing)?;
     }

@@ -3,11 +3,11 @@
 //! Nothing here takes memory.
 #![tactic(auto)]
 
-ghost use Rattle.std.specs.Prelude.{◌≡◌, ◌≢◌, ℕ, ◌^◌, ◌<◌, length, replicate, option_map};
+ghost use Rattle.std.specs.Prelude.{◌≡◌, ◌^◌, ◌<◌, length, replicate, option_map};
 ghost use Rattle.fault_classes.specs.Change.{change_of};
 ghost use Rattle.fault_classes.specs.Line.{effect_at};
-ghost use Rattle.slot_plan.specs.Slots.{slot_count};
 ghost use Rattle.fault_link.specs.Arrival.{delivered_of, patched};
+ghost use Rattle.fault_link.specs.Transmission.{IsTransmission};
 
 use fault_classes::{Effect, FaultPlan};
 use slot_plan::ON_TIME;
@@ -23,29 +23,39 @@ pub struct Delivered<'a> {
     pub bytes: &'a [u8],
 }
 
-/// What arrives at node `to` of the frame `sent` by node `from` in this slot of the period.
+/// The transmission of one frame: from which node to which other, in which slot of which period.
+#[derive(Clone, Copy)]
+pub struct Transmission {
+    /// The period.
+    pub period: u32,
+    /// The slot.
+    pub slot: u8,
+    /// The sender.
+    pub from: u8,
+    /// The receiver.
+    pub to: u8,
+}
+
+/// What arrives of the frame `sent` by this transmission.
 ///
 /// The bytes are those of `sent`, of the plan, or of `scratch`, which is written only where a line
 /// sets bytes of the frame.
 pub fn deliveries<'a, const N: usize>(
     plan: &'a FaultPlan<N>,
-    period: u32,
-    slot: u8,
-    from: u8,
-    to: u8,
+    on: Transmission,
     sent: &'a [u8],
     scratch: &'a mut [u8],
 ) -> Delivered<'a>
-    requires period { period < plan.now.periods }
-    requires slot { slot < slot_count plan.now.rounds }
-    requires from { from < plan.now.nodes }
-    requires to { to < plan.now.nodes }
-    requires link { from ≢ to }
+    requires on { IsTransmission plan.now on }
     requires room { length scratch.old ≡ length sent.now }
     ensures { replicate result.copies (result.tick, result.bytes.now)
-        ≡ delivered_of (effect_at plan.now.lines period slot from to) sent.now }
+        ≡ delivered_of (effect_at plan.now.lines on.period on.slot on.from on.to) sent.now }
 {
-    arrival(plan.effect(period, slot, from, to), sent, scratch)
+    arrival(
+        plan.effect(on.period, on.slot, on.from, on.to),
+        sent,
+        scratch,
+    )
 }
 
 /// What arrives of a frame by an effect.

@@ -8,7 +8,7 @@ ghost use Rattle.node_grid.specs.Capacity.{IsCapacity};
 ghost use Rattle.omh_paths.specs.declared.wrapped.Wrapped.TheVariants.{Fault};
 ghost use Rattle.frames.specs.Checks.{are_written};
 ghost use Rattle.frames.specs.PieceLaws.{AreBytes};
-ghost use Rattle.frames.specs.Reading.{piece, content_claims, content_row, content_rows};
+ghost use Rattle.frames.specs.Reading.{content_claims, content_row, content_rows};
 ghost use Rattle.frames.specs.Spelling.{claim_spelling, row_spelling, relayed_row_spelling};
 ghost use Rattle.frames.specs.Writing.{pasted};
 
@@ -66,21 +66,6 @@ impl<'a> Cells<'a> {
         self.bytes
     }
 
-    /// Whether all entries from one place up to another have the same bytes as the first of them.
-    pub fn are_alike(&self, from: usize, until: usize) -> bool
-        requires some { from < until }
-        requires within { until ≤ length self.now.bytes.now / self.now.width }
-        ensures claims { result ≡ true → self.now.width ≡ 2 → (k : ℕ) → from ≤ k → k < until →
-            slice_index_or (content_claims self.now.bytes.now) k (Fault 0)
-            ≡ slice_index_or (content_claims self.now.bytes.now) from (Fault 0) }
-        ensures rows { result ≡ true → (capacity nodes : ℕ) → self.now.width ≡ 1 + 2 * nodes →
-            (k : ℕ) → from ≤ k → k < until →
-            slice_index_or (content_rows capacity nodes self.now.bytes.now) k (Fault 0)
-            ≡ slice_index_or (content_rows capacity nodes self.now.bytes.now) from (Fault 0) }
-    {
-        are_alike(self.bytes, self.width, from, until)
-    }
-
     /// The claim of entry `k`.
     pub fn done_at(&self, k: usize) -> Wrapped<u8>
         requires wide { self.now.width ≡ 2 }
@@ -107,19 +92,6 @@ impl<'a> Cells<'a> {
             tag => Wrapped::Fault(tag),
         }
     }
-}
-
-/// Whether all pieces of one width from one place up to another are the same bytes as the first of
-/// them.
-fn are_alike(bytes: &[u8], width: usize, from: usize, until: usize) -> bool
-    requires some { from < until }
-    requires within { until * width ≤ length bytes.now }
-    ensures { result ≡ true → (k : ℕ) → from ≤ k → k < until → piece width bytes.now k
-        ≡ piece width bytes.now from }
-{
-    let first = from * width;
-    let last = until * width - width;
-    bytes[first..last] == bytes[first + width..last + width]
 }
 
 /// The row of the first `nodes` nodes' masks.

@@ -5,7 +5,7 @@ ghost use Rattle.node_grid.specs.Capacity.{IsCapacity};
 ghost use Rattle.frames.specs.Spelling.{IsFrame, head_of};
 ghost use Rattle.frames.specs.Reading.{reading, content_said};
 ghost use Rattle.frames.specs.Checks.{IsSaid};
-ghost use Rattle.frames.specs.Seen.{content, expected, HasWidth};
+ghost use Rattle.frames.specs.Seen.{content, expected, number_of, HasWidth};
 
 use crate::cells::{Cells, read_row};
 use crate::encoding::HEADER;
@@ -14,19 +14,17 @@ use crate::kind::Kind;
 use crate::values::Values;
 
 /// The body of a kind that the bytes are known to be. No entry is looked at.
-fn known_body<'a, const N: usize>(expect: &Expect<N>, kind: u8, bytes: &'a [u8]) -> Body<'a, N>
+fn known_body<'a, const N: usize>(expect: &Expect<N>, kind: Kind, bytes: &'a [u8]) -> Body<'a, N>
     requires capacity { IsCapacity N }
     requires some_nodes { 0 < expect.now.nodes }
     requires nodes { expect.now.nodes ≤ N }
-    requires first { 1 ≤ kind }
-    requires last { kind ≤ 7 }
-    requires said { IsSaid (expected expect.now) (content_said (expected expect.now) kind bytes.now)
-        bytes.now }
+    requires said { IsSaid (expected expect.now)
+        (content_said (expected expect.now) (number_of kind) bytes.now) bytes.now }
     ensures says { content expect.now.nodes result
-        ≡ content_said (expected expect.now) kind bytes.now }
+        ≡ content_said (expected expect.now) (number_of kind) bytes.now }
     ensures widths { HasWidth expect.now.nodes result }
 {
-    match Kind::numbered(kind) {
+    match kind {
         Kind::State => Body::State(bytes),
         Kind::Done0 => Body::Done0(bytes[0]),
         Kind::DoneRelay => Body::DoneRelay(Cells::over(bytes, 2)),
@@ -54,6 +52,6 @@ pub fn decode_known<'a, const N: usize>(expect: &Expect<N>, bytes: &'a [u8]) -> 
     let (front, body) = bytes.split_at(HEADER);
     Frame {
         head: expect.head(),
-        body: known_body(expect, front[3], body),
+        body: known_body(expect, Kind::numbered(front[3]), body),
     }
 }

@@ -21,4 +21,5 @@ pub use decoding::decode;
 pub use encoding::{HEADER, encode, header, is_header};
 pub use frame::{Body, Expect, Frame, Head, StateBody};
 pub use known::decode_known;
+pub use pieces::write_at;
 pub use values::{Values, put_value};

@@ -6,7 +6,7 @@ ghost use Rattle.frames.specs.Checks.{are_masks, are_zero};
 ghost use Rattle.frames.specs.Writing.{pasted};
 
 /// Writes `bytes` from `at` on.
-pub(crate) fn write_at(out: &mut [u8], at: usize, bytes: &[u8])
+pub fn write_at(out: &mut [u8], at: usize, bytes: &[u8])
     requires { at + length bytes.now ≤ length out.old }
     ensures { out.new ≡ pasted at bytes.now out.old }
 {

@@ -12,10 +12,10 @@ ghost use Rattle.agreed_state.specs.Agreed.{AgreedView, IsAgreed};
 ghost use Rattle.protocol.specs.Configured.{setting_of};
 ghost use Rattle.protocol.specs.View.{due_channels};
 ghost use Rattle.shared_states.specs.declared.belief.Belief.{Belief};
-ghost use Rattle.shared_states.specs.Sharing.{state_at, AreAgreed};
+ghost use Rattle.shared_states.specs.Sharing.{state_at};
 ghost use Rattle.view_law.specs.Made.{by_verdicts};
 ghost use Rattle.view_law.specs.Laws.{IsWithin};
-ghost use Rattle.grouped_nodes.specs.Shared.{AreShared, belief_of, notes_at};
+ghost use Rattle.grouped_nodes.specs.Shared.{AreGrouped, CanNote, belief_of, notes_at};
 
 use crate::Groups;
 use crate::due::due_after;
@@ -50,7 +50,6 @@ fn follow<const N: usize>(
 
 /// Whether one of the verdicts holds something against its node.
 fn blames_any<const N: usize>(judged: &[Verdict; N]) -> bool
-    requires { IsCapacity N }
     ensures { result ≡ false → (j : ℕ) → j < N →
         slice_index_or judged.now j no_verdict ≡ no_verdict }
 {
@@ -111,14 +110,8 @@ pub fn complete<const N: usize>(
 )
     requires capacity { IsCapacity N }
     requires config { IsConfig N config.now }
-    requires agreed { AreAgreed config.now states.now }
-    requires shared { AreShared N groups.now states.now }
-    requires many_beliefs { length beliefs.old ≡ N }
-    requires many_notes { length notes.old ≡ N }
-    requires kinds { (i : ℕ) (a : AgreedView) → i < N → state_at states.now i ≡ Some a →
-        (notes_at notes.old i).kinds ≤ 16 }
-    requires within { (i : ℕ) (a : AgreedView) → i < N → state_at states.now i ≡ Some a →
-        IsWithin N (notes_at notes.old i) }
+    requires grouped { AreGrouped config.now groups.now states.now beliefs.old }
+    requires notes { CanNote N states.now notes.old }
     ensures due { (i : ℕ) (a : AgreedView) (d : Belief N) → i < N → state_at states.now i ≡ Some a →
         (belief_of d beliefs.new groups.now i).due.items ≡
         due_channels (setting_of config.now) a (belief_of d beliefs.old groups.now i).done }

@@ -1,12 +1,12 @@
 //! The states after a period.
 
-ghost use Rattle.std.specs.Prelude.{◌≡◌, ℕ, ◌<◌, length, None, Some};
+ghost use Rattle.std.specs.Prelude.{◌≡◌, ℕ, ◌<◌, None, Some};
 ghost use Rattle.node_grid.specs.Capacity.{IsCapacity};
 ghost use Rattle.agreed_state.specs.Config.{IsConfig};
 ghost use Rattle.agreed_state.specs.Agreed.{AgreedView, IsAgreed, agreed_after};
 ghost use Rattle.shared_states.specs.declared.belief.Belief.{Belief};
 ghost use Rattle.shared_states.specs.Sharing.{state_at, AreAgreed};
-ghost use Rattle.grouped_nodes.specs.Shared.{AreShared, belief_of};
+ghost use Rattle.grouped_nodes.specs.Shared.{AreGrouped, belief_of};
 
 use crate::Groups;
 use agreed_state::{Agreed, Config};
@@ -41,9 +41,7 @@ pub fn step<const N: usize>(
 )
     requires capacity { IsCapacity N }
     requires config { IsConfig N config.now }
-    requires agreed { AreAgreed config.now states.old }
-    requires shared { AreShared N groups.now states.old }
-    requires many { length beliefs.now ≡ N }
+    requires grouped { AreGrouped config.now groups.now states.old beliefs.now }
     ensures stepped { (i : ℕ) (a : AgreedView) (d : Belief N) → i < N →
         state_at states.old i ≡ Some a → state_at states.new i
         ≡ Some (agreed_after N config.now period a

@@ -2,6 +2,7 @@ pub mod Talks
 pub mod Coming
 pub mod Hearing
 pub mod Passing
+pub mod Frames
 pub mod TalkLaws
 pub use Rattle.omh_paths.specs.Paths
 pub use Rattle.omh.specs.Omh

@@ -8,6 +8,7 @@ ghost use Rattle.fault_classes.specs.Plan.{is_clean};
 ghost use Rattle.omh_paths.specs.Paths.{place_in};
 ghost use Rattle.protocol.specs.Heard.{paths_of};
 ghost use Rattle.heard_links.specs.Talks.{IsSet, IsJudged, members_at};
+ghost use Rattle.heard_links.specs.Frames.{IsRead};
 ghost use Rattle.heard_links.specs.Hearing.{source};
 
 use crate::phase::Phase;
@@ -30,12 +31,7 @@ pub(crate) fn front_of(path: &Path) -> Path
 impl<'p, const N: usize> Phase<'p, N> {
     /// The place of the entry that node `i` reads for a path in the relay frame of node `q`.
     pub(crate) fn place(&self, i: u8, q: u8, front: &Path) -> usize
-        requires set { IsSet self.now }
-        requires node { i < N }
-        requires member { has_id (members_at self.now i) q ≡ true }
-        requires within { (x : ℕ) → has_id front.now x ≡ true →
-            has_id (without_id (members_at self.now i) q) x ≡ true }
-        requires short { length front.now ≤ 3 }
+        requires { IsRead self.now i q front.now }
         ensures place { result ≡
             place_in (paths_of (members_at self.now i) (length front.now) q) front.now }
         ensures within { result < length (paths_of (members_at self.now i) (length front.now) q) }
@@ -47,12 +43,7 @@ impl<'p, const N: usize> Phase<'p, N> {
     /// The path of which node `q` meant the entry that node `i` reads for a path, where it has
     /// such an entry.
     pub(crate) fn source(&self, i: u8, q: u8, front: &Path) -> Option<Path>
-        requires set { IsSet self.now }
-        requires node { i < N }
-        requires member { has_id (members_at self.now i) q ≡ true }
-        requires within { (x : ℕ) → has_id front.now x ≡ true →
-            has_id (without_id (members_at self.now i) q) x ≡ true }
-        requires short { length front.now ≤ 3 }
+        requires read { IsRead self.now i q front.now }
         requires distinct { Distinct front.now }
         ensures { result ≡ source (has_id self.now.full q) (members_at self.now q)
             (members_at self.now i) q front.now }
@@ -68,12 +59,7 @@ impl<'p, const N: usize> Phase<'p, N> {
 
     /// The same where the two go by other members.
     fn other_source(&self, i: u8, q: u8, front: &Path) -> Option<Path>
-        requires set { IsSet self.now }
-        requires node { i < N }
-        requires member { has_id (members_at self.now i) q ≡ true }
-        requires within { (x : ℕ) → has_id front.now x ≡ true →
-            has_id (without_id (members_at self.now i) q) x ≡ true }
-        requires short { length front.now ≤ 3 }
+        requires { IsRead self.now i q front.now }
         ensures { result ≡ source true (members_at self.now q) (members_at self.now i) q front.now }
     {
         let its = self.members_of(q);

@@ -12,6 +12,7 @@ ghost use Rattle.protocol.specs.Talk.{rounds_upto};
 ghost use Rattle.heard_links.specs.Talks.{IsSet, members_at};
 ghost use Rattle.heard_links.specs.Hearing.{IsHeard, IsAlikeFrom, is_asked, is_asked_by, is_even};
 ghost use Rattle.heard_links.specs.Hearing.{talk_in};
+ghost use Rattle.heard_links.specs.Frames.{AreHearers};
 ghost use Rattle.heard_links.specs.Passing.{ArePassedOn, says_of};
 
 use crate::came::Came;
@@ -151,13 +152,8 @@ impl<V: Item<N>, const N: usize> Links<V, N> {
     /// Whether two other nodes hear the same of a node's own word in a round, in place of what it
     /// says.
     fn is_alike_from(&self, phase: &Phase<'_, N>, round: u8, q: u8, i: u8, j: u8) -> bool
-        requires heard { IsHeard V.form V.first_slot V.tells phase.now self.now
-            (phase.now.config.now.m + 1) }
-        requires few { round ≤ phase.now.config.now.m }
+        requires hearers { AreHearers V.form V.first_slot V.tells phase.now self.now round i j }
         requires from { q < phase.now.config.now.nodes }
-        requires one { has_id phase.now.awake i ≡ true }
-        requires other { has_id phase.now.awake j ≡ true }
-        requires two { i ≢ j }
         ensures { result ≡ true → IsAlikeFrom (talk_in V.form phase.now self.now) round q i j }
     {
         if q == i {
@@ -171,12 +167,7 @@ impl<V: Item<N>, const N: usize> Links<V, N> {
 
     /// The same where node `i` may go without that node.
     fn is_word_alike(&self, phase: &Phase<'_, N>, round: u8, q: u8, i: u8, j: u8) -> bool
-        requires heard { IsHeard V.form V.first_slot V.tells phase.now self.now
-            (phase.now.config.now.m + 1) }
-        requires few { round ≤ phase.now.config.now.m }
-        requires one { has_id phase.now.awake i ≡ true }
-        requires other { has_id phase.now.awake j ≡ true }
-        requires two { i ≢ j }
+        requires { AreHearers V.form V.first_slot V.tells phase.now self.now round i j }
         ensures { result ≡ true → has_id (members_at phase.now i) q ≡ true →
             IsAlikeFrom (talk_in V.form phase.now self.now) round q i j }
     {
@@ -190,12 +181,7 @@ impl<V: Item<N>, const N: usize> Links<V, N> {
     /// Whether two other nodes with the same members hear the same of all words in a round, in
     /// place of what is said.
     fn is_round_alike(&self, phase: &Phase<'_, N>, round: u8, i: u8, j: u8) -> bool
-        requires heard { IsHeard V.form V.first_slot V.tells phase.now self.now
-            (phase.now.config.now.m + 1) }
-        requires few { round ≤ phase.now.config.now.m }
-        requires one { has_id phase.now.awake i ≡ true }
-        requires other { has_id phase.now.awake j ≡ true }
-        requires two { i ≢ j }
+        requires hearers { AreHearers V.form V.first_slot V.tells phase.now self.now round i j }
         requires members { members_at phase.now i ≡ members_at phase.now j }
         ensures { result ≡ true → HearAlike (says_of V.form phase.now self.now) i j (round + 1) }
     {

@@ -15,6 +15,7 @@ ghost use Rattle.heard_links.specs.Talks.{IsSet, members_at, phase_talk};
 ghost use Rattle.node_grid.specs.Capacity.{IsCapacity};
 ghost use Rattle.std.specs.Prelude.{false};
 ghost use Rattle.heard_links.specs.declared.came.Came.TheVariants as came;
+ghost use Rattle.heard_links.specs.Frames.{IsLink, IsRead};
 ghost use Rattle.heard_links.specs.Hearing.{talk_in, came_at, IsHeard, IsAsked, source, passed_on};
 
 use crate::asking::front_of;
@@ -28,13 +29,8 @@ use touched_items::{Item, entry};
 impl<'p, const N: usize> Phase<'p, N> {
     /// What node `i` reads for a path in the good relay frame of node `q`, which meant `own` there.
     fn entry<V: Item<N>>(&self, i: u8, q: u8, front: &Path, own: Wrapped<V>) -> Wrapped<V>
-        requires set { IsSet self.now }
-        requires node { has_id self.now.awake i ≡ true }
-        requires member { has_id (members_at self.now i) q ≡ true }
-        requires within { (x : ℕ) → has_id front.now x ≡ true →
-            has_id (without_id (members_at self.now i) q) x ≡ true }
-        requires short { length front.now ≤ self.now.config.now.m }
-        requires other { i ≢ q }
+        requires read { IsRead self.now i q front.now }
+        requires link { IsLink self.now (length front.now) q i }
         ensures { (item : ℕ → V) (c : Content) (xs : List (Wrapped V)) →
             let t = phase_talk V.form self.now item in
             let r = length front.now in

@@ -10,6 +10,7 @@ ghost use Rattle.heard_links.specs.Talks.{AreUneven, IsEvenTo, IsJudged, IsSet, 
 ghost use Rattle.heard_links.specs.declared.came.Came.TheVariants as came;
 ghost use Rattle.heard_links.specs.Hearing.{ActsAs, IsCame, IsHeard, came_at, item_of, link_at};
 ghost use Rattle.heard_links.specs.Hearing.{talk_in, is_even, frame_kind};
+ghost use Rattle.heard_links.specs.Frames.{IsJudgeable, IsLink};
 ghost use Rattle.protocol.specs.Talk.{rounds_upto};
 
 use crate::came::Came;
@@ -44,11 +45,7 @@ impl<'p, const N: usize> Phase<'p, N> {
     /// Whether a frame of a round comes as it was sent, and is read by the members by which it was
     /// sent.
     fn is_even_to(&self, round: u8, from: u8, to: u8) -> bool
-        requires set { IsSet self.now }
-        requires round { round ≤ self.now.config.now.m }
-        requires from { from < self.now.config.now.nodes }
-        requires to { to < self.now.config.now.nodes }
-        requires link { from ≢ to }
+        requires { IsLink self.now round from to }
         ensures { result ≡ true → IsEvenTo self.now round from to }
     {
         self.effect(round, from, to).is_none() && self.is_read_alike(round, from, to)
@@ -74,9 +71,7 @@ impl<'p, const N: usize> Phase<'p, N> {
 impl<V: Item<N>, const N: usize> Links<V, N> {
     /// What comes of a first frame with this effect.
     fn judge_first(&self, phase: &Phase<'_, N>, from: u8, to: u8, effect: &Effect) -> Came<V>
-        requires heard { IsHeard V.form V.first_slot V.tells phase.now self.now 0 }
-        requires from { from < phase.now.config.now.nodes }
-        requires to { has_id phase.now.awake to ≡ true }
+        requires frame { IsJudgeable V.form V.first_slot V.tells phase.now self.now 0 from to }
         requires acts { ActsAs (change_of effect.now)
             ((talk_in V.form phase.now self.now).change 0 from to) }
         requires uneven { is_even (talk_in V.form phase.now self.now) 0 from to ≡ false }
@@ -99,11 +94,8 @@ impl<V: Item<N>, const N: usize> Links<V, N> {
         to: u8,
         effect: &Effect,
     ) -> Option<u8>
-        requires heard { IsHeard V.form V.first_slot V.tells phase.now self.now round }
+        requires frame { IsJudgeable V.form V.first_slot V.tells phase.now self.now round from to }
         requires some { 0 < round }
-        requires few { round ≤ phase.now.config.now.m }
-        requires from { from < phase.now.config.now.nodes }
-        requires to { has_id phase.now.awake to ≡ true }
         requires acts { ActsAs (change_of effect.now)
             ((talk_in V.form phase.now self.now).change round from to) }
         ensures { result ≡ frame_kind (rounds_upto (talk_in V.form phase.now self.now)
@@ -131,11 +123,8 @@ impl<V: Item<N>, const N: usize> Links<V, N> {
         to: u8,
         effect: &Effect,
     ) -> Came<V>
-        requires heard { IsHeard V.form V.first_slot V.tells phase.now self.now round }
+        requires frame { IsJudgeable V.form V.first_slot V.tells phase.now self.now round from to }
         requires some { 0 < round }
-        requires few { round ≤ phase.now.config.now.m }
-        requires from { from < phase.now.config.now.nodes }
-        requires to { has_id phase.now.awake to ≡ true }
         requires acts { ActsAs (change_of effect.now)
             ((talk_in V.form phase.now self.now).change round from to) }
         requires uneven { is_even (talk_in V.form phase.now self.now) round from to ≡ false }
@@ -150,11 +139,7 @@ impl<V: Item<N>, const N: usize> Links<V, N> {
 
     /// What comes of the frame of a round from one node to another.
     fn judge(&self, phase: &Phase<'_, N>, round: u8, from: u8, to: u8) -> Came<V>
-        requires heard { IsHeard V.form V.first_slot V.tells phase.now self.now round }
-        requires few { round ≤ phase.now.config.now.m }
-        requires from { from < phase.now.config.now.nodes }
-        requires to { has_id phase.now.awake to ≡ true }
-        requires other { to ≢ from }
+        requires { IsJudgeable V.form V.first_slot V.tells phase.now self.now round from to }
         ensures { IsCame (talk_in V.form phase.now self.now) phase.now.config.now.m round from to
             result }
     {

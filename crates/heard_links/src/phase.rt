@@ -7,6 +7,7 @@ ghost use Rattle.fault_classes.specs.Line.{effect_at};
 ghost use Rattle.frames.specs.Seen.{expected};
 ghost use Rattle.agreed_state.specs.Expecting.{expectation};
 ghost use Rattle.heard_links.specs.Talks.{IsSet, members_at};
+ghost use Rattle.heard_links.specs.Frames.{IsLink};
 
 use agreed_state::Config;
 use fault_classes::{Effect, FaultPlan};
@@ -36,11 +37,7 @@ pub struct Phase<'p, const N: usize> {
 impl<'p, const N: usize> Phase<'p, N> {
     /// What befalls the frame of a round from one node to another.
     pub(crate) fn effect(&self, round: u8, from: u8, to: u8) -> Option<&Effect>
-        requires set { IsSet self.now }
-        requires round { round ≤ self.now.config.now.m }
-        requires from { from < self.now.config.now.nodes }
-        requires to { to < self.now.config.now.nodes }
-        requires link { from ≢ to }
+        requires { IsLink self.now round from to }
         ensures { option_map (λ e. change_of e.now) result ≡
             effect_at self.now.plan.now.lines self.now.period (self.now.first + round) from to }
     {

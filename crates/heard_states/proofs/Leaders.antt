@@ -113,13 +113,13 @@ terms low teller bodies v (q ∷ qs) h =
 
 module _ {N : ℕ} {s : Sending N} (ok : IsSending s) (i j : ℕ) (used : i < s.slot.config.now.nodes) (none : state_at s.states.now i ≡ None) (l : IsLeader s j) where
   not_me : (q : ℕ) → has_id s.senders.full q ≡ true → q ≢ i
-  not_me q on e = let z : false ≡ true = sym (ap is_some none) ∙ ap (λ k. is_some (state_at s.states.now k)) (sym e) ∙ ok.senders.there q on in cc
+  not_me q on e = let z : false ≡ true = sym (ap is_some none) ∙ ap (λ k. is_some (state_at s.states.now k)) (sym e) ∙ ok.there q on in cc
 
   told_leader : (q : ℕ) (a : AgreedView) → state_at s.states.now j ≡ Some a → IsTeller s j q → told_by s i q ≡ Good (body s.slot.config.now a)
   told_leader q a e t =
       ap (told_state s.slot.config.now s.slot.plan.now s.slot.period i q) (cond-true (has_id s.senders.full q) (state_at s.states.now q) None t.full ∙ t.shared.1 ∙ e)
-      ∙ told_clean s.slot.config.now ok.slot.capacity ok.slot.config s.slot.period q s.slot.plan.now i a (ok.senders.agreed j a e)
-      (ok.senders.untouched q i (ok.senders.used q t.full) used (not_me q t.full) t.untouched)
+      ∙ told_clean s.slot.config.now ok.slot_is.capacity ok.slot_is.config s.slot.period q s.slot.plan.now i a (ok.agreed j a e)
+      (ok.untouched q i (ok.used q t.full) used (not_me q t.full) t.untouched)
 
   pub leader_there : is_some (state_at s.states.now j) ≡ true
   leader_there = by l.tellers refl
@@ -137,12 +137,12 @@ module _ {N : ℕ} {s : Sending N} (ok : IsSending s) (i j : ℕ) (used : i < s.
       let bodies : ℕ → Option (List ℕ) = λ q. if nat_lt q config.nodes && not (q == i) then content (told_by s i q) else None in
       let t = terms (λ q. nat_lt q config.nodes) (λ q. has_id l.tellers q) bodies (Plain own) (ids_below N)
       (λ q. term_one own (nat_lt q config.nodes) (not (q == i)) (has_id l.tellers q) (told_by s i q)
-      (λ on. let t = l.tell q on in (lt-ltb _ _ (ok.senders.used q t.full), (ap not (ne_eqb q i (not_me q t.full)), told_leader q h.0 h.1 t)))) in
+      (λ on. let t = l.tell q on in (lt-ltb _ _ (ok.used q t.full), (ap not (ne_eqb q i (not_me q t.full)), told_leader q h.0 h.1 t)))) in
       let few = low_few config.nodes 0 N in
       let many = l.many in
       let t_few = t.few in
       let t_more = t.more in
       let ids : length l.tellers ≡ count (λ q. has_id l.tellers q) (ids_below N) = ap length l.ids ∙ length_count (λ q. has_id l.tellers q) (ids_below N) in
       ap (state_read N config) (majority_is paths_exact (map offered (map bodies (ids_below N))) (Plain own) refl (omega arith))
-      ∙ read_back N config h.0 (capacity-le N ok.slot.capacity) ok.slot.config (ok.senders.agreed j h.0 h.1)
+      ∙ read_back N config h.0 (capacity-le N ok.slot_is.capacity) ok.slot_is.config (ok.agreed j h.0 h.1)
       ∙ sym h.1

@@ -33,7 +33,7 @@ module _ {N : ℕ} (x : Sending N) (ok : IsSending x) where
   sent_agreed j a e = by (has_id x.senders.full j) refl
     where
       by : (b : Bool) → has_id x.senders.full j ≡ b → IsAgreed N x.slot.config.now a
-      by true on = ok.senders.agreed j a (sym (cond-true (has_id x.senders.full j) (state_at x.states.now j) None on) ∙ e)
+      by true on = ok.agreed j a (sym (cond-true (has_id x.senders.full j) (state_at x.states.now j) None on) ∙ e)
       by false off = absurd (let z : None ≡ Some a = sym (cond-false (has_id x.senders.full j) (state_at x.states.now j) None off) ∙ e in cc)
 
   -- a frame that no line touches arrives as it is sent
@@ -41,8 +41,8 @@ module _ {N : ℕ} (x : Sending N) (ok : IsSending x) where
   told_sent i j clean = by (sent_by x.senders.full x.states.now j) refl
     where
       by : (o : Option AgreedView) → sent_by x.senders.full x.states.now j ≡ o → told_as x.slot.config.now o Sent ≡ told_state x.slot.config.now x.slot.plan.now x.slot.period i j o
-      by None e = sym (told_cold x.slot.config.now ok.slot.capacity ok.slot.config x.slot.period j x.slot.plan.now i clean)
-      by (Some a) e = sym (told_clean x.slot.config.now ok.slot.capacity ok.slot.config x.slot.period j x.slot.plan.now i a (sent_agreed j a e) clean)
+      by None e = sym (told_cold x.slot.config.now ok.slot_is.capacity ok.slot_is.config x.slot.period j x.slot.plan.now i clean)
+      by (Some a) e = sym (told_clean x.slot.config.now ok.slot_is.capacity ok.slot_is.config x.slot.period j x.slot.plan.now i a (sent_agreed j a e) clean)
 
   -- what is said is a state of the right length, or that the node is cold
   pub said_is : (j : ℕ) → IsSaid (state_len x.slot.config.now) (state_content (setting_of x.slot.config.now) (sent_by x.senders.full x.states.now j))
@@ -50,7 +50,7 @@ module _ {N : ℕ} (x : Sending N) (ok : IsSending x) where
     where
       by : (o : Option AgreedView) → sent_by x.senders.full x.states.now j ≡ o → IsSaid (state_len x.slot.config.now) (state_content (setting_of x.slot.config.now) o)
       by None e = tt
-      by (Some a) e = body_long x.slot.config.now ok.slot.capacity ok.slot.config x.slot.period j a (sent_agreed j a e)
+      by (Some a) e = body_long x.slot.config.now ok.slot_is.capacity ok.slot_is.config x.slot.period j a (sent_agreed j a e)
 
   -- the content of the frame of a full node, and of any other
   pub said_full : (j : ℕ) (bytes : List ℕ) → has_id x.senders.full j ≡ true → ((a : AgreedView) → sent_by x.senders.full x.states.now j ≡ Some a → bytes ≡ body x.slot.config.now a)
@@ -62,7 +62,7 @@ module _ {N : ℕ} (x : Sending N) (ok : IsSending x) where
 
       by : (o : Option AgreedView) → state_at x.states.now j ≡ o → State bytes ≡ state_content (setting_of x.slot.config.now) (sent_by x.senders.full x.states.now j)
       by (Some a) e = ap State (is a (sent ∙ e)) ∙ sym (ap (state_content (setting_of x.slot.config.now)) (sent ∙ e))
-      by None e = absurd (let z : false ≡ true = sym (ap is_some e) ∙ ok.senders.there j on in cc)
+      by None e = absurd (let z : false ≡ true = sym (ap is_some e) ∙ ok.there j on in cc)
 
   pub said_cold : (j : ℕ) → has_id x.senders.full j ≡ false → Cold ≡ state_content (setting_of x.slot.config.now) (sent_by x.senders.full x.states.now j)
   said_cold j off = sym (ap (state_content (setting_of x.slot.config.now)) (cond-false (has_id x.senders.full j) (state_at x.states.now j) None off))
@@ -73,7 +73,7 @@ module _ {N : ℕ} (x : Sending N) (ok : IsSending x) where
       → ((sender : Expectation) → IsSentAs sender e.nodes head (content e.nodes frame) → seen e.nodes r ≡ arrives Some (Some change) sender (expected e) (content e.nodes frame))
       → seen e.nodes r ≡ arrives Some (Some change) (expected_of x.slot.config.now x.slot.period j) (expected_of x.slot.config.now x.slot.period j) (state_content (setting_of x.slot.config.now) (sent_by x.senders.full x.states.now j))
   arrived_read j change e frame head r is said head_is read =
-      let fits = said_fits x.slot.config.now ok.slot.capacity ok.slot.config x.slot.period j (state_content (setting_of x.slot.config.now) (sent_by x.senders.full x.states.now j)) (said_is j) in
+      let fits = said_fits x.slot.config.now ok.slot_is.capacity ok.slot_is.config x.slot.period j (state_content (setting_of x.slot.config.now) (sent_by x.senders.full x.states.now j)) (said_is j) in
       read (expected e) (record {
         nodes_are = refl;
         head_is = sym head_is;
@@ -90,4 +90,4 @@ module _ {N : ℕ} (x : Sending N) (ok : IsSending x) where
 
       by : (o : Option AgreedView) → state_at x.states.now j ≡ o → (b : AgreedView) × (state_at x.states.now j ≡ Some b) × (told_as x.slot.config.now (sent_by x.senders.full x.states.now j) Sent ≡ Good (body x.slot.config.now b))
       by (Some b) e = (b, e, ap (λ (o : Option AgreedView). told_as x.slot.config.now o Sent) (sent ∙ e))
-      by None e = absurd (let z : false ≡ true = sym (ap is_some e) ∙ ok.senders.there j on in cc)
+      by None e = absurd (let z : false ≡ true = sym (ap is_some e) ∙ ok.there j on in cc)

@@ -58,9 +58,9 @@ pub record IsHeardTo {n : ℕ} (slot : SyncSlot n) (full : List ℕ) (old : List
   pub wide : length heard ≡ n
 
 -- what is sent stays what it was
-pub senders_kept : {n : ℕ} (slot : SyncSlot n) (full touched : List ℕ) (old now : List (Option AgreedView)) → ((j : ℕ) → has_id full j ≡ true → is_some (state_at old j) ≡ true) → ((j : ℕ) → has_id full j ≡ true → j < slot.config.now.nodes)
+pub senders_kept : {n : ℕ} (slot : SyncSlot n) → IsSyncSlot slot → (full touched : List ℕ) (old now : List (Option AgreedView)) → ((j : ℕ) → has_id full j ≡ true → is_some (state_at old j) ≡ true) → ((j : ℕ) → has_id full j ≡ true → j < slot.config.now.nodes)
     → AreUntouched slot touched → length now ≡ n → AreAgreed slot.config.now now → ((j : ℕ) → has_id full j ≡ true → state_at now j ≡ state_at old j) → AreSenders slot (record { full = full; touched = touched }) now
-senders_kept slot full touched old now there used untouched long agreed kept = record { long = long; agreed = agreed; used = used; there = λ j on. ap is_some (kept j on) ∙ there j on; untouched = untouched }
+senders_kept slot ok full touched old now there used untouched long agreed kept = record { slot_is = ok; long = long; agreed = agreed; used = used; there = λ j on. ap is_some (kept j on) ∙ there j on; untouched = untouched }
 
 pub none_at : (o : Option AgreedView) → (is_some o ≡ true → ⊥) → o ≡ None
 none_at None h = refl

@@ -1,5 +1,5 @@
 -- What one node has of another one's frame of the sync slot, and what it makes of it.
-use Rattle.std.specs.Prelude.{◌≡◌, ℕ, ◌≤◌, Bool, true, false, not, ◌&&◌, ◌==◌, nat_lt, List, length, Option, None, Some, if◌then◌else◌}
+use Rattle.std.specs.Prelude.{◌≡◌, ◌≢◌, ℕ, ◌<◌, ◌≤◌, Bool, true, false, not, ◌&&◌, ◌==◌, nat_lt, List, length, Option, None, Some, if◌then◌else◌}
 use Rattle.node_grid.specs.Kinds.{state, cold}
 use Rattle.frames.specs.Content.{Content, State, Cold}
 use Rattle.agreed_state.specs.declared.config.Config.{Config}
@@ -8,7 +8,6 @@ use Rattle.agreed_state.specs.Body.{body}
 use Rattle.protocol.specs.Arrival.{Arrival, is_good}
 use Rattle.protocol.specs.Arrival.Arrival.{Bad, Good}
 use Rattle.protocol.specs.View.{content, other_body}
-use Rattle.heard_states.specs.Slot.{IsSyncSlot}
 use Rattle.heard_states.specs.Told.{told_in, AreSenders}
 use Rattle.heard_states.specs.declared.sending.Told.{Told}
 use Rattle.heard_states.specs.declared.sending.Told.TheVariants as told
@@ -20,9 +19,15 @@ use Rattle.heard_states.specs.declared.hearing.Heard.TheVariants as heard
 abbrev pub told_by : {N : ℕ} → Sending N → ℕ → ℕ → Arrival (List ℕ)
 told_by s i j = told_in s.slot s.senders.full s.states.now i j
 
-pub record IsSending {N : ℕ} (s : Sending N) : Type 0 where
-  pub slot : IsSyncSlot s.slot
-  pub senders : AreSenders s.slot s.senders s.states.now
+abbrev pub IsSending : {N : ℕ} → Sending N → Type 0
+IsSending s = AreSenders s.slot s.senders s.states.now
+
+-- the frame of node j to another node, both of them in use
+pub record IsFrame {N : ℕ} (s : Sending N) (j i : ℕ) : Type 0 where
+  pub sending : IsSending s
+  pub from : j < s.slot.config.now.nodes
+  pub to : i < s.slot.config.now.nodes
+  pub other : j ≢ i
 
 -- what the code has of a frame that says this state, or that its sender is cold
 abbrev pub told_as : {N : ℕ} → Config N → Option AgreedView → Told → Arrival (List ℕ)

@@ -4,7 +4,7 @@ use Rattle.node_grid.specs.NodeSet.{has_id}
 use Rattle.agreed_state.specs.Agreed.{AgreedView}
 use Rattle.protocol.specs.Arrival.{Arrival}
 use Rattle.shared_states.specs.Sharing.{state_at, AreAgreed}
-use Rattle.heard_states.specs.Slot.{told_state}
+use Rattle.heard_states.specs.Slot.{IsSyncSlot, told_state}
 use Rattle.heard_states.specs.Calm.{AreUntouched}
 use Rattle.heard_states.specs.declared.slot.SyncSlot.{SyncSlot}
 use Rattle.heard_states.specs.declared.sending.Senders.{Senders}
@@ -19,6 +19,7 @@ told_in slot full states i j = told_state slot.config.now slot.plan.now slot.per
 
 -- full nodes are in use and have states; of senders that aren't touched no line touches a frame
 pub record AreSenders {n : ℕ} (slot : SyncSlot n) (senders : Senders n) (states : List (Option AgreedView)) : Type 0 where
+  pub slot_is : IsSyncSlot slot
   pub long : length states ≡ n
   pub agreed : AreAgreed slot.config.now states
   pub used : (j : ℕ) → has_id senders.full j ≡ true → j < slot.config.now.nodes

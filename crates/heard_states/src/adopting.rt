@@ -18,7 +18,6 @@ impl<const N: usize> Sending<'_, N> {
     /// The full nodes that are known to have the state of this one, where no line touches a frame
     /// of theirs.
     fn tellers(&self, leader: u8) -> NodeSet<N>
-        requires { IsSending self.now }
         ensures { (j : ℕ) → has_id result j ≡ true → IsTeller self.now leader j }
     {
         let plain = self.senders.full.minus(&self.senders.touched);

@@ -14,7 +14,7 @@ ghost use Rattle.heard_states.specs.declared.hearing.Heard.TheVariants.{Bad, Sam
 ghost use Rattle.heard_states.specs.Told.{sent_by};
 ghost use Rattle.heard_states.specs.declared.sending.Told.TheVariants.{Sent};
 ghost use Rattle.heard_states.specs.Hearing.{told_as, told_by, heard_kind, is_heard_well};
-ghost use Rattle.heard_states.specs.Hearing.{IsHeardAs, IsSending};
+ghost use Rattle.heard_states.specs.Hearing.{IsFrame, IsHeardAs, IsSending};
 
 use crate::sending::{Sending, Told};
 use error_reports::RowBuilder;
@@ -96,10 +96,7 @@ impl<const N: usize> Sending<'_, N> {
 
     /// What node `to` makes of the frame of node `from`, whatever befalls it.
     fn heard_read(&self, from: u8, to: u8, alike: &NodeSet<N>) -> Heard
-        requires sending { IsSending self.now }
-        requires from { from < self.now.slot.config.now.nodes }
-        requires to { to < self.now.slot.config.now.nodes }
-        requires other { from ≢ to }
+        requires frame { IsFrame self.now from to }
         requires alike { IsTrue (has_id alike.now from) ↔ IsShared self.now.states.now to from }
         ensures { IsHeardAs self.now.slot.config.now (state_at self.now.states.now to) result
             (told_by self.now to from) }
@@ -113,10 +110,7 @@ impl<const N: usize> Sending<'_, N> {
 
     /// The same, where no state is spelt if the frame doesn't come whole, once and in time.
     fn heard(&self, from: u8, to: u8, alike: &NodeSet<N>) -> Heard
-        requires sending { IsSending self.now }
-        requires from { from < self.now.slot.config.now.nodes }
-        requires to { to < self.now.slot.config.now.nodes }
-        requires other { from ≢ to }
+        requires frame { IsFrame self.now from to }
         requires alike { IsTrue (has_id alike.now from) ↔ IsShared self.now.states.now to from }
         ensures { IsHeardAs self.now.slot.config.now (state_at self.now.states.now to) result
             (told_by self.now to from) }

@@ -16,7 +16,7 @@ ghost use Rattle.agreed_state.specs.declared.config.Config.{Config};
 ghost use Rattle.shared_states.specs.Sharing.{state_at};
 ghost use Rattle.heard_states.specs.Slot.{expected_of};
 ghost use Rattle.heard_states.specs.Told.{sent_by};
-ghost use Rattle.heard_states.specs.Hearing.{told_as, told_by, IsSending, IsShortState, IsSaid};
+ghost use Rattle.heard_states.specs.Hearing.{told_as, told_by, IsFrame, IsSending, IsShortState};
 
 use crate::slot::SyncSlot;
 use fault_classes::Effect;
@@ -112,7 +112,8 @@ impl<const N: usize> Sending<'_, N> {
             arriving body_said (Some (change_of effect.now))
             (expected_of self.now.slot.config.now self.now.slot.period from)
             (expected_of self.now.slot.config.now self.now.slot.period from)
-            (state_content (setting_of self.now.slot.config.now) (sent_by self.now.senders.full self.now.states.now from)) }
+            (state_content (setting_of self.now.slot.config.now)
+            (sent_by self.now.senders.full self.now.states.now from)) }
     {
         if let Some(kind) = unread_kind(effect) {
             return Told::Bad(kind);
@@ -137,7 +138,8 @@ impl<const N: usize> Sending<'_, N> {
             arriving body_said (Some (change_of effect.now))
             (expected_of self.now.slot.config.now self.now.slot.period from)
             (expected_of self.now.slot.config.now self.now.slot.period from)
-            (state_content (setting_of self.now.slot.config.now) (sent_by self.now.senders.full self.now.states.now from)) }
+            (state_content (setting_of self.now.slot.config.now)
+            (sent_by self.now.senders.full self.now.states.now from)) }
     {
         let config = self.slot.config;
         let expect = config.expect(self.slot.period, 0, from, &NodeSet::empty(), 0);
@@ -158,10 +160,7 @@ impl<const N: usize> Sending<'_, N> {
 
     /// What befalls the frame of node `from` to node `to`.
     pub(crate) fn effect(&self, from: u8, to: u8) -> Option<&Effect>
-        requires sending { IsSending self.now }
-        requires from { from < self.now.slot.config.now.nodes }
-        requires to { to < self.now.slot.config.now.nodes }
-        requires other { from ≢ to }
+        requires { IsFrame self.now from to }
         ensures { option_map (λ e. change_of e.now) result ≡
             effect_at self.now.slot.plan.now.lines self.now.slot.period 0 from to }
     {
@@ -174,10 +173,7 @@ impl<const N: usize> Sending<'_, N> {
 
     /// What node `to` has of the frame of node `from`.
     pub(crate) fn told(&self, from: u8, to: u8) -> Told
-        requires sending { IsSending self.now }
-        requires from { from < self.now.slot.config.now.nodes }
-        requires to { to < self.now.slot.config.now.nodes }
-        requires other { from ≢ to }
+        requires { IsFrame self.now from to }
         ensures { told_as self.now.slot.config.now
             (sent_by self.now.senders.full self.now.states.now from) result ≡
             told_by self.now to from }

@@ -66,8 +66,7 @@ impl<const N: usize> SyncSlot<'_, N> {
 
     /// Whether all nodes in use have one state, and each hears the others as they send.
     fn is_calm(&self, senders: &Senders<N>, states: &SharedStates<N>) -> bool
-        requires slot { IsSyncSlot self.now }
-        requires senders { AreSenders self.now senders.now states.now }
+        requires { AreSenders self.now senders.now states.now }
         ensures { result ≡ true → IsCalm self.now states.now }
     {
         senders.touched.is_empty()
@@ -92,12 +91,12 @@ impl<const N: usize> SyncSlot<'_, N> {
     /// Gives node `i` the state that it adopts, if any, from what these nodes say: that of a
     /// leader where there is one.
     fn adopt_at(&self, i: u8, senders: &Senders<N>, states: &mut SharedStates<N>)
-        requires slot { IsSyncSlot self.now }
         requires senders { AreSenders self.now senders.now states.old }
         requires node { i < self.now.config.now.nodes }
         requires none { state_at states.old i ≡ None }
         ensures own { state_at states.new i ≡
-            adopted_by (setting_of self.now.config.now) i (told_in self.now senders.now.full states.old i) }
+            adopted_by (setting_of self.now.config.now) i
+            (told_in self.now senders.now.full states.old i) }
         ensures others { (j : ℕ) → j ≢ i → state_at states.new j ≡ state_at states.old j }
         ensures long { length states.new ≡ N }
         ensures agreed { AreAgreed self.now.config.now states.new }
@@ -115,12 +114,12 @@ impl<const N: usize> SyncSlot<'_, N> {
 
     /// The same by all that the node is told.
     fn adopt_told(&self, i: u8, senders: &Senders<N>, states: &mut SharedStates<N>)
-        requires slot { IsSyncSlot self.now }
         requires senders { AreSenders self.now senders.now states.old }
         requires node { i < self.now.config.now.nodes }
         requires none { state_at states.old i ≡ None }
         ensures own { state_at states.new i ≡
-            adopted_by (setting_of self.now.config.now) i (told_in self.now senders.now.full states.old i) }
+            adopted_by (setting_of self.now.config.now) i
+            (told_in self.now senders.now.full states.old i) }
         ensures others { (j : ℕ) → j ≢ i → state_at states.new j ≡ state_at states.old j }
         ensures long { length states.new ≡ N }
         ensures agreed { AreAgreed self.now.config.now states.new }
@@ -146,7 +145,6 @@ impl<const N: usize> SyncSlot<'_, N> {
         states: &SharedStates<N>,
         notes: &mut RowBuilder<N>,
     ) -> NodeSet<N>
-        requires slot { IsSyncSlot self.now }
         requires senders { AreSenders self.now senders.now states.now }
         requires node { i < self.now.config.now.nodes }
         requires nodes { notes.old.nodes ≡ self.now.config.now.nodes }
@@ -154,7 +152,8 @@ impl<const N: usize> SyncSlot<'_, N> {
         ensures good { result ≡ ids_where (λ j. not (j == i) &&
             is_good (told_in self.now senders.now.full states.now i j)) self.now.config.now.nodes }
         ensures notes { (a : AgreedView) → state_at states.now i ≡ Some a → notes.new ≡
-            also_noted N notes.old (noted_states self.now.config.now a (told_in self.now senders.now.full states.now i)) }
+            also_noted N notes.old
+            (noted_states self.now.config.now a (told_in self.now senders.now.full states.now i)) }
         ensures kept { notes.new ≡ record notes.old { row = notes.new.row } }
     {
         let sending = Sending {

@@ -18,8 +18,8 @@ use Rattle.judge.specs.declared.words.Command.{Command}
 use Rattle.judge.specs.declared.words.Command.TheVariants.{Lines, Draw, Show}
 use Rattle.judge.specs.declared.words.Draws.{Draws}
 use Rattle.judge.specs.declared.words.Draw.{Draw as Drawn}
-use Rattle.judge.specs.declared.status.Status.{Status}
-use Rattle.judge.specs.declared.status.Status.TheVariants.{Done, Usage, Unreadable, Refused, ReadFault, WriteFault, NoMemory, TooLong}
+use Rattle.program_words.specs.declared.status.Status.{Status}
+use Rattle.program_words.specs.declared.status.Status.TheVariants.{Done, Usage, Unreadable, Refused, ReadFault, WriteFault, NoMemory, TooLong}
 
 -- the input of which nothing was read
 pub input_told : (left : Option (List ℕ)) → IsInput left (told_left left)

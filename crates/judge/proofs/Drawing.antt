@@ -9,7 +9,7 @@ use Rattle.judge.specs.Options.{DrawsRows}
 use Rattle.judge.specs.declared.words.Draws.{Draws}
 use Rattle.judge.specs.declared.bench.RowError.{RowError}
 use Rattle.judge.specs.declared.bench.RowError.TheVariants.{NoMemory, WriteFault}
-use Rattle.judge.specs.declared.status.Status.TheVariants.{Done}
+use Rattle.program_words.specs.declared.status.Status.TheVariants.{Done}
 
 one_more : (choices : Choices) (seed first k : ℕ) → all_drawn_rows choices seed first (suc k) ≡ all_drawn_rows choices seed first k ++ drawn_rows choices seed (first + k)
 one_more choices seed first zero = append-nil (drawn_rows choices seed first) ∙ ap (drawn_rows choices seed) (omega arith)

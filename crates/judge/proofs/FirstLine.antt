@@ -12,8 +12,8 @@ use Rattle.input_lines.specs.declared.lines.LineError.TheVariants as lines
 use Rattle.judge.specs.Rows.{limit}
 use Rattle.judge.specs.Session.{line_status}
 use Rattle.judge.specs.Options.{HasOptions, TellsOptions, StopsAtOptions, ReadsOptions}
-use Rattle.judge.specs.declared.status.Status.{Status}
-use Rattle.judge.specs.declared.status.Status.TheVariants.{Done, Usage, Unreadable, Refused, ReadFault, WriteFault, NoMemory, TooLong}
+use Rattle.program_words.specs.declared.status.Status.{Status}
+use Rattle.program_words.specs.declared.status.Status.TheVariants.{Done, Usage, Unreadable, Refused, ReadFault, WriteFault, NoMemory, TooLong}
 
 -- the line is the first of the whole input, and is not too long
 pub record IsFirst (a b : SourceView) (line : List ℕ) : Type 0 where

@@ -9,8 +9,8 @@ use Rattle.input_lines.specs.FirstLine.{first_line, long_first}
 use Rattle.input_lines.specs.Devices.{SinkView, WritesAll, told_left, nothing_left, gave_both, consumes_kept, all_all, all_front}
 use Rattle.judge.specs.Rows.{limit, AreRows, AreFrontRows, AreCutShort, last_line, all_lines}
 use Rattle.judge.specs.Session.{Stand, Took, CaughtUp, EndsAt, Stops, StopsRound, Concludes, Runs, with_more, lines_from}
-use Rattle.judge.specs.declared.status.Status.{Status}
-use Rattle.judge.specs.declared.status.Status.TheVariants.{Done, Usage, Unreadable, Refused, ReadFault, WriteFault, NoMemory, TooLong}
+use Rattle.program_words.specs.declared.status.Status.{Status}
+use Rattle.program_words.specs.declared.status.Status.TheVariants.{Done, Usage, Unreadable, Refused, ReadFault, WriteFault, NoMemory, TooLong}
 use Rattle.judge.proofs.Table.{rows_both, all_begin, all_at_end, long_begins}
 use Rattle.judge.proofs.Taking.{stops_later}
 

@@ -15,8 +15,8 @@ use Rattle.judge.specs.Writing.{WritesRows}
 use Rattle.judge.specs.declared.bench.RowError.{RowError}
 use Rattle.judge.specs.declared.bench.RowError.TheVariants as rows
 use Rattle.judge.specs.Session.{Stand, Took, CaughtUp, EndsAt, Stops, StopsRound, Concludes, with_more, line_status, row_status}
-use Rattle.judge.specs.declared.status.Status.{Status}
-use Rattle.judge.specs.declared.status.Status.TheVariants.{Done, Usage, Unreadable, Refused, ReadFault, WriteFault, NoMemory, TooLong}
+use Rattle.program_words.specs.declared.status.Status.{Status}
+use Rattle.program_words.specs.declared.status.Status.TheVariants.{Done, Usage, Unreadable, Refused, ReadFault, WriteFault, NoMemory, TooLong}
 use Rattle.judge.proofs.Table.{rows_both, one_row}
 
 pub took_nothing : (s : Stand) → Took s s [] []

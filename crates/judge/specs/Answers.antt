@@ -14,8 +14,8 @@ use Rattle.judge.specs.Rows.{AreRows, AreFrontRows, AreCutShort, all_lines, all_
 use Rattle.judge.specs.Options.{HasOptions, HasNoOptions, IsFaultless, IsShown}
 use Rattle.judge.specs.declared.words.Command.{Command}
 use Rattle.judge.specs.declared.words.Command.TheVariants.{Lines, Draw, Show}
-use Rattle.judge.specs.declared.status.Status.{Status}
-use Rattle.judge.specs.declared.status.Status.TheVariants.{Done, Usage, Unreadable, Refused, ReadFault, WriteFault, NoMemory, TooLong}
+use Rattle.program_words.specs.declared.status.Status.{Status}
+use Rattle.program_words.specs.declared.status.Status.TheVariants.{Done, Usage, Unreadable, Refused, ReadFault, WriteFault, NoMemory, TooLong}
 
 -- ---- what is written of an input
 

@@ -18,8 +18,8 @@ use Rattle.input_lines.specs.FirstLine.{first_line}
 use Rattle.input_lines.specs.Devices.{Devices, SinkView, IsInput, WritesAll, WritesFront, WritesSome}
 use Rattle.judge.specs.Rows.{limit, all_drawn_rows}
 use Rattle.judge.specs.declared.words.Draws.{Draws}
-use Rattle.judge.specs.declared.status.Status.{Status}
-use Rattle.judge.specs.declared.status.Status.TheVariants.{Done, Unreadable, Refused, ReadFault, WriteFault, NoMemory, TooLong}
+use Rattle.program_words.specs.declared.status.Status.{Status}
+use Rattle.program_words.specs.declared.status.Status.TheVariants.{Done, Unreadable, Refused, ReadFault, WriteFault, NoMemory, TooLong}
 
 -- the line tells what is drawn
 pub record HasOptions (line : List ℕ) (choices : Choices) : Type 0 where

@@ -10,12 +10,11 @@ use Rattle.input_lines.specs.declared.lines.LineError.{LineError}
 use Rattle.input_lines.specs.declared.lines.LineError.TheVariants as lines
 use Rattle.input_lines.specs.Numbers.{number_behind}
 use Rattle.judge.specs.Rows.{limit, last_line, all_lines, AreRows, AreFrontRows, AreCutShort}
-use Rattle.judge.specs.Writing.{HasRooms}
 use Rattle.judge.specs.declared.bench.RowError.{RowError}
 use Rattle.judge.specs.declared.bench.RowError.TheVariants as rows
 use Rattle.judge.specs.declared.lines.Session.{Session}
-use Rattle.judge.specs.declared.status.Status.{Status}
-use Rattle.judge.specs.declared.status.Status.TheVariants.{Done, ReadFault, WriteFault, NoMemory, TooLong}
+use Rattle.program_words.specs.declared.status.Status.{Status}
+use Rattle.program_words.specs.declared.status.Status.TheVariants.{Done, ReadFault, WriteFault, NoMemory, TooLong}
 
 -- the number of the line that comes next, and what was read and not taken
 pub record Stand : Type 0 where
@@ -25,9 +24,8 @@ pub record Stand : Type 0 where
 abbrev pub stand : Session → Stand
 stand s = record { number = s.number; rest = s.lines.rest }
 
--- what the calls of a session keep
+-- what the calls of a session keep: the limit of a line
 pub record IsReady (s : Session) : Type 0 where
-  pub rooms : HasRooms s.bench
   pub limit : s.lines.limit ≡ limit
 
 -- how a call ends in which no line was taken, or nothing was read

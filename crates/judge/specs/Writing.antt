@@ -1,9 +1,7 @@
 -- What is written of rows.
 use Rattle.std.specs.Prelude.{◌≡◌, ℕ, List, Result, Ok, Err}
 use Rattle.input_lines.specs.Devices.{SinkView, WritesAll, WritesFront}
-use Rattle.run_judged.specs.Judging.{HasRoom}
 use Rattle.run_print.specs.declared.WriteFault.{WriteFault as Fault}
-use Rattle.judge.specs.declared.bench.Bench.{Bench}
 use Rattle.judge.specs.declared.bench.RowError.{RowError}
 use Rattle.judge.specs.declared.bench.RowError.TheVariants.{NoMemory, WriteFault}
 
@@ -17,8 +15,3 @@ abbrev pub WritesRows : SinkView → SinkView → (List ℕ → Type 0) → Resu
 WritesRows old new AreSuch (Ok u) = (text : List ℕ) × AreSuch text × WritesAll old new text
 WritesRows old new AreSuch (Err WriteFault) = (text : List ℕ) × AreSuch text × WritesFront old new text
 WritesRows old new AreSuch (Err NoMemory) = new ≡ old
-
--- both judges have their rooms
-pub record HasRooms (bench : Bench) : Type 0 where
-  pub few : HasRoom bench.few
-  pub many : HasRoom bench.many

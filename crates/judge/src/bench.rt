@@ -1,15 +1,14 @@
 //! Judging one scenario after another, in rooms that are taken once.
 ghost use Rattle.std.specs.Prelude.{◌≡◌, ◌+◌, ◌<◌, ◌≤◌, IfOk, OnOk};
 ghost use Rattle.json_parts.specs.Meaning.{view};
-ghost use Rattle.node_grid.specs.Capacity.{IsCapacity};
-ghost use Rattle.run_judged.specs.Judging.{Judges, HasRoom};
+ghost use Rattle.run_judged.specs.Judging.{Judges};
 ghost use Rattle.scenario.specs.Scenario.{IsScenario};
 ghost use Rattle.scenario.specs.Given.{scenario_of};
 ghost use Rattle.drawn_scenarios.specs.Drawn.{drawn_parts};
 ghost use Rattle.input_lines.specs.Devices.{sink_seen};
 ghost use Rattle.judge.specs.Rows.{scenario_rows, has_few_nodes, room_for, HasRows, IsRowsOf};
 ghost use Rattle.judge.specs.Rows.{drawn_rows};
-ghost use Rattle.judge.specs.Writing.{written, WritesRows, HasRooms};
+ghost use Rattle.judge.specs.Writing.{written, WritesRows};
 
 use at_once::Run;
 use drawn_scenarios::{Options, make};
@@ -41,16 +40,13 @@ pub(crate) enum RowError {
 
 /// Runs the next period, and judges it.
 fn judge_next<const N: usize>(judge: &mut Judge<N>, scenario: &Scenario<N>, run: &mut Run<'_, N>)
-    requires capacity { IsCapacity N }
     requires same { run.old.scenario ≡ scenario.now }
     requires together { judge.old.periods ≡ run.old.run }
     requires more { run.old.run < run.old.scenario.periods }
     requires judges { Judges scenario.now judge.old }
-    requires room { HasRoom judge.old }
     ensures ran { run.new ≡ record run.old { run = run.old.run + 1 } }
     ensures judges { Judges scenario.now judge.new }
     ensures periods { judge.new.periods ≡ judge.old.periods + 1 }
-    ensures room { HasRoom judge.new }
 {
     let shown = run.period();
     judge.add(scenario, shown);
@@ -62,11 +58,8 @@ fn judge_run<const N: usize>(
     judge: &mut Judge<N>,
     scenario: &Scenario<N>,
 ) -> Result<(), NoMemory>
-    requires capacity { IsCapacity N }
-    requires room { HasRoom judge.old }
     ensures judged { OnOk result (Judges scenario.now judge.new) }
     ensures all { OnOk result (judge.new.periods ≡ scenario.now.periods) }
-    ensures room { HasRoom judge.new }
 {
     let mut run = Run::open(alloc, scenario)?;
     judge.begin(scenario);
@@ -104,12 +97,9 @@ fn judge_scenario<const N: usize, K: Sink>(
     number: u64,
     sink: &mut K,
 ) -> Result<(), RowError>
-    requires capacity { IsCapacity N }
-    requires room { HasRoom judge.old }
-    ensures rows { WritesRows (sink_seen K.written K.faults sink.old)
+    ensures { WritesRows (sink_seen K.written K.faults sink.old)
         (sink_seen K.written K.faults sink.new)
         (λ text. text ≡ scenario_rows number scenario.now) result }
-    ensures room { HasRoom judge.new }
 {
     let Ok(()) = judge_run(alloc, judge, scenario) else {
         return Err(RowError::NoMemory);
@@ -132,12 +122,9 @@ fn judge_value<const N: usize, K: Sink>(
     number: u64,
     sink: &mut K,
 ) -> Result<(), RowError>
-    requires capacity { IsCapacity N }
-    requires room { HasRoom judge.old }
-    ensures rows { WritesRows (sink_seen K.written K.faults sink.old)
+    ensures { WritesRows (sink_seen K.written K.faults sink.old)
         (sink_seen K.written K.faults sink.new)
         (HasRows N number (view value.now)) result }
-    ensures room { HasRoom judge.new }
 {
     match from_value::<N>(alloc, value) {
         Ok(scenario) => judge_scenario(alloc, judge, &scenario, number, sink),
@@ -166,14 +153,11 @@ fn judge_drawn<const N: usize, K: Sink>(
     index: u32,
     sink: &mut K,
 ) -> Result<(), RowError>
-    requires capacity { IsCapacity N }
-    requires nodes { drawing.options.now.choices.nodes ≤ N }
-    requires room { HasRoom judge.old }
-    ensures rows { WritesRows (sink_seen K.written K.faults sink.old)
+    requires { drawing.options.now.choices.nodes ≤ N }
+    ensures { WritesRows (sink_seen K.written K.faults sink.old)
         (sink_seen K.written K.faults sink.new)
         (λ text. text ≡ scenario_rows index (scenario_of N
         (drawn_parts drawing.entry.options.now.choices drawing.entry.seed index))) result }
-    ensures room { HasRoom judge.new }
 {
     let Ok(scenario) = make::<N>(alloc, drawing.options, drawing.seed, index) else {
         return Err(RowError::NoMemory);
@@ -194,9 +178,7 @@ impl Bench {
     ///
     /// # Errors
     /// `NoMemory` where there is none.
-    pub(crate) fn open(alloc: Global) -> Result<Bench, NoMemory>
-        ensures { IfOk result HasRooms }
-    {
+    pub(crate) fn open(alloc: Global) -> Result<Bench, NoMemory> {
         let few = Judge::open(alloc)?;
         let many = Judge::open(alloc)?;
         Ok(Bench { alloc, few, many })
@@ -209,9 +191,7 @@ impl Bench {
         number: u64,
         sink: &mut K,
     ) -> Result<(), RowError>
-        requires { HasRooms self.old }
-        ensures rooms { HasRooms self.new }
-        ensures rows { WritesRows (sink_seen K.written K.faults sink.old)
+        ensures { WritesRows (sink_seen K.written K.faults sink.old)
             (sink_seen K.written K.faults sink.new)
             (HasRows (room_for (view value.now)) number (view value.now)) result }
     {
@@ -233,9 +213,7 @@ impl Bench {
         number: u64,
         sink: &mut K,
     ) -> Result<(), RowError>
-        requires { HasRooms self.old }
-        ensures rooms { HasRooms self.new }
-        ensures rows { WritesRows (sink_seen K.written K.faults sink.old)
+        ensures { WritesRows (sink_seen K.written K.faults sink.old)
             (sink_seen K.written K.faults sink.new) (IsRowsOf number line.now) result }
     {
         let alloc = self.alloc;
@@ -257,9 +235,7 @@ impl Bench {
         index: u32,
         sink: &mut K,
     ) -> Result<(), RowError>
-        requires { HasRooms self.old }
-        ensures rooms { HasRooms self.new }
-        ensures rows { WritesRows (sink_seen K.written K.faults sink.old)
+        ensures { WritesRows (sink_seen K.written K.faults sink.old)
             (sink_seen K.written K.faults sink.new)
             (λ text. text ≡ drawn_rows drawing.entry.options.now.choices drawing.entry.seed index)
             result }

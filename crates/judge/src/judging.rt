@@ -3,12 +3,11 @@ ghost use Rattle.std.specs.Prelude.{◌≡◌, ◌+◌, ◌^◌, ◌≤◌, IfOk
 ghost use Rattle.drawn_scenarios.specs.Drawn.{drawn_parts};
 ghost use Rattle.input_lines.specs.Devices.{sink_seen, devices_seen};
 ghost use Rattle.judge.specs.Words.{texts, IsInRange};
-ghost use Rattle.judge.specs.Status.{number_of};
-ghost use Rattle.judge.specs.Writing.{HasRooms};
+ghost use Rattle.program_words.specs.Status.{number_of};
 ghost use Rattle.judge.specs.Options.{IsShown, DrawsRows};
 ghost use Rattle.judge.specs.Answers.{Does, IsStatusOf};
 ghost use Rattle.judge.specs.declared.words.Command.TheVariants as commands;
-ghost use Rattle.judge.specs.declared.status.Status.{Status as SpecStatus};
+ghost use Rattle.program_words.specs.declared.status.Status.{Status as SpecStatus};
 
 use crate::Status;
 use crate::bench::{Bench, Drawing};
@@ -42,8 +41,7 @@ fn judge_lines<S: Source, K: Sink>(alloc: Global, source: &mut S, sink: &mut K) 
 
 /// Draws these scenarios by options, and judges them one after another.
 fn draw_rows<K: Sink>(bench: &mut Bench, options: &Options, draws: Draws, sink: &mut K) -> Status
-    requires rooms { HasRooms bench.old }
-    requires range { draws.first + draws.count ≤ 2 ^ 32 }
+    requires { draws.first + draws.count ≤ 2 ^ 32 }
     ensures { DrawsRows options.now.choices draws (sink_seen K.written K.faults sink.old)
         (sink_seen K.written K.faults sink.new) result }
 {
@@ -117,8 +115,8 @@ fn show<S: Source, K: Sink>(alloc: Global, draw: Draw, source: &mut S, sink: &mu
 
 /// Answers the words, by what the source gives, into the sink.
 ///
-/// What the words may be is told at `Command`, and what each status says at `Status`, and clause
-/// by clause at `IsStatusOf`.
+/// What the words may be is told at `Command`, and what each status says, clause by clause, at
+/// `IsStatusOf`.
 pub fn judge<S: Source, K: Sink>(
     alloc: Global,
     words: &[String],

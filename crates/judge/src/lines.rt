@@ -3,7 +3,7 @@ ghost use Rattle.std.specs.Prelude.{◌≡◌, ◌≤◌, [], length, OnOk};
 ghost use Rattle.input_lines.specs.Devices.{sink_seen, source_seen};
 ghost use Rattle.input_lines.specs.Numbers.{next_number};
 ghost use Rattle.judge.specs.Rows.{limit, IsRowsOf};
-ghost use Rattle.judge.specs.Writing.{WritesRows, HasRooms};
+ghost use Rattle.judge.specs.Writing.{WritesRows};
 ghost use Rattle.judge.specs.Session.{line_status, row_status, stand, IsReady, TakesLines, Rounds};
 ghost use Rattle.judge.specs.Session.{Concludes, Runs};
 
@@ -62,13 +62,11 @@ impl Session {
 
     /// Judges the line that was taken, and writes its rows.
     fn judge_taken<K: Sink>(&mut self, sink: &mut K) -> Result<(), RowError>
-        requires { HasRooms self.old.bench }
         ensures rows { WritesRows (sink_seen K.written K.faults sink.old)
             (sink_seen K.written K.faults sink.new)
             (IsRowsOf self.old.number self.old.lines.line) result }
         ensures number { OnOk result (self.new.number ≡ next_number self.old.number) }
         ensures lines { self.new.lines ≡ self.old.lines }
-        ensures rooms { HasRooms self.new.bench }
     {
         self.bench.judge_line(self.lines.line(), self.number, sink)?;
         self.number = self.number.saturating_add(1);

@@ -12,13 +12,12 @@ mod judging;
 pub mod laws;
 mod lines;
 mod options;
-mod status;
 mod words;
 
 pub use judging::{judge, run};
+pub use program_words::Status;
 use program_words::words_after_name;
 use span_io::{StdSink, StdSource};
-pub use status::Status;
 use std::env;
 use std::process::ExitCode;
 

@@ -3,7 +3,7 @@ use Rattle.std.specs.Prelude.{◌≡◌, ℕ, ◌<◌, ◌≤◌, Bool, true, fa
 use Rattle.node_grid.specs.NodeSet.{ids_below, has_id}
 use Rattle.task_graph.specs.Graph.{GraphView, task_at, most_tasks}
 use Rattle.list_scheduler.specs.declared.copies.CopyState.{CopyState}
-use Rattle.list_scheduler.specs.declared.copies.CopyState.TheVariants.{Idle, Running, Passed, Failed}
+use Rattle.list_scheduler.specs.declared.copies.CopyState.TheVariants.{Idle, Running, Passed}
 
 -- task by task the copies of the nodes
 abbrev pub CopyTable : Type 0
@@ -27,22 +27,16 @@ with_copy copies task node state t q = if (t == task) && (q == node) then state 
 
 abbrev pub is_passed : CopyState → Bool
 is_passed Passed = true
-is_passed Idle = false
-is_passed (Running e) = false
-is_passed Failed = false
+is_passed _ = false
 
 abbrev pub is_idle : CopyState → Bool
 is_idle Idle = true
-is_idle Passed = false
-is_idle (Running e) = false
-is_idle Failed = false
+is_idle _ = false
 
 -- since how many periods a copy runs, the present one among them
 abbrev pub running : CopyState → Option ℕ
 running (Running e) = Some e
-running Idle = None
-running Passed = None
-running Failed = None
+running _ = None
 
 -- task t and the e of its running copy, or else the rest
 abbrev pub at_work : ℕ → Option ℕ → Option (ℕ × ℕ) → Option (ℕ × ℕ)

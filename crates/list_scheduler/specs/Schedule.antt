@@ -63,9 +63,7 @@ completed graph members copies settled t q =
 
 abbrev pub left_copy : CopyState → CopyState
 left_copy (Running e) = Failed
-left_copy Idle = Idle
-left_copy Passed = Passed
-left_copy Failed = Failed
+left_copy copy = copy
 
 -- where one node leaves
 abbrev pub left_by : ℕ → CopyTable → ℕ → ℕ → CopyState

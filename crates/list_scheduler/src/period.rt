@@ -18,6 +18,14 @@ use node_grid::NodeSet;
 use omh_paths::Wrapped;
 use task_graph::TaskGraph;
 
+// A node's settled claim of a period, and whether the node was a member before it and is one after.
+#[derive(Clone, Copy)]
+struct NodeClaim {
+    was: bool,
+    is: bool,
+    claim: Wrapped<u8>,
+}
+
 impl<const N: usize> Copies<N> {
     /// A whole period: the settled claims of the members `before` complete copies, what then runs
     /// on nodes outside the members `after` fails, all copies are idle again where a frame ends,
@@ -94,31 +102,29 @@ impl<const N: usize> Copies<N> {
         let mut busy = NodeSet::empty();
         for node in graph.task(t).nodes.iter() {
             let claim = claims[node as usize];
-            if self.move_copy(graph, t, node, before.has(node), after.has(node), claim) {
+            let claimed = NodeClaim {
+                was: before.has(node),
+                is: after.has(node),
+                claim,
+            };
+            if self.move_copy(graph, t, node, claimed) {
                 busy.put(node);
             }
         }
         busy
     }
 
-    // The same for one copy, by whether its node was and is a member; answers whether it runs.
-    fn move_copy(
-        &mut self,
-        graph: &TaskGraph<N>,
-        t: u8,
-        node: u8,
-        was: bool,
-        is: bool,
-        claim: Wrapped<u8>,
-    ) -> bool
+    // The same for one copy, by its node's claim; answers whether it runs.
+    fn move_copy(&mut self, graph: &TaskGraph<N>, t: u8, node: u8, claimed: NodeClaim) -> bool
         requires capacity { IsCapacity N }
         requires task { t < length graph.now.tasks }
         requires node { node < N }
         ensures copies { self.new ≡ table N
-            (with_copy self.old t node (moved_state graph.now t was is claim
+            (with_copy self.old t node (moved_state graph.now t claimed.was claimed.is claimed.claim
             (copy_at self.old t node))) }
         ensures runs { result ≡ is_some (running
-            (moved_state graph.now t was is claim (copy_at self.old t node))) }
+            (moved_state graph.now t claimed.was claimed.is claimed.claim
+            (copy_at self.old t node))) }
     {
         // Proofs need here that the copies are a table, and that the graph is one.
         let _ = &self.rows;
@@ -126,7 +132,7 @@ impl<const N: usize> Copies<N> {
         let CopyState::Running(periods) = self.at(t, node) else {
             return false;
         };
-        let state = state_after(graph, t, periods, was, is, claim);
+        let state = state_after(graph, t, periods, claimed);
         self.set(t, node, state);
         state.is_running()
     }
@@ -185,7 +191,8 @@ impl<const N: usize> Copies<N> {
     fn is_ready(&self, graph: &TaskGraph<N>, t: u8) -> bool
         requires capacity { IsCapacity N }
         requires task { t < length graph.now.tasks }
-        ensures { result ≡ list_all (finished graph.now self.now) (task_at graph.now.tasks t).after }
+        ensures { result ≡ list_all (finished graph.now self.now)
+            (task_at graph.now.tasks t).after }
     {
         for before in graph.task(t).after.iter() {
             if !self.finished(graph, *before) {
@@ -209,25 +216,23 @@ impl<const N: usize> Copies<N> {
     }
 }
 
-// A copy of task `t` that ran for so many periods, after its node's claim, by whether the node was
-// and is a member.
+// A copy of task `t` that ran for so many periods, by its node's claim.
 fn state_after<const N: usize>(
     graph: &TaskGraph<N>,
     t: u8,
     periods: u16,
-    was: bool,
-    is: bool,
-    claim: Wrapped<u8>,
+    claimed: NodeClaim,
 ) -> CopyState
     requires { t < length graph.now.tasks }
-    ensures { result ≡ moved_state graph.now t was is claim (Running periods) }
+    ensures { result ≡ moved_state graph.now t claimed.was claimed.is claimed.claim
+        (Running periods) }
 {
-    let completed = if was {
-        next_state(graph, t, periods, claim)
+    let completed = if claimed.was {
+        next_state(graph, t, periods, claimed.claim)
     } else {
         CopyState::Running(periods)
     };
-    if is || !completed.is_running() {
+    if claimed.is || !completed.is_running() {
         completed
     } else {
         CopyState::Failed

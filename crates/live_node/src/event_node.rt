@@ -343,8 +343,7 @@ impl<'s, const N: usize> EventNode<'s, N> {
         let config = self.scenario.config();
         let outcome = self.node.record();
         let period = (self.next - 1) as u32;
-        let retire = config.policy.retire;
-        let Ok(()) = write_alone(period, self.id, config.nodes, retire, &outcome, sink) else {
+        let Ok(()) = write_alone(period, self.id, config, &outcome, sink) else {
             return Err(WriteFault);
         };
         if self.scenario.clock().is_none() {

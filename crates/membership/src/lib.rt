@@ -98,7 +98,8 @@ fn all_would_leave<const N: usize>(
     policy: &Policy,
 ) -> bool
     requires { IsCapacity N }
-    ensures { result ≡ all_would_leave policy.now members.now (λ j. slice_index counts.now.counts j) }
+    ensures { result ≡ all_would_leave policy.now members.now
+        (λ j. slice_index counts.now.counts j) }
 {
     for member in members.iter() {
         if counts.counts[member as usize] < policy.exclude {

@@ -6,40 +6,27 @@ use Rattle.node_grid.specs.Count.{count}
 
 abbrev pub is_nonfaulty : Class → Bool
 is_nonfaulty N = true
-is_nonfaulty J = false
-is_nonfaulty B = false
-is_nonfaulty S = false
-is_nonfaulty A = false
+is_nonfaulty _ = false
 
 -- joining or benign: nothing that it sends is taken for good
 abbrev pub is_silent : Class → Bool
-is_silent N = false
 is_silent J = true
 is_silent B = true
-is_silent S = false
-is_silent A = false
+is_silent _ = false
 
 abbrev pub is_symmetric : Class → Bool
-is_symmetric N = false
-is_symmetric J = false
-is_symmetric B = false
 is_symmetric S = true
-is_symmetric A = false
+is_symmetric _ = false
 
 abbrev pub is_asymmetric : Class → Bool
-is_asymmetric N = false
-is_asymmetric J = false
-is_asymmetric B = false
-is_asymmetric S = false
 is_asymmetric A = true
+is_asymmetric _ = false
 
 -- nonfaulty or joining
 abbrev pub is_sound : Class → Bool
 is_sound N = true
 is_sound J = true
-is_sound B = false
-is_sound S = false
-is_sound A = false
+is_sound _ = false
 
 -- n > 2a + 2s + b + r over these nodes
 abbrev pub IsEnough : (ℕ → Class) → List ℕ → ℕ → Type 0

@@ -1,7 +1,8 @@
 -- What the slot that was closed says of its senders.
-use Rattle.std.specs.Prelude.{◌≡◌, ℕ, Bool, false, not, ◌&&◌, ◌==◌, List, Option, IsSome, IfSome, if◌then◌else◌, slice_index_or}
+use Rattle.std.specs.Prelude.{◌≡◌, ◌≢◌, ◌<◌, ℕ, Bool, not, ◌&&◌, ◌==◌, List, Option, IfSome, if◌then◌else◌, slice_index_or}
+use Rattle.node_grid.specs.Capacity.{IsCapacity}
 use Rattle.node_grid.specs.NodeSet.{ids_where}
-use Rattle.frames.specs.Content.{Content, State}
+use Rattle.frames.specs.Content.{Content}
 use Rattle.error_detect.specs.declared.finding.Finding.{Finding}
 use Rattle.error_detect.specs.declared.finding.Finding.TheVariants.{Good}
 use Rattle.error_detect.specs.Finding.{kind_of}
@@ -24,6 +25,13 @@ good_in nodes me sync = ids_where (λ j. not (j == me) && is_good (sync j)) node
 -- whether what was found of a node is this kind of error
 abbrev pub found_bad : List Finding → ℕ → ℕ → Bool
 found_bad found j k = is_kind (kind_of (slice_index_or found j Good)) k
+
+-- another node, in a slot that was closed of a watch with room for so many
+pub record IsOtherHeard (capacity : ℕ) (w : Watch) (j : ℕ) : Type 0 where
+  pub capacity_ok : IsCapacity capacity
+  pub heard : IsHeardBy w w.nodes w.me
+  pub node : j < w.nodes
+  pub other : j ≢ w.me
 
 -- a closed sync slot of a node, one of so many
 pub record IsSyncOf (nodes me : ℕ) (w : Watch) : Type 0 where

@@ -1,14 +1,14 @@
 //! What the sync slot says against a state.
 
-ghost use Rattle.std.specs.Prelude.{◌≡◌, ◌≢◌, ◌<◌, ◌≤◌, ◌==◌, ◌||◌, ◌&&◌, Some, None};
+ghost use Rattle.std.specs.Prelude.{◌≡◌, ◌≤◌, ◌==◌, ◌||◌, ◌&&◌, Some, None};
 ghost use Rattle.std.specs.Prelude.{if◌then◌else◌};
 ghost use Rattle.node_grid.specs.Capacity.{IsCapacity};
 ghost use Rattle.node_grid.specs.Kinds.{state};
-ghost use Rattle.error_detect.specs.Watching.{findings, told_at, IsHeardBy};
+ghost use Rattle.error_detect.specs.Watching.{findings, told_at};
 ghost use Rattle.error_reports.specs.Notes.{also_noted};
 ghost use Rattle.protocol.specs.Arrival.{arrived, is_bad, body_said};
 ghost use Rattle.protocol.specs.View.{other_body};
-ghost use Rattle.noting.specs.Findings.{has_of, IsSyncOf};
+ghost use Rattle.noting.specs.Findings.{has_of, IsSyncOf, IsOtherHeard};
 
 use crate::findings::note_found;
 use error_detect::{Finding, SlotWatch};
@@ -18,10 +18,7 @@ use node_grid::kind::STATE;
 
 /// Whether another node tells another state than this in the closed sync slot.
 fn tells_other<const N: usize>(watch: &SlotWatch<N>, own: &[u8], node: u8) -> bool
-    requires capacity { IsCapacity N }
-    requires heard { IsHeardBy watch.now watch.now.nodes watch.now.me }
-    requires node { node < watch.now.nodes }
-    requires other { node ≢ watch.now.me }
+    requires { IsOtherHeard N watch.now node }
     ensures { result ≡ other_body own.now (arrived body_said None (told_at watch.now node)) }
 {
     let Some(frame) = watch.frame(node) else {
@@ -53,10 +50,7 @@ pub fn note_states<const N: usize>(
     note_found(notes, found);
     notes.note_each(
         |j| -> Option<u8>
-            requires capacity { IsCapacity N }
-            requires heard { IsHeardBy watch.now watch.now.nodes watch.now.me }
-            requires node { j < watch.now.nodes }
-            requires other { j ≢ watch.now.me }
+            requires { IsOtherHeard N watch.now j }
             ensures { result ≡ (if other_body own.entry.now
                 (arrived body_said None (told_at watch.entry.now j)) then Some state else None) }
         { tells_other(watch, own, j).then_some(STATE) },

@@ -2,7 +2,8 @@
 use Rattle.std.proofs.Common.{ℕ, ◌≡◌, ◌<◌, ◌≤◌, ◌+◌, ◌-◌, ◌==◌, ◌&&◌, ◌||◌, Bool, true, false, List, [], ◌∷◌, ◌++◌, length, take, get_or, refl, sym, ap, subst, ◌∙◌, inl, inr, arith, eqb-true, eq-eqb}
 use Rattle.std.proofs.lemmas.Bool.{and_from, and_parts, or_cases, or_left, or_right}
 use Rattle.std.proofs.lemmas.List.{take_all, take_more}
-use Rattle.node_grid.specs.NodeSet.{has_id}
+use Rattle.node_grid.specs.NodeSet.{has_id, IsIdSet}
+use Rattle.omh_paths.specs.MemberLaws.{member-lt}
 use Rattle.node_grid.specs.Count.{Distinct}
 use Rattle.omh_paths.specs.Wrapped.{IsExact}
 use Rattle.omh_paths.specs.Paths.{outside, IsPath}
@@ -36,6 +37,12 @@ module _ {V : Type 0} (t : Telling V) where
         is_path = IsPath-push q chain.is_path member (ap (λ (xs : List ℕ). has_id xs q) (sym chain.is) ∙ off) (subst (λ (xs : List ℕ). length xs ≤ t.rounds) chain.is room);
         same = same_push t p q (omega arith) odd;
       }
+
+  pub chain_low : (path : List ℕ) (n : ℕ) → IsIdSet n t.members → IsChain t path → (q : ℕ) → has_id path q ≡ true → q < n
+  chain_low path n ids chain q on = member-lt n t.members q ids (chain.is_path.within q (ap (λ (xs : List ℕ). has_id xs q) (sym chain.is) ∙ on))
+
+  pub chain_short : (path : List ℕ) → IsChain t path → length path ≤ t.rounds + 1
+  chain_short path chain = subst (λ (xs : List ℕ). length xs ≤ t.rounds + 1) (sym chain.is) chain.is_path.short
 
   alike_at : (eq : V → V → Bool) → IsExact eq → Distinct t.members → HasFewOdd t → (i : ℕ) (back : List ℕ) → IsPath t.members t.rounds (t.commander ∷ back) → has_id (t.commander ∷ back) i ≡ false
       → ((k : ℕ) → direct_heard t k (t.commander ∷ back) ≡ (telling_world t).heard k (t.commander ∷ back))

@@ -1,7 +1,6 @@
 -- How one member's item is told and relayed where the relays of few members are odd: from this alone there is a world of
 -- what each node hears of it.
-use Rattle.std.specs.Prelude.{ℕ, Bool, ◌≡◌, ◌≢◌, ◌<◌, ◌≤◌, ◌+◌, ◌*◌, ◌&&◌, not, true, List, [], ◌∷◌, All, length, reverse, slice_index_or, if◌then◌else◌}
-use Rattle.node_grid.specs.Capacity.{IsCapacity}
+use Rattle.std.specs.Prelude.{ℕ, Bool, ◌<◌, ◌+◌, ◌*◌, ◌&&◌, not, List, [], ◌∷◌, length, reverse, slice_index_or, if◌then◌else◌}
 use Rattle.node_grid.specs.NodeSet.{has_id}
 use Rattle.node_grid.specs.Count.{count}
 use Rattle.omh_paths.specs.declared.wrapped.Wrapped.{Wrapped}
@@ -57,12 +56,3 @@ convicts_commander eq t i = convicts eq (ear (telling_world t) i) t.commander
 -- n > 2o + z + m: of n members o are odd, and z of the others aren't Full
 abbrev pub HasFewOdd : {V : Type 0} → Telling V → Type 0
 HasFewOdd t = 2 * count (λ q. has_id t.odd q) t.members + count (λ q. not (has_id t.odd q) && not (has_id t.full q)) t.members + t.rounds < length t.members
-
--- it is a member's item in a phase of so many rounds, each node within capacity was told something of it, and no value is
--- the error that can't be wrapped once more
-pub record IsTelling {V : Type 0} (capacity : ℕ) (t : Telling V) : Type 0 where
-  pub capacity_ok : IsCapacity capacity
-  pub rounds_ok : t.rounds ≤ 3
-  pub member : has_id t.members t.commander ≡ true
-  pub told_ok : length t.told ≡ capacity
-  pub known : All (λ v. v ≢ Fault 255) t.told

@@ -6,7 +6,7 @@ ghost use Rattle.node_grid.specs.NodeSet.{has_id};
 ghost use Rattle.omh_paths.specs.declared.wrapped.Wrapped.TheVariants.{Fault};
 ghost use Rattle.omh_paths.specs.Wrapped.{IsExact};
 ghost use Rattle.odd_relays.specs.Direct.{direct_heard, direct_settled};
-ghost use Rattle.odd_relays.specs.Telling.{telling, IsTelling, HasFewOdd, settled_item};
+ghost use Rattle.odd_relays.specs.Telling.{telling, HasFewOdd, settled_item};
 ghost use Rattle.odd_relays.specs.Work.{AreHeardAlike, IsChain, KeepsBelow};
 
 use crate::item::{Item, Relays};
@@ -28,9 +28,7 @@ pub const WORK: usize = 832;
 impl<'a, V: Copy + Eq, S: Relays<V>, const N: usize> Item<'a, V, S, N> {
     /// What each receiver heard for such a path, laid by node from `from` on.
     fn lay_heard(&self, receivers: &NodeSet<N>, path: &Path, work: &mut [Wrapped<V>], from: usize)
-        requires item { IsTelling N (telling S.says self.now) }
-        requires room { from + 16 ≤ length work.old }
-        requires small { length work.old ≤ WORK }
+        requires { from + 16 ≤ length work.old }
         ensures laid { (i : ℕ) → has_id receivers.now i ≡ true →
             slice_index_or work.new (from + i) (Fault 0) ≡
             direct_heard (telling S.says self.now) i path.now }
@@ -45,8 +43,7 @@ impl<'a, V: Copy + Eq, S: Relays<V>, const N: usize> Item<'a, V, S, N> {
 
     /// Whether all these nodes heard this for such a path.
     fn have_heard(&self, nodes: &NodeSet<N>, path: &Path, value: &Wrapped<V>) -> bool
-        requires exact { IsExact V.eq }
-        requires item { IsTelling N (telling S.says self.now) }
+        requires { IsExact V.eq }
         ensures { result ≡ true → (k : ℕ) → has_id nodes.now k ≡ true →
             direct_heard (telling S.says self.now) k path.now ≡ value.now }
     {
@@ -69,10 +66,8 @@ impl<'a, V: Copy + Eq, S: Relays<V>, const N: usize> Item<'a, V, S, N> {
         from: usize,
     ) -> bool
         requires exact { IsExact V.eq }
-        requires item { IsTelling N (telling S.says self.now) }
         requires nodes { (q : ℕ) → has_id path.now q ≡ true → q < N }
         requires room { from + 16 ≤ length work.old }
-        requires small { length work.old ≤ WORK }
         ensures alike { result ≡ true →
             AreHeardAlike (telling S.says self.now) receivers.now path.now }
         ensures laid { result ≡ true → (i : ℕ) → has_id receivers.now i ≡ true →
@@ -107,12 +102,8 @@ impl<'a, V: Copy + Eq, S: Relays<V>, const N: usize> Item<'a, V, S, N> {
         from: usize,
     )
         requires exact { IsExact V.eq }
-        requires item { IsTelling N (telling S.says self.now) }
-        requires nodes { (q : ℕ) → has_id path.now q ≡ true → q < N }
-        requires short { length path.now ≤ self.now.phase.rounds + 1 }
         requires room { from + 272 * (self.now.phase.rounds + 1 - length path.now) + 16
             ≤ length work.old }
-        requires small { length work.old ≤ WORK }
         requires few { HasFewOdd (telling S.says self.now) }
         requires chain { IsChain (telling S.says self.now) path.now }
         requires off { (i : ℕ) → has_id receivers.now i ≡ true → has_id path.now i ≡ false }
@@ -123,6 +114,7 @@ impl<'a, V: Copy + Eq, S: Relays<V>, const N: usize> Item<'a, V, S, N> {
         ensures room { length work.new ≡ length work.old }
     {
         let _ = receivers.len();
+        let _ = self.phase.members.len();
         if path.len() > self.phase.rounds {
             self.lay_heard(receivers, path, work, from);
             return;
@@ -147,7 +139,6 @@ impl<'a, V: Copy + Eq, S: Relays<V>, const N: usize> Item<'a, V, S, N> {
     /// What each of these nodes settles for the item, laid by node in `work`.
     pub(crate) fn settle_at(&self, receivers: &NodeSet<N>, work: &mut [Wrapped<V>])
         requires exact { IsExact V.eq }
-        requires item { IsTelling N (telling S.says self.now) }
         requires few { HasFewOdd (telling S.says self.now) }
         requires others { has_id receivers.now self.now.commander ≡ false }
         requires room { length work.old ≡ WORK }
@@ -165,7 +156,6 @@ impl<'a, V: Copy + Eq, S: Relays<V>, const N: usize> Item<'a, V, S, N> {
     /// places, and is left with no meaning.
     pub fn settle(&self, i: u8, work: &mut [Wrapped<V>]) -> Wrapped<V>
         requires exact { IsExact V.eq }
-        requires item { IsTelling N (telling S.says self.now) }
         requires few { HasFewOdd (telling S.says self.now) }
         requires node { i < N }
         requires other { self.now.commander ≢ i }

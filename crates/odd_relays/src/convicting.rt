@@ -7,7 +7,7 @@ ghost use Rattle.node_grid.specs.NodeSet.{has_id};
 ghost use Rattle.omh_paths.specs.declared.wrapped.Wrapped.TheVariants.{Fault};
 ghost use Rattle.omh_paths.specs.Wrapped.{IsExact, same, wrapped};
 ghost use Rattle.equivocation.specs.Conviction.{is_present, tolerated as tolerated_of};
-ghost use Rattle.odd_relays.specs.Telling.{telling, IsTelling, convicts_commander};
+ghost use Rattle.odd_relays.specs.Telling.{telling, convicts_commander};
 ghost use Rattle.odd_relays.specs.Voices.{IsCounted, regular_relay, regular_members, odd_members};
 
 use crate::item::{Item, Relays};
@@ -83,7 +83,6 @@ impl<'a, V: Copy + Eq, S: Relays<V>, const N: usize> Item<'a, V, S, N> {
     /// told what node `i` was.
     fn regular_voices(&self, i: u8) -> Voices
         requires exact { IsExact V.eq }
-        requires item { IsTelling N (telling S.says self.now) }
         requires node { i < N }
         ensures { IsCounted V.eq (slice_index_or self.now.told.now i (Fault 0))
             (regular_relay (telling S.says self.now)) (regular_members (telling S.says self.now))
@@ -105,7 +104,6 @@ impl<'a, V: Copy + Eq, S: Relays<V>, const N: usize> Item<'a, V, S, N> {
     /// one that was told what node `like` was.
     fn voices_for(&self, i: u8, like: u8, voices: &Voices) -> Voices
         requires exact { IsExact V.eq }
-        requires item { IsTelling N (telling S.says self.now) }
         requires node { i < N }
         requires before { like < N }
         requires counted { IsCounted V.eq (slice_index_or self.now.told.now like (Fault 0))
@@ -133,7 +131,6 @@ impl<'a, V: Copy + Eq, S: Relays<V>, const N: usize> Item<'a, V, S, N> {
     /// that aren't odd are counted for it.
     fn convicts_beside(&self, i: u8, regular: &Voices) -> bool
         requires exact { IsExact V.eq }
-        requires item { IsTelling N (telling S.says self.now) }
         requires node { i < N }
         requires other { self.now.commander ≢ i }
         requires counted { IsCounted V.eq (slice_index_or self.now.told.now i (Fault 0))
@@ -160,7 +157,6 @@ impl<'a, V: Copy + Eq, S: Relays<V>, const N: usize> Item<'a, V, S, N> {
     /// them.
     fn convicting_among(&self, nodes: &NodeSet<N>, first: u8) -> NodeSet<N>
         requires exact { IsExact V.eq }
-        requires item { IsTelling N (telling S.says self.now) }
         requires others { has_id nodes.now self.now.commander ≡ false }
         requires first { first < N }
         ensures convicts { (i : ℕ) → has_id nodes.now i ≡ true →
@@ -185,7 +181,6 @@ impl<'a, V: Copy + Eq, S: Relays<V>, const N: usize> Item<'a, V, S, N> {
     /// all alike is convicted by nobody where few members are odd, and need not be asked for.
     pub fn convicting(&self, nodes: &NodeSet<N>) -> NodeSet<N>
         requires exact { IsExact V.eq }
-        requires item { IsTelling N (telling S.says self.now) }
         requires others { has_id nodes.now self.now.commander ≡ false }
         ensures convicts { (i : ℕ) → has_id nodes.now i ≡ true →
             has_id result i ≡ convicts_commander V.eq (telling S.says self.now) i }

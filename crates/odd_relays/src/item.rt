@@ -1,12 +1,10 @@
 //! One member's item, as it is told and relayed.
 
-ghost use Rattle.std.specs.Prelude.{◌≡◌, ◌≢◌, ℕ, ◌<◌, ◌≤◌, List, length, true, IsTrue, ◌↔◌};
-ghost use Rattle.node_grid.specs.Capacity.{IsCapacity};
+ghost use Rattle.std.specs.Prelude.{◌≡◌, ◌≢◌, ℕ, ◌<◌, ◌≤◌, List, All, length, true, IsTrue, ◌↔◌};
+ghost use Rattle.std.proofs.Props.{props};
+ghost use Rattle.node_grid.specs.NodeSet.{has_id};
 ghost use Rattle.omh_paths.specs.declared.wrapped.Wrapped.{Wrapped};
 ghost use Rattle.omh_paths.specs.declared.wrapped.Wrapped.TheVariants.{Fault};
-ghost use Rattle.omh.specs.Omh.{ear, own_term};
-ghost use Rattle.odd_relays.specs.Direct.{direct_heard, direct_world};
-ghost use Rattle.odd_relays.specs.Telling.{telling, IsTelling, HasFewOdd};
 
 use crate::values::value_at;
 use node_grid::NodeSet;
@@ -40,6 +38,7 @@ pub struct Phase<const N: usize> {
 }
 
 /// One member's item in a phase: what each node was told of it, and whose relays of it are odd.
+/// No node was told the error that can't be wrapped once more.
 #[derive(Drop)]
 pub struct Item<'a, V, S, const N: usize> {
     /// Who tells and relays it.
@@ -53,14 +52,21 @@ pub struct Item<'a, V, S, const N: usize> {
     pub told: &'a [Wrapped<V>],
     /// What odd members pass on of it.
     pub relays: &'a S,
+    pub ghost fits: { N ≤ 16 },
+    pub ghost short: { phase.rounds ≤ 3 },
+    pub ghost member: { has_id phase.members commander ≡ true },
+    pub ghost by_node: { length told.now ≡ N },
+    pub ghost known: { All (λ v. v ≢ Fault 255) told.now } by { Prim.hlevel props },
 }
 
 impl<'a, V: Copy + Eq, S: Relays<V>, const N: usize> Item<'a, V, S, N> {
+    ghost use Rattle.omh.specs.Omh.{ear, own_term};
+    ghost use Rattle.odd_relays.specs.Direct.{direct_heard, direct_world};
+    ghost use Rattle.odd_relays.specs.Telling.{telling, HasFewOdd};
+
     /// Whether the odd members are few enough: n > 2o + z + m, where of n members o are odd and z
     /// of the others aren't Full.
     pub fn has_few_odd(&self) -> bool
-        requires capacity { IsCapacity N }
-        requires rounds { self.now.phase.rounds ≤ 3 }
         ensures { IsTrue result ↔ HasFewOdd (telling S.says self.now) }
     {
         let members = &self.phase.members;
@@ -72,8 +78,7 @@ impl<'a, V: Copy + Eq, S: Relays<V>, const N: usize> Item<'a, V, S, N> {
 
     /// What node `i` heard for a path of odd members behind the commander.
     pub(crate) fn heard(&self, i: u8, path: &Path) -> Wrapped<V>
-        requires item { IsTelling N (telling S.says self.now) }
-        requires node { i < N }
+        requires { i < N }
         ensures heard { result ≡ direct_heard (telling S.says self.now) i path.now }
         ensures known { result ≢ Fault 255 }
     {
@@ -86,8 +91,7 @@ impl<'a, V: Copy + Eq, S: Relays<V>, const N: usize> Item<'a, V, S, N> {
 
     /// What a member that isn't odd passes on for such a path, and puts into its own majority.
     pub(crate) fn passed(&self, q: u8, path: &Path) -> Wrapped<V>
-        requires item { IsTelling N (telling S.says self.now) }
-        requires node { q < N }
+        requires { q < N }
         ensures { result ≡ own_term (ear (direct_world (telling S.says self.now)) q) path.now }
     {
         if self.phase.full.has(q) {

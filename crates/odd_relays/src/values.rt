@@ -2,7 +2,6 @@
 
 ghost use Rattle.std.specs.Prelude.{◌≡◌, ◌≢◌, ℕ, ◌+◌, ◌-◌, ◌*◌, ◌<◌, ◌≤◌, length, take, drop};
 ghost use Rattle.std.specs.Prelude.{slice_set, slice_index_or, true};
-ghost use Rattle.node_grid.specs.Capacity.{IsCapacity};
 ghost use Rattle.node_grid.specs.NodeSet.{has_id};
 ghost use Rattle.omh_paths.specs.declared.wrapped.Wrapped.TheVariants.{Fault};
 ghost use Rattle.omh_paths.specs.Wrapped.{unwrapped, IsExact};
@@ -34,8 +33,7 @@ pub(crate) fn fill<V: Copy + Eq, const N: usize>(
     nodes: &NodeSet<N>,
     value: Wrapped<V>,
 )
-    requires capacity { IsCapacity N }
-    requires places { length values.old ≡ N }
+    requires { length values.old ≡ N }
     ensures laid { (i : ℕ) → has_id nodes.now i ≡ true →
         slice_index_or values.new i (Fault 0) ≡ value }
     ensures places { length values.new ≡ N }
@@ -52,9 +50,7 @@ pub(crate) fn fill_from<V: Copy + Eq, const N: usize>(
     from: usize,
     value: Wrapped<V>,
 )
-    requires capacity { IsCapacity N }
-    requires room { from + 16 ≤ length work.old }
-    requires small { length work.old ≤ 4096 }
+    requires { from + N ≤ length work.old }
     ensures laid { (i : ℕ) → has_id nodes.now i ≡ true →
         slice_index_or work.new (from + i) (Fault 0) ≡ value }
     ensures kept { KeepsBelow from work.old work.new }
@@ -72,7 +68,6 @@ pub(crate) fn copy_led<V: Copy + Eq, const N: usize>(
     nodes: &NodeSet<N>,
     leader_of: &[u8],
 )
-    requires capacity { IsCapacity N }
     requires places { length all.old ≡ N }
     requires leaders { length leader_of.now ≡ N }
     requires values { (i : ℕ) → has_id nodes.now i ≡ true →
@@ -113,7 +108,6 @@ pub(crate) fn are_alike<V: Copy + Eq, const N: usize>(
     first: u8,
 ) -> bool
     requires exact { IsExact V.eq }
-    requires capacity { IsCapacity N }
     requires places { length values.now ≡ N }
     requires first { first < N }
     ensures { result ≡ true → (k : ℕ) → has_id nodes.now k ≡ true →
@@ -135,9 +129,7 @@ pub(crate) fn fill_terms<V: Copy + Eq, const N: usize>(
     at: usize,
     value: Wrapped<V>,
 )
-    requires capacity { IsCapacity N }
-    requires room { at + 240 < length work.old }
-    requires small { length work.old ≤ 4096 }
+    requires { at + 16 * N ≤ length work.old }
     ensures laid { (i : ℕ) → has_id nodes.now i ≡ true →
         slice_index_or work.new (at + 16 * i) (Fault 0) ≡ value }
     ensures kept { KeepsOthers nodes.now at work.old work.new }
@@ -155,10 +147,8 @@ pub(crate) fn copy_terms<V: Copy + Eq, const N: usize>(
     from: usize,
     at: usize,
 )
-    requires capacity { IsCapacity N }
-    requires behind { at + 240 < from }
-    requires room { from + 16 ≤ length work.old }
-    requires small { length work.old ≤ 4096 }
+    requires behind { at + 16 * N ≤ from + 15 }
+    requires room { from + N ≤ length work.old }
     ensures laid { (i : ℕ) → has_id nodes.now i ≡ true →
         slice_index_or work.new (at + 16 * i) (Fault 0) ≡
         slice_index_or work.old (from + i) (Fault 0) }
@@ -180,10 +170,9 @@ pub(crate) fn settle_terms<V: Copy + Eq, const N: usize>(
     count: usize,
 )
     requires exact { IsExact V.eq }
-    requires capacity { IsCapacity N }
+    requires nodes { N ≤ 16 }
     requires few { count ≤ 16 }
-    requires room { from + 272 ≤ length work.old }
-    requires small { length work.old ≤ 4096 }
+    requires room { from + 16 + 16 * N ≤ length work.old }
     ensures settled { (i : ℕ) → has_id nodes.now i ≡ true →
         slice_index_or work.new (from + i) (Fault 0) ≡
         unwrapped (majority V.eq (take count (drop (from + 16 + 16 * i) work.old))) }
@@ -199,8 +188,7 @@ pub(crate) fn settle_terms<V: Copy + Eq, const N: usize>(
 
 /// The value of a node among those that begin at `from`.
 fn value_from<V: Copy + Eq>(values: &[Wrapped<V>], from: usize, i: u8) -> Wrapped<V>
-    requires room { from + i < length values.now }
-    requires small { length values.now ≤ 4096 }
+    requires { from + i < length values.now }
     ensures { result ≡ slice_index_or values.now (from + i) (Fault 0) }
 {
     values[from + i as usize]

@@ -62,6 +62,17 @@ pub record IsBranch (nodes rounds : ℕ) (members : List ℕ) (place r : ℕ) (b
   pub few : b.paths ≤ 65536
   pub small : b.begins + b.paths ≤ 2097152
 
+-- the place of a member, and relays that are fewer than the rounds: those of one more are heard too
+pub record IsShorter (rounds : ℕ) (members : List ℕ) (place r : ℕ) : Type 0 where
+  pub member : place < length members
+  pub shorter : r < rounds
+
+-- a list of so many values has a place k, and so many terms from k * width on
+pub record HasTerms (k width values : ℕ) : Type 0 where
+  pub within : k * width + width ≤ values
+  pub place : k < values
+  pub small : k * width + width ≤ 65536
+
 -- where the node isn't on that path, what it settles for it stands at place k of the list
 abbrev pub SettledAt : {V : Type 0} → (V → V → Bool) → Ear V → ℕ → ℕ → List (Wrapped V) → ℕ → Type 0
 SettledAt eq x place r work k = has_id (relay_path x.members place r k) x.me ≡ false → slice_index_or work k (Fault 0) ≡ settled_at eq x (relay_path x.members place r k)

@@ -9,7 +9,7 @@ ghost use Rattle.omh_paths.specs.Majority.{majority};
 ghost use Rattle.omh_paths.specs.Paths.{outside, index_in};
 ghost use Rattle.omh.specs.Omh.{settled_at};
 ghost use Rattle.omh.specs.Flat.{section_at, flat_place, flat_ear, IsStation, IsRoom, IsBranch};
-ghost use Rattle.omh.specs.Flat.{AreSettled, laid_own, path_settled};
+ghost use Rattle.omh.specs.Flat.{IsShorter, HasTerms, AreSettled, laid_own, path_settled};
 
 use node_grid::NodeSet;
 use omh_paths::{Path, Wrapped, count_paths, majority, rank, unrank};
@@ -197,9 +197,7 @@ impl<const N: usize> Station<N> {
             self.now.count }
         requires within { (q : ℕ) → has_id path.now q ≡ true → has_id self.now.members q ≡ true }
         requires width { width ≡ length (outside self.now.members path.now) }
-        requires room { k * width + width ≤ length work.old }
-        requires place { k < length work.old }
-        requires small { k * width + width ≤ 65536 }
+        requires room { HasTerms k width (length work.old) }
         ensures { work.new ≡ path_settled V.eq (outside self.now.members path.now) self.now.me k
             width own work.old }
     {
@@ -221,8 +219,7 @@ impl<const N: usize> Station<N> {
         requires station { IsStation N self.now.nodes self.now.rounds self.now.members
             self.now.count }
         requires room { IsRoom self.now.nodes self.now.rounds heard.now work.old }
-        requires member { commander < length self.now.members }
-        requires shorter { relays < self.now.rounds }
+        requires shorter { IsShorter self.now.rounds self.now.members commander relays }
         requires longer { AreSettled V.eq
             (flat_ear self.now.nodes self.now.rounds self.now.members self.now.me self.now.full
             heard.now) commander (relays + 1) work.old }

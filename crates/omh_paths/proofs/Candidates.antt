@@ -11,9 +11,7 @@ use Rattle.omh_paths.specs.declared.wrapped.Wrapped.TheVariants.{Fault}
 use Rattle.omh_paths.specs.Wrapped.{same, IsExact, is_error}
 use Rattle.omh_paths.specs.Majority.{has_majority, majority, IsOnlyCandidate}
 use Rattle.omh_paths.specs.MajorityLaws.{same_tells, majority_is, majority_none}
-
-abbrev pub votes : {V : Type 0} → List (Wrapped V) → ℕ
-votes seen = count (λ y. not (is_error y)) seen
+use Rattle.omh_paths.specs.VoteLaws.{votes, votes-error, votes-more, count-yes, count-no, count-at_most, apart}
 
 -- no value but c can stand at more than half_less of the votes so far
 pub record Leads {V : Type 0} (eq : V → V → Bool) (seen : List (Wrapped V)) (c : Wrapped V) (n : ℕ) : Type 0 where
@@ -21,28 +19,7 @@ pub record Leads {V : Type 0} (eq : V → V → Bool) (seen : List (Wrapped V)) 
   pub own : 2 * count (same eq c) seen ≤ votes seen + n
   pub others : (y : Wrapped V) → is_error y ≡ false → same eq y c ≡ false → 2 * count (same eq y) seen + n ≤ votes seen
 
-votes-error : {V : Type 0} (seen : List (Wrapped V)) (v : Wrapped V) → is_error v ≡ true → votes (seen ++ v ∷ []) ≡ votes seen
-votes-error seen v e = let k = count-more (λ y. not (is_error y)) seen v in let b : bit (not (is_error v)) ≡ 0 = ap (λ b. bit (not b)) e in omega arith
-
-votes-more : {V : Type 0} (seen : List (Wrapped V)) (v : Wrapped V) → is_error v ≡ false → votes (seen ++ v ∷ []) ≡ votes seen + 1
-votes-more seen v e = let k = count-more (λ y. not (is_error y)) seen v in let b : bit (not (is_error v)) ≡ 1 = ap (λ b. bit (not b)) e in omega arith
-
-count-yes : {V : Type 0} (eq : V → V → Bool) (y : Wrapped V) (seen : List (Wrapped V)) (v : Wrapped V) → same eq y v ≡ true → count (same eq y) (seen ++ v ∷ []) ≡ count (same eq y) seen + 1
-count-yes eq y seen v e = let k = count-more (same eq y) seen v in let b : bit (same eq y v) ≡ 1 = ap bit e in omega arith
-
-count-no : {V : Type 0} (eq : V → V → Bool) (y : Wrapped V) (seen : List (Wrapped V)) (v : Wrapped V) → same eq y v ≡ false → count (same eq y) (seen ++ v ∷ []) ≡ count (same eq y) seen
-count-no eq y seen v e = let k = count-more (same eq y) seen v in let b : bit (same eq y v) ≡ 0 = ap bit e in omega arith
-
-count-at_most : {V : Type 0} (eq : V → V → Bool) (y : Wrapped V) (seen : List (Wrapped V)) (v : Wrapped V) → count (same eq y) (seen ++ v ∷ []) ≤ count (same eq y) seen + 1
-count-at_most eq y seen v = elim (cases_Bool (same eq y v)) [ inl s ↦ omega (arith, count-yes eq y seen v s) | inr d ↦ omega (arith, count-no eq y seen v d) ]
-
 module _ {V : Type 0} {eq : V → V → Bool} (exact : IsExact eq) where
-  apart : (y v : Wrapped V) → is_error y ≡ false → is_error v ≡ true → same eq y v ≡ false
-  apart y v ey ev = elim (cases_Bool (same eq y v)) [
-    | inl s ↦ absurd (both_ways _ ey (ap (is_error {V = V}) (same_tells exact y v s) ∙ ev))
-    | inr d ↦ d
-  ]
-
   -- each value that leads by nothing is at half_less of the votes at most
   level : (seen : List (Wrapped V)) (c y : Wrapped V) → Leads eq seen c 0 → is_error y ≡ false → 2 * count (same eq y) seen ≤ votes seen
   level seen c y h ok = elim (cases_Bool (same eq y c)) [
@@ -53,8 +30,8 @@ module _ {V : Type 0} {eq : V → V → Bool} (exact : IsExact eq) where
   pub leads_error : (seen : List (Wrapped V)) (c v : Wrapped V) (n : ℕ) → Leads eq seen c n → is_error v ≡ true → Leads eq (seen ++ v ∷ []) c n
   leads_error seen c v n h e = record {
     good = h.good;
-    own = omega (arith, h.own, votes-error seen v e, count-no eq c seen v (apart c v h.good e));
-    others = λ y ok d. omega (arith, h.others y ok d, votes-error seen v e, count-no eq y seen v (apart y v ok e));
+    own = omega (arith, h.own, votes-error seen v e, count-no eq c seen v (apart exact c v h.good e));
+    others = λ y ok d. omega (arith, h.others y ok d, votes-error seen v e, count-no eq y seen v (apart exact y v ok e));
   }
 
   pub leads_first : (seen : List (Wrapped V)) (c v : Wrapped V) → Leads eq seen c 0 → is_error v ≡ false → Leads eq (seen ++ v ∷ []) v 1

@@ -8,3 +8,4 @@ pub mod Tables
 pub mod Layout
 pub mod MemberLaws
 pub use Rattle.node_grid.specs.Count
+pub mod VoteLaws

@@ -1,10 +1,13 @@
-//! The words with which a program is called.
+//! The words with which a program is called, and the status with which it ends.
 #![tactic(auto)]
 
 ghost use Rattle.std.specs.Prelude.{◌≡◌, ℕ, ◌^◌, ◌<◌, drop, decimal, None, IfOk, IfSome};
 ghost use Rattle.std.specs.Vec.Iter.{into_iter_items};
 
+mod status;
+
 use itoa::Buffer;
+pub use status::Status;
 use std::alloc::{AllocError, Global};
 use std::env::Args;
 

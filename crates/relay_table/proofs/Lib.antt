@@ -2,6 +2,7 @@ pub mod Frees
 pub mod Known
 pub mod Filling
 pub mod Stations
+pub mod Fitting
 pub mod Walks
 pub mod Apart
 pub mod Settled

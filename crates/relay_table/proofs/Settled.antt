@@ -5,6 +5,7 @@ use Rattle.std.proofs.Math.Nat.{mul-le-mul}
 use Rattle.std.proofs.lemmas.Nat.{mul-add-lt}
 use Rattle.std.proofs.lemmas.Bool.{cases_Bool, cases_eq, cond-true, cond-false}
 use Rattle.std.proofs.lemmas.List.{get_or-drop, get_or-take, get_or-map, ext_get_or, length-map, length-take, length-drop, length_push, take_all}
+use Rattle.node_grid.specs.Capacity.{IsCapacity}
 use Rattle.node_grid.specs.NodeSet.{has_id, without_id, IsIdSet}
 use Rattle.node_grid.specs.Count.{bit, count, Distinct}
 use Rattle.omh_paths.specs.declared.wrapped.Wrapped.{Wrapped}
@@ -54,8 +55,8 @@ module _ {V : Type 0} {n : ℕ} (read : List ℕ → Wrapped V) (members others 
   on_it : is_on_path members me free ≡ has_id path me
   on_it = ap (is_on_path members me) free_is ∙ on_path n members others me r k ids others_are low
 
-  pub next_behind : HaveNext (without_id free me) now
-  next_behind = subst (λ (f : List ℕ). HaveNext (without_id f me) now) (sym free_is) (have_next n members others me r k ids others_are low now h.walk)
+  pub next_behind : IsCapacity n → HaveNext (without_id free me) now
+  next_behind sized = subst (λ (f : List ℕ). HaveNext (without_id f me) now) (sym free_is) (have_next n members others me r k ids others_are low sized now h.walk)
 
   next_path : is_on_path members me free ≡ false → IsNext members r me k
   next_path out = cursors_law n members ids r me k low (sym on_it ∙ out)

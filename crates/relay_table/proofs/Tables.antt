@@ -19,9 +19,11 @@ use Rattle.relay_walk.specs.declared.round.Round.{Round}
 use Rattle.relay_walk.specs.Laid.{laid}
 use Rattle.relay_walk.specs.Walking.{IsWalk}
 use Rattle.relay_table.specs.declared.station.Station.{Station}
-use Rattle.relay_table.specs.Rooms.{IsRoom}
+use Rattle.relay_table.specs.Free.{free_begins, AreFree}
+use Rattle.relay_table.specs.Rooms.{IsRoom, IsFreeRoom}
 use Rattle.relay_table.specs.Settling.{IsSeated, IsKeptBy, IsHeardBy, IsToldLast, AreSettled, hearing_of, other_path, settled_at_place}
 use Rattle.relay_table.specs.Tabled.{IsStation, AreKnown, kept_nodes, unstarted, heard_among, started, others_in, told_in, after_frames, settled_in}
+use Rattle.relay_table.proofs.Frees.{one_more, none_free}
 use Rattle.relay_table.proofs.HeardView.{heard_laid, heard_nothing, heard_at, hears_after, hears_last_after, hears_now}
 use Rattle.relay_table.proofs.Known.{known_nothing}
 use Rattle.relay_table.proofs.Apart.{settles_last}
@@ -190,3 +192,13 @@ opened_room {V} nodes rounds below kept room heard settled low few is unheard un
       settled_ok = omega (arith, all, many, ap (λ (ts : List (Wrapped V)). length ts) unsettled, length-map settled said);
       known = subst AreKnown (sym unheard) (known_nothing room);
     }
+
+pub opened_sets : (nodes rounds begins : ℕ) (members : List ℕ) (sets : List (List ℕ)) → begins ≡ free_begins nodes (rounds + 1) → members ≡ [] → sets ≡ replicate begins [] → IsFreeRoom nodes rounds members sets
+opened_sets nodes rounds begins members sets is none empty = record {
+  long = ap (λ (ss : List (List ℕ)). length ss) empty ∙ length-replicate begins [] ∙ is ∙ one_more nodes rounds;
+  free = subst (λ (ms : List ℕ). AreFree ms rounds sets) (sym none) (none_free rounds sets (ap (λ (ss : List (List ℕ)). get_or ss 0 []) empty ∙ first_empty begins []));
+}
+  where
+    first_empty : (n : ℕ) (none : List ℕ) → get_or (replicate n none) 0 none ≡ none
+    first_empty zero none = refl
+    first_empty (suc n) none = refl

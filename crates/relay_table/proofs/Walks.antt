@@ -5,6 +5,7 @@ use Rattle.std.specs.List.{flat_map}
 use Rattle.std.proofs.lemmas.Bool.{cases_Bool, cond-true, cond-false, and_parts, not-true}
 use Rattle.std.proofs.lemmas.List.{take_all, flat_map_more, length_push, get_or_push, length-map, map-append, length-append}
 use Rattle.std.proofs.lemmas.List.Elements.{filter_more}
+use Rattle.node_grid.specs.Capacity.{IsCapacity}
 use Rattle.node_grid.specs.NodeSet.{has_id, without_id, IsIdSet}
 use Rattle.node_grid.specs.NodeSetLaws.{has-without_id}
 use Rattle.omh_paths.specs.declared.wrapped.Wrapped.{Wrapped}
@@ -107,8 +108,10 @@ module _ (n : ℕ) (members others : List ℕ) (me r k : ℕ) (ids : IsIdSet n m
   on_path = ap (λ (b : Bool). has_id members me && not b) (has_kept (λ x. not (has_id path x)) members me) ∙ either_way (has_id members me) (has_id path me) (listed.within me)
 
   -- each frame that is read for the path has its entry
-  pub have_next : {N : ℕ} (round : Round N) → IsWalk members others r k round → HaveNext (without_id (outside members path) me) round
-  have_next round walk = record {
+  pub have_next : IsCapacity n → (round : Round n) → IsWalk members others r k round → HaveNext (without_id (outside members path) me) round
+  have_next sized round walk = record {
+    sized = sized;
+    low = λ q on. member-lt n members q ids (outside_tells q (and_parts (not (q == me)) (has_id (outside members path) q) (sym (has-without_id (outside members path) me q) ∙ on)).1).0;
     wide = walk.frames.wide;
     each = λ q on here.
         let t = outside_tells q (and_parts (not (q == me)) (has_id (outside members path) q) (sym (has-without_id (outside members path) me q) ∙ on)).1 in
@@ -252,8 +255,8 @@ module _ {V : Type 0} {n : ℕ} (read : List ℕ → Wrapped V) (members others 
       let l = ap (λ (f : List ℕ). length (without_id f me)) is in
       omega (arith, l, room_here room (sym (on_it free is) ∙ out))
 
-  pub next_there : (free : List ℕ) → free ≡ outside members here → HaveNext (without_id free me) now
-  next_there free is = subst (λ (f : List ℕ). HaveNext (without_id f me) now) (sym is) (have_next n members others me r k ids others_are low now h.walk)
+  pub next_there : IsCapacity n → (free : List ℕ) → free ≡ outside members here → HaveNext (without_id free me) now
+  next_there sized free is = subst (λ (f : List ℕ). HaveNext (without_id f me) now) (sym is) (have_next n members others me r k ids others_are low sized now h.walk)
 
   pub halfway_more : (free : List ℕ) (next : Round n) (new : List (Wrapped V)) (after : ℕ) → free ≡ outside members here
       → start + length (map (told_in (entries_of read first) members r) (paths_of_length others (suc r))) ≤ length flat

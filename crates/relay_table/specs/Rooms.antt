@@ -12,6 +12,11 @@ pub record IsRoom {V : Type 0} (nodes rounds : ℕ) (heard settled : List (Term 
   pub settled_ok : length settled ≡ section_at (nodes - 1) (kept_nodes rounds)
   pub known : AreKnown (map said heard)
 
+-- the same room for the terms alone
+pub record IsHeardRoom {V : Type 0} (nodes rounds : ℕ) (heard : List (Term V)) : Type 0 where
+  pub heard_ok : length heard ≡ section_at (nodes - 1) (kept_nodes rounds)
+  pub known : AreKnown (map said heard)
+
 -- the members outside each path of up to as many nodes as there are rounds
 pub record IsFreeRoom (nodes rounds : ℕ) (members : List ℕ) (sets : List (List ℕ)) : Type 0 where
   pub long : length sets ≡ free_begins nodes (suc rounds)

@@ -50,12 +50,13 @@ abbrev pub settled_at_place : {V : Type 0} → List ℕ → List ℕ → ℕ →
 settled_at_place members others me full own settled c =
     if has_id members c then (if c == me then (if full then own else Fault 0) else slice_index_or settled (index_in others c) (Fault 0)) else Fault 0
 
--- the same of a station, and of the sets that are laid for it
+-- the same of a station, and that the members outside each path are laid for it
 abbrev pub IsSeated : {N : ℕ} → Station N → Type 0
 IsSeated {N} s = IsStation N s.nodes s.rounds s.me s.members s.others
 
-abbrev pub IsSets : {N : ℕ} → Station N → List (List ℕ) → Type 0
-IsSets s sets = IsFreeRoom s.nodes s.rounds s.members sets
+pub record IsLaidOut {N : ℕ} (s : Station N) : Type 0 where
+  pub seated : IsSeated s
+  pub sets : IsFreeRoom s.nodes s.rounds s.members s.free.items
 
 abbrev pub IsKeptBy : {V : Type 0} {N : ℕ} → Station N → List (Wrapped V) → Ear V → Type 0
 IsKeptBy s flat x = HearsKept s.rounds s.rounds s.members s.others s.me s.full flat x

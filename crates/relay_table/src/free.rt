@@ -6,7 +6,7 @@ ghost use Rattle.path_order.specs.Order.{each_left_out};
 ghost use Rattle.relay_walk.specs.Laid.{laid};
 ghost use Rattle.relay_table.specs.Free.{free_begins, AreFree, left_out_of};
 
-use node_grid::{NoMemory, NodeSet};
+use node_grid::NodeSet;
 use omh_paths::count_paths;
 use std::alloc::{AllocError, Global};
 
@@ -25,7 +25,10 @@ pub(crate) fn free_begins(members: u8, len: u8) -> usize
 }
 
 /// So many empty sets.
-fn no_sets<const N: usize>(alloc: Global, len: usize) -> Result<Vec<NodeSet<N>>, AllocError>
+pub(crate) fn no_sets<const N: usize>(
+    alloc: Global,
+    len: usize,
+) -> Result<Vec<NodeSet<N>>, AllocError>
     requires capacity { IsCapacity N }
     ensures { IfOk result (λ sets. sets.items ≡ replicate len []) }
 {
@@ -50,7 +53,6 @@ fn set_set<const N: usize>(sets: &mut [NodeSet<N>], place: usize, set: &NodeSet<
 fn lay_each_left_out<const N: usize>(set: &NodeSet<N>, at: usize, sets: &mut [NodeSet<N>]) -> usize
     requires capacity { IsCapacity N }
     requires room { at + length set.now ≤ length sets.old }
-    requires small { length sets.old ≤ 1048576 }
     ensures sets { sets.new ≡ laid at (each_left_out set.now) sets.old }
     ensures behind { result ≡ at + length set.now }
 {
@@ -69,7 +71,6 @@ fn lay_longer<const N: usize>(from: usize, until: usize, sets: &mut [NodeSet<N>]
     requires capacity { IsCapacity N }
     requires order { from ≤ until }
     requires room { until + length (left_out_of from until sets.old) ≤ length sets.old }
-    requires small { length sets.old ≤ 1048576 }
     ensures sets { sets.new ≡ laid until (left_out_of from until sets.old) sets.old }
     ensures behind { result ≡ until + length (left_out_of from until sets.old) }
 {
@@ -85,12 +86,11 @@ fn lay_longer<const N: usize>(from: usize, until: usize, sets: &mut [NodeSet<N>]
 /// in lexicographic order.
 ///
 /// No path is worked out: behind each set stand those without one of its members.
-fn lay_free<const N: usize>(members: &NodeSet<N>, m: u8, sets: &mut [NodeSet<N>])
+pub(crate) fn lay_free<const N: usize>(members: &NodeSet<N>, m: u8, sets: &mut [NodeSet<N>])
     requires capacity { IsCapacity N }
     requires rounds { m ≤ 3 }
     requires room { IsIdSet N members.now
         → free_begins (length members.now) (m + 1) ≤ length sets.old }
-    requires small { length sets.old ≤ 1048576 }
     ensures ids { IsIdSet N members.now }
     ensures free { AreFree members.now m sets.new }
     ensures room { length sets.new ≡ length sets.old }
@@ -99,55 +99,5 @@ fn lay_free<const N: usize>(members: &NodeSet<N>, m: u8, sets: &mut [NodeSet<N>]
     set_set(sets, 0, members);
     for len in 0..m {
         lay_longer(free_begins(count, len), free_begins(count, len + 1), sets);
-    }
-}
-
-/// The members outside each path of none to m members.
-#[derive(Drop)]
-pub(crate) struct FreeMembers<const N: usize> {
-    sets: Vec<NodeSet<N>>,
-}
-
-impl<const N: usize> FreeMembers<N> {
-    /// Room for the sets of paths of up to `m` out of `nodes` members, as of no members.
-    pub(crate) fn open(alloc: Global, nodes: u8, m: u8) -> Result<FreeMembers<N>, NoMemory>
-        requires capacity { IsCapacity N }
-        requires nodes { nodes ≤ N }
-        requires rounds { m ≤ 3 }
-        ensures room { IfOk result (λ free. length free.sets.items ≡ free_begins nodes (m + 1)) }
-        ensures free { IfOk result (λ free. AreFree [] m free.sets.items) }
-    {
-        match no_sets(alloc, free_begins(nodes, m + 1)) {
-            Ok(sets) => Ok(FreeMembers { sets }),
-            Err(_) => Err(NoMemory),
-        }
-    }
-
-    /// Lays the sets of paths of up to `m` of these members, where they aren't those of before.
-    pub(crate) fn fill(&mut self, before: &NodeSet<N>, members: &NodeSet<N>, m: u8)
-        requires capacity { IsCapacity N }
-        requires rounds { m ≤ 3 }
-        requires room { IsIdSet N members.now
-            → free_begins (length members.now) (m + 1) ≤ length self.old.sets.items }
-        requires small { length self.old.sets.items ≤ 1048576 }
-        requires ids { IsIdSet N before.now }
-        requires filled { AreFree before.now m self.old.sets.items }
-        ensures ids { IsIdSet N members.now }
-        ensures free { AreFree members.now m self.new.sets.items }
-        ensures room { length self.new.sets.items ≡ length self.old.sets.items }
-    {
-        if members != before {
-            lay_free(members, m, self.sets.as_mut_slice());
-        }
-    }
-
-    /// The members outside a path, which stands at place `k` among those of `len` out of `members`.
-    pub(crate) fn outside(&self, members: u8, len: u8, k: usize) -> NodeSet<N>
-        requires members { members ≤ 16 }
-        requires short { len ≤ 4 }
-        requires place { free_begins members len + k < length self.now.sets.items }
-        ensures { result ≡ slice_index_or self.now.sets.items (free_begins members len + k) [] }
-    {
-        self.sets[free_begins(members, len) + k]
     }
 }

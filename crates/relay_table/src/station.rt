@@ -1,25 +1,24 @@
 ghost use Rattle.std.specs.Prelude.{◌≡◌, ◌≢◌, ◌+◌, ◌≤◌, ◌<◌, ◌∷◌, [], ◌==◌, ◌&&◌, not, ℕ, suc};
 ghost use Rattle.std.specs.Prelude.{length, map, take, drop, slice_index_or, true, false};
 ghost use Rattle.std.specs.Prelude.{if◌then◌else◌};
-ghost use Rattle.node_grid.specs.Capacity.{IsCapacity};
 ghost use Rattle.node_grid.specs.NodeSet.{has_id, without_id, ids_below, ids_where};
 ghost use Rattle.equivocation.specs.Conviction.{convicts, is_convicted};
 ghost use Rattle.omh_paths.specs.declared.wrapped.Wrapped.TheVariants.{Plain, Fault};
-ghost use Rattle.omh_paths.specs.Wrapped.{IsExact, unwrapped, is_error, same};
+ghost use Rattle.omh_paths.specs.Wrapped.{unwrapped, is_error, same};
 ghost use Rattle.omh_paths.specs.Majority.{majority};
-ghost use Rattle.omh_paths.specs.Paths.{index_in, paths_of_length, path_count, outside};
+ghost use Rattle.omh_paths.specs.Paths.{index_in, paths_of_length, path_at, path_count, outside};
 ghost use Rattle.omh.specs.Omh.{Ear};
 ghost use Rattle.omh.specs.Flat.{section_at};
 ghost use Rattle.relay_terms.specs.Terms.{said, term_in};
 ghost use Rattle.relay_walk.specs.Laid.{laid};
 ghost use Rattle.relay_walk.specs.Walking.{HaveNext, IsMoved, IsWalk, next_in, entries_of};
-ghost use Rattle.relay_table.specs.Rooms.{IsRoom};
-ghost use Rattle.relay_table.specs.Settling.{is_on_path, own_said, IsSeated, IsSets};
+ghost use Rattle.relay_table.specs.Rooms.{IsRoom, IsHeardRoom};
+ghost use Rattle.relay_table.specs.Settling.{is_on_path, own_said, IsSeated, IsLaidOut};
 ghost use Rattle.relay_table.specs.Settling.{IsKeptBy, IsHeardBy, IsToldLast, AreSettled};
 ghost use Rattle.relay_table.specs.Settling.{settled_at_place};
 ghost use Rattle.relay_table.specs.Tabled.{AreKnown, kept_nodes, told_in, term_of};
 
-use crate::free::{FreeMembers, free_begins};
+use crate::free::{free_begins, lay_free};
 use equivocation::tolerated;
 use node_grid::NodeSet;
 use omh_paths::count_paths;
@@ -56,10 +55,8 @@ fn disagrees<V: Item>(own: &Term<V>, relay: &Term<V>) -> bool
 
 /// What is settled from the own term and so many terms, which begin at `from`.
 fn settled_behind<V: Item>(terms: &[Term<V>], from: usize, width: usize, own: &Term<V>) -> Term<V>
-    requires exact { IsExact V.eq }
     requires within { from + width ≤ length terms.now }
     requires few { width ≤ 16 }
-    requires small { from ≤ 1048576 }
     ensures { said result ≡ unwrapped (majority V.eq
         (said own.now ∷ map said (take width (drop from terms.now)))) }
 {
@@ -67,7 +64,7 @@ fn settled_behind<V: Item>(terms: &[Term<V>], from: usize, width: usize, own: &T
 }
 
 /// Who hears and settles.
-#[derive(Clone, Copy)]
+#[derive(Drop)]
 pub(crate) struct Station<const N: usize> {
     /// The members and the node are below this.
     pub(crate) nodes: u8,
@@ -81,9 +78,45 @@ pub(crate) struct Station<const N: usize> {
     pub(crate) me: u8,
     /// Whether the node is Full.
     pub(crate) full: bool,
+    /// The members outside each path of none to m members.
+    pub(crate) free: Vec<NodeSet<N>>,
 }
 
 impl<const N: usize> Station<N> {
+    /// Takes up the members, the node itself and whether it is Full.
+    pub(crate) fn seat(&mut self, members: &NodeSet<N>, me: u8, full: bool)
+        requires station { IsLaidOut self.old }
+        requires members { (q : ℕ) → has_id members.now q ≡ true → q < self.old.nodes }
+        requires me { me < self.old.nodes }
+        ensures seat { self.new ≡ record self.old {
+          members = members.now;
+          others = without_id members.now me;
+          me = me;
+          full = full;
+          free = self.new.free;
+        } }
+        ensures station { IsLaidOut self.new }
+    {
+        if *members != self.members {
+            lay_free(members, self.rounds, self.free.as_mut_slice());
+        }
+        self.members = *members;
+        self.others = members.without(me);
+        self.me = me;
+        self.full = full;
+    }
+
+    /// The members outside a path, which stands at place `k` among those of `len` members.
+    fn outside(&self, len: u8, k: usize) -> NodeSet<N>
+        requires station { IsLaidOut self.now }
+        requires short { len ≤ self.now.rounds }
+        requires place { k < path_count (length self.now.members) len }
+        ensures { result ≡ outside self.now.members
+            (path_at (paths_of_length self.now.members len) k) }
+    {
+        self.free[free_begins(self.members.len(), len) + k]
+    }
+
     /// Whether the node itself is on the path outside which these members stand.
     fn is_on_path(&self, free: &NodeSet<N>) -> bool
         ensures { result ≡ is_on_path self.now.members self.now.me free.now }
@@ -99,12 +132,10 @@ impl<const N: usize> Station<N> {
         at: usize,
         heard: &mut [Term<V>],
     ) -> usize
-        requires capacity { IsCapacity N }
         requires me { self.now.me < N }
         requires more { HaveNext (without_id free.now self.now.me) frames.old }
         requires room { is_on_path self.now.members self.now.me free.now ≡ false
             → at + length (without_id free.now self.now.me) ≤ length heard.old }
-        requires small { length heard.old ≤ 1048576 }
         ensures heard { map said heard.new ≡ (if is_on_path self.now.members self.now.me free.now
             then map said heard.old
             else laid at (map (next_in (term_in V.of_bytes) frames.old)
@@ -124,21 +155,12 @@ impl<const N: usize> Station<N> {
     }
 
     /// Takes the frames of a relay round.
-    pub(crate) fn hear<V: Item>(
-        &self,
-        frames: &mut Round<'_, N>,
-        round: u8,
-        free: &FreeMembers<N>,
-        heard: &mut [Term<V>],
-    )
-        requires station { IsSeated self.now }
+    pub(crate) fn hear<V: Item>(&self, frames: &mut Round<'_, N>, round: u8, heard: &mut [Term<V>])
+        requires station { IsLaidOut self.now }
         requires some { 0 < round }
-        requires round { round ≤ self.now.rounds }
+        requires kept { round < kept_nodes self.now.rounds }
         requires walk { IsWalk self.now.members self.now.others round 0 frames.old }
-        requires free { IsSets self.now free.now.sets.items }
-        requires room { section_at (length self.now.others) (round + 1) ≤ length heard.old }
-        requires small { length heard.old ≤ 1048576 }
-        requires known { AreKnown (map said heard.old) }
+        requires room { IsHeardRoom self.now.nodes self.now.rounds heard.old }
         ensures heard { map said heard.new ≡ laid (section_at (length self.now.others) round)
             (map (told_in (entries_of (term_in V.of_bytes) frames.old) self.now.members round)
             (paths_of_length self.now.others (suc round))) (map said heard.old) }
@@ -148,7 +170,7 @@ impl<const N: usize> Station<N> {
         let count = self.members.len();
         let mut at = section_at(self.others.len(), round);
         for k in 0..count_paths(count, round) {
-            let outside = free.outside(count, round, k);
+            let outside = self.outside(round, k);
             at = self.hear_path(frames, &outside, at, heard);
         }
     }
@@ -177,16 +199,13 @@ impl<const N: usize> Station<N> {
         heard: &[Term<V>],
         settled: &mut [Term<V>],
     ) -> usize
-        requires capacity { IsCapacity N }
         requires me { self.now.me < N }
-        requires exact { IsExact V.eq }
         requires more { HaveNext (without_id free.now self.now.me) frames.old }
         requires room { is_on_path self.now.members self.now.me free.now ≡ false
             → at < length settled.old }
         requires heard { is_on_path self.now.members self.now.me free.now ≡ false
             → at < length heard.now }
         requires known { AreKnown (map said heard.now) }
-        requires small { length settled.old ≤ 1048576 }
         ensures settled { map said settled.new
             ≡ (if is_on_path self.now.members self.now.me free.now
             then map said settled.old
@@ -215,20 +234,13 @@ impl<const N: usize> Station<N> {
     fn settle_longest<V: Item>(
         &self,
         frames: &mut Round<'_, N>,
-        free: &FreeMembers<N>,
         heard: &[Term<V>],
         settled: &mut [Term<V>],
     )
-        requires exact { IsExact V.eq }
-        requires station { IsSeated self.now }
+        requires station { IsLaidOut self.now }
         requires some { 0 < self.now.rounds }
         requires walk { IsWalk self.now.members self.now.others self.now.rounds 0 frames.old }
-        requires free { IsSets self.now free.now.sets.items }
-        requires heard { section_at (length self.now.others) self.now.rounds ≤ length heard.now }
-        requires known { AreKnown (map said heard.now) }
-        requires room { path_count (length self.now.others) self.now.rounds ≤ length settled.old }
-        requires small { length heard.now ≤ 1048576 }
-        requires few { length settled.old ≤ 1048576 }
+        requires room { IsRoom self.now.nodes self.now.rounds heard.now settled.old }
         ensures settled { (x : Ear V) → IsKeptBy self.now (map said heard.now) x
             → IsToldLast self.now (entries_of (term_in V.of_bytes) frames.old) x
             → AreSettled V.eq x self.now.others self.now.rounds (map said settled.new) }
@@ -238,22 +250,17 @@ impl<const N: usize> Station<N> {
         let section = &heard[section_at(self.others.len(), self.rounds - 1)..];
         let mut at = 0;
         for k in 0..count_paths(count, self.rounds) {
-            let outside = free.outside(count, self.rounds, k);
+            let outside = self.outside(self.rounds, k);
             at = self.settle_path(frames, &outside, at, section, settled);
         }
     }
 
     /// Settles the paths of `len` nodes, in place of what is settled for those of one node more.
     fn settle_shorter<V: Item>(&self, len: u8, heard: &[Term<V>], settled: &mut [Term<V>])
-        requires exact { IsExact V.eq }
         requires station { IsSeated self.now }
         requires some { 0 < len }
         requires shorter { len < self.now.rounds }
-        requires heard { section_at (length self.now.others) len ≤ length heard.now }
-        requires known { AreKnown (map said heard.now) }
-        requires room { path_count (length self.now.others) len ≤ length settled.old }
-        requires longer { path_count (length self.now.others) (len + 1) ≤ length settled.old }
-        requires small { length heard.now ≤ 1048576 }
+        requires room { IsRoom self.now.nodes self.now.rounds heard.now settled.old }
         ensures settled { (x : Ear V) → IsKeptBy self.now (map said heard.now) x
             → AreSettled V.eq x self.now.others (len + 1) (map said settled.old)
             → AreSettled V.eq x self.now.others len (map said settled.new) }
@@ -275,22 +282,19 @@ impl<const N: usize> Station<N> {
     pub(crate) fn settle<V: Item>(
         &self,
         frames: &mut Round<'_, N>,
-        free: &FreeMembers<N>,
         heard: &[Term<V>],
         settled: &mut [Term<V>],
     )
-        requires exact { IsExact V.eq }
-        requires station { IsSeated self.now }
+        requires station { IsLaidOut self.now }
         requires some { 0 < self.now.rounds }
         requires walk { IsWalk self.now.members self.now.others self.now.rounds 0 frames.old }
-        requires free { IsSets self.now free.now.sets.items }
         requires room { IsRoom self.now.nodes self.now.rounds heard.now settled.old }
         ensures settled { (x : Ear V) → IsKeptBy self.now (map said heard.now) x
             → IsToldLast self.now (entries_of (term_in V.of_bytes) frames.old) x
             → AreSettled V.eq x self.now.others 1 (map said settled.new) }
         ensures length { length settled.new ≡ length settled.old }
     {
-        self.settle_longest(frames, free, heard, settled);
+        self.settle_longest(frames, heard, settled);
         for done in 1..self.rounds {
             self.settle_shorter(self.rounds - done, heard, settled);
         }
@@ -338,8 +342,7 @@ impl<const N: usize> Station<N> {
     pub(crate) fn hear_item<V: Item>(&self, member: u8, told: Option<V>, heard: &mut [Term<V>])
         requires station { IsSeated self.now }
         requires member { has_id self.now.others member ≡ true }
-        requires room { length self.now.others ≤ length heard.old }
-        requires known { AreKnown (map said heard.old) }
+        requires room { IsHeardRoom self.now.nodes self.now.rounds heard.old }
         ensures heard { map said heard.new
             ≡ laid (index_in self.now.others member) (term_of told ∷ []) (map said heard.old) }
         ensures known { AreKnown (map said heard.new) }
@@ -352,7 +355,6 @@ impl<const N: usize> Station<N> {
     /// Whether a member of which the node heard this is convicted: whether more relays say
     /// otherwise than may be faulty.
     fn is_convicted<V: Item>(&self, told: &Term<V>, relays: &[Term<V>]) -> bool
-        requires exact { IsExact V.eq }
         requires known { said told.now ≢ Fault 254 }
         requires few { length relays.now ≤ 16 }
         ensures { result ≡ is_convicted V.eq (said told.now) (map said relays.now)
@@ -370,12 +372,10 @@ impl<const N: usize> Station<N> {
 
     /// Whether the node convicts another member.
     fn convicts<V: Item>(&self, node: u8, heard: &[Term<V>]) -> bool
-        requires exact { IsExact V.eq }
         requires station { IsSeated self.now }
         requires some { 0 < self.now.rounds }
         requires node { has_id self.now.others node ≡ true }
-        requires room { section_at (length self.now.others) 2 ≤ length heard.now }
-        requires known { AreKnown (map said heard.now) }
+        requires room { IsHeardRoom self.now.nodes self.now.rounds heard.now }
         ensures { (x : Ear V) → IsHeardBy self.now (map said heard.now) x
             → result ≡ convicts V.eq x node }
     {
@@ -388,11 +388,8 @@ impl<const N: usize> Station<N> {
 
     /// The other members that the node convicts.
     pub(crate) fn convicted<V: Item>(&self, heard: &[Term<V>]) -> NodeSet<N>
-        requires exact { IsExact V.eq }
         requires station { IsSeated self.now }
-        requires room { section_at (length self.now.others) (kept_nodes self.now.rounds)
-            ≤ length heard.now }
-        requires known { AreKnown (map said heard.now) }
+        requires room { IsHeardRoom self.now.nodes self.now.rounds heard.now }
         ensures { (x : Ear V) → IsHeardBy self.now (map said heard.now) x → result
             ≡ ids_where (λ c. not (c == self.now.me) && (has_id self.now.members c
             && convicts V.eq x c)) N }

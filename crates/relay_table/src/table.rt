@@ -2,7 +2,6 @@ ghost use Rattle.std.specs.Prelude.{◌≡◌, ◌∷◌, [], ◌≤◌, ◌<◌
 ghost use Rattle.node_grid.specs.Capacity.{IsCapacity};
 ghost use Rattle.node_grid.specs.NodeSet.{has_id, IsIdSet};
 ghost use Rattle.omh_paths.specs.declared.wrapped.Wrapped.TheVariants.{Plain, Fault};
-ghost use Rattle.omh_paths.specs.Wrapped.{IsExact};
 ghost use Rattle.omh_paths.specs.Paths.{paths_of_length};
 ghost use Rattle.omh.specs.Heard.{heard_in, heard_paths, with_heard, forgotten};
 ghost use Rattle.relay_terms.specs.Terms.{said, term_in};
@@ -11,7 +10,7 @@ ghost use Rattle.relay_table.specs.Tabled.{AreKnown, unstarted, started, others_
 ghost use Rattle.relay_table.specs.Tabled.{kept_nodes};
 ghost use Rattle.relay_table.specs.Tabled.{after_frames, term_of, settled_in, convicted_in};
 
-use crate::free::FreeMembers;
+use crate::free::{free_begins, no_sets};
 use crate::station::{Station, section_at};
 use node_grid::{NoMemory, NodeSet};
 use omh_paths::count_paths;
@@ -69,7 +68,6 @@ pub struct Table<V, const N: usize> {
     heard: Vec<Term<V>>,
     /// What is settled for the paths of one length.
     settled: Vec<Term<V>>,
-    free: FreeMembers<N>,
 }
 
 // Clauses see what was heard by path, as of a table of `omh`.
@@ -80,14 +78,13 @@ impl<V, const N: usize> Model for Table<V, N> {
     ghost Value = { Hearing V };
 
     ghost use Rattle.relay_terms.specs.Terms.{said};
-    ghost use Rattle.relay_table.specs.Settling.{hearing_of, IsSeated, IsSets};
+    ghost use Rattle.relay_table.specs.Settling.{hearing_of, IsLaidOut};
     ghost use Rattle.relay_table.specs.Rooms.{IsRoom};
 
     ghost view = { λ t. hearing_of t.station (said t.own) (map said t.heard.items) };
 
-    ghost invariant = { λ t. IsSeated t.station
-        × IsRoom t.station.nodes t.station.rounds t.heard.items t.settled.items
-        × IsSets t.station t.free.sets.items };
+    ghost invariant = { λ t. IsLaidOut t.station
+        × IsRoom t.station.nodes t.station.rounds t.heard.items t.settled.items };
 }
 
 impl<V: Item, const N: usize> Table<V, N> {
@@ -105,7 +102,9 @@ impl<V: Item, const N: usize> Table<V, N> {
         let Ok(settled) = unheard(alloc, room) else {
             return Err(NoMemory);
         };
-        let free = FreeMembers::open(alloc, nodes, m)?;
+        let Ok(free) = no_sets(alloc, free_begins(nodes, m + 1)) else {
+            return Err(NoMemory);
+        };
         let station = Station {
             nodes,
             rounds: m,
@@ -113,13 +112,13 @@ impl<V: Item, const N: usize> Table<V, N> {
             others: NodeSet::empty(),
             me: 0,
             full: false,
+            free,
         };
         Ok(Table {
             station,
             own: Term::nothing(),
             heard,
             settled,
-            free,
         })
     }
 
@@ -131,12 +130,7 @@ impl<V: Item, const N: usize> Table<V, N> {
         ensures { self.new ≡ started self.old members.now me full (Plain own) }
     {
         forget(self.heard.as_mut_slice());
-        let before = self.station.members;
-        self.free.fill(&before, members, self.station.rounds);
-        self.station.members = *members;
-        self.station.others = members.without(me);
-        self.station.me = me;
-        self.station.full = full;
+        self.station.seat(members, me, full);
         self.own = Term::item(own);
     }
 
@@ -153,8 +147,8 @@ impl<V: Item, const N: usize> Table<V, N> {
         ensures { self.new ≡ record self.old
             { heard = map (with_heard (member ∷ []) (term_of told)) self.old.heard } }
     {
-        let station = self.station;
-        station.hear_item(member, told, self.heard.as_mut_slice());
+        self.station
+            .hear_item(member, told, self.heard.as_mut_slice());
     }
 
     /// Takes the frames of a relay round whose terms are kept.
@@ -165,8 +159,7 @@ impl<V: Item, const N: usize> Table<V, N> {
         ensures { self.new
             ≡ after_frames (entries_of (term_in V.of_bytes) frames.old) round self.old }
     {
-        let station = self.station;
-        station.hear(frames, round, &self.free, self.heard.as_mut_slice());
+        self.station.hear(frames, round, self.heard.as_mut_slice());
     }
 
     /// The nodes and the members among them are below this.
@@ -230,7 +223,6 @@ impl<V: Item, const N: usize> Table<V, N> {
     /// The other members that the node convicts by what it heard of their items and of the first
     /// relay round.
     pub fn convicted(&self) -> NodeSet<N>
-        requires exact { IsExact V.eq }
         ensures { result ≡ convicted_in V.eq N self.now }
     {
         self.station.convicted(self.heard.as_slice())
@@ -239,7 +231,6 @@ impl<V: Item, const N: usize> Table<V, N> {
     /// Takes the frames of the last relay round, and writes what is settled of each node's item,
     /// which is the error itself where nothing is. All that was heard before stays.
     pub fn settle_round(&mut self, frames: &mut Round<'_, N>, items: &mut [Term<V>])
-        requires exact { IsExact V.eq }
         requires some { 0 < self.old.rounds }
         requires room { length items.old ≡ N }
         requires walk { IsWalk self.old.members (others_in self.old) self.old.rounds 0 frames.old }
@@ -247,14 +238,10 @@ impl<V: Item, const N: usize> Table<V, N> {
             (after_frames (entries_of (term_in V.of_bytes) frames.old) self.old.rounds self.old) }
         ensures kept { self.new ≡ self.old }
     {
-        let station = self.station;
-        station.settle(
-            frames,
-            &self.free,
-            self.heard.as_slice(),
-            self.settled.as_mut_slice(),
-        );
-        station.hand_out(&self.own, self.settled.as_slice(), items);
+        self.station
+            .settle(frames, self.heard.as_slice(), self.settled.as_mut_slice());
+        self.station
+            .hand_out(&self.own, self.settled.as_slice(), items);
     }
 
     /// Writes what is settled of each node's item where nothing is relayed.

@@ -1,3 +1,4 @@
 pub mod Terms
 pub mod Tallies
 pub mod TallyLaws
+pub mod Exact

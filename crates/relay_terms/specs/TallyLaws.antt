@@ -9,37 +9,17 @@ use Rattle.omh_paths.specs.declared.wrapped.Wrapped.TheVariants.{Fault}
 use Rattle.omh_paths.specs.Wrapped.{same, IsExact, is_error}
 use Rattle.omh_paths.specs.Majority.{has_majority, first_majority, majority}
 use Rattle.omh_paths.specs.MajorityLaws.{same_itself, same_tells, majority_is, majority_none}
+use Rattle.omh_paths.specs.VoteLaws.{votes-error, votes-more, count-yes, count-no, count-at_most, apart}
 use Rattle.relay_terms.specs.Tallies.{votes, AreOne, Leads}
 
-votes-error : {V : Type 0} (seen : List (Wrapped V)) (v : Wrapped V) → is_error v ≡ true → votes (seen ++ v ∷ []) ≡ votes seen
-votes-error seen v e = let k = count-more (λ y. not (is_error y)) seen v in let b : bit (not (is_error v)) ≡ 0 = ap (λ b. bit (not b)) e in omega arith
-
-votes-more : {V : Type 0} (seen : List (Wrapped V)) (v : Wrapped V) → is_error v ≡ false → votes (seen ++ v ∷ []) ≡ votes seen + 1
-votes-more seen v e = let k = count-more (λ y. not (is_error y)) seen v in let b : bit (not (is_error v)) ≡ 1 = ap (λ b. bit (not b)) e in omega arith
-
-count-yes : {V : Type 0} (eq : V → V → Bool) (y : Wrapped V) (seen : List (Wrapped V)) (v : Wrapped V) → same eq y v ≡ true → count (same eq y) (seen ++ v ∷ []) ≡ count (same eq y) seen + 1
-count-yes eq y seen v e = let k = count-more (same eq y) seen v in let b : bit (same eq y v) ≡ 1 = ap bit e in omega arith
-
-count-no : {V : Type 0} (eq : V → V → Bool) (y : Wrapped V) (seen : List (Wrapped V)) (v : Wrapped V) → same eq y v ≡ false → count (same eq y) (seen ++ v ∷ []) ≡ count (same eq y) seen
-count-no eq y seen v e = let k = count-more (same eq y) seen v in let b : bit (same eq y v) ≡ 0 = ap bit e in omega arith
-
-count-at_most : {V : Type 0} (eq : V → V → Bool) (y : Wrapped V) (seen : List (Wrapped V)) (v : Wrapped V) → count (same eq y) (seen ++ v ∷ []) ≤ count (same eq y) seen + 1
-count-at_most eq y seen v = elim (cases_Bool (same eq y v)) [ inl s ↦ omega (arith, count-yes eq y seen v s) | inr d ↦ omega (arith, count-no eq y seen v d) ]
-
 module _ {V : Type 0} {eq : V → V → Bool} (exact : IsExact eq) where
-  apart : (y v : Wrapped V) → is_error y ≡ false → is_error v ≡ true → same eq y v ≡ false
-  apart y v ey ev = elim (cases_Bool (same eq y v)) [
-    | inl s ↦ absurd (both_ways _ ey (ap (is_error {V = V}) (same_tells exact y v s) ∙ ev))
-    | inr d ↦ d
-  ]
-
   -- a good term is counted among the votes
   counted_few : (y : Wrapped V) → is_error y ≡ false → (seen : List (Wrapped V)) → count (same eq y) seen ≤ votes seen
   counted_few y ok [] = omega arith
   counted_few y ok (v ∷ seen) =
       let rest = counted_few y ok seen in
       elim (cases_Bool (is_error v)) [
-        | inl e ↦ let b = ap bit (apart y v ok e) in let n : bit (not (is_error v)) ≡ 0 = ap (λ c. bit (not c)) e in omega arith
+        | inl e ↦ let b = ap bit (apart exact y v ok e) in let n : bit (not (is_error v)) ≡ 0 = ap (λ c. bit (not c)) e in omega arith
         | inr g ↦ let n : bit (not (is_error v)) ≡ 1 = ap (λ c. bit (not c)) g in elim (cases_Bool (same eq y v)) [
           | inl s ↦ let b = ap bit s in omega arith
           | inr d ↦ let b = ap bit d in omega arith
@@ -87,14 +67,14 @@ module _ {V : Type 0} {eq : V → V → Bool} (exact : IsExact eq) where
   pub leads_error : (seen : List (Wrapped V)) (c v : Wrapped V) (n : ℕ) → Leads eq seen c n → is_error v ≡ true → Leads eq (seen ++ v ∷ []) c n
   leads_error seen c v n h e = record {
     none = λ bad. votes-error seen v e ∙ h.none bad;
-    own = λ good. omega (arith, h.own good, votes-error seen v e, count-no eq c seen v (apart c v good e));
-    others = λ y ok d. omega (arith, h.others y ok d, votes-error seen v e, count-no eq y seen v (apart y v ok e));
+    own = λ good. omega (arith, h.own good, votes-error seen v e, count-no eq c seen v (apart exact c v good e));
+    others = λ y ok d. omega (arith, h.others y ok d, votes-error seen v e, count-no eq y seen v (apart exact y v ok e));
   }
 
   pub one_with_error : (seen : List (Wrapped V)) (c v : Wrapped V) (n : ℕ) → AreOne eq seen c n → is_error v ≡ true → AreOne eq (seen ++ v ∷ []) c n
   one_with_error seen c v n h e = record {
     voted = votes-error seen v e ∙ h.voted;
-    counted = λ good. count-no eq c seen v (apart c v good e) ∙ h.counted good;
+    counted = λ good. count-no eq c seen v (apart exact c v good e) ∙ h.counted good;
     some = h.some;
   }
 
@@ -139,7 +119,7 @@ module _ {V : Type 0} {eq : V → V → Bool} (exact : IsExact eq) where
   } where
     nothing_leads : (seen : List (Wrapped V)) (c : Wrapped V) (n : ℕ) → Leads eq seen c n → 0 < n → is_error c ≡ true → ⊥
     nothing_leads seen c n h some bad =
-        let other : same eq (Fault 1) c ≡ false = apart (Fault 1) c refl bad in
+        let other : same eq (Fault 1) c ≡ false = apart exact (Fault 1) c refl bad in
         let l = h.others (Fault 1) refl other in
         let z = h.none bad in
         omega arith

@@ -1,5 +1,5 @@
 ghost use Rattle.std.specs.Prelude.{◌≡◌, ◌≤◌, ◌∷◌, map, length, false};
-ghost use Rattle.omh_paths.specs.Wrapped.{IsExact, unwrapped, is_error};
+ghost use Rattle.omh_paths.specs.Wrapped.{unwrapped, is_error};
 ghost use Rattle.omh_paths.specs.Majority.{majority as majority_of, has_majority as wins};
 ghost use Rattle.relay_terms.specs.Terms.{said};
 ghost use Rattle.relay_terms.specs.Tallies.{IsTally};
@@ -10,7 +10,6 @@ use crate::term::{Item, Term};
 
 /// The tally of the own term and of these.
 fn tally_of<V: Item>(terms: &[Term<V>], own: &Term<V>) -> Tally<V>
-    requires exact { IsExact V.eq }
     requires few { length terms.now ≤ 16 }
     ensures { IsTally V.eq (said own.now ∷ map said terms.now) result }
 {
@@ -23,7 +22,6 @@ fn tally_of<V: Item>(terms: &[Term<V>], own: &Term<V>) -> Tally<V>
 
 /// Whether a term that is no error has the majority of the own term and of these.
 fn has_majority<V: Item>(terms: &[Term<V>], own: &Term<V>, value: &Term<V>) -> bool
-    requires exact { IsExact V.eq }
     requires few { length terms.now ≤ 16 }
     requires good { is_error (said value.now) ≡ false }
     ensures { result ≡ wins V.eq (said own.now ∷ map said terms.now) (said value.now) }
@@ -39,7 +37,6 @@ fn has_majority<V: Item>(terms: &[Term<V>], own: &Term<V>, value: &Term<V>) -> b
 /// Whether the candidate of the tally of these terms has their majority: they are counted only
 /// where good ones clashed.
 fn candidate_wins<V: Item>(terms: &[Term<V>], own: &Term<V>, tally: &Tally<V>) -> bool
-    requires exact { IsExact V.eq }
     requires few { length terms.now ≤ 16 }
     requires tally { IsTally V.eq (said own.now ∷ map said terms.now) tally.now }
     requires good { is_error (said tally.now.candidate) ≡ false }
@@ -54,7 +51,6 @@ fn candidate_wins<V: Item>(terms: &[Term<V>], own: &Term<V>, tally: &Tally<V>) -
 
 /// What is settled from the own term and these: their majority, unwrapped.
 pub fn settled_from<V: Item>(terms: &[Term<V>], own: &Term<V>) -> Term<V>
-    requires exact { IsExact V.eq }
     requires few { length terms.now ≤ 16 }
     ensures { said result ≡ unwrapped (majority_of V.eq (said own.now ∷ map said terms.now)) }
 {

@@ -1,6 +1,6 @@
 ghost use Rattle.std.specs.Prelude.{◌≡◌, ◌+◌, ◌<◌, ◌≤◌, ◌∷◌, ◌++◌, [], List, not};
 ghost use Rattle.omh_paths.specs.declared.wrapped.Wrapped.{Wrapped};
-ghost use Rattle.omh_paths.specs.Wrapped.{IsExact, is_error};
+ghost use Rattle.omh_paths.specs.Wrapped.{is_error};
 ghost use Rattle.relay_terms.specs.Terms.{said};
 ghost use Rattle.relay_terms.specs.Tallies.{IsTally};
 
@@ -20,7 +20,6 @@ pub struct Tally<V> {
 impl<V: Item> Tally<V> {
     /// The tally of one term.
     pub fn of(term: &Term<V>) -> Tally<V>
-        requires { IsExact V.eq }
         ensures tally { IsTally V.eq (said term.now ∷ []) result }
         ensures few { result.lead ≤ 1 }
     {
@@ -33,7 +32,6 @@ impl<V: Item> Tally<V> {
 
     /// Takes up one more term.
     pub fn add(&mut self, term: &Term<V>)
-        requires exact { IsExact V.eq }
         requires few { self.old.lead < 65536 }
         ensures tally { (seen : List (Wrapped V)) → IsTally V.eq seen self.old
             → IsTally V.eq (seen ++ said term.now ∷ []) self.new }

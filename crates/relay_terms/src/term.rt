@@ -1,6 +1,6 @@
 ghost use Rattle.std.specs.Prelude.{◌≡◌, ◌≢◌, ◌+◌, ◌<◌, ℕ, List, length, drop, slice_index};
 ghost use Rattle.omh_paths.specs.declared.wrapped.Wrapped.TheVariants.{Plain, Fault};
-ghost use Rattle.omh_paths.specs.Wrapped.{wrapped, unwrapped, is_error, same};
+ghost use Rattle.omh_paths.specs.Wrapped.{IsExact, wrapped, unwrapped, is_error, same};
 ghost use Rattle.relay_terms.specs.Terms.{said, term_in};
 
 use omh_paths::Wrapped;
@@ -19,6 +19,9 @@ pub trait Item: Copy + Eq + Drop {
     /// The item of these bytes.
     fn read(bytes: &[u8]) -> Self
         ensures { result ≡ of_bytes bytes.now };
+
+    /// Items are equal only where they are the same.
+    ghost exact: { IsExact Self.PartialEq.eq };
 }
 
 /// An item, or an error with the number of relays that it went through.

@@ -155,6 +155,8 @@ module _ {N : ℕ} (ys : List ℕ) (old now : Round N) (moved : IsMoved ys old n
 
   pub more_at : (members : List ℕ) → HaveNext members old → has_id members q ≡ true → has_id ys q ≡ false → HaveNext (q ∷ []) now
   more_at members more on fresh = record {
+    sized = more.sized;
+    low = λ x one. subst (λ (x : ℕ). x < N) (only q x one) low;
     wide = omega (arith, more.wide, moved.width);
     each = λ x one here.
         let is : q ≡ x = only q x one in
@@ -164,8 +166,10 @@ module _ {N : ℕ} (ys : List ℕ) (old now : Round N) (moved : IsMoved ys old n
   }
 
 -- after all of them were read each has an entry before its next one
-pub have_last : {N : ℕ} (members : List ℕ) (old now : Round N) → HaveNext members old → IsMoved members old now → ((q : ℕ) → has_id members q ≡ true → q < N) → HaveLast members now
-have_last {N} members old now more moved low = record {
+pub have_last : {N : ℕ} (members : List ℕ) (old now : Round N) → HaveNext members old → IsMoved members old now → HaveLast members now
+have_last {N} members old now more moved = let low = more.low in record {
+  sized = more.sized;
+  low = low;
   wide = omega (arith, more.wide, moved.width);
   some = λ q on here. omega (arith, read_at members old now moved q (low q on) on (came members old now moved q (low q on) here), moved.width);
   each = λ q on here.
@@ -176,6 +180,8 @@ have_last {N} members old now more moved low = record {
 
 pub one_last : {N : ℕ} (members : List ℕ) (now : Round N) (q : ℕ) → HaveLast members now → has_id members q ≡ true → HaveLast (q ∷ []) now
 one_last members now q h on = record {
+  sized = h.sized;
+  low = λ x one. h.low x (ap (has_id members) (sym (only q x one)) ∙ on);
   wide = h.wide;
   some = λ x one here. h.some x (ap (has_id members) (sym (only q x one)) ∙ on) here;
   each = λ x one here. h.each x (ap (has_id members) (sym (only q x one)) ∙ on) here;

@@ -1,5 +1,6 @@
 -- Reading the frames of a relay round side by side.
 use Rattle.std.specs.Prelude.{ℕ, ◌≡◌, ◌≤◌, ◌<◌, ◌+◌, ◌-◌, ◌*◌, true, List, map, length, take, drop, slice_index, Option, None, Some, if◌then◌else◌}
+use Rattle.node_grid.specs.Capacity.{IsCapacity}
 use Rattle.node_grid.specs.NodeSet.{has_id}
 use Rattle.node_grid.specs.Count.{bit}
 use Rattle.omh_paths.specs.declared.wrapped.Wrapped.{Wrapped}
@@ -41,11 +42,15 @@ pub record IsEntryAt (width : ℕ) (room : List ℕ) (at : ℕ) : Type 0 where
 
 -- each of these members whose frame came has one more entry
 pub record HaveNext {N : ℕ} (by : List ℕ) (round : Round N) : Type 0 where
+  pub sized : IsCapacity N
+  pub low : (q : ℕ) → has_id by q ≡ true → q < N
   pub wide : 0 < round.width
   pub each : (q : ℕ) → has_id by q ≡ true → has_id round.present q ≡ true → IsEntryAt round.width round.room.now (slice_index round.next q)
 
 -- each of these members whose frame came has an entry before its next one
 pub record HaveLast {N : ℕ} (by : List ℕ) (round : Round N) : Type 0 where
+  pub sized : IsCapacity N
+  pub low : (q : ℕ) → has_id by q ≡ true → q < N
   pub wide : 0 < round.width
   pub some : (q : ℕ) → has_id by q ≡ true → has_id round.present q ≡ true → round.width ≤ slice_index round.next q
   pub each : (q : ℕ) → has_id by q ≡ true → has_id round.present q ≡ true → IsEntryAt round.width round.room.now (slice_index round.next q - round.width)

@@ -1,8 +1,8 @@
-ghost use Rattle.std.specs.Prelude.{◌≡◌, ◌+◌, ◌-◌, ◌<◌, ◌≤◌, ◌∷◌, [], length, take, drop};
+ghost use Rattle.std.specs.Prelude.{◌≡◌, ◌-◌, ◌<◌, ◌∷◌, [], take, drop, true};
 ghost use Rattle.std.specs.Prelude.{replicate, slice_index, slice_set};
 ghost use Rattle.node_grid.specs.Capacity.{IsCapacity};
 ghost use Rattle.node_grid.specs.NodeSet.{has_id, with_id};
-ghost use Rattle.relay_walk.specs.Walking.{IsMoved};
+ghost use Rattle.relay_walk.specs.Walking.{IsMoved, HaveNext, HaveLast};
 
 use node_grid::NodeSet;
 
@@ -77,10 +77,8 @@ impl<'a, const N: usize> Round<'a, N> {
 
     /// Goes on by one entry of a member's frame.
     pub(crate) fn advance(&mut self, member: u8)
-        requires capacity { IsCapacity N }
-        requires member { member < N }
-        requires within { slice_index self.old.next member + self.old.width
-            ≤ length self.old.room.now }
+        requires more { HaveNext (member ∷ []) self.old }
+        requires came { has_id self.old.present member ≡ true }
         ensures { IsMoved (member ∷ []) self.old self.new }
     {
         let at = self.next[member as usize];
@@ -89,10 +87,8 @@ impl<'a, const N: usize> Round<'a, N> {
 
     /// The next entry of a member's frame.
     pub(crate) fn next_entry(&mut self, member: u8) -> &'a [u8]
-        requires capacity { IsCapacity N }
-        requires member { member < N }
-        requires within { slice_index self.old.next member + self.old.width
-            ≤ length self.old.room.now }
+        requires more { HaveNext (member ∷ []) self.old }
+        requires came { has_id self.old.present member ≡ true }
         ensures entry { result.now
             ≡ take self.old.width (drop (slice_index self.old.next member) self.old.room.now) }
         ensures moved { IsMoved (member ∷ []) self.old self.new }
@@ -105,10 +101,8 @@ impl<'a, const N: usize> Round<'a, N> {
 
     /// The entry of a member's frame that was read last.
     pub(crate) fn last_entry(&self, member: u8) -> &'a [u8]
-        requires capacity { IsCapacity N }
-        requires member { member < N }
-        requires some { self.now.width ≤ slice_index self.now.next member }
-        requires within { slice_index self.now.next member ≤ length self.now.room.now }
+        requires read { HaveLast (member ∷ []) self.now }
+        requires came { has_id self.now.present member ≡ true }
         ensures { result.now ≡ take self.now.width
             (drop (slice_index self.now.next member - self.now.width) self.now.room.now) }
     {

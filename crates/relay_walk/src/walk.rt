@@ -1,7 +1,6 @@
 ghost use Rattle.std.specs.Prelude.{◌≡◌, ◌+◌, ◌≤◌, ◌∷◌, ◌<◌, [], length, map, false};
-ghost use Rattle.node_grid.specs.Capacity.{IsCapacity};
 ghost use Rattle.node_grid.specs.NodeSet.{has_id};
-ghost use Rattle.omh_paths.specs.Wrapped.{IsExact, unwrapped, is_error};
+ghost use Rattle.omh_paths.specs.Wrapped.{unwrapped, is_error};
 ghost use Rattle.omh_paths.specs.Majority.{majority as majority_of, has_majority as has_most};
 ghost use Rattle.relay_terms.specs.Terms.{said, term_in};
 ghost use Rattle.relay_terms.specs.Tallies.{IsTally};
@@ -24,8 +23,6 @@ pub fn set_term<V: Item>(terms: &mut [Term<V>], place: usize, term: Term<V>)
 impl<'a, const N: usize> Round<'a, N> {
     /// The next term of a member's frame: nothing where it didn't come.
     fn next_term<V: Item>(&mut self, member: u8) -> Term<V>
-        requires capacity { IsCapacity N }
-        requires member { member < N }
         requires more { HaveNext (member ∷ []) self.old }
         ensures term { said result ≡ next_in (term_in V.of_bytes) self.old member }
         ensures moved { IsMoved (member ∷ []) self.old self.new }
@@ -38,8 +35,6 @@ impl<'a, const N: usize> Round<'a, N> {
 
     /// The term of a member's frame before the next: nothing where it didn't come.
     fn last_term<V: Item>(&self, member: u8) -> Term<V>
-        requires capacity { IsCapacity N }
-        requires member { member < N }
         requires read { HaveLast (member ∷ []) self.now }
         ensures { said result ≡ last_in (term_in V.of_bytes) self.now member }
     {
@@ -51,10 +46,8 @@ impl<'a, const N: usize> Round<'a, N> {
 
     /// Lays the next terms of these members from a place on, and answers the place behind.
     pub fn keep<V: Item>(&mut self, others: &NodeSet<N>, at: usize, terms: &mut [Term<V>]) -> usize
-        requires capacity { IsCapacity N }
         requires more { HaveNext others.now self.old }
         requires room { at + length others.now ≤ length terms.old }
-        requires small { length terms.old ≤ 1048576 }
         ensures terms { map said terms.new
             ≡ laid at (map (next_in (term_in V.of_bytes) self.old) others.now)
             (map said terms.old) }
@@ -73,8 +66,6 @@ impl<'a, const N: usize> Round<'a, N> {
 
     /// The tally of the own term and the next ones of these members.
     fn tally<V: Item>(&mut self, others: &NodeSet<N>, own: &Term<V>) -> Tally<V>
-        requires capacity { IsCapacity N }
-        requires exact { IsExact V.eq }
         requires more { HaveNext others.now self.old }
         ensures tally { IsTally V.eq
             (said own.now ∷ map (last_in (term_in V.of_bytes) self.new) others.now) result }
@@ -94,8 +85,6 @@ impl<'a, const N: usize> Round<'a, N> {
     /// Whether a term that is no error has the majority of the own term and the last ones of these
     /// members.
     fn has_majority<V: Item>(&self, others: &NodeSet<N>, own: &Term<V>, value: &Term<V>) -> bool
-        requires capacity { IsCapacity N }
-        requires exact { IsExact V.eq }
         requires read { HaveLast others.now self.now }
         requires good { is_error (said value.now) ≡ false }
         ensures { result ≡ has_most V.eq
@@ -114,8 +103,6 @@ impl<'a, const N: usize> Round<'a, N> {
     /// Whether the candidate of the tally of these terms has their majority: they are counted only
     /// where good ones clashed.
     fn candidate_wins<V: Item>(&self, others: &NodeSet<N>, own: &Term<V>, tally: &Tally<V>) -> bool
-        requires capacity { IsCapacity N }
-        requires exact { IsExact V.eq }
         requires read { HaveLast others.now self.now }
         requires tally { IsTally V.eq
             (said own.now ∷ map (last_in (term_in V.of_bytes) self.now) others.now) tally.now }
@@ -136,8 +123,6 @@ impl<'a, const N: usize> Round<'a, N> {
     ///
     /// The terms are read a second time only where good ones clashed.
     pub fn settle<V: Item>(&mut self, others: &NodeSet<N>, own: &Term<V>) -> Term<V>
-        requires capacity { IsCapacity N }
-        requires exact { IsExact V.eq }
         requires more { HaveNext others.now self.old }
         ensures settled { said result ≡ unwrapped (majority_of V.eq
             (said own.now ∷ map (next_in (term_in V.of_bytes) self.old) others.now)) }
@@ -157,8 +142,6 @@ impl<'a, const N: usize> Round<'a, N> {
 
     /// Goes by the next entry of a member's frame, where it came.
     fn pass_next(&mut self, member: u8)
-        requires capacity { IsCapacity N }
-        requires member { member < N }
         requires more { HaveNext (member ∷ []) self.old }
         ensures { IsMoved (member ∷ []) self.old self.new }
     {
@@ -169,7 +152,6 @@ impl<'a, const N: usize> Round<'a, N> {
 
     /// Goes by a path, in the frames of these members.
     pub fn pass(&mut self, others: &NodeSet<N>)
-        requires capacity { IsCapacity N }
         requires more { HaveNext others.now self.old }
         ensures { IsMoved others.now self.old self.new }
     {

@@ -1,11 +1,8 @@
 -- What holds of claims and of rows as items.
-use Rattle.std.proofs.Common.{ℕ, zero, suc, List, ◌==◌, ◌≡◌, ◌≤◌, ◌+◌, ◌*◌, ◌/◌, false, length, drop, get_or, min, refl, ap, subst, ◌∙◌, arith, eq-eqb, eqb-true, length-drop, if◌then◌else◌}
+use Rattle.std.proofs.Common.{ℕ, zero, suc, List, ◌==◌, ◌≡◌, ◌≤◌, ◌+◌, ◌*◌, ◌/◌, false, length, drop, get_or, min, refl, ap, subst, ◌∙◌, arith, length-drop, if◌then◌else◌}
 use Rattle.std.specs.Prelude.{All, slice_index, Some, None}
-use Rattle.std.specs.Cmp.Lexicographic.{pointwise}
-use Rattle.std.proofs.lemmas.Slice.Eq.{bytes_eq-Decides}
 use Rattle.std.proofs.Math.Nat.{min-eq_left}
 use Rattle.omh_paths.specs.declared.wrapped.Wrapped.{Wrapped}
-use Rattle.omh_paths.specs.Wrapped.{IsExact}
 use Rattle.omh_paths.specs.declared.wrapped.Wrapped.TheVariants.{Plain, Fault}
 use Rattle.frames.specs.Content.{Expectation, Content, State, Done0, DoneRelay, Data, Report0, ReportRelay, Cold, IsEntry, IsClaim, IsRow, IsSized, kind, round_in, entries_due}
 use Rattle.frames.specs.declared.frame.Body.{Body}
@@ -26,13 +23,6 @@ claim_bytes bytes = slice_index bytes 0
 
 abbrev pub row_bytes : ℕ → List ℕ → List ℕ
 row_bytes capacity bytes = content_row capacity (min (length bytes / 2) capacity) bytes
-
--- items are equal only where they are the same
-pub claims_exact : IsExact {V = ℕ} ◌==◌
-claims_exact = record { finds = λ x. eq-eqb x x refl; tells = λ x y h. eqb-true x y h }
-
-pub rows_exact : IsExact {V = List ℕ} (pointwise {A = ℕ} ◌==◌)
-rows_exact = record { finds = λ xs. (bytes_eq-Decides xs xs).1 refl; tells = λ xs ys h. (bytes_eq-Decides xs ys).0 h }
 
 above_zero : (k : ℕ) → (suc k == 0) ≡ false
 above_zero k = grind arith

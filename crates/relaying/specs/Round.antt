@@ -18,6 +18,12 @@ pub record IsRoundOf {V : Type 0} (capacity kind : ℕ) (in_range : Expectation 
   pub own_ranged : HeardIn (in_range e) 0 h.own
   pub ranged : IsRanged (in_range e) h.heard
 
+-- a relay round in whose slot the node passes on what it heard
+pub record IsOwnRound {V : Type 0} (capacity kind : ℕ) (in_range : Expectation → V → Type 0) (r : ℕ) (h : Hearing V) : Type 0 where
+  pub some : 0 < r
+  pub within : r ≤ h.rounds
+  pub slot : (e : Expectation) × IsRoundOf capacity kind in_range r h e
+
 -- terms can be wrapped and put, entry by entry, into so many bytes: none was wrapped often, and each entry has this width
 pub record CanPut {V : Type 0} (width : ℕ) (spell : Wrapped V → List ℕ) (terms : List (Wrapped V)) (size : ℕ) : Type 0 where
   pub few : (k : ℕ) → slice_index_or terms k (Fault 0) ≢ Fault 254

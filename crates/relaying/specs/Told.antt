@@ -1,5 +1,5 @@
 -- What the frames of a slot that was closed tell a node.
-use Rattle.std.specs.Prelude.{◌≡◌, ◌<◌, nat_lt, if◌then◌else◌, true, false, ℕ, List, length, slice_index, Option, None, Some}
+use Rattle.std.specs.Prelude.{◌≡◌, ◌<◌, ◌≤◌, nat_lt, if◌then◌else◌, true, false, ℕ, List, length, slice_index, Option, None, Some}
 use Rattle.node_grid.specs.NodeSet.{has_id}
 use Rattle.omh.specs.Heard.{Hearing}
 use Rattle.frames.specs.Content.{Expectation, Content, kind_in, round_in}
@@ -26,6 +26,12 @@ pub record IsSlotOf {V : Type 0} (capacity kind r : ℕ) (h : Hearing V) (e : Ex
 pub record IsRoundHeard {V : Type 0} (capacity kind r : ℕ) (h : Hearing V) (w : Watch) : Type 0 where
   pub closed : IsHeardBy w h.nodes h.me
   pub slot : 0 < r → (e : Expectation) → w.expect ≡ Some e → IsSlotOf capacity kind r h e
+
+-- and of a relay round
+pub record IsRelayHeard {V : Type 0} (capacity kind r : ℕ) (h : Hearing V) (w : Watch) : Type 0 where
+  pub some : 0 < r
+  pub within : r ≤ h.rounds
+  pub heard : IsRoundHeard capacity kind r h w
 
 -- where the entries begin of what a node told
 abbrev pub entries_of_node : Watch → ℕ → Option ℕ

@@ -8,7 +8,7 @@ ghost use Rattle.relay_terms.specs.Terms.{term_in};
 ghost use Rattle.relay_walk.specs.Walking.{IsWalk, entries_of};
 ghost use Rattle.relay_table.specs.Tabled.{others_in, kept_nodes};
 ghost use Rattle.relay_rules.specs.Hearing.{after_round};
-ghost use Rattle.relaying.specs.Told.{part_told, IsRoundHeard};
+ghost use Rattle.relaying.specs.Told.{part_told, IsRoundHeard, IsRelayHeard};
 
 use crate::item::{RelayedItem, item_of};
 use error_detect::SlotWatch;
@@ -49,9 +49,7 @@ pub(crate) fn round_of<'w, V: RelayedItem<N>, const N: usize>(
     watch: &'w SlotWatch<N>,
     round: u8,
 ) -> Round<'w, N>
-    requires some_round { 0 < round }
-    requires round { round ≤ table.now.rounds }
-    requires heard { IsRoundHeard N V.kind round table.now watch.now }
+    requires relay { IsRelayHeard N V.kind round table.now watch.now }
     ensures walk { IsWalk table.now.members (others_in table.now) round 0 result }
     ensures told { (q : ℕ) → has_id (others_in table.now) q ≡ true →
         entries_of (term_in V.Item.of_bytes) result q

@@ -2,7 +2,6 @@
 
 ghost use Rattle.std.specs.Prelude.{◌≡◌, ◌≢◌, ℕ, ◌+◌, ◌*◌, ◌≤◌, List, length, Option, Some, None};
 ghost use Rattle.node_grid.specs.Capacity.{IsCapacity};
-ghost use Rattle.omh_paths.specs.Wrapped.{IsExact};
 ghost use Rattle.omh_paths.specs.declared.wrapped.Wrapped.{Wrapped};
 ghost use Rattle.omh_paths.specs.declared.wrapped.Wrapped.TheVariants.{Fault};
 ghost use Rattle.frames.specs.Spelling.{claim_spelling, relayed_row_spelling};
@@ -14,7 +13,7 @@ ghost use Rattle.frames.specs.declared.frame.Body.{Body};
 ghost use Rattle.protocol.specs.Arrival.{ItemForm, claim_form, row_form};
 ghost use Rattle.relay_terms.specs.Terms.{term_in};
 ghost use Rattle.relaying.specs.Items.{first_in, IsRelayed};
-ghost use Rattle.relaying.specs.ItemLaws.{claims_begun, rows_begun, claims_exact, rows_exact};
+ghost use Rattle.relaying.specs.ItemLaws.{claims_begun, rows_begun};
 ghost use Rattle.relaying.specs.ItemLaws.{claims_relayed, rows_relayed};
 
 use frames::{Body, put_done, put_row};
@@ -79,9 +78,6 @@ pub trait RelayedItem<const N: usize>: Item {
     ghost begun: { (nodes : ℕ) (b : Body N) →
         first_in claimed reported b ≡ form.item_in (content nodes b) };
 
-    /// Items are equal only where they are the same.
-    ghost exact: { IsExact Self.PartialEq.eq };
-
     /// Relay frames of that kind pass items on, in entries that are spelt and read so.
     ghost laws: { IsRelayed N kind form width spelling (term_in Self.Item.of_bytes) in_range };
 }
@@ -102,8 +98,6 @@ impl<const N: usize> RelayedItem<N> for u8 {
     ghost reported = { λ masks. None };
 
     ghost begun = { claims_begun };
-
-    ghost exact = { claims_exact };
 
     ghost laws = { claims_relayed N };
 
@@ -147,8 +141,6 @@ impl<const N: usize> RelayedItem<N> for Row<N> {
     ghost reported = { Some };
 
     ghost begun = { rows_begun };
-
-    ghost exact = { rows_exact };
 
     ghost laws = { rows_relayed N };
 

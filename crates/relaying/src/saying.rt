@@ -5,13 +5,12 @@ ghost use Rattle.std.specs.List.{flat_map};
 ghost use Rattle.node_grid.specs.Capacity.{IsCapacity};
 ghost use Rattle.omh_paths.specs.Wrapped.{wrapped};
 ghost use Rattle.omh_paths.specs.declared.wrapped.Wrapped.TheVariants.{Fault};
-ghost use Rattle.frames.specs.Content.{Expectation};
 ghost use Rattle.frames.specs.Seen.{expected};
 ghost use Rattle.frames.specs.Spelling.{spelling, head_of};
 ghost use Rattle.frames.specs.Writing.{pasted};
 ghost use Rattle.relay_terms.specs.Terms.{said};
 ghost use Rattle.relay_rules.specs.Relaying.{relays};
-ghost use Rattle.relaying.specs.Round.{IsRoundOf, CanPut};
+ghost use Rattle.relaying.specs.Round.{IsRoundOf, IsOwnRound, CanPut};
 
 use crate::item::RelayedItem;
 use frames::{Expect, HEADER, header};
@@ -21,9 +20,7 @@ use relay_terms::Term;
 
 /// How many bytes the node itself passes on in a relay round: none where it is no member.
 fn own_size<V: RelayedItem<N>, const N: usize>(table: &Table<V, N>, round: u8) -> usize
-    requires some_round { 0 < round }
-    requires round { round ≤ table.now.rounds }
-    requires slot { (e : Expectation) × IsRoundOf N V.kind V.in_range round table.now e }
+    requires round { IsOwnRound N V.kind V.in_range round table.now }
     ensures size { result ≡ length
         (flat_map (V.spelling table.now.nodes) (relays table.now round)) }
     ensures few { result ≤ 33 * 65536 }
@@ -69,9 +66,7 @@ fn put_terms<V: RelayedItem<N>, const N: usize>(out: &mut [u8], nodes: u8, terms
 /// Writes what the node itself passes on in a relay round to the front of `out`: nothing where it
 /// is no member.
 fn write_own<V: RelayedItem<N>, const N: usize>(table: &Table<V, N>, round: u8, out: &mut [u8])
-    requires some_round { 0 < round }
-    requires round { round ≤ table.now.rounds }
-    requires slot { (e : Expectation) × IsRoundOf N V.kind V.in_range round table.now e }
+    requires round { IsOwnRound N V.kind V.in_range round table.now }
     requires room { length (flat_map (V.spelling table.now.nodes) (relays table.now round)) ≤
         length out.old }
     ensures { out.new ≡ pasted 0

@@ -13,7 +13,7 @@ use Rattle.shown_period.specs.Whole.{record_of}
 use Rattle.at_once.specs.Run.{ShowsPeriod}
 use Rattle.run_judged.specs.declared.tally.Loss.{Loss}
 use Rattle.run_judged.specs.declared.tally.Tally.{Tally}
-use Rattle.run_judged.specs.declared.findings.Findings.{Findings}
+use Rattle.run_judged.specs.declared.found.Findings.{Findings}
 use Rattle.run_judged.specs.Numbers.{total, greater, lesser}
 use Rattle.run_judged.specs.Illnesses.{is_ill}
 use Rattle.run_judged.specs.Margins.{margin}

@@ -9,7 +9,7 @@ use Rattle.node_grid.specs.Count.{bit, count}
 use Rattle.node_grid.specs.Class.{is_sound, is_nonfaulty}
 use Rattle.run_judged.specs.declared.illness.Illness.{Illness}
 use Rattle.run_judged.specs.declared.illness.Sign.{Sign}
-use Rattle.run_judged.specs.declared.findings.Findings.{Findings}
+use Rattle.run_judged.specs.declared.found.Findings.{Findings}
 use Rattle.run_judged.specs.Illnesses.{is_ill, falls_ill, sound_after, illnesses}
 use Rattle.run_judged.specs.Growing.{begun, grown, IsOf}
 use Rattle.run_judged.specs.Found.{sign_by, AreFound}

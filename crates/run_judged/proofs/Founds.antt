@@ -21,7 +21,7 @@ use Rattle.shown_period.specs.Whole.{record_of}
 use Rattle.shown_period.specs.WholeLaws.{shown_at}
 use Rattle.at_once.specs.Run.{ShowsPeriod}
 use Rattle.run_judged.specs.declared.illness.Sign.{Sign}
-use Rattle.run_judged.specs.declared.findings.Findings.{Findings}
+use Rattle.run_judged.specs.declared.found.Findings.{Findings}
 use Rattle.run_judged.specs.Signs.{outcome_among, reference_outcome, is_charged_by, members_of, members_by, members_after, is_left, is_joined, sign_in}
 use Rattle.run_judged.specs.Found.{class_at, sign_by, AreFound}
 use Rattle.run_judged.specs.Rows.{seen_of}

@@ -8,7 +8,7 @@ use Rattle.node_grid.specs.NodeSet.{ids_where}
 use Rattle.node_grid.specs.MaskLaws.{ids_where-more}
 use Rattle.run_judged.specs.declared.illness.Illness.{Illness}
 use Rattle.run_judged.specs.declared.illness.Sign.{Sign}
-use Rattle.run_judged.specs.declared.findings.Findings.{Findings}
+use Rattle.run_judged.specs.declared.found.Findings.{Findings}
 use Rattle.run_judged.specs.Found.{sign_by}
 use Rattle.run_judged.specs.Growing.{begun, grown}
 

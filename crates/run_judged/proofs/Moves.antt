@@ -1,9 +1,7 @@
 -- Who leaves and who joins in a claimed period, by the standings before and after it.
-use Rattle.std.proofs.Common.{◌≡◌, ◌≢◌, ℕ, zero, suc, ◌+◌, ◌-◌, ◌<◌, ◌≤◌, Bool, true, false, cond, not, ◌&&◌, ◌⊎◌, List, [], ◌∷◌, Option, None, Some, refl, sym, ap, ap₂, subst, ◌∙◌, inl, inr, arith}
-use Rattle.std.specs.Prelude.{◌↔◌}
+use Rattle.std.proofs.Common.{◌≡◌, ◌≢◌, ℕ, zero, suc, ◌+◌, ◌-◌, ◌<◌, ◌≤◌, Bool, true, false, cond, not, ◌&&◌, ◌⊎◌, List, Option, None, Some, refl, sym, ap, ap₂, subst, ◌∙◌, inl, inr, arith}
 use Rattle.std.specs.List.{find, range_with_len}
 use Rattle.std.proofs.lemmas.Bool.{cases_Bool, cases_lt}
-use Rattle.node_grid.specs.declared.class.Class.TheVariants.{N}
 use Rattle.node_grid.specs.Class.{is_nonfaulty, is_sound, IsWithin}
 use Rattle.node_grid.specs.NodeSet.{has_id}
 use Rattle.membership.specs.Members.{Standing}
@@ -11,10 +9,9 @@ use Rattle.agreed_state.specs.declared.config.Inputs.{Inputs}
 use Rattle.agreed_state.specs.Agreed.{AgreedView}
 use Rattle.protocol.specs.View.{Mode, Setting, Kept, Received, adopted_by, through, joined, view_from}
 use Rattle.protocol.specs.Run.{members_in}
-use Rattle.protocol.specs.Cluster.{begins, view}
+use Rattle.protocol.specs.Cluster.{begins}
 use Rattle.protocol.specs.Safe.{members_from, reference, KeepsBound, Safe}
 use Rattle.safety.specs.Lifetime.{standing_of, HaveStanding}
-use Rattle.node_steps.specs.Outcome.{Outcome}
 use Rattle.scenario.specs.Scenario.{ScenarioView, system_of}
 use Rattle.cluster_periods.specs.Laws.{run_of, classes_of}
 use Rattle.run_judged.specs.Signs.{outcome_among, members_of, members_by, members_after, is_left, is_joined}

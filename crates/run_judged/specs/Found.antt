@@ -5,7 +5,7 @@ use Rattle.node_grid.specs.declared.class.Class.TheVariants.{N}
 use Rattle.node_grid.specs.Class.{is_sound, is_nonfaulty}
 use Rattle.node_grid.specs.NodeSet.{has_id}
 use Rattle.run_judged.specs.declared.illness.Sign.{Sign}
-use Rattle.run_judged.specs.declared.findings.Findings.{Findings}
+use Rattle.run_judged.specs.declared.found.Findings.{Findings}
 
 -- the class of node j among those of all nodes
 abbrev pub class_at : List Class → ℕ → Class

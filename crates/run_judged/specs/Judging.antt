@@ -1,5 +1,5 @@
 -- What a judge keeps.
-use Rattle.std.specs.Prelude.{ℕ, ◌≡◌, ◌<◌, ◌≤◌, ◌*◌, vec_capacity}
+use Rattle.std.specs.Prelude.{ℕ, ◌≡◌, ◌<◌, ◌≤◌}
 use Rattle.std.specs.List.{filter_map}
 use Rattle.node_grid.specs.NodeSet.{ids_below, has_id}
 use Rattle.scenario.specs.Scenario.{ScenarioView}
@@ -15,8 +15,3 @@ pub record Judges {N : ℕ} (sc : ScenarioView N) (judge : Judge N) : Type 0 whe
   pub sound : (j : ℕ) → j < sc.config.nodes → has_id judge.illnesses.sound j ≡ sound_after (seen_of sc) judge.periods j
   pub illnesses : judge.illnesses.list.items ≡ illnesses (seen_of sc) sc.config.nodes judge.periods
   pub skews : judge.skews.items ≡ filter_map (skew_at sc) (ids_below judge.periods)
-
--- room for what is told of any run
-pub record HasRoom {N : ℕ} (judge : Judge N) : Type 0 where
-  pub illnesses : N * 1024 ≤ vec_capacity judge.illnesses.list
-  pub skews : 1024 ≤ vec_capacity judge.skews

@@ -1,4 +1,5 @@
 pub mod Numbers
+pub mod Rooms
 pub mod Illnesses
 pub mod Growing
 pub mod Found

@@ -1,8 +1,6 @@
 //! How far sound nodes' votes and clocks are apart.
 
 ghost use Rattle.std.specs.Prelude.{◌≡◌, ◌<◌, ◌≤◌};
-ghost use Rattle.node_grid.specs.Capacity.{IsCapacity};
-ghost use Rattle.shown_period.specs.Outcomes.{HasBeliefs};
 ghost use Rattle.shown_period.specs.Whole.{record_of};
 ghost use Rattle.run_judged.specs.Numbers.{greatest};
 ghost use Rattle.run_judged.specs.Apart.{widened, with_number, width};
@@ -10,8 +8,8 @@ ghost use Rattle.run_judged.specs.Apart.{vote_in, votes_apart, spread_in};
 ghost use Rattle.run_judged.specs.Apart.{offset_in, clocks_apart, skew_in};
 
 use crate::illness::is_sound;
+use crate::seen::Seen;
 use crate::tally::greater;
-use shown_period::Shown;
 
 /// The least and the greatest number, with one more.
 fn widened(range: Option<(i64, i64)>, number: i64) -> (i64, i64)
@@ -44,13 +42,12 @@ fn width(range: Option<(i64, i64)>) -> Option<u64>
 }
 
 /// The vote of a sound node on a channel; none of another node, and of a channel that isn't due.
-fn vote<const N: usize>(shown: &Shown<N>, channel: u8, node: u8) -> Option<i64>
-    requires node { node < N }
-    requires in_use { node < shown.now.head.nodes }
+fn vote<const N: usize>(seen: &Seen<'_, N>, channel: u8, node: u8) -> Option<i64>
+    requires in_use { node < seen.now.shown.now.head.nodes }
     requires channel { channel < 8 }
-    requires beliefs { HasBeliefs shown.now.made }
-    ensures { result ≡ vote_in (record_of shown.now) channel node }
+    ensures { result ≡ vote_in (record_of seen.now.shown.now) channel node }
 {
+    let shown = seen.shown;
     if !is_sound(shown.head.classes[node as usize]) {
         return None;
     }
@@ -58,30 +55,26 @@ fn vote<const N: usize>(shown: &Shown<N>, channel: u8, node: u8) -> Option<i64>
 }
 
 /// How far the votes of sound nodes on a channel are apart.
-fn votes_apart<const N: usize>(shown: &Shown<N>, channel: u8) -> Option<u64>
-    requires nodes { shown.now.head.nodes ≤ N }
-    requires channel { channel < 8 }
-    requires beliefs { HasBeliefs shown.now.made }
-    ensures { result ≡ votes_apart (record_of shown.now) channel }
+fn votes_apart<const N: usize>(seen: &Seen<'_, N>, channel: u8) -> Option<u64>
+    requires { channel < 8 }
+    ensures { result ≡ votes_apart (record_of seen.now.shown.now) channel }
 {
     let mut range = None;
-    for node in 0..shown.head.nodes {
-        let vote = vote(shown, channel, node);
+    for node in 0..seen.shown.head.nodes {
+        let vote = vote(seen, channel, node);
         range = with_number(range, vote);
     }
     width(range)
 }
 
 /// How far they are apart on any of the first channels.
-fn votes_apart_on<const N: usize>(shown: &Shown<N>, channels: u8) -> Option<u64>
-    requires nodes { shown.now.head.nodes ≤ N }
-    requires channels { channels ≤ 8 }
-    requires beliefs { HasBeliefs shown.now.made }
-    ensures { result ≡ greatest (votes_apart (record_of shown.now)) channels }
+fn votes_apart_on<const N: usize>(seen: &Seen<'_, N>, channels: u8) -> Option<u64>
+    requires { channels ≤ 8 }
+    ensures { result ≡ greatest (votes_apart (record_of seen.now.shown.now)) channels }
 {
     let mut most = None;
     for channel in 0..channels {
-        let apart = votes_apart(shown, channel);
+        let apart = votes_apart(seen, channel);
         most = greater(most, apart);
     }
     most
@@ -89,24 +82,23 @@ fn votes_apart_on<const N: usize>(shown: &Shown<N>, channels: u8) -> Option<u64>
 
 /// How far votes of sound nodes on any of the first channels are apart in a claimed period; none
 /// where it isn't claimed.
-pub(crate) fn spread<const N: usize>(shown: &Shown<N>, channels: u8) -> Option<u64>
-    requires nodes { shown.now.head.nodes ≤ N }
-    requires channels { channels ≤ 8 }
-    requires beliefs { HasBeliefs shown.now.made }
-    ensures { result ≡ spread_in (record_of shown.now) channels }
+pub(crate) fn spread<const N: usize>(seen: &Seen<'_, N>, channels: u8) -> Option<u64>
+    requires { channels ≤ 8 }
+    ensures { result ≡ spread_in (record_of seen.now.shown.now) channels }
 {
-    if shown.head.claim {
-        votes_apart_on(shown, channels)
+    if seen.shown.head.claim {
+        votes_apart_on(seen, channels)
     } else {
         None
     }
 }
 
 /// The offset of a sound node's clock after the period; none of another node, and without clocks.
-fn offset<const N: usize>(shown: &Shown<N>, node: u8) -> Option<i64>
-    requires { node < N }
-    ensures { result ≡ offset_in (record_of shown.now) node }
+fn offset<const N: usize>(seen: &Seen<'_, N>, node: u8) -> Option<i64>
+    requires { node < seen.now.shown.now.head.nodes }
+    ensures { result ≡ offset_in (record_of seen.now.shown.now) node }
 {
+    let shown = seen.shown;
     if !is_sound(shown.head.classes[node as usize]) {
         return None;
     }
@@ -117,25 +109,23 @@ fn offset<const N: usize>(shown: &Shown<N>, node: u8) -> Option<i64>
 }
 
 /// How far the clocks of sound nodes are apart after the period.
-fn clocks_apart<const N: usize>(shown: &Shown<N>) -> Option<u64>
-    requires { shown.now.head.nodes ≤ N }
-    ensures { result ≡ clocks_apart (record_of shown.now) }
+fn clocks_apart<const N: usize>(seen: &Seen<'_, N>) -> Option<u64>
+    ensures { result ≡ clocks_apart (record_of seen.now.shown.now) }
 {
     let mut range = None;
-    for node in 0..shown.head.nodes {
-        let offset = offset(shown, node);
+    for node in 0..seen.shown.head.nodes {
+        let offset = offset(seen, node);
         range = with_number(range, offset);
     }
     width(range)
 }
 
 /// How far clocks of sound nodes are apart after a claimed period; none where it isn't claimed.
-pub(crate) fn skew<const N: usize>(shown: &Shown<N>) -> Option<u64>
-    requires { shown.now.head.nodes ≤ N }
-    ensures { result ≡ skew_in (record_of shown.now) }
+pub(crate) fn skew<const N: usize>(seen: &Seen<'_, N>) -> Option<u64>
+    ensures { result ≡ skew_in (record_of seen.now.shown.now) }
 {
-    if shown.head.claim {
-        clocks_apart(shown)
+    if seen.shown.head.claim {
+        clocks_apart(seen)
     } else {
         None
     }

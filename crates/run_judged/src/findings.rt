@@ -4,7 +4,6 @@ ghost use Rattle.std.specs.Prelude.{◌≡◌, ℕ, ◌<◌, ◌≤◌, ◌==◌
 ghost use Rattle.node_grid.specs.Capacity.{IsCapacity};
 ghost use Rattle.node_grid.specs.Class.{is_sound, is_nonfaulty};
 ghost use Rattle.node_grid.specs.NodeSet.{ids_where, has_id};
-ghost use Rattle.shown_period.specs.Outcomes.{HasBeliefs};
 ghost use Rattle.shown_period.specs.Whole.{record_of};
 ghost use Rattle.run_judged.specs.Signs.{reference_outcome, is_charged_by};
 ghost use Rattle.run_judged.specs.Signs.{members_after, is_left, is_joined};
@@ -13,12 +12,13 @@ ghost use Rattle.at_once.specs.Run.{ShowsPeriod, FitsScenario};
 ghost use Rattle.run_judged.specs.Rows.{seen_of};
 ghost use Rattle.run_judged.specs.Found.{class_at, sign_by, AreFound};
 
+use crate::found::Findings;
 use crate::illness::{Sign, is_sound};
+use crate::seen::Seen;
 use error_reports::charged_all;
 use fault_classes::FaultPlan;
 use node_grid::{Class, NodeSet};
 use scenario::Scenario;
-use shown_period::Shown;
 
 /// The nodes whose class is sound.
 #[tactic(auto, using(node_grid::specs::NodeSetLaws::id_loops, crate::proofs::Sets::of_nodes))]
@@ -113,14 +113,11 @@ fn touched_nodes<const N: usize>(plan: &FaultPlan<N>, nodes: u8, period: u32) ->
 }
 
 /// The nodes that the rows which the reference node settled charge with something.
-fn charged_nodes<const N: usize>(shown: &Shown<N>) -> NodeSet<N>
-    requires capacity { IsCapacity N }
-    requires nodes { shown.now.head.nodes ≤ N }
-    requires reference { (r : ℕ) → shown.now.head.reference ≡ Some r → r < shown.now.head.nodes }
-    requires beliefs { HasBeliefs shown.now.made }
-    ensures { (j : ℕ) → j < shown.now.head.nodes
-        → has_id result j ≡ is_charged_by (reference_outcome (record_of shown.now)) j }
+fn charged_nodes<const N: usize>(seen: &Seen<'_, N>) -> NodeSet<N>
+    ensures { (j : ℕ) → j < seen.now.shown.now.head.nodes
+        → has_id result j ≡ is_charged_by (reference_outcome (record_of seen.now.shown.now)) j }
 {
+    let shown = seen.shown;
     let nodes = shown.head.nodes;
     let Some(node) = shown.head.reference else {
         return NodeSet::empty();
@@ -130,11 +127,10 @@ fn charged_nodes<const N: usize>(shown: &Shown<N>) -> NodeSet<N>
 }
 
 /// The members of the reference node's state after the period; none without a state.
-fn members_after<const N: usize>(shown: &Shown<N>) -> Option<NodeSet<N>>
-    requires capacity { IsCapacity N }
-    requires reference { (r : ℕ) → shown.now.head.reference ≡ Some r → r < shown.now.head.nodes }
-    ensures { result ≡ members_after (record_of shown.now) }
+fn members_after<const N: usize>(seen: &Seen<'_, N>) -> Option<NodeSet<N>>
+    ensures { result ≡ members_after (record_of seen.now.shown.now) }
 {
+    let shown = seen.shown;
     let Some(node) = shown.head.reference else {
         return None;
     };
@@ -169,42 +165,16 @@ fn joined_nodes<const N: usize>(before: &NodeSet<N>, after: &Option<NodeSet<N>>)
     }
 }
 
-/// What is found of the nodes of a cluster in a period.
-#[derive(Clone, Copy)]
-pub(crate) struct Findings<const N: usize> {
-    /// The period.
-    pub(crate) period: u32,
-    /// How many nodes are in use.
-    pub(crate) nodes: u8,
-    /// The class of each node.
-    pub(crate) classes: [Class; N],
-    /// The nodes that are sound.
-    pub(crate) sound: NodeSet<N>,
-    /// The nodes that aren't nonfaulty.
-    pub(crate) faulty: NodeSet<N>,
-    /// The nodes a frame of which some line touches.
-    pub(crate) touched: NodeSet<N>,
-    /// The members.
-    pub(crate) members: NodeSet<N>,
-    /// The nodes that are charged.
-    pub(crate) charged: NodeSet<N>,
-    /// The nodes that leave the members after the period.
-    pub(crate) left: NodeSet<N>,
-    /// The nodes that join them.
-    pub(crate) joined: NodeSet<N>,
-}
-
 impl<const N: usize> Findings<N> {
     /// What is found of the nodes in a period of the scenario's run.
-    pub(crate) fn of(scenario: &Scenario<N>, period: u32, shown: &Shown<N>) -> Findings<N>
-        requires capacity { IsCapacity N }
+    pub(crate) fn of(scenario: &Scenario<N>, period: u32, seen: &Seen<'_, N>) -> Findings<N>
         requires in_run { period < scenario.now.periods }
-        requires shown { ShowsPeriod scenario.now period shown.now }
-        requires fits { FitsScenario scenario.now shown.now }
+        requires shown { ShowsPeriod scenario.now period seen.now.shown.now }
+        requires fits { FitsScenario scenario.now seen.now.shown.now }
         ensures { AreFound (seen_of scenario.now) scenario.now.config.nodes period result }
     {
-        let head = &shown.head;
-        let after = members_after(shown);
+        let head = &seen.shown.head;
+        let after = members_after(seen);
         Findings {
             period,
             nodes: head.nodes,
@@ -213,7 +183,7 @@ impl<const N: usize> Findings<N> {
             faulty: faulty_nodes(&head.classes, head.nodes),
             touched: touched_nodes(scenario.plan(), head.nodes, period),
             members: head.members,
-            charged: charged_nodes(shown),
+            charged: charged_nodes(seen),
             left: left_nodes(&head.members, &after),
             joined: joined_nodes(&head.members, &after),
         }

@@ -4,10 +4,11 @@ ghost use Rattle.std.specs.Prelude.{◌≡◌, ◌+◌, ◌*◌, ◌-◌, ◌^�
 ghost use Rattle.std.specs.Prelude.{map, length, All, IfOk, vec_capacity};
 ghost use Rattle.node_grid.specs.NodeSet.{ids_below, ids_where, has_id};
 ghost use Rattle.node_grid.specs.Capacity.{IsCapacity};
+ghost use Rattle.run_judged.specs.Rooms.{capacity-prop};
 ghost use Rattle.run_judged.specs.Found.{sign_by};
 ghost use Rattle.run_judged.specs.Growing.{begun, grown, IsOf};
 
-use crate::findings::Findings;
+use crate::found::Findings;
 use crate::illness::Illness;
 use node_grid::{NoMemory, NodeSet};
 use std::alloc::Global;
@@ -22,13 +23,13 @@ pub(crate) struct Illnesses<const N: usize> {
     pub(crate) list: Vec<Illness>,
     /// The nodes that were sound in the last period; all before the first.
     pub(crate) sound: NodeSet<N>,
+    ghost capacity: { IsCapacity N } by { capacity-prop N },
+    ghost room: { N * 1024 ≤ vec_capacity list },
 }
 
 /// Adds a period to each illness that there is.
 fn go_on_all<const N: usize>(illnesses: &mut [Illness], findings: &Findings<N>)
-    requires nodes { findings.now.nodes ≤ N }
-    requires early { findings.now.period < 2 ^ 32 - 1 }
-    requires each { All (IsOf findings.now.nodes findings.now.period) illnesses.old }
+    requires { All (IsOf findings.now.nodes findings.now.period) illnesses.old }
     ensures { illnesses.new
         ≡ map (λ x. grown findings.now.period (sign_by findings.now x.node) x) illnesses.old }
 {
@@ -59,7 +60,6 @@ impl<const N: usize> Illnesses<N> {
 
     /// Forgets all.
     pub(crate) fn forget(&mut self)
-        requires { IsCapacity N }
         ensures list { self.new.list.items ≡ [] }
         ensures sound { self.new.sound ≡ ids_below N }
         ensures room { vec_capacity self.new.list ≡ vec_capacity self.old.list }
@@ -77,8 +77,7 @@ impl<const N: usize> Illnesses<N> {
 
     /// Adds the illnesses that begin in the period.
     fn begin(&mut self, findings: &Findings<N>)
-        requires nodes { findings.now.nodes ≤ N }
-        requires room { length self.old.list.items + findings.now.nodes
+        requires { length self.old.list.items + findings.now.nodes
             ≤ vec_capacity self.old.list }
         ensures list { self.new.list.items ≡ self.old.list.items
             ++ map (λ j. begun findings.now.period j (sign_by findings.now j))
@@ -98,8 +97,6 @@ impl<const N: usize> Illnesses<N> {
 
     /// Adds a period.
     pub(crate) fn add(&mut self, findings: &Findings<N>)
-        requires nodes { findings.now.nodes ≤ N }
-        requires early { findings.now.period < 2 ^ 32 - 1 }
         requires each { All (IsOf findings.now.nodes findings.now.period) self.old.list.items }
         requires room { length self.old.list.items + findings.now.nodes
             ≤ vec_capacity self.old.list }

@@ -4,14 +4,15 @@ ghost use Rattle.std.specs.Prelude.{◌≡◌, ◌<◌, ◌≤◌, ◌+◌, ◌+
 ghost use Rattle.std.specs.Prelude.{IfOk, MatchOption, vec_capacity};
 ghost use Rattle.node_grid.specs.Capacity.{IsCapacity};
 ghost use Rattle.at_once.specs.Run.{ShowsPeriod, FitsScenario};
+ghost use Rattle.run_judged.specs.Rooms.{capacity-prop};
 ghost use Rattle.run_judged.specs.Rows.{row_of, illnesses_of, skews_of};
-ghost use Rattle.run_judged.specs.Judging.{Judges, HasRoom};
 
 use crate::apart::skew;
-use crate::findings::Findings;
+use crate::found::Findings;
 use crate::illness::Illness;
 use crate::illnesses::{Illnesses, MOST_PERIODS};
 use crate::row::RunRow;
+use crate::seen::Seen;
 use crate::tally::Tally;
 use node_grid::NoMemory;
 use scenario::Scenario;
@@ -27,6 +28,8 @@ pub struct Judge<const N: usize> {
     pub(crate) tally: Tally<N>,
     pub(crate) illnesses: Illnesses<N>,
     pub(crate) skews: Vec<u64>,
+    pub ghost capacity: { IsCapacity N } by { capacity-prop N },
+    pub ghost room: { 1024 ≤ vec_capacity skews },
 }
 
 /// Keeps a number, where there is one, in room that is there.
@@ -42,6 +45,8 @@ fn keep(numbers: &mut Vec<u64>, number: Option<u64>)
 }
 
 impl<const N: usize> Judge<N> {
+    ghost use Rattle.run_judged.specs.Judging.{Judges};
+
     /// A judge with all the memory that it ever takes.
     ///
     /// # Errors
@@ -49,7 +54,6 @@ impl<const N: usize> Judge<N> {
     /// `NoMemory` where there is none.
     pub fn open(alloc: Global) -> Result<Self, NoMemory>
         requires { IsCapacity N }
-        ensures { IfOk result HasRoom }
     {
         let illnesses = Illnesses::open(alloc)?;
         let Ok(skews) = Vec::with_capacity(alloc, MOST_PERIODS) else {
@@ -65,11 +69,8 @@ impl<const N: usize> Judge<N> {
 
     /// Begins with the run of this scenario. All of the run before is forgotten.
     pub fn begin(&mut self, scenario: &Scenario<N>)
-        requires capacity { IsCapacity N }
-        requires room { HasRoom self.old }
         ensures judges { Judges scenario.now self.new }
         ensures none { self.new.periods ≡ 0 }
-        ensures room { HasRoom self.new }
     {
         let _nodes = scenario.config().nodes;
         self.periods = 0;
@@ -80,19 +81,17 @@ impl<const N: usize> Judge<N> {
 
     /// Adds the next period of the run.
     pub fn add(&mut self, scenario: &Scenario<N>, shown: &Shown<N>)
-        requires capacity { IsCapacity N }
         requires more { self.old.periods < scenario.now.periods }
         requires judges { Judges scenario.now self.old }
-        requires room { HasRoom self.old }
         requires shown { ShowsPeriod scenario.now self.old.periods shown.now }
         requires fits { FitsScenario scenario.now shown.now }
         ensures judges { Judges scenario.now self.new }
         ensures periods { self.new.periods ≡ self.old.periods + 1 }
-        ensures room { HasRoom self.new }
     {
-        let findings = Findings::of(scenario, self.periods, shown);
-        let skew = skew(shown);
-        self.tally.add(scenario, shown, &findings, skew);
+        let seen = Seen { shown };
+        let findings = Findings::of(scenario, self.periods, &seen);
+        let skew = skew(&seen);
+        self.tally.add(scenario, &seen, &findings, skew);
         self.illnesses.add(&findings);
         keep(&mut self.skews, skew);
         self.periods += 1;
@@ -100,7 +99,6 @@ impl<const N: usize> Judge<N> {
 
     /// What the run comes to, all of whose periods were added.
     pub fn row(&self, scenario: &Scenario<N>) -> RunRow
-        requires capacity { IsCapacity N }
         requires judges { Judges scenario.now self.now }
         requires all { self.now.periods ≡ scenario.now.periods }
         ensures { result ≡ row_of scenario.now }

@@ -3,11 +3,13 @@
 
 mod apart;
 mod findings;
+mod found;
 mod illness;
 mod illnesses;
 mod judge;
 pub mod laws;
 mod row;
+mod seen;
 mod tally;
 
 pub use illness::Illness;

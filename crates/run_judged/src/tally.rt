@@ -4,7 +4,6 @@ ghost use Rattle.std.specs.Prelude.{◌≡◌, ◌+◌, ◌<◌, ◌≤◌, ◌&
 ghost use Rattle.std.specs.Prelude.{[], None, Some, is_some};
 ghost use Rattle.node_grid.specs.NodeSet.{ids_below, has_id, union_of};
 ghost use Rattle.node_grid.specs.Count.{bit, count};
-ghost use Rattle.node_grid.specs.Capacity.{IsCapacity};
 ghost use Rattle.at_once.specs.Run.{ShowsPeriod, FitsScenario};
 ghost use Rattle.run_judged.specs.Found.{AreFound};
 ghost use Rattle.run_judged.specs.Numbers.{greater, lesser};
@@ -13,11 +12,11 @@ ghost use Rattle.run_judged.specs.Rows.{seen_of, skew_at};
 ghost use Rattle.run_judged.specs.Sums.{AreSums};
 
 use crate::apart::spread;
-use crate::findings::Findings;
+use crate::found::Findings;
+use crate::seen::Seen;
 use fault_classes::Budget;
 use node_grid::NodeSet;
 use scenario::Scenario;
-use shown_period::Shown;
 
 /// The first period of a run that doesn't tolerate its faults.
 #[derive(Clone, Copy)]
@@ -176,8 +175,6 @@ impl<const N: usize> Tally<N> {
 
     /// Adds who is charged in a period and who leaves after it.
     fn add_charges(&mut self, findings: &Findings<N>)
-        requires nodes { findings.now.nodes ≤ N }
-        requires capacity { N ≤ 16 }
         requires charges { self.old.charges ≤ 16384 }
         requires false_charges { self.old.false_charges ≤ 16384 }
         requires false_exclusions { self.old.false_exclusions ≤ 16384 }
@@ -208,23 +205,21 @@ impl<const N: usize> Tally<N> {
     pub(crate) fn add(
         &mut self,
         scenario: &Scenario<N>,
-        shown: &Shown<N>,
+        seen: &Seen<'_, N>,
         findings: &Findings<N>,
         skew: Option<u64>,
     )
-        requires capacity { IsCapacity N }
-        requires shown { ShowsPeriod scenario.now findings.now.period shown.now }
-        requires fits { FitsScenario scenario.now shown.now }
+        requires shown { ShowsPeriod scenario.now findings.now.period seen.now.shown.now }
+        requires fits { FitsScenario scenario.now seen.now.shown.now }
         requires found { AreFound (seen_of scenario.now) scenario.now.config.nodes
             findings.now.period findings.now }
         requires skew { skew ≡ skew_at scenario.now findings.now.period }
-        requires early { findings.now.period < 1024 }
         requires sums { AreSums scenario.now findings.now.period self.old }
         ensures { AreSums scenario.now (findings.now.period + 1) self.new }
     {
-        let head = &shown.head;
+        let head = &seen.shown.head;
         let channels = scenario.config().channels.len() as u8;
-        let spread = spread(shown, channels);
+        let spread = spread(seen, channels);
         self.add_budget(findings.period, &head.budget, head.m, head.within);
         self.add_charges(findings);
         self.add_claim(head.claim, spread, skew);

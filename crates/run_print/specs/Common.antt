@@ -1,14 +1,14 @@
--- What printers gathered of the lines of one node, which other nodes may have too.
-use Rattle.std.specs.Prelude.{◌≡◌, false, ℕ, Some}
-use Rattle.agreed_state.specs.Agreed.{AgreedView}
+-- What two nodes have in common whose lines are printed, and that a capacity is one of two numbers in one way alone.
+use Rattle.std.proofs.Common.{◌≡◌, ℕ, inl, inr, arith}
+use Rattle.node_grid.specs.Capacity.{IsCapacity}
 use Rattle.node_steps.specs.Outcome.{Outcome}
-use Rattle.run_text.specs.NodeText.{standing_text, settled_text}
-use Rattle.run_print.specs.declared.printer.Printer.{Printer}
+use denote.Struct.Props.{props}
 
--- printers that gathered parts of a node's lines, unless they failed
-pub record IsCommon {room more : ℕ} (nodes : ℕ) (r : Outcome) (standing : Printer room) (settled : Printer more) : Type 0 where
-  pub stands : standing.failed ≡ false → (a : AgreedView) → r.agreed ≡ Some a → standing.gathered ≡ standing_text nodes a
-  pub settles : settled.failed ≡ false → settled.gathered ≡ settled_text nodes r
+pub capacity-prop : (n : ℕ) → IsProp (IsCapacity n)
+capacity-prop n (inl e) (inl f) = let one : IsProp (n ≡ 8) = hlevel props in λ i. inl (one e f i)
+capacity-prop n (inl e) (inr f) = absurd (omega (arith, e, f))
+capacity-prop n (inr e) (inl f) = absurd (omega (arith, e, f))
+capacity-prop n (inr e) (inr f) = let one : IsProp (n ≡ 16) = hlevel props in λ i. inr (one e f i)
 
 -- two nodes that settled and voted the same
 pub record AreSettledAlike (one other : Outcome) : Type 0 where

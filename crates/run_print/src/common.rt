@@ -3,7 +3,7 @@ ghost use Rattle.std.specs.Prelude.{◌≡◌, ◌≤◌, ◌<◌, ◌-◌, true
 ghost use Rattle.node_grid.specs.Capacity.{IsCapacity};
 ghost use Rattle.agreed_state.specs.Agreed.{AgreedView};
 ghost use Rattle.run_text.specs.NodeText.{standing_text, settled_text};
-ghost use Rattle.run_print.specs.Common.{IsCommon, AreSettledAlike};
+ghost use Rattle.run_print.specs.Common.{capacity-prop, AreSettledAlike};
 
 use crate::printer::Printer;
 use agreed_state::Agreed;
@@ -48,12 +48,19 @@ pub(crate) fn example_of(reference: Option<u8>, nodes: u8) -> u8
 /// The record of a node and parts of its lines, for the nodes of which they are the same.
 #[derive(Drop)]
 pub(crate) struct Common<'a, const N: usize> {
+    /// How many nodes are in use.
+    pub nodes: u8,
     /// What the node recorded.
     pub shown: &'a NodeRecord<N>,
     /// The members, penalty counts and streaks, unless there was no room for them.
     pub standing: Printer<STANDING>,
     /// What was settled and voted, unless there was no room for it.
     pub settled: Printer<SETTLED>,
+    ghost capacity: { IsCapacity N } by { capacity-prop N },
+    ghost few: { nodes ≤ N },
+    ghost stands: { standing.failed ≡ false → (a : AgreedView) → shown.now.agreed ≡ Some a
+        → standing.gathered ≡ standing_text nodes a },
+    ghost settles: { settled.failed ≡ false → settled.gathered ≡ settled_text nodes shown.now },
 }
 
 /// Gathers the members, penalty counts and streaks of a node; where there are none, or no room for
@@ -90,9 +97,10 @@ impl<'a, const N: usize> Common<'a, N> {
     pub(crate) fn of(nodes: u8, shown: &'a NodeRecord<N>) -> Self
         requires capacity { IsCapacity N }
         requires nodes { nodes ≤ N }
-        ensures { IsCommon nodes result.shown.now result.standing result.settled }
+        ensures { result.nodes ≡ nodes }
     {
         Common {
+            nodes,
             shown,
             standing: standing_of(nodes, shown),
             settled: settled_of(nodes, shown),
@@ -100,9 +108,9 @@ impl<'a, const N: usize> Common<'a, N> {
     }
 
     /// Whether the members, penalty counts and streaks are those of another agreed state too.
-    pub(crate) fn stands(&self, nodes: u8, other: &Agreed<N>) -> bool
-        requires { IsCommon nodes self.now.shown.now self.now.standing self.now.settled }
-        ensures { result ≡ true → self.now.standing.gathered ≡ standing_text nodes other.now }
+    pub(crate) fn stands(&self, other: &Agreed<N>) -> bool
+        ensures { result ≡ true
+            → self.now.standing.gathered ≡ standing_text self.now.nodes other.now }
     {
         let shown = self.shown;
         match &shown.agreed {
@@ -112,10 +120,9 @@ impl<'a, const N: usize> Common<'a, N> {
     }
 
     /// Whether another node settled and voted the same.
-    pub(crate) fn settles(&self, nodes: u8, other: &NodeRecord<N>) -> bool
-        requires capacity { IsCapacity N }
-        requires common { IsCommon nodes self.now.shown.now self.now.standing self.now.settled }
-        ensures { result ≡ true → self.now.settled.gathered ≡ settled_text nodes other.now }
+    pub(crate) fn settles(&self, other: &NodeRecord<N>) -> bool
+        ensures { result ≡ true →
+            self.now.settled.gathered ≡ settled_text self.now.nodes other.now }
     {
         !self.settled.failed && settled_alike(self.shown, other)
     }

@@ -5,13 +5,12 @@ ghost use Rattle.run_print.specs.Printing.{Prints, WritesText};
 ghost use Rattle.run_text.specs.Text.{mode_text};
 ghost use Rattle.run_text.specs.NodeText.{left_text, standing_text, state_text, settled_text};
 ghost use Rattle.run_text.specs.NodeText.{beliefs_text};
-ghost use Rattle.run_print.specs.Common.{IsCommon};
 ghost use Rattle.run_text.specs.PeriodText.{alone_text};
 
 use crate::WriteFault;
 use crate::common::Common;
 use crate::printer::{Printer, SMALL};
-use agreed_state::Agreed;
+use agreed_state::{Agreed, Config};
 use membership::Left;
 use node_core::NodeRecord;
 use span_io::Sink;
@@ -59,20 +58,16 @@ impl<const ROOM: usize> Printer<ROOM> {
     fn standing_so<K: Sink, const N: usize>(
         &mut self,
         sink: &mut K,
-        nodes: u8,
         agreed: &Agreed<N>,
         common: &Common<'_, N>,
     )
-        requires nodes { nodes ≤ N }
-        requires common { IsCommon nodes common.now.shown.now common.now.standing
-            common.now.settled }
         ensures { Prints K.written K.faults self.old sink.old self.new sink.new
-            (standing_text nodes agreed.now) }
+            (standing_text common.now.nodes agreed.now) }
     {
-        if common.stands(nodes, agreed) {
+        if common.stands(agreed) {
             self.text(sink, common.standing.gathered.as_slice());
         } else {
-            self.standing(sink, nodes, agreed);
+            self.standing(sink, common.nodes, agreed);
         }
     }
 
@@ -80,22 +75,17 @@ impl<const ROOM: usize> Printer<ROOM> {
     fn state<K: Sink, const N: usize>(
         &mut self,
         sink: &mut K,
-        nodes: u8,
         retire: u16,
         agreed: &Agreed<N>,
         common: &Common<'_, N>,
     )
-        requires capacity { IsCapacity N }
-        requires nodes { nodes ≤ N }
-        requires common { IsCommon nodes common.now.shown.now common.now.standing
-            common.now.settled }
         ensures { Prints K.written K.faults self.old sink.old self.new sink.new
-            (state_text nodes retire agreed.now) }
+            (state_text common.now.nodes retire agreed.now) }
     {
-        self.standing_so(sink, nodes, agreed, common);
+        self.standing_so(sink, agreed, common);
         self.text(sink, b" run ");
-        self.runs(sink, nodes, &agreed.copies);
-        self.left(sink, nodes, retire, &agreed.left);
+        self.runs(sink, common.nodes, &agreed.copies);
+        self.left(sink, common.nodes, retire, &agreed.left);
     }
 
     /// Prints what a node settled and voted.
@@ -123,21 +113,16 @@ impl<const ROOM: usize> Printer<ROOM> {
     fn settled_so<K: Sink, const N: usize>(
         &mut self,
         sink: &mut K,
-        nodes: u8,
         shown: &NodeRecord<N>,
         common: &Common<'_, N>,
     )
-        requires capacity { IsCapacity N }
-        requires nodes { nodes ≤ N }
-        requires common { IsCommon nodes common.now.shown.now common.now.standing
-            common.now.settled }
         ensures { Prints K.written K.faults self.old sink.old self.new sink.new
-            (settled_text nodes shown.now) }
+            (settled_text common.now.nodes shown.now) }
     {
-        if common.settles(nodes, shown) {
+        if common.settles(shown) {
             self.text(sink, common.settled.gathered.as_slice());
         } else {
-            self.settled(sink, nodes, shown);
+            self.settled(sink, common.nodes, shown);
         }
     }
 
@@ -145,32 +130,28 @@ impl<const ROOM: usize> Printer<ROOM> {
     pub(crate) fn beliefs<K: Sink, const N: usize>(
         &mut self,
         sink: &mut K,
-        nodes: u8,
         retire: u16,
         shown: &NodeRecord<N>,
         common: &Common<'_, N>,
     )
-        requires capacity { IsCapacity N }
-        requires nodes { nodes ≤ N }
-        requires common { IsCommon nodes common.now.shown.now common.now.standing
-            common.now.settled }
         ensures { Prints K.written K.faults self.old sink.old self.new sink.new
-            (beliefs_text nodes retire shown.now shown.now.agreed) }
+            (beliefs_text common.now.nodes retire shown.now shown.now.agreed) }
     {
         match &shown.agreed {
             None => self.text(sink, b"cold\n"),
             Some(agreed) => {
                 self.mode(sink, shown.mode);
-                self.state(sink, nodes, retire, agreed, common);
-                self.settled_so(sink, nodes, shown, common);
+                self.state(sink, retire, agreed, common);
+                self.settled_so(sink, shown, common);
             }
         }
     }
 }
 
-/// Writes a period's number and the lines of one node, with `-` in place of a class.
+/// Writes a period's number and the lines of one node of the configuration, with `-` in place of a
+/// class.
 ///
-/// `nodes` must be at most `N`. It and `retire` are those of the configuration.
+/// The configuration must have at most `N` nodes.
 ///
 /// # Errors
 /// `WriteFault` comes only where the sink's count of faults rose. A prefix of the lines was written
@@ -178,20 +159,20 @@ impl<const ROOM: usize> Printer<ROOM> {
 pub fn write_alone<const N: usize, K: Sink>(
     period: u32,
     id: u8,
-    nodes: u8,
-    retire: u16,
+    config: &Config<N>,
     shown: &NodeRecord<N>,
     sink: &mut K,
 ) -> Result<(), WriteFault>
     requires capacity { IsCapacity N }
-    requires nodes { nodes ≤ N }
+    requires nodes { config.now.nodes ≤ N }
     ensures { WritesText K.written K.faults sink.old sink.new
-        (alone_text period id nodes retire shown.now) result }
+        (alone_text period id config.now.nodes config.now.policy.retire shown.now) result }
 {
+    let common = Common::of(config.nodes, shown);
     let mut printer = Printer::<SMALL>::new();
     printer.labelled(sink, b"period ", period as u64);
     printer.byte(sink, b'\n');
     printer.front(sink, id, b'-');
-    printer.beliefs(sink, nodes, retire, shown, &Common::of(nodes, shown));
+    printer.beliefs(sink, config.policy.retire, shown, &common);
     printer.finish(sink)
 }

@@ -2,11 +2,11 @@
 ghost use Rattle.std.specs.Prelude.{◌≡◌, ◌≤◌, ◌<◌, ◌++◌, true, false, codes, slice_get};
 ghost use Rattle.node_grid.specs.Capacity.{IsCapacity};
 ghost use Rattle.run_print.specs.Printing.{Prints, WritesText};
-ghost use Rattle.run_print.specs.Common.{IsCommon};
 ghost use Rattle.run_text.specs.Text.{yes_no};
 ghost use Rattle.run_text.specs.TraceText.{IsPlanOf, period_text};
 ghost use Rattle.run_text.specs.PeriodText.{budget_text, head_text, recorded_text, nodes_text};
 ghost use Rattle.run_text.specs.PeriodText.{end_text, refused_text};
+ghost use Rattle.run_print.specs.Example.{untraced_text};
 
 use crate::WriteFault;
 use crate::common::{Common, example_of};
@@ -62,16 +62,13 @@ impl<const ROOM: usize> Printer<ROOM> {
         i: u8,
         common: &Common<'_, N>,
     )
-        requires capacity { IsCapacity N }
-        requires nodes { shown.now.nodes ≤ N }
         requires node { i < shown.now.nodes }
-        requires common { IsCommon shown.now.nodes common.now.shown.now common.now.standing
-            common.now.settled }
+        requires same { common.now.nodes ≡ shown.now.nodes }
         ensures { Prints K.written K.faults self.old sink.old self.new sink.new
             (recorded_text shown.now i (slice_get shown.now.records i)) }
     {
         self.front(sink, i, letter_of(shown.classes[i as usize]));
-        self.beliefs(sink, shown.nodes, shown.retire, shown.node(i), common);
+        self.beliefs(sink, shown.retire, shown.node(i), common);
     }
 
     /// Prints the lines of all nodes.
@@ -95,24 +92,16 @@ impl<const ROOM: usize> Printer<ROOM> {
         }
     }
 
-    /// Prints all lines of a period, with `trace` those of its frames too.
-    fn period<K: Sink, const N: usize>(
-        &mut self,
-        sink: &mut K,
-        shown: &PeriodRecord<N>,
-        plan: &FaultPlan<N>,
-        trace: bool,
-    )
+    /// Prints all lines of a period but those of its frames.
+    fn untraced<K: Sink, const N: usize>(&mut self, sink: &mut K, shown: &PeriodRecord<N>)
         requires capacity { IsCapacity N }
         requires nodes { shown.now.nodes ≤ N }
-        requires planned { trace ≡ true → IsPlanOf plan.now shown.now }
         ensures { Prints K.written K.faults self.old sink.old self.new sink.new
-            (period_text plan.now trace shown.now) }
+            (untraced_text shown.now) }
     {
         self.head(sink, shown);
         self.nodes(sink, shown);
         self.clock(sink, shown);
-        self.traced(sink, shown, plan, trace);
     }
 
     /// Prints the last line of a run of so many periods.
@@ -143,16 +132,15 @@ pub fn write_head<const N: usize, K: Sink>(
 /// Writes all lines of a period but those of its frames.
 fn write_untraced<const N: usize, K: Sink>(
     shown: &PeriodRecord<N>,
-    plan: &FaultPlan<N>,
     sink: &mut K,
 ) -> Result<(), WriteFault>
     requires capacity { IsCapacity N }
     requires nodes { shown.now.nodes ≤ N }
     ensures { WritesText K.written K.faults sink.old sink.new
-        (period_text plan.now false shown.now) result }
+        (untraced_text shown.now) result }
 {
     let mut printer = Printer::<SMALL>::new();
-    printer.period(sink, shown, plan, false);
+    printer.untraced(sink, shown);
     printer.finish(sink)
 }
 
@@ -171,7 +159,8 @@ fn write_traced<const N: usize, K: Sink>(
         (period_text plan.now true shown.now) result }
 {
     let mut printer = Printer::<LARGE>::new();
-    printer.period(sink, shown, plan, true);
+    printer.untraced(sink, shown);
+    printer.frames(sink, shown, plan);
     printer.finish(sink)
 }
 
@@ -199,7 +188,7 @@ pub fn write_period<const N: usize, K: Sink>(
     if trace {
         write_traced(shown, plan, sink)
     } else {
-        write_untraced(shown, plan, sink)
+        write_untraced(shown, sink)
     }
 }
 

@@ -9,6 +9,8 @@ ghost use Rattle.slot_plan.specs.Ticks.{on_time};
 ghost use Rattle.fault_classes.specs.Line.{effect_at};
 ghost use Rattle.fault_link.specs.Arrival.{delivered_of};
 ghost use Rattle.cluster_periods.specs.Record.{frame_at};
+ghost use Rattle.node_grid.specs.Capacity.{IsCapacity};
+ghost use Rattle.run_print.specs.Common.{capacity-prop};
 ghost use Rattle.run_print.specs.Printing.{Prints};
 ghost use Rattle.run_text.specs.TraceText.{IsPlanOf, bytes_text, start_text, arrival_text};
 ghost use Rattle.run_text.specs.TraceText.{frame_text, link_text, sender_text, slot_text};
@@ -18,7 +20,7 @@ use crate::printer::Printer;
 use arrayvec::ArrayVec;
 use cluster_record::{LONGEST_FRAME, PeriodRecord};
 use fault_classes::FaultPlan;
-use fault_link::{Delivered, deliveries};
+use fault_link::{Delivered, Transmission, deliveries};
 use itoa::{Buffer, Integer};
 use slot_plan::slot_count;
 use span_io::Sink;
@@ -40,6 +42,19 @@ const LONG_ROOM: usize = 3 * LONGEST_FRAME + AROUND;
 
 /// Room for the start of a line: a word, three numbers, and the spaces behind them.
 type Start = ArrayVec<u8, 32>;
+
+/// A slot of a period whose frames are printed, and the plan by which they arrive.
+#[derive(Drop)]
+struct TracedSlot<'p, const N: usize> {
+    shown: &'p PeriodRecord<N>,
+    plan: &'p FaultPlan<N>,
+    slot: u8,
+    ghost capacity: { IsCapacity N } by { capacity-prop N },
+    ghost in_period: { slot < slot_count shown.now.m },
+    ghost nodes: { plan.now.nodes ≡ shown.now.nodes },
+    ghost rounds: { plan.now.rounds ≡ shown.now.m },
+    ghost periods: { shown.now.period < plan.now.periods },
+}
 
 /// How many slots a period has, by the relay rounds of the plan.
 fn slots_of<const N: usize>(plan: &FaultPlan<N>, rounds: u8) -> u8
@@ -216,19 +231,19 @@ impl<const ROOM: usize> Printer<ROOM> {
     fn receivers<K: Sink, const N: usize>(
         &mut self,
         sink: &mut K,
-        shown: &PeriodRecord<N>,
-        plan: &FaultPlan<N>,
-        slot: u8,
+        traced: &TracedSlot<'_, N>,
         from: u8,
         room: &mut [u8],
     )
-        requires planned { IsPlanOf plan.now shown.now }
-        requires slot { slot < slot_count shown.now.m }
-        requires from { from < shown.now.nodes }
-        requires room { 3 * length (frame_at shown.now slot from) + 5 ≤ length room.old }
+        requires from { from < traced.now.shown.now.nodes }
+        requires room { 3 * length (frame_at traced.now.shown.now traced.now.slot from) + 5
+            ≤ length room.old }
         ensures { Prints K.written K.faults self.old sink.old self.new sink.new
-            (sender_text plan.now shown.now slot from) }
+            (sender_text traced.now.plan.now traced.now.shown.now traced.now.slot from) }
     {
+        let plan = traced.plan;
+        let shown = traced.shown;
+        let slot = traced.slot;
         // naming a field tells the checker the types of all of them
         let _ = &shown.classes;
         let sent = shown.sent(slot, from);
@@ -242,7 +257,13 @@ impl<const ROOM: usize> Printer<ROOM> {
                     self.untouched(sink, start, to, rest);
                 } else {
                     let scratch = &mut changed[..sent.len()];
-                    let delivered = deliveries(plan, shown.period, slot, from, to, sent, scratch);
+                    let on = Transmission {
+                        period: shown.period,
+                        slot,
+                        from,
+                        to,
+                    };
+                    let delivered = deliveries(plan, on, sent, scratch);
                     self.copies(sink, start, to, &delivered);
                 }
             }
@@ -253,22 +274,20 @@ impl<const ROOM: usize> Printer<ROOM> {
     fn senders<K: Sink, const N: usize>(
         &mut self,
         sink: &mut K,
-        shown: &PeriodRecord<N>,
-        plan: &FaultPlan<N>,
-        slot: u8,
+        traced: &TracedSlot<'_, N>,
         room: &mut [u8],
     )
-        requires planned { IsPlanOf plan.now shown.now }
-        requires slot { slot < slot_count shown.now.m }
-        requires room { (from : ℕ) → from < shown.now.nodes
-            → 3 * length (frame_at shown.now slot from) + 5 ≤ length room.old }
+        requires { (from : ℕ) → from < traced.now.shown.now.nodes
+            → 3 * length (frame_at traced.now.shown.now traced.now.slot from) + 5
+            ≤ length room.old }
         ensures { Prints K.written K.faults self.old sink.old self.new sink.new
-            (slot_text plan.now shown.now slot) }
+            (slot_text traced.now.plan.now traced.now.shown.now traced.now.slot) }
     {
+        let shown = traced.shown;
         // naming a field tells the checker the types of all of them
         let _ = &shown.classes;
         for from in 0..shown.nodes {
-            self.receivers(sink, shown, plan, slot, from, room);
+            self.receivers(sink, traced, from, room);
         }
     }
 
@@ -279,49 +298,38 @@ impl<const ROOM: usize> Printer<ROOM> {
     fn slot_within<K: Sink, const N: usize, const BYTES: usize>(
         &mut self,
         sink: &mut K,
-        shown: &PeriodRecord<N>,
-        plan: &FaultPlan<N>,
-        slot: u8,
+        traced: &TracedSlot<'_, N>,
     )
-        requires planned { IsPlanOf plan.now shown.now }
-        requires slot { slot < slot_count shown.now.m }
         requires few { BYTES ≤ 270317 }
-        requires room { (from : ℕ) → from < shown.now.nodes
-            → 3 * length (frame_at shown.now slot from) + 5 ≤ BYTES }
+        requires room { (from : ℕ) → from < traced.now.shown.now.nodes
+            → 3 * length (frame_at traced.now.shown.now traced.now.slot from) + 5 ≤ BYTES }
         ensures { Prints K.written K.faults self.old sink.old self.new sink.new
-            (slot_text plan.now shown.now slot) }
+            (slot_text traced.now.plan.now traced.now.shown.now traced.now.slot) }
     {
         let mut room = [0; BYTES];
-        self.senders(sink, shown, plan, slot, &mut room);
+        self.senders(sink, traced, &mut room);
     }
 
     /// Prints all frames that arrive in a slot.
-    fn slot<K: Sink, const N: usize>(
-        &mut self,
-        sink: &mut K,
-        shown: &PeriodRecord<N>,
-        plan: &FaultPlan<N>,
-        slot: u8,
-    )
-        requires planned { IsPlanOf plan.now shown.now }
-        requires slot { slot < slot_count shown.now.m }
+    fn slot<K: Sink, const N: usize>(&mut self, sink: &mut K, traced: &TracedSlot<'_, N>)
         ensures { Prints K.written K.faults self.old sink.old self.new sink.new
-            (slot_text plan.now shown.now slot) }
+            (slot_text traced.now.plan.now traced.now.shown.now traced.now.slot) }
     {
-        if longest(shown, slot) <= SHORT_FRAME {
-            self.slot_within::<K, N, SHORT_ROOM>(sink, shown, plan, slot);
+        if longest(traced.shown, traced.slot) <= SHORT_FRAME {
+            self.slot_within::<K, N, SHORT_ROOM>(sink, traced);
         } else {
-            self.slot_within::<K, N, LONG_ROOM>(sink, shown, plan, slot);
+            self.slot_within::<K, N, LONG_ROOM>(sink, traced);
         }
     }
 
     /// Prints all frames that arrive in a period.
-    fn frames<K: Sink, const N: usize>(
+    pub(crate) fn frames<K: Sink, const N: usize>(
         &mut self,
         sink: &mut K,
         shown: &PeriodRecord<N>,
         plan: &FaultPlan<N>,
     )
+        requires capacity { IsCapacity N }
         requires planned { IsPlanOf plan.now shown.now }
         ensures { Prints K.written K.faults self.old sink.old self.new sink.new
             (frames_text plan.now shown.now) }
@@ -329,24 +337,7 @@ impl<const ROOM: usize> Printer<ROOM> {
         // naming a field tells the checker the types of all of them
         let _ = &shown.classes;
         for slot in 0..slots_of(plan, shown.m) {
-            self.slot(sink, shown, plan, slot);
-        }
-    }
-
-    /// Prints all frames that arrive in a period, where they are asked for.
-    pub(crate) fn traced<K: Sink, const N: usize>(
-        &mut self,
-        sink: &mut K,
-        shown: &PeriodRecord<N>,
-        plan: &FaultPlan<N>,
-        trace: bool,
-    )
-        requires planned { trace ≡ true → IsPlanOf plan.now shown.now }
-        ensures { Prints K.written K.faults self.old sink.old self.new sink.new
-            (if trace then frames_text plan.now shown.now else []) }
-    {
-        if trace {
-            self.frames(sink, shown, plan);
+            self.slot(sink, &TracedSlot { shown, plan, slot });
         }
     }
 }

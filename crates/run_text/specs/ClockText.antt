@@ -12,8 +12,7 @@ use Rattle.run_text.specs.Text.{separated}
 -- the numbers of the sound nodes
 abbrev pub sound_numbers : List Class → List ℤ → List ℤ
 sound_numbers (c ∷ cs) (x ∷ xs) = if is_sound c then x ∷ sound_numbers cs xs else sound_numbers cs xs
-sound_numbers (c ∷ cs) [] = []
-sound_numbers [] xs = []
+sound_numbers _ _ = []
 
 -- the least and the greatest of some numbers, and with one more
 abbrev pub range_of : List ℤ → Option (ℤ × ℤ)

@@ -16,13 +16,11 @@ use Rattle.safety.specs.Lifetime.{standing_of, StaysLight}
 
 -- the kind of error that a receiver finds of a frame by what befalls it, where that is manifest
 abbrev pub manifest_kind : Option Change → Option ℕ
-manifest_kind None = None
 manifest_kind (Some Drop) = Some missing
 manifest_kind (Some (Cut k)) = Some malformed
 manifest_kind (Some Twice) = Some malformed
 manifest_kind (Some (Time t)) = Some timing
-manifest_kind (Some (Set at bytes)) = None
-manifest_kind (Some (Raw bytes)) = None
+manifest_kind _ = None
 
 -- what befalls the frames that node j sends in a slot of period p is manifest, and of one kind at all other nodes in use
 abbrev pub IsMarred : System → ℕ → ℕ → ℕ → ℕ → Type 0

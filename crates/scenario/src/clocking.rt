@@ -3,6 +3,7 @@ ghost use Rattle.std.specs.Prelude.{◌≡◌, ◌≤◌, ◌≤ℤ◌, ◌<◌,
 ghost use Rattle.std.specs.Prelude.{IfSome, true, is_some, map, option_map, length};
 ghost use Rattle.node_grid.specs.Capacity.{IsCapacity};
 ghost use Rattle.clock_skew.specs.Clock.{lie_of};
+ghost use Rattle.fault_classes.specs.Rules.{IsSize};
 ghost use Rattle.scenario.specs.Numbers.{natural};
 ghost use Rattle.scenario.specs.Line.{lie_in};
 ghost use Rattle.scenario.specs.Given.{padded, clock_given};
@@ -16,10 +17,10 @@ use crate::configuring::padded;
 use crate::error::{ScenarioError, refused};
 use crate::numbers::{all_within, is_within, natural};
 use crate::parts::{ClockPart, LiePart};
-use crate::planning::{Bounds, first_of, is_addressed, last_of, others_of};
+use crate::planning::{first_of, is_addressed, last_of, others_of};
 use crate::rules::{are_close, is_row_count};
-use clock_skew::{ClockPlan, Lie};
-use fault_classes::FaultPlan;
+use clock_skew::{ClockCourse, ClockPlan, Lie};
+use fault_classes::{FaultPlan, PlanSize};
 use node_grid::Class;
 use std::alloc::{AllocError, Global};
 
@@ -259,40 +260,36 @@ fn clocks<const N: usize>(
     alloc: Global,
     part: &ClockPart,
     plan: &FaultPlan<N>,
-    nodes: u8,
-    periods: u32,
+    bounds: PlanSize,
 ) -> Result<ClockPlan<N>, ScenarioError>
-    requires capacity { IsCapacity N }
-    requires some { 3 ≤ nodes }
-    requires few { nodes ≤ N }
-    requires nodes { nodes ≡ plan.now.nodes }
-    requires periods { periods ≡ plan.now.periods }
-    requires few_periods { periods ≤ 1024 }
-    ensures clock { IfOk result (λ c. c ≡ clock_given N nodes (clock_view part.now)) }
-    ensures unrefused { IfOk result (λ c. clock_refused nodes plan.now (Some (clock_view part.now))
-        ≡ None) }
+    requires size { IsSize N bounds }
+    requires nodes { bounds.nodes ≡ plan.now.nodes }
+    requires periods { bounds.periods ≡ plan.now.periods }
+    ensures clock { IfOk result (λ c. c ≡ clock_given N bounds.nodes (clock_view part.now)) }
+    ensures unrefused { IfOk result (λ c.
+        clock_refused bounds.nodes plan.now (Some (clock_view part.now)) ≡ None) }
     ensures refused { IfErr result (Tells
-        (clock_refused nodes plan.now (Some (clock_view part.now)))) }
+        (clock_refused bounds.nodes plan.now (Some (clock_view part.now)))) }
 {
-    if !part.is_clock(nodes as usize) {
+    if !part.is_clock(bounds.nodes as usize) {
         return Err(refused(18, 0));
     }
-    let lies = lies(alloc, &part.lies, plan, nodes, periods)?;
+    let lies = lies(alloc, &part.lies, plan, bounds.nodes, bounds.periods)?;
     let Ok(drifts) = rows(alloc, &part.drifts) else {
         return Err(ScenarioError::NoMemory);
     };
     let Ok(errors) = rows(alloc, &part.errors) else {
         return Err(ScenarioError::NoMemory);
     };
-    Ok(ClockPlan::new(
-        nodes,
-        part.epsilon,
-        part.drift,
-        padded(&part.start),
+    Ok(ClockPlan::new(ClockCourse {
+        nodes: bounds.nodes,
+        epsilon: part.epsilon,
+        drift: part.drift,
+        start: padded(&part.start),
         drifts,
         errors,
         lies,
-    ))
+    }))
 }
 
 /// The clocks of the scenario under its plan, where it has some.
@@ -303,14 +300,11 @@ pub(crate) fn clock<const N: usize>(
     alloc: Global,
     part: &Option<ClockPart>,
     plan: &FaultPlan<N>,
-    bounds: Bounds,
+    bounds: PlanSize,
 ) -> Result<Option<ClockPlan<N>>, ScenarioError>
-    requires capacity { IsCapacity N }
-    requires some { 3 ≤ bounds.nodes }
-    requires few { bounds.nodes ≤ N }
+    requires size { IsSize N bounds }
     requires nodes { bounds.nodes ≡ plan.now.nodes }
     requires periods { bounds.periods ≡ plan.now.periods }
-    requires few_periods { bounds.periods ≤ 1024 }
     ensures clock { IfOk result (λ o.
         o ≡ option_map (clock_given N bounds.nodes) (option_map clock_view part.now)) }
     ensures unrefused { IfOk result (λ o.
@@ -321,5 +315,5 @@ pub(crate) fn clock<const N: usize>(
     let Some(part) = part else {
         return Ok(None);
     };
-    Ok(Some(clocks(alloc, part, plan, bounds.nodes, bounds.periods)?))
+    Ok(Some(clocks(alloc, part, plan, bounds)?))
 }

@@ -15,9 +15,10 @@ ghost use Rattle.scenario_reading.specs.Keys.{state_fields, sensor_names, sensor
 ghost use Rattle.scenario_reading.specs.Keys.{copy_names, copy_fields, channel_at, task_key};
 ghost use Rattle.scenario_reading.specs.Keys.{numbers_at, set_names, set_fields, effect_by};
 ghost use Rattle.scenario_reading.specs.Keys.{effect_key, fault_at, restart_at, lie_key, clock_at};
-ghost use Rattle.scenario_reading.specs.Keys.{scenario_names, size_fields, policy_in, channels_in};
-ghost use Rattle.scenario_reading.specs.Keys.{tasks_in, faults_in, restarts_in, clock_key};
-ghost use Rattle.scenario_reading.specs.Keys.{other_fields, scenario_fields, parts_in, parts_read};
+ghost use Rattle.scenario_reading.specs.Keys.{scenario_names, parts_in, parts_read};
+ghost use Rattle.scenario_reading.specs.Pieces.{size_fields, policy_in, channels_in, tasks_in};
+ghost use Rattle.scenario_reading.specs.Pieces.{faults_in, restarts_in, clock_key, other_fields};
+ghost use Rattle.scenario_reading.specs.Pieces.{pieces_in};
 ghost use Rattle.scenario.specs.Seen.{numbers_view, effect_view, fault_view, restart_view};
 ghost use Rattle.scenario.specs.Seen.{policy_view, channel_view, task_view, lie_view, clock_view};
 ghost use Rattle.scenario.specs.Seen.{parts_view};
@@ -115,7 +116,7 @@ impl<'a> Form<'a> for PolicyForm {
     }
 }
 
-#[tactic(auto, unfolding(crate::specs::Keys::policy_in))]
+#[tactic(auto, unfolding(crate::specs::Pieces::policy_in))]
 fn policy(alloc: Global, value: &Value<'_>, version: i64) -> Result<PolicyPart, PartError>
     ensures { Gives policy_view (policy_in version (view value.now)) result }
 {
@@ -190,7 +191,7 @@ impl<'a> Form<'a> for ChannelForm {
     }
 }
 
-#[tactic(auto, unfolding(crate::specs::Keys::channels_in))]
+#[tactic(auto, unfolding(crate::specs::Pieces::channels_in))]
 fn channels(alloc: Global, value: &Value<'_>, version: i64) -> Result<Vec<ChannelPart>, PartError>
     ensures { Gives (λ v. map channel_view v.items) (channels_in version (view value.now)) result }
 {
@@ -226,7 +227,7 @@ impl<'a> Form<'a> for TaskForm {
     }
 }
 
-#[tactic(auto, unfolding(crate::specs::Keys::tasks_in))]
+#[tactic(auto, unfolding(crate::specs::Pieces::tasks_in))]
 fn tasks(alloc: Global, value: &Value<'_>) -> Result<Vec<TaskPart>, PartError>
     ensures { Gives (λ v. map task_view v.items) (tasks_in (view value.now)) result }
 {
@@ -323,7 +324,7 @@ impl<'a> Form<'a> for FaultForm {
     }
 }
 
-#[tactic(auto, unfolding(crate::specs::Keys::faults_in))]
+#[tactic(auto, unfolding(crate::specs::Pieces::faults_in))]
 fn faults(alloc: Global, value: &Value<'_>) -> Result<Vec<FaultPart>, PartError>
     ensures { Gives (λ v. map fault_view v.items) (faults_in (view value.now)) result }
 {
@@ -355,7 +356,7 @@ impl<'a> Form<'a> for RestartForm {
     }
 }
 
-#[tactic(auto, unfolding(crate::specs::Keys::restarts_in))]
+#[tactic(auto, unfolding(crate::specs::Pieces::restarts_in))]
 fn restarts(alloc: Global, value: &Value<'_>) -> Result<Vec<RestartPart>, PartError>
     ensures { Gives (λ v. map restart_view v.items) (restarts_in (view value.now)) result }
 {
@@ -419,7 +420,7 @@ impl<'a> Form<'a> for ClockForm {
     }
 }
 
-#[tactic(auto, unfolding(crate::specs::Keys::clock_key))]
+#[tactic(auto, unfolding(crate::specs::Pieces::clock_key))]
 fn clock(alloc: Global, value: &Value<'_>) -> Result<Option<ClockPart>, PartError>
     ensures { Gives (option_map clock_view) (clock_key (view value.now)) result }
 {
@@ -438,7 +439,7 @@ struct Sizes {
     order: i64,
 }
 
-#[tactic(auto, unfolding(crate::specs::Keys::size_fields))]
+#[tactic(auto, unfolding(crate::specs::Pieces::size_fields))]
 fn whole_sizes(alloc: Global, value: &Value<'_>) -> Result<Sizes, PartError>
     ensures { Gives sizes_view (size_fields (view value.now)) result }
 {
@@ -451,7 +452,7 @@ fn whole_sizes(alloc: Global, value: &Value<'_>) -> Result<Sizes, PartError>
     })
 }
 
-#[tactic(auto, unfolding(crate::specs::Keys::other_fields))]
+#[tactic(auto, unfolding(crate::specs::Pieces::other_fields))]
 fn parts_of_sizes(
     alloc: Global,
     value: &Value<'_>,
@@ -477,7 +478,7 @@ fn parts_of_sizes(
 }
 
 fn parts_of_fields(alloc: Global, value: &Value<'_>, version: i64) -> Result<Parts, PartError>
-    ensures { Gives parts_view (scenario_fields version (view value.now)) result }
+    ensures { Gives parts_view (pieces_in version (view value.now)) result }
 {
     let sizes = whole_sizes(alloc, value)?;
     parts_of_sizes(alloc, value, version, sizes)

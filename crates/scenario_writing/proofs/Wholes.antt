@@ -5,7 +5,7 @@ use Rattle.std.specs.Ordering.{int_eq}
 use Rattle.serde_json.specs.Data.{Data, Members, no_members, object, put}
 use Rattle.json_parts.specs.Reading.{whole, list_of, has_keys, required, optional, if_there}
 use Rattle.scenario.specs.Parts.{ClockParts, ScenarioParts}
-use Rattle.scenario_reading.specs.Keys.{policy_at, channel_at, task_key, fault_at, restart_at, clock_at, version_at, scenario_names, size_fields, policy_in, channels_in, tasks_in, faults_in, restarts_in, clock_key, other_fields, parts_in, parts_read}
+use Rattle.scenario_reading.specs.Keys.{policy_at, channel_at, task_key, fault_at, restart_at, clock_at, version_at, scenario_names, scenario_fields, parts_in, parts_read}
 use Rattle.scenario_reading.proofs.Keys.{old_names, all_names, newer_names, older_names}
 use Rattle.scenario_writing.specs.Members.{put_some}
 use Rattle.scenario_versions.specs.Versions.{is_first}
@@ -28,7 +28,7 @@ record IsRead (p : ScenarioParts) (d : Data) : Type 0 where
 
 -- then the value is read as the parts
 assembled : (p : ScenarioParts) (d : Data) → IsRead p d → parts_read d ≡ Some p
-unfolding parts_in size_fields other_fields policy_in channels_in tasks_in faults_in restarts_in clock_key
+unfolding parts_in scenario_fields
 assembled p d r =
     rw (r.version, r.keys, r.nodes, r.m, r.periods, r.frame, r.order, r.policy, r.channels, r.tasks, r.faults, r.restarts, r.clock) refl
 

@@ -10,6 +10,7 @@ mod listener;
 mod receivers;
 mod relayed;
 mod relays;
+mod room;
 mod settling;
 mod values;
 

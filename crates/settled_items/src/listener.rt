@@ -1,13 +1,11 @@
 ghost use Rattle.std.specs.Prelude.{◌≡◌, ◌≢◌, ℕ, ◌<◌, ◌≤◌, ◌+◌, ◌-◌, ◌*◌, ◌∷◌, [], List, length};
 ghost use Rattle.std.specs.Prelude.{take, slice_index_or, true};
-ghost use Rattle.node_grid.specs.Capacity.{IsCapacity};
 ghost use Rattle.node_grid.specs.NodeSet.{has_id};
 ghost use Rattle.omh_paths.specs.declared.wrapped.Wrapped.{Wrapped};
 ghost use Rattle.omh_paths.specs.declared.wrapped.Wrapped.TheVariants.{Fault};
 ghost use Rattle.omh_paths.specs.Wrapped.{IsExact};
 ghost use Rattle.omh.specs.Omh.{own_term, settled_at};
 ghost use Rattle.equivocation.specs.Conviction.{convicts};
-ghost use Rattle.settled_items.specs.Listening.{listener_ear};
 
 use crate::values::{convict_by, set_value, settled_from_terms};
 use node_grid::NodeSet;
@@ -38,9 +36,13 @@ pub struct Listener<const N: usize> {
     pub me: u8,
     /// Whether it is Full.
     pub full: bool,
+    pub ghost fits: { N ≤ 16 },
+    pub ghost short: { rounds ≤ 3 },
 }
 
 impl<const N: usize> Listener<N> {
+    ghost use Rattle.settled_items.specs.Listening.{listener_ear};
+
     /// What it puts into the majority of a path for itself.
     fn own_term<V: Copy + Eq, H: Hearing<V>>(&self, hearing: &H, path: &Path) -> Wrapped<V>
         ensures { result ≡ own_term (listener_ear self.now (H.hears hearing.now)) path.now }
@@ -62,12 +64,9 @@ impl<const N: usize> Listener<N> {
         from: usize,
     ) -> Wrapped<V>
         requires exact { IsExact V.eq }
-        requires capacity { IsCapacity N }
         requires nodes { (q : ℕ) → has_id path.now q ≡ true → q < N }
-        requires rounds { self.now.rounds ≤ 3 }
         requires short { length path.now ≤ self.now.rounds + 1 }
         requires room { from + 16 * (self.now.rounds + 1 - length path.now) ≤ length work.old }
-        requires small { length work.old ≤ 4096 }
         ensures settled { result ≡
             settled_at V.eq (listener_ear self.now (H.hears hearing.now)) path.now }
         ensures kept { take from work.new ≡ take from work.old }
@@ -98,8 +97,6 @@ impl<const N: usize> Listener<N> {
         work: &mut [Wrapped<V>],
     ) -> Wrapped<V>
         requires exact { IsExact V.eq }
-        requires capacity { IsCapacity N }
-        requires rounds { self.now.rounds ≤ 3 }
         requires commander { commander < N }
         requires room { length work.old ≡ TERMS }
         ensures settled { result ≡
@@ -117,7 +114,6 @@ impl<const N: usize> Listener<N> {
         work: &mut [Wrapped<V>],
     ) -> bool
         requires exact { IsExact V.eq }
-        requires capacity { IsCapacity N }
         requires member { has_id self.now.members commander ≡ true }
         requires node { self.now.me < N }
         requires other { commander ≢ self.now.me }

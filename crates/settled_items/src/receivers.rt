@@ -6,35 +6,29 @@ ghost use Rattle.omh.specs.Omh.{ear, settled};
 ghost use Rattle.equivocation.specs.Conviction.{convicts};
 ghost use Rattle.settled_paths.specs.Passing.{or_passed};
 ghost use Rattle.settled_items.specs.Relaying.{AreFewOdd};
-ghost use Rattle.settled_items.specs.Relayed.{relayed_world, IsRelayed};
+ghost use Rattle.settled_items.specs.Relayed.{relayed_world, IsRelayed, IsToldByNode};
 
 use crate::relayed::{Relayed, has_few_odd};
+use crate::room::FewRoom;
 use crate::values::are_alike;
 use node_grid::NodeSet;
-use odd_relays::{Item, Phase, WORK};
+use odd_relays::{Item, Phase};
 use omh_paths::Wrapped;
 use settled_paths::Touched;
 
 impl<'a, V: Copy + Eq, T: Touched<V>, const N: usize> Relayed<'a, V, T, N> {
     /// What each awake node settles for the item of another member, by paths of odd members, laid
     /// at the node's place in `all`. It is laid by node what the commander told each of them.
-    fn settle_told(&self, told: &[Wrapped<V>], work: &mut [Wrapped<V>], all: &mut [Wrapped<V>])
+    fn settle_told(&self, room: &mut FewRoom<V, N>, all: &mut [Wrapped<V>])
         requires exact { IsExact V.eq }
         requires item { IsRelayed T.says self.now }
         requires few { AreFewOdd self.now.exchange.rounds self.now.exchange.members
             self.now.exchange.full self.now.odd }
-        requires told { (i : ℕ) → has_id self.now.exchange.awake i ≡ true →
-            slice_index_or told.now i (Fault 0) ≡
-            or_passed (T.says self.now.touched.now i (self.now.exchange.commander ∷ []))
-            self.now.own.now }
-        requires nodes { length told.now ≡ N }
-        requires known { All (λ v. v ≢ Fault 255) told.now }
-        requires room { length work.old ≡ WORK }
+        requires told { IsToldByNode T.says self.now room.old.told.items }
         requires places { length all.old ≡ N }
         ensures settled { (i : ℕ) → has_id self.now.exchange.awake i ≡ true →
             self.now.exchange.commander ≢ i → slice_index_or all.new i (Fault 0) ≡
             settled V.eq (relayed_world T.says self.now) i (self.now.exchange.commander ∷ []) }
-        ensures room { length work.new ≡ WORK }
         ensures places { length all.new ≡ N }
     {
         let _ = self.exchange.members.len();
@@ -47,10 +41,10 @@ impl<'a, V: Copy + Eq, T: Touched<V>, const N: usize> Relayed<'a, V, T, N> {
             phase,
             commander: self.exchange.commander,
             odd: self.odd,
-            told,
+            told: room.told.as_slice(),
             relays: self,
         };
-        item.settle_all(&self.exchange.awake, work, all);
+        item.settle_all(&self.exchange.awake, room.work.as_mut_slice(), all);
     }
 
     /// Whether all these nodes were told the same and few members are odd, so that none of them
@@ -60,11 +54,7 @@ impl<'a, V: Copy + Eq, T: Touched<V>, const N: usize> Relayed<'a, V, T, N> {
         requires item { IsRelayed T.says self.now }
         requires nodes { (i : ℕ) → has_id self.now.exchange.awake i ≡ true →
             self.now.exchange.commander ≢ i → has_id nodes.now i ≡ true }
-        requires told { (i : ℕ) → has_id self.now.exchange.awake i ≡ true →
-            slice_index_or told.now i (Fault 0) ≡
-            or_passed (T.says self.now.touched.now i (self.now.exchange.commander ∷ []))
-            self.now.own.now }
-        requires places { length told.now ≡ N }
+        requires told { IsToldByNode T.says self.now told.now }
         ensures { result ≡ true → (i : ℕ) → has_id self.now.exchange.awake i ≡ true →
             self.now.exchange.commander ≢ i →
             convicts V.eq (ear (relayed_world T.says self.now) i) self.now.exchange.commander
@@ -82,12 +72,7 @@ impl<'a, V: Copy + Eq, T: Touched<V>, const N: usize> Relayed<'a, V, T, N> {
     fn convict_told(&self, told: &[Wrapped<V>]) -> NodeSet<N>
         requires exact { IsExact V.eq }
         requires item { IsRelayed T.says self.now }
-        requires told { (i : ℕ) → has_id self.now.exchange.awake i ≡ true →
-            slice_index_or told.now i (Fault 0) ≡
-            or_passed (T.says self.now.touched.now i (self.now.exchange.commander ∷ []))
-            self.now.own.now }
-        requires nodes { length told.now ≡ N }
-        requires known { All (λ v. v ≢ Fault 255) told.now }
+        requires told { IsToldByNode T.says self.now told.now }
         ensures convicts { (i : ℕ) → has_id self.now.exchange.awake i ≡ true →
             self.now.exchange.commander ≢ i → has_id result i ≡
             convicts V.eq (ear (relayed_world T.says self.now) i) self.now.exchange.commander }
@@ -115,45 +100,34 @@ impl<'a, V: Copy + Eq, T: Touched<V>, const N: usize> Relayed<'a, V, T, N> {
     }
 
     /// What each awake node settles for the item of another member, by paths of odd members, laid
-    /// at the node's place in `all`. `told` and `work` are left with no meaning.
-    pub(crate) fn settle_few(
-        &self,
-        told: &mut [Wrapped<V>],
-        work: &mut [Wrapped<V>],
-        all: &mut [Wrapped<V>],
-    )
+    /// at the node's place in `all`. What is left in `room` means nothing.
+    pub(crate) fn settle_few(&self, room: &mut FewRoom<V, N>, all: &mut [Wrapped<V>])
         requires exact { IsExact V.eq }
         requires item { IsRelayed T.says self.now }
         requires few { AreFewOdd self.now.exchange.rounds self.now.exchange.members
             self.now.exchange.full self.now.odd }
-        requires nodes { length told.old ≡ N }
-        requires room { length work.old ≡ WORK }
         requires places { length all.old ≡ N }
         ensures settled { (i : ℕ) → has_id self.now.exchange.awake i ≡ true →
             self.now.exchange.commander ≢ i → slice_index_or all.new i (Fault 0) ≡
             settled V.eq (relayed_world T.says self.now) i (self.now.exchange.commander ∷ []) }
-        ensures nodes { length told.new ≡ N }
-        ensures room { length work.new ≡ WORK }
         ensures places { length all.new ≡ N }
     {
-        self.lay_told(told);
-        self.settle_told(told, work, all);
+        self.lay_told(room.told.as_mut_slice());
+        self.settle_told(room, all);
     }
 
-    /// The awake nodes that convict the commander, which is another node. `told` is left with no
-    /// meaning.
-    pub(crate) fn convicting(&self, told: &mut [Wrapped<V>]) -> NodeSet<N>
+    /// The awake nodes that convict the commander, which is another node. What is left in `room`
+    /// means nothing.
+    pub(crate) fn convicting(&self, room: &mut FewRoom<V, N>) -> NodeSet<N>
         requires exact { IsExact V.eq }
         requires item { IsRelayed T.says self.now }
-        requires nodes { length told.old ≡ N }
         ensures convicts { (i : ℕ) → has_id self.now.exchange.awake i ≡ true →
             self.now.exchange.commander ≢ i → has_id result i ≡
             convicts V.eq (ear (relayed_world T.says self.now) i) self.now.exchange.commander }
         ensures within { (i : ℕ) → has_id result i ≡ true →
             (has_id self.now.exchange.awake i ≡ true) × (self.now.exchange.commander ≢ i) }
-        ensures nodes { length told.new ≡ N }
     {
-        self.lay_told(told);
-        self.convict_told(told)
+        self.lay_told(room.told.as_mut_slice());
+        self.convict_told(room.told.as_slice())
     }
 }

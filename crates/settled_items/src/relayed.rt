@@ -43,6 +43,8 @@ pub fn has_few_odd<const N: usize>(exchange: &Exchange<N>, odd: &NodeSet<N>) -> 
 }
 
 impl<'a, V: Copy + Eq, T: Touched<V>, const N: usize> Relayed<'a, V, T, N> {
+    ghost use Rattle.settled_items.specs.Relayed.{IsToldByNode};
+
     /// What its commander says of it.
     pub(crate) fn own(&self) -> Wrapped<V>
         ensures { result ≡ self.now.own.now }
@@ -95,15 +97,9 @@ impl<'a, V: Copy + Eq, T: Touched<V>, const N: usize> Relayed<'a, V, T, N> {
 
     /// Lays by node what each awake node hears of the commander itself.
     pub(crate) fn lay_told(&self, told: &mut [Wrapped<V>])
-        requires capacity { IsCapacity N }
         requires own { IsSmall 251 self.now.own.now }
         requires places { length told.old ≡ N }
-        ensures told { (i : ℕ) → has_id self.now.exchange.awake i ≡ true →
-            slice_index_or told.new i (Fault 0) ≡
-            or_passed (T.says self.now.touched.now i (self.now.exchange.commander ∷ []))
-            self.now.own.now }
-        ensures places { length told.new ≡ N }
-        ensures known { All (λ v. v ≢ Fault 255) told.new }
+        ensures { IsToldByNode T.says self.now told.new }
     {
         clear(told);
         let own = self.own();

@@ -9,10 +9,9 @@ ghost use Rattle.equivocation.specs.Conviction.{convicts};
 ghost use Rattle.settled_items.specs.Relayed.{relayed_world, IsRelayed};
 
 use crate::relayed::{Relayed, has_few_odd};
-use crate::values::blank;
+use crate::room::FewRoom;
 use counted_relays::settle_untouched;
 use node_grid::{NoMemory, NodeSet};
-use odd_relays::WORK;
 use omh_paths::Wrapped;
 use settled_paths::{Laid, Touched};
 use std::alloc::Global;
@@ -24,20 +23,16 @@ use std::marker::Model;
 #[derive(Drop)]
 pub struct Settling<V, const N: usize> {
     laid: Laid<V>,
-    told: Vec<Wrapped<V>>,
-    work: Vec<Wrapped<V>>,
+    few: FewRoom<V, N>,
 }
 
 // Clauses see for how many nodes and rounds it has room.
 impl<V, const N: usize> Model for Settling<V, N> {
-    ghost use Rattle.std.specs.Prelude.{◌≡◌, length};
     ghost use Rattle.settled_paths.specs.Rooms.{Room};
 
     ghost Value = { Room };
 
     ghost view = { λ s. s.laid };
-
-    ghost invariant = { λ s. (length s.told.items ≡ N) × (length s.work.items ≡ 832) };
 }
 
 impl<V: Copy + Eq + Drop, const N: usize> Settling<V, N> {
@@ -51,13 +46,8 @@ impl<V: Copy + Eq + Drop, const N: usize> Settling<V, N> {
         let Ok(laid) = Laid::open(alloc, nodes, rounds) else {
             return Err(NoMemory);
         };
-        let Ok(told) = blank(alloc, N) else {
-            return Err(NoMemory);
-        };
-        let Ok(work) = blank(alloc, WORK) else {
-            return Err(NoMemory);
-        };
-        Ok(Settling { laid, told, work })
+        let few = FewRoom::open(alloc)?;
+        Ok(Settling { laid, few })
     }
 
     /// What each awake node but the commander settles for the item, laid at the node's place in
@@ -75,7 +65,7 @@ impl<V: Copy + Eq + Drop, const N: usize> Settling<V, N> {
         ensures kept { self.new ≡ self.old }
     {
         if has_few_odd(&item.exchange, &item.odd) {
-            item.settle_few(self.told.as_mut_slice(), self.work.as_mut_slice(), all);
+            item.settle_few(&mut self.few, all);
         } else if !settle_untouched(&item.exchange, item.own(), item.touched, all) {
             self.laid
                 .settle_all(&item.exchange, item.own(), item.touched, all);
@@ -93,6 +83,6 @@ impl<V: Copy + Eq + Drop, const N: usize> Settling<V, N> {
             (has_id item.now.exchange.awake i ≡ true) × (item.now.exchange.commander ≢ i) }
         ensures kept { self.new ≡ self.old }
     {
-        item.convicting(self.told.as_mut_slice())
+        item.convicting(&mut self.few)
     }
 }

@@ -2,7 +2,6 @@
 
 ghost use Rattle.std.specs.Prelude.{◌≡◌, ◌≢◌, ℕ, ◌-◌, ◌<◌, ◌≤◌, length, take, drop, slice_set};
 ghost use Rattle.std.specs.Prelude.{slice_index_or, IfOk, replicate, true};
-ghost use Rattle.node_grid.specs.Capacity.{IsCapacity};
 ghost use Rattle.node_grid.specs.NodeSet.{has_id};
 ghost use Rattle.omh_paths.specs.declared.wrapped.Wrapped.TheVariants.{Fault};
 ghost use Rattle.omh_paths.specs.Wrapped.{wrapped, unwrapped, IsExact};
@@ -94,7 +93,6 @@ pub(crate) fn are_alike<V: Copy + Eq, const N: usize>(
     first: u8,
 ) -> bool
     requires exact { IsExact V.eq }
-    requires capacity { IsCapacity N }
     requires places { length values.now ≡ N }
     requires first { first < N }
     ensures { result ≡ true → (k : ℕ) → has_id nodes.now k ≡ true →

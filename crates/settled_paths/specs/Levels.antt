@@ -23,6 +23,15 @@ pub record IsExchange (capacity rounds : ℕ) (members : List ℕ) (commander : 
   pub members_ok : IsIdSet capacity members
   pub member_ok : has_id members commander ≡ true
 
+-- an item is relayed, and there are places for all paths behind its commander, for those of m nodes, and for what is settled on the
+-- way, sixteen terms at least
+pub record AreRelayRooms {V : Type 0} (rounds : ℕ) (members : List ℕ) (laid longest work : List (Wrapped V)) : Type 0 where
+  pub relayed : 0 < rounds
+  pub laid_ok : level_at (length members - 1) (rounds + 1) ≤ length laid
+  pub longest_ok : level_at (length members - 1) rounds ≤ length longest
+  pub work_ok : level_at (length members - 1) rounds ≤ length work
+  pub terms_ok : 16 ≤ length work
+
 -- the paths of r relays behind the commander at a place among the members
 pub record IsLevel (members : List ℕ) (place r : ℕ) (l : Level) : Type 0 where
   pub paths_are : l.paths ≡ path_count (length members - 1) r

@@ -1,12 +1,12 @@
 ghost use Rattle.std.specs.Prelude.{◌≡◌, ◌≢◌, ℕ, ◌+◌, ◌<◌, ◌≤◌, ◌⊎◌, ◌∷◌, [], length};
 ghost use Rattle.std.specs.Prelude.{slice_index_or, IfOk, true, false};
-ghost use Rattle.node_grid.specs.Capacity.{IsCapacity};
 ghost use Rattle.node_grid.specs.NodeSet.{has_id};
 ghost use Rattle.omh_paths.specs.declared.wrapped.Wrapped.TheVariants.{Fault};
 ghost use Rattle.omh_paths.specs.Wrapped.{IsExact};
 ghost use Rattle.omh.specs.Omh.{settled};
 ghost use Rattle.omh.specs.Written.{IsSmall};
 ghost use Rattle.settled_paths.specs.Passing.{passing_world};
+ghost use Rattle.settled_paths.specs.Rooms.{HasRoomFor};
 
 use crate::exchange::{Exchange, level_at};
 use crate::touched::Touched;
@@ -76,10 +76,8 @@ impl<V: Copy + Eq + Drop> Laid<V> {
         all: &mut [Wrapped<V>],
     )
         requires exact { IsExact V.eq }
-        requires capacity { IsCapacity N }
-        requires rounds { exchange.now.rounds ≡ self.old.rounds }
-        requires nodes { (q : ℕ) → has_id exchange.now.members q ≡ true → q < self.old.nodes }
-        requires member { has_id exchange.now.members exchange.now.commander ≡ true }
+        requires room { HasRoomFor N exchange.now.rounds exchange.now.members
+            exchange.now.commander self.old }
         requires own { IsSmall 252 own }
         requires places { length all.old ≡ N }
         ensures settled { (i : ℕ) → has_id exchange.now.awake i ≡ true →

@@ -48,7 +48,6 @@ impl<const N: usize> Exchange<N> {
         requires within { (q : ℕ) → has_id path.now q ≡ true → q < N }
         requires known { IsSmall 254 passed }
         requires room { from + length (outside self.now.members path.now) ≤ length laid.old }
-        requires small { from ≤ 4194304 }
         ensures each { (j : ℕ) → j < length (outside self.now.members path.now) →
             slice_index_or laid.new (from + j) (Fault 0)
             ≡ passes self.now.full (T.says touched.now) path.now passed

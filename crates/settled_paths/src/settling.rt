@@ -12,7 +12,7 @@ ghost use Rattle.omh.specs.Omh.{settled_at, settled};
 ghost use Rattle.omh.specs.Flat.{AreSettled, path_settled};
 ghost use Rattle.settled_paths.specs.Passing.{or_passed, instead, HearAlike, passing_world};
 ghost use Rattle.settled_paths.specs.Levels.{level_at, EachEar, IsExchange, AreLaid, AreOwnTerms};
-ghost use Rattle.settled_paths.specs.Levels.{AreLastTerms};
+ghost use Rattle.settled_paths.specs.Levels.{AreLastTerms, AreRelayRooms};
 
 use crate::exchange::Exchange;
 use crate::touched::{Touched, Untouched, heard, term};
@@ -63,12 +63,8 @@ impl<const N: usize> Exchange<N> {
     )
         requires exact { IsExact V.eq }
         requires exchange { IsExchange N self.now.rounds self.now.members self.now.commander }
-        requires some { 0 < self.now.rounds }
-        requires laid { level_at (length self.now.members - 1) (self.now.rounds + 1)
-            ≤ length laid.now }
-        requires longest { level_at (length self.now.members - 1) self.now.rounds
-            ≤ length longest.old }
-        requires terms { 16 ≤ length terms.old }
+        requires room { AreRelayRooms self.now.rounds self.now.members laid.now
+            longest.old terms.old }
         ensures settled { (me : ℕ) → EachEar self.now.rounds self.now.members me
             (λ x. AreLastTerms V.eq x (index_in self.now.members self.now.commander) i
             (T.says touched.now) (self.now.rounds - 1) laid.now →
@@ -102,12 +98,8 @@ impl<const N: usize> Exchange<N> {
     )
         requires exact { IsExact V.eq }
         requires exchange { IsExchange N self.now.rounds self.now.members self.now.commander }
-        requires some { 0 < self.now.rounds }
-        requires laid { level_at (length self.now.members - 1) (self.now.rounds + 1)
-            ≤ length laid.now }
-        requires longest { level_at (length self.now.members - 1) self.now.rounds
-            ≤ length longest.old }
-        requires terms { 16 ≤ length terms.old }
+        requires room { AreRelayRooms self.now.rounds self.now.members laid.now
+            longest.old terms.old }
         ensures settled { (me : ℕ) → EachEar self.now.rounds self.now.members me
             (λ x. AreLastTerms V.eq x (index_in self.now.members self.now.commander) i
             (T.says touched.now) (self.now.rounds - 1) laid.now →
@@ -132,15 +124,14 @@ impl<const N: usize> Exchange<N> {
         from: usize,
         laid: &[Wrapped<V>],
     ) -> Wrapped<V>
-        requires node { i < N }
         requires within { (q : ℕ) → has_id path.now q ≡ true → q < N }
         requires room { from + length (outside self.now.members path.now) ≤ length laid.now }
-        requires small { from ≤ 4194304 }
         ensures { has_id (outside self.now.members path.now) i ≡ true → result
             ≡ slice_index_or laid.now (from + index_in (outside self.now.members path.now) i)
             (Fault 0) }
     {
         let others = outside(&self.members, path);
+        let _ = others.len();
         if others.has(i) {
             value_at(laid, from + others.place(i) as usize)
         } else {
@@ -159,13 +150,10 @@ impl<const N: usize> Exchange<N> {
         work: &mut [Wrapped<V>],
     )
         requires exact { IsExact V.eq }
-        requires node { i < N }
         requires within { (q : ℕ) → has_id path.now q ≡ true → q < N }
         requires room { k * length (outside self.now.members path.now) + length
             (outside self.now.members path.now) ≤ length work.old }
         requires place { k < length work.old }
-        requires small { k * length (outside self.now.members path.now) + length
-            (outside self.now.members path.now) ≤ 65536 }
         ensures { work.new ≡ path_settled V.eq (outside self.now.members path.now) i k
             (length (outside self.now.members path.now)) own work.old }
     {
@@ -190,7 +178,6 @@ impl<const N: usize> Exchange<N> {
         requires exact { IsExact V.eq }
         requires exchange { IsExchange N self.now.rounds self.now.members self.now.commander }
         requires shorter { relays + 1 < self.now.rounds }
-        requires node { i < N }
         requires laid { level_at (length self.now.members - 1) (self.now.rounds + 1)
             ≤ length laid.now }
         requires work { level_at (length self.now.members - 1) self.now.rounds ≤ length work.old }
@@ -220,14 +207,9 @@ impl<const N: usize> Exchange<N> {
     ) -> Wrapped<V>
         requires exact { IsExact V.eq }
         requires exchange { IsExchange N self.now.rounds self.now.members self.now.commander }
-        requires some { 0 < self.now.rounds }
         requires other { self.now.commander ≢ i }
-        requires node { i < N }
-        requires laid { level_at (length self.now.members - 1) (self.now.rounds + 1)
-            ≤ length laid.now }
-        requires longest { level_at (length self.now.members - 1) self.now.rounds
-            ≤ length longest.now }
-        requires work { level_at (length self.now.members - 1) self.now.rounds ≤ length work.old }
+        requires room { AreRelayRooms self.now.rounds self.now.members laid.now
+            longest.now work.old }
         ensures settled { EachEar self.now.rounds self.now.members i
             (λ x. AreOwnTerms x (index_in self.now.members self.now.commander) laid.now →
             AreSettled V.eq x (index_in self.now.members self.now.commander) (self.now.rounds - 1)
@@ -279,13 +261,9 @@ impl<const N: usize> Exchange<N> {
     )
         requires exact { IsExact V.eq }
         requires exchange { IsExchange N self.now.rounds self.now.members self.now.commander }
-        requires some { 0 < self.now.rounds }
         requires others { has_id nodes.now self.now.commander ≡ false }
-        requires laid { level_at (length self.now.members - 1) (self.now.rounds + 1)
-            ≤ length laid.now }
-        requires longest { level_at (length self.now.members - 1) self.now.rounds
-            ≤ length longest.now }
-        requires work { level_at (length self.now.members - 1) self.now.rounds ≤ length work.old }
+        requires room { AreRelayRooms self.now.rounds self.now.members laid.now
+            longest.now work.old }
         requires places { length all.old ≡ N }
         ensures settled { (i : ℕ) → has_id nodes.now i ≡ true →
             EachEar self.now.rounds self.now.members i
@@ -317,13 +295,8 @@ impl<const N: usize> Exchange<N> {
     )
         requires exact { IsExact V.eq }
         requires exchange { IsExchange N self.now.rounds self.now.members self.now.commander }
-        requires some { 0 < self.now.rounds }
-        requires laid { level_at (length self.now.members - 1) (self.now.rounds + 1)
-            ≤ length laid.now }
-        requires longest { level_at (length self.now.members - 1) self.now.rounds
-            ≤ length longest.old }
-        requires work { level_at (length self.now.members - 1) self.now.rounds ≤ length work.old }
-        requires terms { 16 ≤ length work.old }
+        requires room { AreRelayRooms self.now.rounds self.now.members laid.now
+            longest.old work.old }
         requires places { length all.old ≡ N }
         ensures settled { (own : Wrapped V) →
             AreLaid self.now.members self.now.full own (T.says touched.now)

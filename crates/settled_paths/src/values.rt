@@ -38,8 +38,7 @@ pub(crate) fn value_at<V: Copy + Eq>(values: &[Wrapped<V>], place: usize) -> Wra
 
 /// So many values, which begin at `from`.
 pub(crate) fn part<V: Copy + Eq>(values: &[Wrapped<V>], from: usize, len: usize) -> &[Wrapped<V>]
-    requires within { from + len ≤ length values.now }
-    requires small { from + len ≤ 8388608 }
+    requires { from + len ≤ length values.now }
     ensures { result.now ≡ take len (drop from values.now) }
 {
     &values[from..from + len]
@@ -49,7 +48,6 @@ pub(crate) fn part<V: Copy + Eq>(values: &[Wrapped<V>], from: usize, len: usize)
 pub(crate) fn copy_front<V: Copy + Eq>(work: &mut [Wrapped<V>], values: &[Wrapped<V>], len: usize)
     requires within { len ≤ length values.now }
     requires room { len ≤ length work.old }
-    requires small { len ≤ 2097152 }
     ensures { work.new ≡ take len values.now ++ drop len work.old }
 {
     work[..len].copy_from_slice(&values[..len]);
@@ -63,7 +61,6 @@ pub(crate) fn settled_from_terms<V: Copy + Eq>(
 ) -> Wrapped<V>
     requires exact { IsExact V.eq }
     requires within { from + width ≤ length terms.now }
-    requires small { from + width ≤ 1048576 }
     ensures { result ≡ unwrapped (majority V.eq (take width (drop from terms.now))) }
 {
     majority(&terms[from..from + width]).unwrap()

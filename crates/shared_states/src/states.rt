@@ -80,7 +80,6 @@ impl<const N: usize> SharedStates<N> {
 
     /// The nodes that have a state.
     pub fn awake(&self) -> NodeSet<N>
-        requires { IsCapacity N }
         ensures nodes { result ≡ ids_where (λ i. is_some (state_at self.now i)) N }
         ensures length { length self.now ≡ N }
     {
@@ -89,7 +88,6 @@ impl<const N: usize> SharedStates<N> {
 
     /// The state of a node; None exactly where it has none, as each number from `N` on.
     pub fn get(&self, i: u8) -> Option<&Agreed<N>>
-        requires { IsCapacity N }
         ensures { option_map (λ a. a.now) result ≡ state_at self.now i }
     {
         if self.awake.has(i) {
@@ -103,7 +101,6 @@ impl<const N: usize> SharedStates<N> {
     /// and it is where one
     /// [`replace`](SharedStates::replace) or [`join`](SharedStates::join) gave it to both.
     pub fn is_shared(&self, i: u8, j: u8) -> bool
-        requires { IsCapacity N }
         ensures { result ≡ true → IsShared self.now i j }
     {
         if !self.awake.has(i) {
@@ -117,7 +114,6 @@ impl<const N: usize> SharedStates<N> {
 
     /// The nodes that share the state of this one, it included; none where it has none.
     pub fn sharers(&self, i: u8) -> NodeSet<N>
-        requires { IsCapacity N }
         ensures shared { (j : ℕ) → has_id result j ≡ true → IsShared self.now i j }
         ensures own { is_some (state_at self.now i) ≡ true → has_id result i ≡ true }
     {
@@ -133,7 +129,6 @@ impl<const N: usize> SharedStates<N> {
     /// The nodes that have the same state as this one, it included, whether they share it
     /// or not; none where it has none.
     pub fn alike(&self, i: u8) -> NodeSet<N>
-        requires { IsCapacity N }
         ensures { (j : ℕ) → IsTrue (has_id result j) ↔ IsShared self.now i j }
     {
         if !self.awake.has(i) {
@@ -152,7 +147,6 @@ impl<const N: usize> SharedStates<N> {
 
     /// Whether all nodes that have a state share it. It is true only where they all have the same.
     pub fn is_one(&self) -> bool
-        requires { IsCapacity N }
         ensures { result ≡ true → IsOne self.now }
     {
         self.one
@@ -160,8 +154,7 @@ impl<const N: usize> SharedStates<N> {
 
     /// Takes the state of a node away.
     pub fn forget(&mut self, i: u8)
-        requires capacity { IsCapacity N }
-        requires node { i < N }
+        requires { i < N }
         ensures { self.new ≡ without_state N self.old i }
     {
         self.awake.cut(i);
@@ -169,7 +162,6 @@ impl<const N: usize> SharedStates<N> {
 
     /// Gives node `i` the state of node `j`, which it then shares, in place of what it had.
     pub fn share(&mut self, i: u8, j: u8)
-        requires capacity { IsCapacity N }
         requires node { i < N }
         requires other { is_some (state_at self.old j) ≡ true }
         ensures { self.new ≡ shared_with N self.old i j }
@@ -180,7 +172,6 @@ impl<const N: usize> SharedStates<N> {
 
     /// Gives these nodes this state, in place of what they had.
     pub fn replace(&mut self, nodes: &NodeSet<N>, state: &Agreed<N>)
-        requires { IsCapacity N }
         ensures { self.new ≡ with_state N self.old nodes.now state.now }
     {
         let others = self.awake.minus(nodes);
@@ -197,7 +188,6 @@ impl<const N: usize> SharedStates<N> {
 
     /// Brings equal states together, so that the nodes that have them share one.
     pub fn join(&mut self)
-        requires { IsCapacity N }
         ensures { self.new ≡ self.old }
     {
         if self.one {

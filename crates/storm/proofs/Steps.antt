@@ -20,6 +20,9 @@ use Rattle.storm.specs.Adding.{Adds, AddsBlock}
 
 -- ---- what one node is told, and the first cases of a spell
 
+pub told_none : (s : Spell) (j way : ℕ) (g : Lcg) → way ≡ 0 → told_by s j way g ≡ ([], g)
+told_none s j way g e = rw e refl
+
 pub told_nothing : (s : Spell) (j way : ℕ) (g : Lcg) → way ≡ 1 → told_by s j way g ≡ (line_in s (j ∷ []) (5 ∷ []) Drop ∷ [], g)
 told_nothing s j way g e = rw e refl
 
@@ -54,6 +57,13 @@ pub more_blocks : (k : ℕ) → k < 64 → 64 - k ≡ suc (64 - (k + 1))
 more_blocks k low = omega arith
 
 -- ---- lines more
+
+-- no line more
+pub adds_none : (before : List FaultPart) (g : Lcg) (d : Drawing (List Line)) → d g ≡ ([], g) → Adds before before g g d
+adds_none before g d drawn = record {
+  faults = sym (append-nil (map fault_view before)) ∙ sym (ap (λ (p : List Line × Lcg). map fault_view before ++ map fault_of p.0) drawn);
+  rest = sym (ap (λ (p : List Line × Lcg). p.1) drawn);
+}
 
 -- one line more
 pub adds_one : (before after : List FaultPart) (x : FaultPart) (l : Line) (g h : Lcg) (d : Drawing (List Line))

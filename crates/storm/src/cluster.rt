@@ -66,40 +66,58 @@ pub fn channels(alloc: Global) -> Result<Vec<ChannelPart>, AllocError>
     Ok(channels)
 }
 
-/// Adds a task whose run times lie between two numbers of periods.
-fn push_task(
-    tasks: &mut Vec<TaskPart>,
+/// Tasks, in the order of their priority.
+#[derive(Drop)]
+struct TaskList {
     alloc: Global,
-    after: &[i64],
-    nodes: &[i64],
-    need: i64,
-    between: (i64, i64),
-    run: &[i64],
-) -> Result<(), AllocError>
-    ensures { OnOk result (map task_view tasks.new.items ≡ map task_view tasks.old.items
-        ++ record { after = after.now; nodes = nodes.now; need = need; min = between.0; max = between.1; run = run.now } ∷ []) }
-{
-    tasks.push(TaskPart {
-        after: Vec::from_slice(alloc, after)?,
-        nodes: Vec::from_slice(alloc, nodes)?,
-        need,
-        min: between.0,
-        max: between.1,
-        run: Vec::from_slice(alloc, run)?,
-    })?;
-    Ok(())
+    tasks: Vec<TaskPart>,
+}
+
+impl TaskList {
+    /// Adds a task whose run times lie between two numbers of periods.
+    fn push(
+        &mut self,
+        after: &[i64],
+        nodes: &[i64],
+        need: i64,
+        between: (i64, i64),
+        run: &[i64],
+    ) -> Result<(), AllocError>
+        ensures { OnOk result (map task_view self.new.tasks.items
+            ≡ map task_view self.old.tasks.items ++ record {
+              after = after.now;
+              nodes = nodes.now;
+              need = need;
+              min = between.0;
+              max = between.1;
+              run = run.now;
+            } ∷ []) }
+    {
+        self.tasks.push(TaskPart {
+            after: Vec::from_slice(self.alloc, after)?,
+            nodes: Vec::from_slice(self.alloc, nodes)?,
+            need,
+            min: between.0,
+            max: between.1,
+            run: Vec::from_slice(self.alloc, run)?,
+        })?;
+        Ok(())
+    }
 }
 
 /// The tasks, in the order of their priority.
 pub fn tasks(alloc: Global) -> Result<Vec<TaskPart>, AllocError>
     ensures { IfOk result (λ ts. map task_view ts.items ≡ storm_tasks) }
 {
-    let mut tasks = Vec::new(alloc);
-    push_task(&mut tasks, alloc, &[], &[0, 1, 2], 2, (1, 3), &[2, 2, 3])?;
-    push_task(&mut tasks, alloc, &[], &[3, 4, 5], 2, (1, 2), &[1, 1, 2])?;
-    push_task(&mut tasks, alloc, &[0], &[0, 1], 1, (1, 2), &[1, 2])?;
-    push_task(&mut tasks, alloc, &[0, 1], &[2, 3], 1, (1, 3), &[1, 2])?;
-    push_task(&mut tasks, alloc, &[2], &[4], 1, (1, 1), &[1])?;
-    push_task(&mut tasks, alloc, &[3, 4], &[5], 1, (1, 2), &[1])?;
-    Ok(tasks)
+    let mut list = TaskList {
+        alloc,
+        tasks: Vec::new(alloc),
+    };
+    list.push(&[], &[0, 1, 2], 2, (1, 3), &[2, 2, 3])?;
+    list.push(&[], &[3, 4, 5], 2, (1, 2), &[1, 1, 2])?;
+    list.push(&[0], &[0, 1], 1, (1, 2), &[1, 2])?;
+    list.push(&[0, 1], &[2, 3], 1, (1, 3), &[1, 2])?;
+    list.push(&[2], &[4], 1, (1, 1), &[1])?;
+    list.push(&[3, 4], &[5], 1, (1, 2), &[1])?;
+    Ok(list.tasks)
 }

@@ -1,7 +1,7 @@
 //! The fault lines and the restarts of a storm, drawn block by block.
 ghost use Rattle.std.specs.Prelude.{◌≡◌, ◌<◌, ◌≤◌, map, IfOk, OnOk};
 ghost use Rattle.scenario.specs.Seen.{fault_view, restart_view};
-ghost use Rattle.storm.specs.Storm.{told_by, lies_drawn, told_row, each_drawn, others, lines_by};
+ghost use Rattle.storm.specs.Storm.{lies_drawn, told_row, each_drawn, others, lines_by};
 ghost use Rattle.storm.specs.Storm.{block, storm, lines_of, restarts_of};
 ghost use Rattle.storm.specs.Parts.{fault_of, restart_parts};
 ghost use Rattle.storm.specs.Adding.{Adds, AddsBlock};
@@ -115,8 +115,7 @@ fn push_mixed(
 {
     for receiver in 0..8 {
         if receiver != spell.node {
-            let way = draw(generator, 3);
-            push_told(faults, generator, alloc, spell, receiver, way)?;
+            push_told(faults, generator, alloc, spell, receiver)?;
         }
     }
     Ok(())
@@ -129,12 +128,12 @@ fn push_told(
     alloc: Global,
     spell: Spell,
     receiver: u8,
-    way: u32,
 ) -> Result<(), AllocError>
     requires { receiver < 8 }
     ensures { OnOk result (Adds faults.old.items faults.new.items generator.old generator.new
-        (told_by spell receiver way)) }
+        (lies_drawn spell receiver)) }
 {
+    let way = draw(generator, 3);
     if way == 0 {
         return Ok(());
     }

@@ -39,7 +39,8 @@ pub fn line_to_one(
     effect: EffectPart,
 ) -> Result<FaultPart, AllocError>
     ensures { IfOk result (λ x. fault_view x
-        ≡ fault_by spell (numbers_of (receiver ∷ [])) (numbers_of (slot ∷ [])) (effect_view effect)) }
+        ≡ fault_by spell (numbers_of (receiver ∷ [])) (numbers_of (slot ∷ []))
+        (effect_view effect)) }
 {
     let to = only(alloc, receiver)?;
     let slots = only(alloc, slot)?;

@@ -1,5 +1,7 @@
 -- One period more, and all of them.
-use Rattle.std.proofs.Common.{◌≡◌, ℕ, suc, ◌+◌, ◌-◌, ◌<◌, ◌≤◌, List, length, Option, Some, sym, ap, ◌∙◌, subst, arith}
+use Rattle.std.proofs.Common.{◌≡◌, ℕ, suc, ◌+◌, ◌-◌, ◌<◌, ◌≤◌, List, length, Option, Some, refl, sym, ap, ◌∙◌, subst, arith}
+use Rattle.std.specs.Prelude.{option_and_then, slice_get}
+use Rattle.node_steps.specs.Outcome.{Outcome}
 use Rattle.node_grid.specs.Count.{bit}
 use Rattle.node_grid.specs.ListLaws.{bit_le}
 use Rattle.clock_skew.specs.Clock.{ClockView}
@@ -14,8 +16,8 @@ use Rattle.shown_period.specs.Outcomes.{outcome_at}
 use Rattle.shown_period.specs.Whole.{record_of}
 use Rattle.shown_period.specs.WholeLaws.{shown_at}
 use Rattle.storm_sum.specs.declared.sums.Sums.{Sums}
-use Rattle.storm_sum.specs.Summary.{how_many, total, agreed_of, agreed_by, state_after, excluded, readmitted, counts_in, is_claimed_at, excluded_at, readmitted_at, state_at, summary_of}
-use Rattle.storm_sum.specs.Summing.{AreSums}
+use Rattle.storm_sum.specs.Summary.{how_many, total, state_after, excluded, readmitted, counts_in, summary_of}
+use Rattle.storm_sum.specs.Summing.{is_claimed_at, excluded_at, readmitted_at, state_at, AreSums}
 use Rattle.storm_sum.proofs.Totals.{how_many_more, how_many_none, total_more, total_none}
 
 -- what adding a shown period makes of the sums
@@ -76,7 +78,9 @@ reference_shown sys clock p shown is r e =
 -- the state that is shown of the reference node is its state after the period
 pub after_shown : (shown : Shown 8) (r : ℕ) (agreed : Option AgreedView) → shown.head.reference ≡ Some r → r < shown.head.nodes → agreed ≡ (outcome_at shown.made r).agreed
     → state_after (record_of shown) ≡ agreed
-after_shown shown r agreed e low is = ap (agreed_by (record_of shown).records) e ∙ ap agreed_of (shown_at shown r low) ∙ sym is
+after_shown shown r agreed e low is =
+    ap (λ (i : Option ℕ). option_and_then (λ o. o.agreed) (option_and_then (slice_get (record_of shown).records) i)) e
+    ∙ ap (option_and_then (λ (o : Outcome). o.agreed)) (shown_at shown r low) ∙ sym is
 
 -- ---- all periods
 
@@ -94,6 +98,13 @@ summary_with seed sc claimed excluded readmitted members counts = record {
   nodes = sc.config.nodes;
 }
 
+-- the summary, by what is summed up of each period
+summary_is : (seed : ℕ) (sc : ScenarioView 8)
+    → summary_with seed sc (how_many (is_claimed_at (system_of sc)) sc.periods) (total (excluded_at (system_of sc)) sc.periods) (total (readmitted_at (system_of sc)) sc.periods)
+    (members_in (state_at (system_of sc) (sc.periods - 1))) (counts_in (state_at (system_of sc) (sc.periods - 1))) ≡ summary_of seed sc
+unfolding is_claimed_at excluded_at readmitted_at state_at
+summary_is seed sc = refl
+
 pub summed_up : (seed : ℕ) (sc : ScenarioView 8) (p : ℕ) (s : Sums) → p ≡ sc.periods → 1 ≤ sc.periods → AreSums (system_of sc) p s
     → summary_with seed sc s.claimed s.excluded s.readmitted s.members s.counts.counts ≡ summary_of seed sc
 summed_up seed sc p s e some sums =
@@ -109,6 +120,7 @@ summed_up seed sc p s e some sums =
     ∙ ap (λ (n : ℕ). summary_with seed sc (how_many (is_claimed_at sys) sc.periods) (total (excluded_at sys) sc.periods) n s.members s.counts.counts) back
     ∙ ap (λ (xs : List ℕ). summary_with seed sc (how_many (is_claimed_at sys) sc.periods) (total (excluded_at sys) sc.periods) (total (readmitted_at sys) sc.periods) xs s.counts.counts) members
     ∙ ap (λ (xs : List ℕ). summary_with seed sc (how_many (is_claimed_at sys) sc.periods) (total (excluded_at sys) sc.periods) (total (readmitted_at sys) sc.periods) (members_in (state_at sys (sc.periods - 1))) xs) counts
+    ∙ summary_is seed sc
 
 abbrev told : ℕ → ℕ → ℕ → ℕ → ℕ → Sums → StormView
 told seed periods lines restarts nodes s = record {

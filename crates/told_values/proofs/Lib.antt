@@ -3,6 +3,7 @@ mod ByPlace
 mod Expected
 mod Arriving
 mod Sending
+mod Opened
 mod Voting
 mod Deviating
 mod Noting

@@ -3,10 +3,9 @@ use Rattle.std.proofs.Common.{ℕ, ◌≡◌, ◌<◌, ◌+◌, ◌*◌, ◌≤�
 use Rattle.std.specs.Prelude.{All}
 use Rattle.std.specs.List.{flat_map}
 use Rattle.std.proofs.lemmas.Bool.{cases_lt}
-use Rattle.node_grid.specs.Count.{Distinct}
-use Rattle.node_grid.specs.NodeSet.{has_id}
+use Rattle.node_grid.specs.Capacity.{IsCapacity}
+use Rattle.node_grid.specs.NodeSet.{has_id, IsIdSet}
 use Rattle.node_grid.specs.NodeSetLaws.{All-ids, length-ids, hasnt-above}
-use Rattle.omh_paths.specs.MemberLaws.{Distinct-ids}
 use Rattle.frames.specs.Content.{Content, Expectation, IsValue}
 use Rattle.frames.specs.EntryLaws.{value_format}
 use Rattle.frames.specs.PieceLaws.{read_spelt, length_spelt, take-pasted}
@@ -17,9 +16,12 @@ use Rattle.frames.specs.Writing.{pasted}
 use Rattle.frames.specs.declared.frame.Expect.{Expect}
 use Rattle.frames.specs.declared.frame.Head.{Head}
 use Rattle.fault_classes.specs.Change.{Change}
+use Rattle.agreed_state.specs.declared.config.Config.{Config}
+use Rattle.agreed_state.specs.ConfigLaws.{few_rounds}
 use Rattle.protocol.specs.Arrival.{values_in}
 use Rattle.protocol.specs.Talk.{arrives}
-use Rattle.touched_frames.specs.Arrived.{IsSentAs}
+use Rattle.data_slot.specs.DueSets.{wider}
+use Rattle.touched_frames.specs.Arrived.{IsCluster, IsSentAs}
 use Rattle.told_values.specs.declared.hearing.Heard.{Heard}
 use Rattle.told_values.specs.Slot.{DataView, IsDataSlot, said, expects}
 use Rattle.told_values.specs.Heard.{IsHeard}
@@ -29,17 +31,31 @@ module _ {n : ℕ} (d : DataView n) (slot : IsDataSlot d) (i : ℕ) (low : i < d
   pub due_few : length (d.due i) ≤ 8
   due_few = let l = length-ids (length d.config.channels.items) (d.due i) (slot.due i low) in let f = slot.config.few_channels in omega arith
 
-  pub due_distinct : Distinct (d.due i)
-  due_distinct = Distinct-ids (length d.config.channels.items) (d.due i) (slot.due i low)
+  pub due_set : IsIdSet 8 (d.due i)
+  due_set = wider (length d.config.channels.items) 8 (d.due i) slot.config.few_channels (slot.due i low)
 
-  pub due_low : All (λ c. c < 8) (d.due i)
-  due_low k e within = let l = All-ids (length d.config.channels.items) (d.due i) (slot.due i low) k e within in let f = slot.config.few_channels in omega arith
+  pub channels_low : (config : Config n) (ds : List ℕ) → config ≡ d.config → ds ≡ d.due i → All (λ c. c < length config.channels.items) ds
+  channels_low config ds same is =
+      subst (λ (o : Config n). All (λ c. c < length o.channels.items) ds) (sym same)
+      (subst (λ (s : List ℕ). All (λ c. c < length d.config.channels.items) s) (sym is) (All-ids (length d.config.channels.items) (d.due i) (slot.due i low)))
 
   pub due_below : (c : ℕ) → has_id (d.due i) c ≡ true → c < 8
   due_below c on = elim (cases_lt c (length d.config.channels.items)) [
     | inl below ↦ let f = slot.config.few_channels in omega arith
     | inr past ↦ absurd (let off = hasnt-above (length d.config.channels.items) (d.due i) c (slot.due i low) past in cc)
   ]
+
+-- the receiver's cluster is the configuration's
+pub in_cluster : {n : ℕ} (d : DataView n) (from to : ℕ) (expect : Expect n) → IsCapacity n → IsDataSlot d → expected expect ≡ expects d from to → IsCluster n expect.nodes expect.m
+in_cluster {n} d from to expect cap slot is =
+    let nodes : expect.nodes ≡ d.config.nodes = ap (λ (e : Expectation). e.nodes) is in
+    let rounds : expect.m ≡ d.config.m = ap (λ (e : Expectation). e.m) is in
+    record {
+      capacity_ok = cap;
+      some_nodes = let s = slot.config.some_nodes in omega arith;
+      few_nodes = let f = slot.config.few_nodes in omega arith;
+      few_rounds = let f = few_rounds n d.config slot.config in omega arith;
+    }
 
 -- values that were written to the front are read as what they are
 pub values_kept : (xs : List ℤ) (k : ℕ) (old : List ℕ) → All IsValue xs → k ≡ length xs → 8 * k ≤ length old → content_values (take (8 * k) (pasted 0 (flat_map value_spelling xs) old)) ≡ xs

@@ -1,5 +1,6 @@
 -- The data slot of a period, as all nodes go into it. From this alone follows what each has of each other one's values.
 use Rattle.std.specs.Prelude.{◌≡◌, ◌≢◌, ℕ, ◌+◌, ◌<◌, ℤ, true, false, List, [], map, length, Option, None, Some, slice_index_or, if◌then◌else◌}
+use Rattle.node_grid.specs.Capacity.{IsCapacity}
 use Rattle.node_grid.specs.NodeSet.{has_id, IsIdSet}
 use Rattle.frames.specs.Content.{Content, Expectation}
 use Rattle.frames.specs.Content.Content.{Data, Cold}
@@ -14,7 +15,6 @@ use Rattle.protocol.specs.Arrival.{Arrival, values_in}
 use Rattle.protocol.specs.Talk.{arrives}
 use Rattle.protocol.specs.View.{Received, own_in, value_from}
 use Rattle.data_slot.specs.Told.{value_told}
-use Rattle.told_values.specs.declared.slot.DataSlot.{DataSlot}
 
 pub record DataView (capacity : ℕ) : Type 0 where
   pub config : Config capacity
@@ -25,16 +25,25 @@ pub record DataView (capacity : ℕ) : Type 0 where
   pub due : ℕ → List ℕ  -- the due channels of each node
   pub owns : List (List (Option ℤ))  -- by node its own values, by channel
 
--- that of the code, by the due channels
-abbrev pub slot_of : {D : Type 0} {n : ℕ} → (D → ℕ → List ℕ) → DataSlot D n → DataView n
+-- how the code has it, with something that says the due channels of each node
+pub record SlotParts (D : Type 0) (capacity : ℕ) : Type 0 where
+  pub config : Config capacity
+  pub plan : Plan
+  pub period : ℕ
+  pub touched : List ℕ
+  pub full : List ℕ
+  pub dues : D
+  pub owns : List (List (Option ℤ))
+
+abbrev pub slot_of : {D : Type 0} {n : ℕ} → (D → ℕ → List ℕ) → SlotParts D n → DataView n
 slot_of dues x = record {
-  config = x.config.now;
-  plan = x.plan.now;
+  config = x.config;
+  plan = x.plan;
   period = x.period;
   touched = x.touched;
   full = x.full;
-  due = dues x.dues.now;
-  owns = x.owns.now;
+  due = dues x.dues;
+  owns = x.owns;
 }
 
 -- all nodes go into it in a period of the plan, and no line touches a frame of a sender that isn't named
@@ -45,6 +54,10 @@ pub record IsDataSlot {n : ℕ} (d : DataView n) : Type 0 where
   pub period : d.period < d.plan.periods
   pub due : (i : ℕ) → i < d.config.nodes → IsIdSet (length d.config.channels.items) (d.due i)
   pub touched : (j : ℕ) → j < d.config.nodes → has_id d.touched j ≡ false → each_in_slot d.plan is_untouched d.period j (d.config.m + 2) ≡ true
+
+-- what is known of each in the code
+abbrev pub IsGoing : {D : Type 0} {n : ℕ} → (D → ℕ → List ℕ) → SlotParts D n → Type 0
+IsGoing {n = n} dues x = IsCapacity n × IsDataSlot (slot_of dues x)
 
 module _ {n : ℕ} (d : DataView n) where
   -- node j's own values

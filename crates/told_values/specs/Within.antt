@@ -14,3 +14,10 @@ noted_within capacity n p few = noted_twice capacity n p (λ j k. false) few ∙
 -- and to notes that are so, what says nothing adds nothing
 pub noted_nothing : (capacity : ℕ) (n : Notes) (p : ℕ → ℕ → Bool) → IsWithin capacity n → ((j k : ℕ) → p j k ≡ false) → also_noted capacity n p ≡ n
 noted_nothing capacity n p within none = noted_alike capacity n p (λ j k. false) (λ j k low used other few. none j k) ∙ within
+
+-- the notes of node i out of so many nodes that are such
+pub record AreNotesOf (capacity nodes i : ℕ) (n : Notes) : Type 0 where
+  pub nodes_are : n.nodes ≡ nodes
+  pub me_is : n.me ≡ i
+  pub few_kinds : n.kinds ≤ 16
+  pub within : IsWithin capacity n

@@ -7,9 +7,11 @@
 mod dues;
 mod hearing;
 pub mod laws;
+mod link;
 mod notes;
 mod places;
 mod slot;
+mod talk;
 mod told;
 mod votes;
 

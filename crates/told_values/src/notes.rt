@@ -8,8 +8,8 @@ ghost use Rattle.node_grid.specs.NodeSet.{has_id, ids_below};
 ghost use Rattle.error_reports.specs.Notes.{also_noted, is_kind, of_each};
 ghost use Rattle.protocol.specs.Arrival.{is_bad, is_good};
 ghost use Rattle.protocol.specs.View.{Received};
-ghost use Rattle.told_values.specs.Slot.{slot_of, IsDataSlot, Hears};
-ghost use Rattle.told_values.specs.Within.{IsWithin};
+ghost use Rattle.told_values.specs.Slot.{slot_of, Hears};
+ghost use Rattle.told_values.specs.Within.{IsWithin, AreNotesOf};
 
 use crate::dues::Dues;
 use crate::slot::DataSlot;
@@ -19,7 +19,6 @@ use node_grid::kind::DEVIATE;
 
 /// Notes these kinds of error by node.
 fn note_kinds<const N: usize>(notes: &mut RowBuilder<N>, kinds: &[Option<u8>; N])
-    requires capacity { IsCapacity N }
     ensures { notes.new ≡ also_noted N notes.old
         (λ j k. is_kind (slice_index_or kinds.now j None) k) }
 {
@@ -47,9 +46,7 @@ fn note_off<const N: usize>(notes: &mut RowBuilder<N>, i: u8, off: &NodeSet<N>)
 impl<'a, D: Dues<N>, const N: usize> DataSlot<'a, D, N> {
     /// Whether all nodes are Full.
     fn are_full(&self) -> bool
-        requires capacity { IsCapacity N }
-        requires nodes { self.now.config.now.nodes ≤ N }
-        ensures { result ≡ true → (j : ℕ) → j < self.now.config.now.nodes →
+        ensures { result ≡ true → (j : ℕ) → j < self.now.config.nodes →
             has_id self.now.full j ≡ true }
     {
         let all: NodeSet<N> = NodeSet::full(self.config.nodes);
@@ -58,29 +55,26 @@ impl<'a, D: Dues<N>, const N: usize> DataSlot<'a, D, N> {
 
     /// Whether all other nodes' frames are seen at once to come well to a node.
     fn hears_all(&self, i: u8) -> bool
-        requires capacity { IsCapacity N }
-        requires slot { IsDataSlot (slot_of D.dues self.now) }
-        requires node { i < self.now.config.now.nodes }
+        requires { i < self.now.config.nodes }
         ensures { result ≡ true → (x : Received) → Hears (slot_of D.dues self.now) i x →
-            (j : ℕ) → j < self.now.config.now.nodes → j ≢ i → is_good (x.values j) ≡ true }
+            (j : ℕ) → j < self.now.config.nodes → j ≢ i → is_good (x.values j) ≡ true }
     {
         if !self.are_full() {
             return false;
         }
-        self.dues.are_alike(&self.full, i) && self.is_untouched(i)
+        self.are_due_alike(i) && self.is_untouched(i)
     }
 
     /// The kind of error that a node finds of each other node's frame.
     fn kinds(&self, i: u8) -> [Option<u8>; N]
-        requires capacity { IsCapacity N }
-        requires slot { IsDataSlot (slot_of D.dues self.now) }
-        requires node { i < self.now.config.now.nodes }
+        requires { i < self.now.config.nodes }
         ensures { (x : Received) → Hears (slot_of D.dues self.now) i x →
-            (j k : ℕ) → j < self.now.config.now.nodes → j ≢ i →
+            (j k : ℕ) → j < self.now.config.nodes → j ≢ i →
             is_kind (slice_index_or result j None) k ≡ is_bad (x.values j) k }
     {
+        let nodes = self.nodes();
         let mut kinds = [None; N];
-        for j in 0..self.config.nodes {
+        for j in 0..nodes {
             if j != i {
                 kinds[j as usize] = self.kind(j, i);
             }
@@ -90,13 +84,8 @@ impl<'a, D: Dues<N>, const N: usize> DataSlot<'a, D, N> {
 
     /// Notes what a node finds of the frames.
     fn note_errors(&self, i: u8, notes: &mut RowBuilder<N>)
-        requires capacity { IsCapacity N }
-        requires slot { IsDataSlot (slot_of D.dues self.now) }
-        requires node { i < self.now.config.now.nodes }
-        requires nodes { notes.old.nodes ≡ self.now.config.now.nodes }
-        requires me { notes.old.me ≡ i }
-        requires kinds { notes.old.kinds ≤ 16 }
-        requires within { IsWithin N notes.old }
+        requires node { i < self.now.config.nodes }
+        requires notes { AreNotesOf N self.now.config.nodes i notes.old }
         ensures errors { (x : Received) → Hears (slot_of D.dues self.now) i x →
             notes.new ≡ also_noted N notes.old (λ j k. is_bad (x.values j) k) }
         ensures kept { notes.new ≡ record notes.old { row = notes.new.row } }
@@ -110,21 +99,18 @@ impl<'a, D: Dues<N>, const N: usize> DataSlot<'a, D, N> {
     /// Notes what node `i` finds of the frames, and the other nodes of which a value is too far
     /// from the vote, in this period's row. Where it finds nothing its notes are left as they are.
     pub fn note(&self, i: u8, off: &NodeSet<N>, notes: &mut RowBuilder<N>)
-        requires capacity { IsCapacity N }
-        requires slot { IsDataSlot (slot_of D.dues self.now) }
-        requires node { i < self.now.config.now.nodes }
-        requires nodes { notes.old.nodes ≡ self.now.config.now.nodes }
-        requires me { notes.old.me ≡ i }
-        requires kinds { notes.old.kinds ≤ 16 }
-        requires within { IsWithin N notes.old }
+        requires node { i < self.now.config.nodes }
+        requires notes { AreNotesOf N self.now.config.nodes i notes.old }
         ensures noted { (x : Received) → Hears (slot_of D.dues self.now) i x →
             (far : ℕ → Bool) →
-            ((q : ℕ) → q < self.now.config.now.nodes → q ≢ i → has_id off.now q ≡ far q) →
+            ((q : ℕ) → q < self.now.config.nodes → q ≢ i → has_id off.now q ≡ far q) →
             notes.new ≡ also_noted N notes.old
             (λ q k. is_bad (x.values q) k || (far q && k == deviate)) }
         ensures kept { notes.new ≡ record notes.old { row = notes.new.row } }
         ensures within { IsWithin N notes.new }
     {
+        // Proofs need here which capacities there are.
+        let _ = self.nodes();
         self.note_errors(i, notes);
         note_off(notes, i, off);
     }

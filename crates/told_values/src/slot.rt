@@ -1,23 +1,28 @@
 //! The data slot of a period, as all nodes go into it.
 
-ghost use Rattle.std.specs.Prelude.{◌≡◌, ◌≢◌, ◌+◌, ◌<◌, ◌==◌, ◌||◌, not, option_map};
+ghost use Rattle.std.specs.Prelude.{◌≡◌, ◌≢◌, ◌+◌, ◌<◌, ◌==◌, ◌||◌, ℕ, List, [], not, true};
+ghost use Rattle.std.specs.Prelude.{option_map, slice_index_or};
 ghost use Rattle.std.specs.List.{list_all};
 ghost use Rattle.node_grid.specs.Capacity.{IsCapacity};
-ghost use Rattle.node_grid.specs.NodeSet.{ids_below, ids_where};
+ghost use Rattle.node_grid.specs.NodeSet.{has_id, ids_below, ids_where};
 ghost use Rattle.fault_classes.specs.Change.{change_of, is_untouched};
 ghost use Rattle.fault_classes.specs.Plan.{each_in_slot};
-ghost use Rattle.slot_plan.specs.Slots.{slot_count};
+ghost use Rattle.frames.specs.Seen.{expected};
 ghost use Rattle.agreed_state.specs.Config.{IsConfig};
-ghost use Rattle.told_values.specs.Slot.{slot_of, change_to, IsDataSlot};
+ghost use Rattle.agreed_state.specs.Expecting.{expectation};
+ghost use Rattle.told_values.specs.Slot.{slot_of, own_of, change_to, IsDataSlot};
 
 use crate::dues::Dues;
+use crate::talk::Talk;
 use agreed_state::Config;
 use fault_classes::{Effect, FaultPlan};
+use frames::Expect;
 use node_grid::NodeSet;
+use std::marker::Model;
 
 /// The data slot of a period, as all nodes go into it.
 #[derive(Drop)]
-pub struct DataSlot<'a, D, const N: usize> {
+pub struct DataSlot<'a, D: Dues<N>, const N: usize> {
     /// The configuration.
     pub config: &'a Config<N>,
     /// The fault plan, for as many nodes and relay rounds.
@@ -35,46 +40,31 @@ pub struct DataSlot<'a, D, const N: usize> {
     pub owns: &'a [[Option<i64>; 8]; N],
 }
 
-/// Whether no line touches a frame of a sender in a slot.
-fn is_untouched_at<const N: usize>(
-    plan: &FaultPlan<N>,
-    period: u32,
-    slot: u8,
-    from: u8,
-    nodes: u8,
-) -> bool
-    requires period { period < plan.now.periods }
-    requires slot { slot < slot_count plan.now.rounds }
-    requires from { from < nodes }
-    requires nodes { nodes ≡ plan.now.nodes }
-    ensures { result ≡ each_in_slot plan.now is_untouched period from slot }
-{
-    for to in 0..nodes {
-        if to != from && plan.effect(period, slot, from, to).is_some() {
-            return false;
-        }
-    }
-    true
-}
+// Clauses see the parts.
+impl<'a, D: Dues<N>, const N: usize> Model for DataSlot<'a, D, N> {
+    ghost use Rattle.told_values.specs.Slot.{SlotParts, IsGoing};
 
-/// Whether a line touches a frame of a sender in a slot.
-fn is_touched_at<const N: usize>(
-    plan: &FaultPlan<N>,
-    period: u32,
-    slot: u8,
-    from: u8,
-    nodes: u8,
-) -> bool
-    requires period { period < plan.now.periods }
-    requires slot { slot < slot_count plan.now.rounds }
-    requires from { from < nodes }
-    requires nodes { nodes ≡ plan.now.nodes }
-    ensures { result ≡ not (each_in_slot plan.now is_untouched period from slot) }
-{
-    if plan.clean(from, period) {
-        return false;
-    }
-    !is_untouched_at(plan, period, slot, from, nodes)
+    ghost Value = { SlotParts D N };
+
+    ghost view = { λ s. record {
+      config = s.config.now;
+      plan = s.plan.now;
+      period = s.period;
+      touched = s.touched;
+      full = s.full;
+      dues = s.dues.now;
+      owns = s.owns.now;
+    } };
+
+    ghost invariant = { λ s. IsGoing D.dues (record {
+      config = s.config.now;
+      plan = s.plan.now;
+      period = s.period;
+      touched = s.touched;
+      full = s.full;
+      dues = s.dues.now;
+      owns = s.owns.now;
+    }) };
 }
 
 /// The nodes of which a line touches a frame of the data slot of a period.
@@ -93,21 +83,120 @@ pub fn touched_senders<const N: usize>(
         (λ j. not (each_in_slot plan.now is_untouched period j (config.now.m + 2)))
         config.now.nodes }
 {
+    let talk = Talk {
+        plan,
+        period,
+        slot: config.m + 2,
+    };
     let mut touched = NodeSet::empty();
     for from in 0..config.nodes {
-        if is_touched_at(plan, period, config.m + 2, from, config.nodes) {
+        if talk.touches(from, config.nodes) {
             touched.put(from);
         }
     }
     touched
 }
 
+/// A node's own values among those of all nodes.
+fn own_among<const N: usize>(owns: &[[Option<i64>; 8]; N], i: u8) -> &[Option<i64>; 8]
+    requires { i < N }
+    ensures { result.now ≡ slice_index_or owns.now i [] }
+{
+    &owns[i as usize]
+}
+
 impl<'a, D: Dues<N>, const N: usize> DataSlot<'a, D, N> {
+    /// The number of nodes.
+    pub fn nodes(&self) -> u8
+        ensures nodes { result ≡ self.now.config.nodes }
+        ensures capacity { IsCapacity N }
+        ensures slot { IsDataSlot (slot_of D.dues self.now) }
+    {
+        self.config.nodes
+    }
+
+    /// The configuration.
+    pub(crate) fn config(&self) -> &Config<N>
+        ensures config { result.now ≡ self.now.config }
+        ensures capacity { IsCapacity N }
+        ensures slot { IsDataSlot (slot_of D.dues self.now) }
+    {
+        self.config
+    }
+
+    /// Whether a node is Full.
+    pub(crate) fn is_full(&self, i: u8) -> bool
+        ensures { result ≡ has_id self.now.full i }
+    {
+        self.full.has(i)
+    }
+
+    /// The senders of which a line may touch a frame.
+    fn touched(&self) -> NodeSet<N>
+        ensures { result ≡ self.now.touched }
+    {
+        self.touched
+    }
+
+    /// Whether a node is named of which a line may touch a frame.
+    pub(crate) fn is_touched(&self, i: u8) -> bool
+        ensures touched { result ≡ has_id self.now.touched i }
+        ensures slot { IsDataSlot (slot_of D.dues self.now) }
+    {
+        self.touched.has(i)
+    }
+
+    /// The due channels of a node.
+    pub(crate) fn due(&self, i: u8) -> &[u8]
+        requires { i < self.now.config.nodes }
+        ensures due { result.now ≡ D.dues self.now.dues i }
+        ensures capacity { IsCapacity N }
+        ensures slot { IsDataSlot (slot_of D.dues self.now) }
+    {
+        self.dues.due(i)
+    }
+
+    /// Whether the same channels are due at two nodes. It may say false of any two.
+    pub(crate) fn is_due_alike(&self, i: u8, j: u8) -> bool
+        requires first { i < self.now.config.nodes }
+        requires second { j < self.now.config.nodes }
+        ensures { result ≡ true → D.dues self.now.dues i ≡ D.dues self.now.dues j }
+    {
+        self.dues.is_alike(i, j)
+    }
+
+    /// Whether the same channels are due at each Full node as at node `i`. It may always say false.
+    pub(crate) fn are_due_alike(&self, i: u8) -> bool
+        requires { i < self.now.config.nodes }
+        ensures { result ≡ true → (j : ℕ) → has_id self.now.full j ≡ true →
+            D.dues self.now.dues j ≡ D.dues self.now.dues i }
+    {
+        self.dues.are_alike(&self.full, i)
+    }
+
+    /// A node's own values.
+    pub(crate) fn own(&self, i: u8) -> &[Option<i64>; 8]
+        requires { i < self.now.config.nodes }
+        ensures own { result.now ≡ own_of (slot_of D.dues self.now) i }
+        ensures slot { IsDataSlot (slot_of D.dues self.now) }
+    {
+        own_among(self.owns, i)
+    }
+
+    /// What a node to which so many channels are due expects of the frame of another one.
+    pub(crate) fn expect(&self, from: u8, due: u8) -> Expect<N>
+        ensures { expected result ≡
+            expectation self.now.config self.now.period (self.now.config.m + 2) from [] due }
+    {
+        let slot = self.config.m + 2;
+        self.config
+            .expect(self.period, slot, from, &NodeSet::empty(), due)
+    }
+
     /// The effect of the line that touches the frame from one node to another.
     pub(crate) fn effect(&self, from: u8, to: u8) -> Option<&Effect>
-        requires slot { IsDataSlot (slot_of D.dues self.now) }
-        requires from { from < self.now.config.now.nodes }
-        requires to { to < self.now.config.now.nodes }
+        requires from { from < self.now.config.nodes }
+        requires to { to < self.now.config.nodes }
         requires link { from ≢ to }
         ensures { option_map (λ e. change_of e.now) result ≡
             change_to (slot_of D.dues self.now) from to }
@@ -121,15 +210,15 @@ impl<'a, D: Dues<N>, const N: usize> DataSlot<'a, D, N> {
 
     /// Whether no line touches a frame to a node.
     pub fn is_untouched(&self, i: u8) -> bool
-        requires capacity { IsCapacity N }
-        requires slot { IsDataSlot (slot_of D.dues self.now) }
-        requires node { i < self.now.config.now.nodes }
+        requires { i < self.now.config.nodes }
         ensures { result ≡ list_all
             (λ j. j == i || is_untouched (change_to (slot_of D.dues self.now) j i))
-            (ids_below self.now.config.now.nodes) }
+            (ids_below self.now.config.nodes) }
     {
-        for j in self.touched.iter() {
-            if j != i && j < self.config.nodes && self.effect(j, i).is_some() {
+        let nodes = self.nodes();
+        let touched = self.touched();
+        for j in touched.iter() {
+            if j != i && j < nodes && self.effect(j, i).is_some() {
                 return false;
             }
         }

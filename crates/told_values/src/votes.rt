@@ -10,7 +10,7 @@ ghost use Rattle.protocol.specs.Configured.{setting_of};
 ghost use Rattle.protocol.specs.View.{Received, deviates, is_far, votes_on};
 ghost use Rattle.data_slot.specs.Told.{at_channel, value_told};
 ghost use Rattle.data_slot.specs.Votes.{is_off};
-ghost use Rattle.told_values.specs.Slot.{slot_of, own_of, IsDataSlot, IsTold};
+ghost use Rattle.told_values.specs.Slot.{slot_of, own_of, IsTold};
 
 use crate::dues::Dues;
 use crate::slot::DataSlot;
@@ -109,16 +109,14 @@ impl<'a, D: Dues<N>, const N: usize> DataSlot<'a, D, N> {
         claims: &[Wrapped<u8>; N],
         told: &[Option<[i64; 8]>; N],
     ) -> [Option<i64>; 8]
-        requires capacity { IsCapacity N }
-        requires slot { IsDataSlot (slot_of D.dues self.now) }
-        requires node { i < self.now.config.now.nodes }
-        requires agreed { IsAgreed N self.now.config.now agreed.now }
+        requires node { i < self.now.config.nodes }
+        requires agreed { IsAgreed N self.now.config agreed.now }
         ensures { let d = slot_of D.dues self.now in (j : ℕ) (y : Received) →
             d.due j ≡ d.due i → IsTold d j y told.now → result ≡
             votes_on (setting_of d.config) j (has_id d.full j) agreed.now claims.now (d.due j)
             (own_of d j) y }
     {
-        vote_due(self.config, agreed, claims, told, self.dues.due(i))
+        vote_due(self.config(), agreed, claims, told, self.due(i))
     }
 
     /// The nodes of which a value of a channel that is due to node `i` is too far from the vote.
@@ -126,14 +124,12 @@ impl<'a, D: Dues<N>, const N: usize> DataSlot<'a, D, N> {
     /// They are those of each node to which the same channels are due and to which these values
     /// were told, but for that node itself.
     pub fn off(&self, i: u8, told: &[Option<[i64; 8]>; N], votes: &[Option<i64>; 8]) -> NodeSet<N>
-        requires capacity { IsCapacity N }
-        requires slot { IsDataSlot (slot_of D.dues self.now) }
-        requires node { i < self.now.config.now.nodes }
+        requires { i < self.now.config.nodes }
         ensures { let d = slot_of D.dues self.now in (j : ℕ) (y : Received) →
             d.due j ≡ d.due i → IsTold d j y told.now →
             (q : ℕ) → q < d.config.nodes → q ≢ j → has_id result q ≡
             deviates (setting_of d.config) (d.due j) votes.now y q }
     {
-        nodes_off(self.config, self.dues.due(i), told, votes)
+        nodes_off(self.config(), self.due(i), told, votes)
     }
 }

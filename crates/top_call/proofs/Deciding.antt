@@ -6,8 +6,8 @@ use Rattle.serde_json.specs.Data.{Data}
 use Rattle.scenario_reading.specs.Reading.{Reads}
 use Rattle.scenario_reading.specs.Verdict.{value_refusal, refusal_on}
 use Rattle.node_alone.specs.Rules.{record_refusal}
-use Rattle.top_call.specs.declared.status.Status.{Status}
-use Rattle.top_call.specs.declared.status.Status.TheVariants.{Done, Usage, Unreadable, Refused, ReadFault, WriteFault, NoMemory, TooLong}
+use Rattle.program_words.specs.declared.status.Status.{Status}
+use Rattle.program_words.specs.declared.status.Status.TheVariants.{Done, Usage, Unreadable, Refused, ReadFault, WriteFault, NoMemory, TooLong}
 use Rattle.top_call.specs.declared.form.Reading.{Reading}
 use Rattle.top_call.specs.declared.form.Reading.TheVariants.{Scenario, Log}
 use Rattle.top_call.specs.Answers.{input_limit, capacity, IsRefused, IsUnreadable, IsAcceptedInput, HasTextOf, Decides, Answers}

@@ -1,8 +1,8 @@
 -- What an answer says of each way to end.
 use Rattle.std.proofs.Common.{◌≡◌, ℕ, ◌⊎◌, List, Option, inl, inr, refl, subst}
 use Rattle.span_io.specs.Causes.{Rose}
-use Rattle.top_call.specs.declared.status.Status.{Status}
-use Rattle.top_call.specs.declared.status.Status.TheVariants.{Done, Usage, Unreadable, Refused, ReadFault, WriteFault, NoMemory, TooLong}
+use Rattle.program_words.specs.declared.status.Status.{Status}
+use Rattle.program_words.specs.declared.status.Status.TheVariants.{Done, Usage, Unreadable, Refused, ReadFault, WriteFault, NoMemory, TooLong}
 use Rattle.top_call.specs.declared.form.Reading.{Reading}
 use Rattle.top_call.specs.Answers.{Answers, AnswersStorm}
 

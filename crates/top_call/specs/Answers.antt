@@ -15,8 +15,8 @@ use Rattle.top_call.specs.declared.form.Reading.{Reading}
 use Rattle.top_call.specs.declared.form.Reading.TheVariants.{Scenario, Log}
 use Rattle.top_call.specs.declared.form.Command.{Command}
 use Rattle.top_call.specs.declared.form.Command.TheVariants.{Read, Storm}
-use Rattle.top_call.specs.declared.status.Status.{Status}
-use Rattle.top_call.specs.declared.status.Status.TheVariants.{Done, Usage, Unreadable, Refused, ReadFault, WriteFault, NoMemory, TooLong}
+use Rattle.program_words.specs.declared.status.Status.{Status}
+use Rattle.program_words.specs.declared.status.Status.TheVariants.{Done, Usage, Unreadable, Refused, ReadFault, WriteFault, NoMemory, TooLong}
 use Rattle.top_call.specs.declared.form.Form.{Form}
 use Rattle.top_call.specs.declared.replay.ReplayError.{ReplayError}
 use Rattle.top_call.specs.declared.replay.ReplayError.TheVariants as errors

@@ -1,4 +1,3 @@
-pub mod Status
 pub mod Words
 pub mod Run
 pub mod Alone

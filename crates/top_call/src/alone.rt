@@ -26,14 +26,7 @@ fn write_next<const N: usize, K: Sink>(
         (K.faults sink.new) (log_printed log.now period) result }
 {
     let config = log.config();
-    write_alone(
-        period,
-        log.id(),
-        config.nodes,
-        config.policy.retire,
-        alone.period(),
-        sink,
-    )
+    write_alone(period, log.id(), config, alone.period(), sink)
 }
 
 /// Steps a node that is just opened through all periods, and writes their texts and the end.

@@ -53,9 +53,8 @@ mod form;
 pub mod laws;
 mod program;
 mod replay;
-mod status;
 
 pub use form::{Command, Form, Reading};
 pub use program::{maft, run};
+pub use program_words::Status;
 pub use replay::{ReplayError, replay_at};
-pub use status::Status;

@@ -13,8 +13,8 @@ ghost use Rattle.top_call.specs.declared.form.Reading.TheVariants.{Scenario as S
 ghost use Rattle.top_call.specs.declared.form.Reading.TheVariants.{Log as SpecLog};
 ghost use Rattle.top_call.specs.declared.form.Command.{Command as SpecCommand};
 ghost use Rattle.top_call.specs.declared.form.Command.TheVariants.{Read as SpecRead};
-ghost use Rattle.top_call.specs.declared.status.Status.{Status as SpecStatus};
-ghost use Rattle.top_call.specs.Status.{number_of};
+ghost use Rattle.program_words.specs.declared.status.Status.{Status as SpecStatus};
+ghost use Rattle.program_words.specs.Status.{number_of};
 ghost use Rattle.top_call.specs.Words.{texts, Calls};
 ghost use Rattle.top_call.specs.Run.{IsRun};
 ghost use Rattle.top_call.specs.Answers.{input_limit, capacity, status_of, AnswersValue, IsRefused};
@@ -193,9 +193,11 @@ fn answer_storm<K: Sink>(alloc: Global, seed: u64, sink: &mut K) -> Status
 /// Answers the words, by what the source gives, into the sink.
 ///
 /// What the words may be is told at `Command`: a scenario or a node's log is read and run, or a
-/// storm is made and run, and the text of it is written. What each status says is told at `Status`;
-/// the first cause in the order Usage, ReadFault, TooLong, Unreadable, Refused, WriteFault decides.
-/// Want of memory is the one free answer, and nothing was written then.
+/// storm is made and run, and the text of it is written. What each status says is told clause by
+/// clause at `IsStatusOf`; the first cause in the order Usage, ReadFault, TooLong (the input has
+/// more than 4,194,304 bytes), Unreadable, Refused, WriteFault decides. The text or a prefix of it
+/// was written with Done and WriteFault alone, and a rule's line with Refused. Want of memory is
+/// the one free answer, and nothing was written then.
 pub fn maft<S: Source, K: Sink>(
     alloc: Global,
     words: &[String],
@@ -269,8 +271,20 @@ pub fn maft<S: Source, K: Sink>(
 /// Answers the words as [`maft`] does, with the number of its status.
 pub fn run<S: Source, K: Sink>(alloc: Global, words: &[String], source: &mut S, sink: &mut K) -> u8
     ensures { (status : SpecStatus) × (result ≡ number_of status) × IsStatusOf (texts words.now)
-        (record { left = S.left source.old; given = S.given source.old; source_faults = S.faults source.old; written = K.written sink.old; sink_faults = K.faults sink.old })
-        (record { left = S.left source.new; given = S.given source.new; source_faults = S.faults source.new; written = K.written sink.new; sink_faults = K.faults sink.new })
+        (record {
+          left = S.left source.old;
+          given = S.given source.old;
+          source_faults = S.faults source.old;
+          written = K.written sink.old;
+          sink_faults = K.faults sink.old;
+        })
+        (record {
+          left = S.left source.new;
+          given = S.given source.new;
+          source_faults = S.faults source.new;
+          written = K.written sink.new;
+          sink_faults = K.faults sink.new;
+        })
         status }
 {
     maft(alloc, words, source, sink).number()

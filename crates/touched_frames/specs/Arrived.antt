@@ -1,5 +1,6 @@
 -- What a receiver has of a whole frame.
-use Rattle.std.specs.Prelude.{ℕ, ◌≡◌, Bool, true, false, ◌==◌, List, Option, Some}
+use Rattle.std.specs.Prelude.{ℕ, ◌≡◌, ◌<◌, ◌≤◌, Bool, true, false, ◌==◌, List, Option, Some}
+use Rattle.node_grid.specs.Capacity.{IsCapacity}
 use Rattle.slot_plan.specs.Ticks.{is_in_window}
 use Rattle.frames.specs.Content.{Content, Expectation}
 use Rattle.frames.specs.Seen.{content}
@@ -36,6 +37,13 @@ needs_bytes (Raw bytes) = true
 abbrev pub replaced : Change → List ℕ → List ℕ
 replaced (Set at bytes) frame = patched at bytes frame
 replaced _ frame = frame
+
+-- a cluster of so many nodes and rounds, in which frames are received
+pub record IsCluster (capacity nodes rounds : ℕ) : Type 0 where
+  pub capacity_ok : IsCapacity capacity
+  pub some_nodes : 0 < nodes
+  pub few_nodes : nodes ≤ capacity
+  pub few_rounds : rounds ≤ 3
 
 -- a sender by whom a content is sent so
 pub record IsSentAs (sender : Expectation) (nodes : ℕ) (head : Head) (c : Content) : Type 0 where

@@ -1,10 +1,9 @@
 //! What a receiver has of a frame.
 
-ghost use Rattle.std.specs.Prelude.{◌≡◌, ◌<◌, ◌≤◌};
-ghost use Rattle.node_grid.specs.Capacity.{IsCapacity};
+ghost use Rattle.std.specs.Prelude.{◌≡◌};
 ghost use Rattle.frames.specs.Seen.{expected};
 ghost use Rattle.frames.specs.Reading.{reading};
-ghost use Rattle.touched_frames.specs.Arrived.{seen, arrived_as};
+ghost use Rattle.touched_frames.specs.Arrived.{seen, arrived_as, IsCluster};
 
 use frames::{Body, Expect, decode};
 use node_grid::kind::{COLD, MALFORMED};
@@ -20,10 +19,7 @@ pub enum Arrived<'a, const N: usize> {
 
 /// What a receiver has of bytes that came once, in time.
 pub(crate) fn read<'a, const N: usize>(receiver: &Expect<N>, bytes: &'a [u8]) -> Arrived<'a, N>
-    requires capacity { IsCapacity N }
-    requires some_nodes { 0 < receiver.now.nodes }
-    requires nodes { receiver.now.nodes ≤ N }
-    requires rounds { receiver.now.m ≤ 3 }
+    requires { IsCluster N receiver.now.nodes receiver.now.m }
     ensures { seen receiver.now.nodes result
         ≡ arrived_as (reading (expected receiver.now) bytes.now) }
 {

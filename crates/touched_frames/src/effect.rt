@@ -1,7 +1,6 @@
 //! What a receiver has of a frame by the effect of the line that touches it.
 
 ghost use Rattle.std.specs.Prelude.{◌≡◌, ℕ, ◌^◌, ◌<◌, ◌≤◌, length, Some, IfSome, is_none};
-ghost use Rattle.node_grid.specs.Capacity.{IsCapacity};
 ghost use Rattle.frames.specs.Content.{Content, Expectation};
 ghost use Rattle.frames.specs.Seen.{content, expected, HasWidth};
 ghost use Rattle.frames.specs.Spelling.{spelling, body_spelling, head_of, IsInRange};
@@ -9,7 +8,7 @@ ghost use Rattle.fault_classes.specs.Change.{change_of};
 ghost use Rattle.fault_link.specs.Arrival.{patched};
 ghost use Rattle.protocol.specs.Arrival.Arrival.{Bad};
 ghost use Rattle.protocol.specs.Talk.{arrives};
-ghost use Rattle.touched_frames.specs.Arrived.{seen, needs_bytes, replaced, IsSentAs};
+ghost use Rattle.touched_frames.specs.Arrived.{seen, needs_bytes, replaced, IsCluster, IsSentAs};
 
 use crate::arrived::{Arrived, read};
 use fault_classes::Effect;
@@ -70,10 +69,7 @@ pub fn arrives<'a, const N: usize>(
     receiver: &Expect<N>,
     room: &'a mut [u8],
 ) -> Arrived<'a, N>
-    requires capacity { IsCapacity N }
-    requires some_nodes { 0 < receiver.now.nodes }
-    requires nodes { receiver.now.nodes ≤ N }
-    requires rounds { receiver.now.m ≤ 3 }
+    requires cluster { IsCluster N receiver.now.nodes receiver.now.m }
     requires widths { HasWidth receiver.now.nodes frame.now.body }
     requires short { length (body_spelling receiver.now.nodes
         (content receiver.now.nodes frame.now.body)) < 2 ^ 32 }

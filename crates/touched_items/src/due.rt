@@ -10,13 +10,13 @@ use omh_paths::count_paths;
 
 /// The relay round of the slot.
 pub(crate) fn round_of<const N: usize>(expect: &Expect<N>) -> u8
-    requires { expect.now.m ≤ 3 }
     ensures { result ≡ round_in expect.now.m expect.now.slot }
 {
-    if expect.slot <= expect.m + 1 {
-        expect.slot.saturating_sub(1)
+    let relayed = expect.slot.saturating_sub(1);
+    if relayed <= expect.m {
+        relayed
     } else {
-        expect.slot.saturating_sub(expect.m + 3)
+        expect.slot.saturating_sub(expect.m).saturating_sub(3)
     }
 }
 
@@ -24,7 +24,6 @@ pub(crate) fn round_of<const N: usize>(expect: &Expect<N>) -> u8
 /// sender, as its round.
 pub(crate) fn entries_due<const N: usize>(expect: &Expect<N>) -> usize
     requires capacity { IsCapacity N }
-    requires rounds { expect.now.m ≤ 3 }
     requires round { round_in expect.now.m expect.now.slot ≤ 3 }
     ensures number { result ≡ entries_due (expected expect.now) }
     ensures few { result ≤ 4096 }

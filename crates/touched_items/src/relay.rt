@@ -108,7 +108,6 @@ fn lay_cell<V: Item<N>, const N: usize>(
     requires nodes { nodes ≤ N }
     requires few { k < 4096 }
     requires some { own.now ≢ Fault 0 }
-    requires narrow { V.entry_form.width nodes ≤ 33 }
     requires room { length cell.old ≡ V.entry_form.width nodes }
     ensures { length (V.entry_form.spelling nodes own.now) ≡ V.entry_form.width nodes →
         cell.new ≡ cell_over V.entry_form nodes patch.now.at patch.now.bytes.now k own.now }
@@ -126,7 +125,6 @@ fn is_cell<V: Item<N>, const N: usize>(
 ) -> bool
     requires capacity { IsCapacity N }
     requires nodes { expect.now.nodes ≤ N }
-    requires rounds { expect.now.m ≤ 3 }
     requires few { k < 4096 }
     requires some { own.now ≢ Fault 0 }
     requires long { length (V.entry_form.spelling expect.now.nodes own.now) ≡

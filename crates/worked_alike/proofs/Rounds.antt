@@ -6,7 +6,6 @@ use Rattle.std.proofs.lemmas.List.{length-replicate}
 use Rattle.std.proofs.lemmas.Bool.{cases_eq, cases_lt, both_ways, or_cases}
 use Rattle.node_grid.specs.NodeSet.{has_id, with_id, without_id}
 use Rattle.node_grid.specs.NodeSetLaws.{has-with_id, hasnt-filter}
-use Rattle.omh_paths.specs.Wrapped.{IsExact}
 use Rattle.omh_paths.specs.Paths.{path_count}
 use Rattle.omh.specs.Heard.{Hearing}
 use Rattle.relay_walk.specs.declared.round.Round.{Round}
@@ -110,7 +109,3 @@ pub kept_only : (m r : ℕ) → 0 < m → m < 2 → r ≤ m → r < kept_nodes m
 kept_only zero r some few h = absurd (omega (arith, some))
 kept_only (suc zero) r some few h = omega (arith, h)
 kept_only (suc (suc m)) r some few h = absurd (omega (arith, few))
-
--- claims are equal only where they are the same
-pub exact_claims : IsExact {V = ℕ} ◌==◌
-exact_claims = record { finds = λ x. eq-eqb x x refl; tells = λ x y h. eqb-true x y h }

@@ -5,7 +5,7 @@ ghost use Rattle.std.specs.Prelude.{◌≡◌, ◌<◌, ◌≤◌, All, IfOk, If
 ghost use Rattle.clock_skew.specs.Clock.{IsLie, lie_of};
 
 use crate::draws::Draws;
-use clock_skew::{ClockPlan, Lie};
+use clock_skew::{ClockCourse, ClockPlan, Lie};
 use node_grid::NodeSet;
 use std::alloc::{AllocError, Global};
 use worked_rows::row;
@@ -63,7 +63,15 @@ fn plan_of(alloc: Global, lies: Vec<Lie<16>>) -> Result<ClockPlan<16>, AllocErro
 {
     let drifts = Vec::from_slice(alloc, &[[0; 16]])?;
     let errors = Vec::from_slice(alloc, &[[0; 16]])?;
-    Ok(ClockPlan::new(NODES, 0, 0, [0; 16], drifts, errors, lies))
+    Ok(ClockPlan::new(ClockCourse {
+        nodes: NODES,
+        epsilon: 0,
+        drift: 0,
+        start: [0; 16],
+        drifts,
+        errors,
+        lies,
+    }))
 }
 
 /// By how much node `j` lies to node `i` in a period: by the first lie in the list that is told.

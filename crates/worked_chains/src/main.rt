@@ -8,7 +8,7 @@ mod plain;
 
 ghost use Rattle.std.specs.Prelude.{◌≡◌, ℕ, length, true};
 ghost use Rattle.node_grid.specs.NodeSet.{has_id};
-ghost use Rattle.odd_relays.specs.Telling.{telling, IsTelling, HasFewOdd};
+ghost use Rattle.odd_relays.specs.Telling.{telling, HasFewOdd};
 ghost use Rattle.worked_chains.specs.Lies.{drawn_lie};
 
 use draws::{Drawn, Draws};
@@ -56,7 +56,6 @@ fn settle_each(
     work: &mut [Wrapped<u8>],
     all: &mut [Wrapped<u8>],
 )
-    requires item { IsTelling 16 (telling drawn_lie item.now) }
     requires few { HasFewOdd (telling drawn_lie item.now) }
     requires room { length work.old ≡ WORK }
     requires places { length all.old ≡ 16 }
@@ -72,9 +71,7 @@ fn settle_each(
 }
 
 /// Whether those of these nodes convict the commander that should.
-fn are_convicting(item: &Item<u8, Lies, 16>, drawn: &Drawn, awake: &NodeSet<16>) -> bool
-    requires item { IsTelling 16 (telling drawn_lie item.now) }
-{
+fn are_convicting(item: &Item<u8, Lies, 16>, drawn: &Drawn, awake: &NodeSet<16>) -> bool {
     let _ = item.phase.members.len();
     let others = awake.without(item.commander);
     let convicting = item.convicting(&others);
@@ -94,7 +91,6 @@ fn count_settled(
     awake: &NodeSet<16>,
     work: &mut [Wrapped<u8>],
 )
-    requires item { IsTelling 16 (telling drawn_lie item.now) }
     requires few { HasFewOdd (telling drawn_lie item.now) }
     requires full { (q : ℕ) → has_id item.now.phase.full q ≡ true → has_id awake.now q ≡ true }
     requires room { length work.old ≡ WORK }

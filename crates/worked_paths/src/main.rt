@@ -4,19 +4,20 @@
 
 mod counted;
 mod draws;
+mod item;
 mod lies;
 mod plain;
 
-ghost use Rattle.std.specs.Prelude.{◌≡◌, ◌<◌, ◌≤◌, true};
-ghost use Rattle.node_grid.specs.NodeSet.{has_id};
+ghost use Rattle.std.specs.Prelude.{◌≡◌, ◌<◌, ◌≤◌};
 ghost use Rattle.omh.specs.Written.{IsSmall};
 
 use crate::counted::count_counted;
 use crate::draws::Draws;
+use crate::item::Item;
 use crate::lies::Lies;
 use omh::Table;
 use omh_paths::Wrapped;
-use settled_paths::{Exchange, Laid};
+use settled_paths::Laid;
 use std::alloc::AllocError;
 use worked_rows::row;
 
@@ -24,31 +25,24 @@ use worked_rows::row;
 pub const DRAWN: u32 = 60;
 
 /// Whether each receiver settles the item alike both ways.
-fn are_alike(
-    laid: &mut Laid<u8>,
-    table: &mut Table<u8, 8>,
-    exchange: &Exchange<8>,
-    own: Wrapped<u8>,
-    lies: &Lies,
-) -> bool
+fn are_alike(laid: &mut Laid<u8>, table: &mut Table<u8, 8>, item: &Item<'_>) -> bool
     requires nodes { laid.old.nodes ≡ 8 }
-    requires rounds { exchange.now.rounds ≡ laid.old.rounds }
-    requires few { laid.old.rounds ≤ 3 }
-    requires own { IsSmall 252 own }
-    requires member { has_id exchange.now.members exchange.now.commander ≡ true }
+    requires rounds { item.now.exchange.now.rounds ≡ laid.old.rounds }
+    requires own { IsSmall 252 item.now.own }
     requires table_nodes { table.old.nodes ≡ 8 }
     requires table_rounds { table.old.rounds ≡ laid.old.rounds }
     ensures nodes { laid.new ≡ laid.old }
     ensures table_nodes { table.new.nodes ≡ 8 }
     ensures table_rounds { table.new.rounds ≡ table.old.rounds }
 {
+    let exchange = item.exchange;
     let _ = exchange.members.len();
     let mut all = [Wrapped::Fault(0); 8];
-    laid.settle_all(exchange, own, lies, &mut all);
+    laid.settle_all(exchange, item.own, item.lies, &mut all);
     let mut are_alike = true;
     for me in 0..8u8 {
         if exchange.awake.has(me) && me != exchange.commander {
-            let settled = plain::settled(table, exchange, own, lies, me);
+            let settled = plain::settled(table, item, me);
             if settled != all[me as usize] {
                 are_alike = false;
             }
@@ -72,7 +66,12 @@ fn count_alike(rt: &HostRuntime, rounds: u8, longest: u8) -> anyhow::Result<u32>
     for _ in 0..DRAWN {
         let exchange = draws.exchange(rounds);
         let lies = Lies::draw(&mut draws, longest);
-        if are_alike(&mut laid, &mut table, &exchange, Wrapped::Plain(9), &lies) {
+        let item = Item {
+            exchange: &exchange,
+            own: Wrapped::Plain(9),
+            lies: &lies,
+        };
+        if are_alike(&mut laid, &mut table, &item) {
             alike = alike.saturating_add(1);
         }
     }

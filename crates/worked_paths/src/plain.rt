@@ -1,14 +1,14 @@
 //! What one receiver settles, in a table of its own.
 
 ghost use Rattle.std.specs.Prelude.{◌≡◌, ◌≢◌, ◌<◌, ◌≤◌, ◌+◌, true};
-ghost use Rattle.node_grid.specs.NodeSet.{has_id, without_id};
 ghost use Rattle.omh_paths.specs.declared.wrapped.Wrapped.TheVariants.{Fault};
 
+use crate::item::Item;
 use crate::lies::Lies;
 use node_grid::NodeSet;
 use omh::Table;
 use omh_paths::{Path, Wrapped, count_paths, unrank};
-use settled_paths::{Exchange, Touched};
+use settled_paths::Touched;
 
 /// The value as a relay passes it on. No error here was wrapped often.
 fn wrapped(value: Wrapped<u8>) -> Wrapped<u8> {
@@ -63,47 +63,34 @@ pub fn heard_along(
     heard(lies, to, path, passed)
 }
 
-/// Puts what a receiver hears for all paths of so many nodes.
-fn put_length(
-    table: &mut Table<u8, 8>,
-    exchange: &Exchange<8>,
-    own: Wrapped<u8>,
-    lies: &Lies,
-    me: u8,
-    len: u8,
-)
-    requires some { 0 < len }
-    requires few { len ≤ 4 }
-    requires short { len ≤ table.old.rounds + 1 }
+/// Puts what a receiver hears for all paths of one node more than this.
+fn put_length(table: &mut Table<u8, 8>, item: &Item<'_>, me: u8, relays: u8)
+    requires few { relays ≤ 3 }
+    requires short { relays ≤ table.old.rounds }
     requires me { me < 8 }
     requires who { me ≡ table.old.me }
-    requires members { exchange.now.members ≡ table.old.members }
+    requires members { item.now.exchange.now.members ≡ table.old.members }
     ensures { table.new ≡ record table.old { heard = table.new.heard } }
 {
+    let exchange = item.exchange;
+    let len = relays + 1;
     let others = exchange.members.without(me);
     for place in 0..count_paths(others.len(), len) {
         let path = unrank(&others, len, place);
-        let value = heard_along(lies, &exchange.full, own, &path, me);
+        let value = heard_along(item.lies, &exchange.full, item.own, &path, me);
         table.put(&path, known(value));
     }
 }
 
 /// What a receiver settles in a table of its own.
-pub fn settled(
-    table: &mut Table<u8, 8>,
-    exchange: &Exchange<8>,
-    own: Wrapped<u8>,
-    lies: &Lies,
-    me: u8,
-) -> Wrapped<u8>
+pub fn settled(table: &mut Table<u8, 8>, item: &Item<'_>, me: u8) -> Wrapped<u8>
     requires me { me < 8 }
     requires nodes { table.old.nodes ≡ 8 }
-    requires rounds { exchange.now.rounds ≡ table.old.rounds }
-    requires few { table.old.rounds ≤ 3 }
-    requires member { has_id exchange.now.members exchange.now.commander ≡ true }
+    requires rounds { item.now.exchange.now.rounds ≡ table.old.rounds }
     ensures nodes { table.new.nodes ≡ table.old.nodes }
     ensures rounds { table.new.rounds ≡ table.old.rounds }
 {
+    let exchange = item.exchange;
     let _ = exchange.members.len();
     table.start(
         &exchange.members,
@@ -111,8 +98,8 @@ pub fn settled(
         exchange.full.has(me),
         Wrapped::Fault(0),
     );
-    for shorter in 0..exchange.rounds + 1 {
-        put_length(table, exchange, own, lies, me, shorter + 1);
+    for relays in 0..exchange.rounds + 1 {
+        put_length(table, item, me, relays);
     }
     table.settle(exchange.commander)
 }

@@ -2,7 +2,7 @@
 
 ghost use Rattle.std.specs.Prelude.{◌≡◌, ◌<◌, IfOk};
 
-use fault_classes::{Effect, FaultLine, FaultPlan, Restart};
+use fault_classes::{Effect, FaultLine, FaultPlan, PlanSize, Restart};
 use node_grid::{Class, NodeSet};
 use std::alloc::Global;
 use std::io;
@@ -31,7 +31,12 @@ fn plan(alloc: Global) -> anyhow::Result<FaultPlan<8>>
         effect: Effect::Time(25),
     })?;
     let restarts = Vec::from_slice(alloc, &[Restart { node: 3, period: 1 }])?;
-    match FaultPlan::new(alloc, 4, 1, 4, lines, restarts) {
+    let size = PlanSize {
+        nodes: 4,
+        rounds: 1,
+        periods: 4,
+    };
+    match FaultPlan::new(alloc, size, lines, restarts) {
         Ok(plan) => Ok(plan),
         Err(error) => Err(error.into()),
     }

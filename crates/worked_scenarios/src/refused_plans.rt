@@ -1,6 +1,6 @@
 //! Plans that a rule refuses, the most lines, and the largest plan.
 
-use fault_classes::{Effect, FaultLine, FaultPlan, PlanError, Restart};
+use fault_classes::{Effect, FaultLine, FaultPlan, PlanError, PlanSize, Restart};
 use node_grid::NodeSet;
 use std::alloc::{AllocError, Global};
 use worked_rows::row;
@@ -46,7 +46,12 @@ fn plan(
     if lines.len() > 10_000 || restarts.len() > 10_000 {
         return Ok(());
     }
-    match FaultPlan::new(rt.alloc(), 3, 0, 1024, lines, restarts) {
+    let size = PlanSize {
+        nodes: 3,
+        rounds: 0,
+        periods: 1024,
+    };
+    match FaultPlan::new(rt.alloc(), size, lines, restarts) {
         Ok(plan) => row(rt, asked, plan.line_count())?,
         Err(error) => {
             println!(rt; "{asked}: {error}")?;
@@ -160,14 +165,12 @@ fn of_many(rt: &HostRuntime) -> anyhow::Result<()> {
 
 fn of_sixteen(rt: &HostRuntime) -> anyhow::Result<()> {
     let (lines, restarts) = (Vec::new(rt.alloc()), Vec::new(rt.alloc()));
-    let made: Result<FaultPlan<16>, PlanError> = FaultPlan::new(
-        rt.alloc(),
-        16,
-        3,
-        1024,
-        lines,
-        restarts,
-    );
+    let size = PlanSize {
+        nodes: 16,
+        rounds: 3,
+        periods: 1024,
+    };
+    let made: Result<FaultPlan<16>, PlanError> = FaultPlan::new(rt.alloc(), size, lines, restarts);
     row(
         rt,
         "a plan of sixteen nodes in 1024 periods can be had",

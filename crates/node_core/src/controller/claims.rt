@@ -9,7 +9,7 @@ ghost use Rattle.node_steps.specs.Steps.{shut, taken, claims_known};
 ghost use Rattle.node_core.specs.Closing.{IsDoneClosed};
 
 use super::Controller;
-use data_slot::{due_channels, own_values};
+use data_slot::{KeptValues, due_channels, own_values};
 use node_grid::kind::EQUIVOCATE;
 use noting::{note_found, note_verdicts};
 use relay_terms::Term;
@@ -59,13 +59,16 @@ impl<'c, const N: usize> Controller<'c, N> {
         self.found.notes.note_all(&guilty, EQUIVOCATE);
         self.found.claims = claims;
         self.found.due = due_channels(self.config, preview.finished_now);
+        let kept = KeptValues {
+            votes: &self.kept.votes,
+            owns: &self.kept.owns,
+        };
         self.found.own = own_values(
             self.config,
             self.phase.me,
             self.phase.period,
             &self.phase.inputs,
-            &self.kept.votes,
-            &self.kept.owns,
+            &kept,
         );
     }
 }

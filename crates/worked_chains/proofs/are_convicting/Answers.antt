@@ -5,14 +5,14 @@ use Rattle.odd_relays.proofs.Laying.{not_rest}
 use Rattle.worked_chains.proofs.are_convicting.Goals as goal
 
 pub without-others-requires : goal.without-others-requires
-without-others-requires c = (omega arith, member-lt 16 c.args.item.now.phase.members c.args.item.now.commander c.len.ensures.ids c.requires.item.member)
+without-others-requires c = (omega arith, member-lt 16 c.args.item.now.phase.members c.args.item.now.commander c.len.ensures.ids c.args.item.now.member)
 
 pub convicting-convicting-requires : goal.convicting-convicting-requires
 convicting-convicting-requires c = (
   omega arith,
   (
     omega arith,
-    (search rules, (c.requires.item, ap (λ (s : List ℕ). has_id s c.args.item.now.commander) c.without-others.ensures ∙ not_rest c.args.awake.now c.args.item.now.commander)),
+    (search rules, ap (λ (s : List ℕ). has_id s c.args.item.now.commander) c.without-others.ensures ∙ not_rest c.args.awake.now c.args.item.now.commander),
   ),
 )
 

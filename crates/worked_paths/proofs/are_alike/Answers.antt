@@ -8,11 +8,13 @@ settle_all-requires c = (
   (
     record { finds = λ x. eq-eqb x x refl; tells = λ x y h. eqb-true x y h },
     (
-      inl refl,
-      (
-        c.requires.rounds,
-        (λ q on. omega (arith, member-lt 8 c.args.exchange.now.members q c.len.ensures.ids on, c.requires.nodes), (c.requires.member, (c.requires.own, refl))),
-      ),
+      record {
+        capacity_ok = inl refl;
+        rounds_are = c.requires.rounds;
+        nodes_ok = λ q on. omega (arith, member-lt 8 c.args.item.now.exchange.now.members q c.len.ensures.ids on, c.requires.nodes);
+        member_ok = c.args.item.now.member;
+      },
+      (c.requires.own, refl),
     ),
   ),
 )

@@ -1,4 +1,4 @@
-use Rattle.std.proofs.Common.{ℕ, ◌≡◌, ◌<◌, List, Option, refl, sym, lit<, inl, inr, arith}
+use Rattle.std.proofs.Common.{ℕ, ◌≡◌, ◌<◌, List, Option, refl, sym, lit<, inl, inr}
 use Rattle.std.specs.Prelude.{nat_eq}
 use Rattle.node_grid.specs.Capacity.{IsCapacity}
 use Rattle.agreed_state.specs.Agreed.{AgreedView}
@@ -10,8 +10,8 @@ use Rattle.at_once.proofs.claims.group_by_claims.Goals as goal
 
 pub by-groups-requires : goal.by-groups-requires
 by-groups-requires g c =
-    let cap : IsCapacity g.row.N = c.requires.capacity in
-    (lit< tt, (elim cap [ inl e ↦ rw e (lit< tt) | inr e ↦ rw e (lit< tt) ], (cap, λ r i before less. let low : i < g.row.N = less in let sooner : r < g.row.N = omega arith in (elim cap [ inl e ↦ rw e (lit< tt) | inr e ↦ rw e (lit< tt) ], (elim cap [ inl e ↦ rw e (lit< tt) | inr e ↦ rw e (lit< tt) ], (elim cap [ inl e ↦ rw e (lit< tt) | inr e ↦ rw e (lit< tt) ], (cap, (c.requires.settled, (sooner, low)))))))))
+    let cap : IsCapacity g.row.N = c.requires.settled.heard.set.capacity in
+    (lit< tt, (elim cap [ inl e ↦ rw e (lit< tt) | inr e ↦ rw e (lit< tt) ], (cap, λ r i before less. (elim cap [ inl e ↦ rw e (lit< tt) | inr e ↦ rw e (lit< tt) ], (elim cap [ inl e ↦ rw e (lit< tt) | inr e ↦ rw e (lit< tt) ], (elim cap [ inl e ↦ rw e (lit< tt) | inr e ↦ rw e (lit< tt) ], c.requires.settled))))))
 
 pub returns-clause-firsts : goal.returns-clause-firsts
 returns-clause-firsts g c = c.of.ensures.all

@@ -5,10 +5,10 @@ use Rattle.at_once.specs.Phases.{blames}
 use Rattle.error_reports.specs.Notes.{Notes, also_carried}
 use Rattle.protocol.specs.Arrival.{row_form}
 use Rattle.protocol.specs.Heard.{rounds_bad}
-use Rattle.item_phase.specs.Noted.{rounds_of}
+use Rattle.item_phase.specs.Noted.{rounds_of, IsCarrier}
 use Rattle.node_grid.specs.Capacity.{IsCapacity}
 use Rattle.node_grid.specs.NodeSet.{has_id}
-use Rattle.at_once.proofs.RowSteps.{CarriesFor, carries_for}
+use Rattle.at_once.proofs.RowSteps.{carries_for}
 use Rattle.at_once.proofs.NodeNotes.{AreMore, more_none, more_put, more_skip}
 use Rattle.at_once.proofs.FilledBeliefs.{same_at}
 use Rattle.at_once.proofs.rows.carry.Goals.{then-has, else-has}
@@ -25,11 +25,11 @@ carry_at-requires g c =
     let room : i < length xs = (let w = c.loop-i.invariant.wide in omega arith) in
     let on : has_id c.args.phase.now.awake i ≡ true = sym c.has.ensures ∙ c.if-has.true in
     let own : Notes = get_or xs i c.index-notes-i.result in
-    let ready : CarriesFor config i own =
+    let ready : IsCarrier config i own =
     carries_for config old i own (c.requires.settled.heard.set.awake i on) c.requires.shaped (c.requires.within i low on)
     (same_at xs i c.index-notes-i.result (record { nodes = 0; me = 0; kinds = 0; row = []; carried = [] }) room ∙ c.loop-i.invariant.rest i (omega arith)) in (
       elim cap [ inl e ↦ rw e (lit< tt) | inr e ↦ rw e (lit< tt) ],
-      (elim cap [ inl e ↦ rw e (lit< tt) | inr e ↦ rw e (lit< tt) ], (elim cap [ inl e ↦ rw e (lit< tt) | inr e ↦ rw e (lit< tt) ], (elim cap [ inl e ↦ rw e (lit< tt) | inr e ↦ rw e (lit< tt) ], (cap, (c.requires.settled, (on, (ready.nodes, (ready.me, (ready.kinds, ready.within))))))))),
+      (elim cap [ inl e ↦ rw e (lit< tt) | inr e ↦ rw e (lit< tt) ], (elim cap [ inl e ↦ rw e (lit< tt) | inr e ↦ rw e (lit< tt) ], (elim cap [ inl e ↦ rw e (lit< tt) | inr e ↦ rw e (lit< tt) ], (c.requires.settled, (on, ready))))),
     )
 
 pub loop-i-init : goal.loop-i-init

@@ -14,11 +14,12 @@ use Rattle.at_once.proofs.values.note_each.Goals as goal
 
 pub note-requires : goal.note-requires
 note-requires g c =
-    let cap : IsCapacity g.row.N = c.requires.capacity in
+    let cap : IsCapacity g.row.N = c.nodes-nodes.ensures.capacity in
     let i : ℕ = c.loop-i.i in
     let xs : List Notes = c.loop-i.notes in
     let y : Notes = c.index-notes-i.result in
-    let low : i < g.row.N = (let t = c.loop-i-test.true in let f = c.requires.slot.config.few_nodes in omega arith) in
+    let used : i < c.args.slot.now.config.nodes = (let t = c.loop-i-test.true in let n = c.nodes-nodes.ensures.nodes in omega arith) in
+    let low : i < g.row.N = (let f = c.nodes-nodes.ensures.slot.config.few_nodes in omega arith) in
     let room : i < length xs = (let w = c.loop-i.invariant.wide in omega arith) in
     let at : get_or xs i y ≡ notes_at c.args.notes.now i = same_at xs i y _ room ∙ c.loop-i.invariant.rest i (omega arith) in (
       lit< tt,
@@ -27,23 +28,13 @@ note-requires g c =
         (
           elim cap [ inl e ↦ rw e (lit< tt) | inr e ↦ rw e (lit< tt) ],
           (
-            cap,
-            (
-              c.requires.slot,
-              (
-                c.loop-i-test.true,
-                (
-                  ap (λ (n : Notes). n.nodes) at ∙ c.requires.shaped.nodes i c.loop-i-test.true,
-                  (
-                    ap (λ (n : Notes). n.me) at ∙ c.requires.shaped.me i c.loop-i-test.true,
-                    (
-                      subst (λ (k : ℕ). k ≤ 16) (sym (ap (λ (n : Notes). n.kinds) at ∙ c.requires.shaped.kinds i c.loop-i-test.true)) (kinds-few c.args.slot.now.config.now.version),
-                      subst (IsWithin g.row.N) (sym at) (c.requires.within i c.loop-i-test.true (sym c.has.ensures ∙ c.if-has.true)),
-                    ),
-                  ),
-                ),
-              ),
-            ),
+            used,
+            record {
+              nodes_are = ap (λ (n : Notes). n.nodes) at ∙ c.requires.shaped.nodes i used;
+              me_is = ap (λ (n : Notes). n.me) at ∙ c.requires.shaped.me i used;
+              few_kinds = subst (λ (k : ℕ). k ≤ 16) (sym (ap (λ (n : Notes). n.kinds) at ∙ c.requires.shaped.kinds i used)) (kinds-few c.args.slot.now.config.version);
+              within = subst (IsWithin g.row.N) (sym at) (c.requires.within i used (sym c.has.ensures ∙ c.if-has.true));
+            },
           ),
         ),
       ),
@@ -57,7 +48,7 @@ loop-i-preserved g c =
     let old : List Notes = c.args.notes.now in
     let i : ℕ = c.loop-i.i in
     let xs : List Notes = c.loop-i.notes in
-    let low : i < g.row.N = (let t = c.loop-i-test.true in let f = c.requires.slot.config.few_nodes in omega arith) in
+    let low : i < g.row.N = (let t = c.loop-i-test.true in let n = c.nodes-nodes.ensures.nodes in let f = c.nodes-nodes.ensures.slot.config.few_nodes in omega arith) in
     let room : i < length xs = (let w = c.loop-i.invariant.wide in omega arith) in
     let room_off : i < length off = (let w = c.told-off in omega arith) in
     elim c.if-has.branch [
@@ -74,7 +65,7 @@ loop-i-preserved g c =
     ]
 
 pub returns-clause-noted : goal.returns-clause-noted
-returns-clause-noted g c = λ i low on. c.loop-i.invariant.so_far i (let t = c.loop-i-test.false in omega arith) on
+returns-clause-noted g c = λ i low on. c.loop-i.invariant.so_far i (let t = c.loop-i-test.false in let n = c.nodes-nodes.ensures.nodes in omega arith) on
 
 pub returns-clause-shaped : goal.returns-clause-shaped
 returns-clause-shaped g c = record {

@@ -14,7 +14,8 @@ use Rattle.at_once.proofs.values.vote_each.Goals as goal
 
 pub vote_at-voted-requires : goal.vote_at-voted-requires
 vote_at-voted-requires g c =
-    let cap : IsCapacity g.row.N = c.requires.capacity in (
+    let cap : IsCapacity g.row.N = c.nodes-nodes.ensures.capacity in
+    let used : c.loop-i.i < c.args.slot.now.config.nodes = (let t = c.loop-i-test.true in let n = c.nodes-nodes.ensures.nodes in omega arith) in (
       lit< tt,
       (
         elim cap [ inl e ↦ rw e (lit< tt) | inr e ↦ rw e (lit< tt) ],
@@ -22,7 +23,7 @@ vote_at-voted-requires g c =
           elim cap [ inl e ↦ rw e (lit< tt) | inr e ↦ rw e (lit< tt) ],
           (
             elim cap [ inl e ↦ rw e (lit< tt) | inr e ↦ rw e (lit< tt) ],
-            (lit< tt, (cap, (c.requires.slot, (c.loop-i-test.true, (c.requires.agreed c.loop-i.i c.in-Some.state.now (sym c.in-Some.ensures), c.own_told-own.ensures))))),
+            (lit< tt, (used, (c.requires.agreed c.loop-i.i c.in-Some.state.now (sym c.in-Some.ensures), c.own_told-own.ensures))),
           ),
         ),
       ),
@@ -49,8 +50,8 @@ loop-i-preserved g c =
     let was = c.loop-i.invariant.votes in
     let led = c.loop-i.invariant.leaders in
     let taken = c.loop-i.invariant.voters in
-    let used = c.loop-i-test.true in
-    let low : i < g.row.N = (let t = c.loop-i-test.true in let f = c.requires.slot.config.few_nodes in omega arith) in
+    let used : i < d.config.nodes = (let t = c.loop-i-test.true in let n = c.nodes-nodes.ensures.nodes in omega arith) in
+    let low : i < g.row.N = (let f = c.nodes-nodes.ensures.slot.config.few_nodes in omega arith) in
     elim c.match-get.branch [
       | in-Some+then-leader-i+then-hears_alike w ↦
           let a : AgreedView = w.in-Some.state.now in

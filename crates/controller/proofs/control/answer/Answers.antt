@@ -11,8 +11,8 @@ use Rattle.controller.specs.Outcome.{capacity, first_event, IsAcceptedText, IsNo
 use Rattle.controller.specs.Session.{Concludes, Runs}
 use Rattle.controller.specs.First.{at_first, RunsNode, AnswersFirst}
 use Rattle.controller.specs.declared.control.FirstLine.{FirstLine}
-use Rattle.controller.specs.declared.status.Status.{Status}
-use Rattle.controller.specs.declared.status.Status.TheVariants.{Done, Usage, Unreadable, Refused, ReadFault, WriteFault, NoMemory, TooLong}
+use Rattle.program_words.specs.declared.status.Status.{Status}
+use Rattle.program_words.specs.declared.status.Status.TheVariants.{Done, Usage, Unreadable, Refused, ReadFault, WriteFault, NoMemory, TooLong}
 use Rattle.controller.proofs.control.answer.Goals as goal
 
 -- the scenario has no node of this number

@@ -1,15 +1,12 @@
-use Rattle.std.proofs.Common.{◌≡◌, ◌≤◌, ℕ, Bool, true, false, List, [], ◌++◌, length, arith, sym, ap, ◌∙◌, subst, Ok, Err}
+use Rattle.std.proofs.Common.{◌≡◌, Bool, true, false, [], ◌++◌, arith, sym, ap, ◌∙◌, subst, Ok, Err}
 use Rattle.std.specs.Prelude.{not}
 use Rattle.input_lines.specs.Lines.{IsUnbroken}
 use Rattle.input_lines.specs.Reading.{LinesView, SourceView, IsLong, ReadsLine}
-use Rattle.input_lines.specs.Devices.{source_seen}
 use Rattle.input_lines.specs.declared.lines.LineError.{LineError}
 use Rattle.input_lines.specs.declared.lines.LineError.TheVariants.{Failed, TooLong, NoMemory}
 use Rattle.controller.specs.Input.{scenario_limit}
 use Rattle.controller.specs.Session.{line_status}
 use Rattle.controller.specs.First.{StopsFirst, ReadsFirst}
-use Rattle.controller.specs.declared.status.Status.{Status}
-use Rattle.controller.proofs.control.read_first.Goals as goal
 
 module _ (old new : LinesView) (a b : SourceView) (nothing : old.rest ≡ []) (limited : old.limit ≡ scenario_limit) where
   -- the first line was taken

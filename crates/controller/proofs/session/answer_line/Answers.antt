@@ -1,5 +1,5 @@
 use Rattle.live_node.specs.Live.{line_step}
-use Rattle.controller.specs.declared.status.Status.TheVariants.{Refused}
+use Rattle.program_words.specs.declared.status.Status.TheVariants.{Refused}
 use Rattle.controller.proofs.Courses.{step_longest}
 use Rattle.controller.proofs.Steps.{goes_ok, stops_unknown, stops_not_now, stops_fault}
 use Rattle.controller.proofs.session.answer_line.Goals as goal

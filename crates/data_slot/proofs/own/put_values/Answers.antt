@@ -23,7 +23,7 @@ loop-k-preserved c =
     let wide : length xs ≡ length due = length-map due (own_in c.args.own.now) in
     value_more xs k (own_in c.args.own.now (get_or due k 0)) c.args.out.now c.loop-k.out c.put_value.new.out (let t = c.loop-k-test.true in omega arith)
     (sym (get_or-map (own_in c.args.own.now) due k 0 (pos 0) c.loop-k-test.true))
-    (let r = c.requires.room in let t = c.loop-k-test.true in omega arith)
+    (let r = c.requires in let t = c.loop-k-test.true in omega arith)
     c.loop-k.invariant
     (c.put_value.ensures ∙ ap (λ (v : ℤ). pasted (8 * k) (value_spelling v) c.loop-k.out) (to_z-of_z w64 c.own_in.result f ∙ c.own_in.ensures))
 

@@ -4,6 +4,8 @@ use mir.Val.{SFits}
 use Rattle.std.proofs.lemmas.Int.{to_z-of_z}
 use Rattle.std.proofs.lemmas.List.{take_all}
 use Rattle.node_grid.specs.NodeSet.{has_id}
+use Rattle.node_grid.specs.NodeSetLaws.{All-ids}
+use Rattle.omh_paths.specs.MemberLaws.{Distinct-ids}
 use Rattle.frames.specs.Reading.{content_values}
 use Rattle.protocol.specs.View.{value_of}
 use Rattle.data_slot.proofs.ByChannel.{has_more, value_of_at}
@@ -18,8 +20,11 @@ loop-k-preserved c =
     let xs : List ℤ = content_values c.args.values.now.bytes.now in
     let k : ℕ = c.loop-k.k in
     let f : SFits w64 c.value_or_zero.result = search rules in
-    has_more due (value_of due xs) c.loop-k.told k _ c.loop-k-test.true c.requires.low
-    (to_z-of_z w64 c.value_or_zero.result f ∙ c.value_or_zero.ensures ∙ value_of_at due xs k 0 c.requires.distinct c.loop-k-test.true) c.loop-k.invariant
+    has_more due (value_of due xs) c.loop-k.told k _ c.loop-k-test.true (All-ids 8 due c.requires)
+    (to_z-of_z w64 c.value_or_zero.result f ∙ c.value_or_zero.ensures ∙ value_of_at due xs k 0 (Distinct-ids 8 due c.requires) c.loop-k-test.true) c.loop-k.invariant
+
+pub bounds-told-due : goal.bounds-told-due
+bounds-told-due c = All-ids 8 c.args.due.now c.requires c.loop-k.k 0 c.loop-k-test.true
 
 pub returns : goal.returns
 returns c x on = c.loop-k.invariant.each x (ap (λ (ds : List ℕ). has_id ds x) (take_all c.loop-k.k c.args.due.now c.loop-k-test.false) ∙ on)

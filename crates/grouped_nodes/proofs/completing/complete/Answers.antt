@@ -18,13 +18,13 @@ use Rattle.grouped_nodes.proofs.completing.complete.Goals.{then-is_first+in-Some
 use Rattle.grouped_nodes.proofs.completing.complete.Goals as goal
 
 pub get-requires : goal.get-requires
-get-requires g c = let cap : IsCapacity g.row.N = c.requires.capacity in (elim cap [ inl e ↦ rw e (lit< tt) | inr e ↦ rw e (lit< tt) ], (elim cap [ inl e ↦ rw e (lit< tt) | inr e ↦ rw e (lit< tt) ], cap))
+get-requires g c = let cap : IsCapacity g.row.N = c.requires.capacity in (elim cap [ inl e ↦ rw e (lit< tt) | inr e ↦ rw e (lit< tt) ], elim cap [ inl e ↦ rw e (lit< tt) | inr e ↦ rw e (lit< tt) ])
 
 pub follow-judged-requires : goal.follow-judged-requires
 follow-judged-requires g c =
     let cap : IsCapacity g.row.N = c.requires.capacity in
     let here : state_at c.args.states.now c.loop-first.first ≡ Some c.in-Some.state.now = sym c.in-Some.ensures in
-    (elim cap [ inl e ↦ rw e (lit< tt) | inr e ↦ rw e (lit< tt) ], (elim cap [ inl e ↦ rw e (lit< tt) | inr e ↦ rw e (lit< tt) ], (elim cap [ inl e ↦ rw e (lit< tt) | inr e ↦ rw e (lit< tt) ], (elim cap [ inl e ↦ rw e (lit< tt) | inr e ↦ rw e (lit< tt) ], (cap, (c.requires.config, c.requires.agreed c.loop-first.first c.in-Some.state.now here))))))
+    (elim cap [ inl e ↦ rw e (lit< tt) | inr e ↦ rw e (lit< tt) ], (elim cap [ inl e ↦ rw e (lit< tt) | inr e ↦ rw e (lit< tt) ], (elim cap [ inl e ↦ rw e (lit< tt) | inr e ↦ rw e (lit< tt) ], (elim cap [ inl e ↦ rw e (lit< tt) | inr e ↦ rw e (lit< tt) ], (cap, (c.requires.config, c.requires.grouped.agreed c.loop-first.first c.in-Some.state.now here))))))
 
 pub note_all-requires : goal.note_all-requires
 note_all-requires g c =
@@ -50,12 +50,12 @@ note_all-requires g c =
               (
                 λ i low on.
                     let e = own i low on in
-                    subst (λ (k : ℕ). k ≤ 16) (sym (judged_kinds c.args.config.now states groups c.of.ensures.all c.args.beliefs.now c.requires.many_beliefs c.args.notes.now f ns d m i low))
-                    (c.requires.kinds i c.in-Some.state.now low (sym (c.requires.shared i low) ∙ ap (state_at states) e ∙ here)),
+                    subst (λ (k : ℕ). k ≤ 16) (sym (judged_kinds c.args.config.now states groups c.of.ensures.all c.args.beliefs.now c.requires.grouped.many c.args.notes.now f ns d m i low))
+                    (c.requires.notes.kinds i c.in-Some.state.now low (sym (c.requires.grouped.shared i low) ∙ ap (state_at states) e ∙ here)),
                 λ i low on.
                     let e = own i low on in
                     let late : f ≤ first_of groups i = omega (arith, e) in
-                    subst (IsWithin g.row.N) (sym (m.later i low late)) (c.requires.within i c.in-Some.state.now low (sym (c.requires.shared i low) ∙ ap (state_at states) e ∙ here)),
+                    subst (IsWithin g.row.N) (sym (m.later i low late)) (c.requires.notes.within i c.in-Some.state.now low (sym (c.requires.grouped.shared i low) ∙ ap (state_at states) e ∙ here)),
               ),
             ),
           ),
@@ -74,7 +74,7 @@ loop-first-preserved g c =
     let bs : List (Belief g.row.N) = c.loop-first.beliefs in
     let ns : List Notes = c.loop-first.notes in
     let firsts = c.of.ensures.all in
-    let many = c.requires.many_beliefs in
+    let many = c.requires.grouped.many in
     let done = c.loop-first.invariant.0 in
     let judged = c.loop-first.invariant.1 in
     let low : f < g.row.N = c.loop-first-test.true in
@@ -108,18 +108,18 @@ loop-first-preserved g c =
 
 pub returns-clause-due : goal.returns-clause-due
 returns-clause-due g c i a d low is =
-    all_due c.args.config.now c.args.states.now c.args.groups.now c.of.ensures.all c.args.beliefs.now c.requires.many_beliefs c.args.notes.now c.requires.shared c.loop-first.first c.loop-first.beliefs
+    all_due c.args.config.now c.args.states.now c.args.groups.now c.of.ensures.all c.args.beliefs.now c.requires.grouped.many c.args.notes.now c.requires.grouped.shared c.loop-first.first c.loop-first.beliefs
     (let t = c.loop-first-test.false in omega arith) c.loop-first.invariant.0 i a d low is
 
 pub returns-clause-noted : goal.returns-clause-noted
 returns-clause-noted g c i a d low is =
-    all_noted c.args.config.now c.args.states.now c.args.groups.now c.of.ensures.all c.args.beliefs.now c.requires.many_beliefs c.args.notes.now c.requires.shared c.loop-first.first c.loop-first.notes
+    all_noted c.args.config.now c.args.states.now c.args.groups.now c.of.ensures.all c.args.beliefs.now c.requires.grouped.many c.args.notes.now c.requires.grouped.shared c.loop-first.first c.loop-first.notes
     (let t = c.loop-first-test.false in omega arith) c.loop-first.invariant.1 i a d low is
 
 pub returns-clause-cold : goal.returns-clause-cold
 returns-clause-cold g c i low is =
     let d : Belief g.row.N = record { done = []; due = record { items = [] }; votes = []; rows = [] } in
-    none_noted c.args.config.now c.args.states.now c.args.groups.now c.of.ensures.all c.args.beliefs.now c.requires.many_beliefs c.args.notes.now c.requires.shared c.loop-first.first c.loop-first.notes d
+    none_noted c.args.config.now c.args.states.now c.args.groups.now c.of.ensures.all c.args.beliefs.now c.requires.grouped.many c.args.notes.now c.requires.grouped.shared c.loop-first.first c.loop-first.notes d
     (let t = c.loop-first-test.false in omega arith) c.loop-first.invariant.1 i low is
 
 pub returns-clause-nothing : goal.returns-clause-nothing

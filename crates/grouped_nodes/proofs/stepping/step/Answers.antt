@@ -10,7 +10,7 @@ use Rattle.grouped_nodes.proofs.stepping.step.Goals.{then-is_first+in-Some, then
 use Rattle.grouped_nodes.proofs.stepping.step.Goals as goal
 
 pub get-requires : goal.get-requires
-get-requires g c = let cap : IsCapacity g.row.N = c.requires.capacity in (elim cap [ inl e ↦ rw e (lit< tt) | inr e ↦ rw e (lit< tt) ], (elim cap [ inl e ↦ rw e (lit< tt) | inr e ↦ rw e (lit< tt) ], cap))
+get-requires g c = let cap : IsCapacity g.row.N = c.requires.capacity in (elim cap [ inl e ↦ rw e (lit< tt) | inr e ↦ rw e (lit< tt) ], elim cap [ inl e ↦ rw e (lit< tt) | inr e ↦ rw e (lit< tt) ])
 
 pub step_by-requires : goal.step_by-requires
 step_by-requires g c =
@@ -19,13 +19,13 @@ step_by-requires g c =
     (elim cap [ inl e ↦ rw e (lit< tt) | inr e ↦ rw e (lit< tt) ], (elim cap [ inl e ↦ rw e (lit< tt) | inr e ↦ rw e (lit< tt) ], (elim cap [ inl e ↦ rw e (lit< tt) | inr e ↦ rw e (lit< tt) ], (cap, (c.requires.config, c.loop-first.invariant.agreed c.loop-first.first c.in-Some.state.now here)))))
 
 pub replace-requires : goal.replace-requires
-replace-requires g c = let cap : IsCapacity g.row.N = c.requires.capacity in (elim cap [ inl e ↦ rw e (lit< tt) | inr e ↦ rw e (lit< tt) ], (lit< tt, (elim cap [ inl e ↦ rw e (lit< tt) | inr e ↦ rw e (lit< tt) ], cap)))
+replace-requires g c = let cap : IsCapacity g.row.N = c.requires.capacity in (elim cap [ inl e ↦ rw e (lit< tt) | inr e ↦ rw e (lit< tt) ], (lit< tt, elim cap [ inl e ↦ rw e (lit< tt) | inr e ↦ rw e (lit< tt) ]))
 
 pub join-requires : goal.join-requires
-join-requires g c = let cap : IsCapacity g.row.N = c.requires.capacity in (elim cap [ inl e ↦ rw e (lit< tt) | inr e ↦ rw e (lit< tt) ], cap)
+join-requires g c = let cap : IsCapacity g.row.N = c.requires.capacity in elim cap [ inl e ↦ rw e (lit< tt) | inr e ↦ rw e (lit< tt) ]
 
 pub loop-first-init : goal.loop-first-init
-loop-first-init g c = stepped_none c.args.config.now c.args.period c.args.groups.now c.of.ensures.all c.args.beliefs.now c.requires.many c.args.states.now c.requires.shared c.requires.agreed
+loop-first-init g c = stepped_none c.args.config.now c.args.period c.args.groups.now c.of.ensures.all c.args.beliefs.now c.requires.grouped.many c.args.states.now c.requires.grouped.shared c.requires.grouped.agreed
 
 pub loop-first-preserved : goal.loop-first-preserved
 loop-first-preserved g c =
@@ -37,8 +37,8 @@ loop-first-preserved g c =
     let f : ℕ = c.loop-first.first in
     let now : List (Option AgreedView) = c.loop-first.states in
     let firsts = c.of.ensures.all in
-    let many = c.requires.many in
-    let shared = c.requires.shared in
+    let many = c.requires.grouped.many in
+    let shared = c.requires.grouped.shared in
     let m = c.loop-first.invariant in
     let low : f < g.row.N = c.loop-first-test.true in
     elim c.if-is_first.branch [
@@ -64,14 +64,14 @@ loop-first-preserved g c =
 pub returns-clause-stepped : goal.returns-clause-stepped
 returns-clause-stepped g c i a d low is =
     ap (λ (xs : List (Option AgreedView)). state_at xs i) c.join.ensures
-    ∙ all_stepped c.args.config.now c.args.period c.args.groups.now c.of.ensures.all c.args.beliefs.now c.requires.many c.args.states.now c.requires.shared c.loop-first.first c.loop-first.states
+    ∙ all_stepped c.args.config.now c.args.period c.args.groups.now c.of.ensures.all c.args.beliefs.now c.requires.grouped.many c.args.states.now c.requires.grouped.shared c.loop-first.first c.loop-first.states
     (let t = c.loop-first-test.false in omega arith) c.loop-first.invariant i a d low is
 
 pub returns-clause-cold : goal.returns-clause-cold
 returns-clause-cold g c i low is =
     let d : Belief g.row.N = record { done = []; due = record { items = [] }; votes = []; rows = [] } in
     ap (λ (xs : List (Option AgreedView)). state_at xs i) c.join.ensures
-    ∙ none_stepped c.args.config.now c.args.period c.args.groups.now c.of.ensures.all c.args.beliefs.now c.requires.many c.args.states.now c.requires.shared c.loop-first.first c.loop-first.states d
+    ∙ none_stepped c.args.config.now c.args.period c.args.groups.now c.of.ensures.all c.args.beliefs.now c.requires.grouped.many c.args.states.now c.requires.grouped.shared c.loop-first.first c.loop-first.states d
     (let t = c.loop-first-test.false in omega arith) c.loop-first.invariant i low is
 
 pub returns-clause-agreed : goal.returns-clause-agreed

@@ -5,28 +5,22 @@ use Rattle.judge.proofs.bench.judge_next.Goals as goal
 
 pub period-shown-requires : goal.period-shown-requires
 period-shown-requires g c =
-    (elim c.requires.capacity [ inl e ↦ rw e (lit< tt) | inr e ↦ rw e (lit< tt) ], (elim c.requires.capacity [ inl e ↦ rw e (lit< tt) | inr e ↦ rw e (lit< tt) ], (c.requires.capacity, c.requires.more)))
+    (elim c.args.judge.now.capacity [ inl e ↦ rw e (lit< tt) | inr e ↦ rw e (lit< tt) ], (elim c.args.judge.now.capacity [ inl e ↦ rw e (lit< tt) | inr e ↦ rw e (lit< tt) ], (c.args.judge.now.capacity, c.requires.more)))
 
 pub add-requires : goal.add-requires
 add-requires g c = (
   lit< tt,
   (
-    elim c.requires.capacity [ inl e ↦ rw e (lit< tt) | inr e ↦ rw e (lit< tt) ],
+    elim c.args.judge.now.capacity [ inl e ↦ rw e (lit< tt) | inr e ↦ rw e (lit< tt) ],
     (
-      elim c.requires.capacity [ inl e ↦ rw e (lit< tt) | inr e ↦ rw e (lit< tt) ],
+      elim c.args.judge.now.capacity [ inl e ↦ rw e (lit< tt) | inr e ↦ rw e (lit< tt) ],
       (
-        c.requires.capacity,
+        is_more c.args.scenario.now c.args.run.now.scenario c.args.judge.now.periods c.args.run.now.run c.requires.same c.requires.together c.requires.more,
         (
-          is_more c.args.scenario.now c.args.run.now.scenario c.args.judge.now.periods c.args.run.now.run c.requires.same c.requires.together c.requires.more,
+          c.requires.judges,
           (
-            c.requires.judges,
-            (
-              c.requires.room,
-              (
-                follows c.args.scenario.now c.args.run.now.scenario c.args.judge.now.periods c.args.run.now.run c.requires.same c.requires.together (λ s k. ShowsPeriod s k c.period-shown.result.now) c.period-shown.ensures.shown,
-                follows c.args.scenario.now c.args.run.now.scenario c.args.judge.now.periods c.args.run.now.run c.requires.same c.requires.together (λ s k. FitsScenario s c.period-shown.result.now) c.period-shown.ensures.fits,
-              ),
-            ),
+            follows c.args.scenario.now c.args.run.now.scenario c.args.judge.now.periods c.args.run.now.run c.requires.same c.requires.together (λ s k. ShowsPeriod s k c.period-shown.result.now) c.period-shown.ensures.shown,
+            follows c.args.scenario.now c.args.run.now.scenario c.args.judge.now.periods c.args.run.now.run c.requires.same c.requires.together (λ s k. FitsScenario s c.period-shown.result.now) c.period-shown.ensures.fits,
           ),
         ),
       ),

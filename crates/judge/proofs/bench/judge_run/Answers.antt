@@ -10,8 +10,8 @@ judge_next-requires g c =
     let more : c.periods.run.run < c.periods.run.scenario.periods = omega (arith, i.run, periods, c.periods-test.true, c.periods-period-end.ensures.periods) in (
       lit< tt,
       (
-        elim c.requires.capacity [ inl e ↦ rw e (lit< tt) | inr e ↦ rw e (lit< tt) ],
-        (elim c.requires.capacity [ inl e ↦ rw e (lit< tt) | inr e ↦ rw e (lit< tt) ], (c.requires.capacity, (i.same, (i.periods ∙ sym i.run, (more, (i.judges, i.room)))))),
+        elim c.args.judge.now.capacity [ inl e ↦ rw e (lit< tt) | inr e ↦ rw e (lit< tt) ],
+        (elim c.args.judge.now.capacity [ inl e ↦ rw e (lit< tt) | inr e ↦ rw e (lit< tt) ], (i.same, (i.periods ∙ sym i.run, (more, i.judges)))),
       ),
     )
 
@@ -24,5 +24,4 @@ periods-preserved g c =
       run = ap (λ (r : RunView g.row.N). r.run) e.ran ∙ ap (λ k. k + 1) i.run;
       judges = e.judges;
       periods = e.periods ∙ ap (λ k. k + 1) i.periods;
-      room = e.room;
     }

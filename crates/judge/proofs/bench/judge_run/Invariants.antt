@@ -1,5 +1,5 @@
 use Rattle.std.proofs.Common.{◌≡◌}
-use Rattle.run_judged.specs.Judging.{Judges, HasRoom}
+use Rattle.run_judged.specs.Judging.{Judges}
 use Rattle.judge.proofs.bench.judge_run.Given as goal
 
 abbrev pub invariant-periods : goal.invariant-periods
@@ -8,5 +8,4 @@ invariant-periods g l = record {
   run : l.run.run ≡ l._period;
   judges : Judges l.scenario l.judge;
   periods : l.judge.periods ≡ l._period;
-  room : HasRoom l.judge;
 }

@@ -7,8 +7,8 @@ use Rattle.judge.specs.declared.bench.RowError.{RowError}
 use Rattle.judge.proofs.Writing.{written_such, judged_is}
 use Rattle.judge.proofs.bench.judge_scenario.Goals as goal
 
-pub returns-clause-rows : goal.returns-clause-rows
-returns-clause-rows g c =
+pub returns : goal.returns
+returns g c =
     let text : List ℕ = judged_rows c.args.number c.row-row.result c.illnesses.result.now c.skews.result.now in
     subst (λ (r : Result (Unit {0}) RowError). WritesRows (sink_seen g.K.Sink.written g.K.Sink.faults c.args.sink.now) (sink_seen g.K.Sink.written g.K.Sink.faults c.write_judged.new.sink) (λ t. t ≡ scenario_rows c.args.number c.args.scenario.now) r)
     (sym c.written.ensures)

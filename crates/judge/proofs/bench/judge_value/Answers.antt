@@ -9,13 +9,13 @@ use Rattle.judge.specs.declared.bench.RowError.{RowError}
 use Rattle.judge.proofs.Writing.{refused_such, rows_as, accepted_rows}
 use Rattle.judge.proofs.bench.judge_value.Goals as goal
 
-pub returns-in-Ok-clause-rows : goal.returns-in-Ok-clause-rows
-returns-in-Ok-clause-rows g c =
+pub returns-in-Ok : goal.returns-in-Ok
+returns-in-Ok g c =
     rows_as (sink_seen g.K.Sink.written g.K.Sink.faults c.args.sink.now) (sink_seen g.K.Sink.written g.K.Sink.faults c.judge_scenario.new.sink) _ _ c.judge_scenario.result
-    (accepted_rows c.args.number (view c.args.value.now) c.in-Ok.scenario c.in-Ok.ensures.accepted) c.judge_scenario.ensures.rows
+    (accepted_rows c.args.number (view c.args.value.now) c.in-Ok.scenario c.in-Ok.ensures.accepted) c.judge_scenario.ensures
 
-pub returns-in-Err-Refused-clause-rows : goal.returns-in-Err-Refused-clause-rows
-returns-in-Err-Refused-clause-rows g c =
+pub returns-in-Err-Refused : goal.returns-in-Err-Refused
+returns-in-Err-Refused g c =
     subst (λ (r : Result (Unit {0}) RowError). WritesRows (sink_seen g.K.Sink.written g.K.Sink.faults c.args.sink.now) (sink_seen g.K.Sink.written g.K.Sink.faults c.write_refused.new.sink) (HasRows g.row.N c.args.number (view c.args.value.now)) r)
     (sym c.written.ensures)
     (refused_such g.K.Sink.written g.K.Sink.faults c.args.sink.now c.write_refused.new.sink g.row.N c.args.number (view c.args.value.now) c.in-Err-Refused.rule c.in-Err-Refused.place c.write_refused.result

@@ -1,7 +1,6 @@
 use Rattle.std.proofs.Common.{ℕ, ◌≡◌, ◌+◌}
 use Rattle.input_lines.specs.Devices.{sink_seen, WritesAll}
 use Rattle.judge.specs.Rows.{all_drawn_rows}
-use Rattle.judge.specs.Writing.{HasRooms}
 use Rattle.judge.proofs.judging.draw_rows.Given as goal
 
 abbrev pub invariant-draws : goal.invariant-draws
@@ -9,5 +8,4 @@ invariant-draws g l = record {
   drawn : ℕ;
   place : l.index ≡ l.fn.draws.first + drawn;
   wrote : WritesAll (sink_seen g.K.Sink.written g.K.Sink.faults l.fn.sink) (sink_seen g.K.Sink.written g.K.Sink.faults l.sink) (all_drawn_rows l.fn.options.choices l.fn.draws.seed l.fn.draws.first drawn);
-  rooms : HasRooms l.bench;
 }

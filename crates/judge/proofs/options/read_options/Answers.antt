@@ -2,7 +2,7 @@ use Rattle.std.proofs.Common.{sym, ap, subst}
 use Rattle.input_lines.specs.Reading.{LinesView}
 use Rattle.input_lines.specs.Devices.{sink_seen, source_seen, devices_seen}
 use Rattle.judge.specs.Options.{StopsAtOptions}
-use Rattle.judge.specs.declared.status.Status.{Status}
+use Rattle.program_words.specs.declared.status.Status.{Status}
 use Rattle.judge.proofs.FirstLine.{IsFirst, is_first, no_first, tells}
 use Rattle.judge.proofs.options.read_options.Goals as goal
 

@@ -1,4 +1,4 @@
-use Rattle.std.proofs.Common.{rules, ◌&&◌, ◌||◌, ◌==◌, Bool, ℕ, List, Option, Some, None, if◌then◌else◌, sym, ap, ap₂, ◌∙◌, arith}
+use Rattle.std.proofs.Common.{rules, ◌&&◌, ◌||◌, ◌==◌, Bool, ℕ, List, Option, Some, None, if◌then◌else◌, ap, ap₂, ◌∙◌, arith}
 use Rattle.node_grid.specs.Kinds.{state}
 use Rattle.error_detect.specs.declared.finding.Finding.{Finding}
 use Rattle.error_detect.specs.Watching.{told_at}

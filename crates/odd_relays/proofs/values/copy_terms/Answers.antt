@@ -1,6 +1,5 @@
 use Rattle.std.proofs.Common.{ℕ, ◌+◌, ◌*◌, ◌<◌, length, slice_index_or, ap, ◌∙◌, arith, List, sym, subst}
 use Rattle.std.proofs.lemmas.List.{length-set}
-use Rattle.node_grid.specs.CapacityLaws.{capacity-le}
 use Rattle.omh_paths.specs.declared.wrapped.Wrapped.TheVariants.{Fault}
 use Rattle.odd_relays.specs.Work.{KeepsOthers}
 use Rattle.odd_relays.proofs.Laying.{low_of, split_more, through, split_all, gone_through}
@@ -11,14 +10,13 @@ pub value_from-value-requires : goal.value_from-value-requires
 value_from-value-requires g c =
     let i = c.loop-i.invariant in
     let l = low_of g.row.N c.args.nodes.now c.loop-i.yielded c.next.new.self c.loop-i.i-iterator c.in-Some.i c.iter-i-items.ensures.ids i.split c.in-Some.ensures.steps in
-    let n = capacity-le g.row.N c.requires.capacity in
-    record { room = omega (arith, l, n, i.long, c.requires.room); small = omega (arith, i.long, c.requires.small) }
+    omega (arith, l, i.long, c.requires.room)
 
 pub set_value-requires : goal.set_value-requires
 set_value-requires g c =
     let i = c.loop-i.invariant in
     let l = low_of g.row.N c.args.nodes.now c.loop-i.yielded c.next.new.self c.loop-i.i-iterator c.in-Some.i c.iter-i-items.ensures.ids i.split c.in-Some.ensures.steps in
-    omega (arith, l, capacity-le g.row.N c.requires.capacity, i.long, c.requires.room, c.requires.behind)
+    omega (arith, l, i.long, c.requires.room, c.requires.behind)
 
 pub loop-i-preserved : goal.loop-i-preserved
 loop-i-preserved g c =
@@ -27,15 +25,14 @@ loop-i-preserved g c =
     let place = λ (k : ℕ). c.args.at + 16 * k in
     let apart = terms_apart c.args.at in
     let l = low_of g.row.N c.args.nodes.now c.loop-i.yielded c.next.new.self c.loop-i.i-iterator c.in-Some.i c.iter-i-items.ensures.ids i.split c.in-Some.ensures.steps in
-    let n = capacity-le g.row.N c.requires.capacity in
-    let fits : c.args.at + 16 * q < length c.loop-i.work = omega (arith, l, n, i.long, c.requires.room, c.requires.behind) in
+    let fits : c.args.at + 16 * q < length c.loop-i.work = omega (arith, l, i.long, c.requires.room, c.requires.behind) in
     record {
       can = tt;
       ends = tt;
       split = split_more c.args.nodes.now c.loop-i.yielded c.next.new.self c.loop-i.i-iterator c.in-Some.i i.split c.in-Some.ensures.steps;
       long = ap length c.set_value.ensures ∙ length-set c.loop-i.work (c.args.at + 16 * q) c.value_from-value.result ∙ i.long;
       laid = laid_at (Fault 0) place apart (λ k. slice_index_or c.args.work.now (c.args.from + k) (Fault 0)) c.loop-i.yielded q c.loop-i.work c.set_value.new.values c.value_from-value.result i.laid fits c.set_value.ensures
-          (c.value_from-value.ensures ∙ i.kept (c.args.from + q) (λ k on e. let low : k < g.row.N = through g.row.N c.args.nodes.now c.loop-i.yielded c.loop-i.i-iterator k c.iter-i-items.ensures.ids i.split on in omega (arith, e, low, n, c.requires.behind)));
+          (c.value_from-value.ensures ∙ i.kept (c.args.from + q) (λ k on e. let low : k < g.row.N = through g.row.N c.args.nodes.now c.loop-i.yielded c.loop-i.i-iterator k c.iter-i-items.ensures.ids i.split on in omega (arith, e, low, c.requires.behind)));
       kept = kept_at (Fault 0) place apart c.loop-i.yielded q c.args.work.now c.loop-i.work c.set_value.new.values c.value_from-value.result i.kept c.set_value.ensures;
     }
 

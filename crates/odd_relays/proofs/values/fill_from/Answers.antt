@@ -1,6 +1,5 @@
 use Rattle.std.proofs.Common.{ℕ, ◌+◌, ◌<◌, length, refl, ap, ◌∙◌, arith}
 use Rattle.std.proofs.lemmas.List.{length-set}
-use Rattle.node_grid.specs.CapacityLaws.{capacity-le}
 use Rattle.omh_paths.specs.declared.wrapped.Wrapped.TheVariants.{Fault}
 use Rattle.odd_relays.proofs.Laying.{low_of, split_more, gone_through}
 use Rattle.odd_relays.proofs.Places.{laid_at, values_apart, kept_below}
@@ -10,7 +9,7 @@ pub set_value-requires : goal.set_value-requires
 set_value-requires g c =
     let i = c.loop-i.invariant in
     let l = low_of g.row.N c.args.nodes.now c.loop-i.yielded c.next.new.self c.loop-i.i-iterator c.in-Some.i c.iter-i-items.ensures.ids i.split c.in-Some.ensures.steps in
-    omega (arith, l, capacity-le g.row.N c.requires.capacity, i.long, c.requires.room)
+    omega (arith, l, i.long, c.requires)
 
 pub loop-i-preserved : goal.loop-i-preserved
 loop-i-preserved g c =
@@ -19,7 +18,7 @@ loop-i-preserved g c =
     let from : ℕ = c.args.from in
     let place = λ (k : ℕ). from + k in
     let l = low_of g.row.N c.args.nodes.now c.loop-i.yielded c.next.new.self c.loop-i.i-iterator c.in-Some.i c.iter-i-items.ensures.ids i.split c.in-Some.ensures.steps in
-    let fits : from + q < length c.loop-i.work = omega (arith, l, capacity-le g.row.N c.requires.capacity, i.long, c.requires.room) in
+    let fits : from + q < length c.loop-i.work = omega (arith, l, i.long, c.requires) in
     record {
       can = tt;
       ends = tt;

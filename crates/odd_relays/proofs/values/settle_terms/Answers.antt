@@ -1,6 +1,5 @@
 use Rattle.std.proofs.Common.{ℕ, ◌≡◌, ◌+◌, ◌-◌, ◌*◌, ◌<◌, length, take, drop, ap, ◌∙◌, arith}
 use Rattle.std.proofs.lemmas.List.{length-set, drop-set-lt}
-use Rattle.node_grid.specs.CapacityLaws.{capacity-le}
 use Rattle.omh_paths.specs.declared.wrapped.Wrapped.TheVariants.{Fault}
 use Rattle.omh_paths.specs.Wrapped.{unwrapped}
 use Rattle.omh_paths.specs.Majority.{majority}
@@ -12,14 +11,13 @@ pub settled_from_terms-settled-requires : goal.settled_from_terms-settled-requir
 settled_from_terms-settled-requires g c =
     let i = c.loop-i.invariant in
     let l = low_of g.row.N c.args.nodes.now c.loop-i.yielded c.next.new.self c.loop-i.i-iterator c.in-Some.i c.iter-i-items.ensures.ids i.split c.in-Some.ensures.steps in
-    let n = capacity-le g.row.N c.requires.capacity in
-    record { exact = c.requires.exact; ordered = omega arith; within = omega (arith, l, n, i.long, c.requires.room, c.requires.few) }
+    record { exact = c.requires.exact; ordered = omega arith; within = omega (arith, l, i.long, c.requires.room, c.requires.few) }
 
 pub set_value-requires : goal.set_value-requires
 set_value-requires g c =
     let i = c.loop-i.invariant in
     let l = low_of g.row.N c.args.nodes.now c.loop-i.yielded c.next.new.self c.loop-i.i-iterator c.in-Some.i c.iter-i-items.ensures.ids i.split c.in-Some.ensures.steps in
-    omega (arith, l, capacity-le g.row.N c.requires.capacity, i.long, c.requires.room)
+    omega (arith, l, i.long, c.requires.room)
 
 pub loop-i-preserved : goal.loop-i-preserved
 loop-i-preserved g c =
@@ -29,15 +27,14 @@ loop-i-preserved g c =
     let place = λ (k : ℕ). from + k in
     let apart = values_apart from in
     let l = low_of g.row.N c.args.nodes.now c.loop-i.yielded c.next.new.self c.loop-i.i-iterator c.in-Some.i c.iter-i-items.ensures.ids i.split c.in-Some.ensures.steps in
-    let n = capacity-le g.row.N c.requires.capacity in
-    let fits : from + q < length c.loop-i.work = omega (arith, l, n, i.long, c.requires.room) in
+    let fits : from + q < length c.loop-i.work = omega (arith, l, i.long, c.requires.room) in
     let few : from + 16 + 16 * q + c.args.count - (from + 16 + 16 * q) ≡ c.args.count = omega arith in
     record {
       can = tt;
       ends = tt;
       split = split_more c.args.nodes.now c.loop-i.yielded c.next.new.self c.loop-i.i-iterator c.in-Some.i i.split c.in-Some.ensures.steps;
       long = ap length c.set_value.ensures ∙ length-set c.loop-i.work (from + q) c.settled_from_terms-settled.result ∙ i.long;
-      rows = ap (drop (from + 16)) c.set_value.ensures ∙ drop-set-lt (from + 16) c.loop-i.work (from + q) c.settled_from_terms-settled.result (omega (arith, l, n)) ∙ i.rows;
+      rows = ap (drop (from + 16)) c.set_value.ensures ∙ drop-set-lt (from + 16) c.loop-i.work (from + q) c.settled_from_terms-settled.result (omega (arith, l, c.requires.nodes)) ∙ i.rows;
       settled = laid_at (Fault 0) place apart (λ k. unwrapped (majority g.V.PartialEq.eq (take c.args.count (drop (from + 16 + 16 * k) c.args.work.now)))) c.loop-i.yielded q c.loop-i.work c.set_value.new.values c.settled_from_terms-settled.result
           i.settled fits c.set_value.ensures
           (c.settled_from_terms-settled.ensures

@@ -48,7 +48,7 @@ lay_longer-requires g c =
     let room = room_more n c.args.m len (length c.loop-len.sets) c.loop-len-test.true (omega (arith, i.long, (c.requires.room c.len-count.ensures.ids))) in
     let fits = longer_fits g.row.N c.args.members.now len c.loop-len.sets c.len-count.ensures.ids i.free room in
     let same = ap₂ (λ (from until : ℕ). until + length (left_out_of from until c.loop-len.sets)) b.0 b.1 in
-    (lit< tt, (c.requires.capacity, (omega (arith, b.0, b.1, begins-mono n len (suc len) (omega arith)), (omega (arith, fits, same), omega (arith, i.long, c.requires.small)))))
+    (lit< tt, (c.requires.capacity, (omega (arith, b.0, b.1, begins-mono n len (suc len) (omega arith)), omega (arith, fits, same))))
 
 pub loop-len-preserved : goal.loop-len-preserved
 loop-len-preserved g c =

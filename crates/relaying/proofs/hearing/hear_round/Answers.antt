@@ -14,7 +14,7 @@ returns-then-round-eq0 g c = c.hear_items.ensures ∙ ap (λ (r : ℕ). after_ro
 
 pub round_of-frames-requires : goal.round_of-frames-requires
 round_of-frames-requires g c =
-    (assumption, (lit< tt, ((elim c.nodes-capacity.ensures.capacity [ inl e ↦ rw e (lit< tt) | inr e ↦ rw e (lit< tt) ]), (omega (arith, c.if-round-eq0.false), (kept_round c.args.round c.args.table.now.rounds c.requires.kept, c.requires.heard)))))
+    (assumption, (lit< tt, ((elim c.nodes-capacity.ensures.capacity [ inl e ↦ rw e (lit< tt) | inr e ↦ rw e (lit< tt) ]), record { some = omega (arith, c.if-round-eq0.false); within = kept_round c.args.round c.args.table.now.rounds c.requires.kept; heard = c.requires.heard })))
 
 pub hear_round-requires : goal.hear_round-requires
 hear_round-requires g c =

@@ -21,7 +21,7 @@ overflow_mul-size g c =
     let nodes : c.nodes-nodes.result ≤ 16 = omega (arith, c.nodes-nodes.ensures.few, capacity-le g.row.N c.nodes-nodes.ensures.capacity) in
     let narrow : c.entry_width-width.result ≤ 33 = subst (λ (w : ℕ). w ≤ 33) (sym c.entry_width-width.ensures) (g.met.V.RelayedItem.laws.narrow c.nodes-nodes.result nodes) in
     let few : c.saturating_sub.result ≤ 16 = omega (arith, few_ids g.row.N c.members.result c.nodes-nodes.ensures.capacity c.len.ensures.ids, c.len.ensures.count, c.saturating_sub.ensures) in
-    let small : c.entry_width-width.result * c.count_paths.result ≤ 33 * 65536 = size_few c.entry_width-width.result c.count_paths.result c.saturating_sub.result c.args.round narrow c.count_paths.ensures.product few (omega (arith, c.requires.round, c.members.ensures.rounds)) in
+    let small : c.entry_width-width.result * c.count_paths.result ≤ 33 * 65536 = size_few c.entry_width-width.result c.count_paths.result c.saturating_sub.result c.args.round narrow c.count_paths.ensures.product few (omega (arith, c.requires.relay.within, c.members.ensures.rounds)) in
     omega (arith, small)
 
 pub room-requires : goal.room-requires
@@ -36,7 +36,7 @@ loop-node-init g c = record {
 
 pub entries_at-requires : goal.entries_at-requires
 entries_at-requires g c =
-    let by = c.requires.heard.closed in
+    let by = c.requires.relay.heard.closed in
     let others : c.without-others.result ≡ without_id c.args.table.now.members c.args.table.now.me = c.without-others.ensures ∙ ap (λ ms. without_id ms c.me.result) c.members-2.ensures.members ∙ ap (without_id c.args.table.now.members) c.me.ensures.me in
     let on : has_id (without_id c.args.table.now.members c.args.table.now.me) c.loop-node.node ≡ true = sym (c.has.ensures ∙ ap (λ ms. has_id ms c.loop-node.node) others) ∙ c.if-has.true in
     let low : c.loop-node.node < c.args.watch.now.nodes = omega (arith, c.loop-node-test.true, by.nodes_are, c.nodes-nodes.ensures.nodes) in
@@ -76,7 +76,7 @@ returns-clause-walk g c =
     let others : c.without-others.result ≡ without_id h.members h.me = c.without-others.ensures ∙ ap (λ ms. without_id ms c.me.result) c.members-2.ensures.members ∙ ap (without_id h.members) c.me.ensures.me in
     let end : c.loop-node.node ≡ h.nodes = omega (arith, c.loop-node-test.false, c.loop-node.auto.node-end, c.nodes-nodes.ensures.nodes) in
     let few : h.nodes ≤ g.row.N = omega (arith, c.nodes-nodes.ensures.few, c.nodes-nodes.ensures.nodes) in
-    let short : c.args.round ≤ 3 = omega (arith, c.requires.round, c.members.ensures.rounds) in
+    let short : c.args.round ≤ 3 = omega (arith, c.requires.relay.within, c.members.ensures.rounds) in
     let below : (q : ℕ) → has_id h.members q ≡ true → q < h.nodes = λ q on. c.members.ensures.low q (ap (λ ms. has_id ms q) c.members.ensures.members ∙ on) in
     let put : ArePut w (without_id h.members h.me) h.nodes c.loop-node.frames =
     subst (λ ids. ArePut w ids h.nodes c.loop-node.frames) others (subst (λ (n : ℕ). ArePut w c.without-others.result n c.loop-node.frames) end c.loop-node.invariant.put) in
@@ -84,7 +84,7 @@ returns-clause-walk g c =
     let count : c.count_paths.result ≡ path_count (length h.members - 1) c.args.round =
     c.count_paths.ensures.product ∙ ap (λ (n : ℕ). path_count n c.args.round) (c.saturating_sub.ensures ∙ ap (λ (n : ℕ). n - 1) (c.len.ensures.count ∙ ap length c.members.ensures.members)) in
     let size = c.loop-node.invariant.size ∙ ap₂ (λ (a b : ℕ). a * b) wide count in
-    walks g.met.V.RelayedItem.laws h w c.args.round few c.requires.some_round short c.requires.heard below c.loop-node.frames put (c.loop-node.invariant.width ∙ wide) size
+    walks g.met.V.RelayedItem.laws h w c.args.round few c.requires.relay.some short c.requires.relay.heard below c.loop-node.frames put (c.loop-node.invariant.width ∙ wide) size
 
 pub returns-clause-told : goal.returns-clause-told
 returns-clause-told g c =
@@ -93,7 +93,7 @@ returns-clause-told g c =
     let others : c.without-others.result ≡ without_id h.members h.me = c.without-others.ensures ∙ ap (λ ms. without_id ms c.me.result) c.members-2.ensures.members ∙ ap (without_id h.members) c.me.ensures.me in
     let end : c.loop-node.node ≡ h.nodes = omega (arith, c.loop-node-test.false, c.loop-node.auto.node-end, c.nodes-nodes.ensures.nodes) in
     let few : h.nodes ≤ g.row.N = omega (arith, c.nodes-nodes.ensures.few, c.nodes-nodes.ensures.nodes) in
-    let short : c.args.round ≤ 3 = omega (arith, c.requires.round, c.members.ensures.rounds) in
+    let short : c.args.round ≤ 3 = omega (arith, c.requires.relay.within, c.members.ensures.rounds) in
     let below : (q : ℕ) → has_id h.members q ≡ true → q < h.nodes = λ q on. c.members.ensures.low q (ap (λ ms. has_id ms q) c.members.ensures.members ∙ on) in
     let put : ArePut w (without_id h.members h.me) h.nodes c.loop-node.frames =
     subst (λ ids. ArePut w ids h.nodes c.loop-node.frames) others (subst (λ (n : ℕ). ArePut w c.without-others.result n c.loop-node.frames) end c.loop-node.invariant.put) in
@@ -101,4 +101,4 @@ returns-clause-told g c =
     let count : c.count_paths.result ≡ path_count (length h.members - 1) c.args.round =
     c.count_paths.ensures.product ∙ ap (λ (n : ℕ). path_count n c.args.round) (c.saturating_sub.ensures ∙ ap (λ (n : ℕ). n - 1) (c.len.ensures.count ∙ ap length c.members.ensures.members)) in
     let size = c.loop-node.invariant.size ∙ ap₂ (λ (a b : ℕ). a * b) wide count in
-    says_told g.met.V.RelayedItem.laws h w c.args.round few c.requires.some_round short c.requires.heard below c.loop-node.frames put (c.loop-node.invariant.width ∙ wide) size
+    says_told g.met.V.RelayedItem.laws h w c.args.round few c.requires.relay.some short c.requires.relay.heard below c.loop-node.frames put (c.loop-node.invariant.width ∙ wide) size

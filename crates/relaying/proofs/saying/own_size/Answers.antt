@@ -22,7 +22,7 @@ overflow_mul-result g c =
     let nodes : c.nodes.result ≤ 16 = omega (arith, c.nodes.ensures.few, capacity-le g.row.N c.nodes.ensures.capacity) in
     let narrow : c.entry_width.result ≤ 33 = subst (λ (w : ℕ). w ≤ 33) (sym c.entry_width.ensures) (g.met.V.RelayedItem.laws.narrow c.nodes.result nodes) in
     let few : c.len-others.result ≤ 16 = omega (arith, few_ids g.row.N c.without.result c.nodes.ensures.capacity c.len-others.ensures.ids, c.len-others.ensures.count) in
-    let small : c.entry_width.result * c.count_paths.result ≤ 33 * 65536 = size_few c.entry_width.result c.count_paths.result c.len-others.result c.args.round narrow c.count_paths.ensures.product few (omega (arith, c.requires.round, c.members.ensures.rounds)) in
+    let small : c.entry_width.result * c.count_paths.result ≤ 33 * 65536 = size_few c.entry_width.result c.count_paths.result c.len-others.result c.args.round narrow c.count_paths.ensures.product few (omega (arith, c.requires.round.within, c.members.ensures.rounds)) in
     omega (arith, small)
 
 pub returns-clause-size : goal.returns-clause-size
@@ -30,14 +30,14 @@ returns-clause-size g c =
     let h = c.args.table.now in
     let others : c.without.result ≡ without_id h.members h.me = c.without.ensures ∙ ap (λ ms. without_id ms c.me.result) c.members.ensures.members ∙ ap (without_id h.members) c.me.ensures.me in
     let distinct : Distinct h.members = subst Distinct c.members.ensures.members (Distinct-ids g.row.N c.members.result c.members.ensures.ids) in
-    let short : c.args.round ≤ 3 = omega (arith, c.requires.round, c.members.ensures.rounds) in
+    let short : c.args.round ≤ 3 = omega (arith, c.requires.round.within, c.members.ensures.rounds) in
     ap₂ (λ (a b : ℕ). a * b) (c.entry_width.ensures ∙ ap g.V.RelayedItem.width c.nodes.ensures.nodes)
     (c.count_paths.ensures.product ∙ ap (λ (n : ℕ). path_count n c.args.round) (c.len-others.ensures.count ∙ ap length others))
-    ∙ sym (own_long g.met.V.RelayedItem.laws h c.args.round c.requires.slot.0 c.requires.slot.1 (omega (arith, c.nodes.ensures.few, c.nodes.ensures.nodes)) c.requires.some_round short distinct (sym c.if-not-is_member.ensures))
+    ∙ sym (own_long g.met.V.RelayedItem.laws h c.args.round c.requires.round.slot.0 c.requires.round.slot.1 (omega (arith, c.nodes.ensures.few, c.nodes.ensures.nodes)) c.requires.round.some short distinct (sym c.if-not-is_member.ensures))
 
 pub returns-clause-few : goal.returns-clause-few
 returns-clause-few g c =
     let nodes : c.nodes.result ≤ 16 = omega (arith, c.nodes.ensures.few, capacity-le g.row.N c.nodes.ensures.capacity) in
     let narrow : c.entry_width.result ≤ 33 = subst (λ (w : ℕ). w ≤ 33) (sym c.entry_width.ensures) (g.met.V.RelayedItem.laws.narrow c.nodes.result nodes) in
     let few : c.len-others.result ≤ 16 = omega (arith, few_ids g.row.N c.without.result c.nodes.ensures.capacity c.len-others.ensures.ids, c.len-others.ensures.count) in
-    size_few c.entry_width.result c.count_paths.result c.len-others.result c.args.round narrow c.count_paths.ensures.product few (omega (arith, c.requires.round, c.members.ensures.rounds))
+    size_few c.entry_width.result c.count_paths.result c.len-others.result c.args.round narrow c.count_paths.ensures.product few (omega (arith, c.requires.round.within, c.members.ensures.rounds))

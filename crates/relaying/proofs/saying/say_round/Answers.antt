@@ -29,7 +29,7 @@ returns-clause-written g c =
     c.write_own.ensures
 
 pub own_size-size-requires : goal.own_size-size-requires
-own_size-size-requires g c = (assumption, (c.requires.some_round, (c.requires.round, (expected c.args.expect.now, c.requires.slot))))
+own_size-size-requires g c = (assumption, record { some = c.requires.some_round; within = c.requires.round; slot = (expected c.args.expect.now, c.requires.slot) })
 
 pub overflow_add-size : goal.overflow_add-size
 overflow_add-size g c = let few : c.own_size-size.result ≤ 33 * 65536 = c.own_size-size.ensures.few in omega arith
@@ -60,7 +60,7 @@ write_own-requires g c =
     let fits : 14 + size ≤ vec_capacity c.args.out.now = omega (arith, c.requires.room, ap length (g.met.V.RelayedItem.laws.body h.nodes rel), c.own_size-size.ensures.size) in
     let made : vec_len c.resize.new.self ≡ 14 + size = c.resize.ensures.len ∙ cond-true (is_ok c.resize.result) (14 + size) (vec_len c.args.out.now) (c.resize.ensures.succeeds fits) in
     let room : length c.split_at_mut-front.result.1.now ≡ size = omega (arith, c.split_at_mut-front.ensures.back_len, c.as_mut_slice.ensures.len, made) in
-    (assumption, (c.requires.some_round, (c.requires.round, ((expected c.args.expect.now, c.requires.slot), omega (arith, room, c.own_size-size.ensures.size)))))
+    (assumption, (record { some = c.requires.some_round; within = c.requires.round; slot = (expected c.args.expect.now, c.requires.slot) }, omega (arith, room, c.own_size-size.ensures.size)))
 
 pub returns-clause-room : goal.returns-clause-room
 returns-clause-room g c = c.resize.ensures.capacity

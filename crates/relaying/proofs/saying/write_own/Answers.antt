@@ -12,16 +12,16 @@ use Rattle.relaying.proofs.Told.{round_kept}
 use Rattle.relaying.proofs.saying.write_own.Goals as goal
 
 pub heard-requires : goal.heard-requires
-heard-requires g c = (assumption, (c.requires.some_round, round_kept c.args.round c.args.table.now.rounds c.requires.round))
+heard-requires g c = (assumption, (c.requires.round.some, round_kept c.args.round c.args.table.now.rounds c.requires.round.within))
 
 pub put_terms-requires : goal.put_terms-requires
 put_terms-requires g c =
     let h = c.args.table.now in
     let distinct : Distinct h.members = subst Distinct c.members-members.ensures.members (Distinct-ids g.row.N c.members-members.result c.members-members.ensures.ids) in
-    let short : c.args.round ≤ 3 = omega (arith, c.requires.round, c.members-members.ensures.rounds) in
+    let short : c.args.round ≤ 3 = omega (arith, c.requires.round.within, c.members-members.ensures.rounds) in
     let few : h.nodes ≤ g.row.N = omega (arith, c.nodes-nodes.ensures.few, c.nodes-nodes.ensures.nodes) in
     let nodes : h.nodes ≡ c.nodes-nodes.result = sym c.nodes-nodes.ensures.nodes in
-    let can = can_put g.met.V.RelayedItem.laws h c.args.round c.requires.slot.0 c.requires.slot.1 few c.requires.some_round short distinct (sym c.is_member.ensures ∙ c.if-is_member.true) (length c.args.out.now) c.requires.room in
+    let can = can_put g.met.V.RelayedItem.laws h c.args.round c.requires.round.slot.0 c.requires.round.slot.1 few c.requires.round.some short distinct (sym c.is_member.ensures ∙ c.if-is_member.true) (length c.args.out.now) c.requires.room in
     record {
       capacity = c.nodes-nodes.ensures.capacity;
       nodes = c.nodes-nodes.ensures.few;
@@ -33,13 +33,13 @@ pub returns-then-is_member : goal.returns-then-is_member
 returns-then-is_member g c =
     let h = c.args.table.now in
     let distinct : Distinct h.members = subst Distinct c.members-members.ensures.members (Distinct-ids g.row.N c.members-members.result c.members-members.ensures.ids) in
-    let short : c.args.round ≤ 3 = omega (arith, c.requires.round, c.members-members.ensures.rounds) in
+    let short : c.args.round ≤ 3 = omega (arith, c.requires.round.within, c.members-members.ensures.rounds) in
     let few : h.nodes ≤ g.row.N = omega (arith, c.nodes-nodes.ensures.few, c.nodes-nodes.ensures.nodes) in
     c.put_terms.ensures
     ∙ ap (λ (n : ℕ). pasted 0 (flat_map (g.V.RelayedItem.spelling n) (map wrapped (map said c.heard.result.now))) c.args.out.now) c.nodes-nodes.ensures.nodes
     ∙ ap (λ ts. pasted 0 (flat_map (g.V.RelayedItem.spelling h.nodes) (map wrapped ts)) c.args.out.now) c.heard.ensures.heard
     ∙ ap (λ ts. pasted 0 (flat_map (g.V.RelayedItem.spelling h.nodes) ts) c.args.out.now)
-    (sym (own_relays g.met.V.RelayedItem.laws h c.args.round c.requires.slot.0 c.requires.slot.1 few c.requires.some_round short distinct (sym c.is_member.ensures ∙ c.if-is_member.true)))
+    (sym (own_relays g.met.V.RelayedItem.laws h c.args.round c.requires.round.slot.0 c.requires.round.slot.1 few c.requires.round.some short distinct (sym c.is_member.ensures ∙ c.if-is_member.true)))
 
 pub returns-else-is_member : goal.returns-else-is_member
 returns-else-is_member g c =

@@ -9,7 +9,7 @@ pub hear_kept-requires : goal.hear_kept-requires
 hear_kept-requires g c = (assumption, (lit< tt, c.requires.heard))
 
 pub convicted-guilty-requires : goal.convicted-guilty-requires
-convicted-guilty-requires g c = (assumption, (lit< tt, g.met.V.RelayedItem.exact))
+convicted-guilty-requires g c = (assumption, lit< tt)
 
 pub settle_items-requires : goal.settle_items-requires
 settle_items-requires g c =

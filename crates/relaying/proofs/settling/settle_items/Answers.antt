@@ -27,7 +27,7 @@ round_of-frames-requires g c =
         lit< tt,
         (
           elim c.nodes-capacity.ensures.capacity [ inl e ↦ rw e (lit< tt) | inr e ↦ rw e (lit< tt) ],
-          (omega (arith, c.if-rounds-eq0.false), (omega (arith, c.rounds-rounds.ensures.rounds), subst (λ (r : ℕ). IsRoundHeard g.row.N g.V.RelayedItem.kind r h c.args.watch.now) (sym c.rounds-rounds.ensures.rounds) c.requires.heard)),
+          record { some = omega (arith, c.if-rounds-eq0.false); within = omega (arith, c.rounds-rounds.ensures.rounds); heard = subst (λ (r : ℕ). IsRoundHeard g.row.N g.V.RelayedItem.kind r h c.args.watch.now) (sym c.rounds-rounds.ensures.rounds) c.requires.heard },
         ),
       ),
     )
@@ -38,10 +38,7 @@ settle_round-requires g c =
       assumption,
       (
         elim c.nodes-capacity.ensures.capacity [ inl e ↦ rw e (lit< tt) | inr e ↦ rw e (lit< tt) ],
-        (
-          g.met.V.RelayedItem.exact,
-          (omega (arith, c.if-rounds-eq0.false, c.rounds-rounds.ensures.rounds), (c.requires.room, subst (λ (r : ℕ). IsWalk h.members (others_in h) r 0 c.round_of-frames.result) c.rounds-rounds.ensures.rounds c.round_of-frames.ensures.walk)),
-        ),
+        (omega (arith, c.if-rounds-eq0.false, c.rounds-rounds.ensures.rounds), (c.requires.room, subst (λ (r : ℕ). IsWalk h.members (others_in h) r 0 c.round_of-frames.result) c.rounds-rounds.ensures.rounds c.round_of-frames.ensures.walk)),
       ),
     )
 

@@ -5,4 +5,4 @@ use Rattle.run_judged.proofs.apart.clocks_apart.Goals as goal
 
 pub loop-node-preserved : goal.loop-node-preserved
 loop-node-preserved g c =
-    ranged_by (offset_in (record_of c.args.shown.now)) c.loop-node.node c.loop-node.range c.offset-offset.result c.with_number-range.result c.loop-node.invariant c.offset-offset.ensures c.with_number-range.ensures
+    ranged_by (offset_in (record_of c.args.seen.now.shown.now)) c.loop-node.node c.loop-node.range c.offset-offset.result c.with_number-range.result c.loop-node.invariant c.offset-offset.ensures c.with_number-range.ensures

@@ -6,4 +6,4 @@ use Rattle.run_judged.specs.Apart.{range_with, offset_in}
 use Rattle.run_judged.proofs.apart.clocks_apart.Given as goal
 
 abbrev pub invariant-loop-node : goal.invariant-loop-node
-invariant-loop-node g l = l.range ≡ range_with None (filter_map (offset_in (record_of l.shown)) (ids_below l.node))
+invariant-loop-node g l = l.range ≡ range_with None (filter_map (offset_in (record_of l.seen.shown.now)) (ids_below l.node))

@@ -6,6 +6,6 @@ use Rattle.run_judged.proofs.apart.vote.Goals as goal
 
 pub returns : goal.returns
 returns g c =
-    let told : c.is_sound.result ≡ is_sound (class_at c.args.shown.now.head.classes c.args.node) = c.is_sound.ensures in
+    let told : c.is_sound.result ≡ is_sound (class_at c.args.seen.now.shown.now.head.classes c.args.node) = c.is_sound.ensures in
     let kept : c.is_sound.result ≡ true = grind arith in
-    vote_sound c.args.shown.now c.args.channel c.args.node c.belief.result.now.votes c.requires.in_use (sym told ∙ kept) c.belief.ensures.votes
+    vote_sound c.args.seen.now.shown.now c.args.channel c.args.node c.belief.result.now.votes c.requires.in_use (sym told ∙ kept) c.belief.ensures.votes

@@ -5,4 +5,4 @@ use Rattle.run_judged.proofs.apart.votes_apart.Goals as goal
 
 pub loop-node-preserved : goal.loop-node-preserved
 loop-node-preserved g c =
-    ranged_by (vote_in (record_of c.args.shown.now) c.args.channel) c.loop-node.node c.loop-node.range c.vote-vote.result c.with_number-range.result c.loop-node.invariant c.vote-vote.ensures c.with_number-range.ensures
+    ranged_by (vote_in (record_of c.args.seen.now.shown.now) c.args.channel) c.loop-node.node c.loop-node.range c.vote-vote.result c.with_number-range.result c.loop-node.invariant c.vote-vote.ensures c.with_number-range.ensures

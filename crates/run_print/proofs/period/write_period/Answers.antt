@@ -4,4 +4,4 @@ pub write_traced-requires : goal.write_traced-requires
 write_traced-requires g c = (assumption, (assumption, (c.requires.capacity, (c.requires.nodes, c.requires.planned c.if-trace.true))))
 
 pub write_untraced-requires : goal.write_untraced-requires
-write_untraced-requires g c = (assumption, (assumption, (c.requires.capacity, c.requires.nodes)))
+write_untraced-requires g c = (assumption, (c.requires.capacity, c.requires.nodes))

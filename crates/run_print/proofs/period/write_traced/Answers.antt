@@ -1,15 +1,15 @@
 use Rattle.std.proofs.Common.{lit<}
-use Rattle.run_print.proofs.Joining.{finished}
+use Rattle.run_print.proofs.Joining.{then, finished}
 use Rattle.run_print.proofs.period.write_traced.Goals as goal
 
 pub returns : goal.returns
-returns g c = finished c.new-printer.ensures.gathered c.new-printer.ensures.failed c.period.ensures c.finish.ensures
+returns g c = finished c.new-printer.ensures.gathered c.new-printer.ensures.failed (then c.untraced.ensures c.frames.ensures) c.finish.ensures
 
 pub new-printer-requires : goal.new-printer-requires
 new-printer-requires g c = lit< tt
 
-pub period-requires : goal.period-requires
-period-requires g c = (lit< tt, (assumption, (assumption, (c.requires.capacity, (c.requires.nodes, λ e. c.requires.planned)))))
+pub untraced-requires : goal.untraced-requires
+untraced-requires g c = (lit< tt, (assumption, (c.requires.capacity, c.requires.nodes)))
 
 pub finish-requires : goal.finish-requires
 finish-requires g c = lit< tt

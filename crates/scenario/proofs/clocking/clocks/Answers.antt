@@ -39,30 +39,30 @@ seen_clock capacity nodes part starts of_drifts of_errors of_lies start drifts e
 
 pub rows-requires : goal.rows-requires
 rows-requires g c =
-    let on : is_clock c.args.nodes (clock_view c.args.part.now) ≡ true = sym c.is_clock.ensures ∙ c.if-not-is_clock.false in (
-      elim c.requires.capacity [ inl e ↦ rw e (lit< tt) | inr e ↦ rw e (lit< tt) ],
-      (c.requires.capacity, rw c.deref-2.ensures.value (rooms g.row.N c.args.nodes (clock_view c.args.part.now) c.requires.few on).0),
+    let on : is_clock c.args.bounds.nodes (clock_view c.args.part.now) ≡ true = sym c.is_clock.ensures ∙ c.if-not-is_clock.false in (
+      elim c.requires.size.capacity [ inl e ↦ rw e (lit< tt) | inr e ↦ rw e (lit< tt) ],
+      (c.requires.size.capacity, rw c.deref-2.ensures.value (rooms g.row.N c.args.bounds.nodes (clock_view c.args.part.now) c.requires.size.few_nodes on).0),
     )
 
 pub rows-requires-2 : goal.rows-requires-2
 rows-requires-2 g c =
-    let on : is_clock c.args.nodes (clock_view c.args.part.now) ≡ true = sym c.is_clock.ensures ∙ c.if-not-is_clock.false in (
-      elim c.requires.capacity [ inl e ↦ rw e (lit< tt) | inr e ↦ rw e (lit< tt) ],
-      (c.requires.capacity, rw c.deref-3.ensures.value (rooms g.row.N c.args.nodes (clock_view c.args.part.now) c.requires.few on).1.0),
+    let on : is_clock c.args.bounds.nodes (clock_view c.args.part.now) ≡ true = sym c.is_clock.ensures ∙ c.if-not-is_clock.false in (
+      elim c.requires.size.capacity [ inl e ↦ rw e (lit< tt) | inr e ↦ rw e (lit< tt) ],
+      (c.requires.size.capacity, rw c.deref-3.ensures.value (rooms g.row.N c.args.bounds.nodes (clock_view c.args.part.now) c.requires.size.few_nodes on).1.0),
     )
 
 pub padded-requires : goal.padded-requires
 padded-requires g c =
-    let on : is_clock c.args.nodes (clock_view c.args.part.now) ≡ true = sym c.is_clock.ensures ∙ c.if-not-is_clock.false in (
-      elim c.requires.capacity [ inl e ↦ rw e (lit< tt) | inr e ↦ rw e (lit< tt) ],
-      (c.requires.capacity, rw c.deref-4.ensures.value (rooms g.row.N c.args.nodes (clock_view c.args.part.now) c.requires.few on).1.1),
+    let on : is_clock c.args.bounds.nodes (clock_view c.args.part.now) ≡ true = sym c.is_clock.ensures ∙ c.if-not-is_clock.false in (
+      elim c.requires.size.capacity [ inl e ↦ rw e (lit< tt) | inr e ↦ rw e (lit< tt) ],
+      (c.requires.size.capacity, rw c.deref-4.ensures.value (rooms g.row.N c.args.bounds.nodes (clock_view c.args.part.now) c.requires.size.few_nodes on).1.1),
     )
 
 pub new-requires : goal.new-requires
 new-requires g c =
     let part = c.args.part.now in
     let p = clock_view part in
-    let nodes = c.args.nodes in
+    let nodes = c.args.bounds.nodes in
     let plan = c.args.plan.now in
     let epsilon_fits : FitsSigned w64 part.epsilon = search rules in
     let drift_fits : FitsSigned w64 part.drift = search rules in
@@ -70,21 +70,18 @@ new-requires g c =
     let unrefused : first_bad (fits_lie plan) 0 p.lies ≡ None = sym (ap (λ (ls : List LiePart). first_bad (fits_lie plan) 0 (map lie_view ls)) c.deref.ensures.value) ∙ c.in_ok-lies.ensures.unrefused in
     let same = seen_clock g.row.N nodes part c.deref-4.result.now c.deref-2.result.now c.deref-3.result.now c.deref.result.now c.padded.result c.in-Ok.drifts.items c.in-Ok-rows.errors.items
     (map (lie_of {n = g.row.N}) c.in_ok-lies.lies.items) c.deref-4.ensures.value c.deref-2.ensures.value c.deref-3.ensures.value c.deref.ensures.value c.padded.ensures c.in-Ok.ensures c.in-Ok-rows.ensures c.in_ok-lies.ensures.lies in
-    let is = clock_is g.row.N nodes plan p c.requires.nodes c.requires.some c.requires.few on unrefused in (
-      elim c.requires.capacity [ inl e ↦ rw e (lit< tt) | inr e ↦ rw e (lit< tt) ],
+    let is = clock_is g.row.N nodes plan p c.requires.nodes c.requires.size.some_nodes c.requires.size.few_nodes on unrefused in (
+      elim c.requires.size.capacity [ inl e ↦ rw e (lit< tt) | inr e ↦ rw e (lit< tt) ],
       (
-        lit< tt,
-        (
-          elim c.requires.capacity [ inl e ↦ rw e (lit< tt) | inr e ↦ rw e (lit< tt) ],
-          (c.requires.capacity, rw (to_z-of_z epsilon_fits, to_z-of_z drift_fits) (subst (λ (v : ClockView). IsClock g.row.N v) (sym same) is)),
-        ),
+        elim c.requires.size.capacity [ inl e ↦ rw e (lit< tt) | inr e ↦ rw e (lit< tt) ],
+        (c.requires.size.capacity, rw (to_z-of_z epsilon_fits, to_z-of_z drift_fits) (subst (λ (v : ClockView). IsClock g.row.N v) (sym same) is)),
       ),
     )
 
 pub returns-clause-clock : goal.returns-clause-clock
 returns-clause-clock g c =
     let part = c.args.part.now in
-    let nodes = c.args.nodes in
+    let nodes = c.args.bounds.nodes in
     let epsilon_fits : FitsSigned w64 part.epsilon = search rules in
     let drift_fits : FitsSigned w64 part.drift = search rules in
     let same = seen_clock g.row.N nodes part c.deref-4.result.now c.deref-2.result.now c.deref-3.result.now c.deref.result.now c.padded.result c.in-Ok.drifts.items c.in-Ok-rows.errors.items
@@ -96,12 +93,12 @@ pub returns-clause-unrefused : goal.returns-clause-unrefused
 returns-clause-unrefused g c =
     let plan = c.args.plan.now in
     let p = clock_view c.args.part.now in
-    let on : is_clock c.args.nodes p ≡ true = sym c.is_clock.ensures ∙ c.if-not-is_clock.false in
+    let on : is_clock c.args.bounds.nodes p ≡ true = sym c.is_clock.ensures ∙ c.if-not-is_clock.false in
     let unrefused : first_bad (fits_lie plan) 0 p.lies ≡ None = sym (ap (λ (ls : List LiePart). first_bad (fits_lie plan) 0 (map lie_view ls)) c.deref.ensures.value) ∙ c.in_ok-lies.ensures.unrefused in
     ap (λ (b : Bool). option_or (unless b 18 0) (at_place 19 (first_bad (fits_lie plan) 0 p.lies))) on ∙ ap (at_place 19) unrefused
 
 pub returns-then-not-is_clock-clause-refused : goal.returns-then-not-is_clock-clause-refused
 returns-then-not-is_clock-clause-refused g c =
     let p = clock_view c.args.part.now in
-    let off : false ≡ is_clock c.args.nodes p = sym (sym c.is_clock.ensures ∙ c.if-not-is_clock.true) in
+    let off : false ≡ is_clock c.args.bounds.nodes p = sym (sym c.is_clock.ensures ∙ c.if-not-is_clock.true) in
     subst (λ (b : Bool). Tells (option_or (unless b 18 0) (at_place 19 (first_bad (fits_lie c.args.plan.now) 0 p.lies))) c.refused.result) off c.refused.ensures

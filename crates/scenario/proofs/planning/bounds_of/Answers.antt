@@ -17,6 +17,25 @@ returns-clause-periods g c =
     let fits : FitsSigned w64 c.args.parts.now.periods = search rules in
     simp to_z-of_z at c.natural-3.ensures
 
+pub returns-clause-size : goal.returns-clause-size
+returns-clause-size g c =
+    let r = c.requires.ranges in
+    let nodes_fit : FitsSigned w64 c.args.parts.now.nodes = search rules in
+    let rounds_fit : FitsSigned w64 c.args.parts.now.m = search rules in
+    let periods_fit : FitsSigned w64 c.args.parts.now.periods = search rules in
+    let nodes = simp to_z-of_z at c.natural.ensures in
+    let rounds = simp to_z-of_z at c.natural-2.ensures in
+    let periods = simp to_z-of_z at c.natural-3.ensures in
+    record {
+      capacity = c.requires.capacity;
+      some_nodes = omega (arith, nodes, r.some_nodes);
+      few_nodes = omega (arith, nodes, r.few_nodes);
+      rounds = omega (arith, nodes, rounds, r.rounds);
+      few_rounds = omega (arith, rounds, r.three_rounds);
+      some_periods = omega (arith, periods, r.some_periods);
+      few_periods = omega (arith, periods, r.few_periods);
+    }
+
 pub overflow_cast-result : goal.overflow_cast-result
 overflow_cast-result g c =
     let fits : FitsSigned w64 c.args.parts.now.nodes = search rules in

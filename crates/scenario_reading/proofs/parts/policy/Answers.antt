@@ -2,7 +2,7 @@ use Rattle.std.proofs.Common.{ℤ, rules, w64, to_z-of_z, subst}
 use Rattle.std.specs.Prelude.{FitsSigned}
 use Rattle.json_parts.specs.Meaning.{view}
 use Rattle.json_parts.specs.Part.{Gives}
-use Rattle.scenario_reading.specs.Keys.{policy_in}
+use Rattle.scenario_reading.specs.Pieces.{policy_in}
 use Rattle.scenario.specs.Seen.{policy_view}
 use Rattle.scenario_reading.proofs.parts.policy.Goals as goal
 

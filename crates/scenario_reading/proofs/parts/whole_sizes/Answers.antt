@@ -1,4 +1,4 @@
-use Rattle.scenario_reading.specs.Keys.{size_fields}
+use Rattle.scenario_reading.specs.Pieces.{size_fields}
 use Rattle.scenario_reading.specs.Sizes.{sizes_view}
 use Rattle.json_parts.proofs.Unread.{then_by, none_by, unread}
 use Rattle.scenario_reading.proofs.parts.whole_sizes.Goals as goal

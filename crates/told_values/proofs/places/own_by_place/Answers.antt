@@ -4,6 +4,8 @@ use mir.Val.{SFits}
 use Rattle.std.proofs.lemmas.Int.{to_z-of_z}
 use Rattle.std.proofs.lemmas.List.{get_or-map, take_all}
 use Rattle.node_grid.specs.NodeSet.{has_id}
+use Rattle.node_grid.specs.NodeSetLaws.{All-ids}
+use Rattle.omh_paths.specs.MemberLaws.{Distinct-ids}
 use Rattle.protocol.specs.View.{own_in, value_of}
 use Rattle.told_values.proofs.ByPlace.{has_more, value_of_at}
 use Rattle.told_values.proofs.places.own_by_place.Goals as goal
@@ -19,8 +21,11 @@ loop-k-preserved c =
     let k : ℕ = c.loop-k.k in
     let f : SFits w64 c.own_in.result = search rules in
     let low : k < length said = (let t = c.loop-k-test.true in let e = c.requires.as_many in omega arith) in
-    has_more due (value_of due xs) c.loop-k.told k _ c.loop-k-test.true c.requires.low
-    (to_z-of_z w64 c.own_in.result f ∙ c.own_in.ensures ∙ sym (get_or-map (own_in c.args.own.now) said k 0 (pos 0) low) ∙ value_of_at due xs k 0 c.requires.distinct c.loop-k-test.true) c.loop-k.invariant
+    has_more due (value_of due xs) c.loop-k.told k _ c.loop-k-test.true (All-ids 8 due c.requires.due)
+    (to_z-of_z w64 c.own_in.result f ∙ c.own_in.ensures ∙ sym (get_or-map (own_in c.args.own.now) said k 0 (pos 0) low) ∙ value_of_at due xs k 0 (Distinct-ids 8 due c.requires.due) c.loop-k-test.true) c.loop-k.invariant
+
+pub bounds-told-due : goal.bounds-told-due
+bounds-told-due c = All-ids 8 c.args.due.now c.requires.due c.loop-k.k 0 c.loop-k-test.true
 
 pub returns : goal.returns
 returns c x on = c.loop-k.invariant.each x (ap (λ (ds : List ℕ). has_id ds x) (take_all c.loop-k.k c.args.due.now c.loop-k-test.false) ∙ on)

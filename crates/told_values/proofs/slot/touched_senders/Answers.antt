@@ -5,10 +5,10 @@ use Rattle.fault_classes.specs.Change.{is_untouched}
 use Rattle.fault_classes.specs.Plan.{each_in_slot}
 use Rattle.agreed_state.specs.ConfigLaws.{few_rounds}
 use Rattle.told_values.proofs.slot.touched_senders.Goals as goal
-use Rattle.told_values.proofs.slot.touched_senders.Goals.{then-is_touched_at, else-is_touched_at}
+use Rattle.told_values.proofs.slot.touched_senders.Goals.{then-touches, else-touches}
 
-pub overflow_add-config : goal.overflow_add-config
-overflow_add-config g c = let f = few_rounds g.row.N c.args.config.now c.requires.config in omega arith
+pub overflow_add-talk : goal.overflow_add-talk
+overflow_add-talk g c = let f = few_rounds g.row.N c.args.config.now c.requires.config in omega arith
 
 pub returns : goal.returns
 returns g c =
@@ -20,8 +20,8 @@ pub loop-from-preserved : goal.loop-from-preserved
 loop-from-preserved g c =
     let odd : ℕ → Bool = λ j. not (each_in_slot c.args.plan.now is_untouched c.args.period j (c.args.config.now.m + 2)) in
     let i : ℕ = c.loop-from.from in
-    elim c.if-is_touched_at.branch [
-      | then-is_touched_at w ↦
-          w.touched-is ∙ w.put.ensures ∙ ap (λ (s : List ℕ). with_id g.row.N s i) c.loop-from.invariant ∙ sym (ids_where_more_yes odd g.row.N i (sym c.is_touched_at.ensures ∙ w.if-is_touched_at.true))
-      | else-is_touched_at w ↦ w.touched-is ∙ c.loop-from.invariant ∙ sym (ids_where_more_no odd g.row.N i (sym c.is_touched_at.ensures ∙ w.if-is_touched_at.false))
+    elim c.if-touches.branch [
+      | then-touches w ↦
+          w.touched-is ∙ w.put.ensures ∙ ap (λ (s : List ℕ). with_id g.row.N s i) c.loop-from.invariant ∙ sym (ids_where_more_yes odd g.row.N i (sym c.touches.ensures ∙ w.if-touches.true))
+      | else-touches w ↦ w.touched-is ∙ c.loop-from.invariant ∙ sym (ids_where_more_no odd g.row.N i (sym c.touches.ensures ∙ w.if-touches.false))
     ]

@@ -13,7 +13,7 @@ period-requires g c =
 pub write_alone-requires : goal.write_alone-requires
 write_alone-requires g c =
     let few : c.config-config.result.now.nodes ≤ g.row.N = rw c.config-config.ensures.config c.config-config.ensures.log.scenario.system.config.few_nodes in
-    (elim c.requires.capacity [ inl e ↦ rw e (lit< tt) | inr e ↦ rw e (lit< tt) ], (c.requires.capacity, few))
+    (elim c.requires.capacity [ inl e ↦ rw e (lit< tt) | inr e ↦ rw e (lit< tt) ], (elim c.requires.capacity [ inl e ↦ rw e (lit< tt) | inr e ↦ rw e (lit< tt) ], (c.requires.capacity, few)))
 
 pub returns-clause-wrote : goal.returns-clause-wrote
 returns-clause-wrote g c =

@@ -3,7 +3,7 @@ use Rattle.std.proofs.KnownBytes.{Keeps-refl}
 use Rattle.std.specs.Prelude.{IfSome}
 use Rattle.top_call.specs.declared.form.Command.{Command}
 use Rattle.top_call.specs.declared.form.Command.TheVariants.{Read, Storm}
-use Rattle.top_call.specs.declared.status.Status.TheVariants.{Done, Usage, Unreadable, Refused, ReadFault, WriteFault, NoMemory, TooLong}
+use Rattle.program_words.specs.declared.status.Status.TheVariants.{Done, Usage, Unreadable, Refused, ReadFault, WriteFault, NoMemory, TooLong}
 use Rattle.run_text.specs.StormText.{storm_text}
 use Rattle.storm_sum.specs.Laws.{storm_summary}
 use Rattle.top_call.specs.Words.{texts, Calls}

@@ -47,7 +47,10 @@ arrives-requires g c =
         lit< tt,
         (
           elim c.requires.capacity [ inl e ↦ rw e (lit< tt) | inr e ↦ rw e (lit< tt) ],
-          (c.requires.capacity, (c.requires.some_nodes, (c.requires.nodes, (c.requires.rounds, (c.first_body.ensures.widths nodes, (omega (arith, short, says), omega (arith, short, says))))))),
+          (
+            record { capacity_ok = c.requires.capacity; some_nodes = c.requires.some_nodes; few_nodes = c.requires.nodes; few_rounds = c.requires.rounds },
+            (c.first_body.ensures.widths nodes, (omega (arith, short, says), omega (arith, short, says))),
+          ),
         ),
       ),
     )

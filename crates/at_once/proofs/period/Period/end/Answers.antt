@@ -23,7 +23,7 @@ step-requires g c =
           elim cap [ inl e ↦ rw e (lit< tt) | inr e ↦ rw e (lit< tt) ],
           (
             elim cap [ inl e ↦ rw e (lit< tt) | inr e ↦ rw e (lit< tt) ],
-            (cap, (config, (agreed, (c.requires.reported.1.claimed.shared, many)))),
+            (cap, (config, record { agreed = agreed; shared = c.requires.reported.1.claimed.shared; many = many })),
           ),
         ),
       ),

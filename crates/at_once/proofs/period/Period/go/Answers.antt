@@ -3,15 +3,13 @@ use Rattle.std.specs.Vec.{with_items}
 use Rattle.std.proofs.lemmas.List.{with_items_is}
 use Rattle.node_grid.specs.Capacity.{IsCapacity}
 use Rattle.error_reports.specs.Notes.{Notes}
-use Rattle.at_once.specs.Kept.{AreShaped, AreNotedAs}
-use Rattle.at_once.specs.Course.{AreSettled}
-use Rattle.at_once.specs.Parts.{notes_synced}
+use Rattle.at_once.specs.Course.{AreSynced, AreSettled}
 use Rattle.at_once.proofs.Goings.{few_nodes, going_found, rows_found, claimed_found, reported_grouped}
 use Rattle.at_once.proofs.period.Period.go.Goals as goal
 
 pub hear-requires : goal.hear-requires
 hear-requires g c =
-    let cap : IsCapacity g.row.N = c.requires.capacity in (
+    let cap : IsCapacity g.row.N = c.requires.beliefs.capacity in (
       lit< tt,
       (
         lit< tt,
@@ -20,20 +18,8 @@ hear-requires g c =
           (
             elim cap [ inl e ↦ rw e (lit< tt) | inr e ↦ rw e (lit< tt) ],
             (
-              cap,
-              (
-                c.requires.in_run,
-                (
-                  c.requires.begun,
-                  (
-                    c.awake-full.ensures.nodes,
-                    (
-                      c.awake-full.ensures.length,
-                      c.requires.beliefs,
-                    ),
-                  ),
-                ),
-              ),
+              c.requires.in_run,
+              (c.requires.begun, (c.awake-full.ensures.nodes, (c.awake-full.ensures.length, c.requires.beliefs))),
             ),
           ),
         ),
@@ -44,8 +30,7 @@ pub settle_claims-groups-requires : goal.settle_claims-groups-requires
 settle_claims-groups-requires g c =
     let sc = c.args.self.now.scenario.now in
     let p : ℕ = c.args.self.now.number in
-    let cap : IsCapacity g.row.N = c.requires.capacity in
-    let synced = c.hear.ensures.synced in
+    let cap : IsCapacity g.row.N = c.requires.beliefs.capacity in
     let value = c.as_mut_slice.ensures.value in (
       lit< tt,
       (
@@ -63,14 +48,8 @@ settle_claims-groups-requires g c =
                   (
                     c.requires.in_run,
                     (
-                      synced.going,
-                      (
-                        subst (λ (xs : List Notes). AreShaped {N = g.row.N} sc.config xs) (sym value) synced.shaped,
-                        (
-                          subst (λ (xs : List Notes). AreNotedAs sc p (notes_synced sc p) xs) (sym value) synced.notes,
-                          c.requires.claims_room,
-                        ),
-                      ),
+                      subst (λ (xs : List Notes). AreSynced sc p c.awake-full.result c.hear.new.made xs) (sym value) c.hear.ensures.synced,
+                      c.requires.claims_room,
                     ),
                   ),
                 ),
@@ -85,8 +64,8 @@ pub vote-requires : goal.vote-requires
 vote-requires g c =
     let sc = c.args.self.now.scenario.now in
     let p : ℕ = c.args.self.now.number in
-    let cap : IsCapacity g.row.N = c.requires.capacity in
-    let unvoted = c.hear.ensures.synced.unvoted in
+    let cap : IsCapacity g.row.N = c.requires.beliefs.capacity in
+    let unvoted = c.hear.ensures.unvoted in
     let noted : (with_items c.hear.new.keeping.notes c.settle_claims-groups.new.notes).items ≡ c.settle_claims-groups.new.notes =
     with_items_is c.hear.new.keeping.notes c.settle_claims-groups.new.notes (c.settle_claims-groups.auto.notes ∙ c.as_mut_slice.ensures.len) in (
       lit< tt,
@@ -116,7 +95,7 @@ vote-requires g c =
 
 pub find_rows-requires : goal.find_rows-requires
 find_rows-requires g c =
-    let cap : IsCapacity g.row.N = c.requires.capacity in (
+    let cap : IsCapacity g.row.N = c.requires.beliefs.capacity in (
       lit< tt,
       (
         elim cap [ inl e ↦ rw e (lit< tt) | inr e ↦ rw e (lit< tt) ],
@@ -138,7 +117,7 @@ settle_rows-finer-requires g c =
     let made = c.settle_claims-groups.new.made in
     let found = c.find_rows.new.found in
     let notes : List Notes = c.vote.new.keeping.notes.items in
-    let cap : IsCapacity g.row.N = c.requires.capacity in
+    let cap : IsCapacity g.row.N = c.requires.beliefs.capacity in
     let room : sc.config.nodes ≤ g.row.N = few_nodes sc.config notes c.vote.ensures.shaped in
     let settled = c.settle_claims-groups.ensures.settled in (
       lit< tt,
@@ -159,17 +138,13 @@ settle_rows-finer-requires g c =
                     (
                       c.requires.in_run,
                       (
-                        going_found sc p full made found notes room c.find_rows.ensures settled.going,
-                        (
-                          claimed_found sc p made found c.settle_claims-groups.result settled.claimed,
-                          (
-                            c.vote.ensures,
-                            (
-                              rows_found sc p full made found notes room c.find_rows.ensures settled.going c.vote.ensures.notes,
-                              c.requires.rows_room,
-                            ),
-                          ),
-                        ),
+                        record {
+                          going = going_found sc p full made found notes room c.find_rows.ensures settled.going;
+                          claimed = claimed_found sc p made found c.settle_claims-groups.result settled.claimed;
+                          voted = c.vote.ensures;
+                          found = rows_found sc p full made found notes room c.find_rows.ensures settled.going c.vote.ensures.notes;
+                        },
+                        c.requires.rows_room,
                       ),
                     ),
                   ),
@@ -185,7 +160,7 @@ pub end-requires : goal.end-requires
 end-requires g c =
     let sc = c.args.self.now.scenario.now in
     let p : ℕ = c.args.self.now.number in
-    let cap : IsCapacity g.row.N = c.requires.capacity in (
+    let cap : IsCapacity g.row.N = c.requires.beliefs.capacity in (
       lit< tt,
       (
         elim cap [ inl e ↦ rw e (lit< tt) | inr e ↦ rw e (lit< tt) ],

@@ -1,4 +1,4 @@
-use Rattle.std.proofs.Common.{ℕ, ◌≡◌, List, refl, sym, ap, subst, ◌∙◌, lit<, inl, inr, arith, length}
+use Rattle.std.proofs.Common.{ℕ, ◌≡◌, List, sym, ap, subst, ◌∙◌, lit<, inl, inr, arith, length}
 use Rattle.std.specs.Vec.{with_items}
 use Rattle.std.proofs.lemmas.List.{with_items_is}
 use Rattle.node_grid.specs.Capacity.{IsCapacity}
@@ -18,7 +18,7 @@ pub hear-made-requires : goal.hear-made-requires
 hear-made-requires g c =
     let sc = c.args.self.now.scenario.now in
     let slot : SyncSlot g.row.N = record { config = c.config-config.result; plan = c.plan.result; period = c.args.self.now.number } in
-    let cap : IsCapacity g.row.N = c.requires.capacity in
+    let cap : IsCapacity g.row.N = c.requires.beliefs.capacity in
     let ok = c.config-config.ensures.scenario in (
       lit< tt,
       (
@@ -42,7 +42,7 @@ hear-made-requires g c =
 
 pub leave_cold-requires : goal.leave_cold-requires
 leave_cold-requires g c =
-    let cap : IsCapacity g.row.N = c.requires.capacity in
+    let cap : IsCapacity g.row.N = c.requires.beliefs.capacity in
     let nodes : c.config-config.result.now.nodes ≡ c.args.self.now.scenario.now.config.nodes = ap (λ (x : Config g.row.N). x.nodes) c.config-config.ensures.config in
     let few = c.config-config.ensures.scenario.system.config.few_nodes in (
       lit< tt,
@@ -67,7 +67,7 @@ returns-clause-synced g c =
     let sc = c.args.self.now.scenario.now in
     let slot : SyncSlot g.row.N = record { config = c.config-config.result; plan = c.plan.result; period = c.args.self.now.number } in
     let k : Keeping g.row.N = c.args.keeping.now in
-    let cap = c.requires.capacity in
+    let cap = c.requires.beliefs.capacity in
     let ok = c.config-config.ensures.scenario in
     let old = c.args.made.now.states in
     let value = c.as_mut_slice.ensures.value in
@@ -82,10 +82,13 @@ returns-clause-synced g c =
     (c.hear-made.ensures.heard (system_of sc) (subst (λ (xs : List Notes). IsSlotOf slot old xs (system_of sc)) (sym value) of))) in
     all_synced sc slot cap ok c.config-config.ensures.config c.plan.ensures.plan old k c.requires.begun c.args.full.now c.requires.full c.hear-made.new.states l c.hear-made.result
     ready heard
-    many refl refl c.go_through.new.self c.leave_cold.new.made
+    many c.go_through.new.self c.leave_cold.new.made
     (ap (λ (m : Made g.row.N). m.modes) c.go_through.ensures) (ap (λ (m : Made g.row.N). m.members) c.go_through.ensures)
     (ap (λ (m : Made g.row.N). m.states) c.go_through.ensures) (ap (λ (m : Made g.row.N). m.sync) c.go_through.ensures)
     (subst (λ (n : ℕ). AreLeft n c.go_through.new.self c.leave_cold.new.made) (ap (λ (x : Config g.row.N). x.nodes) c.config-config.ensures.config) c.leave_cold.ensures)
+
+pub returns-clause-unvoted : goal.returns-clause-unvoted
+returns-clause-unvoted g c = record { votes = c.requires.begun.votes; owns = c.requires.begun.owns }
 
 pub returns-clause-beliefs : goal.returns-clause-beliefs
 returns-clause-beliefs g c = c.leave_cold.ensures.beliefs

@@ -29,13 +29,13 @@ use Rattle.at_once.proofs.period.Period.settle_rows.Goals as goal
 pub tell_rows-requires : goal.tell_rows-requires
 tell_rows-requires g c =
     let cap : IsCapacity g.row.N = c.requires.capacity in
-    (lit< tt, (lit< tt, (elim cap [ inl e ↦ rw e (lit< tt) | inr e ↦ rw e (lit< tt) ], (elim cap [ inl e ↦ rw e (lit< tt) | inr e ↦ rw e (lit< tt) ], (elim cap [ inl e ↦ rw e (lit< tt) | inr e ↦ rw e (lit< tt) ], (cap, (c.requires.going, c.requires.found)))))))
+    (lit< tt, (lit< tt, (elim cap [ inl e ↦ rw e (lit< tt) | inr e ↦ rw e (lit< tt) ], (elim cap [ inl e ↦ rw e (lit< tt) | inr e ↦ rw e (lit< tt) ], (elim cap [ inl e ↦ rw e (lit< tt) | inr e ↦ rw e (lit< tt) ], (cap, (c.requires.reporting.going, c.requires.reporting.found)))))))
 
 pub agree-requires : goal.agree-requires
 agree-requires g c =
     let cap : IsCapacity g.row.N = c.requires.capacity in
     let heard : IsHeard row_form (λ m. m + 3) row_told c.phase-phase.result c.tell_rows.new.rows.links 0 =
-    rows_told c.args.self.now.scenario.now c.args.self.now.number c.args.full.now c.args.made.now c.requires.going c.config.ensures.scenario c.requires.in_run _ (ap (λ (y : Config g.row.N). y.m + 3) c.config.ensures.config)
+    rows_told c.args.self.now.scenario.now c.args.self.now.number c.args.full.now c.args.made.now c.requires.reporting.going c.config.ensures.scenario c.requires.in_run _ (ap (λ (y : Config g.row.N). y.m + 3) c.config.ensures.config)
     c.phase-phase.result c.phase-phase.ensures c.tell_rows.new.rows c.tell_rows.ensures.told in
     let room : c.tell_rows.new.rows.settling ≡ record { nodes = c.phase-phase.result.config.now.nodes; rounds = c.phase-phase.result.config.now.m } =
     c.tell_rows.ensures.room ∙ c.requires.room ∙ ap (λ (y : Config g.row.N). record { nodes = y.nodes; rounds = y.m }) (sym c.phase-phase.ensures.config) in
@@ -48,22 +48,22 @@ carry-requires g c =
     let notes : c.as_mut_slice.result.now ≡ c.args.keeping.now.notes.items = c.as_mut_slice.ensures.value in
     let shaped : AreShaped {N = g.row.N} c.phase-phase.result.config.now c.as_mut_slice.result.now =
     subst (λ (y : Config g.row.N). AreShaped {N = g.row.N} y c.as_mut_slice.result.now) (sym c.phase-phase.ensures.config)
-    (subst (λ (xs : List Notes). AreShaped {N = g.row.N} sc.config xs) (sym notes) c.requires.voted.shaped) in
+    (subst (λ (xs : List Notes). AreShaped {N = g.row.N} sc.config xs) (sym notes) c.requires.reporting.voted.shaped) in
     let within : (i : ℕ) → i < g.row.N → has_id c.phase-phase.result.awake i ≡ true → IsCarriedWithin g.row.N (notes_at c.as_mut_slice.result.now i) =
     λ i low on. subst (λ (xs : List Notes). IsCarriedWithin g.row.N (notes_at xs i)) (sym notes)
-    (votes_within sc c.args.self.now.number c.args.full.now c.args.made.now c.requires.going c.config.ensures.scenario c.requires.in_run _ (ap (λ (y : Config g.row.N). y.m + 3) c.config.ensures.config)
-    c.phase-phase.result c.phase-phase.ensures c.args.keeping.now c.requires.voted i on) in
+    (votes_within sc c.args.self.now.number c.args.full.now c.args.made.now c.requires.reporting.going c.config.ensures.scenario c.requires.in_run _ (ap (λ (y : Config g.row.N). y.m + 3) c.config.ensures.config)
+    c.phase-phase.result c.phase-phase.ensures c.args.keeping.now c.requires.reporting.voted i on) in
     (elim cap [ inl e ↦ rw e (lit< tt) | inr e ↦ rw e (lit< tt) ], (elim cap [ inl e ↦ rw e (lit< tt) | inr e ↦ rw e (lit< tt) ], (elim cap [ inl e ↦ rw e (lit< tt) | inr e ↦ rw e (lit< tt) ], (elim cap [ inl e ↦ rw e (lit< tt) | inr e ↦ rw e (lit< tt) ], (cap, (c.agree.ensures.settled, (shaped, within)))))))
 
 pub group_by_rows-finer-requires : goal.group_by_rows-finer-requires
 group_by_rows-finer-requires g c =
     let cap : IsCapacity g.row.N = c.requires.capacity in
-    (elim cap [ inl e ↦ rw e (lit< tt) | inr e ↦ rw e (lit< tt) ], (elim cap [ inl e ↦ rw e (lit< tt) | inr e ↦ rw e (lit< tt) ], (elim cap [ inl e ↦ rw e (lit< tt) | inr e ↦ rw e (lit< tt) ], (elim cap [ inl e ↦ rw e (lit< tt) | inr e ↦ rw e (lit< tt) ], (elim cap [ inl e ↦ rw e (lit< tt) | inr e ↦ rw e (lit< tt) ], (cap, (c.agree.ensures.settled, c.requires.voted.voters)))))))
+    (elim cap [ inl e ↦ rw e (lit< tt) | inr e ↦ rw e (lit< tt) ], (elim cap [ inl e ↦ rw e (lit< tt) | inr e ↦ rw e (lit< tt) ], (elim cap [ inl e ↦ rw e (lit< tt) | inr e ↦ rw e (lit< tt) ], (elim cap [ inl e ↦ rw e (lit< tt) | inr e ↦ rw e (lit< tt) ], (elim cap [ inl e ↦ rw e (lit< tt) | inr e ↦ rw e (lit< tt) ], (c.agree.ensures.settled, c.requires.reporting.voted.voters))))))
 
 pub part-requires : goal.part-requires
 part-requires g c =
     let cap : IsCapacity g.row.N = c.requires.capacity in
-    (elim cap [ inl e ↦ rw e (lit< tt) | inr e ↦ rw e (lit< tt) ], (elim cap [ inl e ↦ rw e (lit< tt) | inr e ↦ rw e (lit< tt) ], (cap, (ap length c.as_mut_slice-2.ensures.value ∙ c.requires.going.many, c.group_by_rows-finer.ensures.parted))))
+    (elim cap [ inl e ↦ rw e (lit< tt) | inr e ↦ rw e (lit< tt) ], (elim cap [ inl e ↦ rw e (lit< tt) | inr e ↦ rw e (lit< tt) ], (cap, (ap length c.as_mut_slice-2.ensures.value ∙ c.requires.reporting.going.many, c.group_by_rows-finer.ensures.parted))))
 
 pub fill_rows-requires : goal.fill_rows-requires
 fill_rows-requires g c =
@@ -84,7 +84,7 @@ returns-clause-reported g c =
     let s : ItemPhase (List ℕ) g.row.N = c.agree.new.self in
     let told : AreTold row_told sc p full (item_of s.links) = λ i on. c.tell_rows.ensures.told i on ∙ sym (c.agree.ensures.told i) in
     let d : IsDone (pointwise ◌==◌) row_form (λ m. m + 3) row_told sc p x s =
-    rows_done sc p full made c.requires.going given c.requires.in_run _ (ap (λ (y : Config g.row.N). y.m + 3) c.config.ensures.config) x c.phase-phase.ensures s told c.agree.ensures.settled in
+    rows_done sc p full made c.requires.reporting.going given c.requires.in_run _ (ap (λ (y : Config g.row.N). y.m + 3) c.config.ensures.config) x c.phase-phase.ensures s told c.agree.ensures.settled in
     let before : List ℕ = c.args.groups.now in
     let groups : List ℕ = c.group_by_rows-finer.result in
     let votes : List (List (Option ℤ)) = k.votes in
@@ -102,11 +102,11 @@ returns-clause-reported g c =
     → get_or made'.beliefs.items f b ≡ record (get_or apart f b) { votes = of_node votes f; rows = node_rows x s f } =
     λ f b low on own. ap (λ (bs : List (Belief g.row.N)). get_or bs f b) last_is ∙ c.fill_rows.ensures.filled f b low on own
     ∙ ap (λ (bs : List (Belief g.row.N)). record (get_or bs f b) { votes = of_node votes f; rows = node_rows x s f }) lent in
-    all_reported c.of_run.ensures sc p made given.system.config.few_nodes x s d before groups c.requires.claimed c.group_by_rows-finer.ensures.firsts c.group_by_rows-finer.ensures.parted
+    all_reported c.of_run.ensures sc p made given.system.config.few_nodes x s d before groups c.requires.reporting.claimed c.group_by_rows-finer.ensures.firsts c.group_by_rows-finer.ensures.parted
     c.group_by_rows-finer.ensures.cold c.group_by_rows-finer.ensures.among c.group_by_rows-finer.ensures.alike votes c.group_by_rows-finer.ensures.votes apart kept made' filled
-    full c.requires.going c.requires.found refl (ap length last_is ∙ c.fill_rows.ensures.many) c.phase-phase.ensures.awake
+    full c.requires.reporting.going c.requires.reporting.found refl (ap length last_is ∙ c.fill_rows.ensures.many) c.phase-phase.ensures.awake
     (λ f b off. ap (λ (bs : List (Belief g.row.N)). get_or bs f b) last_is ∙ c.fill_rows.ensures.others f b off ∙ ap (λ (bs : List (Belief g.row.N)). get_or bs f b) lent)
-    k l c.requires.voted refl refl refl (ap length noted_is ∙ c.carry.ensures.many)
+    k l c.requires.reporting.voted refl refl refl (ap length noted_is ∙ c.carry.ensures.many)
     (λ i low. ap (λ (xs : List Notes). notes_at xs i) noted_is ∙ c.carry.ensures.notes i low
     ∙ ap (λ (xs : List Notes). if has_id x.awake i
     then also_carried g.row.N (also_carried g.row.N (notes_at xs i) (rounds_bad x.config.now.m (rounds_of row_form x s.links i))) (blames (pointwise ◌==◌) (listener row_form x s.links i)) else notes_at xs i)

@@ -47,21 +47,22 @@ touched_senders-requires g c =
       (lit< tt, (lit< tt, (cap, (config, (nodes, (rounds, omega (arith, periods, in_run))))))),
     )
 
+pub invariant_of-slot : goal.invariant_of-slot
+invariant_of-slot g c =
+    let made : Made g.row.N = c.args.made.now in
+    let groups : List ℕ = c.args.groups.now in
+    let dues_are : c.of-dues.result ≡ (groups, made.beliefs.items) =
+    ap₂ (λ (a : List ℕ) (b : List (Belief g.row.N)). (a, b)) c.of-dues.ensures.groups (c.of-dues.ensures.beliefs ∙ c.as_slice.ensures.value) in (
+      c.requires.capacity,
+      slot_by_is c.hears.ensures c.through.ensures c.cold.ensures c.args.self.now.scenario.now c.args.self.now.number c.args.full.now made c.args.keeping.now.notes.items groups c.config-config.ensures.scenario c.requires.settled
+          c.requires.in_run c.config-config.result.now c.plan-plan.result.now c.of-dues.result c.touched_senders.result c.value_all.new.owns c.config-config.ensures.config c.plan-plan.ensures.plan dues_are c.touched_senders.ensures,
+    )
+
 pub vote_each-keeping-requires : goal.vote_each-keeping-requires
 vote_each-keeping-requires g c =
     let cap : IsCapacity g.row.N = c.requires.capacity in
-    let sc : ScenarioView g.row.N = c.args.self.now.scenario.now in
-    let p : ℕ = c.args.self.now.number in
-    let full : List ℕ = c.args.full.now in
     let made : Made g.row.N = c.args.made.now in
-    let notes : List Notes = c.args.keeping.now.notes.items in
-    let groups : List ℕ = c.args.groups.now in
-    let scenario : IsScenario sc = c.config-config.ensures.scenario in
-    let settled = c.requires.settled in
-    let config_is : c.config-config.result.now ≡ sc.config = c.config-config.ensures.config in
-    let plan_is : c.plan-plan.result.now ≡ sc.plan = c.plan-plan.ensures.plan in
-    let dues_are : c.of-dues.result ≡ (groups, made.beliefs.items) =
-    ap₂ (λ (a : List ℕ) (b : List (Belief g.row.N)). (a, b)) c.of-dues.ensures.groups (c.of-dues.ensures.beliefs ∙ c.as_slice.ensures.value) in (
+    let settled = c.requires.settled in (
       lit< tt,
       (
         elim cap [ inl e ↦ rw e (lit< tt) | inr e ↦ rw e (lit< tt) ],
@@ -76,15 +77,8 @@ vote_each-keeping-requires g c =
                 (
                   elim cap [ inl e ↦ rw e (lit< tt) | inr e ↦ rw e (lit< tt) ],
                   (
-                    cap,
-                    (
-                      slot_by_is c.hears.ensures c.through.ensures c.cold.ensures sc p full made notes groups scenario settled c.requires.in_run c.config-config.result.now c.plan-plan.result.now c.of-dues.result c.touched_senders.result c.value_all.new.owns
-                          config_is plan_is dues_are c.touched_senders.ensures,
-                      (
-                        subst (λ (x : Config g.row.N). AreAgreed x made.states) (sym config_is) settled.going.used.agreed,
-                        (settled.claimed.shared, settled.going.many),
-                      ),
-                    ),
+                    subst (λ (x : Config g.row.N). AreAgreed x made.states) (sym c.config-config.ensures.config) settled.going.used.agreed,
+                    (settled.claimed.shared, settled.going.many),
                   ),
                 ),
               ),
@@ -106,10 +100,7 @@ note_each-requires g c =
     let scenario : IsScenario sc = c.config-config.ensures.scenario in
     let settled = c.requires.settled in
     let config_is : c.config-config.result.now ≡ sc.config = c.config-config.ensures.config in
-    let n_is : c.config-config.result.now.nodes ≡ sc.config.nodes = ap (λ (x : Config g.row.N). x.nodes) config_is in
-    let plan_is : c.plan-plan.result.now ≡ sc.plan = c.plan-plan.ensures.plan in
-    let dues_are : c.of-dues.result ≡ (groups, made.beliefs.items) =
-    ap₂ (λ (a : List ℕ) (b : List (Belief g.row.N)). (a, b)) c.of-dues.ensures.groups (c.of-dues.ensures.beliefs ∙ c.as_slice.ensures.value) in (
+    let n_is : c.config-config.result.now.nodes ≡ sc.config.nodes = ap (λ (x : Config g.row.N). x.nodes) config_is in (
       lit< tt,
       (
         lit< tt,
@@ -118,15 +109,8 @@ note_each-requires g c =
           (
             elim cap [ inl e ↦ rw e (lit< tt) | inr e ↦ rw e (lit< tt) ],
             (
-              cap,
-              (
-                slot_by_is c.hears.ensures c.through.ensures c.cold.ensures sc p full made notes groups scenario settled c.requires.in_run c.config-config.result.now c.plan-plan.result.now c.of-dues.result c.touched_senders.result c.value_all.new.owns
-                    config_is plan_is dues_are c.touched_senders.ensures,
-                (
-                  subst (λ (xs : List Notes). AreShaped c.config-config.result.now xs) (sym c.as_mut_slice.ensures.value) (subst (λ (x : Config g.row.N). AreShaped x notes) (sym config_is) settled.shaped),
-                  λ i low on. subst (λ (xs : List Notes). IsWithin g.row.N (notes_at xs i)) (sym c.as_mut_slice.ensures.value) (within_now c.hears.ensures c.through.ensures c.cold.ensures sc p full made notes groups scenario settled i (omega (arith, n_is, low)) (ap (λ (m : List ℕ). has_id m i) (sym c.awake.ensures.nodes) ∙ on)),
-                ),
-              ),
+              subst (λ (xs : List Notes). AreShaped c.config-config.result.now xs) (sym c.as_mut_slice.ensures.value) (subst (λ (x : Config g.row.N). AreShaped x notes) (sym config_is) settled.shaped),
+              λ i low on. subst (λ (xs : List Notes). IsWithin g.row.N (notes_at xs i)) (sym c.as_mut_slice.ensures.value) (within_now c.hears.ensures c.through.ensures c.cold.ensures sc p full made notes groups scenario settled i (omega (arith, n_is, low)) (ap (λ (m : List ℕ). has_id m i) (sym c.awake.ensures.nodes) ∙ on)),
             ),
           ),
         ),

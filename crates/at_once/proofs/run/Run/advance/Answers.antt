@@ -52,15 +52,12 @@ go-requires g c =
               (
                 elim cap [ inl e ↦ rw e (lit< tt) | inr e ↦ rw e (lit< tt) ],
                 (
-                  cap,
+                  more,
                   (
-                    more,
+                    subst (λ (m : Made g.row.N). AreBegun sc c.self.inside.run m.states c.begin.new.keeping) (sym made) c.begin.ensures,
                     (
-                      subst (λ (m : Made g.row.N). AreBegun sc c.self.inside.run m.states c.begin.new.keeping) (sym made) c.begin.ensures,
-                      (
-                        subst (λ (m : Made g.row.N). HasBeliefs m) (sym made) (beliefs_stay c.self.inside.shown.made c.begin.new.states c.self.invariant.beliefs),
-                        (c.self.invariant.claims_room, c.self.invariant.rows_room),
-                      ),
+                      subst (λ (m : Made g.row.N). HasBeliefs m) (sym made) (beliefs_stay c.self.inside.shown.made c.begin.new.states c.self.invariant.beliefs),
+                      (c.self.invariant.claims_room, c.self.invariant.rows_room),
                     ),
                   ),
                 ),

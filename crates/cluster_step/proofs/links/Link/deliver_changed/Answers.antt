@@ -29,8 +29,19 @@ returns g c =
 
 pub deliveries-arrived-requires : goal.deliveries-arrived-requires
 deliveries-arrived-requires g c =
-    let few : length c.args.sent.now ≤ length c.as_mut_slice.result.now = omega (arith, c.fit.ensures, ap length c.as_mut_slice.ensures.value, ap length c.scratch.view_is) in
-    (lit< tt, (c.args.self.now.in_plan, (c.args.self.now.in_period, (c.args.self.now.in_use, (omega (arith, c.me.ensures, c.requires.ready.me), (λ e. c.requires.other (e ∙ c.me.ensures), length-take-le (length c.args.sent.now) c.as_mut_slice.result.now few))))))
+    let few : length c.args.sent.now ≤ length c.as_mut_slice.result.now = omega (arith, c.fit.ensures, ap length c.as_mut_slice.ensures.value, ap length c.scratch.view_is) in (
+      lit< tt,
+      (
+        record {
+          period = c.args.self.now.in_plan;
+          slot = c.args.self.now.in_period;
+          from = c.args.self.now.in_use;
+          to = omega (arith, c.me.ensures, c.requires.ready.me);
+          link = λ e. c.requires.other (e ∙ c.me.ensures);
+        },
+        length-take-le (length c.args.sent.now) c.as_mut_slice.result.now few,
+      ),
+    )
 
 pub fit-requires : goal.fit-requires
 fit-requires g c = c.requires.short
@@ -38,7 +49,7 @@ fit-requires g c = c.requires.short
 pub invariant_of-scratch : goal.invariant_of-scratch
 invariant_of-scratch g c = c.scratch.invariant
 
-pub slice_bounds-deliveries-end : goal.slice_bounds-deliveries-end
-slice_bounds-deliveries-end g c =
+pub slice_bounds-room-end : goal.slice_bounds-room-end
+slice_bounds-room-end g c =
     let few : length c.args.sent.now ≤ length c.as_mut_slice.result.now = omega (arith, c.fit.ensures, ap length c.as_mut_slice.ensures.value, ap length c.scratch.view_is) in
     sym (length-take-le (length c.args.sent.now) c.as_mut_slice.result.now few)

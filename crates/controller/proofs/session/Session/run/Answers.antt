@@ -3,7 +3,7 @@ use Rattle.input_lines.specs.Reading.{SourceView, GivesBytes}
 use Rattle.input_lines.specs.Devices.{SinkView, WritesAll, sink_seen, source_seen, gave_nothing, gave_both, gave_no_more, all_all}
 use Rattle.controller.specs.Session.{Stand, stand, Stops, CaughtUp, Rounds, Concludes, Runs, with_more}
 use Rattle.controller.specs.Course.{closing}
-use Rattle.controller.specs.declared.status.Status.{Status}
+use Rattle.program_words.specs.declared.status.Status.{Status}
 use Rattle.controller.proofs.Running.{runs_stopped, runs_in_round, runs_over, caught_up_more, with_none}
 use Rattle.controller.proofs.session.Session.run.Goals as goal
 

@@ -1,19 +1,16 @@
-use Rattle.std.proofs.Common.{rules, ◌<◌, if◌then◌else◌, length, get_or, sym, ap, subst, ◌∙◌, arith, None, Some}
+use Rattle.std.proofs.Common.{rules, ◌<◌, if◌then◌else◌, length, sym, ap, subst, ◌∙◌, arith, None, Some}
 use Rattle.std.specs.Prelude.{option_map}
-use Rattle.node_grid.specs.NodeSetLaws.{All-ids}
-use Rattle.omh_paths.specs.MemberLaws.{Distinct-ids, member-lt}
+use Rattle.omh_paths.specs.MemberLaws.{member-lt}
 use Rattle.frames.specs.Seen.{content}
 use Rattle.protocol.specs.Arrival.{arrived, values_in}
 use Rattle.protocol.specs.View.{value_in, own_in}
+use Rattle.data_slot.specs.DueSets.{wider}
 use Rattle.data_slot.proofs.Senders.{from_other, from_self}
 use Rattle.data_slot.proofs.vote.DataSlot.values_from.Goals as goal
 
 pub values_in_frame-requires : goal.values_in_frame-requires
 values_in_frame-requires g c =
-    let n = length c.args.config.now.channels.items in
-    let due = c.args.self.now.due.now in
-    let f = c.requires.config.few_channels in
-    (search rules, (c.requires.capacity, (Distinct-ids n due c.requires.due, λ k d l. let low : get_or due k d < n = All-ids n due c.requires.due k d l in omega arith)))
+    (search rules, (c.requires.capacity, wider (length c.args.config.now.channels.items) 8 c.args.self.now.due.now c.requires.config.few_channels c.requires.due))
 
 pub returns-then-from-self : goal.returns-then-from-self
 returns-then-from-self g c x on =

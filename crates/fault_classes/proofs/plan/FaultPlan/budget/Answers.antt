@@ -1,4 +1,4 @@
-use Rattle.std.proofs.Common.{◌≡◌, ◌+◌, ◌++◌, ◌∷◌, [], sym, ap, ◌∙◌, arith, append_assoc, lit<, refl, List, ℕ, ◌<◌, length, append-nil, suc, subst, length-append}
+use Rattle.std.proofs.Common.{◌≡◌, ◌+◌, ◌++◌, ◌∷◌, [], sym, ap, ◌∙◌, arith, append_assoc, lit<, refl, List, ℕ, ◌<◌, ◌≤◌, lit≤, length, append-nil, suc, subst, length-append}
 use Rattle.std.proofs.lemmas.List.{length_push}
 use Rattle.node_grid.specs.declared.class.Class.{Class}
 use Rattle.node_grid.specs.Count.{bit, count}
@@ -6,7 +6,8 @@ use Rattle.node_grid.specs.Class.{is_asymmetric, is_symmetric, is_silent}
 use Rattle.fault_classes.specs.declared.budget.Budget.{Budget}
 use Rattle.fault_classes.specs.Plan.{class_of}
 use Rattle.fault_classes.specs.Budget.{counts_as, with_member}
-use Rattle.node_grid.specs.ListLaws.{count-more, bit_le}
+use Rattle.node_grid.specs.declared.class.Class.TheVariants.{N, J, B, S, A}
+use Rattle.node_grid.specs.ListLaws.{count-more}
 use Rattle.std.specs.Prelude.{All}
 use Rattle.fault_classes.proofs.plan.FaultPlan.budget.Goals as goal
 
@@ -16,6 +17,14 @@ front n (y ∷ ys) rest x all = front n ys rest x (λ k d l. all (suc k) d (omeg
 
 less : {rest : List ℕ} {x : ℕ} {zs : List ℕ} → rest ≡ x ∷ zs → length zs < length rest
 less e = rw e (omega arith)
+
+-- a class counts as one of them at most
+bits_le : (class : Class) → bit (is_asymmetric class) + bit (is_symmetric class) + bit (is_silent class) ≤ 1
+bits_le N = lit≤ tt
+bits_le J = lit≤ tt
+bits_le B = lit≤ tt
+bits_le S = lit≤ tt
+bits_le A = lit≤ tt
 
 pub loop-node-preserved : goal.loop-node-preserved
 loop-node-preserved g c =
@@ -39,9 +48,7 @@ loop-node-preserved g c =
       asymmetric = a ∙ ap (λ k. k + bit (is_asymmetric class)) i.asymmetric ∙ sym (count-more (counts_as is_asymmetric plan p) xs x);
       symmetric = s ∙ ap (λ k. k + bit (is_symmetric class)) i.symmetric ∙ sym (count-more (counts_as is_symmetric plan p) xs x);
       silent = b ∙ ap (λ k. k + bit (is_silent class)) i.silent ∙ sym (count-more (counts_as is_silent plan p) xs x);
-      few = omega (arith, a, long, i.few, bit_le (is_asymmetric class));
-      few_symmetric = omega (arith, s, long, i.few_symmetric, bit_le (is_symmetric class));
-      few_silent = omega (arith, b, long, i.few_silent, bit_le (is_silent class));
+      few = omega (arith, a, s, b, long, i.few, bits_le class);
     }
 
 pub len-requires : goal.len-requires
@@ -66,8 +73,6 @@ loop-node-init g c = record {
   symmetric = refl;
   silent = refl;
   few = omega arith;
-  few_symmetric = omega arith;
-  few_silent = omega arith;
 }
 
 pub returns : goal.returns
@@ -91,17 +96,7 @@ class-requires g c =
     let low : c.in-Some.node < c.args.self.now.nodes = front c.args.self.now.nodes ys c.next.new.self c.in-Some.node (subst (λ xs. All (λ k. k < c.args.self.now.nodes) xs) split c.requires.members) in
     (lit< tt, (low, c.requires.period))
 
-pub add-requires-clause-a : goal.add-requires-clause-a
-add-requires-clause-a g c =
+pub add-requires : goal.add-requires
+add-requires g c =
     let part = ap length c.loop-node.invariant.split ∙ length-append c.loop-node.yielded c.loop-node.node-iterator in
     omega (arith, part, ap length c.in-Some.ensures.steps, c.len.ensures.count, c.len.type_inv, c.loop-node.invariant.few)
-
-pub add-requires-clause-s : goal.add-requires-clause-s
-add-requires-clause-s g c =
-    let part = ap length c.loop-node.invariant.split ∙ length-append c.loop-node.yielded c.loop-node.node-iterator in
-    omega (arith, part, ap length c.in-Some.ensures.steps, c.len.ensures.count, c.len.type_inv, c.loop-node.invariant.few_symmetric)
-
-pub add-requires-clause-b : goal.add-requires-clause-b
-add-requires-clause-b g c =
-    let part = ap length c.loop-node.invariant.split ∙ length-append c.loop-node.yielded c.loop-node.node-iterator in
-    omega (arith, part, ap length c.in-Some.ensures.steps, c.len.ensures.count, c.len.type_inv, c.loop-node.invariant.few_silent)

@@ -1,4 +1,4 @@
-use Rattle.std.proofs.Common.{◌≡◌, ◌++◌, ◌≤◌, length}
+use Rattle.std.proofs.Common.{◌≡◌, ◌+◌, ◌++◌, ◌≤◌, length}
 use Rattle.node_grid.specs.Count.{count}
 use Rattle.node_grid.specs.Class.{is_asymmetric, is_symmetric, is_silent}
 use Rattle.fault_classes.specs.Budget.{counts_as}
@@ -13,7 +13,5 @@ invariant-loop-node g l = record {
   asymmetric : l.budget.a ≡ count (counts_as is_asymmetric l.self l.period) l.yielded;
   symmetric : l.budget.s ≡ count (counts_as is_symmetric l.self l.period) l.yielded;
   silent : l.budget.b ≡ count (counts_as is_silent l.self l.period) l.yielded;
-  few : l.budget.a ≤ length l.yielded;
-  few_symmetric : l.budget.s ≤ length l.yielded;
-  few_silent : l.budget.b ≤ length l.yielded;
+  few : l.budget.a + l.budget.s + l.budget.b ≤ length l.yielded;
 }

@@ -118,7 +118,7 @@ source-requires g t' c =
     let within = front_on t x.config.now.m x.awake a.i q front asked off in
     let brief = front_short t x.config.now.m x.awake a.i q front asked off in
     let heard1 = heard_fewer g.V.Item.form g.V.Item.first_slot g.V.Item.tells x a.self.now (length path) (length front + 1) (omega (arith, long)) c.requires.heard in
-    (elim cap [ inl e ↦ rw e (lit< tt) | inr e ↦ rw e (lit< tt) ], (s, (low_i, (on, (within, (omega (arith, brief, few), apart))))))
+    (elim cap [ inl e ↦ rw e (lit< tt) | inr e ↦ rw e (lit< tt) ], (record { set = s; node = low_i; member = on; within = within; short = omega (arith, brief, few) }, apart))
 
 pub heard_below-requires : goal.heard_below-requires
 heard_below-requires g t' c κs within' =

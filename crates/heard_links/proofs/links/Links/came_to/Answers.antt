@@ -8,7 +8,7 @@ judge-requires g c =
       search rules,
       (
         elim c.requires.heard.set.capacity [ inl e ↦ rw e (lit< tt) | inr e ↦ rw e (lit< tt) ],
-        (c.requires.heard, (c.requires.few, (c.requires.from, (c.requires.uneven.awake c.args.to c.requires.to has, c.requires.uneven.other c.args.to c.requires.to has)))),
+        record { heard = c.requires.heard; few = c.requires.few; from = c.requires.from; to = c.requires.uneven.awake c.args.to c.requires.to has; other = c.requires.uneven.other c.args.to c.requires.to has },
       ),
     )
 

@@ -29,7 +29,14 @@ entry-requires g c =
     let low = in_use x s a.i a.q on in
     let short = front_short t x.config.now.m x.awake a.i a.q a.front.now c.requires.asked c.requires.off in
     let other = last_other t x.config.now.m x.awake a.i a.q a.front.now c.requires.asked c.requires.off in
-    (elim s.capacity [ inl e ↦ rw e (lit< tt) | inr e ↦ rw e (lit< tt) ], (s, (c.requires.asked.awake_is, (on, (front_on t x.config.now.m x.awake a.i a.q a.front.now c.requires.asked c.requires.off, (short, other))))))
+    let most = few_m x s in
+    let used = s.awake a.i c.requires.asked.awake_is in (
+      elim s.capacity [ inl e ↦ rw e (lit< tt) | inr e ↦ rw e (lit< tt) ],
+      (
+        record { set = s; node = node_low x s a.i used; member = on; within = front_on t x.config.now.m x.awake a.i a.q a.front.now c.requires.asked c.requires.off; short = omega (arith, short, most) },
+        record { set = s; round = short; from = low; to = used; link = λ e. other (sym e) },
+      ),
+    )
 
 pub returns-in-Bad : goal.returns-in-Bad
 returns-in-Bad g c =

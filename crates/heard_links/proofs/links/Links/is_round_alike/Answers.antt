@@ -13,7 +13,7 @@ loop-q-init g c = record {
   ends = tt;
   alike = λ q on. elim (cases_Bool (has_id c.touched.result q)) [
     | inl is ↦ inl (ap (λ (ys : List ℕ). has_id ys q) (c.into_iter-q-iterator.ensures.into_iter_gives ∙ c.iter-q-items.ensures.members) ∙ is)
-    | inr off ↦ inr (inr (λ k on_k ne. c.touched.ensures q k off (in_use c.args.phase.now c.requires.heard.set c.args.i q on) on_k ne))
+    | inr off ↦ inr (inr (λ k on_k ne. c.touched.ensures q k off (in_use c.args.phase.now c.requires.hearers.heard.set c.args.i q on) on_k ne))
   ];
 }
 
@@ -33,6 +33,6 @@ pub returns : goal.returns
 returns g c =
     let x = c.args.phase.now in
     let t = talk_in g.V.Item.form x c.args.self.now in
-    λ is. round_alike t x.config.now.m x.awake c.args.i c.args.j c.args.round c.requires.few c.requires.one c.requires.other c.requires.members
+    λ is. round_alike t x.config.now.m x.awake c.args.i c.args.j c.args.round c.requires.hearers.few c.requires.hearers.one c.requires.hearers.other c.requires.members
     (left_none (λ (q : ℕ). IsAlikeFrom t c.args.round q c.args.i c.args.j ⊎ ((k : ℕ) → has_id x.awake k ≡ true → k ≢ q → is_even t c.args.round q k ≡ true))
     (members_at x c.args.i) c.loop-q.q-iterator c.in-None.ensures.steps.0 c.loop-q.invariant.alike)

@@ -11,7 +11,7 @@ is_alike_from-requires g c =
       search rules,
       (
         elim s.capacity [ inl e ↦ rw e (lit< tt) | inr e ↦ rw e (lit< tt) ],
-        (c.requires.heard, (c.requires.few, (in_use x s c.args.i c.args.q on, (c.requires.one, (c.requires.other, c.requires.two))))),
+        (c.requires, in_use x s c.args.i c.args.q on),
       ),
     )
 

@@ -1,9 +1,9 @@
 use Rattle.std.proofs.Common.{rules, ℕ, ◌≡◌, false, not, sym, ap, subst, ◌∙◌, inl, inr, arith, lit<}
 use Rattle.std.specs.Prelude.{is_none}
 use Rattle.fault_classes.specs.Change.{change_of}
+use Rattle.heard_links.specs.Frames.{IsJudgeable}
 use Rattle.heard_links.specs.Hearing.{ActsAs, talk_in, is_even}
 use Rattle.heard_links.proofs.Sending.{mapped_some, uneven_read, uneven_change}
-use Rattle.heard_links.proofs.Tables.{heard_fewer}
 use Rattle.heard_links.proofs.links.Links.judge.Goals as goal
 use Rattle.heard_links.proofs.links.Links.judge.Goals.{else-is_none-via-then-is_none+else-is_read_alike, else-is_none-via-else-is_none}
 
@@ -24,14 +24,8 @@ judge_first-requires g c =
       (
         elim h.set.capacity [ inl e ↦ rw e (lit< tt) | inr e ↦ rw e (lit< tt) ],
         (
-          heard_fewer form g.V.Item.first_slot g.V.Item.tells x a.self.now a.round 0 (omega arith) h,
-          (
-            c.requires.from,
-            (
-              c.requires.to,
-              (subst (λ (r : ℕ). ActsAs (change_of c.effect_or-effect.result.now) (t.change r a.from a.to)) none acts, subst (λ (r : ℕ). is_even t r a.from a.to ≡ false) none uneven),
-            ),
-          ),
+          subst (λ (r : ℕ). IsJudgeable form g.V.Item.first_slot g.V.Item.tells x a.self.now r a.from a.to) none c.requires,
+          (subst (λ (r : ℕ). ActsAs (change_of c.effect_or-effect.result.now) (t.change r a.from a.to)) none acts, subst (λ (r : ℕ). is_even t r a.from a.to ≡ false) none uneven),
         ),
       ),
     )
@@ -49,4 +43,4 @@ judge_relay-requires g c =
       | else-is_none-via-else-is_none w ↦ uneven_change t a.round a.from a.to (sym (ap is_none c.effect-effect.ensures) ∙ mapped_some _ c.effect-effect.result (c.is_none.ensures ∙ ap not w.if-is_none.false))
     ] in
     let more = c.if-round-eq0.false in
-    (search rules, (elim h.set.capacity [ inl e ↦ rw e (lit< tt) | inr e ↦ rw e (lit< tt) ], (h, (omega (arith, more), (c.requires.few, (c.requires.from, (c.requires.to, (acts, uneven))))))))
+    (search rules, (elim h.set.capacity [ inl e ↦ rw e (lit< tt) | inr e ↦ rw e (lit< tt) ], (c.requires, (omega (arith, more), (acts, uneven)))))

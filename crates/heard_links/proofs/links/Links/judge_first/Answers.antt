@@ -14,7 +14,7 @@ pub first_frame-requires : goal.first_frame-requires
 first_frame-requires g c =
     let a = c.args in
     let x = a.phase.now in
-    let h = c.requires.heard in
+    let h = c.requires.frame.heard in
     let t = talk_in g.V.Item.form x a.self.now in
     let e = t.expect 0 a.from (t.members a.to) in
     let nodes : c.expect-expect.result.nodes ≡ x.config.now.nodes = ap (λ (e : Expectation). e.nodes) c.expect-expect.ensures in
@@ -32,7 +32,7 @@ first_frame-requires g c =
             (
               omega (arith, rounds, most),
               subst (λ (those : Expectation). IsInRange those (first_content g.V.Item.form c.own.result)) (sym c.expect-expect.ensures)
-                  (item_range g.V.Item.form g.V.Item.first_slot g.V.Item.tells g.V.Item.entry_form g.V.Item.in_range g.met.V.Item.made_of g.met.V.Item.fits x (item_of a.self.now) h.set h.sys h.run a.from a.to c.requires.from (h.set.awake a.to c.requires.to) c.own.result c.own.ensures),
+                  (item_range g.V.Item.form g.V.Item.first_slot g.V.Item.tells g.V.Item.entry_form g.V.Item.in_range g.met.V.Item.made_of g.met.V.Item.fits x (item_of a.self.now) h.set h.sys h.run a.from a.to c.requires.frame.from (h.set.awake a.to c.requires.frame.to) c.own.result c.own.ensures),
             ),
           ),
         ),
@@ -43,7 +43,7 @@ pub returns-in-Good : goal.returns-in-Good
 returns-in-Good g c =
     let a = c.args in
     let x = a.phase.now in
-    let h = c.requires.heard in
+    let h = c.requires.frame.heard in
     let t = talk_in g.V.Item.form x a.self.now in
     let e = t.expect 0 a.from (t.members a.to) in
     let first_is = first_told g.V.Item.form g.V.Item.first_slot g.V.Item.tells g.V.Item.entry_form g.V.Item.in_range g.met.V.Item.made_of g.met.V.Item.fits x (item_of a.self.now) h.set h.sys h.run a.from a.to c.own.result c.own.ensures in
@@ -59,7 +59,7 @@ pub returns-in-Bad : goal.returns-in-Bad
 returns-in-Bad g c =
     let a = c.args in
     let x = a.phase.now in
-    let h = c.requires.heard in
+    let h = c.requires.frame.heard in
     let t = talk_in g.V.Item.form x a.self.now in
     let e = t.expect 0 a.from (t.members a.to) in
     let first_is = first_told g.V.Item.form g.V.Item.first_slot g.V.Item.tells g.V.Item.entry_form g.V.Item.in_range g.met.V.Item.made_of g.met.V.Item.fits x (item_of a.self.now) h.set h.sys h.run a.from a.to c.own.result c.own.ensures in

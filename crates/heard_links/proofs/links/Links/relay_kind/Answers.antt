@@ -14,7 +14,7 @@ cold_relay_frame-requires g c =
     let x = a.phase.now in
     let links = a.self.now in
     let form = g.V.Item.form in
-    let h = c.requires.heard in
+    let h = c.requires.frame.heard in
     let t = talk_in form x links in
     let e = t.expect a.round a.from (t.members a.to) in
     let nodes : c.expect-expect.result.nodes ≡ x.config.now.nodes = ap (λ (e : Expectation). e.nodes) c.expect-expect.ensures in
@@ -30,13 +30,13 @@ returns-then-not-has g c =
     let x = a.phase.now in
     let links = a.self.now in
     let form = g.V.Item.form in
-    let h = c.requires.heard in
+    let h = c.requires.frame.heard in
     let t = talk_in form x links in
     let e = t.expect a.round a.from (t.members a.to) in
     c.cold_relay_frame.ensures
     ∙ ap (λ (those : Expectation). bad_kind (arrives form.relay_in (Some (change_of a.effect.now)) those those Cold)) c.expect-expect.ensures
     ∙ ap bad_kind (acts_arrive form.relay_in (change_of a.effect.now) (t.change a.round a.from a.to) c.requires.acts e Cold)
-    ∙ sym (kind_cold form g.V.Item.first_slot g.V.Item.tells g.V.Item.entry_form g.V.Item.in_range g.met.V.Item.made_of g.met.V.Item.fits x links h.set h.sys h.run a.round a.from a.to c.requires.some c.requires.few (sym c.has.ensures ∙ c.if-not-has.true))
+    ∙ sym (kind_cold form g.V.Item.first_slot g.V.Item.tells g.V.Item.entry_form g.V.Item.in_range g.met.V.Item.made_of g.met.V.Item.fits x links h.set h.sys h.run a.round a.from a.to c.requires.some c.requires.frame.few (sym c.has.ensures ∙ c.if-not-has.true))
 
 pub relay_frame-requires : goal.relay_frame-requires
 relay_frame-requires g c =
@@ -44,7 +44,7 @@ relay_frame-requires g c =
     let x = a.phase.now in
     let links = a.self.now in
     let form = g.V.Item.form in
-    let h = c.requires.heard in
+    let h = c.requires.frame.heard in
     let t = talk_in form x links in
     let e = t.expect a.round a.from (t.members a.to) in
     let nodes : c.expect-expect.result.nodes ≡ x.config.now.nodes = ap (λ (e : Expectation). e.nodes) c.expect-expect.ensures in
@@ -53,7 +53,7 @@ relay_frame-requires g c =
     let few = h.set.config.few_nodes in
     let most = few_m x h.set in
     let sends : IsSent (t.expect a.round a.from (t.members a.to)) (form.relay (sent_by form x links a.round a.from)) =
-    sent_range form g.V.Item.first_slot g.V.Item.tells g.V.Item.entry_form g.V.Item.in_range g.met.V.Item.made_of g.met.V.Item.fits x links h.set h.sys h.run a.round a.from a.to c.requires.some c.requires.few c.requires.from in (
+    sent_range form g.V.Item.first_slot g.V.Item.tells g.V.Item.entry_form g.V.Item.in_range g.met.V.Item.made_of g.met.V.Item.fits x links h.set h.sys h.run a.round a.from a.to c.requires.some c.requires.frame.few c.requires.frame.from in (
       lit< tt,
       (
         h.set.capacity,
@@ -70,10 +70,10 @@ returns g c =
     let x = a.phase.now in
     let links = a.self.now in
     let form = g.V.Item.form in
-    let h = c.requires.heard in
+    let h = c.requires.frame.heard in
     let t = talk_in form x links in
     let e = t.expect a.round a.from (t.members a.to) in
     c.relay_frame.ensures
     ∙ ap (λ (those : Expectation). bad_kind (arrives form.relay_in (Some (change_of a.effect.now)) those those (form.relay (sent_by form x links a.round a.from)))) c.expect-expect.ensures
     ∙ ap bad_kind (acts_arrive form.relay_in (change_of a.effect.now) (t.change a.round a.from a.to) c.requires.acts e (form.relay (sent_by form x links a.round a.from)))
-    ∙ sym (kind_full form g.V.Item.first_slot g.V.Item.tells g.V.Item.entry_form g.V.Item.in_range g.met.V.Item.made_of g.met.V.Item.fits x links h.set h.sys h.run a.round a.from a.to c.requires.some c.requires.few (sym c.has.ensures ∙ c.if-not-has.false))
+    ∙ sym (kind_full form g.V.Item.first_slot g.V.Item.tells g.V.Item.entry_form g.V.Item.in_range g.met.V.Item.made_of g.met.V.Item.fits x links h.set h.sys h.run a.round a.from a.to c.requires.some c.requires.frame.few (sym c.has.ensures ∙ c.if-not-has.false))

@@ -1,4 +1,4 @@
-use Rattle.std.proofs.Common.{ℕ, ◌≡◌, ◌<◌, ◌+◌, length, Option, Some, sym, ap, subst, ◌∙◌, inl, inr, arith, lit<, slice_index_or}
+use Rattle.std.proofs.Common.{ℕ, ◌≡◌, ◌<◌, ◌+◌, length, Option, Some, sym, ap, subst, ◌∙◌, inl, inr, lit<, slice_index_or}
 use Rattle.omh_paths.specs.declared.wrapped.Wrapped.TheVariants.{Fault}
 use Rattle.frames.specs.Content.{Expectation}
 use Rattle.frames.specs.Seen.{expected}
@@ -7,17 +7,15 @@ use Rattle.fault_classes.specs.Line.{effect_at}
 use Rattle.agreed_state.specs.Expecting.{expectation}
 use Rattle.protocol.specs.Talk.{arrives}
 use Rattle.touched_items.specs.Items.{HasOwn}
+use Rattle.heard_links.specs.Frames.{IsLink}
 use Rattle.heard_links.specs.Talks.{members_at}
-use Rattle.heard_links.proofs.Sets.{in_use, acts_arrive}
+use Rattle.heard_links.proofs.Sets.{acts_arrive}
 use Rattle.heard_links.proofs.phase.Phase.entry.Goals as goal
 
 pub effect-requires : goal.effect-requires
 effect-requires g c =
-    let s = c.requires.set in
-    let x = c.args.self.now in (
-      elim s.capacity [ inl e ↦ rw e (lit< tt) | inr e ↦ rw e (lit< tt) ],
-      (s, (omega (arith, c.len-round.ensures.count, c.requires.short), (in_use x s c.args.i c.args.q c.requires.member, (s.awake c.args.i c.requires.node, λ e. c.requires.other (sym e))))),
-    )
+    let s = c.requires.link.set in
+    (elim s.capacity [ inl e ↦ rw e (lit< tt) | inr e ↦ rw e (lit< tt) ], subst (λ (n : ℕ). IsLink c.args.self.now n c.args.q c.args.i) (sym c.len-round.ensures.count) c.requires.link)
 
 pub returns : goal.returns
 returns g c = λ item content xs own good low.

@@ -25,7 +25,7 @@ is_even_to-requires g c =
     let s = c.requires.set in
     let to = c.in-Some.to in
     let here = c.loop-to.invariant.left to (ap (λ (ks : List ℕ). has_id ks to) c.in-Some.ensures.steps ∙ or_left (to == to) (has_id c.next.new.self to) (eq-eqb to to refl)) in
-    (elim s.capacity [ inl e ↦ rw e (lit< tt) | inr e ↦ rw e (lit< tt) ], (s, (c.requires.round, (c.requires.from, (s.awake to here.0, λ e. here.1 (sym e))))))
+    (elim s.capacity [ inl e ↦ rw e (lit< tt) | inr e ↦ rw e (lit< tt) ], record { set = s; round = c.requires.round; from = c.requires.from; to = s.awake to here.0; link = λ e. here.1 (sym e) })
 
 pub loop-to-preserved-then-not-is_even_to : goal.loop-to-preserved-then-not-is_even_to
 loop-to-preserved-then-not-is_even_to g c =

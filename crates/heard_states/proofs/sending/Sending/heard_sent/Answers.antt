@@ -18,7 +18,7 @@ returns-then-has g c = λ i alike sent.
     let b = sent_full x ok c.args.from (sym c.has.ensures ∙ c.if-has.true) in
     heard_good config (state_at x.states.now i) c.has-then-has.result c.good_where.result (told_by x i c.args.from) (body config b.0) c.good_where.ensures (sym sent ∙ b.2)
     (λ a mine. c.has-then-has.ensures
-    ∙ own_sent config x.states.now i c.args.from (has_id c.args.alike.now c.args.from) a b.0 ok.slot.capacity ok.slot.config (ok.senders.agreed i a mine) (ok.senders.agreed c.args.from b.0 b.1) mine b.1 alike)
+    ∙ own_sent config x.states.now i c.args.from (has_id c.args.alike.now c.args.from) a b.0 ok.slot_is.capacity ok.slot_is.config (ok.agreed i a mine) (ok.agreed c.args.from b.0 b.1) mine b.1 alike)
 
 pub returns-else-has : goal.returns-else-has
 returns-else-has g c = λ i alike sent.

@@ -34,29 +34,25 @@ arrives-requires g c =
       | else-has w ↦ ap (content e.nodes) w.frame-is ∙ said_cold x ok c.args.from (sym c.has.ensures ∙ w.if-has.false)
     ] in
     let short = ap (λ (t : Content). length (body_spelling e.nodes t)) said in
-    let few = said_short config ok.slot.capacity ok.slot.config x.slot.period c.args.from e.nodes (state_content (setting_of config) (sent_by x.senders.full x.states.now c.args.from)) (said_is x ok c.args.from) in (
-      elim ok.slot.capacity [ inl q ↦ rw q (lit< tt) | inr q ↦ rw q (lit< tt) ],
+    let few = said_short config ok.slot_is.capacity ok.slot_is.config x.slot.period c.args.from e.nodes (state_content (setting_of config) (sent_by x.senders.full x.states.now c.args.from)) (said_is x ok c.args.from) in (
+      elim ok.slot_is.capacity [ inl q ↦ rw q (lit< tt) | inr q ↦ rw q (lit< tt) ],
       (
         lit< tt,
         (
-          elim ok.slot.capacity [ inl q ↦ rw q (lit< tt) | inr q ↦ rw q (lit< tt) ],
+          elim ok.slot_is.capacity [ inl q ↦ rw q (lit< tt) | inr q ↦ rw q (lit< tt) ],
           (
-            ok.slot.capacity,
+            record {
+              capacity_ok = ok.slot_is.capacity;
+              some_nodes = omega (arith, nodes_are, ok.slot_is.config.some_nodes);
+              few_nodes = omega (arith, nodes_are, ok.slot_is.config.few_nodes);
+              few_rounds = omega (arith, ap (λ (t : Expectation). t.m) is, few_rounds g.row.N config ok.slot_is.config);
+            },
             (
-              omega (arith, nodes_are, ok.slot.config.some_nodes),
-              (
-                omega (arith, nodes_are, ok.slot.config.few_nodes),
-                (
-                  omega (arith, ap (λ (t : Expectation). t.m) is, few_rounds g.row.N config ok.slot.config),
-                  (
-                    elim c.if-has.branch [
-                      | then-has w ↦ subst (λ (b : Body g.row.N). HasWidth e.nodes b) (sym w.frame-is) tt
-                      | else-has w ↦ subst (λ (b : Body g.row.N). HasWidth e.nodes b) (sym w.frame-is) tt
-                    ],
-                    (omega (arith, short, few), omega (arith, short, few)),
-                  ),
-                ),
-              ),
+              elim c.if-has.branch [
+                | then-has w ↦ subst (λ (b : Body g.row.N). HasWidth e.nodes b) (sym w.frame-is) tt
+                | else-has w ↦ subst (λ (b : Body g.row.N). HasWidth e.nodes b) (sym w.frame-is) tt
+              ],
+              (omega (arith, short, few), omega (arith, short, few)),
             ),
           ),
         ),
@@ -77,11 +73,11 @@ told_in-requires g c =
     ] in
     let as_read = arrived_read x ok c.args.from (change_of c.args.effect.now) e c.if-has.frame c.head.result c.arrives.result is said c.head.ensures c.arrives.ensures in
     let said_in = state_content (setting_of config) (sent_by x.senders.full x.states.now c.args.from) in (
-      elim ok.slot.capacity [ inl q ↦ rw q (lit< tt) | inr q ↦ rw q (lit< tt) ],
+      elim ok.slot_is.capacity [ inl q ↦ rw q (lit< tt) | inr q ↦ rw q (lit< tt) ],
       (
-        ok.slot.capacity,
+        ok.slot_is.capacity,
         subst (λ (k : ℕ). IsShortState (content k c.in-Good.body)) nodes_are
-            (read_short config ok.slot.capacity ok.slot.config x.slot.period c.args.from (Some (change_of c.args.effect.now)) said_in (content e.nodes c.in-Good.body) (sym as_read ∙ ap (λ (r : Arrived g.row.N). seen e.nodes r) c.in-Good.is)),
+            (read_short config ok.slot_is.capacity ok.slot_is.config x.slot.period c.args.from (Some (change_of c.args.effect.now)) said_in (content e.nodes c.in-Good.body) (sym as_read ∙ ap (λ (r : Arrived g.row.N). seen e.nodes r) c.in-Good.is)),
       ),
     )
 

@@ -20,4 +20,4 @@ returns-in-Some g c =
     let config = x.slot.config.now in
     let e = expected_of config x.slot.period c.args.from in
     let said = state_content (setting_of config) (sent_by x.senders.full x.states.now c.args.from) in
-    sym (parts_law body_said e (delivered_of (Some (change_of c.args.effect.now)) (frame_by e said)) ∙ ap (part_of body_said) (c.in-Some.ensures.found e e said (said_fits config ok.slot.capacity ok.slot.config x.slot.period c.args.from said (said_is x ok c.args.from))))
+    sym (parts_law body_said e (delivered_of (Some (change_of c.args.effect.now)) (frame_by e said)) ∙ ap (part_of body_said) (c.in-Some.ensures.found e e said (said_fits config ok.slot_is.capacity ok.slot_is.config x.slot.period c.args.from said (said_is x ok c.args.from))))

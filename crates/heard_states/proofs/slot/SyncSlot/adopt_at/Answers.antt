@@ -8,34 +8,31 @@ use Rattle.heard_states.proofs.slot.SyncSlot.adopt_at.Goals as goal
 
 pub share-requires : goal.share-requires
 share-requires g c =
-    let few = c.requires.slot.config.few_nodes in
+    let few = c.requires.senders.slot_is.config.few_nodes in
     let used = c.requires.node in (
-      elim c.requires.slot.capacity [ inl e ↦ rw e (lit< tt) | inr e ↦ rw e (lit< tt) ],
-      (
-        c.requires.slot.capacity,
-        (omega arith, leader_there (record { slot = c.requires.slot; senders = c.requires.senders }) c.args.i c.in-Some.leader c.requires.node c.requires.none c.in-Some.ensures),
-      ),
+      elim c.requires.senders.slot_is.capacity [ inl e ↦ rw e (lit< tt) | inr e ↦ rw e (lit< tt) ],
+      (omega arith, leader_there c.requires.senders c.args.i c.in-Some.leader c.requires.node c.requires.none c.in-Some.ensures),
     )
 
 pub returns-in-Some-clause-own : goal.returns-in-Some-clause-own
 returns-in-Some-clause-own g c =
-    let few = c.requires.slot.config.few_nodes in
+    let few = c.requires.senders.slot_is.config.few_nodes in
     let used = c.requires.node in
     let low : c.args.i < g.row.N = omega arith in
     ap (λ (w : List (Option AgreedView)). state_at w c.args.i) c.share.ensures
     ∙ shared_own g.row.N c.args.states.now c.args.i c.in-Some.leader low c.requires.senders.long
-    ∙ sym (leads (record { slot = c.requires.slot; senders = c.requires.senders }) c.args.i c.in-Some.leader c.requires.node c.requires.none c.in-Some.ensures)
+    ∙ sym (leads c.requires.senders c.args.i c.in-Some.leader c.requires.node c.requires.none c.in-Some.ensures)
 
 pub returns-in-Some-clause-others : goal.returns-in-Some-clause-others
 returns-in-Some-clause-others g c = λ k other.
-    let few = c.requires.slot.config.few_nodes in
+    let few = c.requires.senders.slot_is.config.few_nodes in
     let used = c.requires.node in
     let low : c.args.i < g.row.N = omega arith in
     ap (λ (w : List (Option AgreedView)). state_at w k) c.share.ensures ∙ shared_other g.row.N c.args.states.now c.args.i c.in-Some.leader low c.requires.senders.long k other
 
 pub returns-in-Some-clause-long : goal.returns-in-Some-clause-long
 returns-in-Some-clause-long g c =
-    let few = c.requires.slot.config.few_nodes in
+    let few = c.requires.senders.slot_is.config.few_nodes in
     let used = c.requires.node in
     let low : c.args.i < g.row.N = omega arith in
     ap length c.share.ensures ∙ shared_long g.row.N c.args.states.now c.args.i c.in-Some.leader low c.requires.senders.long
@@ -45,7 +42,7 @@ returns-in-Some-clause-agreed g c = λ k b e.
     let v = c.args.states.now in
     let i = c.args.i in
     let j = c.in-Some.leader in
-    let few = c.requires.slot.config.few_nodes in
+    let few = c.requires.senders.slot_is.config.few_nodes in
     let used = c.requires.node in
     let low : i < g.row.N = omega arith in
     let at = ap (λ (w : List (Option AgreedView)). state_at w k) (sym c.share.ensures) ∙ e in

@@ -17,7 +17,7 @@ is_calm-requires g c =
         lit< tt,
         (
           elim slot.capacity [ inl e ↦ rw e (lit< tt) | inr e ↦ rw e (lit< tt) ],
-          (slot, record { long = ready.long; agreed = ready.agreed; used = λ j on. ready.used j (there j on); there = there; untouched = c.touched.ensures }),
+          record { slot_is = slot; long = ready.long; agreed = ready.agreed; used = λ j on. ready.used j (there j on); there = there; untouched = c.touched.ensures },
         ),
       ),
     )
@@ -38,13 +38,10 @@ adopt_at-requires g c =
         (
           elim slot.capacity [ inl e ↦ rw e (lit< tt) | inr e ↦ rw e (lit< tt) ],
           (
-            slot,
+            senders_kept c.args.self.now slot c.awake.result c.touched.result c.args.states.now c.loop-i.states there (λ j on. ready.used j (there j on)) c.touched.ensures was.states_long was.agreed was.full_kept,
             (
-              senders_kept c.args.self.now c.awake.result c.touched.result c.args.states.now c.loop-i.states there (λ j on. ready.used j (there j on)) c.touched.ensures was.states_long was.agreed was.full_kept,
-              (
-                c.loop-i-test.true,
-                was.later c.loop-i.i (omega arith) ∙ none_off c.args.self.now c.args.states.now c.args.notes.now slot ready c.awake.result c.awake.ensures.nodes c.loop-i.i (sym c.has.ensures ∙ c.if-not-has.true),
-              ),
+              c.loop-i-test.true,
+              was.later c.loop-i.i (omega arith) ∙ none_off c.args.self.now c.args.states.now c.args.notes.now slot ready c.awake.result c.awake.ensures.nodes c.loop-i.i (sym c.has.ensures ∙ c.if-not-has.true),
             ),
           ),
         ),
@@ -88,12 +85,9 @@ hear_at-requires g c =
             (
               lit< tt,
               (
-                slot,
-                (
-                  senders_kept c.args.self.now c.awake.result c.touched.result c.args.states.now c.if-not-has.states there (λ j on. ready.used j (there j on)) c.touched.ensures t.long t.agreed
-                      (taken_kept c.args.self.now c.awake.result c.args.states.now c.args.notes.now none i c.loop-i.states c.if-not-has.states c.loop-i.notes c.loop-i.heard was t),
-                  (low, (ap (λ (m : Notes). m.nodes) at ∙ ready.nodes_are i low, ap (λ (m : Notes). m.me) at ∙ ready.me_is i low)),
-                ),
+                senders_kept c.args.self.now slot c.awake.result c.touched.result c.args.states.now c.if-not-has.states there (λ j on. ready.used j (there j on)) c.touched.ensures t.long t.agreed
+                    (taken_kept c.args.self.now c.awake.result c.args.states.now c.args.notes.now none i c.loop-i.states c.if-not-has.states c.loop-i.notes c.loop-i.heard was t),
+                (low, (ap (λ (m : Notes). m.nodes) at ∙ ready.nodes_are i low, ap (λ (m : Notes). m.me) at ∙ ready.me_is i low)),
               ),
             ),
           ),

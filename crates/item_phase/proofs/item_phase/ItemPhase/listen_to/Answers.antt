@@ -6,7 +6,7 @@ use Rattle.omh_paths.specs.declared.wrapped.Wrapped.TheVariants.{Fault}
 use Rattle.omh.specs.Omh.{settled_at}
 use Rattle.equivocation.specs.Conviction.{convicts}
 use Rattle.heard_links.specs.declared.links.Links.{Links}
-use Rattle.heard_links.proofs.Sets.{few_m, member_low, node_low}
+use Rattle.heard_links.proofs.Sets.{member_low, node_low}
 use Rattle.item_phase.specs.declared.item_phase.ItemPhase.{ItemPhase}
 use Rattle.item_phase.specs.Settled.{listener}
 use Rattle.item_phase.proofs.Hearers.{settles_by, convicts_by}
@@ -22,7 +22,7 @@ settle-settled-requires g c =
       lit< tt,
       (
         g.met.V.Item.exact,
-        (set.capacity, (few_m x set, (member_low x set c.args.me c.args.commander c.requires.member, ap length c.as_mut_slice.ensures.value ∙ c.args.self.now.work_room))),
+        (member_low x set c.args.me c.args.commander c.requires.member, ap length c.as_mut_slice.ensures.value ∙ c.args.self.now.work_room),
       ),
     )
 
@@ -36,11 +36,8 @@ convicts-convicts-requires g c =
       (
         g.met.V.Item.exact,
         (
-          set.capacity,
-          (
-            ap (λ (ids : List ℕ). has_id ids c.args.commander) c.members_of.ensures ∙ c.requires.member,
-            (node_low x set me (set.awake me c.requires.node), (c.requires.other, ap length (c.as_mut_slice-then-phase-ne1.ensures.value ∙ whole) ∙ c.settle-settled.ensures.room)),
-          ),
+          ap (λ (ids : List ℕ). has_id ids c.args.commander) c.members_of.ensures ∙ c.requires.member,
+          (node_low x set me (set.awake me c.requires.node), (c.requires.other, ap length (c.as_mut_slice-then-phase-ne1.ensures.value ∙ whole) ∙ c.settle-settled.ensures.room)),
         ),
       ),
     )

@@ -9,13 +9,13 @@ use Rattle.judge.specs.declared.bench.RowError.{RowError}
 use Rattle.judge.proofs.Writing.{written_such, rows_as, line_rows}
 use Rattle.judge.proofs.bench.Bench.judge_line.Goals as goal
 
-pub returns-in-Ok-clause-rows : goal.returns-in-Ok-clause-rows
-returns-in-Ok-clause-rows g c =
+pub returns-in-Ok : goal.returns-in-Ok
+returns-in-Ok g c =
     rows_as (sink_seen g.K.Sink.written g.K.Sink.faults c.args.sink.now) (sink_seen g.K.Sink.written g.K.Sink.faults c.judge_json.new.sink) _ _ c.judge_json.result
-    (line_rows c.args.number c.args.line.now (view c.in-Ok.value) c.in-Ok.ensures.value) c.judge_json.ensures.rows
+    (line_rows c.args.number c.args.line.now (view c.in-Ok.value) c.in-Ok.ensures.value) c.judge_json.ensures
 
-pub returns-in-Err-Unreadable-clause-rows : goal.returns-in-Err-Unreadable-clause-rows
-returns-in-Err-Unreadable-clause-rows g c =
+pub returns-in-Err-Unreadable : goal.returns-in-Err-Unreadable
+returns-in-Err-Unreadable g c =
     let text : List ℕ = unread_row c.args.number in
     subst (λ (r : Result (Unit {0}) RowError). WritesRows (sink_seen g.K.Sink.written g.K.Sink.faults c.args.sink.now) (sink_seen g.K.Sink.written g.K.Sink.faults c.write_unread.new.sink) (IsRowsOf c.args.number c.args.line.now) r)
     (sym c.written.ensures)

@@ -2,7 +2,7 @@ use Rattle.std.proofs.Common.{ap, sym, subst}
 use Rattle.input_lines.specs.Reading.{LinesView}
 use Rattle.input_lines.specs.Devices.{sink_seen}
 use Rattle.judge.specs.Session.{Concludes}
-use Rattle.judge.specs.declared.status.Status.{Status}
+use Rattle.program_words.specs.declared.status.Status.{Status}
 use Rattle.judge.proofs.Taking.{concluded, concluded_so}
 use Rattle.judge.proofs.lines.Session.finish.Goals as goal
 

@@ -1,7 +1,7 @@
 use Rattle.std.proofs.Common.{sym, subst}
 use Rattle.input_lines.specs.Devices.{sink_seen, source_seen}
 use Rattle.judge.specs.Session.{stand, StopsRound}
-use Rattle.judge.specs.declared.status.Status.{Status}
+use Rattle.program_words.specs.declared.status.Status.{Status}
 use Rattle.judge.proofs.Taking.{round_unread}
 use Rattle.judge.proofs.lines.Session.round.Goals as goal
 

@@ -2,7 +2,7 @@ use Rattle.std.proofs.Common.{◌≡◌, ℕ, ◌+◌, ◌≤◌, Bool, true, fa
 use Rattle.input_lines.specs.Reading.{SourceView, GivesBytes}
 use Rattle.input_lines.specs.Devices.{SinkView, sink_seen, source_seen, WritesAll, gave_nothing, gave_both, gave_no_more, wrote_nothing, all_all}
 use Rattle.judge.specs.Session.{Stand, stand, CaughtUp, Rounds, Concludes, Runs, with_more}
-use Rattle.judge.specs.declared.status.Status.{Status}
+use Rattle.program_words.specs.declared.status.Status.{Status}
 use Rattle.judge.proofs.Taking.{caught_up_nothing, caught_up_more}
 use Rattle.judge.proofs.Running.{runs_in_round, runs_over, runs_full}
 use Rattle.judge.proofs.lines.Session.run.Goals as goal

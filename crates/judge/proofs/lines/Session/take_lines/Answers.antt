@@ -4,7 +4,7 @@ use Rattle.input_lines.specs.Reading.{LinesView, TakesLine, Takes}
 use Rattle.input_lines.specs.Devices.{sink_seen, wrote_nothing, all_all}
 use Rattle.judge.specs.Rows.{limit}
 use Rattle.judge.specs.Session.{stand, Stops}
-use Rattle.judge.specs.declared.status.Status.{Status}
+use Rattle.program_words.specs.declared.status.Status.{Status}
 use Rattle.judge.proofs.Taking.{took_nothing, took_line, stopped_at}
 use Rattle.judge.proofs.lines.Session.take_lines.Goals as goal
 
@@ -30,7 +30,7 @@ lines-preserved g c =
       text = i.text ++ j.rows.0;
       took = took_line (stand c.args.self.now) (stand c.lines.self) i.lines i.text line after.lines.rest j.rows.0 after.number i.took splits t.1 t.2 j.rows.1 j.number;
       wrote = all_all (sink_seen g.K.Sink.written g.K.Sink.faults c.args.sink.now) (sink_seen g.K.Sink.written g.K.Sink.faults c.lines.sink) (sink_seen g.K.Sink.written g.K.Sink.faults c.judge_taken.new.sink) i.text j.rows.0 i.wrote j.rows.2;
-      ready = record { rooms = c.judge_taken.ensures.rooms; limit = ap (λ (l : LinesView). l.limit) c.judge_taken.ensures.lines ∙ t.3 ∙ i.ready.limit };
+      ready = record { limit = ap (λ (l : LinesView). l.limit) c.judge_taken.ensures.lines ∙ t.3 ∙ i.ready.limit };
     }
 
 pub returns-in-Err-judge_taken-clause-takes : goal.returns-in-Err-judge_taken-clause-takes

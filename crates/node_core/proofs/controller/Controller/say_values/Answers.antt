@@ -3,7 +3,7 @@ use Rattle.std.proofs.Math.Nat.{mul-mod_right}
 use Rattle.std.specs.List.{flat_map}
 use Rattle.std.proofs.lemmas.List.{length-take-le}
 use Rattle.node_grid.specs.NodeSet.{IsIdSet}
-use Rattle.node_grid.specs.NodeSetLaws.{All-ids, length-ids}
+use Rattle.node_grid.specs.NodeSetLaws.{length-ids}
 use Rattle.frames.specs.Content.{IsValue}
 use Rattle.frames.specs.Content.Content.{Data}
 use Rattle.frames.specs.Reading.{content_values}
@@ -13,17 +13,6 @@ use Rattle.node_steps.specs.Parts.{NodeView}
 use Rattle.node_core.proofs.Behind.{config_ok}
 use Rattle.node_core.proofs.Spelt.{says_values, values_kept, values_long}
 use Rattle.node_core.proofs.controller.Controller.say_values.Goals as goal
-
-pub put_values-requires-clause-low : goal.put_values-requires-clause-low
-put_values-requires-clause-low g c =
-    let v = c.args.self.now in
-    let is = c.self.view_is in
-    let due : List ℕ = c.as_slice-due.result.now in
-    let same : due ≡ v.found.due = c.as_slice-due.ensures.value ∙ ap (λ (w : NodeView g.row.N). w.found.due) is in
-    let channels : ℕ = length v.config.channels.items in
-    let most : channels ≤ 8 = (config_ok c.self.inside v c.self.invariant is).few_channels in
-    let set : IsIdSet channels due = subst (IsIdSet channels) (sym same) c.requires.ready.sound.sizes.found.due in
-    λ k d l. (let b = All-ids channels due set k d l in omega (arith, b, most))
 
 pub over-values-requires : goal.over-values-requires
 over-values-requires g c =
@@ -80,11 +69,8 @@ head-requires g c = elim c.self.invariant.place.capacity [ inl e ↦ rw e (lit< 
 pub overflow_mul-size : goal.overflow_mul-size
 overflow_mul-size g c = let few = c.as_slice-due.ensures.fits in omega (arith, few)
 
-pub put_values-requires-clause-few : goal.put_values-requires-clause-few
-put_values-requires-clause-few g c = c.as_slice-due.ensures.fits
-
-pub put_values-requires-clause-room : goal.put_values-requires-clause-room
-put_values-requires-clause-room g c = let few = c.as_slice-due.ensures.fits in omega (arith, few)
+pub put_values-requires : goal.put_values-requires
+put_values-requires g c = let few = c.as_slice-due.ensures.fits in omega (arith, few)
 
 pub slice_bounds-bytes-end : goal.slice_bounds-bytes-end
 slice_bounds-bytes-end g c = let few = c.as_slice-due.ensures.fits in let out = c.put_values.auto.out in omega (arith, few, out)

@@ -1,9 +1,7 @@
-use Rattle.std.proofs.Common.{rules, ◌≡◌, ◌≢◌, ◌<◌, ◌≤◌, ◌+◌, ◌-◌, ◌*◌, suc, ◌==◌, ◌&&◌, Bool, true, false, not, length, take, drop, map, List, [], ◌∷◌, ◌++◌, ℕ, slice_index_or, sym, ap, ◌∙◌, inl, inr, arith, eq-eqb, eqb-true, ne_eqb}
-use Rattle.std.proofs.lemmas.Bool.{or_cases, or_from, cases_eq}
+use Rattle.std.proofs.Common.{rules, ◌≡◌, ◌≢◌, ◌<◌, ◌≤◌, ◌+◌, ◌-◌, ◌*◌, suc, ◌==◌, ◌&&◌, Bool, true, false, not, length, take, drop, map, List, [], ◌∷◌, ◌++◌, ℕ, slice_index_or, sym, ap, ◌∙◌, inl, inr, arith, eq-eqb, ne_eqb}
+use Rattle.std.proofs.lemmas.Bool.{or_from, cases_eq}
 use Rattle.std.proofs.lemmas.List.{length_push}
-use Rattle.node_grid.specs.Capacity.{IsCapacity}
 use Rattle.node_grid.specs.NodeSet.{has_id, without_id, IsIdSet}
-use Rattle.node_grid.specs.CapacityLaws.{capacity-le}
 use Rattle.node_grid.specs.ListLaws.{has_push}
 use Rattle.omh_paths.specs.declared.wrapped.Wrapped.TheVariants.{Fault}
 use Rattle.omh_paths.specs.Paths.{outside}
@@ -18,26 +16,18 @@ use Rattle.odd_relays.specs.Direct.{direct_world}
 use Rattle.odd_relays.proofs.ChainLaws.{chain_term, chain_now, chain_later, chain_base, chain_odd}
 use Rattle.odd_relays.proofs.Laying.{next_on, next_outside, next_short, split_more, split_all}
 use Rattle.odd_relays.proofs.Places.{row_is, row_more}
-use Rattle.odd_relays.proofs.Cutting.{alike_settles, chain_push}
+use Rattle.odd_relays.proofs.Cutting.{alike_settles, chain_push, chain_low}
 use Rattle.odd_relays.proofs.Columns.{filled_row, filled_here, filled_below, final_row, final_copied, final_own, final_below}
 use Rattle.odd_relays.proofs.item.Item.+settle_chain.Goals as goal
 use Rattle.odd_relays.proofs.item.Item.+settle_chain.Goals.{then-has, else-has}
-
--- a path within the nodes, and one node more
-low_push : (n : ℕ) (path longer : List ℕ) (q : ℕ) → ((x : ℕ) → has_id path x ≡ true → x < n) → q < n → longer ≡ path ++ q ∷ [] → (x : ℕ) → has_id longer x ≡ true → x < n
-low_push n path longer q low at is x on = elim (or_cases (has_id path x) (q == x) (sym (has_push path q x) ∙ ap (λ (p : List ℕ). has_id p x) (sym is) ∙ on)) [
-  | inl before ↦ low x before
-  | inr here ↦ let e : q ≡ x = eqb-true q x here in omega arith
-]
 
 -- the next member is below N, and there are terms left for it
 next_low : (n : ℕ) (all s path ys rest left : List ℕ) (q : ℕ) → IsIdSet n all → all ≡ outside s path → outside s path ≡ ys ++ left → left ≡ q ∷ rest → q < n
 next_low n all s path ys rest left q ids is split steps = member-lt n all q ids (ap (λ (xs : List ℕ). has_id xs q) is ∙ next_on (outside s path) ys rest left q split steps)
 
-next_few : (n : ℕ) (all s path ys rest left : List ℕ) (q : ℕ) → IsCapacity n → length all ≤ n → all ≡ outside s path → outside s path ≡ ys ++ left → left ≡ q ∷ rest → length ys < 16
+next_few : (n : ℕ) (all s path ys rest left : List ℕ) (q : ℕ) → n ≤ 16 → length all ≤ n → all ≡ outside s path → outside s path ≡ ys ++ left → left ≡ q ∷ rest → length ys < 16
 next_few n all s path ys rest left q capacity few is split steps =
     let l = next_short (outside s path) ys rest left q n split steps (omega (arith, ap length is)) in
-    let k = capacity-le n capacity in
     omega arith
 
 not_self : (o : Bool) (q i : ℕ) → o ≡ true → q ≢ i → (o && not (q == i)) ≡ true
@@ -65,7 +55,7 @@ returns-then-len-self-clause-settled g k c =
     let p = c.args.path.now in
     let t = telling g.S.Relays.says c.args.self.now in
     let w = direct_world t in
-    let e : t.rounds + 1 - length p ≡ 0 = omega (arith, c.if-len-self.true, c.len-2.ensures.count) in
+    let e : t.rounds + 1 - length p ≡ 0 = omega (arith, c.if-len-self.true, c.len-3.ensures.count) in
     λ i on. c.lay_heard.ensures.laid i on ∙ sym (chain_now g.V.PartialEq.eq w t.odd i p) ∙ sym (ap (λ (r : ℕ). chain_within g.V.PartialEq.eq w t.odd i r p) e)
 
 pub returns-then-lay_alike-clause-settled : goal.returns-then-lay_alike-clause-settled
@@ -77,7 +67,7 @@ returns-then-lay_alike-clause-settled g k c = λ i on.
 pub passed-own-requires : goal.passed-own-requires
 passed-own-requires g k c =
     let low = next_low g.row.N c.outside.result c.args.self.now.phase.members c.args.path.now c.loop-q.yielded c.next.new.self c.loop-q.q-iterator c.in-Some.q c.iter-q-items.ensures.ids c.outside.ensures c.loop-q.invariant.split c.in-Some.ensures.steps in
-    (omega arith, (c.requires.item, low))
+    (omega arith, low)
 
 pub without-others-requires : goal.without-others-requires
 without-others-requires g k c =
@@ -92,7 +82,7 @@ settle_chain-requires g k c κs within =
     let p = c.args.path.now in
     let q = c.in-Some.q in
     let low = next_low g.row.N c.outside.result c.args.self.now.phase.members p c.loop-q.yielded c.next.new.self c.loop-q.q-iterator q c.iter-q-items.ensures.ids c.outside.ensures c.loop-q.invariant.split c.in-Some.ensures.steps in
-    let deep : length p ≤ c.args.self.now.phase.rounds = omega (arith, c.if-len-self.false, c.len-2.ensures.count) in
+    let deep : length p ≤ c.args.self.now.phase.rounds = omega (arith, c.if-len-self.false, c.len-3.ensures.count) in
     let l : length c.then.result ≡ length p + 1 = ap length c.then.ensures ∙ length_push p q in
     let long = c.fill_terms.ensures.room in
     let next = next_outside c.args.self.now.phase.members p c.loop-q.yielded c.next.new.self c.loop-q.q-iterator q c.loop-q.invariant.split c.in-Some.ensures.steps in
@@ -109,22 +99,21 @@ settle_chain-requires g k c κs within =
               omega arith,
               (
                 omega arith,
-                (
-                  c.requires.exact,
-                  (
-                    c.requires.item,
-                    (
-                      low_push g.row.N p c.then.result q c.requires.nodes low c.then.ensures,
-                      (omega (arith, l, deep), (omega (arith, l, deep, long, c.loop-q.invariant.long, c.requires.room), (omega (arith, long, c.loop-q.invariant.long, c.requires.small), (c.requires.few, (chain, off))))),
-                    ),
-                  ),
-                ),
+                (c.requires.exact, (omega (arith, l, deep, long, c.loop-q.invariant.long, c.requires.room), (c.requires.few, (chain, off)))),
               ),
             ),
           ),
         ),
       ),
     )
+
+pub lay_alike-requires : goal.lay_alike-requires
+lay_alike-requires g k c =
+    let low = chain_low (telling g.S.Relays.says c.args.self.now) c.args.path.now g.row.N c.len-2.ensures.ids c.requires.chain in
+    (omega arith, (omega arith, (c.requires.exact, (low, omega (arith, c.requires.room)))))
+
+pub outside-requires : goal.outside-requires
+outside-requires g k c = (omega arith, chain_low (telling g.S.Relays.says c.args.self.now) c.args.path.now g.row.N c.len-2.ensures.ids c.requires.chain)
 
 pub loop-q-preserved : goal.loop-q-preserved
 loop-q-preserved g k c =
@@ -139,10 +128,10 @@ loop-q-preserved g k c =
     let from : ℕ = c.args.from in
     let ys = c.loop-q.yielded in
     let nodes = c.args.receivers.now in
-    let few16 = next_few g.row.N c.outside.result t.members p ys c.next.new.self c.loop-q.q-iterator q c.requires.item.capacity_ok c.iter-q-items.ensures.few c.outside.ensures inv.split c.in-Some.ensures.steps in
+    let few16 = next_few g.row.N c.outside.result t.members p ys c.next.new.self c.loop-q.q-iterator q c.args.self.now.fits c.iter-q-items.ensures.few c.outside.ensures inv.split c.in-Some.ensures.steps in
     let few : n ≤ 15 = omega (arith, few16, inv.count) in
-    let deep : length p ≤ t.rounds = omega (arith, c.if-len-self.false, c.len-2.ensures.count) in
-    let low : (i : ℕ) → has_id nodes i ≡ true → i < 16 = λ i on. let m = member-lt g.row.N nodes i c.len.ensures.ids on in omega (arith, m, capacity-le g.row.N c.requires.item.capacity_ok) in
+    let deep : length p ≤ t.rounds = omega (arith, c.if-len-self.false, c.len-3.ensures.count) in
+    let low : (i : ℕ) → has_id nodes i ≡ true → i < 16 = λ i on. let m = member-lt g.row.N nodes i c.len.ensures.ids on in omega (arith, m, c.args.self.now.fits) in
     let fill = c.fill_terms.ensures in
     let own = c.passed-own.result in
     let is_own : own ≡ own_term (ear w q) p = c.passed-own.ensures in
@@ -204,12 +193,12 @@ returns-clause-settled g k c =
     let inv = c.loop-q.invariant in
     let ys = c.loop-q.yielded in
     let all = split_all (outside t.members p) ys c.loop-q.q-iterator inv.split c.in-None.ensures.steps.0 in
-    let e : suc r ≡ t.rounds + 1 - length p = omega (arith, c.if-len-self.false, c.len-2.ensures.count) in
-    let few : length ys ≤ 16 = omega (arith, ap length all, ap length c.outside.ensures, c.iter-q-items.ensures.few, capacity-le g.row.N c.requires.item.capacity_ok) in
+    let e : suc r ≡ t.rounds + 1 - length p = omega (arith, c.if-len-self.false, c.len-3.ensures.count) in
+    let few : length ys ≤ 16 = omega (arith, ap length all, ap length c.outside.ensures, c.iter-q-items.ensures.few, c.args.self.now.fits) in
     λ i on.
     let m = member-lt g.row.N c.args.receivers.now i c.len.ensures.ids on in
     let s : ℕ = c.args.from + 16 + 16 * i in
-    let room : s + length ys ≤ length c.loop-q.work = omega (arith, few, m, capacity-le g.row.N c.requires.item.capacity_ok, inv.long, c.requires.room, c.if-len-self.false, c.len-2.ensures.count) in
+    let room : s + length ys ≤ length c.loop-q.work = omega (arith, few, m, c.args.self.now.fits, inv.long, c.requires.room, c.if-len-self.false, c.len-3.ensures.count) in
     c.settle_terms.ensures.settled i on
     ∙ ap (λ (n : ℕ). unwrapped (majority_of eq (take n (drop s c.loop-q.work)))) inv.count
     ∙ ap (λ ts. unwrapped (majority_of eq ts)) (row_is (Fault 0) (chain_term eq w t.odd r i p) ys c.loop-q.work s room (inv.terms i on) ∙ ap (map (chain_term eq w t.odd r i p)) (sym all))

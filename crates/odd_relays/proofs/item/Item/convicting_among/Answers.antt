@@ -53,11 +53,8 @@ voices_for-voices-requires g c =
       (
         c.requires.exact,
         (
-          c.requires.item,
-          (
-            low_of g.row.N c.args.nodes.now c.loop-i.yielded c.next.new.self c.loop-i.i-iterator c.in-Some.i c.iter-i-items.ensures.ids i.split c.in-Some.ensures.steps,
-            (i.low, i.counted),
-          ),
+          low_of g.row.N c.args.nodes.now c.loop-i.yielded c.next.new.self c.loop-i.i-iterator c.in-Some.i c.iter-i-items.ensures.ids i.split c.in-Some.ensures.steps,
+          (i.low, i.counted),
         ),
       ),
     )
@@ -71,11 +68,8 @@ convicts_beside-requires g c =
       (
         c.requires.exact,
         (
-          c.requires.item,
-          (
-            low_of g.row.N nodes c.loop-i.yielded c.next.new.self c.loop-i.i-iterator c.in-Some.i c.iter-i-items.ensures.ids i.split c.in-Some.ensures.steps,
-            (apart nodes c.args.self.now.commander c.in-Some.i c.requires.others on, c.voices_for-voices.ensures),
-          ),
+          low_of g.row.N nodes c.loop-i.yielded c.next.new.self c.loop-i.i-iterator c.in-Some.i c.iter-i-items.ensures.ids i.split c.in-Some.ensures.steps,
+          (apart nodes c.args.self.now.commander c.in-Some.i c.requires.others on, c.voices_for-voices.ensures),
         ),
       ),
     )

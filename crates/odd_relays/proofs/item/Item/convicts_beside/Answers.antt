@@ -3,7 +3,6 @@ use Rattle.std.specs.Prelude.{slice_index_or}
 use Rattle.node_grid.specs.NodeSet.{has_id, without_id}
 use Rattle.node_grid.specs.NodeSetLaws.{length-ids}
 use Rattle.node_grid.specs.Count.{bit, count}
-use Rattle.node_grid.specs.CapacityLaws.{capacity-le}
 use Rattle.node_grid.specs.ListLaws.{count-more}
 use Rattle.omh_paths.specs.declared.wrapped.Wrapped.TheVariants.{Fault}
 use Rattle.omh_paths.specs.Wrapped.{wrapped, same}
@@ -16,7 +15,7 @@ use Rattle.odd_relays.proofs.Voices.{count_few, few_regular, few_odd, odd_off, o
 use Rattle.odd_relays.proofs.item.Item.convicts_beside.Goals as goal
 
 pub without-odd-requires : goal.without-odd-requires
-without-odd-requires g c = (omega arith, member-lt g.row.N c.args.self.now.phase.members c.args.self.now.commander c.len.ensures.ids c.requires.item.member)
+without-odd-requires g c = (omega arith, member-lt g.row.N c.args.self.now.phase.members c.args.self.now.commander c.len.ensures.ids c.args.self.now.member)
 
 pub loop-q-init : goal.loop-q-init
 loop-q-init g c =
@@ -43,7 +42,7 @@ pub with-voices-requires-clause-present : goal.with-voices-requires-clause-prese
 with-voices-requires-clause-present g c =
     let t = telling g.S.Relays.says c.args.self.now in
     let i = c.loop-q.invariant in
-    let n = capacity-le g.row.N c.requires.item.capacity_ok in
+    let n = c.args.self.now.fits in
     let m = length-ids g.row.N t.members c.len.ensures.ids in
     let regular = c.requires.counted.present in
     omega (
@@ -61,7 +60,7 @@ pub with-voices-requires-clause-against : goal.with-voices-requires-clause-again
 with-voices-requires-clause-against g c =
     let t = telling g.S.Relays.says c.args.self.now in
     let i = c.loop-q.invariant in
-    let n = capacity-le g.row.N c.requires.item.capacity_ok in
+    let n = c.args.self.now.fits in
     let m = length-ids g.row.N t.members c.len.ensures.ids in
     let regular = c.requires.counted.against in
     let own = slice_index_or t.told c.args.i (Fault 0) in
@@ -102,7 +101,7 @@ pub and_own-requires : goal.and_own-requires
 and_own-requires g c =
     let t = telling g.S.Relays.says c.args.self.now in
     let i = c.loop-q.invariant in
-    let n = capacity-le g.row.N c.requires.item.capacity_ok in
+    let n = c.args.self.now.fits in
     let m = length-ids g.row.N t.members c.len.ensures.ids in
     let regular = c.requires.counted.present in
     let all = ap length (split_all (without_id (odd_members t) c.args.i) c.loop-q.yielded c.loop-q.q-iterator i.split c.in-None.ensures.steps.0) in

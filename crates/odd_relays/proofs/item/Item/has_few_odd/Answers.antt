@@ -1,7 +1,6 @@
 use Rattle.std.proofs.Common.{◌≡◌, ◌≤◌, ◌+◌, ◌-◌, ◌*◌, ◌&&◌, not, refl, ℕ, List, length, ap, arith, lt-ltb, ltb-true}
 use Rattle.node_grid.specs.NodeSet.{has_id, minus_of}
 use Rattle.node_grid.specs.Count.{count}
-use Rattle.node_grid.specs.CapacityLaws.{capacity-le}
 use Rattle.node_grid.specs.NodeSetLaws.{length-ids}
 use Rattle.odd_relays.proofs.Direct.{count_odd, count_idle}
 use Rattle.odd_relays.proofs.item.Item.has_few_odd.Goals as goal
@@ -17,18 +16,18 @@ overflow_sub-odd g c = regular_fewer c.args.self.now.phase.members c.args.self.n
 
 pub overflow_mul-result : goal.overflow_mul-result
 overflow_mul-result g c =
-    let f = few_nodes g.row.N c.len.result c.args.self.now.phase.members (capacity-le g.row.N c.requires.capacity) c.len.ensures.count (length-ids g.row.N c.args.self.now.phase.members c.len.ensures.ids) in omega arith
+    let f = few_nodes g.row.N c.len.result c.args.self.now.phase.members c.args.self.now.fits c.len.ensures.count (length-ids g.row.N c.args.self.now.phase.members c.len.ensures.ids) in omega arith
 
 pub overflow_add-result : goal.overflow_add-result
 overflow_add-result g c =
-    let f = few_nodes g.row.N c.len.result c.args.self.now.phase.members (capacity-le g.row.N c.requires.capacity) c.len.ensures.count (length-ids g.row.N c.args.self.now.phase.members c.len.ensures.ids) in
-    let h = few_nodes g.row.N c.len-idle.result c.minus.result (capacity-le g.row.N c.requires.capacity) c.len-idle.ensures.count (length-ids g.row.N c.minus.result c.len-idle.ensures.ids) in omega arith
+    let f = few_nodes g.row.N c.len.result c.args.self.now.phase.members c.args.self.now.fits c.len.ensures.count (length-ids g.row.N c.args.self.now.phase.members c.len.ensures.ids) in
+    let h = few_nodes g.row.N c.len-idle.result c.minus.result c.args.self.now.fits c.len-idle.ensures.count (length-ids g.row.N c.minus.result c.len-idle.ensures.ids) in omega arith
 
 pub overflow_add-result-2 : goal.overflow_add-result-2
 overflow_add-result-2 g c =
-    let f = few_nodes g.row.N c.len.result c.args.self.now.phase.members (capacity-le g.row.N c.requires.capacity) c.len.ensures.count (length-ids g.row.N c.args.self.now.phase.members c.len.ensures.ids) in
-    let h = few_nodes g.row.N c.len-idle.result c.minus.result (capacity-le g.row.N c.requires.capacity) c.len-idle.ensures.count (length-ids g.row.N c.minus.result c.len-idle.ensures.ids) in
-    let m = c.requires.rounds in omega arith
+    let f = few_nodes g.row.N c.len.result c.args.self.now.phase.members c.args.self.now.fits c.len.ensures.count (length-ids g.row.N c.args.self.now.phase.members c.len.ensures.ids) in
+    let h = few_nodes g.row.N c.len-idle.result c.minus.result c.args.self.now.fits c.len-idle.ensures.count (length-ids g.row.N c.minus.result c.len-idle.ensures.ids) in
+    let m = c.args.self.now.short in omega arith
 
 sides : (members full odd regular left : List ℕ) (n k j m o z : ℕ) → o ≡ count (λ q. has_id odd q) members → z ≡ count (λ q. not (has_id odd q) && not (has_id full q)) members
     → n ≡ length members → k ≡ length regular → j ≡ length left → regular ≡ minus_of members odd → left ≡ minus_of regular full

@@ -8,7 +8,7 @@ pub heard-heard-requires : goal.heard-heard-requires
 heard-heard-requires g c =
     let i = c.loop-k.invariant in
     let l = low_of g.row.N c.args.nodes.now c.loop-k.yielded c.next.new.self c.loop-k.k-iterator c.in-Some.k c.iter-k-items.ensures.ids i.split c.in-Some.ensures.steps in
-    (omega arith, (c.requires.item, l))
+    (omega arith, l)
 
 pub loop-k-preserved : goal.loop-k-preserved
 loop-k-preserved g c =

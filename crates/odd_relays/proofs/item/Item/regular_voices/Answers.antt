@@ -3,7 +3,6 @@ use Rattle.std.specs.Prelude.{slice_index_or}
 use Rattle.node_grid.specs.NodeSet.{without_id}
 use Rattle.node_grid.specs.NodeSetLaws.{length-ids}
 use Rattle.node_grid.specs.Count.{bit, count}
-use Rattle.node_grid.specs.CapacityLaws.{capacity-le}
 use Rattle.node_grid.specs.ListLaws.{count-more}
 use Rattle.omh_paths.specs.declared.wrapped.Wrapped.TheVariants.{Fault}
 use Rattle.omh_paths.specs.Wrapped.{wrapped, same}
@@ -18,7 +17,7 @@ use Rattle.odd_relays.proofs.Voices.{count_few, few_regular}
 use Rattle.odd_relays.proofs.item.Item.regular_voices.Goals as goal
 
 pub without-regular-requires : goal.without-regular-requires
-without-regular-requires g c = (omega arith, member-lt g.row.N c.args.self.now.phase.members c.args.self.now.commander c.len.ensures.ids c.requires.item.member)
+without-regular-requires g c = (omega arith, member-lt g.row.N c.args.self.now.phase.members c.args.self.now.commander c.len.ensures.ids c.args.self.now.member)
 
 pub loop-q-init : goal.loop-q-init
 loop-q-init g c =
@@ -36,7 +35,7 @@ pub with-voices-requires-clause-present : goal.with-voices-requires-clause-prese
 with-voices-requires-clause-present g c =
     let t = telling g.S.Relays.says c.args.self.now in
     let i = c.loop-q.invariant in
-    let n = capacity-le g.row.N c.requires.item.capacity_ok in
+    let n = c.args.self.now.fits in
     let few = few_regular t g.row.N (length-ids g.row.N t.members c.len.ensures.ids) in
     omega (
       arith,
@@ -50,7 +49,7 @@ pub with-voices-requires-clause-against : goal.with-voices-requires-clause-again
 with-voices-requires-clause-against g c =
     let t = telling g.S.Relays.says c.args.self.now in
     let i = c.loop-q.invariant in
-    let n = capacity-le g.row.N c.requires.item.capacity_ok in
+    let n = c.args.self.now.fits in
     let few = few_regular t g.row.N (length-ids g.row.N t.members c.len.ensures.ids) in
     omega (
       arith,

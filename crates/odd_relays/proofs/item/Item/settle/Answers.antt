@@ -2,7 +2,6 @@ use Rattle.std.proofs.Common.{ℕ, ◌≡◌, ◌≢◌, ◌<◌, ◌==◌, ◌|
 use Rattle.std.proofs.lemmas.Bool.{cases_Bool, or_cases, or_left}
 use Rattle.node_grid.specs.NodeSet.{has_id, with_id}
 use Rattle.node_grid.specs.NodeSetLaws.{passes_where, has-with_id}
-use Rattle.node_grid.specs.CapacityLaws.{capacity-le}
 use Rattle.odd_relays.proofs.item.Item.settle.Goals as goal
 
 -- a set of one node
@@ -20,10 +19,10 @@ only_alone n empty alone c i ne none is = elim (cases_Bool (has_id alone c)) [
 
 pub settle_at-requires : goal.settle_at-requires
 settle_at-requires g c =
-    (omega arith, (omega arith, (c.requires.exact, (c.requires.item, (c.requires.few, (only_alone g.row.N c.empty-alone.result c.put.new.self c.args.self.now.commander c.args.i c.requires.other c.empty-alone.ensures c.put.ensures, c.requires.room))))))
+    (omega arith, (omega arith, (c.requires.exact, (c.requires.few, (only_alone g.row.N c.empty-alone.result c.put.new.self c.args.self.now.commander c.args.i c.requires.other c.empty-alone.ensures c.put.ensures, c.requires.room)))))
 
 pub value_at-requires : goal.value_at-requires
-value_at-requires g c = omega (arith, c.settle_at.ensures.room, c.requires.node, capacity-le g.row.N c.requires.item.capacity_ok)
+value_at-requires g c = omega (arith, c.settle_at.ensures.room, c.requires.node, c.args.self.now.fits)
 
 pub returns-clause-settled : goal.returns-clause-settled
 returns-clause-settled g c = c.value_at.ensures ∙ c.settle_at.ensures.settled c.args.i (has_alone g.row.N c.empty-alone.result c.put.new.self c.args.i c.requires.node c.put.ensures)

@@ -1,8 +1,8 @@
-use Rattle.std.proofs.Common.{ℕ, ◌≡◌, ◌≢◌, true, false, List, sym, ap, ◌∙◌, arith}
+use Rattle.std.proofs.Common.{ℕ, ◌≡◌, ◌≢◌, true, false, List, ap, ◌∙◌, arith}
 use Rattle.std.proofs.lemmas.Bool.{both_ways}
 use Rattle.node_grid.specs.NodeSet.{has_id, without_id}
 use Rattle.omh_paths.specs.MemberLaws.{member-lt}
-use Rattle.odd_relays.proofs.Laying.{has_rest, not_rest, none_of, first_on}
+use Rattle.odd_relays.proofs.Laying.{has_rest, not_rest}
 use Rattle.odd_relays.proofs.item.Item.settle_all.Goals as goal
 
 -- the nodes that are awake but one
@@ -13,11 +13,11 @@ off_rest : (awake nodes : List ℕ) (c : ℕ) → nodes ≡ without_id awake c �
 off_rest awake nodes c is = ap (λ (s : List ℕ). has_id s c) is ∙ not_rest awake c
 
 pub without-nodes-requires : goal.without-nodes-requires
-without-nodes-requires g c = (omega arith, member-lt g.row.N c.args.self.now.phase.members c.args.self.now.commander c.len.ensures.ids c.requires.item.member)
+without-nodes-requires g c = (omega arith, member-lt g.row.N c.args.self.now.phase.members c.args.self.now.commander c.len.ensures.ids c.args.self.now.member)
 
-pub returns-in_default-clause-settled : goal.returns-in_default-clause-settled
-returns-in_default-clause-settled g c = λ i on ne.
-    absurd (both_ways _ (none_of c.without-nodes.result i (sym c.in_default.ensures.first)) (on_rest c.args.awake.now c.without-nodes.result c.args.self.now.commander i c.without-nodes.ensures on ne))
+pub returns-then-is_empty-clause-settled : goal.returns-then-is_empty-clause-settled
+returns-then-is_empty-clause-settled g c = λ i on ne.
+    absurd (both_ways _ (ap (λ (s : List ℕ). has_id s i) (c.is_empty.ensures.0 c.if-is_empty.true)) (on_rest c.args.awake.now c.without-nodes.result c.args.self.now.commander i c.without-nodes.ensures on ne))
 
 pub settle_as_one-requires : goal.settle_as_one-requires
 settle_as_one-requires g c =
@@ -25,18 +25,18 @@ settle_as_one-requires g c =
     let fulls : (q : ℕ) → has_id c.args.self.now.phase.members q ≡ true → has_id c.args.self.now.phase.full q ≡ true → c.args.self.now.commander ≢ q → has_id c.without-nodes.result q ≡ true =
     λ q on f ne. on_rest c.args.awake.now c.without-nodes.result c.args.self.now.commander q c.without-nodes.ensures (c.requires.full q on f) ne in (
       omega arith,
-      (omega arith, (c.requires.exact, (c.requires.item, (c.requires.few, (off, (fulls, (first_on c.without-nodes.result c.in-Some.first (sym c.in-Some.ensures.first), c.requires.room))))))),
+      (omega arith, (c.requires.exact, (c.requires.few, (off, (fulls, c.requires.room))))),
     )
 
 pub settle_each-requires : goal.settle_each-requires
 settle_each-requires g c =
     let off = off_rest c.args.awake.now c.without-nodes.result c.args.self.now.commander c.without-nodes.ensures in
-    (omega arith, (omega arith, (c.requires.exact, (c.requires.item, (c.requires.few, (off, (c.in-None.ensures.room, c.requires.places)))))))
+    (omega arith, (omega arith, (c.requires.exact, (c.requires.few, (off, (c.in-None.ensures.room, c.requires.places))))))
 
-pub returns-in-Some-settle_as_one-clause-settled : goal.returns-in-Some-settle_as_one-clause-settled
-returns-in-Some-settle_as_one-clause-settled g c = λ i on ne.
+pub returns-in-Some-clause-settled : goal.returns-in-Some-clause-settled
+returns-in-Some-clause-settled g c = λ i on ne.
     let here = on_rest c.args.awake.now c.without-nodes.result c.args.self.now.commander i c.without-nodes.ensures on ne in
-    c.fill.ensures.laid i here ∙ c.in-Some-settle_as_one.ensures.settled i here
+    c.fill.ensures.laid i here ∙ c.in-Some.ensures.settled i here
 
 pub returns-in-None-clause-settled : goal.returns-in-None-clause-settled
 returns-in-None-clause-settled g c = λ i on ne. c.settle_each.ensures.settled i (on_rest c.args.awake.now c.without-nodes.result c.args.self.now.commander i c.without-nodes.ensures on ne)

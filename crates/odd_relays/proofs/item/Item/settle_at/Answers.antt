@@ -1,8 +1,8 @@
-use Rattle.std.proofs.Common.{◌≡◌, ◌<◌, ◌+◌, ◌-◌, ◌==◌, true, ℕ, List, [], ◌∷◌, length, slice_index_or, false, refl, sym, ap, ◌∙◌, inl, inr, arith, eqb-true, ne_eqb}
-use Rattle.std.proofs.lemmas.Bool.{or_cases, or_from}
+use Rattle.std.proofs.Common.{◌≡◌, ◌+◌, ◌-◌, ◌==◌, true, ℕ, List, length, slice_index_or, false, refl, ap, ◌∙◌, arith, ne_eqb}
+use Rattle.std.proofs.lemmas.Bool.{or_from}
 use Rattle.odd_relays.proofs.Cutting.{chain_root}
-use Rattle.node_grid.specs.NodeSet.{has_id, IsIdSet}
-use Rattle.omh_paths.specs.MemberLaws.{Distinct-ids, member-lt}
+use Rattle.node_grid.specs.NodeSet.{has_id}
+use Rattle.omh_paths.specs.MemberLaws.{Distinct-ids}
 use Rattle.omh_paths.specs.declared.wrapped.Wrapped.TheVariants.{Fault}
 use Rattle.odd_relays.specs.Chains.{chain_within}
 use Rattle.odd_relays.specs.Telling.{telling}
@@ -11,17 +11,11 @@ use Rattle.odd_relays.proofs.Laying.{apart}
 use Rattle.odd_relays.proofs.Direct.{direct_settles}
 use Rattle.odd_relays.proofs.item.Item.settle_at.Goals as goal
 
-root_low : (n : ℕ) (members path : List ℕ) (c : ℕ) → IsIdSet n members → has_id members c ≡ true → path ≡ c ∷ [] → (q : ℕ) → has_id path q ≡ true → q < n
-root_low n members path c ids member is q on = elim (or_cases (c == q) _ (ap (λ (p : List ℕ). has_id p q) (sym is) ∙ on)) [
-  | inl here ↦ let e : c ≡ q = eqb-true c q here in let l = member-lt n members c ids member in omega arith
-  | inr none ↦ absurd (cc)
-]
-
 pub settle_chain-requires : goal.settle_chain-requires
 settle_chain-requires g c =
     let t = telling g.S.Relays.says c.args.self.now in
     let long = ap length c.root.ensures in
-    let chain = chain_root t c.root.result (Distinct-ids g.row.N t.members c.len.ensures.ids) c.requires.item.member c.root.ensures in
+    let chain = chain_root t c.root.result (Distinct-ids g.row.N t.members c.len.ensures.ids) c.args.self.now.member c.root.ensures in
     let off : (i : ℕ) → has_id c.args.receivers.now i ≡ true → has_id c.root.result i ≡ false = λ i on. ap (λ (s : List ℕ). has_id s i) c.root.ensures ∙ or_from (t.commander == i) false (ne_eqb t.commander i (apart c.args.receivers.now t.commander i c.requires.others on)) refl in (
       omega arith,
       (
@@ -29,11 +23,8 @@ settle_chain-requires g c =
         (
           c.requires.exact,
           (
-            c.requires.item,
-            (
-              root_low g.row.N c.args.self.now.phase.members c.root.result c.args.self.now.commander c.len.ensures.ids c.requires.item.member c.root.ensures,
-              (omega (arith, long), (omega (arith, long, c.requires.room, c.requires.item.rounds_ok), (omega (arith, c.requires.room), (c.requires.few, (chain, off))))),
-            ),
+            omega (arith, long, c.requires.room, c.args.self.now.short),
+            (c.requires.few, (chain, off)),
           ),
         ),
       ),
@@ -50,4 +41,4 @@ returns-clause-settled g c =
     ∙ c.settle_chain.ensures.settled i on
     ∙ ap (λ (n : ℕ). chain_within g.V.PartialEq.eq w t.odd i n c.root.result) e
     ∙ ap (chain_within g.V.PartialEq.eq w t.odd i t.rounds) c.root.ensures
-    ∙ direct_settles t g.V.PartialEq.eq c.requires.exact (Distinct-ids g.row.N t.members c.len.ensures.ids) c.requires.few c.requires.item.member i (apart c.args.receivers.now t.commander i c.requires.others on)
+    ∙ direct_settles t g.V.PartialEq.eq c.requires.exact (Distinct-ids g.row.N t.members c.len.ensures.ids) c.requires.few c.args.self.now.member i (apart c.args.receivers.now t.commander i c.requires.others on)

@@ -1,7 +1,6 @@
 use Rattle.std.proofs.Common.{ℕ, ◌≡◌, ◌<◌, true, false, List, length, slice_index_or, sym, ap, ◌∙◌, inl, inr, arith}
 use Rattle.std.proofs.lemmas.Bool.{cases_Bool, both_ways}
 use Rattle.node_grid.specs.NodeSet.{has_id}
-use Rattle.node_grid.specs.CapacityLaws.{capacity-le}
 use Rattle.omh_paths.specs.MemberLaws.{Distinct-ids, member-lt}
 use Rattle.odd_relays.specs.Telling.{telling, settled_item}
 use Rattle.odd_relays.proofs.Laying.{apart}
@@ -17,16 +16,16 @@ off_within leaders nodes c within off = elim (cases_Bool (has_id leaders c)) [
 pub settle_at-requires : goal.settle_at-requires
 settle_at-requires g c =
     let off = off_within c.find_leaders-leaders.result c.args.nodes.now c.args.self.now.commander c.find_leaders-leaders.ensures.within c.requires.others in
-    (omega arith, (omega arith, (c.requires.exact, (c.requires.item, (c.requires.few, (off, c.requires.room))))))
+    (omega arith, (omega arith, (c.requires.exact, (c.requires.few, (off, c.requires.room)))))
 
 pub copy_led-requires : goal.copy_led-requires
 copy_led-requires g c =
     let led = c.find_leaders-leaders.ensures in
     let low = λ (i : ℕ) (on : has_id c.args.nodes.now i ≡ true).
     let l = member-lt g.row.N c.find_leaders-leaders.result (slice_index_or c.find_leaders-leaders.new.leader_of i 0) c.len-2.ensures.ids (led.led i on).among in
-    let k : slice_index_or c.find_leaders-leaders.new.leader_of i 0 < length c.settle_at.new.work = omega (arith, l, capacity-le g.row.N c.requires.item.capacity_ok, c.settle_at.ensures.room) in k
+    let k : slice_index_or c.find_leaders-leaders.new.leader_of i 0 < length c.settle_at.new.work = omega (arith, l, c.args.self.now.fits, c.settle_at.ensures.room) in k
     in
-    (omega arith, (c.requires.item.capacity_ok, (c.requires.places, (led.places, low))))
+    (omega arith, (c.requires.places, (led.places, low)))
 
 pub returns-clause-settled : goal.returns-clause-settled
 returns-clause-settled g c =
@@ -41,6 +40,6 @@ returns-clause-settled g c =
     ∙ elim led.alike [
       | inl same ↦ ap (settled_item eq t) (sym same)
       | inr alike ↦
-          direct_views t eq c.requires.exact (Distinct-ids g.row.N t.members c.len.ensures.ids) c.requires.few c.requires.item.member alike.relayed i j
+          direct_views t eq c.requires.exact (Distinct-ids g.row.N t.members c.len.ensures.ids) c.requires.few c.args.self.now.member alike.relayed i j
           (apart c.args.nodes.now t.commander i c.requires.others on) (apart c.args.nodes.now t.commander j c.requires.others (leaders.within j led.among)) alike.first alike.second alike.says
     ]

@@ -1,6 +1,6 @@
 use Rattle.std.proofs.Common.{◌-◌, ◌+◌, ◌∙◌, arith}
 use Rattle.omh_paths.specs.MemberLaws.{Distinct-ids}
-use Rattle.omh.specs.Flat.{flat_ear}
+use Rattle.omh.specs.Flat.{flat_ear, IsShorter}
 use Rattle.omh.proofs.Folding.{copied_settled, copied_room, settled_moved_to, root_settled}
 use Rattle.omh.proofs.station.Station.settle.Goals as goal
 
@@ -26,25 +26,10 @@ loop-done-init g c =
 pub settle_shorter-requires : goal.settle_shorter-requires
 settle_shorter-requires g c =
     let s = c.args.self.now in
-    let x = flat_ear s.nodes s.rounds s.members s.me s.full c.args.heard.now in (
-      omega arith,
-      (
-        c.requires.exact,
-        (
-          c.requires.station,
-          (
-            c.loop-done.invariant.room,
-            (
-              c.member_place-place.ensures.in_range,
-              (
-                omega (arith, c.loop-done-test.true),
-                settled_moved_to g.V.PartialEq.eq x c.member_place-place.result (s.rounds - c.loop-done.done) (s.rounds - c.loop-done.done - 1 + 1) c.loop-done.work (omega (arith, c.loop-done-test.true)) c.loop-done.invariant.settled,
-              ),
-            ),
-          ),
-        ),
-      ),
-    )
+    let x = flat_ear s.nodes s.rounds s.members s.me s.full c.args.heard.now in
+    let shorter : IsShorter s.rounds s.members c.member_place-place.result (s.rounds - c.loop-done.done - 1) = record { member = c.member_place-place.ensures.in_range; shorter = omega (arith, c.loop-done-test.true) } in
+    let settled = settled_moved_to g.V.PartialEq.eq x c.member_place-place.result (s.rounds - c.loop-done.done) (s.rounds - c.loop-done.done - 1 + 1) c.loop-done.work (omega (arith, c.loop-done-test.true)) c.loop-done.invariant.settled in
+    (omega arith, (c.requires.exact, (c.requires.station, (c.loop-done.invariant.room, (shorter, settled)))))
 
 pub loop-done-preserved : goal.loop-done-preserved
 loop-done-preserved g c =

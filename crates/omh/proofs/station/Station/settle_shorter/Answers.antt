@@ -24,7 +24,7 @@ unrank-path-requires g c =
       omega arith,
       (
         c.requires.station.capacity_ok,
-        (omega arith, (omega (arith, c.requires.shorter, c.requires.station.rounds_ok), omega (arith, b.listed, c.loop-k-test.true))),
+        (omega arith, (omega (arith, c.requires.shorter.shorter, c.requires.station.rounds_ok), omega (arith, b.listed, c.loop-k-test.true))),
       ),
     )
 
@@ -49,9 +49,9 @@ settle_path-requires g c =
     let a = c.args in
     let s = a.self.now in
     let step = step_of g.row.N s.nodes s.rounds s.members c.unrank-path.result s.count a.commander a.relays c.loop-k.k c.saturating_sub-width.result c.branch-branch.result a.heard.now c.loop-k.work c.requires.station c.loop-k.invariant.room
-    c.requires.member c.requires.shorter c.branch-branch.ensures c.loop-k-test.true c.unrank-path.ensures.path c.saturating_sub-width.ensures in (
+    c.requires.shorter.member c.requires.shorter.shorter c.branch-branch.ensures c.loop-k-test.true c.unrank-path.ensures.path c.saturating_sub-width.ensures in (
       omega arith,
-      (c.requires.exact, (c.requires.station, (c.unrank-path.ensures.within, (step.width_at, (step.terms, (step.here, step.terms_few)))))),
+      (c.requires.exact, (c.requires.station, (c.unrank-path.ensures.within, (step.width_at, record { within = step.terms; place = step.here; small = step.terms_few })))),
     )
 
 pub loop-k-preserved : goal.loop-k-preserved
@@ -60,15 +60,15 @@ loop-k-preserved g c =
     let s = a.self.now in
     let b = c.branch-branch.ensures in
     let step = step_of g.row.N s.nodes s.rounds s.members c.unrank-path.result s.count a.commander a.relays c.loop-k.k c.saturating_sub-width.result c.branch-branch.result a.heard.now c.loop-k.work c.requires.station c.loop-k.invariant.room
-    c.requires.member c.requires.shorter c.branch-branch.ensures c.loop-k-test.true c.unrank-path.ensures.path c.saturating_sub-width.ensures in
+    c.requires.shorter.member c.requires.shorter.shorter c.branch-branch.ensures c.loop-k-test.true c.unrank-path.ensures.path c.saturating_sub-width.ensures in
     let d : Distinct s.members = Distinct-ids g.row.N s.members c.requires.station.members_ok in
     let at : ℕ = c.branch-branch.result.begins + c.loop-k.k in
     let at-is : at ≡ section_at s.nodes a.relays + (a.commander * path_count (length s.members - 1) a.relays + c.loop-k.k) = omega (arith, b.begins_is, b.first_is) in
     let low : at < length a.heard.now = omega (arith, b.within, c.requires.room.flat_ok, c.loop-k-test.true) in
-    let heard = heard_is s.nodes s.members a.heard.now c.unrank-path.result a.commander a.relays c.loop-k.k at c.index-heard-branch.result d c.requires.member step.inside step.path_at at-is low c.index-heard-branch.is in
+    let heard = heard_is s.nodes s.members a.heard.now c.unrank-path.result a.commander a.relays c.loop-k.k at c.index-heard-branch.result d c.requires.shorter.member step.inside step.path_at at-is low c.index-heard-branch.is in
     record {
       halfway = loop_more g.V.PartialEq.eq (flat_ear s.nodes s.rounds s.members s.me s.full a.heard.now) a.commander a.relays c.loop-k.k c.unrank-path.result c.saturating_sub-width.result
-          c.loop-k.work c.settle_path.new.work c.index-heard-branch.result c.own_term-own.result d c.requires.member c.requires.shorter c.loop-k.invariant.halfway step.inside step.longer step.here
+          c.loop-k.work c.settle_path.new.work c.index-heard-branch.result c.own_term-own.result d c.requires.shorter.member c.requires.shorter.shorter c.loop-k.invariant.halfway step.inside step.longer step.here
           step.path_at step.width_is heard c.own_term-own.ensures c.settle_path.ensures;
       room = room_more g.V.PartialEq.eq s.nodes s.rounds a.heard.now c.loop-k.work c.settle_path.new.work _ s.me c.loop-k.k c.saturating_sub-width.result c.own_term-own.result c.loop-k.invariant.room c.settle_path.ensures;
     }

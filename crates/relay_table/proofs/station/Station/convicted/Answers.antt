@@ -3,10 +3,8 @@ use Rattle.node_grid.specs.NodeSet.{has_id, ids_where, IsIdSet}
 use Rattle.node_grid.specs.NodeSetLaws.{filter_none, has-filter, has-with_id, has-without_id, IsIdSet-filter, same_ids}
 use Rattle.node_grid.specs.ListLaws.{has_push, eqb_sym}
 use Rattle.equivocation.specs.Conviction.{convicts}
-use Rattle.omh.specs.FlatLaws.{section_at-le}
 use Rattle.relay_walk.proofs.Loops.{turn, split_more, split_all}
-use Rattle.relay_table.specs.Tabled.{kept_nodes}
-use Rattle.relay_table.proofs.Convicted.{no_rounds, kept-pairs}
+use Rattle.relay_table.proofs.Convicted.{no_rounds}
 use Rattle.relay_table.proofs.station.Station.convicted.Goals as goal
 
 -- one member more, which isn't convicted or is
@@ -52,8 +50,7 @@ convicts-requires g c =
     let s = c.args.self.now in
     let t = turn g.row.N s.others c.loop-node.yielded c.next.new.self c.loop-node.node-iterator c.in-Some.node c.iter-node-items.ensures.ids c.loop-node.invariant.split c.in-Some.ensures.steps in
     let some : 0 < s.rounds = omega (arith, c.if-self-eq0.false) in
-    let n = length s.others in
-    (lit< tt, (c.requires.exact, (c.requires.station, (some, (t.on, (omega (arith, section_at-le n 2 (kept_nodes s.rounds) (kept-pairs s.rounds some), c.requires.room), c.requires.known))))))
+    (lit< tt, (c.requires.station, (some, (t.on, c.requires.room))))
 
 pub loop-node-preserved : goal.loop-node-preserved
 loop-node-preserved g c =

@@ -8,6 +8,8 @@ use Rattle.relay_terms.specs.Terms.{said}
 use Rattle.relay_walk.specs.Laid.{laid}
 use Rattle.relay_table.specs.Tabled.{AreKnown}
 use Rattle.relay_table.proofs.Known.{known_laid, known_item, known_one}
+use Rattle.relay_table.proofs.Stations.{section_fits}
+use Rattle.relay_table.proofs.Tables.{kept-some}
 use Rattle.relay_table.proofs.station.Station.hear_item.Goals as goal
 
 pub place-place-requires : goal.place-place-requires
@@ -20,7 +22,7 @@ pub set_term-requires : goal.set_term-requires
 set_term-requires g c =
     let s = c.args.self.now in
     let index = c.place-place.ensures.count ∙ place-index g.row.N s.others c.args.member c.place-place.ensures.ids c.requires.member in
-    omega (arith, index, index_in-lt s.others c.args.member c.requires.member, c.requires.room)
+    omega (arith, index, index_in-lt s.others c.args.member c.requires.member, c.requires.room.heard_ok, section_fits c.requires.station 1 (kept-some s.rounds))
 
 pub returns-clause-heard : goal.returns-clause-heard
 returns-clause-heard g c =
@@ -36,5 +38,5 @@ returns-clause-known g c =
     let index = c.place-place.ensures.count ∙ place-index g.row.N s.others c.args.member c.place-place.ensures.ids c.requires.member in
     let low = index_in-lt s.others c.args.member c.requires.member in
     let term = said c.term_told.result in
-    subst AreKnown (sym c.set_term.ensures.terms) (known_laid c.place-place.result (term ∷ []) old (known_one term (λ bad. known_item c.args.told (sym c.term_told.ensures ∙ bad))) c.requires.known
-    (omega (arith, index, low, length-map c.args.heard.now said, c.requires.room)))
+    subst AreKnown (sym c.set_term.ensures.terms) (known_laid c.place-place.result (term ∷ []) old (known_one term (λ bad. known_item c.args.told (sym c.term_told.ensures ∙ bad))) c.requires.room.known
+    (omega (arith, index, low, length-map c.args.heard.now said, c.requires.room.heard_ok, section_fits c.requires.station 1 (kept-some s.rounds))))

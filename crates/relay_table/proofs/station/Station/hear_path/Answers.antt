@@ -12,22 +12,19 @@ use Rattle.relay_table.proofs.station.Station.hear_path.Goals as goal
 
 pub pass-requires : goal.pass-requires
 pass-requires g c = (
-  elim c.requires.capacity [ inl e ↦ rw e (lit< tt) | inr e ↦ rw e (lit< tt) ],
-  (lit< tt, (c.requires.capacity, subst (λ by. HaveNext by c.args.frames.now) (sym c.without-others.ensures) c.requires.more)),
+  elim c.requires.more.sized [ inl e ↦ rw e (lit< tt) | inr e ↦ rw e (lit< tt) ],
+  (lit< tt, subst (λ by. HaveNext by c.args.frames.now) (sym c.without-others.ensures) c.requires.more),
 )
 
 pub keep-requires : goal.keep-requires
 keep-requires g c =
     let l = ap (λ xs. length xs) c.without-others.ensures in (
-      elim c.requires.capacity [ inl e ↦ rw e (lit< tt) | inr e ↦ rw e (lit< tt) ],
+      elim c.requires.more.sized [ inl e ↦ rw e (lit< tt) | inr e ↦ rw e (lit< tt) ],
       (
         lit< tt,
         (
-          c.requires.capacity,
-          (
-            subst (λ by. HaveNext by c.args.frames.now) (sym c.without-others.ensures) c.requires.more,
-            (omega (arith, l, c.requires.room (sym c.is_on_path.ensures ∙ c.if-is_on_path.false)), c.requires.small),
-          ),
+          subst (λ by. HaveNext by c.args.frames.now) (sym c.without-others.ensures) c.requires.more,
+          omega (arith, l, c.requires.room (sym c.is_on_path.ensures ∙ c.if-is_on_path.false)),
         ),
       ),
     )

@@ -14,17 +14,14 @@ use Rattle.relay_table.proofs.station.Station.settle_path.Goals as goal
 
 pub pass-requires : goal.pass-requires
 pass-requires g c = (
-  elim c.requires.capacity [ inl e ↦ rw e (lit< tt) | inr e ↦ rw e (lit< tt) ],
-  (lit< tt, (c.requires.capacity, subst (λ by. HaveNext by c.args.frames.now) (sym c.without-others.ensures) c.requires.more)),
+  elim c.requires.more.sized [ inl e ↦ rw e (lit< tt) | inr e ↦ rw e (lit< tt) ],
+  (lit< tt, subst (λ by. HaveNext by c.args.frames.now) (sym c.without-others.ensures) c.requires.more),
 )
 
 pub settle-term-requires : goal.settle-term-requires
 settle-term-requires g c = (
-  elim c.requires.capacity [ inl e ↦ rw e (lit< tt) | inr e ↦ rw e (lit< tt) ],
-  (
-    lit< tt,
-    (c.requires.capacity, (c.requires.exact, subst (λ by. HaveNext by c.args.frames.now) (sym c.without-others.ensures) c.requires.more)),
-  ),
+  elim c.requires.more.sized [ inl e ↦ rw e (lit< tt) | inr e ↦ rw e (lit< tt) ],
+  (lit< tt, subst (λ by. HaveNext by c.args.frames.now) (sym c.without-others.ensures) c.requires.more),
 )
 
 pub returns-then-is_on_path : goal.returns-then-is_on_path
@@ -43,3 +40,6 @@ returns-then-is_on_path g c =
 
 pub own_term-own-requires : goal.own_term-own-requires
 own_term-own-requires g c = (lit< tt, known_at c.args.heard.now c.args.at c.index-heard-at.result c.index-heard-at.is (c.requires.heard (sym c.is_on_path.ensures ∙ c.if-is_on_path.false)) c.requires.known)
+
+pub set_term-requires : goal.set_term-requires
+set_term-requires g c = c.requires.room (sym c.is_on_path.ensures ∙ c.if-is_on_path.false)

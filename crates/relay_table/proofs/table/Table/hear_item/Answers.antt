@@ -17,16 +17,15 @@ hear_item-requires g c =
     let s = inside.station in
     let room = c.self.invariant.1 in
     let is = c.as_mut_slice.ensures.value in
-    let fits = section_fits c.self.invariant.0 1 (kept-some s.rounds) in
-    let on : has_id s.others c.args.member ≡ true = ap (λ os. has_id os c.args.member) (others_are s (said inside.own) (map said inside.heard.items) c.args.self.now c.self.view_is c.self.invariant.0) ∙ c.requires.member in
-    (lit< tt, (c.self.invariant.0, (on, (omega (arith, fits, room.heard_ok, ap (λ ts. length ts) is), subst (λ ts. AreKnown (map said ts)) (sym is) room.known))))
+    let on : has_id s.others c.args.member ≡ true = ap (λ os. has_id os c.args.member) (others_are s (said inside.own) (map said inside.heard.items) c.args.self.now c.self.view_is c.self.invariant.0.seated) ∙ c.requires.member in
+    (lit< tt, (c.self.invariant.0.seated, (on, record { heard_ok = ap (λ ts. length ts) is ∙ room.heard_ok; known = subst (λ ts. AreKnown (map said ts)) (sym is) room.known })))
 
 pub invariant_of-self : goal.invariant_of-self
 invariant_of-self g c =
     let inside = c.self.inside in
     let s = inside.station in
     let room = room_written s.nodes s.rounds inside.heard.items c.as_mut_slice.result.now c.hear_item.new.heard inside.settled.items inside.heard.len c.self.invariant.1 inside.heard.ok.0 c.as_mut_slice.ensures.value c.hear_item.ensures.length c.hear_item.ensures.known in
-    (c.self.invariant.0, room, c.self.invariant.2)
+    (c.self.invariant.0, room)
 
 pub returns : goal.returns
 returns g c =
@@ -35,8 +34,8 @@ returns g c =
     let new = c.hear_item.new.heard in
     let flat = map said inside.heard.items in
     let now = written_to inside.heard.items c.as_mut_slice.result.now new inside.heard.len inside.heard.ok.0 c.as_mut_slice.ensures.value c.hear_item.ensures.length in
-    let fits = section_fits c.self.invariant.0 1 (kept-some s.rounds) in
-    let on : has_id s.others c.args.member ≡ true = ap (λ os. has_id os c.args.member) (others_are s (said inside.own) flat c.args.self.now c.self.view_is c.self.invariant.0) ∙ c.requires.member in
+    let fits = section_fits c.self.invariant.0.seated 1 (kept-some s.rounds) in
+    let on : has_id s.others c.args.member ≡ true = ap (λ os. has_id os c.args.member) (others_are s (said inside.own) flat c.args.self.now c.self.view_is c.self.invariant.0.seated) ∙ c.requires.member in
     ap (λ ts. hearing_of s (said inside.own) (map said ts)) now
-    ∙ hears_item s (said inside.own) flat c.args.self.now c.self.view_is c.self.invariant.0 c.args.member (term_of c.args.told) (map said new) on (omega (arith, fits, c.self.invariant.1.heard_ok, length-map inside.heard.items said))
+    ∙ hears_item s (said inside.own) flat c.args.self.now c.self.view_is c.self.invariant.0.seated c.args.member (term_of c.args.told) (map said new) on (omega (arith, fits, c.self.invariant.1.heard_ok, length-map inside.heard.items said))
     (c.hear_item.ensures.heard ∙ ap (λ ts. laid (index_in s.others c.args.member) (term_of c.args.told ∷ []) (map said ts)) c.as_mut_slice.ensures.value)

@@ -16,7 +16,7 @@ pub hear-requires : goal.hear-requires
 hear-requires g c =
     let inside = c.self.inside in
     let s = inside.station in
-    let st = c.self.invariant.0 in
+    let st = c.self.invariant.0.seated in
     let room = c.self.invariant.1 in
     let flat = map said inside.heard.items in
     let is = c.as_mut_slice.ensures.value in
@@ -27,25 +27,10 @@ hear-requires g c =
       (
         elim st.capacity_ok [ inl e ↦ rw e (lit< tt) | inr e ↦ rw e (lit< tt) ],
         (
-          lit< tt,
+          c.self.invariant.0,
           (
-            st,
-            (
-              c.requires.some,
-              (
-                omega (arith, c.requires.kept, same, kept-le s.rounds),
-                (
-                  walk,
-                  (
-                    c.self.invariant.2,
-                    (
-                      omega (arith, section_fits st (c.args.round + 1) (omega (arith, c.requires.kept, same)), room.heard_ok, size),
-                      (omega (arith, rooms_small st, room.heard_ok, size), subst (λ ts. AreKnown (map said ts)) (sym is) room.known),
-                    ),
-                  ),
-                ),
-              ),
-            ),
+            c.requires.some,
+            (omega (arith, c.requires.kept, same), (walk, record { heard_ok = size ∙ room.heard_ok; known = subst (λ ts. AreKnown (map said ts)) (sym is) room.known })),
           ),
         ),
       ),
@@ -56,13 +41,13 @@ invariant_of-self g c =
     let inside = c.self.inside in
     let s = inside.station in
     let room = room_written s.nodes s.rounds inside.heard.items c.as_mut_slice.result.now c.hear.new.heard inside.settled.items inside.heard.len c.self.invariant.1 inside.heard.ok.0 c.as_mut_slice.ensures.value c.hear.ensures.length c.hear.ensures.known in
-    (c.self.invariant.0, room, c.self.invariant.2)
+    (c.self.invariant.0, room)
 
 pub returns : goal.returns
 returns g c =
     let inside = c.self.inside in
     let s = inside.station in
-    let st = c.self.invariant.0 in
+    let st = c.self.invariant.0.seated in
     let r = c.args.round in
     let new = c.hear.new.heard in
     let flat = map said inside.heard.items in

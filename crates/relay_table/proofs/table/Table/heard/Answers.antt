@@ -20,7 +20,7 @@ within {capacity} {nodes} {rounds} {me} {members} {others} st count len begins m
 pub slice_bounds-result-end : goal.slice_bounds-result-end
 slice_bounds-result-end g c =
     let inside = c.self.inside in
-    let st = c.self.invariant.0 in
+    let st = c.self.invariant.0.seated in
     let kept = ap kept_nodes (rounds_are inside.station (said inside.own) (map said inside.heard.items) c.args.self.now c.self.view_is st) in
     let w = within st c.len-others.result c.args.len c.section_at-begins.result c.count_paths.result (length inside.heard.items) c.len-others.ensures.count c.requires.some (omega (arith, c.requires.kept, kept)) c.section_at-begins.ensures.begins
     c.count_paths.ensures.product c.self.invariant.1.heard_ok in
@@ -30,13 +30,13 @@ pub offset_bounds-deref-begins : goal.offset_bounds-deref-begins
 offset_bounds-deref-begins g c = let low = slice_bounds-result-end g c in omega arith
 
 pub overflow_add-result : goal.overflow_add-result
-overflow_add-result g c = let low = slice_bounds-result-end g c in omega (arith, low, ap (λ ts. length ts) c.deref.ensures.value, c.self.invariant.1.heard_ok, rooms_small c.self.invariant.0)
+overflow_add-result g c = let low = slice_bounds-result-end g c in omega (arith, low, ap (λ ts. length ts) c.deref.ensures.value, c.self.invariant.1.heard_ok, rooms_small c.self.invariant.0.seated)
 
 pub returns : goal.returns
 returns g c =
     let inside = c.self.inside in
     let s = inside.station in
-    let st = c.self.invariant.0 in
+    let st = c.self.invariant.0.seated in
     let flat = map said inside.heard.items in
     let begins = c.section_at-begins.result in
     let many = begins + c.count_paths.result - begins in

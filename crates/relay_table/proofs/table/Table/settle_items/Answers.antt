@@ -10,7 +10,7 @@ use Rattle.relay_table.proofs.table.Table.settle_items.Goals as goal
 pub hand_out-requires : goal.hand_out-requires
 hand_out-requires g c =
     let s = c.self.inside.station in
-    let st = c.self.invariant.0 in
+    let st = c.self.invariant.0.seated in
     let fits = section_fits st 1 (kept-some s.rounds) in
     (lit< tt, (st, (omega (arith, fits, c.self.invariant.1.heard_ok, ap (λ ts. length ts) c.as_slice.ensures.value), c.requires.room)))
 
@@ -18,7 +18,7 @@ pub returns : goal.returns
 returns g c =
     let inside = c.self.inside in
     let s = inside.station in
-    let st = c.self.invariant.0 in
+    let st = c.self.invariant.0.seated in
     let eq = g.V.PartialEq.eq in
     let own = said inside.own in
     let flat = map said inside.heard.items in

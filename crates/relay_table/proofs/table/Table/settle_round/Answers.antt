@@ -15,7 +15,7 @@ pub settle-requires : goal.settle-requires
 settle-requires g c =
     let inside = c.self.inside in
     let s = inside.station in
-    let st = c.self.invariant.0 in
+    let st = c.self.invariant.0.seated in
     let room = c.self.invariant.1 in
     let own = said inside.own in
     let flat = map said inside.heard.items in
@@ -31,7 +31,7 @@ settle-requires g c =
       lit< tt,
       (
         elim st.capacity_ok [ inl e ↦ rw e (lit< tt) | inr e ↦ rw e (lit< tt) ],
-        (lit< tt, (c.requires.exact, (st, (omega (arith, same, c.requires.some), (walk, (c.self.invariant.2, seen)))))),
+        (c.self.invariant.0, (omega (arith, same, c.requires.some), (walk, seen))),
       ),
     )
 
@@ -39,7 +39,7 @@ pub hand_out-requires : goal.hand_out-requires
 hand_out-requires g c =
     let inside = c.self.inside in
     let s = inside.station in
-    let st = c.self.invariant.0 in
+    let st = c.self.invariant.0.seated in
     let now = written_to inside.settled.items c.as_mut_slice.result.now c.settle.new.settled inside.settled.len inside.settled.ok.0 c.as_mut_slice.ensures.value c.settle.ensures.length in
     let long = c.settle.ensures.length ∙ ap (λ ts. length ts) c.as_mut_slice.ensures.value ∙ c.self.invariant.1.settled_ok in
     (lit< tt, (st, (omega (arith, section_fits st 1 (kept-some s.rounds), ap (λ ts. length ts) (c.as_slice-2.ensures.value ∙ now), long), c.requires.room)))
@@ -57,7 +57,7 @@ invariant_of-self g c =
       settled_ok = c.settle.ensures.length ∙ ap (λ ts. length ts) c.as_mut_slice.ensures.value ∙ room.settled_ok;
       known = room.known;
     } in
-    (c.self.invariant.0, subst (λ ts. IsRoom s.nodes s.rounds inside.heard.items ts) (sym now) here, c.self.invariant.2)
+    (c.self.invariant.0, subst (λ ts. IsRoom s.nodes s.rounds inside.heard.items ts) (sym now) here)
 
 pub returns-clause-kept : goal.returns-clause-kept
 returns-clause-kept g c = c.self.view_is
@@ -66,7 +66,7 @@ pub returns-clause-settled : goal.returns-clause-settled
 returns-clause-settled g c =
     let inside = c.self.inside in
     let s = inside.station in
-    let st = c.self.invariant.0 in
+    let st = c.self.invariant.0.seated in
     let eq = g.V.PartialEq.eq in
     let own = said inside.own in
     let flat = map said inside.heard.items in

@@ -22,22 +22,19 @@ loop-member-init g c = record {
 pub last_term-term-requires : goal.last_term-term-requires
 last_term-term-requires g c =
     let t = turn g.row.N c.args.others.now c.loop-member.yielded c.next.new.self c.loop-member.member-iterator c.in-Some.member c.iter-member-items.ensures.ids c.loop-member.invariant.split c.in-Some.ensures.steps in (
-      elim c.requires.capacity [ inl e ↦ rw e (lit< tt) | inr e ↦ rw e (lit< tt) ],
-      (
-        c.requires.capacity,
-        (t.low, one_last c.args.others.now c.args.self.now c.in-Some.member c.requires.read t.on),
-      ),
+      elim c.requires.read.sized [ inl e ↦ rw e (lit< tt) | inr e ↦ rw e (lit< tt) ],
+      one_last c.args.others.now c.args.self.now c.in-Some.member c.requires.read t.on,
     )
 
 pub add-requires-in-loop-member-clause-few_votes : goal.add-requires-in-loop-member-clause-few_votes
 add-requires-in-loop-member-clause-few_votes g c =
     let t = turn g.row.N c.args.others.now c.loop-member.yielded c.next.new.self c.loop-member.member-iterator c.in-Some.member c.iter-member-items.ensures.ids c.loop-member.invariant.split c.in-Some.ensures.steps in
-    omega (arith, t.short, c.iter-member-items.ensures.few, c.loop-member.invariant.few_votes, capacity-le g.row.N c.requires.capacity)
+    omega (arith, t.short, c.iter-member-items.ensures.few, c.loop-member.invariant.few_votes, capacity-le g.row.N c.requires.read.sized)
 
 pub add-requires-in-loop-member-clause-few_support : goal.add-requires-in-loop-member-clause-few_support
 add-requires-in-loop-member-clause-few_support g c =
     let t = turn g.row.N c.args.others.now c.loop-member.yielded c.next.new.self c.loop-member.member-iterator c.in-Some.member c.iter-member-items.ensures.ids c.loop-member.invariant.split c.in-Some.ensures.steps in
-    omega (arith, t.short, c.iter-member-items.ensures.few, c.loop-member.invariant.few_support, capacity-le g.row.N c.requires.capacity)
+    omega (arith, t.short, c.iter-member-items.ensures.few, c.loop-member.invariant.few_support, capacity-le g.row.N c.requires.read.sized)
 
 pub loop-member-preserved : goal.loop-member-preserved
 loop-member-preserved g c =

@@ -22,17 +22,14 @@ loop-member-init g c = record {
 pub next_term-term-requires : goal.next_term-term-requires
 next_term-term-requires g c =
     let t = turn g.row.N c.args.others.now c.loop-member.yielded c.next.new.self c.loop-member.member-iterator c.in-Some.member c.iter-member-items.ensures.ids c.loop-member.invariant.split c.in-Some.ensures.steps in (
-      elim c.requires.capacity [ inl e ↦ rw e (lit< tt) | inr e ↦ rw e (lit< tt) ],
-      (
-        c.requires.capacity,
-        (t.low, more_at c.loop-member.yielded c.args.self.now c.loop-member.self c.loop-member.invariant.moved c.in-Some.member t.low c.args.others.now c.requires.more t.on t.fresh),
-      ),
+      elim c.requires.more.sized [ inl e ↦ rw e (lit< tt) | inr e ↦ rw e (lit< tt) ],
+      more_at c.loop-member.yielded c.args.self.now c.loop-member.self c.loop-member.invariant.moved c.in-Some.member t.low c.args.others.now c.requires.more t.on t.fresh,
     )
 
-pub add-requires-clause-few : goal.add-requires-clause-few
-add-requires-clause-few g c =
+pub add-requires : goal.add-requires
+add-requires g c =
     let t = turn g.row.N c.args.others.now c.loop-member.yielded c.next.new.self c.loop-member.member-iterator c.in-Some.member c.iter-member-items.ensures.ids c.loop-member.invariant.split c.in-Some.ensures.steps in
-    omega (arith, t.short, c.iter-member-items.ensures.few, c.loop-member.invariant.few, capacity-le g.row.N c.requires.capacity)
+    omega (arith, t.short, c.iter-member-items.ensures.few, c.loop-member.invariant.few, capacity-le g.row.N c.requires.more.sized)
 
 pub loop-member-preserved : goal.loop-member-preserved
 loop-member-preserved g c =
@@ -62,6 +59,6 @@ returns g c =
       tally = subst (λ xs. IsTally g.V.PartialEq.eq (said c.args.own.now ∷ xs) c.loop-member.tally) (sym same)
           (subst (λ xs. IsTally g.V.PartialEq.eq (said c.args.own.now ∷ map (next_in (term_in g.V.Item.of_bytes) c.args.self.now) xs) c.loop-member.tally) all i.tally);
       same = same;
-      read = have_last c.args.others.now c.args.self.now c.loop-member.self c.requires.more moved low;
+      read = have_last c.args.others.now c.args.self.now c.loop-member.self c.requires.more moved;
       moved = moved;
     }

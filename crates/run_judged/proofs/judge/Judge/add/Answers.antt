@@ -1,4 +1,4 @@
-use Rattle.std.proofs.Common.{◌≡◌, ◌<◌, ◌≤◌, ◌+◌, ◌++◌, ◌&&◌, ℕ, suc, List, length, map, not, vec_capacity, sym, ap, subst, ◌∙◌, inl, inr, arith, lit<}
+use Rattle.std.proofs.Common.{◌≡◌, ◌≤◌, ◌+◌, ◌++◌, ◌&&◌, ℕ, suc, List, length, map, not, vec_capacity, sym, ap, subst, ◌∙◌, inl, inr, arith, lit<}
 use Rattle.node_grid.specs.NodeSet.{ids_where, has_id}
 use Rattle.at_once.specs.Run.{ShowsPeriod}
 use Rattle.run_judged.specs.Illnesses.{sound_after, illnesses}
@@ -8,24 +8,27 @@ use Rattle.run_judged.specs.Rows.{seen_of, skew_at}
 use Rattle.run_judged.specs.Sums.{AreSums}
 use Rattle.run_judged.proofs.Adding.{skew_shown}
 use Rattle.run_judged.proofs.Agreeing.{illnesses_found}
+use Rattle.run_judged.proofs.Founds.{reference_in}
 use Rattle.run_judged.proofs.Judged.{room_more, each_of, few_skews, skews_more}
 use Rattle.run_judged.proofs.judge.Judge.add.Goals as goal
 
-pub of-findings-requires : goal.of-findings-requires
-of-findings-requires g c = (
-  elim c.requires.capacity [ inl e ↦ rw e (lit< tt) | inr e ↦ rw e (lit< tt) ],
-  (
-    elim c.requires.capacity [ inl e ↦ rw e (lit< tt) | inr e ↦ rw e (lit< tt) ],
-    (elim c.requires.capacity [ inl e ↦ rw e (lit< tt) | inr e ↦ rw e (lit< tt) ], (c.requires.capacity, (c.requires.more, (c.requires.shown, c.requires.fits)))),
-  ),
-)
-
-pub skew-skew-requires : goal.skew-skew-requires
-skew-skew-requires g c =
+pub invariant_of-seen : goal.invariant_of-seen
+invariant_of-seen g c =
     let fits = c.requires.fits.scenario.system.config.few_nodes in
     let nodes = c.requires.fits.shape.nodes in
-    let few : c.args.shown.now.head.nodes ≤ g.row.N = omega arith in
-    (elim c.requires.capacity [ inl e ↦ rw e (lit< tt) | inr e ↦ rw e (lit< tt) ], few)
+    record {
+      capacity = c.args.self.now.capacity;
+      nodes = omega arith;
+      reference = reference_in c.args.scenario.now c.args.self.now.periods c.args.shown.now c.requires.shown nodes;
+      many = c.requires.fits.beliefs.many;
+      placed = c.requires.fits.beliefs.placed;
+    }
+
+pub of-findings-requires : goal.of-findings-requires
+of-findings-requires g c = (
+  elim c.args.self.now.capacity [ inl e ↦ rw e (lit< tt) | inr e ↦ rw e (lit< tt) ],
+  (lit< tt, (elim c.args.self.now.capacity [ inl e ↦ rw e (lit< tt) | inr e ↦ rw e (lit< tt) ], (c.requires.more, (c.requires.shown, c.requires.fits)))),
+)
 
 pub add-requires : goal.add-requires
 add-requires g c =
@@ -33,27 +36,21 @@ add-requires g c =
     let s = c.args.shown.now in
     let f = c.of-findings.result in
     let same : c.args.self.now.periods ≡ f.period = sym c.of-findings.ensures.period in
-    let shown : ShowsPeriod sc f.period s = subst (λ (k : ℕ). ShowsPeriod sc k s) same c.requires.shown in
-    let most = c.requires.fits.scenario.few_periods in
-    let more = c.requires.more in
-    let early : f.period < 1024 = omega arith in (
+    let shown : ShowsPeriod sc f.period s = subst (λ (k : ℕ). ShowsPeriod sc k s) same c.requires.shown in (
       lit< tt,
       (
-        elim c.requires.capacity [ inl e ↦ rw e (lit< tt) | inr e ↦ rw e (lit< tt) ],
+        elim c.args.self.now.capacity [ inl e ↦ rw e (lit< tt) | inr e ↦ rw e (lit< tt) ],
         (
-          elim c.requires.capacity [ inl e ↦ rw e (lit< tt) | inr e ↦ rw e (lit< tt) ],
+          lit< tt,
           (
-            elim c.requires.capacity [ inl e ↦ rw e (lit< tt) | inr e ↦ rw e (lit< tt) ],
+            elim c.args.self.now.capacity [ inl e ↦ rw e (lit< tt) | inr e ↦ rw e (lit< tt) ],
             (
-              c.requires.capacity,
+              shown,
               (
-                shown,
+                c.requires.fits,
                 (
-                  c.requires.fits,
-                  (
-                    subst (λ (k : ℕ). AreFound (seen_of sc) sc.config.nodes k f) same c.of-findings.ensures,
-                    (c.skew-skew.ensures ∙ skew_shown sc s f.period shown, (early, subst (λ (k : ℕ). AreSums sc k c.args.self.now.tally) same c.requires.judges.sums)),
-                  ),
+                  subst (λ (k : ℕ). AreFound (seen_of sc) sc.config.nodes k f) same c.of-findings.ensures,
+                  (c.skew-skew.ensures ∙ skew_shown sc s f.period shown, subst (λ (k : ℕ). AreSums sc k c.args.self.now.tally) same c.requires.judges.sums),
                 ),
               ),
             ),
@@ -75,12 +72,12 @@ add-requires-2 g c =
     let more = c.requires.more in
     let before : list.items ≡ illnesses (seen_of sc) sc.config.nodes f.period = c.requires.judges.illnesses ∙ ap (illnesses (seen_of sc) sc.config.nodes) same in
     let filled = room_more (seen_of sc) sc.config.nodes g.row.N f.period f.nodes list.items before fits (omega arith) in_use in
-    let room = c.requires.room.illnesses in
+    let room = c.args.self.now.illnesses.room in
     let enough : length list.items + f.nodes ≤ vec_capacity list = omega arith in (
       lit< tt,
       (
-        elim c.requires.capacity [ inl e ↦ rw e (lit< tt) | inr e ↦ rw e (lit< tt) ],
-        (nodes, (omega arith, (each_of (seen_of sc) sc.config.nodes f.period f.nodes list.items before in_use, enough))),
+        elim c.args.self.now.capacity [ inl e ↦ rw e (lit< tt) | inr e ↦ rw e (lit< tt) ],
+        (each_of (seen_of sc) sc.config.nodes f.period f.nodes list.items before in_use, enough),
       ),
     )
 
@@ -89,7 +86,7 @@ keep-requires g c =
     let few = few_skews (skew_at c.args.scenario.now) c.args.self.now.periods c.args.self.now.skews.items c.requires.judges.skews in
     let most = c.requires.fits.scenario.few_periods in
     let more = c.requires.more in
-    let room = c.requires.room.skews in
+    let room = c.args.self.now.room in
     omega arith
 
 pub returns-clause-judges : goal.returns-clause-judges

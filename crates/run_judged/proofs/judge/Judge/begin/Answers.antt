@@ -18,10 +18,7 @@ returns-clause-judges g c =
     }
 
 pub config-requires : goal.config-requires
-config-requires g c = (elim c.requires.capacity [ inl e ↦ rw e (lit< tt) | inr e ↦ rw e (lit< tt) ], elim c.requires.capacity [ inl e ↦ rw e (lit< tt) | inr e ↦ rw e (lit< tt) ])
+config-requires g c = (elim c.args.self.now.capacity [ inl e ↦ rw e (lit< tt) | inr e ↦ rw e (lit< tt) ], elim c.args.self.now.capacity [ inl e ↦ rw e (lit< tt) | inr e ↦ rw e (lit< tt) ])
 
 pub none-self-requires : goal.none-self-requires
-none-self-requires g c = (lit< tt, capacity-le g.row.N c.requires.capacity)
-
-pub forget-requires : goal.forget-requires
-forget-requires g c = (lit< tt, c.requires.capacity)
+none-self-requires g c = (lit< tt, capacity-le g.row.N c.args.self.now.capacity)

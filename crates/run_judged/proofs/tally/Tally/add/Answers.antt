@@ -1,5 +1,4 @@
 use Rattle.std.proofs.Common.{◌≡◌, ◌≤◌, ℕ, length, sym, ap, subst, ◌∙◌, inl, inr, arith, lit<}
-use Rattle.node_grid.specs.CapacityLaws.{capacity-le}
 use Rattle.agreed_state.specs.declared.config.Config.{Config}
 use Rattle.shown_period.specs.Whole.{record_of}
 use Rattle.run_judged.specs.declared.tally.Tally.{Tally}
@@ -12,26 +11,18 @@ add_charges-requires g c =
     let sc = c.args.scenario.now in
     let f = c.args.findings.now in
     let t = c.args.self.now in
-    let capacity = capacity-le g.row.N c.requires.capacity in
+    let capacity = f.small in
     let fits = c.requires.fits.scenario.system.config.few_nodes in
-    let found = c.requires.found.nodes in
-    let nodes : f.nodes ≤ g.row.N = omega arith in
     let few : sc.config.nodes ≤ 16 = omega arith in
     let same = c.add_budget.ensures in (
       lit< tt,
       (
-        elim c.requires.capacity [ inl e ↦ rw e (lit< tt) | inr e ↦ rw e (lit< tt) ],
+        elim c.args.seen.now.capacity [ inl e ↦ rw e (lit< tt) | inr e ↦ rw e (lit< tt) ],
         (
-          nodes,
+          subst (λ (k : ℕ). k ≤ 16384) (sym (ap (λ (x : Tally g.row.N). x.charges) same)) (few_charges sc f.period t c.requires.sums few f.early),
           (
-            capacity,
-            (
-              subst (λ (k : ℕ). k ≤ 16384) (sym (ap (λ (x : Tally g.row.N). x.charges) same)) (few_charges sc f.period t c.requires.sums few c.requires.early),
-              (
-                subst (λ (k : ℕ). k ≤ 16384) (sym (ap (λ (x : Tally g.row.N). x.false_charges) same)) (few_false_charges sc f.period t c.requires.sums few c.requires.early),
-                subst (λ (k : ℕ). k ≤ 16384) (sym (ap (λ (x : Tally g.row.N). x.false_exclusions) same)) (few_false_exclusions sc f.period t c.requires.sums few c.requires.early),
-              ),
-            ),
+            subst (λ (k : ℕ). k ≤ 16384) (sym (ap (λ (x : Tally g.row.N). x.false_charges) same)) (few_false_charges sc f.period t c.requires.sums few f.early),
+            subst (λ (k : ℕ). k ≤ 16384) (sym (ap (λ (x : Tally g.row.N). x.false_exclusions) same)) (few_false_exclusions sc f.period t c.requires.sums few f.early),
           ),
         ),
       ),
@@ -39,7 +30,7 @@ add_charges-requires g c =
 
 pub add_claim-requires : goal.add_claim-requires
 add_claim-requires g c =
-    let few = few_claimed c.args.scenario.now c.args.findings.now.period c.args.self.now c.requires.sums c.requires.early in
+    let few = few_claimed c.args.scenario.now c.args.findings.now.period c.args.self.now c.requires.sums c.args.findings.now.early in
     let one : c.add_charges.new.self.claimed ≡ c.add_budget.new.self.claimed = ap (λ (x : Tally g.row.N). x.claimed) c.add_charges.ensures in
     let two : c.add_budget.new.self.claimed ≡ c.args.self.now.claimed = ap (λ (x : Tally g.row.N). x.claimed) c.add_budget.ensures in
     (lit< tt, subst (λ (k : ℕ). k ≤ 1024) (sym (one ∙ two)) few)
@@ -47,7 +38,7 @@ add_claim-requires g c =
 pub returns : goal.returns
 returns g c =
     let sc = c.args.scenario.now in
-    let s = c.args.shown.now in
+    let s = c.args.seen.now.shown.now in
     let f = c.args.findings.now in
     let config = c.requires.fits.scenario.system.config in
     let channels : c.len-channels.result ≡ length sc.config.channels.items = c.len-channels.ensures.value ∙ ap (λ (k : Config g.row.N). length k.channels.items) c.config.ensures.config in
@@ -56,15 +47,12 @@ returns g c =
     c.add_budget.ensures c.add_charges.ensures c.add_claim.ensures spread c.requires.skew c.requires.sums
 
 pub config-requires : goal.config-requires
-config-requires g c = (elim c.requires.capacity [ inl e ↦ rw e (lit< tt) | inr e ↦ rw e (lit< tt) ], elim c.requires.capacity [ inl e ↦ rw e (lit< tt) | inr e ↦ rw e (lit< tt) ])
+config-requires g c = (elim c.args.seen.now.capacity [ inl e ↦ rw e (lit< tt) | inr e ↦ rw e (lit< tt) ], elim c.args.seen.now.capacity [ inl e ↦ rw e (lit< tt) | inr e ↦ rw e (lit< tt) ])
 
 pub spread-spread-requires : goal.spread-spread-requires
 spread-spread-requires g c =
     let config = c.requires.fits.scenario.system.config in
-    let fits = config.few_nodes in
-    let nodes = c.requires.fits.shape.nodes in
-    let few : c.args.shown.now.head.nodes ≤ g.row.N = omega arith in
     let most = config.few_channels in
     let same : c.len-channels.result ≡ length c.args.scenario.now.config.channels.items = c.len-channels.ensures.value ∙ ap (λ (k : Config g.row.N). length k.channels.items) c.config.ensures.config in
     let channels : c.len-channels.result ≤ 8 = omega arith in
-    (elim c.requires.capacity [ inl e ↦ rw e (lit< tt) | inr e ↦ rw e (lit< tt) ], (few, (channels, c.requires.fits.beliefs)))
+    (lit< tt, channels)

@@ -2,7 +2,6 @@ use Rattle.std.proofs.Common.{◌≡◌, ◌≢◌, ◌<◌, ◌≤◌, ◌-◌,
 use Rattle.std.specs.List.{flat_map}
 use Rattle.node_grid.specs.NodeSet.{ids_below}
 use Rattle.cluster_periods.specs.Record.{PeriodView}
-use Rattle.run_print.specs.Common.{IsCommon}
 use Rattle.run_print.specs.Printing.{Prints}
 use Rattle.run_print.proofs.Joining.{then, nothing}
 use Rattle.run_print.proofs.Lists.{flat_next}
@@ -29,8 +28,7 @@ of-common-requires g c =
 pub recorded-requires : goal.recorded-requires
 recorded-requires g c =
     let nodes : c.shown.inside.nodes ≡ c.args.shown.now.nodes = ap (λ (t : PeriodView). t.nodes) c.shown.view_is in
-    let common = subst (λ (n : ℕ). IsCommon n c.of-common.result.shown.now c.of-common.result.standing c.of-common.result.settled) nodes c.of-common.ensures in
-    (assumption, (assumption, (lit< tt, (c.requires.capacity, (c.requires.nodes, (below _ _ _ nodes c.loop-i-test.true, common))))))
+    (assumption, (assumption, (lit< tt, (below _ _ _ nodes c.loop-i-test.true, c.of-common.ensures ∙ nodes))))
 
 pub loop-i-init : goal.loop-i-init
 loop-i-init g c = nothing g.K.Sink.written g.K.Sink.faults c.args.self.now c.args.sink.now

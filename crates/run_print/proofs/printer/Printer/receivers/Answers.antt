@@ -1,4 +1,4 @@
-use Rattle.std.proofs.Common.{◌≡◌, ℕ, List, None, not, ap, sym, subst, arith, ◌∙◌, append-nil, lit<}
+use Rattle.std.proofs.Common.{◌≡◌, ℕ, List, None, not, ap, sym, subst, arith, ◌∙◌, append-nil, inl, inr, lit<}
 use Rattle.std.specs.List.{flat_map}
 use Rattle.node_grid.specs.NodeSet.{ids_below}
 use Rattle.fault_classes.specs.Change.{change_of}
@@ -13,9 +13,9 @@ use Rattle.run_print.proofs.printer.Printer.receivers.Goals.{then-to-from+then-i
 
 pub loop-to-preserved : goal.loop-to-preserved
 loop-to-preserved g c =
-    let plan = c.args.plan.now in
-    let shown = c.args.shown.now in
-    let slot = c.args.slot in
+    let plan = c.args.traced.now.plan.now in
+    let shown = c.args.traced.now.shown.now in
+    let slot = c.args.traced.now.slot in
     let from = c.args.from in
     let to = c.loop-to.to in
     let before : List ℕ = flat_map (link_text plan shown slot from) (ids_below to) in
@@ -44,13 +44,13 @@ loop-to-smaller g c = omega (arith, c.loop-to-test.true)
 
 pub returns : goal.returns
 returns g c =
-    let nodes : c.shown.inside.nodes ≡ c.args.shown.now.nodes = ap (λ (t : PeriodView). t.nodes) c.shown.view_is in
-    let last : c.loop-to.to ≡ c.args.shown.now.nodes = omega (arith, nodes, c.loop-to-test.false, c.loop-to.auto.to-end) in
+    let nodes : c.shown.inside.nodes ≡ c.args.traced.now.shown.now.nodes = ap (λ (t : PeriodView). t.nodes) c.shown.view_is in
+    let last : c.loop-to.to ≡ c.args.traced.now.shown.now.nodes = omega (arith, nodes, c.loop-to-test.false, c.loop-to.auto.to-end) in
     subst (λ (k : ℕ). Prints g.K.Sink.written g.K.Sink.faults c.args.self.now c.args.sink.now c.loop-to.self c.loop-to.sink
-    (flat_map (link_text c.args.plan.now c.args.shown.now c.args.slot c.args.from) (ids_below k))) last c.loop-to.invariant
+    (flat_map (link_text c.args.traced.now.plan.now c.args.traced.now.shown.now c.args.traced.now.slot c.args.from) (ids_below k))) last c.loop-to.invariant
 
 pub sent-sent-requires : goal.sent-sent-requires
-sent-sent-requires g c = (assumption, (c.requires.from, c.requires.slot))
+sent-sent-requires g c = (elim c.args.traced.now.capacity [ inl e ↦ rw e (lit< tt) | inr e ↦ rw e (lit< tt) ], (c.requires.from, c.args.traced.now.in_period))
 
 pub start_of-written-requires : goal.start_of-written-requires
 start_of-written-requires g c = tt
@@ -60,14 +60,14 @@ as_slice-start-requires g c = lit< tt
 
 pub effect-requires : goal.effect-requires
 effect-requires g c =
-    let period : c.shown.inside.period ≡ c.args.shown.now.period = ap (λ (t : PeriodView). t.period) c.shown.view_is in
-    let nodes : c.shown.inside.nodes ≡ c.args.shown.now.nodes = ap (λ (t : PeriodView). t.nodes) c.shown.view_is in (
+    let period : c.shown.inside.period ≡ c.args.traced.now.shown.now.period = ap (λ (t : PeriodView). t.period) c.shown.view_is in
+    let nodes : c.shown.inside.nodes ≡ c.args.traced.now.shown.now.nodes = ap (λ (t : PeriodView). t.nodes) c.shown.view_is in (
       lit< tt,
       (
-        omega (arith, period, c.requires.planned.periods),
+        omega (arith, period, c.args.traced.now.periods),
         (
-          rw c.requires.planned.rounds c.requires.slot,
-          (rw c.requires.planned.nodes c.requires.from, (omega (arith, c.requires.planned.nodes, nodes, c.loop-to-test.true), λ e. c.if-to-from.true (sym e))),
+          rw c.args.traced.now.rounds c.args.traced.now.in_period,
+          (rw c.args.traced.now.nodes c.requires.from, (omega (arith, c.args.traced.now.nodes, nodes, c.loop-to-test.true), λ e. c.if-to-from.true (sym e))),
         ),
       ),
     )

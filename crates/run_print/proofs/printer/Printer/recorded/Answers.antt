@@ -1,23 +1,21 @@
-use Rattle.std.proofs.Common.{◌≤◌, arith, inl, inr, sym, subst, lit<}
+use Rattle.std.proofs.Common.{ℕ, subst, ◌≡◌, arith, inl, inr, sym, ap, ◌∙◌, lit<}
 use Rattle.cluster_periods.specs.Record.{PeriodView}
-use Rattle.run_print.specs.Common.{IsCommon}
+use Rattle.run_text.specs.NodeText.{beliefs_text}
+use Rattle.run_print.specs.Printing.{Prints}
 use Rattle.run_print.proofs.Joining.{then}
 use Rattle.run_print.proofs.printer.Printer.recorded.Goals as goal
 
-pub beliefs-requires : goal.beliefs-requires
-beliefs-requires g c =
-    let nodes = subst (λ (t : PeriodView). t.nodes ≤ g.row.N) (sym c.shown.view_is) c.requires.nodes in
-    let common = subst (λ (t : PeriodView). IsCommon t.nodes c.args.common.now.shown.now c.args.common.now.standing c.args.common.now.settled) (sym c.shown.view_is) c.requires.common in
-    (assumption, (elim c.requires.capacity [ inl e ↦ rw e (lit< tt) | inr e ↦ rw e (lit< tt) ], (lit< tt, (c.requires.capacity, (nodes, common)))))
-
 pub returns : goal.returns
-returns g c = rw (c.node.ensures, sym c.shown.view_is) (then (rw (sym c.letter_of.ensures) at c.front.ensures) c.beliefs.ensures)
+returns g c =
+    let same : c.args.common.now.nodes ≡ c.shown.inside.nodes = c.requires.same ∙ sym (ap (λ (t : PeriodView). t.nodes) c.shown.view_is) in
+    let beliefs = subst (λ (k : ℕ). Prints g.K.Sink.written g.K.Sink.faults c.front.new.self c.front.new.sink c.beliefs.new.self c.beliefs.new.sink (beliefs_text k c.shown.inside.retire c.node.result.now c.node.result.now.agreed)) same c.beliefs.ensures in
+    rw (c.node.ensures, sym c.shown.view_is) (then (rw (sym c.letter_of.ensures) at c.front.ensures) beliefs)
 
 pub bounds-shown-inside-i : goal.bounds-shown-inside-i
-bounds-shown-inside-i g c = omega (arith, c.requires.node, c.requires.nodes)
+bounds-shown-inside-i g c = omega (arith, c.requires.node, c.requires.same, c.args.common.now.few)
 
 pub front-requires : goal.front-requires
 front-requires g c = assumption
 
 pub node-requires : goal.node-requires
-node-requires g c = (assumption, (elim c.requires.capacity [ inl e ↦ rw e (lit< tt) | inr e ↦ rw e (lit< tt) ], c.requires.node))
+node-requires g c = (assumption, (elim c.args.common.now.capacity [ inl e ↦ rw e (lit< tt) | inr e ↦ rw e (lit< tt) ], c.requires.node))

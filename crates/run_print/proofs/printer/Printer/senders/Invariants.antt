@@ -9,5 +9,5 @@ abbrev pub invariant-loop-from : goal.invariant-loop-from
 invariant-loop-from g l = record {
   size : length l.room ≡ length l.initial.room;
   prints : Prints g.K.Sink.written g.K.Sink.faults l.initial.self l.initial.sink l.self l.sink
-      (flat_map (sender_text l.plan l.shown l.slot) (ids_below l.from));
+      (flat_map (sender_text l.traced.plan.now l.traced.shown.now l.traced.slot) (ids_below l.from));
 }

@@ -6,10 +6,10 @@ pub as_slice-requires : goal.as_slice-requires
 as_slice-requires g c = lit< tt
 
 pub settled-requires : goal.settled-requires
-settled-requires g c = (assumption, (assumption, (c.requires.capacity, c.requires.nodes)))
+settled-requires g c = (assumption, (assumption, (c.args.common.now.capacity, c.args.common.now.few)))
 
 pub settles-requires : goal.settles-requires
-settles-requires g c = (lit< tt, (assumption, (c.requires.capacity, c.requires.common)))
+settles-requires g c = (lit< tt, assumption)
 
 pub text-requires : goal.text-requires
 text-requires g c = assumption

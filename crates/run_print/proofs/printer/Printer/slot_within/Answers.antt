@@ -12,5 +12,4 @@ pub whole_as_slice-senders : goal.whole_as_slice-senders
 whole_as_slice-senders g c = omega (arith, c.requires.few)
 
 pub senders-requires : goal.senders-requires
-senders-requires g c =
-    (assumption, (assumption, (lit< tt, (c.requires.planned, (c.requires.slot, λ from low. fits (length (frame_at c.args.shown.now c.args.slot from)) g.row.BYTES (c.requires.room from low))))))
+senders-requires g c = (assumption, (lit< tt, λ from low. fits (length (frame_at c.args.traced.now.shown.now c.args.traced.now.slot from)) g.row.BYTES (c.requires.room from low)))

@@ -23,7 +23,7 @@ returns g c e =
 pub is_shared-requires : goal.is_shared-requires
 is_shared-requires g c =
     let cap = c.requires.example.printable.beliefs.capacity in
-    (elim cap [ inl e ↦ rw e (lit< tt) | inr e ↦ rw e (lit< tt) ], cap)
+    elim cap [ inl e ↦ rw e (lit< tt) | inr e ↦ rw e (lit< tt) ]
 
 pub group-requires : goal.group-requires
 group-requires g c =

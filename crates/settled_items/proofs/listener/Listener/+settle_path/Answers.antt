@@ -1,9 +1,7 @@
 use Rattle.std.proofs.Common.{rules, ℕ, ◌≡◌, ◌<◌, ◌≤◌, ◌+◌, ◌==◌, true, List, [], ◌∷◌, ◌++◌, map, take, length, refl, sym, ap, ◌∙◌, inl, inr, arith, append-nil, eq-eqb, ne_eqb, eqb-true}
 use Rattle.std.proofs.lemmas.Bool.{cond-true, cond-false, or_cases}
 use Rattle.std.proofs.lemmas.List.{length_push, length-set}
-use Rattle.node_grid.specs.Capacity.{IsCapacity}
 use Rattle.node_grid.specs.NodeSet.{has_id, IsIdSet}
-use Rattle.node_grid.specs.CapacityLaws.{capacity-le}
 use Rattle.node_grid.specs.ListLaws.{has_push}
 use Rattle.omh_paths.specs.Wrapped.{unwrapped}
 use Rattle.omh_paths.specs.Majority.{majority}
@@ -27,10 +25,9 @@ low_push n path longer q low at is x on = elim (or_cases (has_id path x) (q == x
 next_low : (n : ℕ) (all s path ys rest left : List ℕ) (q : ℕ) → IsIdSet n all → all ≡ outside s path → outside s path ≡ ys ++ left → left ≡ q ∷ rest → q < n
 next_low n all s path ys rest left q ids is split steps = member-lt n all q ids (ap (λ (xs : List ℕ). has_id xs q) is ∙ next_on (outside s path) ys rest left q split steps)
 
-next_few : (n : ℕ) (all s path ys rest left : List ℕ) (q : ℕ) → IsCapacity n → length all ≤ n → all ≡ outside s path → outside s path ≡ ys ++ left → left ≡ q ∷ rest → length ys < 16
+next_few : (n : ℕ) (all s path ys rest left : List ℕ) (q : ℕ) → n ≤ 16 → length all ≤ n → all ≡ outside s path → outside s path ≡ ys ++ left → left ≡ q ∷ rest → length ys < 16
 next_few n all s path ys rest left q capacity few is split steps =
     let l = next_short (outside s path) ys rest left q n split steps (omega (arith, ap length is)) in
-    let k = capacity-le n capacity in
     omega arith
 
 pub returns-then-len-self-clause-settled : goal.returns-then-len-self-clause-settled
@@ -56,7 +53,7 @@ settle_path-term-requires g k c κs within =
     let q = c.in-Some.q in
     let i = c.loop-q.invariant in
     let low = next_low g.row.N c.outside.result c.args.self.now.members p c.loop-q.yielded c.next.new.self c.loop-q.q-iterator q c.iter-q-items.ensures.ids c.outside.ensures i.split c.in-Some.ensures.steps in
-    let few = next_few g.row.N c.outside.result c.args.self.now.members p c.loop-q.yielded c.next.new.self c.loop-q.q-iterator q c.requires.capacity c.iter-q-items.ensures.few c.outside.ensures i.split c.in-Some.ensures.steps in
+    let few = next_few g.row.N c.outside.result c.args.self.now.members p c.loop-q.yielded c.next.new.self c.loop-q.q-iterator q c.args.self.now.fits c.iter-q-items.ensures.few c.outside.ensures i.split c.in-Some.ensures.steps in
     let deep : length p ≤ c.args.self.now.rounds = omega (arith, c.if-len-self.false, c.len.ensures.count) in
     let l : length c.then.result ≡ length p + 1 = ap length c.then.ensures ∙ length_push p q in (
       omega (arith, c.decreases, l, deep),
@@ -70,13 +67,7 @@ settle_path-term-requires g k c κs within =
               omega arith,
               (
                 c.requires.exact,
-                (
-                  c.requires.capacity,
-                  (
-                    low_push g.row.N p c.then.result q c.requires.nodes low c.then.ensures,
-                    (c.requires.rounds, (omega (arith, l, deep), (omega (arith, l, deep, few, i.end, i.long, c.requires.room), omega (arith, i.long, c.requires.small)))),
-                  ),
-                ),
+                (low_push g.row.N p c.then.result q c.requires.nodes low c.then.ensures, (omega (arith, l, deep), omega (arith, l, deep, few, i.end, i.long, c.requires.room))),
               ),
             ),
           ),
@@ -93,7 +84,7 @@ loop-q-preserved g k c =
     let i = c.loop-q.invariant in
     let ys = c.loop-q.yielded in
     let from : ℕ = c.args.from in
-    let few = next_few g.row.N c.outside.result x.members p ys c.next.new.self c.loop-q.q-iterator q c.requires.capacity c.iter-q-items.ensures.few c.outside.ensures i.split c.in-Some.ensures.steps in
+    let few = next_few g.row.N c.outside.result x.members p ys c.next.new.self c.loop-q.q-iterator q c.args.self.now.fits c.iter-q-items.ensures.few c.outside.ensures i.split c.in-Some.ensures.steps in
     let deep : length p ≤ x.rounds = omega (arith, c.if-len-self.false, c.len.ensures.count) in
     let room : c.loop-q.end < length c.loop-q.work = omega (arith, few, deep, i.end, i.long, c.requires.room) in
     let same : take c.loop-q.end c.if-q-self.work ≡ take c.loop-q.end c.loop-q.work = elim c.if-q-self.branch [
@@ -118,7 +109,7 @@ pub settled_from_terms-requires : goal.settled_from_terms-requires
 settled_from_terms-requires g k c =
     let i = c.loop-q.invariant in
     let all = split_all (outside c.args.self.now.members c.args.path.now) c.loop-q.yielded c.loop-q.q-iterator i.split c.in-None.ensures.steps.0 in
-    record { exact = c.requires.exact; ordered = omega (arith, i.end); within = omega (arith, i.end, i.long, ap length all, ap length c.outside.ensures, c.iter-q-items.ensures.few, capacity-le g.row.N c.requires.capacity, c.requires.room, c.if-len-self.false, c.len.ensures.count) }
+    record { exact = c.requires.exact; ordered = omega (arith, i.end); within = omega (arith, i.end, i.long, ap length all, ap length c.outside.ensures, c.iter-q-items.ensures.few, c.args.self.now.fits, c.requires.room, c.if-len-self.false, c.len.ensures.count) }
 
 pub returns-clause-settled : goal.returns-clause-settled
 returns-clause-settled g k c =

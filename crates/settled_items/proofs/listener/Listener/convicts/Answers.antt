@@ -1,7 +1,5 @@
 use Rattle.std.proofs.Common.{ℕ, ◌≡◌, ◌<◌, ◌≤◌, ◌==◌, true, false, not, List, [], ◌∷◌, ◌++◌, length, refl, sym, ap, ◌∙◌, inl, inr, arith, eqb-true, eq-eqb}
 use Rattle.std.proofs.lemmas.Bool.{or_cases, or_parts, or_from, or_left}
-use Rattle.node_grid.specs.Capacity.{IsCapacity}
-use Rattle.node_grid.specs.CapacityLaws.{capacity-le}
 use Rattle.node_grid.specs.NodeSet.{has_id, IsIdSet}
 use Rattle.node_grid.specs.NodeSetLaws.{length-ids}
 use Rattle.node_grid.specs.Count.{count}
@@ -27,11 +25,11 @@ count_true : (s : List ℕ) → count (λ q. true) s ≡ length s
 count_true [] = refl
 count_true (x ∷ xs) = omega (arith, count_true xs)
 
-few_others : (n : ℕ) (members : List ℕ) (c i k : ℕ) → IsCapacity n → IsIdSet n members → has_id members c ≡ true → k ≡ length (outside members (c ∷ i ∷ [])) → k ≤ 15
+few_others : (n : ℕ) (members : List ℕ) (c i k : ℕ) → n ≤ 16 → IsIdSet n members → has_id members c ≡ true → k ≡ length (outside members (c ∷ i ∷ [])) → k ≤ 15
 few_others n members c i k capacity ids on is =
     let off : not (has_id (c ∷ i ∷ []) c) ≡ false = ap not (or_left (c == c) (has_id (i ∷ []) c) (eq-eqb c c refl)) in
     let l = left_out (λ q. true) (λ q. not (has_id (c ∷ i ∷ []) q)) members c on off in
-    omega (arith, count_true members, count_true (outside members (c ∷ i ∷ [])), capacity-le n capacity, length-ids n members ids)
+    omega (arith, count_true members, count_true (outside members (c ∷ i ∷ [])), capacity, length-ids n members ids)
 
 off_root : (members root : List ℕ) (c i q : ℕ) → root ≡ c ∷ [] → has_id (c ∷ i ∷ []) q ≡ false → has_id root q ≡ false
 off_root members root c i q is off = ap (λ (p : List ℕ). has_id p q) is ∙ or_from _ _ (or_parts _ _ off).0 refl
@@ -52,5 +50,5 @@ then-requires-in-loop-q-clause-off g c =
 
 pub convict_by-requires-clause-few : goal.convict_by-requires-clause-few
 convict_by-requires-clause-few g c =
-    few_others g.row.N c.args.self.now.members c.args.commander c.args.self.now.me c.loop-q.end c.requires.capacity c.len.ensures.ids c.requires.member
+    few_others g.row.N c.args.self.now.members c.args.commander c.args.self.now.me c.loop-q.end c.args.self.now.fits c.len.ensures.ids c.requires.member
     (c.loop-q.invariant.end ∙ ap length (sym (split_all (outside c.args.self.now.members (c.args.commander ∷ c.args.self.now.me ∷ [])) c.loop-q.yielded c.loop-q.q-iterator c.loop-q.invariant.split c.in-None.ensures.steps.0)))

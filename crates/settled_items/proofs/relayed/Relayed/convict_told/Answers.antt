@@ -29,7 +29,7 @@ is_spared-requires g c = (
       c.requires.exact,
       (
         c.requires.item,
-        ((λ i on ne. on_rest c.args.self.now.exchange.awake c.without-nodes.result c.args.self.now.exchange.commander i c.without-nodes.ensures on ne), (c.requires.told, c.requires.nodes)),
+        ((λ i on ne. on_rest c.args.self.now.exchange.awake c.without-nodes.result c.args.self.now.exchange.commander i c.without-nodes.ensures on ne), c.requires.told),
       ),
     ),
   ),
@@ -37,20 +37,8 @@ is_spared-requires g c = (
 
 pub convicting-requires : goal.convicting-requires
 convicting-requires g c =
-    let is = c.requires.item in
-    let e = c.args.self.now.exchange in (
-      omega arith,
-      (
-        omega arith,
-        (
-          c.requires.exact,
-          (
-            record { capacity_ok = is.capacity_ok; rounds_ok = is.rounds_ok; member = is.member; told_ok = c.requires.nodes; known = c.requires.known },
-            off_rest e.awake c.without-nodes.result e.commander c.without-nodes.ensures,
-          ),
-        ),
-      ),
-    )
+    let e = c.args.self.now.exchange in
+    (omega arith, (omega arith, (c.requires.exact, off_rest e.awake c.without-nodes.result e.commander c.without-nodes.ensures)))
 
 pub returns-clause-convicts : goal.returns-clause-convicts
 returns-clause-convicts g c = λ k here ne.
@@ -58,7 +46,7 @@ returns-clause-convicts g c = λ k here ne.
     let e = x.exchange in
     let is = c.requires.item in
     c.convicting.ensures.convicts k (on_rest e.awake c.without-nodes.result e.commander k c.without-nodes.ensures here ne)
-    ∙ all_convict e.rounds e.members e.full e.commander x.odd e.awake x.own.now (g.T.Touched.says x.touched.now) c.args.told.now is.rounds_ok (Distinct-ids g.row.N e.members c.len.ensures.ids) is.member is.awake is.own_small is.said_small is.odd_heard c.requires.told
+    ∙ all_convict e.rounds e.members e.full e.commander x.odd e.awake x.own.now (g.T.Touched.says x.touched.now) c.args.told.now is.rounds_ok (Distinct-ids g.row.N e.members c.len.ensures.ids) is.member is.awake is.own_small is.said_small is.odd_heard c.requires.told.told_are
     g.V.PartialEq.eq k here ne
 
 pub returns-clause-within : goal.returns-clause-within

@@ -20,7 +20,7 @@ loop-q-preserved g c =
     let n : ℕ = length c.loop-q.yielded in
     let at = next_at others c.loop-q.yielded c.next.new.self c.loop-q.q-iterator q i.split c.in-Some.ensures.steps in
     let short = next_short others c.loop-q.yielded c.next.new.self c.loop-q.q-iterator q i.split c.in-Some.ensures.steps in
-    let room : c.loop-q.place < length c.loop-q.laid = omega (arith, i.end, i.room, short, a.from, c.requires.room) in
+    let room : c.loop-q.place < length c.loop-q.laid = omega (arith, i.end, i.room, short, c.requires.room) in
     let long = length_push c.loop-q.yielded q in
     let want = λ (x : ℕ). if has_id a.self.now.full x then wrapped (or_passed (g.T.Touched.says a.touched.now x a.path.now) a.passed) else Fault 0 in
     record {

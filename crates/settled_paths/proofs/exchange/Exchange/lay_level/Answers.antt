@@ -39,7 +39,7 @@ lay_behind-requires g c =
         λ q on. member-lt g.row.N s.members q x.members_ok (c.path-path.ensures.within q on),
         (
           small_more (252 + c.args.relays) 254 c.value_at-passed.result (omega (arith, c.requires.shorter, x.rounds_ok)) value_small,
-          (omega (arith, t.terms, t.many, room, c.requires.room, c.loop-k.invariant.room), omega (arith, t.small)),
+          omega (arith, t.terms, t.many, room, c.requires.room, c.loop-k.invariant.room),
         ),
       ),
     )

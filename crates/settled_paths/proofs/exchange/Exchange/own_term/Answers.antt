@@ -1,8 +1,12 @@
 use Rattle.std.proofs.Common.{ℕ, ◌+◌, get_or, sym, ap, ◌∙◌, arith}
 use Rattle.omh_paths.specs.declared.wrapped.Wrapped.TheVariants.{Fault}
 use Rattle.omh_paths.specs.Paths.{outside}
+use Rattle.omh_paths.specs.MemberLaws.{member-lt}
 use Rattle.settled_paths.proofs.Folds.{own_place}
 use Rattle.settled_paths.proofs.exchange.Exchange.own_term.Goals as goal
+
+pub place-requires : goal.place-requires
+place-requires g c = (omega arith, member-lt g.row.N c.outside-others.result c.args.i c.len.ensures.ids (sym c.has.ensures ∙ c.if-has.true))
 
 pub value_at-requires : goal.value_at-requires
 value_at-requires g c =

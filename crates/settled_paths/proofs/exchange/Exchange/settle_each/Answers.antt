@@ -16,14 +16,13 @@ settle_from-settled-requires g c =
     let i = c.loop-i.invariant in
     let nodes = c.args.nodes.now in
     let q = c.in-Some.i in
-    let on = next_on nodes c.loop-i.yielded c.next.new.self c.loop-i.i-iterator q i.split c.in-Some.ensures.steps in
-    let low = low_of g.row.N nodes c.loop-i.yielded c.next.new.self c.loop-i.i-iterator q c.iter-i-items.ensures.ids i.split c.in-Some.ensures.steps in (
+    let on = next_on nodes c.loop-i.yielded c.next.new.self c.loop-i.i-iterator q i.split c.in-Some.ensures.steps in (
       omega arith,
       (
         c.requires.exact,
         (
           c.requires.exchange,
-          (c.requires.some, (apart nodes c.args.self.now.commander q c.requires.others on, (low, (c.requires.laid, (c.requires.longest, omega (arith, c.requires.work, i.work)))))),
+          (apart nodes c.args.self.now.commander q c.requires.others on, record { relayed = c.requires.room.relayed; laid_ok = c.requires.room.laid_ok; longest_ok = c.requires.room.longest_ok; work_ok = omega (arith, c.requires.room.work_ok, i.work); terms_ok = omega (arith, c.requires.room.terms_ok, i.work) }),
         ),
       ),
     )

@@ -12,14 +12,14 @@ loop-done-init g c =
     let s = c.args.self.now in
     let last : ℕ = s.rounds - 1 in
     let room = level_at-next (length s.members - 1) last in
-    let up = level_at-le (length s.members - 1) (last + 1) s.rounds (omega (arith, c.requires.some)) in
+    let up = level_at-le (length s.members - 1) (last + 1) s.rounds (omega (arith, c.requires.room.relayed)) in
     record {
       work = refl;
       settled = λ full h own longest.
           let x = ear_in s.rounds s.members c.args.i full h in
           settled_moved_to g.V.PartialEq.eq x (index_in s.members s.commander) last (last - 0) c.copy_front.new.work (omega arith)
           (copied g.V.PartialEq.eq x (index_in s.members s.commander) last c.level.result.paths c.args.longest.now c.args.work.now c.copy_front.new.work c.level.ensures.paths_are
-          (omega (arith, c.level.ensures.paths_are, room, up, c.requires.longest)) c.copy_front.ensures longest);
+          (omega (arith, c.level.ensures.paths_are, room, up, c.requires.room.longest_ok)) c.copy_front.ensures longest);
     }
 
 pub loop-done-preserved : goal.loop-done-preserved
@@ -38,8 +38,8 @@ loop-done-preserved g c =
 pub value_at-requires : goal.value_at-requires
 value_at-requires g c =
     let s = c.args.self.now in
-    let up = level_at-le (length s.members - 1) 1 s.rounds (omega (arith, c.requires.some)) in
-    omega (arith, up, c.requires.work, c.loop-done.auto.work, c.copy_front.auto.work)
+    let up = level_at-le (length s.members - 1) 1 s.rounds (omega (arith, c.requires.room.relayed)) in
+    omega (arith, up, c.requires.room.work_ok, c.loop-done.auto.work, c.copy_front.auto.work)
 
 pub returns-clause-settled : goal.returns-clause-settled
 returns-clause-settled g c = λ full h own longest.

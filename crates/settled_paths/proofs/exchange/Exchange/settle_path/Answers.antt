@@ -1,8 +1,12 @@
 use Rattle.std.proofs.Common.{length, sym, ap, ◌∙◌, ◌*◌, arith}
 use Rattle.omh_paths.specs.Paths.{outside}
+use Rattle.omh_paths.specs.MemberLaws.{member-lt}
 use Rattle.settled_paths.proofs.Folds.{own_place, own_laid, own_unlaid, path_done}
 use Rattle.settled_paths.proofs.exchange.Exchange.settle_path.Goals as goal
 use Rattle.settled_paths.proofs.exchange.Exchange.settle_path.Goals.{then-has, else-has}
+
+pub place-requires : goal.place-requires
+place-requires g c = (omega arith, member-lt g.row.N c.outside-others.result c.args.i c.len-width.ensures.ids (sym c.has.ensures ∙ c.if-has.true))
 
 pub set_value-requires : goal.set_value-requires
 set_value-requires g c =

@@ -8,6 +8,7 @@ use Rattle.omh_paths.specs.Paths.{index_in}
 use Rattle.omh_paths.specs.PathLists.{index_in-lt}
 use Rattle.omh_paths.specs.MemberLaws.{Distinct-ids, member-lt}
 use Rattle.omh.specs.Omh.{settled}
+use Rattle.settled_paths.specs.Levels.{AreRelayRooms}
 use Rattle.settled_paths.specs.Passing.{passing_world}
 use Rattle.settled_paths.proofs.Loops.{next_on, split_more, has_front, has_rest, not_rest, left_out, each_of, joined_has, joined_on}
 use Rattle.settled_paths.proofs.Passes.{own_terms, last_terms}
@@ -49,11 +50,18 @@ settle_each-requires g c =
           c.requires.exact,
           (
             c.requires.exchange,
-            (c.requires.some, (off, (c.requires.laid, (omega (arith, longest, c.requires.longest), (omega (arith, work, c.requires.work), c.loop-first.invariant.places))))),
+            (off, (record { relayed = c.requires.room.relayed; laid_ok = c.requires.room.laid_ok; longest_ok = omega (arith, longest, c.requires.room.longest_ok); work_ok = omega (arith, work, c.requires.room.work_ok); terms_ok = omega (arith, work, c.requires.room.terms_ok) }, c.loop-first.invariant.places)),
           ),
         ),
       ),
     )
+
+pub settle_longest-requires : goal.settle_longest-requires
+settle_longest-requires g c =
+    let r = c.requires.room in
+    let i = c.loop-first.invariant in
+    let room : AreRelayRooms c.args.self.now.rounds c.args.self.now.members c.args.laid.now c.loop-first.longest c.loop-first.work = record { relayed = r.relayed; laid_ok = r.laid_ok; longest_ok = omega (arith, i.longest, r.longest_ok); work_ok = omega (arith, i.work, r.work_ok); terms_ok = omega (arith, i.work, r.terms_ok) } in
+    (omega arith, (c.requires.exact, (c.requires.exchange, room)))
 
 pub loop-first-preserved-then-not-has : goal.loop-first-preserved-then-not-has
 loop-first-preserved-then-not-has g c =
@@ -85,7 +93,7 @@ loop-first-preserved-then-not-has g c =
           let w = passing_world s.rounds s.members s.full own says in
           elim (cases_Bool (has_id c.alike-alike.result k)) [
             | inl al ↦
-                let lasts = last_terms s.full own says s.rounds s.members place distinct low c.args.laid.now laid g.V.PartialEq.eq q k (s.rounds - 1) (omega (arith, c.requires.some)) (c.alike-alike.ensures.alike k al) in
+                let lasts = last_terms s.full own says s.rounds s.members place distinct low c.args.laid.now laid g.V.PartialEq.eq q k (s.rounds - 1) (omega (arith, c.requires.room.relayed)) (c.alike-alike.ensures.alike k al) in
                 c.settle_each.ensures.settled k al (has_id s.full k) (w.heard k) (own_terms s.full own says s.rounds s.members place distinct low c.args.laid.now laid k)
                 (c.settle_longest.ensures.settled k (has_id s.full k) (w.heard k) lasts)
             | inr off ↦ c.settle_each.ensures.kept k off ∙ elim (joined_has g.row.N c.loop-first.done c.alike-alike.result c.union-done.result k c.union-done.ensures on) [

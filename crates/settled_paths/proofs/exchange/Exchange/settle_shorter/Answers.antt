@@ -23,7 +23,7 @@ own_term-own-requires g c =
     let t = term_place g.row.N s.rounds s.members s.commander c.args.relays c.loop-k.k c.len.result c.saturating_sub-width.result c.level-level.result c.path-path.result x x.members_ok (omega (arith, c.requires.shorter)) c.level-level.ensures c.loop-k-test.true
     c.len.ensures.count c.saturating_sub-width.ensures c.path-path.ensures.path in
     let up = level_at-le (length s.members - 1) (suc (suc c.args.relays)) (s.rounds + 1) (omega (arith, c.requires.shorter)) in
-    (omega arith, (c.requires.node, (λ q on. member-lt g.row.N s.members q x.members_ok (c.path-path.ensures.within q on), (omega (arith, t.terms, t.many, up, c.requires.laid), omega (arith, t.small)))))
+    (omega arith, ((λ q on. member-lt g.row.N s.members q x.members_ok (c.path-path.ensures.within q on)), omega (arith, t.terms, t.many, up, c.requires.laid)))
 
 pub settle_path-requires : goal.settle_path-requires
 settle_path-requires g c =
@@ -41,11 +41,8 @@ settle_path-requires g c =
       (
         c.requires.exact,
         (
-          c.requires.node,
-          (
-            λ q on. member-lt g.row.N s.members q x.members_ok (c.path-path.ensures.within q on),
-            (omega (arith, t.terms_few, t.many, same, room), (here, omega (arith, t.few, t.many, same))),
-          ),
+          (λ q on. member-lt g.row.N s.members q x.members_ok (c.path-path.ensures.within q on)),
+          (omega (arith, t.terms_few, t.many, same, room), here),
         ),
       ),
     )

@@ -80,7 +80,7 @@ free_place-place-requires g c =
       (
         lit< tt,
         (
-          c.requires,
+          c.self.invariant.capacity,
           (
             subst (λ (xs : List ℕ). IsIdSet n xs) (sym c.minus-others.ensures) (filtered_ids (λ k. not (has_id nodes k)) n s.awake ok.ids),
             (

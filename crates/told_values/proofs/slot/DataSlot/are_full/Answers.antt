@@ -1,6 +1,7 @@
-use Rattle.std.proofs.Common.{ℕ, ◌≡◌, Bool, true, false, not, List, refl, sym, ap, ◌∙◌}
+use Rattle.std.proofs.Common.{ℕ, ◌≡◌, ◌<◌, Bool, true, false, not, List, refl, sym, ap, subst, ◌∙◌}
 use Rattle.node_grid.specs.NodeSet.{has_id, minus_of}
 use Rattle.node_grid.specs.NodeSetLaws.{has-filter}
+use Rattle.told_values.specs.Slot.{SlotParts}
 use Rattle.told_values.proofs.slot.DataSlot.are_full.Goals as goal
 
 none_left : (b : Bool) → not b ≡ false → b ≡ true
@@ -9,7 +10,9 @@ none_left false h = cc
 
 pub returns : goal.returns
 returns g c = λ yes j low.
-    let full : List ℕ = c.args.self.now.full in
-    none_left (has_id full j)
-    (sym (has-filter (λ k. not (has_id full k)) c.args.self.now.config.now.nodes j low)
-    ∙ ap (λ (s : List ℕ). has_id s j) (sym (ap (λ (s : List ℕ). minus_of s full) c.full-all.ensures) ∙ sym c.minus.ensures ∙ c.is_empty.ensures.0 yes))
+    let n = c.self.inside in
+    let full : List ℕ = n.full in
+    let used : j < n.config.now.nodes = subst (λ (v : SlotParts _ g.row.N). j < v.config.nodes) (sym c.self.view_is) low in
+    subst (λ (v : SlotParts _ g.row.N). has_id v.full j ≡ true) c.self.view_is (none_left (has_id full j)
+    (sym (has-filter (λ k. not (has_id full k)) n.config.now.nodes j used)
+    ∙ ap (λ (s : List ℕ). has_id s j) (sym (ap (λ (s : List ℕ). minus_of s full) c.full-all.ensures) ∙ sym c.minus.ensures ∙ c.is_empty.ensures.0 yes)))

@@ -4,9 +4,9 @@ use Rattle.told_values.specs.Slot.{slot_of}
 use Rattle.told_values.proofs.Arriving.{untouched_to, heard_well}
 use Rattle.told_values.proofs.slot.DataSlot.hears_all.Goals as goal
 
-pub returns-then-are_alike : goal.returns-then-are_alike
-returns-then-are_alike g c = λ yes x hears j low ne.
+pub returns-then-are_due_alike : goal.returns-then-are_due_alike
+returns-then-are_due_alike g c = λ yes x hears j low ne.
     let d = slot_of g.D.Dues.dues c.args.self.now in
     let full : has_id d.full j ≡ true = c.are_full.ensures c.if-not-are_full.false j low in
     heard_well d c.args.i x hears (untouched_to d c.args.i (sym c.is_untouched.ensures ∙ yes)) j low ne full
-    (ap (λ (ds : List ℕ). length ds) (c.are_alike.ensures c.if-are_alike.true j full))
+    (ap (λ (ds : List ℕ). length ds) (c.are_due_alike.ensures c.if-are_due_alike.true j full))

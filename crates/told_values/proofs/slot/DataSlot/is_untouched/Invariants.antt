@@ -10,5 +10,5 @@ invariant-loop-j g l = record {
   can : (goal.iterator-loop-j g).can_next l.j-iterator;
   ends : (goal.iterator-loop-j g).is_finite l.j-iterator;
   split : l.self.touched ≡ l.yielded ++ l.j-iterator;
-  untouched : (k : ℕ) → has_id l.yielded k ≡ true → k < l.self.config.now.nodes → (k == l.i || is_untouched (change_to (slot_of g.D.Dues.dues l.self) k l.i)) ≡ true;
+  untouched : (k : ℕ) → has_id l.yielded k ≡ true → k < l.self.config.nodes → (k == l.i || is_untouched (change_to (slot_of g.D.Dues.dues l.self) k l.i)) ≡ true;
 }

@@ -15,7 +15,7 @@ loop-node-preserved g c =
     let told : List (Option (List ℤ)) = c.loop-node.told in
     let node : ℕ = c.loop-node.node in
     let values : Option (List ℤ) = c.own_values.result in
-    let room : node < length told = (let w = c.loop-node.invariant.wide in let t = c.loop-node-test.true in let f = c.requires.slot.config.few_nodes in omega arith) in
+    let room : node < length told = (let w = c.loop-node.invariant.wide in let t = c.loop-node-test.true in let f = c.nodes-nodes.ensures.slot.config.few_nodes in let n = c.nodes-nodes.ensures.nodes in omega arith) in
     record {
       wide = length-set told node values ∙ c.loop-node.invariant.wide;
       so_far = λ j k low on. elim (cases_eq j node) [
@@ -27,4 +27,4 @@ loop-node-preserved g c =
     }
 
 pub returns : goal.returns
-returns g c = λ j k low on. let t = c.loop-node-test.false in c.loop-node.invariant.so_far j k (omega arith) on
+returns g c = λ j k low on. let n = c.nodes-nodes.ensures.nodes in let t = c.loop-node-test.false in c.loop-node.invariant.so_far j k (omega arith) on

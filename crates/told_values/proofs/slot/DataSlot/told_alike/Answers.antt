@@ -16,7 +16,7 @@ loop-from-preserved g c =
     let own : List (Option (List ℤ)) = c.args.own.now in
     let from : ℕ = c.loop-from.from in
     let told : List (Option (List ℤ)) = c.loop-from.told in
-    let low : from < g.row.N = (let t = c.loop-from-test.true in let f = c.requires.slot.config.few_nodes in omega arith) in
+    let low : from < g.row.N = (let t = c.loop-from-test.true in let f = c.nodes-nodes.ensures.slot.config.few_nodes in let n = c.nodes-nodes.ensures.nodes in omega arith) in
     elim c.if-may_touch.branch [
       | then-may_touch w ↦
           subst (AreToldBelow d i own (from + 1)) (sym w.told-is)
@@ -28,4 +28,4 @@ loop-from-preserved g c =
     ]
 
 pub returns : goal.returns
-returns g c = λ x hears q k low on. let t = c.loop-from-test.false in c.loop-from.invariant.so_far x hears q k (omega arith) low on
+returns g c = λ x hears q k low on. let n = c.nodes-nodes.ensures.nodes in let t = c.loop-from-test.false in c.loop-from.invariant.so_far x hears q k (omega arith) low on

@@ -17,7 +17,7 @@ loop-from-preserved g c =
     let told : List (Option (List ℤ)) = c.loop-from.told in
     let from : ℕ = c.loop-from.from in
     let values : Option (List ℤ) = c.values_from.result in
-    let room : from < length told = (let w = c.loop-from.invariant.wide in let t = c.loop-from-test.true in let f = c.requires.slot.config.few_nodes in omega arith) in
+    let room : from < length told = (let w = c.loop-from.invariant.wide in let t = c.loop-from-test.true in let f = c.nodes-nodes.ensures.slot.config.few_nodes in let n = c.nodes-nodes.ensures.nodes in omega arith) in
     record {
       wide = length-set told from values ∙ c.loop-from.invariant.wide;
       so_far = λ x hears q k low on. elim (cases_eq q from) [
@@ -29,4 +29,4 @@ loop-from-preserved g c =
     }
 
 pub returns : goal.returns
-returns g c = λ x hears q k low on. let t = c.loop-from-test.false in c.loop-from.invariant.so_far x hears q k (omega arith) on
+returns g c = λ x hears q k low on. let n = c.nodes-nodes.ensures.nodes in let t = c.loop-from-test.false in c.loop-from.invariant.so_far x hears q k (omega arith) on

@@ -8,6 +8,6 @@ use Rattle.told_values.proofs.slot.DataSlot.told_by_each.Given as goal
 abbrev pub invariant-loop-from : goal.invariant-loop-from
 invariant-loop-from g l = record {
   wide : length l.told ≡ g.row.N;
-  so_far : (x : Received) → Hears (slot_of g.D.Dues.dues l.self) l.i x → (q c : ℕ) → q < l.from → has_id (g.D.Dues.dues l.self.dues.now l.i) c ≡ true
-      → value_told l.told q c ≡ value_from l.i (has_id l.self.full l.i) (g.D.Dues.dues l.self.dues.now l.i) (own_of (slot_of g.D.Dues.dues l.self) l.i) x c q;
+  so_far : (x : Received) → Hears (slot_of g.D.Dues.dues l.self) l.i x → (q c : ℕ) → q < l.from → has_id (g.D.Dues.dues l.self.dues l.i) c ≡ true
+      → value_told l.told q c ≡ value_from l.i (has_id l.self.full l.i) (g.D.Dues.dues l.self.dues l.i) (own_of (slot_of g.D.Dues.dues l.self) l.i) x c q;
 }

@@ -1,0 +1,58 @@
+//! The periods of a cluster whose nodes are stepped frame by frame, of a scenario that is read from
+//! standard input.
+
+ghost use Rattle.std.specs.Prelude.{◌≡◌, ◌<◌, ◌+◌, IfOk};
+
+use crate::reading_times::scenario_in;
+use cluster_step::Cluster;
+use scenario::Scenario;
+use std::io;
+use std::time::Instant;
+
+/// How many microseconds the next period of all nodes takes.
+fn time_next(rt: &HostRuntime, cluster: &mut Cluster<'_, 16>) -> io::Result<u128>
+    requires more { cluster.old.run < cluster.old.scenario.periods }
+    ensures { IfOk result (λ _. cluster.new ≡ record cluster.old { run = cluster.old.run + 1 }) }
+{
+    let start = Instant::now(rt)?;
+    cluster.period();
+    let took = start.elapsed(rt)?;
+    Ok(took.as_micros())
+}
+
+/// The least number of microseconds that a period of all nodes takes, or 2^128 - 1 where there is
+/// none.
+fn least_of(
+    rt: &HostRuntime,
+    scenario: &Scenario<16>,
+    cluster: &mut Cluster<'_, 16>,
+) -> io::Result<u128>
+    requires fresh { cluster.old ≡ record { scenario = scenario.now; run = 0 } }
+{
+    let mut least = u128::MAX;
+    'periods: for _ in 0..scenario.periods() {
+        let took = time_next(rt, cluster)?;
+        if took < least {
+            least = took;
+        }
+    }
+    Ok(least)
+}
+
+/// Reads a scenario from standard input, steps all of its nodes through all of its periods, and
+/// prints the least time of a period, shared by the nodes.
+pub fn measure(rt: &HostRuntime) -> io::Result<()> {
+    let Some(scenario) = scenario_in(rt) else {
+        return println!(rt; "no scenario");
+    };
+    let Ok(mut cluster) = Cluster::open(rt.alloc(), &scenario) else {
+        return println!(rt; "no memory");
+    };
+    let least = least_of(rt, &scenario, &mut cluster)?;
+    let nodes = scenario.config().nodes;
+    if nodes > 0 {
+        let each = least / nodes as u128;
+        println!(rt; "{each} us a node and period")?;
+    }
+    Ok(())
+}

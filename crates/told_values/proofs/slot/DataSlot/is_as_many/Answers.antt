@@ -1,8 +1,0 @@
-use Rattle.std.proofs.Common.{ℕ, List, length, sym, ap, eq-eqb}
-use Rattle.told_values.specs.Slot.{slot_of}
-use Rattle.told_values.proofs.slot.DataSlot.is_as_many.Goals as goal
-
-pub returns-then-is_alike : goal.returns-then-is_alike
-returns-then-is_alike g c =
-    let d = slot_of g.D.Dues.dues c.args.self.now in
-    sym (eq-eqb (length (d.due c.args.from)) (length (d.due c.args.to)) (ap (λ (ds : List ℕ). length ds) (c.is_alike.ensures c.if-is_alike.true)))
