@@ -1,17 +1,19 @@
 //! How a period begins.
 
 ghost use Rattle.std.specs.Prelude.{◌≡◌, ◌<◌, length};
-ghost use Rattle.node_grid.specs.Capacity.{IsCapacity};
 ghost use Rattle.at_once.specs.Kept.{AreKept, AreBegun, IsBegunAt};
 
 use crate::keeping::Keeping;
 use crate::period::Period;
+use node_grid::{Capacity, Nodes};
 use shared_states::SharedStates;
 
-impl<const N: usize> Period<'_, N> {
+impl<const N: usize> Period<'_, N>
+where
+    Nodes: Capacity<N>,
+{
     /// Begins the period for a node, which forgets all where it restarts.
     fn begin_at(&self, i: u8, states: &mut SharedStates<N>, keeping: &mut Keeping<N>)
-        requires capacity { IsCapacity N }
         requires in_run { self.now.number < self.now.scenario.now.periods }
         requires node { i < self.now.scenario.now.config.nodes }
         requires many { length keeping.old.notes.items ≡ N }
@@ -31,7 +33,6 @@ impl<const N: usize> Period<'_, N> {
 
     /// Begins the period for all nodes.
     pub(crate) fn begin(&self, states: &mut SharedStates<N>, keeping: &mut Keeping<N>)
-        requires capacity { IsCapacity N }
         requires in_run { self.now.number < self.now.scenario.now.periods }
         requires kept { AreKept self.now.scenario.now self.now.number states.old keeping.old }
         ensures { AreBegun self.now.scenario.now self.now.number states.new keeping.new }

@@ -2,7 +2,6 @@
 
 ghost use Rattle.std.specs.Prelude.{◌≡◌, ◌≢◌, ◌<◌, ℕ, nat_eq, true, false};
 ghost use Rattle.std.specs.Prelude.{length, map, slice_index_or, if◌then◌else◌};
-ghost use Rattle.node_grid.specs.Capacity.{IsCapacity};
 ghost use Rattle.node_grid.specs.NodeSet.{has_id};
 ghost use Rattle.node_grid.specs.Kinds.{equivocate};
 ghost use Rattle.error_reports.specs.Notes.{also_noted, of_each};
@@ -30,16 +29,18 @@ use error_reports::RowBuilder;
 use grouped_nodes::{Groups, complete, own_claim};
 use heard_links::Phase;
 use item_phase::{ItemPhase, laws};
-use node_grid::NodeSet;
 use node_grid::kind::EQUIVOCATE;
+use node_grid::{Capacity, NodeSet, Nodes};
 use omh_paths::Wrapped;
 use shared_states::{Belief, SharedStates};
 use shown_period::Made;
 
-impl<const N: usize> Period<'_, N> {
+impl<const N: usize> Period<'_, N>
+where
+    Nodes: Capacity<N>,
+{
     /// The rounds of items whose first slot this is.
     pub(crate) fn phase(&self, first: u8, full: &NodeSet<N>, made: &Made<N>) -> Phase<'_, N>
-        requires { IsCapacity N }
         ensures { IsPhaseAt self.now.scenario.now self.now.number first full.now made.now result }
     {
         Phase {
@@ -55,7 +56,6 @@ impl<const N: usize> Period<'_, N> {
 
     /// Each Full node claims what it does.
     fn tell_claims(&self, full: &NodeSet<N>, made: &Made<N>, claims: &mut ItemPhase<u8, N>)
-        requires capacity { IsCapacity N }
         requires going { IsGoing self.now.scenario.now self.now.number full.now made.now }
         ensures told { AreTold claim_told self.now.scenario.now self.now.number full.now
             (item_of claims.new.links) }
@@ -80,7 +80,6 @@ impl<const N: usize> Period<'_, N> {
         claims: &mut ItemPhase<u8, N>,
         notes: &mut [RowBuilder<N>],
     ) -> Groups<N>
-        requires capacity { IsCapacity N }
         requires in_run { self.now.number < self.now.scenario.now.periods }
         requires synced { AreSynced self.now.scenario.now self.now.number full.now made.old
             notes.old }
@@ -137,7 +136,8 @@ fn note_frames<const N: usize>(
     phase: &Phase<'_, N>,
     notes: &mut [RowBuilder<N>],
 )
-    requires capacity { IsCapacity N }
+where
+    Nodes: Capacity<N>,
     requires settled { AreClaimsSettled phase.now claims.now }
     requires shaped { AreShaped {N = N} phase.now.config.now notes.old }
     requires within { (i : ℕ) → i < N → has_id phase.now.awake i ≡ true →
@@ -157,6 +157,8 @@ fn note_frames<const N: usize>(
 
 /// Notes these nodes as convicted; mostly there are none.
 fn note_against<const N: usize>(against: &NodeSet<N>, notes: &mut RowBuilder<N>)
+where
+    Nodes: Capacity<N>,
     requires { IsWithin N notes.old }
     ensures { notes.new ≡ also_noted N notes.old (of_each against.now equivocate) }
 {
@@ -171,7 +173,8 @@ fn note_convicted<const N: usize>(
     phase: &Phase<'_, N>,
     notes: &mut [RowBuilder<N>],
 )
-    requires capacity { IsCapacity N }
+where
+    Nodes: Capacity<N>,
     requires settled { AreClaimsSettled phase.now claims.now }
     requires shaped { AreShaped {N = N} phase.now.config.now notes.old }
     requires within { (i : ℕ) → i < N → has_id phase.now.awake i ≡ true →
@@ -198,6 +201,8 @@ fn group_by_claims<const N: usize>(
     phase: &Phase<'_, N>,
     states: &SharedStates<N>,
 ) -> Groups<N>
+where
+    Nodes: Capacity<N>,
     requires settled { AreClaimsSettled phase.now claims.now }
     ensures firsts { AreFirsts N result }
     ensures shared { AreShared N result states.now }
@@ -232,7 +237,8 @@ fn claims_settled<const N: usize>(
     phase: &Phase<'_, N>,
     i: u8,
 ) -> [Wrapped<u8>; N]
-    requires capacity { IsCapacity N }
+where
+    Nodes: Capacity<N>,
     requires settled { AreClaimsSettled phase.now claims.now }
     requires node { has_id phase.now.awake i ≡ true }
     requires room { i < N }
@@ -255,7 +261,8 @@ fn fill_claims<const N: usize>(
     groups: &Groups<N>,
     beliefs: &mut [Belief<N>],
 )
-    requires capacity { IsCapacity N }
+where
+    Nodes: Capacity<N>,
     requires settled { AreClaimsSettled phase.now claims.now }
     requires many { length beliefs.old ≡ N }
     ensures done { (f : ℕ) (d : Belief N) → f < N → has_id phase.now.awake f ≡ true →

@@ -1,12 +1,11 @@
 //! Which channels are due at each node.
 
 ghost use Rattle.std.specs.Prelude.{◌≡◌, ℕ, ◌<◌, length, true};
-ghost use Rattle.node_grid.specs.Capacity.{IsCapacity};
 ghost use Rattle.node_grid.specs.NodeSet.{has_id};
 ghost use Rattle.at_once.specs.Values.{due_at};
 
 use grouped_nodes::Groups;
-use node_grid::NodeSet;
+use node_grid::{Capacity, NodeSet, Nodes};
 use shared_states::Belief;
 use std::marker::Model;
 use told_values::Dues;
@@ -58,7 +57,8 @@ fn is_due_alike<const N: usize>(groups: &Groups<N>, beliefs: &[Belief<N>], i: u8
 
 /// The nodes at which the same channels are due as at this one.
 fn alike_to<const N: usize>(groups: &Groups<N>, beliefs: &[Belief<N>], node: u8) -> NodeSet<N>
-    requires capacity { IsCapacity N }
+where
+    Nodes: Capacity<N>,
     requires node { node < N }
     requires many { length beliefs.now ≡ N }
     ensures { (i : ℕ) → has_id result i ≡ true →
@@ -75,7 +75,8 @@ fn alike_to<const N: usize>(groups: &Groups<N>, beliefs: &[Belief<N>], node: u8)
 
 /// The least of these nodes, and node 0 where there is none.
 fn least_or_first<const N: usize>(nodes: &NodeSet<N>) -> u8
-    requires capacity { IsCapacity N }
+where
+    Nodes: Capacity<N>,
     ensures { result < N }
 {
     match nodes.least() {
@@ -84,14 +85,16 @@ fn least_or_first<const N: usize>(nodes: &NodeSet<N>) -> u8
     }
 }
 
-impl<'a, const N: usize> GroupDues<'a, N> {
+impl<'a, const N: usize> GroupDues<'a, N>
+where
+    Nodes: Capacity<N>,
+{
     /// Those of all nodes. It tells at once of nodes that have the same as the least of these.
     pub(crate) fn of(
         groups: &'a Groups<N>,
         beliefs: &'a [Belief<N>],
         full: &NodeSet<N>,
     ) -> GroupDues<'a, N>
-        requires capacity { IsCapacity N }
         requires many { length beliefs.now ≡ N }
         ensures groups { result.0 ≡ groups.now }
         ensures beliefs { result.1 ≡ beliefs.now }

@@ -1,7 +1,6 @@
 //! How a period ends.
 
 ghost use Rattle.std.specs.Prelude.{◌≡◌, ◌+◌, ◌<◌, ◌≤◌, ℕ, List, length};
-ghost use Rattle.node_grid.specs.Capacity.{IsCapacity};
 ghost use Rattle.grouped_nodes.specs.Grouping.{AreFirsts};
 ghost use Rattle.shown_period.specs.Outcomes.{HasBeliefs};
 ghost use Rattle.shown_period.specs.Whole.{AreMade};
@@ -12,12 +11,13 @@ ghost use Rattle.at_once.specs.Ended.{AreForgetting};
 use crate::keeping::Keeping;
 use crate::period::Period;
 use grouped_nodes::{Groups, step};
-use node_grid::NodeSet;
+use node_grid::{Capacity, NodeSet, Nodes};
 use shown_period::Made;
 
 /// Forgets what the nodes in use kept that aren't awake.
 fn forget_cold<const N: usize>(nodes: u8, awake: &NodeSet<N>, keeping: &mut Keeping<N>)
-    requires capacity { IsCapacity N }
+where
+    Nodes: Capacity<N>,
     requires nodes { nodes ≤ N }
     requires many { length keeping.old.notes.items ≡ N }
     ensures { AreForgetting awake.now keeping.old nodes keeping.new }
@@ -29,11 +29,13 @@ fn forget_cold<const N: usize>(nodes: u8, awake: &NodeSet<N>, keeping: &mut Keep
     }
 }
 
-impl<const N: usize> Period<'_, N> {
+impl<const N: usize> Period<'_, N>
+where
+    Nodes: Capacity<N>,
+{
     /// Ends the period: each node keeps its state as it is afterwards, and one that stayed Cold
     /// keeps nothing. What was made of the period is whole then.
     pub(crate) fn end(&self, groups: &Groups<N>, made: &mut Made<N>, keeping: &mut Keeping<N>)
-        requires capacity { IsCapacity N }
         requires in_run { self.now.number < self.now.scenario.now.periods }
         requires reported { (full : List ℕ) × AreReported self.now.scenario.now self.now.number
             full made.old keeping.old groups.now }

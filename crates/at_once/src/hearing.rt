@@ -1,7 +1,6 @@
 //! The sync slot of a period.
 
 ghost use Rattle.std.specs.Prelude.{◌≡◌, ◌<◌, ◌≤◌, length};
-ghost use Rattle.node_grid.specs.Capacity.{IsCapacity};
 ghost use Rattle.shown_period.specs.Outcomes.{HasBeliefs};
 ghost use Rattle.at_once.specs.Kept.{AreBegun};
 ghost use Rattle.at_once.specs.Course.{awake_in, IsUnvoted, AreSynced, AreLeft};
@@ -9,12 +8,13 @@ ghost use Rattle.at_once.specs.Course.{awake_in, IsUnvoted, AreSynced, AreLeft};
 use crate::keeping::Keeping;
 use crate::period::Period;
 use heard_states::SyncSlot;
-use node_grid::NodeSet;
+use node_grid::{Capacity, NodeSet, Nodes};
 use shown_period::Made;
 
 /// Leaves alone the nodes in use that aren't awake, which believe nothing.
 fn leave_cold<const N: usize>(nodes: u8, awake: &NodeSet<N>, made: &mut Made<N>)
-    requires capacity { IsCapacity N }
+where
+    Nodes: Capacity<N>,
     requires nodes { nodes ≤ N }
     requires awake { awake.now ≡ awake_in N made.old.states }
     requires beliefs { HasBeliefs made.old }
@@ -34,6 +34,8 @@ impl<const N: usize> Period<'_, N> {
     /// Hears the sync slot: afterwards each node has the state with which it goes through the
     /// period. One that stays Cold believes nothing.
     pub(crate) fn hear(&self, full: &NodeSet<N>, made: &mut Made<N>, keeping: &mut Keeping<N>)
+    where
+        Nodes: Capacity<N>,
         requires in_run { self.now.number < self.now.scenario.now.periods }
         requires begun { AreBegun self.now.scenario.now self.now.number made.old.states
             keeping.old }

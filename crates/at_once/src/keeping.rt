@@ -2,7 +2,6 @@
 
 ghost use Rattle.std.specs.Prelude.{◌≡◌, ◌<◌, ◌≤◌, ℕ, None, true, IfOk, length, replicate};
 ghost use Rattle.std.specs.Prelude.{slice_set};
-ghost use Rattle.node_grid.specs.Capacity.{IsCapacity};
 ghost use Rattle.agreed_state.specs.Config.{IsConfig};
 ghost use Rattle.at_once.specs.Kept.{notes_at, of_node};
 ghost use Rattle.at_once.specs.Values.{AreVoters};
@@ -11,7 +10,7 @@ ghost use Rattle.at_once.specs.Kept.{IsBlank, no_longer};
 
 use agreed_state::Config;
 use error_reports::RowBuilder;
-use node_grid::NoMemory;
+use node_grid::{Capacity, NoMemory, Nodes};
 use std::alloc::Global;
 
 /// What all nodes keep beside their agreed states, by node.
@@ -37,7 +36,8 @@ fn kinds_of(version: u8) -> u8
 impl<const N: usize> Keeping<N> {
     /// What all nodes keep before the first period: nothing.
     pub(crate) fn open(alloc: Global, config: &Config<N>) -> Result<Keeping<N>, NoMemory>
-        requires capacity { IsCapacity N }
+    where
+        Nodes: Capacity<N>,
         requires config { IsConfig N config.now }
         ensures { IfOk result (IsBlank config.now) }
     {
@@ -75,7 +75,8 @@ impl<const N: usize> Keeping<N> {
 
     /// Forgets all that a node kept.
     pub(crate) fn forget(&mut self, i: u8)
-        requires capacity { IsCapacity N }
+    where
+        Nodes: Capacity<N>,
         requires node { i < N }
         requires many { length self.old.notes.items ≡ N }
         ensures notes { self.new.notes.items ≡

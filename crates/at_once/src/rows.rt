@@ -3,7 +3,6 @@
 ghost use Rattle.std.specs.Prelude.{◌≡◌, ◌<◌, ◌==◌, ℕ, [], true, false};
 ghost use Rattle.std.specs.Prelude.{length, slice_index_or, if◌then◌else◌};
 ghost use Rattle.std.specs.Cmp.Lexicographic.{pointwise};
-ghost use Rattle.node_grid.specs.Capacity.{IsCapacity};
 ghost use Rattle.node_grid.specs.NodeSet.{has_id};
 ghost use Rattle.node_grid.specs.Kinds.{equivocate};
 ghost use Rattle.error_reports.specs.Notes.{also_carried, of_each};
@@ -30,7 +29,7 @@ use grouped_nodes::{Groups, part};
 use heard_links::Phase;
 use item_phase::{ItemPhase, laws};
 use node_grid::kind::EQUIVOCATE;
-use node_grid::{Matrix, NodeSet, Row};
+use node_grid::{Capacity, Matrix, NodeSet, Nodes, Row};
 use omh_paths::Wrapped;
 use shared_states::Belief;
 use shown_period::Made;
@@ -42,7 +41,8 @@ fn rows_settled<const N: usize>(
     phase: &Phase<'_, N>,
     i: u8,
 ) -> Matrix<N>
-    requires capacity { IsCapacity N }
+where
+    Nodes: Capacity<N>,
     requires settled { AreRowsSettled phase.now rows.now }
     requires node { has_id phase.now.awake i ≡ true }
     requires room { i < N }
@@ -62,6 +62,8 @@ fn rows_settled<const N: usize>(
 
 /// Carries over that these nodes are convicted; mostly there are none.
 fn carry_against<const N: usize>(against: &NodeSet<N>, notes: &mut RowBuilder<N>)
+where
+    Nodes: Capacity<N>,
     requires { IsCarriedWithin N notes.old }
     ensures { notes.new ≡ also_carried N notes.old (of_each against.now equivocate) }
 {
@@ -77,7 +79,8 @@ fn carry<const N: usize>(
     phase: &Phase<'_, N>,
     notes: &mut [RowBuilder<N>],
 )
-    requires capacity { IsCapacity N }
+where
+    Nodes: Capacity<N>,
     requires settled { AreRowsSettled phase.now rows.now }
     requires shaped { AreShaped {N = N} phase.now.config.now notes.old }
     requires within { (i : ℕ) → i < N → has_id phase.now.awake i ≡ true →
@@ -103,6 +106,8 @@ fn carry_at<const N: usize>(
     i: u8,
     notes: &mut RowBuilder<N>,
 )
+where
+    Nodes: Capacity<N>,
     requires settled { AreRowsSettled phase.now rows.now }
     requires node { has_id phase.now.awake i ≡ true }
     requires notes { IsCarrier phase.now.config.now i notes.old }
@@ -123,6 +128,8 @@ fn group_by_rows<const N: usize>(
     phase: &Phase<'_, N>,
     keeping: &Keeping<N>,
 ) -> Groups<N>
+where
+    Nodes: Capacity<N>,
     requires settled { AreRowsSettled phase.now rows.now }
     requires voters { AreVoters N keeping.now.votes keeping.now.voters }
     ensures firsts { AreFirsts N result }
@@ -165,7 +172,8 @@ fn fill_rows<const N: usize>(
     votes: &[[Option<i64>; 8]; N],
     beliefs: &mut [Belief<N>],
 )
-    requires capacity { IsCapacity N }
+where
+    Nodes: Capacity<N>,
     requires settled { AreRowsSettled phase.now rows.now }
     requires many { length beliefs.old ≡ N }
     ensures filled { (f : ℕ) (d : Belief N) → f < N → has_id phase.now.awake f ≡ true →
@@ -196,10 +204,12 @@ fn found_at<const N: usize>(made: &Made<N>, i: u8) -> Row<N>
     all[i as usize]
 }
 
-impl<const N: usize> Period<'_, N> {
+impl<const N: usize> Period<'_, N>
+where
+    Nodes: Capacity<N>,
+{
     /// Each Full node tells its row.
     fn tell_rows(&self, full: &NodeSet<N>, made: &Made<N>, rows: &mut ItemPhase<Row<N>, N>)
-        requires capacity { IsCapacity N }
         requires going { IsGoing self.now.scenario.now self.now.number full.now made.now }
         requires found { AreFound self.now.scenario.now self.now.number made.now }
         ensures told { AreTold row_told self.now.scenario.now self.now.number full.now
@@ -225,7 +235,6 @@ impl<const N: usize> Period<'_, N> {
         rows: &mut ItemPhase<Row<N>, N>,
         keeping: &mut Keeping<N>,
     ) -> Groups<N>
-        requires capacity { IsCapacity N }
         requires in_run { self.now.number < self.now.scenario.now.periods }
         requires reporting { AreReporting self.now.scenario.now self.now.number full.now made.old
             keeping.old groups.now }

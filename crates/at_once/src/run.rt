@@ -2,7 +2,6 @@
 
 ghost use Rattle.std.specs.Prelude.{◌≡◌, ◌+◌, ◌<◌, IfOk};
 ghost use Rattle.std.specs.Borrow.{sem};
-ghost use Rattle.node_grid.specs.Capacity.{IsCapacity};
 ghost use Rattle.agreed_state.specs.Config.{IsConfig};
 ghost use Rattle.shown_period.specs.Outcomes.{HasBeliefs};
 ghost use Rattle.shown_period.specs.Whole.{AreMade};
@@ -15,7 +14,7 @@ use crate::period::Period;
 use crate::values::find_rows;
 use agreed_state::Config;
 use item_phase::ItemPhase;
-use node_grid::{NO_CLAIM, NoMemory, Row};
+use node_grid::{Capacity, NO_CLAIM, NoMemory, Nodes, Row};
 use scenario::Scenario;
 use shown_period::{Made, Shown};
 use std::alloc::Global;
@@ -51,7 +50,8 @@ fn phases<const N: usize>(
     alloc: Global,
     config: &Config<N>,
 ) -> Result<(ItemPhase<u8, N>, ItemPhase<Row<N>, N>), NoMemory>
-    requires capacity { IsCapacity N }
+where
+    Nodes: Capacity<N>,
     requires config { IsConfig N config.now }
     ensures { IfOk result (λ p. (p.0.settling ≡ record {
       nodes = config.now.nodes;
@@ -66,7 +66,10 @@ fn phases<const N: usize>(
     Ok((claims, rows))
 }
 
-impl<'s, const N: usize> Run<'s, N> {
+impl<'s, const N: usize> Run<'s, N>
+where
+    Nodes: Capacity<N>,
+{
     ghost use Rattle.at_once.specs.Lending.{RunsOn};
 
     /// All nodes before the first period. All memory of the run is taken here.
@@ -75,7 +78,6 @@ impl<'s, const N: usize> Run<'s, N> {
     ///
     /// `NoMemory` where there is none.
     pub fn open(alloc: Global, scenario: &'s Scenario<N>) -> Result<Run<'s, N>, NoMemory>
-        requires { IsCapacity N }
         ensures { IfOk result (λ r. r ≡ record { scenario = scenario.now; run = 0 }) }
     {
         let config = scenario.config();
@@ -94,7 +96,6 @@ impl<'s, const N: usize> Run<'s, N> {
 
     /// Takes all nodes through the next period.
     fn advance(&mut self)
-        requires capacity { IsCapacity N }
         requires more { self.old.run < self.old.scenario.periods }
         ensures { self.new ≡ record self.old { run = self.old.run + 1 } }
     {
@@ -118,7 +119,6 @@ impl<'s, const N: usize> Run<'s, N> {
     ///
     /// Fewer periods than the scenario has must have been run.
     pub fn period(&mut self) -> &Shown<N>
-        requires capacity { IsCapacity N }
         requires more { self.old.run < self.old.scenario.periods }
         ensures* after { sem 𝓛 (RunsOn N.row self.entry) }
         ensures shown { ShowsPeriod self.old.scenario self.old.run result.now }
@@ -138,6 +138,8 @@ impl<const N: usize> Period<'_, N> {
         rows: &mut ItemPhase<Row<N>, N>,
         keeping: &mut Keeping<N>,
     )
+    where
+        Nodes: Capacity<N>,
         requires in_run { self.now.number < self.now.scenario.now.periods }
         requires begun { AreBegun self.now.scenario.now self.now.number made.old.states
             keeping.old }

@@ -3,7 +3,6 @@
 ghost use Rattle.std.specs.Prelude.{◌≡◌, ◌<◌, ◌≤◌, ℕ, List, Option, true, Some, [], length};
 ghost use Rattle.std.specs.Prelude.{replicate};
 ghost use Rattle.std.specs.Prelude.{slice_index_or, if◌then◌else◌, ◌⊎◌};
-ghost use Rattle.node_grid.specs.Capacity.{IsCapacity};
 ghost use Rattle.node_grid.specs.NodeSet.{has_id};
 ghost use Rattle.agreed_state.specs.Agreed.{AgreedView, IsAgreed};
 ghost use Rattle.protocol.specs.Configured.{setting_of};
@@ -24,7 +23,7 @@ use agreed_state::Agreed;
 use data_slot::{KeptValues, own_values};
 use error_reports::RowBuilder;
 use grouped_nodes::Groups;
-use node_grid::{NodeSet, Row};
+use node_grid::{Capacity, NodeSet, Nodes, Row};
 use omh_paths::Wrapped;
 use shown_period::Made;
 use told_values::laws::hears;
@@ -46,6 +45,8 @@ fn vote_at<D: Dues<N>, const N: usize>(
     claims: &[Wrapped<u8>; N],
     own: &[Option<[i64; 8]>; N],
 ) -> Voted<N>
+where
+    Nodes: Capacity<N>,
     requires node { i < slot.now.config.nodes }
     requires agreed { IsAgreed N slot.now.config state.now }
     requires own { AreOwnTold (slot_of D.dues slot.now) own.now }
@@ -73,7 +74,8 @@ fn leader_after<D: Dues<N>, const N: usize>(slot: &DataSlot<'_, D, N>, before: u
 
 /// Each node as one of its own.
 fn each_alone<const N: usize>() -> [u8; N]
-    requires { IsCapacity N }
+where
+    Nodes: Capacity<N>,
     ensures many { length result ≡ N }
     ensures each { (i : ℕ) → i < N → slice_index_or result i 0 ≡ i }
 {
@@ -94,6 +96,8 @@ fn vote_each<D: Dues<N>, const N: usize>(
     votes: &mut [[Option<i64>; 8]; N],
     off: &mut [NodeSet<N>; N],
 ) -> [u8; N]
+where
+    Nodes: Capacity<N>,
     requires agreed { AreAgreed slot.now.config made.now.states }
     requires shared { AreShared N groups.now made.now.states }
     requires many { length made.now.beliefs.items ≡ N }
@@ -138,6 +142,8 @@ fn note_each<D: Dues<N>, const N: usize>(
     off: &[NodeSet<N>; N],
     notes: &mut [RowBuilder<N>],
 )
+where
+    Nodes: Capacity<N>,
     requires shaped { AreShaped slot.now.config notes.old }
     requires within { (i : ℕ) → i < slot.now.config.nodes → has_id awake.now i ≡ true →
         IsWithin N (notes_at notes.old i) }
@@ -154,10 +160,12 @@ fn note_each<D: Dues<N>, const N: usize>(
     }
 }
 
-impl<const N: usize> Period<'_, N> {
+impl<const N: usize> Period<'_, N>
+where
+    Nodes: Capacity<N>,
+{
     /// The own values of all nodes in use, by their last votes and own values.
     fn value_all(&self, votes: &[[Option<i64>; 8]; N], owns: &mut [[Option<i64>; 8]; N])
-        requires capacity { IsCapacity N }
         ensures { (i : ℕ) (state : Option AgreedView) (carried : List ℕ) →
             i < self.now.scenario.now.config.nodes → of_node owns.new i ≡
             own_values (setting_of self.now.scenario.now.config) i self.now.number
@@ -188,7 +196,6 @@ impl<const N: usize> Period<'_, N> {
         made: &Made<N>,
         keeping: &mut Keeping<N>,
     )
-        requires capacity { IsCapacity N }
         requires in_run { self.now.number < self.now.scenario.now.periods }
         requires settled { AreSettled self.now.scenario.now self.now.number full.now made.now
             keeping.old.notes.items groups.now }
@@ -229,7 +236,8 @@ pub(crate) fn find_rows<const N: usize>(
     keeping: &Keeping<N>,
     found: &mut [Row<N>; N],
 )
-    requires capacity { IsCapacity N }
+where
+    Nodes: Capacity<N>,
     requires many { length keeping.now.notes.items ≡ N }
     ensures { (i : ℕ) → i < N → slice_index_or found.new i [] ≡ (if has_id full.now i
         then (notes_at keeping.now.notes.items i).row else replicate N 0) }

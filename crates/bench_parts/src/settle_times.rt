@@ -4,12 +4,11 @@
 mod plain;
 
 ghost use Rattle.std.specs.Prelude.{◌≡◌, ◌≢◌, ◌<◌, ◌≤◌, ◌+◌, All, OnOk, true};
-ghost use Rattle.node_grid.specs.Capacity.{IsCapacity};
 ghost use Rattle.node_grid.specs.NodeSet.{has_id, without_id};
 ghost use Rattle.omh_paths.specs.declared.wrapped.Wrapped.TheVariants.{Fault};
 
 use self::plain::PlainTable;
-use node_grid::{NoMemory, NodeSet, Row};
+use node_grid::{Capacity, NoMemory, NodeSet, Nodes, Row};
 use omh::Table;
 use omh_paths::{Wrapped, count_paths, unrank};
 use std::alloc::{AllocError, Global};
@@ -21,7 +20,8 @@ const REPEATS: u32 = 200;
 
 /// The value that is heard at a place: a row that most agree on, another row, or an error.
 fn value_at<const N: usize>(place: usize) -> Wrapped<Row<N>>
-    requires { IsCapacity N }
+where
+    Nodes: Capacity<N>,
     ensures { result ≢ Fault 255 }
 {
     if place % 7 == 0 {
@@ -43,7 +43,8 @@ fn fill_length<const N: usize>(
     others: &NodeSet<N>,
     relays: u8,
 ) -> Result<(), AllocError>
-    requires capacity { IsCapacity N }
+where
+    Nodes: Capacity<N>,
     requires few { relays ≤ 3 }
     requires short { relays ≤ table.old.rounds }
     requires others { others.now ≡ without_id table.old.members table.old.me }
@@ -69,7 +70,8 @@ fn fill<const N: usize>(
     others: &NodeSet<N>,
     rounds: u8,
 ) -> Result<(), AllocError>
-    requires capacity { IsCapacity N }
+where
+    Nodes: Capacity<N>,
     requires few { rounds ≤ 3 }
     requires rounds { rounds ≡ table.old.rounds }
     requires others { others.now ≡ without_id table.old.members table.old.me }
@@ -99,7 +101,8 @@ fn time_table<const N: usize>(
     table: &mut Table<Row<N>, N>,
     commander: u8,
 ) -> io::Result<(u128, Wrapped<Row<N>>)>
-    requires capacity { IsCapacity N }
+where
+    Nodes: Capacity<N>,
     requires member { has_id table.old.members commander ≡ true }
 {
     let start = Instant::now(rt)?;
@@ -116,7 +119,8 @@ fn time_plain<const N: usize>(
     plain: &PlainTable<Row<N>>,
     commander: u8,
 ) -> io::Result<(u128, Wrapped<Row<N>>)>
-    requires capacity { IsCapacity N }
+where
+    Nodes: Capacity<N>,
     requires few { plain.now.rounds ≤ 3 }
     requires known { All (λ e. e.value ≢ Fault 255) plain.now.heard.items }
 {
@@ -128,7 +132,8 @@ fn time_plain<const N: usize>(
 
 /// So many values that are heard.
 fn values<const N: usize>(alloc: Global, count: usize) -> Result<Vec<Wrapped<Row<N>>>, AllocError>
-    requires capacity { IsCapacity N }
+where
+    Nodes: Capacity<N>,
 {
     let mut values: Vec<Wrapped<Row<N>>> = Vec::new(alloc);
     for place in 0..count {
@@ -139,7 +144,8 @@ fn values<const N: usize>(alloc: Global, count: usize) -> Result<Vec<Wrapped<Row
 
 /// The nanoseconds of one copy of so many values.
 fn time_copy<const N: usize>(rt: &HostRuntime, count: usize) -> io::Result<u128>
-    requires capacity { IsCapacity N }
+where
+    Nodes: Capacity<N>,
 {
     let mut values: Vec<Wrapped<Row<N>>> = values(rt.alloc(), count)?;
     let mut copy = Vec::from_slice(rt.alloc(), values.as_slice())?;
@@ -159,7 +165,8 @@ fn compare<const N: usize>(
     count: u8,
     commander: u8,
 ) -> io::Result<()>
-    requires capacity { IsCapacity N }
+where
+    Nodes: Capacity<N>,
     requires members { count ≤ 16 }
     requires member { has_id table.old.members commander ≡ true }
     requires rounds { plain.now.rounds ≤ 3 }
@@ -183,7 +190,8 @@ fn measure_table<const N: usize>(
     table: &mut Table<Row<N>, N>,
     rounds: u8,
 ) -> io::Result<()>
-    requires capacity { IsCapacity N }
+where
+    Nodes: Capacity<N>,
     requires few { rounds ≤ 3 }
     requires rounds { rounds ≡ table.old.rounds }
     requires nodes { table.old.nodes ≡ N }
@@ -211,7 +219,8 @@ fn measure_table<const N: usize>(
 
 /// Times one settle among N members, with so many rounds of relaying, and prints the times.
 fn measure_at<const N: usize>(rt: &HostRuntime, rounds: u8) -> io::Result<()>
-    requires capacity { IsCapacity N }
+where
+    Nodes: Capacity<N>,
     requires rounds { rounds ≤ 3 }
 {
     let opened: Result<Table<Row<N>, N>, NoMemory> = Table::open(rt.alloc(), N as u8, rounds);

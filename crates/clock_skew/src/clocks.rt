@@ -2,13 +2,13 @@
 //! clocks stand after it.
 
 ghost use Rattle.std.specs.Prelude.{◌≡◌, ◌^◌, ◌<◌, All, map, pos};
-ghost use Rattle.node_grid.specs.Capacity.{IsCapacity};
 ghost use Rattle.node_grid.specs.NodeSet.{ids_below};
 ghost use Rattle.clock_skew.specs.Clock.{IsUpTo, lie_at};
 ghost use Rattle.clock_skew.specs.Correction.{IsReading};
 ghost use Rattle.clock_skew.specs.Reading.{AreSteady, start_of, read_by, moved};
 
 use crate::ClockPlan;
+use node_grid::{Capacity, Nodes};
 
 /// Where the clock of node `i` starts, and 0 of one that isn't in use.
 fn start_of<const N: usize>(plan: &ClockPlan<N>, nodes: u8, i: u8) -> i64
@@ -21,7 +21,8 @@ fn start_of<const N: usize>(plan: &ClockPlan<N>, nodes: u8, i: u8) -> i64
 /// Where the clocks of all nodes start, of a plan for so many nodes. Behind these the numbers are
 /// 0.
 pub fn starts<const N: usize>(plan: &ClockPlan<N>, nodes: u8) -> [i64; N]
-    requires capacity { IsCapacity N }
+where
+    Nodes: Capacity<N>,
     requires nodes { nodes ≡ plan.now.nodes }
     ensures { result ≡ map (start_of plan.now nodes) (ids_below N) }
 {

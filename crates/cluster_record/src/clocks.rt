@@ -2,7 +2,6 @@
 //! that it recorded.
 
 ghost use Rattle.std.specs.Prelude.{◌≡◌, ◌<◌, All, map, length, option_map};
-ghost use Rattle.node_grid.specs.Capacity.{IsCapacity};
 ghost use Rattle.node_grid.specs.NodeSet.{ids_below};
 ghost use Rattle.clock_skew.specs.Correction.{IsReading};
 ghost use Rattle.clock_skew.specs.Reading.{AreSteady};
@@ -17,6 +16,7 @@ ghost use Rattle.cluster_record.specs.Clocking.{offsets_before};
 
 use clock_skew::{Clocks, correction, starts};
 use node_core::{Mode, NodeRecord};
+use node_grid::{Capacity, Nodes};
 use safety::laws::clocks::offsets;
 use scenario::Scenario;
 
@@ -37,6 +37,8 @@ fn correction_of<const N: usize>(
     m: u8,
     i: u8,
 ) -> i64
+where
+    Nodes: Capacity<N>,
     requires steady { AreSteady N clocks.now.plan.now clocks.now.nodes clocks.now.offset.now }
     requires each { length records.now ≡ clocks.now.nodes }
     requires others { AreOthers records.now }
@@ -57,6 +59,8 @@ fn correction_of<const N: usize>(
 
 /// By how much all nodes correct their clocks.
 fn corrections<const N: usize>(clocks: &Clocks<'_, N>, records: &[NodeRecord<N>], m: u8) -> [i64; N]
+where
+    Nodes: Capacity<N>,
     requires steady { AreSteady N clocks.now.plan.now clocks.now.nodes clocks.now.offset.now }
     requires each { length records.now ≡ clocks.now.nodes }
     requires others { AreOthers records.now }
@@ -73,7 +77,8 @@ fn corrections<const N: usize>(clocks: &Clocks<'_, N>, records: &[NodeRecord<N>]
 
 /// The clocks before the first period; none where the scenario has none.
 pub fn first_clocks<const N: usize>(scenario: &Scenario<N>) -> Option<ClockRecord<N>>
-    requires { IsCapacity N }
+where
+    Nodes: Capacity<N>,
     ensures { offsets_kept (option_map clock_shown result) ≡ offsets_before scenario.now 0 }
 {
     let Some(plan) = scenario.clock() else {
@@ -93,7 +98,8 @@ pub(crate) fn next_clocks<const N: usize>(
     records: &[NodeRecord<N>],
     before: Option<ClockRecord<N>>,
 ) -> Option<ClockRecord<N>>
-    requires capacity { IsCapacity N }
+where
+    Nodes: Capacity<N>,
     requires in_run { period < scenario.now.periods }
     requires records { records.now ≡ map (λ i. outcome_of
         (view (run_of (system_of scenario.now)) i period)) (ids_below scenario.now.config.nodes) }

@@ -1,7 +1,6 @@
 //! What the links of one sender bring to all nodes.
 
 ghost use Rattle.std.specs.Prelude.{◌≡◌, ◌≢◌, ◌<◌, ◌≤◌, true, false, None, map, replicate, length};
-ghost use Rattle.node_grid.specs.Capacity.{IsCapacity};
 ghost use Rattle.slot_plan.specs.Slots.{slot_count};
 ghost use Rattle.fault_classes.specs.Line.{effect_at};
 ghost use Rattle.cluster_periods.specs.Slots.{arriving, handed, handed_from, IsReady, Takes};
@@ -11,7 +10,7 @@ use error_detect::Rooms;
 use fault_classes::FaultPlan;
 use fault_link::{Delivered, Transmission, deliveries};
 use node_core::Node;
-use node_grid::NoMemory;
+use node_grid::{Capacity, NoMemory, Nodes};
 use slot_plan::ON_TIME;
 use std::alloc::Global;
 use std::marker::Model;
@@ -83,7 +82,8 @@ pub(crate) struct Link<'p, const N: usize> {
 
 /// Hands another node what arrives of the frame of node `from`.
 fn hand<'c, const N: usize>(from: u8, arrived: &Delivered<'_>, node: &mut Node<'c, N>)
-    requires capacity { IsCapacity N }
+where
+    Nodes: Capacity<N>,
     requires takes { Takes from node.old }
     requires other { from ≢ node.old.phase.me }
     ensures { node.new ≡ handed node.old (map (arriving from)
@@ -94,10 +94,12 @@ fn hand<'c, const N: usize>(from: u8, arrived: &Delivered<'_>, node: &mut Node<'
     }
 }
 
-impl<'p, const N: usize> Link<'p, N> {
+impl<'p, const N: usize> Link<'p, N>
+where
+    Nodes: Capacity<N>,
+{
     /// Delivers to another node what arrives of a frame that a line touches.
     fn deliver_changed<'c>(&self, sent: &[u8], node: &mut Node<'c, N>, scratch: &mut Scratch)
-        requires capacity { IsCapacity N }
         requires ready { IsReady self.now.plan.now node.old }
         requires other { self.now.from ≢ node.old.phase.me }
         requires short { length sent.now ≤ 90104 }
@@ -119,7 +121,6 @@ impl<'p, const N: usize> Link<'p, N> {
     /// Whether a line touches the frame on its way to another node. It is looked up only where one
     /// touches a frame of the sender in the period.
     fn is_touched(&self, to: u8) -> bool
-        requires capacity { IsCapacity N }
         requires to { to < self.now.plan.now.nodes }
         ensures untouched { result ≡ false → self.now.from ≢ to →
             effect_at self.now.plan.now.lines self.now.period self.now.slot self.now.from to
@@ -137,7 +138,6 @@ impl<'p, const N: usize> Link<'p, N> {
     /// Delivers to a node what arrives of the sender's frame: nothing at the sender itself, and
     /// where no line touches it the frame as it was sent, on time.
     pub(crate) fn deliver<'c>(&self, sent: &[u8], node: &mut Node<'c, N>, scratch: &mut Scratch)
-        requires capacity { IsCapacity N }
         requires ready { IsReady self.now.plan.now node.old }
         requires short { length sent.now ≤ 90104 }
         ensures { node.new ≡ handed_from self.now.plan.now self.now.period self.now.slot sent.now

@@ -2,16 +2,15 @@ ghost use Rattle.std.specs.Prelude.{◌≡◌, ◌≢◌, ℕ, ◌<◌, ◌≤�
 ghost use Rattle.std.specs.Prelude.{slice_set, true, false};
 ghost use Rattle.node_grid.specs.NodeSet.{has_id};
 ghost use Rattle.omh_paths.specs.declared.wrapped.Wrapped.TheVariants.{Fault};
-ghost use Rattle.omh_paths.specs.Wrapped.{IsExact};
 ghost use Rattle.omh.specs.Omh.{settled};
 ghost use Rattle.settled_paths.specs.Passing.{passing_world};
 ghost use Rattle.counted_relays.specs.Counted.{IsUntouched, full_outside, counted};
 
-use omh_paths::Wrapped;
+use omh_paths::{Exact, Wrapped};
 use settled_paths::{Exchange, Touched};
 
 /// Puts a value in place of another one.
-fn set_value<V: Copy + Eq>(values: &mut [Wrapped<V>], place: usize, value: Wrapped<V>)
+fn set_value<V: Exact>(values: &mut [Wrapped<V>], place: usize, value: Wrapped<V>)
     requires { place < length values.old }
     ensures { values.new ≡ slice_set values.old place value }
 {
@@ -19,7 +18,7 @@ fn set_value<V: Copy + Eq>(values: &mut [Wrapped<V>], place: usize, value: Wrapp
 }
 
 /// Whether nothing was touched of an item that is relayed in so many rounds. It may say false.
-fn is_untouched<V: Copy + Eq, T: Touched<V>>(touched: &T, rounds: u8) -> bool
+fn is_untouched<V: Exact, T: Touched<V>>(touched: &T, rounds: u8) -> bool
     requires rounds { rounds ≤ 3 }
     ensures { result ≡ true → IsUntouched rounds (T.says touched.now) }
 {
@@ -42,11 +41,7 @@ fn full_others<const N: usize>(exchange: &Exchange<N>) -> u8
 }
 
 /// What node `i` settles of an item that nothing was touched of.
-fn counted<V: Copy + Eq, const N: usize>(
-    exchange: &Exchange<N>,
-    own: Wrapped<V>,
-    i: u8,
-) -> Wrapped<V>
+fn counted<V: Exact, const N: usize>(exchange: &Exchange<N>, own: Wrapped<V>, i: u8) -> Wrapped<V>
     requires commander { exchange.now.commander < N }
     ensures { result ≡ counted exchange.now.rounds exchange.now.members exchange.now.full own
         exchange.now.commander i }
@@ -61,7 +56,7 @@ fn counted<V: Copy + Eq, const N: usize>(
 
 /// What each awake node but the commander settles of an item that nothing was touched of, laid at
 /// the node's place in `all`.
-fn settle_counted<V: Copy + Eq, const N: usize>(
+fn settle_counted<V: Exact, const N: usize>(
     exchange: &Exchange<N>,
     own: Wrapped<V>,
     all: &mut [Wrapped<V>],
@@ -85,13 +80,12 @@ fn settle_counted<V: Copy + Eq, const N: usize>(
 /// it, laid at the node's place in `all`: this is what the commander says of it. Other places of
 /// `all` stay. False, and nothing done, where `touched` doesn't know that nothing was touched for
 /// paths of each length.
-pub fn settle_untouched<V: Copy + Eq, T: Touched<V>, const N: usize>(
+pub fn settle_untouched<V: Exact, T: Touched<V>, const N: usize>(
     exchange: &Exchange<N>,
     own: Wrapped<V>,
     touched: &T,
     all: &mut [Wrapped<V>],
 ) -> bool
-    requires exact { IsExact V.eq }
     requires rounds { exchange.now.rounds ≤ 3 }
     requires member { has_id exchange.now.members exchange.now.commander ≡ true }
     requires places { length all.old ≡ N }

@@ -2,7 +2,6 @@
 
 ghost use Rattle.std.specs.Prelude.{◌≡◌, ℕ, ◌<◌, All, None, length, option_map, pos};
 ghost use Rattle.std.specs.Prelude.{slice_index_or, true};
-ghost use Rattle.node_grid.specs.Capacity.{IsCapacity};
 ghost use Rattle.node_grid.specs.Count.{Distinct};
 ghost use Rattle.node_grid.specs.NodeSet.{IsIdSet, has_id};
 ghost use Rattle.error_detect.specs.Watching.{IsHeardBy};
@@ -19,6 +18,7 @@ use crate::vote::DataSlot;
 use agreed_state::Config;
 use error_detect::SlotWatch;
 use frames::{Body, Frame, Values};
+use node_grid::{Capacity, Nodes};
 
 /// Value `k` of a data frame, and 0 where there is none.
 fn value_or_zero(values: &Values<'_>, k: usize) -> i64
@@ -46,7 +46,8 @@ fn values_in_frame<const N: usize>(
     nodes: u8,
     due: &[u8],
 ) -> Option<[i64; 8]>
-    requires capacity { IsCapacity N }
+where
+    Nodes: Capacity<N>,
     requires due { IsIdSet 8 due.now }
     ensures { (c : ℕ) → has_id due.now c ≡ true →
         at_channel result c ≡
@@ -84,7 +85,8 @@ impl<'a> DataSlot<'a> {
         config: &Config<N>,
         from: u8,
     ) -> Option<[i64; 8]>
-        requires capacity { IsCapacity N }
+    where
+        Nodes: Capacity<N>,
         requires config { IsConfig N config.now }
         requires due { IsIdSet (length config.now.channels.items) self.now.due.now }
         requires heard { IsHeardBy watch.now config.now.nodes self.now.me }
@@ -110,7 +112,8 @@ impl<'a> DataSlot<'a> {
         watch: &SlotWatch<N>,
         config: &Config<N>,
     ) -> [Option<[i64; 8]>; N]
-        requires capacity { IsCapacity N }
+    where
+        Nodes: Capacity<N>,
         requires config { IsConfig N config.now }
         requires due { IsIdSet (length config.now.channels.items) self.now.due.now }
         requires heard { IsHeardBy watch.now config.now.nodes self.now.me }

@@ -2,7 +2,6 @@
 
 ghost use Rattle.std.specs.Prelude.{◌≡◌, ℕ, ◌<◌, ◌==◌, ◌&&◌, All, None, false, length};
 ghost use Rattle.std.specs.Prelude.{not, slice_index_or};
-ghost use Rattle.node_grid.specs.Capacity.{IsCapacity};
 ghost use Rattle.node_grid.specs.NodeSet.{IsIdSet, ids_where};
 ghost use Rattle.error_detect.specs.Watching.{IsHeardBy};
 ghost use Rattle.agreed_state.specs.Agreed.{IsAgreed};
@@ -17,7 +16,7 @@ use agreed_state::{Agreed, Config};
 use copy_vote::group_vote;
 use error_detect::SlotWatch;
 use mme_vote::{Channel, deviates, vote_of_members};
-use node_grid::NodeSet;
+use node_grid::{Capacity, NodeSet, Nodes};
 use omh_paths::Wrapped;
 
 /// What a node goes into the data slot of a period with.
@@ -55,7 +54,8 @@ impl<'a> DataSlot<'a> {
         agreed: &Agreed<N>,
         claims: &[Wrapped<u8>; N],
     ) -> Voted<N>
-        requires capacity { IsCapacity N }
+    where
+        Nodes: Capacity<N>,
         requires config { IsConfig N config.now }
         requires agreed { IsAgreed N config.now agreed.now }
         requires due { IsIdSet (length config.now.channels.items) self.now.due.now }
@@ -82,7 +82,8 @@ impl<'a> DataSlot<'a> {
         told: &[Option<[i64; 8]>; N],
         votes: &[Option<i64>; 8],
     ) -> NodeSet<N>
-        requires capacity { IsCapacity N }
+    where
+        Nodes: Capacity<N>,
         requires config { IsConfig N config.now }
         requires channels { All (λ c. c < length config.now.channels.items) self.now.due.now }
         ensures { result ≡ ids_where
@@ -114,7 +115,8 @@ fn value_told<const N: usize>(told: &[Option<[i64; 8]>; N], q: u8, c: u8) -> Opt
 
 /// The values of a channel that nodes told, by node.
 fn values_told<const N: usize>(told: &[Option<[i64; 8]>; N], c: u8) -> [Option<i64>; N]
-    requires capacity { IsCapacity N }
+where
+    Nodes: Capacity<N>,
     requires channel { c < 8 }
     ensures { (q : ℕ) → q < N → slice_index_or result q None ≡ value_told told.now q c }
 {
@@ -132,7 +134,8 @@ fn vote_among<const N: usize>(
     m: u8,
     c: u8,
 ) -> Option<i64>
-    requires capacity { IsCapacity N }
+where
+    Nodes: Capacity<N>,
     requires channel { c < 8 }
     ensures { result ≡ vote_among told.now members.now m c }
 {
@@ -153,7 +156,8 @@ fn vote_over<const N: usize>(
     told: &[Option<[i64; 8]>; N],
     c: u8,
 ) -> Option<i64>
-    requires capacity { IsCapacity N }
+where
+    Nodes: Capacity<N>,
     requires config { IsConfig N config.now }
     requires agreed { IsAgreed N config.now agreed.now }
     requires channel { c < length config.now.channels.items }
@@ -178,7 +182,8 @@ pub fn vote_due<const N: usize>(
     told: &[Option<[i64; 8]>; N],
     due: &[u8],
 ) -> [Option<i64>; 8]
-    requires capacity { IsCapacity N }
+where
+    Nodes: Capacity<N>,
     requires config { IsConfig N config.now }
     requires agreed { IsAgreed N config.now agreed.now }
     requires channels { All (λ c. c < length config.now.channels.items) due.now }

@@ -1,7 +1,6 @@
 //! The scenario of an index.
 ghost use Rattle.std.specs.Prelude.{◌≡◌, ◌≤◌, None, IfOk, option_map};
 ghost use Rattle.std.specs.List.{flat_map};
-ghost use Rattle.node_grid.specs.Capacity.{IsCapacity};
 ghost use Rattle.scenario.specs.Given.{scenario_of};
 ghost use Rattle.scenario.specs.Rules.{refusal};
 ghost use Rattle.scenario.specs.Scenario.{IsScenario};
@@ -17,7 +16,7 @@ use crate::drawing::draw_bouts;
 use crate::laws;
 use crate::lines::{faults, lies, restarts};
 use crate::options::Options;
-use node_grid::NoMemory;
+use node_grid::{Capacity, NoMemory, Nodes};
 use scenario::{ClockPart, Parts, Scenario};
 use std::alloc::{AllocError, Global};
 
@@ -83,7 +82,8 @@ pub fn make<const N: usize>(
     seed: u32,
     index: u32,
 ) -> Result<Scenario<N>, NoMemory>
-    requires capacity { IsCapacity N }
+where
+    Nodes: Capacity<N>,
     requires nodes { options.now.choices.nodes ≤ N }
     ensures says { IfOk result (λ s. s
         ≡ scenario_of N (drawn_parts options.now.choices seed index)) }

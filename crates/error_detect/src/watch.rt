@@ -15,7 +15,7 @@ use crate::arrival::Arrivals;
 use crate::finding::Finding;
 use crate::rooms::Rooms;
 use frames::{Body, Expect, Frame, HEADER};
-use node_grid::{NoMemory, NodeSet};
+use node_grid::{Capacity, NoMemory, NodeSet, Nodes};
 use std::alloc::Global;
 use std::marker::Model;
 
@@ -49,7 +49,8 @@ impl<const N: usize> Model for SlotWatch<N> {
 
 /// The nodes whose finding is Good.
 fn good_nodes<const N: usize>(found: &[Finding; N]) -> NodeSet<N>
-    requires capacity { IsCapacity N }
+where
+    Nodes: Capacity<N>,
     ensures { result ≡ ids_where (is_good_at found.now) N }
 {
     let mut good = NodeSet::empty();
@@ -71,7 +72,8 @@ impl<const N: usize> SlotWatch<N> {
         me: u8,
         frame_max: usize,
     ) -> Result<SlotWatch<N>, NoMemory>
-        requires capacity { IsCapacity N }
+    where
+        Nodes: Capacity<N>,
         requires nodes { nodes ≤ N }
         ensures { IfOk result (λ w. w ≡ fresh nodes me frame_max) }
     {
@@ -122,6 +124,8 @@ impl<const N: usize> SlotWatch<N> {
     /// A delivery from another node: bytes at a tick. What is found of them is decided now. Bytes
     /// longer than any frame are not kept.
     pub fn deliver(&mut self, from: u8, tick: u8, bytes: &[u8])
+    where
+        Nodes: Capacity<N>,
         requires open { self.old.is_open ≡ true }
         requires node { from < self.old.nodes }
         requires other { from ≢ self.old.me }
@@ -178,6 +182,8 @@ impl<const N: usize> SlotWatch<N> {
     /// Closes the slot and answers the finding of each node; Good for the watch's own, and where
     /// there is no node.
     pub fn close(&mut self) -> [Finding; N]
+    where
+        Nodes: Capacity<N>,
         requires open { self.old.is_open ≡ true }
         ensures found { result ≡ findings N self.old }
         ensures closed { self.new ≡ closed self.old }
@@ -190,6 +196,8 @@ impl<const N: usize> SlotWatch<N> {
 
     /// The frame of a node in the slot that was closed last, exactly where its finding was Good.
     pub fn frame(&self, from: u8) -> Option<Frame<'_, N>>
+    where
+        Nodes: Capacity<N>,
         requires closed { self.now.is_open ≡ false }
         requires some_slot { IsSome self.now.expect }
         requires node { from < self.now.nodes }
@@ -227,6 +235,8 @@ impl<const N: usize> SlotWatch<N> {
     /// Where in the [`SlotWatch::room`] the entries begin that a node passed on in the slot that
     /// was closed last: some exactly where its finding was Good and its frame has entries.
     pub fn entries_at(&self, from: u8) -> Option<usize>
+    where
+        Nodes: Capacity<N>,
         requires closed { self.now.is_open ≡ false }
         requires some_slot { IsSome self.now.expect }
         requires node { from < self.now.nodes }

@@ -1,8 +1,7 @@
 ghost use Rattle.std.specs.Prelude.{◌≡◌, ℕ, ◌<◌, IsTrue, Some, None, if◌then◌else◌};
-ghost use Rattle.node_grid.specs.Capacity.{IsCapacity};
 ghost use Rattle.error_reports.specs.Charge.{charged, charged_mask, is_voter, is_accuser};
 
-use node_grid::{Matrix, NodeSet};
+use node_grid::{Capacity, Matrix, NodeSet, Nodes};
 
 /// How many kinds a mask has room for.
 const KIND_ROOM: u8 = 16;
@@ -13,7 +12,8 @@ const KIND_ROOM: u8 = 16;
 /// charged with each kind that more than half of the rows that count give it; where no row counts,
 /// with nothing. Whether `node` is a member makes no difference.
 pub fn charged<const N: usize>(rows: &Matrix<N>, members: &NodeSet<N>, node: u8) -> u16
-    requires capacity { IsCapacity N }
+where
+    Nodes: Capacity<N>,
     requires in_range { node < N }
     ensures { result ≡ charged_mask rows.now members.now node }
 {
@@ -28,7 +28,8 @@ pub fn charged<const N: usize>(rows: &Matrix<N>, members: &NodeSet<N>, node: u8)
 
 /// Whether the row of `member` accuses `node` of this kind, where it counts.
 fn accusation<const N: usize>(rows: &Matrix<N>, member: u8, node: u8, kind: u8) -> Option<bool>
-    requires capacity { IsCapacity N }
+where
+    Nodes: Capacity<N>,
     requires in_range { node < N }
     requires kind { kind < 16 }
     ensures { result ≡ (if is_voter rows.now node member
@@ -45,7 +46,8 @@ fn accusation<const N: usize>(rows: &Matrix<N>, member: u8, node: u8, kind: u8) 
 
 /// Whether more than half of the rows that count give `node` this kind.
 fn is_charged<const N: usize>(rows: &Matrix<N>, members: &NodeSet<N>, node: u8, kind: u8) -> bool
-    requires capacity { IsCapacity N }
+where
+    Nodes: Capacity<N>,
     requires in_range { node < N }
     requires kind { kind < 16 }
     ensures { result ≡ charged rows.now members.now node kind }

@@ -1,11 +1,10 @@
 ghost use Rattle.std.specs.Prelude.{◌≡◌, ℕ, ◌<◌, ◌≤◌, ◌/◌, slice_index};
-ghost use Rattle.node_grid.specs.Capacity.{IsCapacity};
 ghost use Rattle.node_grid.specs.NodeSet.{IsIdSet};
 ghost use Rattle.node_grid.specs.Count.{count};
 ghost use Rattle.node_grid.specs.Planes.{count_at, EachCount};
 ghost use Rattle.error_reports.specs.Charge.{charged_mask, is_sender, is_voter, is_accuser};
 
-use node_grid::{Matrix, NodeSet, Planes};
+use node_grid::{Capacity, Matrix, NodeSet, Nodes, Planes};
 
 /// A limit that no count of accusers passes.
 const NO_CHARGE: u8 = 31;
@@ -16,7 +15,8 @@ const NO_CHARGE: u8 = 31;
 /// Entry j is what `charged` gives for node j. All kinds of all nodes are counted together, by
 /// planes of bits.
 pub fn charged_all<const N: usize>(rows: &Matrix<N>, members: &NodeSet<N>, nodes: u8) -> [u16; N]
-    requires capacity { IsCapacity N }
+where
+    Nodes: Capacity<N>,
     requires nodes { nodes ≤ N }
     ensures charged { (j : ℕ) → j < nodes → slice_index result j
         ≡ charged_mask rows.now members.now j }
@@ -31,7 +31,8 @@ pub fn charged_all<const N: usize>(rows: &Matrix<N>, members: &NodeSet<N>, nodes
 /// How many rows give each node each kind, those of the nodes themselves apart, and how many rows
 /// there are.
 fn tally<const N: usize>(rows: &Matrix<N>, members: &NodeSet<N>) -> (Planes<N>, u8)
-    requires { IsCapacity N }
+where
+    Nodes: Capacity<N>,
     ensures accusers { EachCount N (λ j k. count_at result.0 j k
         ≡ count (is_accuser rows.now j k) members.now) }
     ensures senders { result.1 ≡ count (is_sender rows.now) members.now }
@@ -53,7 +54,8 @@ fn tally<const N: usize>(rows: &Matrix<N>, members: &NodeSet<N>) -> (Planes<N>, 
 
 /// Half of the rows that count on each of the nodes, rounded down.
 fn limits<const N: usize>(rows: &Matrix<N>, members: &NodeSet<N>, nodes: u8, senders: u8) -> [u8; N]
-    requires capacity { IsCapacity N }
+where
+    Nodes: Capacity<N>,
     requires nodes { nodes ≤ N }
     requires members { IsIdSet N members.now }
     requires senders { senders ≡ count (is_sender rows.now) members.now }
@@ -70,7 +72,8 @@ fn limits<const N: usize>(rows: &Matrix<N>, members: &NodeSet<N>, nodes: u8, sen
 
 /// How many of these many rows count on a node: all but its own.
 fn voters<const N: usize>(rows: &Matrix<N>, members: &NodeSet<N>, node: u8, senders: u8) -> u8
-    requires capacity { IsCapacity N }
+where
+    Nodes: Capacity<N>,
     requires members { IsIdSet N members.now }
     requires senders { senders ≡ count (is_sender rows.now) members.now }
     ensures { result ≡ count (is_voter rows.now node) members.now }

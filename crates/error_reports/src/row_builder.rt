@@ -1,12 +1,11 @@
 ghost use Rattle.std.specs.Prelude.{◌≡◌, ◌≢◌, ℕ, ◌-◌, ◌^◌, ◌<◌, ◌≤◌, ◌==◌, ◌||◌};
 ghost use Rattle.std.specs.Prelude.{Option, None, Some, if◌then◌else◌, replicate};
 ghost use Rattle.std.specs.Int.{bit_at};
-ghost use Rattle.node_grid.specs.Capacity.{IsCapacity};
 ghost use Rattle.node_grid.specs.NodeSet.{ids_where, mask_of, has_id};
 ghost use Rattle.error_reports.specs.Notes.{with_kind, noted_besides, is_kind, of_each};
 ghost use Rattle.error_reports.specs.Notes.{also_noted, also_carried, GivesKinds};
 
-use node_grid::{NodeSet, Row};
+use node_grid::{Capacity, NodeSet, Nodes, Row};
 use std::marker::Model;
 
 /// What one node notes against the others, in this period and for the next one.
@@ -96,7 +95,8 @@ fn besides<const N: usize, F: Fn(u8) -> Option<u8>>(
     kinds: u8,
     kind_of: F,
 ) -> Row<N>
-    requires capacity { IsCapacity N }
+where
+    Nodes: Capacity<N>,
     requires nodes { nodes ≤ N }
     requires kinds { kinds ≤ 16 }
     requires callable { (j : ℕ) → j < N → j < nodes → j ≢ me → F.pre kind_of j }
@@ -116,7 +116,8 @@ impl<const N: usize> RowBuilder<N> {
     /// Node `me` of so many nodes notes nothing yet. A row has room for kinds below `kinds`: 8 in
     /// version 1, and 16 in version 2.
     pub fn new(nodes: u8, me: u8, kinds: u8) -> Self
-        requires capacity { IsCapacity N }
+    where
+        Nodes: Capacity<N>,
         requires nodes { nodes ≤ N }
         requires kinds { kinds ≤ 16 }
         ensures { result ≡ record {
@@ -162,6 +163,8 @@ impl<const N: usize> RowBuilder<N> {
     /// Notes of each other node in use the kind of error that `kind_of` gives, if any, in this
     /// period's row. A kind that a row has no room for is left out.
     pub fn note_each<F: Fn(u8) -> Option<u8>>(&mut self, kind_of: F)
+    where
+        Nodes: Capacity<N>,
         requires { (j : ℕ) → j < N → j < self.old.nodes → j ≢ self.old.me → F.pre kind_of j }
         ensures kept { self.new ≡ record self.old { row = self.new.row } }
         ensures row { (gives : ℕ → Option ℕ) →
@@ -173,6 +176,8 @@ impl<const N: usize> RowBuilder<N> {
 
     /// The same for the next period's row.
     pub fn carry_each<F: Fn(u8) -> Option<u8>>(&mut self, kind_of: F)
+    where
+        Nodes: Capacity<N>,
         requires { (j : ℕ) → j < N → j < self.old.nodes → j ≢ self.old.me → F.pre kind_of j }
         ensures kept { self.new ≡ record self.old { carried = self.new.carried } }
         ensures row { (gives : ℕ → Option ℕ) →
@@ -185,6 +190,8 @@ impl<const N: usize> RowBuilder<N> {
     /// Notes an error of this kind of each other node in use that is in the set, in this period's
     /// row. A kind that a row has no room for is left out.
     pub fn note_all(&mut self, accused: &NodeSet<N>, kind: u8)
+    where
+        Nodes: Capacity<N>,
         ensures { self.new ≡ also_noted N self.old (of_each accused.now kind) }
     {
         self.note_each(
@@ -196,6 +203,8 @@ impl<const N: usize> RowBuilder<N> {
 
     /// The same for the next period's row.
     pub fn carry_all(&mut self, accused: &NodeSet<N>, kind: u8)
+    where
+        Nodes: Capacity<N>,
         ensures { self.new ≡ also_carried N self.old (of_each accused.now kind) }
     {
         self.carry_each(
@@ -221,6 +230,8 @@ impl<const N: usize> RowBuilder<N> {
 
     /// Accuses nobody in this period's row, as a node does that isn't a full member yet.
     pub fn accuse_nobody(&mut self)
+    where
+        Nodes: Capacity<N>,
         ensures { self.new ≡ record self.old { row = replicate N 0 } }
     {
         // Proofs need here that there is room for N masks.
@@ -231,6 +242,8 @@ impl<const N: usize> RowBuilder<N> {
     /// Begins the next period: its row is what was carried over, and nothing is carried from there
     /// on.
     pub fn next_period(&mut self)
+    where
+        Nodes: Capacity<N>,
         ensures { self.new ≡ record self.old { row = self.old.carried; carried = replicate N 0 } }
     {
         self.row = self.carried;
@@ -239,6 +252,8 @@ impl<const N: usize> RowBuilder<N> {
 
     /// Forgets all that was noted, as a node does that restarts.
     pub fn forget(&mut self)
+    where
+        Nodes: Capacity<N>,
         ensures { self.new ≡ record self.old { row = replicate N 0; carried = replicate N 0 } }
     {
         *self = RowBuilder::new(self.nodes, self.me, self.kinds);

@@ -13,7 +13,7 @@ use crate::cells::Shape;
 use crate::rules::{first_bad_line, first_bad_restart};
 use crate::touches::{Touches, touches_of};
 use crate::{Effect, FaultLine, PlanError, PlanSize, Restart};
-use node_grid::NodeSet;
+use node_grid::{Capacity, NodeSet, Nodes};
 use slot_plan::slot_count;
 use std::alloc::{AllocError, Global};
 use std::marker::Model;
@@ -55,6 +55,8 @@ fn accepted_touches<const N: usize>(
     lines: &[FaultLine<N>],
     restarts: &[Restart],
 ) -> Result<Touches<N>, PlanError>
+where
+    Nodes: Capacity<N>,
     requires shape { IsShape N shape.now.nodes shape.now.slots shape.now.periods }
     requires few_lines { length lines.now < 2 ^ 32 }
     requires few_restarts { length restarts.now < 2 ^ 32 }
@@ -103,6 +105,8 @@ impl<const N: usize> PlanIndex<N> {
         lines: Vec<FaultLine<N>>,
         restarts: Vec<Restart>,
     ) -> Result<Self, PlanError>
+    where
+        Nodes: Capacity<N>,
         requires size { IsSize N size }
         requires few_lines { length lines.items < 2 ^ 32 }
         requires few_restarts { length restarts.items < 2 ^ 32 }

@@ -11,7 +11,7 @@ ghost use Rattle.fault_classes.specs.Budget.{IsBudget};
 use crate::index::PlanIndex;
 use crate::standing::{Standing, is_sound, standings_of};
 use crate::{Budget, Effect, FaultLine, PlanError, PlanSize, Restart};
-use node_grid::{Class, NodeSet};
+use node_grid::{Capacity, Class, NodeSet, Nodes};
 use std::alloc::Global;
 use std::marker::Model;
 
@@ -52,6 +52,8 @@ impl<const N: usize> FaultPlan<N> {
         lines: Vec<FaultLine<N>>,
         restarts: Vec<Restart>,
     ) -> Result<FaultPlan<N>, PlanError>
+    where
+        Nodes: Capacity<N>,
         requires size { IsSize N size }
         requires few_lines { length lines.items < 2 ^ 32 }
         requires few_restarts { length restarts.items < 2 ^ 32 }

@@ -1,7 +1,6 @@
 ghost use Rattle.std.specs.Prelude.{◌≡◌, ℕ, ◌^◌, ◌<◌, ◌≤◌, ◌⊎◌, [], true, None, Some, IfOk};
 ghost use Rattle.std.specs.Prelude.{MatchResult, length, map};
 ghost use Rattle.std.specs.List.{list_all};
-ghost use Rattle.node_grid.specs.Capacity.{IsCapacity};
 ghost use Rattle.fault_classes.specs.Line.{line_of};
 ghost use Rattle.fault_classes.specs.Rules.{is_line, first_overlap};
 ghost use Rattle.fault_classes.specs.Cells.{IsShape};
@@ -10,7 +9,7 @@ ghost use Rattle.fault_classes.specs.Touches.{IsSent, IsTouched, AreTouches};
 use crate::blocks::{Blocks, blocks_of};
 use crate::cells::{Shape, cells_of};
 use crate::{FaultLine, PlanError};
-use node_grid::NodeSet;
+use node_grid::{Capacity, NodeSet, Nodes};
 use std::alloc::{AllocError, Global};
 
 /// Which line touches each frame.
@@ -26,7 +25,8 @@ pub struct Touches<const N: usize> {
 
 /// Puts the line's sender into the set of each of the line's periods.
 fn put_sender<const N: usize>(sets: &mut [NodeSet<N>], line: &FaultLine<N>)
-    requires capacity { IsCapacity N }
+where
+    Nodes: Capacity<N>,
     requires sender { line.now.from < N }
     requires order { line.now.first ≤ line.now.last }
     requires last { line.now.last < length sets.old }
@@ -45,6 +45,8 @@ fn touched_sets<const N: usize>(
     lines: &[FaultLine<N>],
     shape: &Shape,
 ) -> Result<Vec<NodeSet<N>>, AllocError>
+where
+    Nodes: Capacity<N>,
     requires shape { IsShape N shape.now.nodes shape.now.slots shape.now.periods }
     requires lines { list_all (is_line shape.now.nodes shape.now.slots shape.now.periods)
         (map line_of lines.now) ≡ true }
@@ -63,6 +65,8 @@ pub fn touches_of<const N: usize>(
     shape: &Shape,
     lines: &[FaultLine<N>],
 ) -> Result<Touches<N>, PlanError>
+where
+    Nodes: Capacity<N>,
     requires shape { IsShape N shape.now.nodes shape.now.slots shape.now.periods }
     requires few { length lines.now < 2 ^ 32 }
     requires lines { list_all (is_line shape.now.nodes shape.now.slots shape.now.periods)

@@ -4,7 +4,6 @@ ghost use Rattle.std.specs.Prelude.{ℕ, ◌≡◌, ◌≢◌, ◌+◌, ◌*◌,
 ghost use Rattle.std.specs.Prelude.{slice_index_or};
 ghost use Rattle.std.specs.Int.{w16, to_be_bytes};
 ghost use Rattle.std.specs.List.{flat_map};
-ghost use Rattle.node_grid.specs.Capacity.{IsCapacity};
 ghost use Rattle.omh_paths.specs.declared.wrapped.Wrapped.TheVariants.{Fault};
 ghost use Rattle.frames.specs.Checks.{are_written};
 ghost use Rattle.frames.specs.PieceLaws.{AreBytes};
@@ -13,7 +12,7 @@ ghost use Rattle.frames.specs.Spelling.{claim_spelling, row_spelling, relayed_ro
 ghost use Rattle.frames.specs.Writing.{pasted};
 
 use crate::pieces::write_at;
-use node_grid::Row;
+use node_grid::{Capacity, Nodes, Row};
 use omh_paths::Wrapped;
 
 /// The entries of a relay frame, as they stand in its bytes: a tag and a value each.
@@ -80,7 +79,8 @@ impl<'a> Cells<'a> {
 
     /// The row of entry `k`, among `nodes` nodes.
     pub fn row_at<const N: usize>(&self, nodes: u8, k: usize) -> Wrapped<Row<N>>
-        requires capacity { IsCapacity N }
+    where
+        Nodes: Capacity<N>,
         requires nodes { nodes ≤ N }
         requires wide { self.now.width ≡ 1 + 2 * nodes }
         requires within { k < length self.now.bytes.now / self.now.width }
@@ -96,7 +96,8 @@ impl<'a> Cells<'a> {
 
 /// The row of the first `nodes` nodes' masks.
 pub(crate) fn read_row<const N: usize>(bytes: &[u8], nodes: u8) -> Row<N>
-    requires capacity { IsCapacity N }
+where
+    Nodes: Capacity<N>,
     requires nodes { nodes ≤ N }
     requires whole { length bytes.now ≡ 2 * nodes }
     ensures { result ≡ content_row N nodes bytes.now }
@@ -135,7 +136,8 @@ pub fn put_done(out: &mut [u8], k: usize, value: Wrapped<u8>)
 
 /// Writes a row among `nodes` nodes as entry `k`, and leaves all else.
 pub fn put_row<const N: usize>(out: &mut [u8], nodes: u8, k: usize, value: Wrapped<Row<N>>)
-    requires capacity { IsCapacity N }
+where
+    Nodes: Capacity<N>,
     requires nodes { nodes ≤ N }
     requires fits { (1 + 2 * nodes) * k + (1 + 2 * nodes) ≤ length out.old }
     requires some { value ≢ Fault 0 }

@@ -3,7 +3,6 @@
 ghost use Rattle.std.specs.Prelude.{◌≡◌, ◌↔◌, IsTrue, ◌+◌, ◌-◌, ◌*◌, ◌/◌, ◌<◌, ◌≤◌, ◌==◌, ◌&&◌};
 ghost use Rattle.std.specs.Prelude.{List, length, IfSome, IfNone, option_map, take, drop};
 ghost use Rattle.std.specs.List.{list_all};
-ghost use Rattle.node_grid.specs.Capacity.{IsCapacity};
 ghost use Rattle.frames.specs.Content.{Content, entries_due, round_in};
 ghost use Rattle.frames.specs.Spelling.{IsFrame, head_of, header_spelling};
 ghost use Rattle.frames.specs.Reading.{reading, pieces_of_width, fits_claim, fits_value};
@@ -17,7 +16,7 @@ use crate::frame::{Body, Expect, Frame};
 use crate::kind::Kind;
 use crate::pieces::{are_masks, are_zero};
 use crate::values::{Values, read_value};
-use node_grid::NO_CLAIM;
+use node_grid::{Capacity, NO_CLAIM, Nodes};
 use omh_paths::count_paths;
 
 /// Values lie from minus this to this.
@@ -136,7 +135,8 @@ impl<const N: usize> Expect<N> {
     /// The number of entries of a relay frame: one for each path of as many members, without the
     /// sender, as its round.
     fn entries_due(&self) -> usize
-        requires capacity { IsCapacity N }
+    where
+        Nodes: Capacity<N>,
         requires rounds { self.now.m ≤ 3 }
         requires round { round_in self.now.m self.now.slot ≤ 3 }
         ensures number { result ≡ entries_due (expected self.now) }
@@ -158,7 +158,8 @@ impl<const N: usize> Expect<N> {
 
     /// Whether the bytes are the relayed claims that are due.
     fn has_claims(&self, bytes: &[u8]) -> bool
-        requires capacity { IsCapacity N }
+    where
+        Nodes: Capacity<N>,
         requires rounds { self.now.m ≤ 3 }
         requires round { round_in self.now.m self.now.slot ≤ 3 }
         ensures { result ≡ has_claims (expected self.now) bytes.now }
@@ -182,7 +183,8 @@ impl<const N: usize> Expect<N> {
 
     /// Whether the bytes are the relayed rows that are due.
     fn has_rows(&self, bytes: &[u8]) -> bool
-        requires capacity { IsCapacity N }
+    where
+        Nodes: Capacity<N>,
         requires rounds { self.now.m ≤ 3 }
         requires round { round_in self.now.m self.now.slot ≤ 3 }
         ensures { result ≡ has_rows (expected self.now) bytes.now }
@@ -203,7 +205,8 @@ impl<const N: usize> Expect<N> {
 /// What a body of a kind says; None exactly where it isn't in the grammar of the kind, or has no
 /// place in the slot.
 fn body_of<'a, const N: usize>(expect: &Expect<N>, kind: u8, bytes: &'a [u8]) -> Option<Body<'a, N>>
-    requires capacity { IsCapacity N }
+where
+    Nodes: Capacity<N>,
     requires some_nodes { 0 < expect.now.nodes }
     requires nodes { expect.now.nodes ≤ N }
     requires rounds { expect.now.m ≤ 3 }
@@ -252,7 +255,8 @@ fn has_header<const N: usize>(expect: &Expect<N>, front: &[u8], kind: u8, size: 
 
 /// The frame that the bytes are for what is expected, by the relation between bytes and contents.
 fn frame_of<'a, const N: usize>(expect: &Expect<N>, bytes: &'a [u8]) -> Option<Frame<'a, N>>
-    requires capacity { IsCapacity N }
+where
+    Nodes: Capacity<N>,
     requires some_nodes { 0 < expect.now.nodes }
     requires nodes { expect.now.nodes ≤ N }
     requires rounds { expect.now.m ≤ 3 }
@@ -288,7 +292,8 @@ fn frame_of<'a, const N: usize>(expect: &Expect<N>, bytes: &'a [u8]) -> Option<F
 /// missing or left over, the kind has no place in the slot, or the body isn't in the grammar of its
 /// kind. Any bytes may be given.
 pub fn decode<'a, const N: usize>(expect: &Expect<N>, bytes: &'a [u8]) -> Option<Frame<'a, N>>
-    requires capacity { IsCapacity N }
+where
+    Nodes: Capacity<N>,
     requires some_nodes { 0 < expect.now.nodes }
     requires nodes { expect.now.nodes ≤ N }
     requires rounds { expect.now.m ≤ 3 }

@@ -1,7 +1,6 @@
 //! Reading frames that are known to be frames.
 
 ghost use Rattle.std.specs.Prelude.{◌≡◌, ◌<◌, ◌≤◌, IsSome, Some};
-ghost use Rattle.node_grid.specs.Capacity.{IsCapacity};
 ghost use Rattle.frames.specs.Spelling.{IsFrame, head_of};
 ghost use Rattle.frames.specs.Reading.{reading, content_said};
 ghost use Rattle.frames.specs.Checks.{IsSaid};
@@ -12,10 +11,12 @@ use crate::encoding::HEADER;
 use crate::frame::{Body, Expect, Frame};
 use crate::kind::Kind;
 use crate::values::Values;
+use node_grid::{Capacity, Nodes};
 
 /// The body of a kind that the bytes are known to be. No entry is looked at.
 fn known_body<'a, const N: usize>(expect: &Expect<N>, kind: Kind, bytes: &'a [u8]) -> Body<'a, N>
-    requires capacity { IsCapacity N }
+where
+    Nodes: Capacity<N>,
     requires some_nodes { 0 < expect.now.nodes }
     requires nodes { expect.now.nodes ≤ N }
     requires said { IsSaid (expected expect.now)
@@ -39,7 +40,8 @@ fn known_body<'a, const N: usize>(expect: &Expect<N>, kind: Kind, bytes: &'a [u8
 ///
 /// Nothing is checked again, and no entry is looked at.
 pub fn decode_known<'a, const N: usize>(expect: &Expect<N>, bytes: &'a [u8]) -> Frame<'a, N>
-    requires capacity { IsCapacity N }
+where
+    Nodes: Capacity<N>,
     requires some_nodes { 0 < expect.now.nodes }
     requires nodes { expect.now.nodes ≤ N }
     requires known { IsSome (reading (expected expect.now) bytes.now) }

@@ -1,7 +1,6 @@
 //! A node's own claim.
 
 ghost use Rattle.std.specs.Prelude.{◌≡◌, ◌<◌, IfSome};
-ghost use Rattle.node_grid.specs.Capacity.{IsCapacity};
 ghost use Rattle.list_scheduler.specs.Copies.{IsCopies, works};
 ghost use Rattle.agreed_state.specs.Agreed.{IsAgreed};
 ghost use Rattle.agreed_state.specs.declared.config.Inputs.{Inputs};
@@ -9,7 +8,7 @@ ghost use Rattle.protocol.specs.View.{claim_at, own_claim};
 
 use agreed_state::{Agreed, Config};
 use list_scheduler::{Copies, CopyState};
-use node_grid::NO_CLAIM;
+use node_grid::{Capacity, NO_CLAIM, Nodes};
 use task_graph::TaskGraph;
 
 /// The task that a node claims by what it works at, from the task's run time on, or NO_CLAIM for
@@ -37,7 +36,8 @@ fn running_in<const N: usize>(
     copies: &Copies<N>,
     node: u8,
 ) -> Option<(u8, u16)>
-    requires capacity { IsCapacity N }
+where
+    Nodes: Capacity<N>,
     requires copies { IsCopies graph.now copies.now }
     requires node { node < N }
     ensures { result ≡ works copies.now node }
@@ -58,7 +58,8 @@ pub fn own_claim<const N: usize>(
     me: u8,
     run: &[u16; 32],
 ) -> u8
-    requires capacity { IsCapacity N }
+where
+    Nodes: Capacity<N>,
     requires agreed { IsAgreed N config.now state.now }
     requires me { me < N }
     ensures { (g : Inputs) → g.run ≡ run.now → result ≡ own_claim me g state.now }

@@ -2,7 +2,6 @@
 
 ghost use Rattle.std.specs.Prelude.{◌≡◌, ℕ, ◌<◌, ◌≤◌, true, false, length, None, Some};
 ghost use Rattle.std.specs.Prelude.{if◌then◌else◌, slice_index_or};
-ghost use Rattle.node_grid.specs.Capacity.{IsCapacity};
 ghost use Rattle.node_grid.specs.NodeSet.{has_id};
 ghost use Rattle.list_scheduler.specs.OneNode.{verdicts};
 ghost use Rattle.list_scheduler.specs.Schedule.{no_verdict};
@@ -22,7 +21,7 @@ use crate::due::due_after;
 use agreed_state::{Agreed, Config};
 use error_reports::RowBuilder;
 use list_scheduler::Verdict;
-use node_grid::NodeSet;
+use node_grid::{Capacity, NodeSet, Nodes};
 use noting::note_verdicts;
 use shared_states::{Belief, SharedStates};
 
@@ -33,7 +32,8 @@ fn follow<const N: usize>(
     state: &Agreed<N>,
     belief: &mut Belief<N>,
 ) -> [Verdict; N]
-    requires capacity { IsCapacity N }
+where
+    Nodes: Capacity<N>,
     requires config { IsConfig N config.now }
     requires agreed { IsAgreed N config.now state.now }
     ensures due { belief.new.due.items ≡
@@ -63,7 +63,8 @@ fn blames_any<const N: usize>(judged: &[Verdict; N]) -> bool
 
 /// Notes verdicts on the rows of these nodes.
 fn note_on<const N: usize>(notes: &mut [RowBuilder<N>], nodes: &NodeSet<N>, judged: &[Verdict; N])
-    requires capacity { IsCapacity N }
+where
+    Nodes: Capacity<N>,
     requires many { length notes.old ≡ N }
     requires kinds { (i : ℕ) → i < N → has_id nodes.now i ≡ true →
         (notes_at notes.old i).kinds ≤ 16 }
@@ -81,7 +82,8 @@ fn note_on<const N: usize>(notes: &mut [RowBuilder<N>], nodes: &NodeSet<N>, judg
 
 /// The same, where nothing is looked at if no verdict holds anything against its node.
 fn note_all<const N: usize>(notes: &mut [RowBuilder<N>], nodes: &NodeSet<N>, judged: &[Verdict; N])
-    requires capacity { IsCapacity N }
+where
+    Nodes: Capacity<N>,
     requires many { length notes.old ≡ N }
     requires kinds { (i : ℕ) → i < N → has_id nodes.now i ≡ true →
         (notes_at notes.old i).kinds ≤ 16 }
@@ -108,7 +110,8 @@ pub fn complete<const N: usize>(
     beliefs: &mut [Belief<N>],
     notes: &mut [RowBuilder<N>],
 )
-    requires capacity { IsCapacity N }
+where
+    Nodes: Capacity<N>,
     requires config { IsConfig N config.now }
     requires grouped { AreGrouped config.now groups.now states.now beliefs.old }
     requires notes { CanNote N states.now notes.old }

@@ -1,7 +1,6 @@
 //! Which channels are due.
 
 ghost use Rattle.std.specs.Prelude.{◌≡◌, ◌<◌, ◌&&◌, not, ℕ, List, length};
-ghost use Rattle.node_grid.specs.Capacity.{IsCapacity};
 ghost use Rattle.omh_paths.specs.declared.wrapped.Wrapped.{Wrapped};
 ghost use Rattle.list_scheduler.specs.Schedule.{copies_completed, finished};
 ghost use Rattle.agreed_state.specs.Config.{IsConfig, IsChannel};
@@ -12,6 +11,7 @@ use agreed_state::{Agreed, Config};
 use arrayvec::ArrayVec;
 use list_scheduler::Copies;
 use mme_vote::Channel;
+use node_grid::{Capacity, Nodes};
 use task_graph::TaskGraph;
 
 /// Whether a task isn't finished before completion, and is after it.
@@ -21,7 +21,8 @@ fn finishes<const N: usize>(
     after: &Copies<N>,
     task: u8,
 ) -> bool
-    requires capacity { IsCapacity N }
+where
+    Nodes: Capacity<N>,
     requires task { task < length graph.now.tasks }
     ensures { result ≡ (not (finished graph.now before.now task) &&
         finished graph.now after.now task) }
@@ -37,7 +38,8 @@ fn is_due<const N: usize>(
     after: &Copies<N>,
     channel: &Channel<N>,
 ) -> bool
-    requires capacity { IsCapacity N }
+where
+    Nodes: Capacity<N>,
     requires channel { IsChannel config.now.nodes (length config.now.graph.tasks) channel.now }
     ensures { (done : List (Wrapped ℕ)) → after.now ≡ copies_completed N config.now.graph
         state.now.standing.members state.now.copies done →
@@ -56,7 +58,8 @@ pub(crate) fn due_after<const N: usize>(
     state: &Agreed<N>,
     after: &Copies<N>,
 ) -> ArrayVec<u8, 8>
-    requires capacity { IsCapacity N }
+where
+    Nodes: Capacity<N>,
     requires config { IsConfig N config.now }
     ensures { (done : List (Wrapped ℕ)) → after.now ≡ copies_completed N config.now.graph
         state.now.standing.members state.now.copies done →

@@ -1,11 +1,10 @@
 //! Nodes in groups.
 
 ghost use Rattle.std.specs.Prelude.{◌≡◌, ◌≢◌, ℕ, ◌==◌, ◌<◌, ◌≤◌, true, false, IsTrue, length};
-ghost use Rattle.node_grid.specs.Capacity.{IsCapacity};
 ghost use Rattle.node_grid.specs.NodeSet.{has_id, ids_where};
 ghost use Rattle.grouped_nodes.specs.Grouping.{first_of, AreFirsts, AreGroups, tells_within};
 
-use node_grid::NodeSet;
+use node_grid::{Capacity, NodeSet, Nodes};
 use std::marker::Model;
 
 /// Nodes in groups: by node the least node of its group, its first.
@@ -36,7 +35,8 @@ fn first_alike<const N: usize, F: Fn(u8, u8) -> bool>(
     alike: &F,
     i: u8,
 ) -> u8
-    requires capacity { IsCapacity N }
+where
+    Nodes: Capacity<N>,
     requires node { i < N }
     requires callable { (r j : ℕ) → r < j → j < N → F.pre alike.now r j }
     ensures early { result ≤ i }
@@ -58,7 +58,8 @@ impl<const N: usize> Groups<N> {
     /// Groups of these nodes by a test of two nodes, an earlier one and a later one: each joins the
     /// least of the firsts before it to which it is alike. Each other node is by itself.
     pub fn by<F: Fn(u8, u8) -> bool>(nodes: &NodeSet<N>, alike: F) -> Groups<N>
-        requires capacity { IsCapacity N }
+    where
+        Nodes: Capacity<N>,
         requires callable { (r i : ℕ) → r < i → i < N → F.pre alike r i }
         ensures { AreGroups N nodes.now (F.post alike) result }
     {
@@ -75,7 +76,8 @@ impl<const N: usize> Groups<N> {
 
     /// All these nodes in one group, and each other node by itself.
     pub fn one(nodes: &NodeSet<N>) -> Groups<N>
-        requires { IsCapacity N }
+    where
+        Nodes: Capacity<N>,
         ensures all { (i j : ℕ) → i < N → j < N → has_id nodes.now i ≡ true →
             has_id nodes.now j ≡ true → first_of result i ≡ first_of result j }
         ensures others { (i : ℕ) → i < N → has_id nodes.now i ≡ false → first_of result i ≡ i }
@@ -93,7 +95,8 @@ impl<const N: usize> Groups<N> {
     /// The groups of these nodes by a test within these groups: no two nodes come together that
     /// were in different ones.
     pub fn refine<F: Fn(u8, u8) -> bool>(&self, nodes: &NodeSet<N>, alike: F) -> Groups<N>
-        requires capacity { IsCapacity N }
+    where
+        Nodes: Capacity<N>,
         requires callable { (r i : ℕ) → r < i → i < N → F.pre alike r i }
         ensures { AreGroups N nodes.now (tells_within self.now (F.post alike)) result }
     {
@@ -130,7 +133,8 @@ impl<const N: usize> Groups<N> {
     /// The nodes of the group of this first.
     #[tactic(auto, using(node_grid::specs::NodeSetLaws::id_loops))]
     pub fn members_of(&self, first: u8) -> NodeSet<N>
-        requires { IsCapacity N }
+    where
+        Nodes: Capacity<N>,
         ensures { result ≡ ids_where (λ i. first_of self.now i == first) N }
     {
         let mut members = NodeSet::empty();
@@ -145,7 +149,8 @@ impl<const N: usize> Groups<N> {
     /// The firsts of all groups.
     #[tactic(auto, using(node_grid::specs::NodeSetLaws::id_loops))]
     pub fn firsts(&self) -> NodeSet<N>
-        requires { IsCapacity N }
+    where
+        Nodes: Capacity<N>,
         ensures { result ≡ ids_where (λ i. first_of self.now i == i) N }
     {
         let mut firsts = NodeSet::empty();

@@ -1,13 +1,13 @@
 //! Beliefs of groups that are parted.
 
 ghost use Rattle.std.specs.Prelude.{◌≡◌, ℕ, ◌<◌, ◌≤◌, length};
-ghost use Rattle.node_grid.specs.Capacity.{IsCapacity};
 ghost use Rattle.shared_states.specs.declared.belief.Belief.{Belief};
 ghost use Rattle.grouped_nodes.specs.Grouping.{first_of};
 ghost use Rattle.grouped_nodes.specs.Shared.{belief_of};
 
 use crate::Groups;
 use arrayvec::ArrayVec;
+use node_grid::{Capacity, Nodes};
 use shared_states::Belief;
 
 /// The same channels again.
@@ -35,7 +35,8 @@ fn copy_of<const N: usize>(belief: &Belief<N>) -> Belief<N>
 /// Where groups were parted, gives the first of each new group the belief that stands at the first
 /// of the one in which it was before.
 pub fn part<const N: usize>(beliefs: &mut [Belief<N>], before: &Groups<N>, groups: &Groups<N>)
-    requires capacity { IsCapacity N }
+where
+    Nodes: Capacity<N>,
     requires many { length beliefs.old ≡ N }
     requires parted { (i : ℕ) → i < N →
         first_of before.now (first_of groups.now i) ≡ first_of before.now i }

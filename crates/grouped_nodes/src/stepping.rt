@@ -1,7 +1,6 @@
 //! The states after a period.
 
 ghost use Rattle.std.specs.Prelude.{◌≡◌, ℕ, ◌<◌, None, Some};
-ghost use Rattle.node_grid.specs.Capacity.{IsCapacity};
 ghost use Rattle.agreed_state.specs.Config.{IsConfig};
 ghost use Rattle.agreed_state.specs.Agreed.{AgreedView, IsAgreed, agreed_after};
 ghost use Rattle.shared_states.specs.declared.belief.Belief.{Belief};
@@ -10,6 +9,7 @@ ghost use Rattle.grouped_nodes.specs.Shared.{AreGrouped, belief_of};
 
 use crate::Groups;
 use agreed_state::{Agreed, Config};
+use node_grid::{Capacity, Nodes};
 use shared_states::{Belief, SharedStates};
 
 /// Takes a state through a period, by what its nodes believe.
@@ -19,7 +19,8 @@ fn step_by<const N: usize>(
     state: &mut Agreed<N>,
     belief: &Belief<N>,
 )
-    requires capacity { IsCapacity N }
+where
+    Nodes: Capacity<N>,
     requires config { IsConfig N config.now }
     requires agreed { IsAgreed N config.now state.old }
     ensures after { state.new ≡ agreed_after N config.now period state.old belief.now.done
@@ -39,7 +40,8 @@ pub fn step<const N: usize>(
     groups: &Groups<N>,
     beliefs: &[Belief<N>],
 )
-    requires capacity { IsCapacity N }
+where
+    Nodes: Capacity<N>,
     requires config { IsConfig N config.now }
     requires grouped { AreGrouped config.now groups.now states.old beliefs.now }
     ensures stepped { (i : ℕ) (a : AgreedView) (d : Belief N) → i < N →

@@ -12,7 +12,7 @@ ghost use Rattle.heard_links.specs.Frames.{IsRead};
 ghost use Rattle.heard_links.specs.Hearing.{source};
 
 use crate::phase::Phase;
-use node_grid::NodeSet;
+use node_grid::{Capacity, NodeSet, Nodes};
 use omh_paths::{Path, count_paths, rank, unrank};
 
 /// The path without its last node, where it has more than one.
@@ -31,6 +31,8 @@ pub(crate) fn front_of(path: &Path) -> Path
 impl<'p, const N: usize> Phase<'p, N> {
     /// The place of the entry that node `i` reads for a path in the relay frame of node `q`.
     pub(crate) fn place(&self, i: u8, q: u8, front: &Path) -> usize
+    where
+        Nodes: Capacity<N>,
         requires { IsRead self.now i q front.now }
         ensures place { result ≡
             place_in (paths_of (members_at self.now i) (length front.now) q) front.now }
@@ -43,6 +45,8 @@ impl<'p, const N: usize> Phase<'p, N> {
     /// The path of which node `q` meant the entry that node `i` reads for a path, where it has
     /// such an entry.
     pub(crate) fn source(&self, i: u8, q: u8, front: &Path) -> Option<Path>
+    where
+        Nodes: Capacity<N>,
         requires read { IsRead self.now i q front.now }
         requires distinct { Distinct front.now }
         ensures { result ≡ source (has_id self.now.full q) (members_at self.now q)
@@ -59,6 +63,8 @@ impl<'p, const N: usize> Phase<'p, N> {
 
     /// The same where the two go by other members.
     fn other_source(&self, i: u8, q: u8, front: &Path) -> Option<Path>
+    where
+        Nodes: Capacity<N>,
         requires { IsRead self.now i q front.now }
         ensures { result ≡ source true (members_at self.now q) (members_at self.now i) q front.now }
     {

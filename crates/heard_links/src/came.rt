@@ -3,6 +3,8 @@
 ghost use Rattle.std.specs.Prelude.{◌≡◌};
 ghost use Rattle.heard_links.specs.Coming.{is_untouched};
 
+use omh_paths::Exact;
+
 /// What comes of a frame over the link from one node to another.
 #[derive(Clone, Copy, Drop)]
 pub enum Came<V> {
@@ -16,7 +18,7 @@ pub enum Came<V> {
     Good,
 }
 
-impl<V: Copy + Eq> Came<V> {
+impl<V: Exact> Came<V> {
     /// Whether it is the frame as it was sent.
     pub(crate) fn is_untouched(&self) -> bool
         ensures { result ≡ is_untouched self.now }

@@ -19,6 +19,7 @@ use crate::came::Came;
 use crate::effects::is_same;
 use crate::links::Links;
 use crate::phase::Phase;
+use node_grid::{Capacity, Nodes};
 use omh_paths::{Path, Wrapped};
 use settled_paths::Touched;
 use std::marker::Model;
@@ -99,6 +100,8 @@ impl<V: Item<N>, const N: usize> Links<V, N> {
     /// What node `i` heard for a path: the error where it isn't awake, and for a path of which it
     /// hears from no other node.
     pub fn heard_or(&self, phase: &Phase<'_, N>, i: u8, path: &Path) -> Wrapped<V>
+    where
+        Nodes: Capacity<N>,
         requires heard { IsHeard V.form V.first_slot V.tells phase.now self.now
             (phase.now.config.now.m + 1) }
         ensures is { result ≡ (if is_asked (talk_in V.form phase.now self.now)
@@ -117,6 +120,8 @@ impl<V: Item<N>, const N: usize> Links<V, N> {
     /// What node `to` hears for a path in place of what the path's last node passes on, by what
     /// came of that node's frame.
     fn said_by(&self, phase: &Phase<'_, N>, to: u8, path: &Path) -> Option<Wrapped<V>>
+    where
+        Nodes: Capacity<N>,
         requires heard { IsHeard V.form V.first_slot V.tells phase.now self.now
             (phase.now.config.now.m + 1) }
         ensures is { result ≡ says_of V.form phase.now self.now to path.now }
@@ -136,6 +141,8 @@ impl<V: Item<N>, const N: usize> Links<V, N> {
 
     /// What node `to` hears for a path in place of what the path's last node passes on.
     fn said(&self, phase: &Phase<'_, N>, to: u8, path: &Path) -> Option<Wrapped<V>>
+    where
+        Nodes: Capacity<N>,
         requires heard { IsHeard V.form V.first_slot V.tells phase.now self.now
             (phase.now.config.now.m + 1) }
         ensures is { result ≡ says_of V.form phase.now self.now to path.now }
@@ -152,6 +159,8 @@ impl<V: Item<N>, const N: usize> Links<V, N> {
     /// Whether two other nodes hear the same of a node's own word in a round, in place of what it
     /// says.
     fn is_alike_from(&self, phase: &Phase<'_, N>, round: u8, q: u8, i: u8, j: u8) -> bool
+    where
+        Nodes: Capacity<N>,
         requires hearers { AreHearers V.form V.first_slot V.tells phase.now self.now round i j }
         requires from { q < phase.now.config.now.nodes }
         ensures { result ≡ true → IsAlikeFrom (talk_in V.form phase.now self.now) round q i j }
@@ -167,6 +176,8 @@ impl<V: Item<N>, const N: usize> Links<V, N> {
 
     /// The same where node `i` may go without that node.
     fn is_word_alike(&self, phase: &Phase<'_, N>, round: u8, q: u8, i: u8, j: u8) -> bool
+    where
+        Nodes: Capacity<N>,
         requires { AreHearers V.form V.first_slot V.tells phase.now self.now round i j }
         ensures { result ≡ true → has_id (members_at phase.now i) q ≡ true →
             IsAlikeFrom (talk_in V.form phase.now self.now) round q i j }
@@ -181,6 +192,8 @@ impl<V: Item<N>, const N: usize> Links<V, N> {
     /// Whether two other nodes with the same members hear the same of all words in a round, in
     /// place of what is said.
     fn is_round_alike(&self, phase: &Phase<'_, N>, round: u8, i: u8, j: u8) -> bool
+    where
+        Nodes: Capacity<N>,
         requires hearers { AreHearers V.form V.first_slot V.tells phase.now self.now round i j }
         requires members { members_at phase.now i ≡ members_at phase.now j }
         ensures { result ≡ true → HearAlike (says_of V.form phase.now self.now) i j (round + 1) }
@@ -209,6 +222,8 @@ impl<V: Item<N>, const N: usize> Links<V, N> {
     /// Whether two nodes surely hear the same for all paths of so many nodes, in place of what is
     /// passed on.
     fn is_alike(&self, phase: &Phase<'_, N>, i: u8, j: u8, len: u8) -> bool
+    where
+        Nodes: Capacity<N>,
         requires heard { IsHeard V.form V.first_slot V.tells phase.now self.now
             (phase.now.config.now.m + 1) }
         ensures { result ≡ true → HearAlike (says_of V.form phase.now self.now) i j len }
@@ -226,7 +241,10 @@ impl<V: Item<N>, const N: usize> Links<V, N> {
     }
 }
 
-impl<'a, 'p, V: Item<N>, const N: usize> Touched<V> for Ear<'a, 'p, V, N> {
+impl<'a, 'p, V: Item<N>, const N: usize> Touched<V> for Ear<'a, 'p, V, N>
+where
+    Nodes: Capacity<N>,
+{
     ghost says = { λ e. says_of V.form e.1 e.0 };
 
     fn said(&self, to: u8, path: &Path) -> Option<Wrapped<V>> {

@@ -12,7 +12,6 @@ ghost use Rattle.protocol.specs.Heard.{paths_of, heard};
 ghost use Rattle.protocol.specs.Talk.{arrives, rounds_upto};
 ghost use Rattle.touched_items.specs.Items.{HasOwn};
 ghost use Rattle.heard_links.specs.Talks.{IsSet, members_at, phase_talk};
-ghost use Rattle.node_grid.specs.Capacity.{IsCapacity};
 ghost use Rattle.std.specs.Prelude.{false};
 ghost use Rattle.heard_links.specs.declared.came.Came.TheVariants as came;
 ghost use Rattle.heard_links.specs.Frames.{IsLink, IsRead};
@@ -23,12 +22,15 @@ use crate::came::Came;
 use crate::effects::{effect_or, whole};
 use crate::links::Links;
 use crate::phase::Phase;
+use node_grid::{Capacity, Nodes};
 use omh_paths::{Path, Wrapped};
 use touched_items::{Item, entry};
 
 impl<'p, const N: usize> Phase<'p, N> {
     /// What node `i` reads for a path in the good relay frame of node `q`, which meant `own` there.
     fn entry<V: Item<N>>(&self, i: u8, q: u8, front: &Path, own: Wrapped<V>) -> Wrapped<V>
+    where
+        Nodes: Capacity<N>,
         requires read { IsRead self.now i q front.now }
         requires link { IsLink self.now (length front.now) q i }
         ensures { (item : ℕ → V) (c : Content) (xs : List (Wrapped V)) →
@@ -50,6 +52,8 @@ impl<'p, const N: usize> Phase<'p, N> {
 impl<V: Item<N>, const N: usize> Links<V, N> {
     /// What node `i` heard of node `q` itself.
     fn heard_first(&self, phase: &Phase<'_, N>, i: u8, q: u8) -> Wrapped<V>
+    where
+        Nodes: Capacity<N>,
         requires heard { IsHeard V.form V.first_slot V.tells phase.now self.now 1 }
         requires node { has_id phase.now.awake i ≡ true }
         requires from { q < phase.now.config.now.nodes }
@@ -73,6 +77,8 @@ impl<V: Item<N>, const N: usize> Links<V, N> {
         front: &Path,
         own: Wrapped<V>,
     ) -> Wrapped<V>
+    where
+        Nodes: Capacity<N>,
         requires heard { IsHeard V.form V.first_slot V.tells phase.now self.now
             (length front.now + 1) }
         requires asked { IsAsked (talk_in V.form phase.now self.now) phase.now.config.now.m
@@ -95,7 +101,8 @@ impl<V: Item<N>, const N: usize> Links<V, N> {
 
     /// Whether the frame of a round from one node to another isn't good.
     fn is_bad(&self, round: u8, from: u8, to: u8) -> bool
-        requires capacity { IsCapacity N }
+    where
+        Nodes: Capacity<N>,
         requires round { round ≤ 3 }
         requires from { from < N }
         requires to { to < N }
@@ -109,6 +116,8 @@ impl<V: Item<N>, const N: usize> Links<V, N> {
 
     /// What node `i` heard for a path, where what came in the rounds up to its own is laid down.
     pub(crate) fn heard_below(&self, phase: &Phase<'_, N>, i: u8, path: &Path) -> Wrapped<V>
+    where
+        Nodes: Capacity<N>,
         requires heard { IsHeard V.form V.first_slot V.tells phase.now self.now
             (length path.now) }
         requires asked { IsAsked (talk_in V.form phase.now self.now) phase.now.config.now.m
@@ -136,6 +145,8 @@ impl<V: Item<N>, const N: usize> Links<V, N> {
 
     /// What a node that is awake heard for a path of its members that ends in another node.
     pub fn heard(&self, phase: &Phase<'_, N>, i: u8, path: &Path) -> Wrapped<V>
+    where
+        Nodes: Capacity<N>,
         requires heard { IsHeard V.form V.first_slot V.tells phase.now self.now
             (phase.now.config.now.m + 1) }
         requires asked { IsAsked (talk_in V.form phase.now self.now) phase.now.config.now.m

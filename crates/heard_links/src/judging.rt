@@ -3,7 +3,6 @@
 ghost use Rattle.std.specs.Prelude.{ℕ, ◌≡◌, ◌≢◌, ◌<◌, ◌≤◌, ◌+◌, ◌⊎◌, ◌==◌, ◌||◌, not, true, false};
 ghost use Rattle.std.specs.Prelude.{[], slice_index_or, IsSome, None};
 ghost use Rattle.std.specs.Cmp.Lexicographic.{pointwise};
-ghost use Rattle.node_grid.specs.Capacity.{IsCapacity};
 ghost use Rattle.node_grid.specs.NodeSet.{has_id};
 ghost use Rattle.fault_classes.specs.Change.{change_of};
 ghost use Rattle.heard_links.specs.Talks.{AreUneven, IsEvenTo, IsJudged, IsSet, members_at};
@@ -20,12 +19,13 @@ use crate::phase::Phase;
 use crate::sent::Sent;
 use crate::table::link_at;
 use fault_classes::Effect;
-use node_grid::NodeSet;
+use node_grid::{Capacity, NodeSet, Nodes};
 use touched_items::{Item, Told, cold_relay_frame, first_frame, relay_frame};
 
 /// No senders in each round.
 fn no_senders<const N: usize>() -> [NodeSet<N>; 4]
-    requires { IsCapacity N }
+where
+    Nodes: Capacity<N>,
     ensures { (r : ℕ) → slice_index_or result r [] ≡ [] }
 {
     [NodeSet::empty(); 4]
@@ -71,6 +71,8 @@ impl<'p, const N: usize> Phase<'p, N> {
 impl<V: Item<N>, const N: usize> Links<V, N> {
     /// What comes of a first frame with this effect.
     fn judge_first(&self, phase: &Phase<'_, N>, from: u8, to: u8, effect: &Effect) -> Came<V>
+    where
+        Nodes: Capacity<N>,
         requires frame { IsJudgeable V.form V.first_slot V.tells phase.now self.now 0 from to }
         requires acts { ActsAs (change_of effect.now)
             ((talk_in V.form phase.now self.now).change 0 from to) }
@@ -94,6 +96,8 @@ impl<V: Item<N>, const N: usize> Links<V, N> {
         to: u8,
         effect: &Effect,
     ) -> Option<u8>
+    where
+        Nodes: Capacity<N>,
         requires frame { IsJudgeable V.form V.first_slot V.tells phase.now self.now round from to }
         requires some { 0 < round }
         requires acts { ActsAs (change_of effect.now)
@@ -123,6 +127,8 @@ impl<V: Item<N>, const N: usize> Links<V, N> {
         to: u8,
         effect: &Effect,
     ) -> Came<V>
+    where
+        Nodes: Capacity<N>,
         requires frame { IsJudgeable V.form V.first_slot V.tells phase.now self.now round from to }
         requires some { 0 < round }
         requires acts { ActsAs (change_of effect.now)
@@ -139,6 +145,8 @@ impl<V: Item<N>, const N: usize> Links<V, N> {
 
     /// What comes of the frame of a round from one node to another.
     fn judge(&self, phase: &Phase<'_, N>, round: u8, from: u8, to: u8) -> Came<V>
+    where
+        Nodes: Capacity<N>,
         requires { IsJudgeable V.form V.first_slot V.tells phase.now self.now round from to }
         ensures { IsCame (talk_in V.form phase.now self.now) phase.now.config.now.m round from to
             result }
@@ -182,6 +190,8 @@ impl<V: Item<N>, const N: usize> Links<V, N> {
         to: u8,
         uneven: &NodeSet<N>,
     ) -> Came<V>
+    where
+        Nodes: Capacity<N>,
         requires heard { IsHeard V.form V.first_slot V.tells phase.now self.now round }
         requires few { round ≤ phase.now.config.now.m }
         requires from { from < phase.now.config.now.nodes }
@@ -200,6 +210,8 @@ impl<V: Item<N>, const N: usize> Links<V, N> {
 
     /// Lays down what comes of the frames of a node in a round, those to these nodes judged.
     fn judge_frames(&mut self, phase: &Phase<'_, N>, round: u8, from: u8, uneven: &NodeSet<N>)
+    where
+        Nodes: Capacity<N>,
         requires heard { IsHeard V.form V.first_slot V.tells phase.now self.old round }
         requires few { round ≤ phase.now.config.now.m }
         requires from { from < phase.now.config.now.nodes }
@@ -224,6 +236,8 @@ impl<V: Item<N>, const N: usize> Links<V, N> {
 
     /// Lays down what comes of the frames of a node in a round.
     fn hear_frames(&mut self, phase: &Phase<'_, N>, round: u8, from: u8)
+    where
+        Nodes: Capacity<N>,
         requires heard { IsHeard V.form V.first_slot V.tells phase.now self.old round }
         requires few { round ≤ phase.now.config.now.m }
         requires from { from < phase.now.config.now.nodes }
@@ -249,6 +263,8 @@ impl<V: Item<N>, const N: usize> Links<V, N> {
 impl<V: Item<N>, const N: usize> Links<V, N> {
     /// Lays down what comes of the frames of a round, where only these nodes have to be looked at.
     fn hear_round(&mut self, phase: &Phase<'_, N>, round: u8, judged: &NodeSet<N>)
+    where
+        Nodes: Capacity<N>,
         requires heard { IsHeard V.form V.first_slot V.tells phase.now self.old round }
         requires few { round ≤ phase.now.config.now.m }
         requires fresh { (r j : ℕ) → round ≤ r → j < N →
@@ -272,6 +288,8 @@ impl<V: Item<N>, const N: usize> Links<V, N> {
 
     /// Takes what comes over each link, by what was told.
     pub fn hear(&mut self, phase: &Phase<'_, N>)
+    where
+        Nodes: Capacity<N>,
         requires told { IsHeard V.form V.first_slot V.tells phase.now self.old 0 }
         ensures heard { IsHeard V.form V.first_slot V.tells phase.now self.new
             (phase.now.config.now.m + 1) }

@@ -12,7 +12,7 @@ ghost use Rattle.heard_links.specs.Frames.{IsLink};
 use agreed_state::Config;
 use fault_classes::{Effect, FaultPlan};
 use frames::Expect;
-use node_grid::NodeSet;
+use node_grid::{Capacity, NodeSet, Nodes};
 
 /// The slots of a period in which each Full node tells an item and the members relay what they
 /// heard: who goes through them, and the lines that touch their frames.
@@ -55,6 +55,8 @@ impl<'p, const N: usize> Phase<'p, N> {
 
     /// What a node expects of that frame.
     pub(crate) fn expect(&self, round: u8, from: u8, to: u8) -> Expect<N>
+    where
+        Nodes: Capacity<N>,
         requires set { IsSet self.now }
         requires round { round ≤ self.now.config.now.m }
         requires to { to < N }

@@ -6,6 +6,7 @@ ghost use Rattle.heard_links.specs.Hearing.{IsSender, sent_by};
 
 use crate::links::Links;
 use crate::phase::Phase;
+use node_grid::{Capacity, Nodes};
 use omh_paths::{Wrapped, count_paths, unrank};
 use std::marker::Model;
 use touched_items::{Entries, Item};
@@ -37,6 +38,8 @@ impl<'a, 'p, V: Item<N>, const N: usize> Model for Sent<'a, 'p, V, N> {
 impl<V: Item<N>, const N: usize> Links<V, N> {
     /// Entry `k` of what a Full node says in a relay round.
     fn entry_of(&self, phase: &Phase<'_, N>, round: u8, from: u8, k: usize) -> Wrapped<V>
+    where
+        Nodes: Capacity<N>,
         requires sender { IsSender V.form V.first_slot V.tells phase.now self.now round from }
         requires low { k < length (sent_by V.form phase.now self.now round from) }
         ensures { result ≡
@@ -48,7 +51,10 @@ impl<V: Item<N>, const N: usize> Links<V, N> {
     }
 }
 
-impl<'a, 'p, V: Item<N>, const N: usize> Entries<V> for Sent<'a, 'p, V, N> {
+impl<'a, 'p, V: Item<N>, const N: usize> Entries<V> for Sent<'a, 'p, V, N>
+where
+    Nodes: Capacity<N>,
+{
     ghost entries = { λ s. sent_by V.form s.1 s.0 s.2 s.3 };
 
     fn len(&self) -> usize {

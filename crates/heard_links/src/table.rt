@@ -2,7 +2,6 @@
 
 ghost use Rattle.std.specs.Prelude.{ℕ, ◌≡◌, ◌≢◌, ◌<◌, ◌≤◌, ◌+◌, ◌*◌, ◌==◌, true, false, [], length};
 ghost use Rattle.std.specs.Prelude.{replicate, slice_index_or, IfOk, if◌then◌else◌};
-ghost use Rattle.node_grid.specs.Capacity.{IsCapacity};
 ghost use Rattle.node_grid.specs.NodeSet.{has_id};
 ghost use Rattle.omh_paths.specs.declared.wrapped.Wrapped.TheVariants.{Plain, Fault};
 ghost use Rattle.protocol.specs.Talk.{rounds_upto};
@@ -14,7 +13,7 @@ use crate::came::Came;
 use crate::links::Links;
 use crate::phase::Phase;
 use node_grid::kind::COLD;
-use node_grid::{NoMemory, NodeSet};
+use node_grid::{Capacity, NoMemory, NodeSet, Nodes};
 use omh_paths::Wrapped;
 use std::alloc::{AllocError, Global};
 use touched_items::Item;
@@ -32,7 +31,8 @@ fn places<T: Copy + Drop>(alloc: Global, len: usize, value: T) -> Result<Vec<T>,
 
 /// Where a link has its place.
 pub(crate) fn link_at<const N: usize>(round: u8, from: u8, to: u8) -> usize
-    requires capacity { IsCapacity N }
+where
+    Nodes: Capacity<N>,
     requires round { round ≤ 3 }
     requires from { from < N }
     requires to { to < N }
@@ -49,7 +49,8 @@ impl<V: Item<N>, const N: usize> Links<V, N> {
     ///
     /// `NoMemory` where there is none.
     pub fn open(alloc: Global, blank: V) -> Result<Self, NoMemory>
-        requires { IsCapacity N }
+    where
+        Nodes: Capacity<N>,
         ensures { IfOk result (λ x. (j : ℕ) → item_of x j ≡ blank) }
     {
         let Ok(told) = places(alloc, N, blank) else {
@@ -92,7 +93,8 @@ impl<V: Item<N>, const N: usize> Links<V, N> {
 
     /// What came of the frame of a round from one node to another.
     pub(crate) fn came(&self, round: u8, from: u8, to: u8) -> Came<V>
-        requires capacity { IsCapacity N }
+    where
+        Nodes: Capacity<N>,
         requires round { round ≤ 3 }
         requires from { from < N }
         requires to { to < N }
@@ -107,7 +109,8 @@ impl<V: Item<N>, const N: usize> Links<V, N> {
 
     /// Whether something is laid down for a node's frames of a round.
     pub(crate) fn has_touched(&self, round: u8, from: u8) -> bool
-        requires capacity { IsCapacity N }
+    where
+        Nodes: Capacity<N>,
         requires round { round ≤ 3 }
         ensures { result ≡ has_id (slice_index_or self.now.touched round []) from }
     {
@@ -116,7 +119,8 @@ impl<V: Item<N>, const N: usize> Links<V, N> {
 
     /// Whether something else is laid down for a link than that the frame comes as it was sent.
     pub(crate) fn has_uneven(&self, round: u8, from: u8, to: u8) -> bool
-        requires capacity { IsCapacity N }
+    where
+        Nodes: Capacity<N>,
         requires round { round ≤ 3 }
         ensures { result ≡ false → from < N → to < N →
             came_at self.now round from to ≡ came.Untouched }
@@ -133,6 +137,8 @@ impl<V: Item<N>, const N: usize> Links<V, N> {
     /// The kind of error of the frame of a round from one node to another that is awake; None
     /// exactly where it is good.
     pub fn kind(&self, phase: &Phase<'_, N>, round: u8, from: u8, to: u8) -> Option<u8>
+    where
+        Nodes: Capacity<N>,
         requires heard { IsHeard V.form V.first_slot V.tells phase.now self.now
             (phase.now.config.now.m + 1) }
         requires round { round ≤ phase.now.config.now.m }

@@ -2,7 +2,6 @@
 
 ghost use Rattle.std.specs.Prelude.{◌≡◌, ◌≢◌, ◌↔◌, ℕ, ◌<◌, ◌≤◌, ◌==◌, ◌&&◌, not, Some, IsTrue};
 ghost use Rattle.std.specs.Prelude.{if◌then◌else◌, slice_index_or};
-ghost use Rattle.node_grid.specs.Capacity.{IsCapacity};
 ghost use Rattle.node_grid.specs.NodeSet.{has_id, ids_where};
 ghost use Rattle.error_reports.specs.Notes.{also_noted, is_kind};
 ghost use Rattle.agreed_state.specs.Agreed.{AgreedView};
@@ -18,8 +17,8 @@ ghost use Rattle.heard_states.specs.Hearing.{IsFrame, IsHeardAs, IsSending};
 
 use crate::sending::{Sending, Told};
 use error_reports::RowBuilder;
-use node_grid::NodeSet;
 use node_grid::kind::{COLD, STATE};
+use node_grid::{Capacity, NodeSet, Nodes};
 use touched_frames::unread_kind;
 
 /// What a node makes of a frame of the slot.
@@ -66,6 +65,8 @@ fn good_where(is_own: bool) -> Heard
 impl<const N: usize> Sending<'_, N> {
     /// Whether these are the bytes of the state of a node; not where it has none.
     fn is_own(&self, to: u8, bytes: &[u8]) -> bool
+    where
+        Nodes: Capacity<N>,
         requires { IsSending self.now }
         ensures { (a : AgreedView) → state_at self.now.states.now to ≡ Some a →
             result ≡ not (other_body (body self.now.slot.config.now a) (Good bytes.now)) }
@@ -96,6 +97,8 @@ impl<const N: usize> Sending<'_, N> {
 
     /// What node `to` makes of the frame of node `from`, whatever befalls it.
     fn heard_read(&self, from: u8, to: u8, alike: &NodeSet<N>) -> Heard
+    where
+        Nodes: Capacity<N>,
         requires frame { IsFrame self.now from to }
         requires alike { IsTrue (has_id alike.now from) ↔ IsShared self.now.states.now to from }
         ensures { IsHeardAs self.now.slot.config.now (state_at self.now.states.now to) result
@@ -110,6 +113,8 @@ impl<const N: usize> Sending<'_, N> {
 
     /// The same, where no state is spelt if the frame doesn't come whole, once and in time.
     fn heard(&self, from: u8, to: u8, alike: &NodeSet<N>) -> Heard
+    where
+        Nodes: Capacity<N>,
         requires frame { IsFrame self.now from to }
         requires alike { IsTrue (has_id alike.now from) ↔ IsShared self.now.states.now to from }
         ensures { IsHeardAs self.now.slot.config.now (state_at self.now.states.now to) result
@@ -126,6 +131,8 @@ impl<const N: usize> Sending<'_, N> {
 
     /// What node `to` makes of the frame of each other node.
     pub(crate) fn heard_all(&self, to: u8) -> [Heard; N]
+    where
+        Nodes: Capacity<N>,
         requires sending { IsSending self.now }
         requires to { to < self.now.slot.config.now.nodes }
         ensures { (j : ℕ) → j < self.now.slot.config.now.nodes → j ≢ to →
@@ -146,7 +153,8 @@ impl<const N: usize> Sending<'_, N> {
 /// The nodes other than `to` whose frames are good.
 #[tactic(auto, using(node_grid::specs::NodeSetLaws::id_loops))]
 pub(crate) fn good_of<const N: usize>(heard: &[Heard; N], nodes: u8, to: u8) -> NodeSet<N>
-    requires capacity { IsCapacity N }
+where
+    Nodes: Capacity<N>,
     requires nodes { nodes ≤ N }
     ensures { result ≡ ids_where (λ j. not (j == to)
         && is_heard_well (slice_index_or heard.now j (Bad 0))) nodes }
@@ -162,7 +170,8 @@ pub(crate) fn good_of<const N: usize>(heard: &[Heard; N], nodes: u8, to: u8) -> 
 
 /// Notes what a node makes of the frames.
 pub(crate) fn note_heard<const N: usize>(heard: &[Heard; N], notes: &mut RowBuilder<N>)
-    requires { IsCapacity N }
+where
+    Nodes: Capacity<N>,
     ensures { notes.new ≡ also_noted N notes.old
         (λ j k. is_kind (heard_kind (slice_index_or heard.now j (Bad 0))) k) }
 {

@@ -1,7 +1,6 @@
 //! The frames of the slot, as they are sent and as they arrive.
 
 ghost use Rattle.std.specs.Prelude.{◌≡◌, ◌≢◌, ℕ, ◌<◌, ◌≤◌, true, length, Option, Some, option_map};
-ghost use Rattle.node_grid.specs.Capacity.{IsCapacity};
 ghost use Rattle.node_grid.specs.NodeSet.{has_id};
 ghost use Rattle.frames.specs.Seen.{content};
 ghost use Rattle.fault_classes.specs.Change.{change_of};
@@ -21,8 +20,8 @@ ghost use Rattle.heard_states.specs.Hearing.{told_as, told_by, IsFrame, IsSendin
 use crate::slot::SyncSlot;
 use fault_classes::Effect;
 use frames::{Body, Frame, StateBody};
-use node_grid::NodeSet;
 use node_grid::kind::MALFORMED;
+use node_grid::{Capacity, NodeSet, Nodes};
 use shared_states::SharedStates;
 use touched_frames::{Arrived, arrives, unread_kind};
 
@@ -75,7 +74,8 @@ fn copied(bytes: &[u8]) -> StateBody
 
 /// What a node has of a frame that was read, by its body.
 fn told_in<const N: usize>(body: &Body<'_, N>, nodes: u8) -> Told
-    requires capacity { IsCapacity N }
+where
+    Nodes: Capacity<N>,
     requires short { IsShortState (content nodes body.now) }
     ensures { (n : ℕ) (config : Config n) (o : Option AgreedView) →
         told_as config o result ≡ read_as (body_said (content nodes body.now)) }
@@ -91,6 +91,8 @@ fn told_in<const N: usize>(body: &Body<'_, N>, nodes: u8) -> Told
 impl<const N: usize> Sending<'_, N> {
     /// The bytes of the state that a full node sends.
     pub(crate) fn body(&self, from: u8) -> StateBody
+    where
+        Nodes: Capacity<N>,
         requires sending { IsSending self.now }
         requires full { has_id self.now.senders.full from ≡ true }
         ensures bytes { (a : AgreedView) → state_at self.now.states.now from ≡ Some a →
@@ -105,6 +107,8 @@ impl<const N: usize> Sending<'_, N> {
 
     /// What a node has of a frame that a line touches.
     fn told_touched(&self, from: u8, effect: &Effect) -> Told
+    where
+        Nodes: Capacity<N>,
         requires sending { IsSending self.now }
         requires from { from < self.now.slot.config.now.nodes }
         ensures { told_as self.now.slot.config.now
@@ -128,6 +132,8 @@ impl<const N: usize> Sending<'_, N> {
     /// The same where that depends on the frame's bytes. These are those of the state that it
     /// says, if any.
     fn told_read(&self, from: u8, effect: &Effect, state: &[u8]) -> Told
+    where
+        Nodes: Capacity<N>,
         requires sending { IsSending self.now }
         requires from { from < self.now.slot.config.now.nodes }
         requires state { (a : AgreedView) → sent_by self.now.senders.full self.now.states.now from
@@ -173,6 +179,8 @@ impl<const N: usize> Sending<'_, N> {
 
     /// What node `to` has of the frame of node `from`.
     pub(crate) fn told(&self, from: u8, to: u8) -> Told
+    where
+        Nodes: Capacity<N>,
         requires { IsFrame self.now from to }
         ensures { told_as self.now.slot.config.now
             (sent_by self.now.senders.full self.now.states.now from) result ≡

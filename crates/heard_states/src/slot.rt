@@ -20,7 +20,7 @@ use crate::sending::{Senders, Sending};
 use agreed_state::Config;
 use error_reports::RowBuilder;
 use fault_classes::FaultPlan;
-use node_grid::NodeSet;
+use node_grid::{Capacity, NodeSet, Nodes};
 use shared_states::SharedStates;
 
 /// The sync slot of a period, in which every node says its agreed state to all others.
@@ -91,6 +91,8 @@ impl<const N: usize> SyncSlot<'_, N> {
     /// Gives node `i` the state that it adopts, if any, from what these nodes say: that of a
     /// leader where there is one.
     fn adopt_at(&self, i: u8, senders: &Senders<N>, states: &mut SharedStates<N>)
+    where
+        Nodes: Capacity<N>,
         requires senders { AreSenders self.now senders.now states.old }
         requires node { i < self.now.config.now.nodes }
         requires none { state_at states.old i ≡ None }
@@ -114,6 +116,8 @@ impl<const N: usize> SyncSlot<'_, N> {
 
     /// The same by all that the node is told.
     fn adopt_told(&self, i: u8, senders: &Senders<N>, states: &mut SharedStates<N>)
+    where
+        Nodes: Capacity<N>,
         requires senders { AreSenders self.now senders.now states.old }
         requires node { i < self.now.config.now.nodes }
         requires none { state_at states.old i ≡ None }
@@ -145,6 +149,8 @@ impl<const N: usize> SyncSlot<'_, N> {
         states: &SharedStates<N>,
         notes: &mut RowBuilder<N>,
     ) -> NodeSet<N>
+    where
+        Nodes: Capacity<N>,
         requires senders { AreSenders self.now senders.now states.now }
         requires node { i < self.now.config.now.nodes }
         requires nodes { notes.old.nodes ≡ self.now.config.now.nodes }
@@ -171,6 +177,8 @@ impl<const N: usize> SyncSlot<'_, N> {
     /// that has one then notes errors and who tells another state; of one that stays without,
     /// the row holds nothing of use. The answer is, by node, the others whose frame was good.
     pub fn hear(&self, states: &mut SharedStates<N>, notes: &mut [RowBuilder<N>]) -> [NodeSet<N>; N]
+    where
+        Nodes: Capacity<N>,
         requires slot { IsSyncSlot self.now }
         requires ready { AreReady self.now states.old notes.old }
         ensures heard { (sys : System) → IsSlotOf self.now states.old notes.old sys →

@@ -12,7 +12,7 @@ use crate::item_phase::{ItemPhase, Seen};
 use crate::told::Told;
 use crate::values::lay_row;
 use heard_links::Phase;
-use node_grid::NodeSet;
+use node_grid::{Capacity, NodeSet, Nodes};
 use settled_items::has_few_odd;
 use settled_paths::Exchange;
 use touched_items::Item;
@@ -42,6 +42,8 @@ impl<V: Item<N>, const N: usize> ItemPhase<V, N> {
         members: &NodeSet<N>,
         odd: &NodeSet<N>,
     ) -> NodeSet<N>
+    where
+        Nodes: Capacity<N>,
         requires heard { IsHeard V.form V.first_slot V.tells phase.now self.now.links
             (phase.now.config.now.m + 1) }
         requires all { IsOfAll phase.now members.now }
@@ -71,6 +73,8 @@ impl<V: Item<N>, const N: usize> ItemPhase<V, N> {
         odd: &NodeSet<N>,
         commander: u8,
     )
+    where
+        Nodes: Capacity<N>,
         requires told { IsTold V.form V.first_slot V.tells phase.now self.old.links members.now
             odd.now commander }
         requires room { self.old.settling ≡
@@ -108,6 +112,8 @@ impl<V: Item<N>, const N: usize> ItemPhase<V, N> {
 
     /// What all settle, where all awake nodes have these members.
     fn agree_among(&mut self, phase: &Phase<'_, N>, members: &NodeSet<N>)
+    where
+        Nodes: Capacity<N>,
         requires heard { IsHeard V.form V.first_slot V.tells phase.now self.old.links
             (phase.now.config.now.m + 1) }
         requires all { IsOfAll phase.now members.now }
@@ -131,6 +137,8 @@ impl<V: Item<N>, const N: usize> ItemPhase<V, N> {
 
     /// Hears all frames, and settles all items as each awake node does.
     pub fn agree(&mut self, phase: &Phase<'_, N>)
+    where
+        Nodes: Capacity<N>,
         requires told { IsHeard V.form V.first_slot V.tells phase.now self.old.links 0 }
         requires room { self.old.settling ≡
             record { nodes = phase.now.config.now.nodes; rounds = phase.now.config.now.m } }

@@ -3,7 +3,6 @@
 ghost use Rattle.std.specs.Prelude.{◌≡◌, ◌≢◌, ℕ, ◌<◌, ◌+◌, ◌*◌, true, false, [], slice_index_or};
 ghost use Rattle.node_grid.specs.NodeSet.{has_id};
 ghost use Rattle.omh_paths.specs.declared.wrapped.Wrapped.TheVariants.{Plain, Fault};
-ghost use Rattle.omh_paths.specs.Wrapped.{IsExact};
 ghost use Rattle.omh.specs.Omh.{settled_from};
 ghost use Rattle.protocol.specs.FurtherKinds.{convicts_member};
 ghost use Rattle.heard_links.specs.Talks.{IsSet, members_at};
@@ -13,7 +12,7 @@ ghost use Rattle.item_phase.specs.Settled.{IsSettled, listener};
 use crate::item_phase::ItemPhase;
 use heard_links::Phase;
 use node_grid::NodeSet;
-use omh_paths::Wrapped;
+use omh_paths::{Exact, Wrapped};
 use touched_items::Item;
 
 /// The members with which a node goes through the phase.
@@ -26,8 +25,7 @@ pub(crate) fn members_of<const N: usize>(phase: &Phase<'_, N>, i: u8) -> NodeSet
 }
 
 /// Whether two values are the same.
-fn is_same<V: Copy + Eq>(one: Wrapped<V>, other: Wrapped<V>) -> bool
-    requires { IsExact V.eq }
+fn is_same<V: Exact>(one: Wrapped<V>, other: Wrapped<V>) -> bool
     ensures { result ≡ true → one ≡ other }
 {
     one == other

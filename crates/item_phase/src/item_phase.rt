@@ -1,12 +1,11 @@
 //! What is laid down of a phase.
 
 ghost use Rattle.std.specs.Prelude.{◌≡◌, ◌<◌, ◌≤◌, ◌*◌, ◌==◌, ℕ, IfOk, length, if◌then◌else◌};
-ghost use Rattle.node_grid.specs.Capacity.{IsCapacity};
 ghost use Rattle.heard_links.specs.Hearing.{item_of};
 
 use crate::values::blanks;
 use heard_links::Links;
-use node_grid::{NoMemory, NodeSet};
+use node_grid::{Capacity, NoMemory, NodeSet, Nodes};
 use omh_paths::Wrapped;
 use settled_items::{Settling, TERMS};
 use std::alloc::Global;
@@ -55,7 +54,8 @@ impl<V: Item<N>, const N: usize> ItemPhase<V, N> {
     ///
     /// `NoMemory` where there is none.
     pub fn open(alloc: Global, nodes: u8, rounds: u8, blank: V) -> Result<Self, NoMemory>
-        requires capacity { IsCapacity N }
+    where
+        Nodes: Capacity<N>,
         requires nodes { nodes ≤ N }
         requires rounds { rounds ≤ 3 }
         ensures { IfOk result (λ s. s.settling ≡ record { nodes = nodes; rounds = rounds }) }

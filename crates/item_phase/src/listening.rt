@@ -12,7 +12,7 @@ ghost use Rattle.item_phase.specs.Listening.{hears_in};
 use crate::asking::members_of;
 use crate::item_phase::{ItemPhase, Seen};
 use heard_links::{Links, Phase};
-use node_grid::NodeSet;
+use node_grid::{Capacity, NodeSet, Nodes};
 use omh_paths::{Path, Wrapped};
 use settled_items::{Hearing, Listener};
 use std::marker::Model;
@@ -41,7 +41,10 @@ impl<'a, 'p, V: Item<N>, const N: usize> Model for NodeEar<'a, 'p, V, N> {
         (e.phase.now.config.now.m + 1) };
 }
 
-impl<'a, 'p, V: Item<N>, const N: usize> Hearing<V> for NodeEar<'a, 'p, V, N> {
+impl<'a, 'p, V: Item<N>, const N: usize> Hearing<V> for NodeEar<'a, 'p, V, N>
+where
+    Nodes: Capacity<N>,
+{
     ghost hears = { λ e. hears_in V.form e.1 e.0 e.2 };
 
     fn heard(&self, path: &Path) -> Wrapped<V> {
@@ -77,6 +80,8 @@ impl<V: Item<N>, const N: usize> ItemPhase<V, N> {
 
     /// What a node settles of another member's item, and whether it convicts the member.
     fn listen_to(&mut self, phase: &Phase<'_, N>, me: u8, commander: u8)
+    where
+        Nodes: Capacity<N>,
         requires heard { IsHeard V.form V.first_slot V.tells phase.now self.old.links
             (phase.now.config.now.m + 1) }
         requires node { has_id phase.now.awake me ≡ true }
@@ -112,6 +117,8 @@ impl<V: Item<N>, const N: usize> ItemPhase<V, N> {
 
     /// What each awake node settles of a node's item, where that node is a member of it.
     fn listen_for(&mut self, phase: &Phase<'_, N>, commander: u8)
+    where
+        Nodes: Capacity<N>,
         requires heard { IsHeard V.form V.first_slot V.tells phase.now self.old.links
             (phase.now.config.now.m + 1) }
         requires within { commander < phase.now.config.now.nodes }
@@ -137,6 +144,8 @@ impl<V: Item<N>, const N: usize> ItemPhase<V, N> {
 
     /// What each awake node settles.
     pub(crate) fn agree_each(&mut self, phase: &Phase<'_, N>)
+    where
+        Nodes: Capacity<N>,
         requires heard { IsHeard V.form V.first_slot V.tells phase.now self.old.links
             (phase.now.config.now.m + 1) }
         ensures settled { IsSettled V.eq V.form V.first_slot V.tells phase.now self.new }

@@ -12,7 +12,7 @@ ghost use Rattle.item_phase.specs.Noted.{rounds_of, of_node, IsNoter, IsCarrier}
 use crate::item_phase::ItemPhase;
 use error_reports::RowBuilder;
 use heard_links::Phase;
-use node_grid::NodeSet;
+use node_grid::{Capacity, NodeSet, Nodes};
 use touched_items::Item;
 
 impl<V: Item<N>, const N: usize> ItemPhase<V, N> {
@@ -37,6 +37,8 @@ impl<V: Item<N>, const N: usize> ItemPhase<V, N> {
 
     /// Notes what awake node `i` found of the frames of another node.
     fn note_of(&self, phase: &Phase<'_, N>, i: u8, j: u8, notes: &mut RowBuilder<N>)
+    where
+        Nodes: Capacity<N>,
         requires settled { IsSettled V.eq V.form V.first_slot V.tells phase.now self.now }
         requires node { has_id phase.now.awake i ≡ true }
         requires from { j < phase.now.config.now.nodes }
@@ -54,6 +56,8 @@ impl<V: Item<N>, const N: usize> ItemPhase<V, N> {
 
     /// Notes what awake node `i` found of the frames of all rounds, in this period's row.
     pub fn note(&self, phase: &Phase<'_, N>, i: u8, notes: &mut RowBuilder<N>)
+    where
+        Nodes: Capacity<N>,
         requires settled { IsSettled V.eq V.form V.first_slot V.tells phase.now self.now }
         requires node { has_id phase.now.awake i ≡ true }
         requires notes { IsNoter phase.now.config.now i notes.old }
@@ -69,6 +73,8 @@ impl<V: Item<N>, const N: usize> ItemPhase<V, N> {
 
     /// Carries over what awake node `i` found of the frames of another node.
     fn carry_of(&self, phase: &Phase<'_, N>, i: u8, j: u8, notes: &mut RowBuilder<N>)
+    where
+        Nodes: Capacity<N>,
         requires settled { IsSettled V.eq V.form V.first_slot V.tells phase.now self.now }
         requires node { has_id phase.now.awake i ≡ true }
         requires from { j < phase.now.config.now.nodes }
@@ -86,6 +92,8 @@ impl<V: Item<N>, const N: usize> ItemPhase<V, N> {
 
     /// The same for the next period's row.
     pub fn carry(&self, phase: &Phase<'_, N>, i: u8, notes: &mut RowBuilder<N>)
+    where
+        Nodes: Capacity<N>,
         requires settled { IsSettled V.eq V.form V.first_slot V.tells phase.now self.now }
         requires node { has_id phase.now.awake i ≡ true }
         requires notes { IsCarrier phase.now.config.now i notes.old }

@@ -8,7 +8,7 @@ ghost use Rattle.equivocation.specs.Conviction.{convicts};
 ghost use Rattle.item_phase.specs.Settled.{IsTold, listener};
 
 use heard_links::{Links, Phase, listen};
-use node_grid::NodeSet;
+use node_grid::{Capacity, NodeSet, Nodes};
 use omh_paths::Wrapped;
 use settled_items::{Relayed, Settling};
 use settled_paths::Exchange;
@@ -49,6 +49,8 @@ impl<'a, 'p, V: Item<N>, const N: usize> Told<'a, 'p, V, N> {
 
     /// What each awake node but the commander settles, laid by node.
     pub(crate) fn settle(&self, settling: &mut Settling<V, N>, row: &mut [Wrapped<V>])
+    where
+        Nodes: Capacity<N>,
         requires told { IsTold V.form V.first_slot V.tells self.now.phase.now self.now.links.now
             self.now.members.now self.now.odd.now self.now.commander }
         requires room { settling.old ≡ record {
@@ -76,6 +78,8 @@ impl<'a, 'p, V: Item<N>, const N: usize> Told<'a, 'p, V, N> {
 
     /// The awake nodes that convict the commander, which is another node.
     pub(crate) fn convicting(&self, settling: &mut Settling<V, N>) -> NodeSet<N>
+    where
+        Nodes: Capacity<N>,
         requires told { IsTold V.form V.first_slot V.tells self.now.phase.now self.now.links.now
             self.now.members.now self.now.odd.now self.now.commander }
         ensures convicts { (i : ℕ) → has_id self.now.phase.now.awake i ≡ true →

@@ -2,16 +2,15 @@
 
 ghost use Rattle.std.specs.Prelude.{◌≡◌, ℕ, ◌+◌, ◌*◌, ◌<◌, ◌≤◌, ◌⊎◌, length, slice_set};
 ghost use Rattle.std.specs.Prelude.{slice_index_or, IfOk, replicate, true};
-ghost use Rattle.node_grid.specs.Capacity.{IsCapacity};
 ghost use Rattle.node_grid.specs.NodeSet.{has_id};
 ghost use Rattle.omh_paths.specs.declared.wrapped.Wrapped.TheVariants.{Fault};
 
-use node_grid::NodeSet;
-use omh_paths::Wrapped;
+use node_grid::{Capacity, NodeSet, Nodes};
+use omh_paths::{Exact, Wrapped};
 use std::alloc::{AllocError, Global};
 
 /// So many values, all of them the error.
-pub(crate) fn blanks<V: Copy + Eq>(alloc: Global, len: usize) -> Result<Vec<Wrapped<V>>, AllocError>
+pub(crate) fn blanks<V: Exact>(alloc: Global, len: usize) -> Result<Vec<Wrapped<V>>, AllocError>
     ensures { IfOk result (λ v. v.items ≡ replicate len (Fault 0)) }
 {
     let mut values = Vec::with_capacity(alloc, len)?;
@@ -22,7 +21,7 @@ pub(crate) fn blanks<V: Copy + Eq>(alloc: Global, len: usize) -> Result<Vec<Wrap
 }
 
 /// Puts a value in place of another one.
-fn set_value<V: Copy + Eq>(values: &mut [Wrapped<V>], place: usize, value: Wrapped<V>)
+fn set_value<V: Exact>(values: &mut [Wrapped<V>], place: usize, value: Wrapped<V>)
     requires { place < length values.old }
     ensures { values.new ≡ slice_set values.old place value }
 {
@@ -30,7 +29,7 @@ fn set_value<V: Copy + Eq>(values: &mut [Wrapped<V>], place: usize, value: Wrapp
 }
 
 /// The value at a place.
-pub(crate) fn value_at<V: Copy + Eq>(values: &[Wrapped<V>], place: usize) -> Wrapped<V>
+pub(crate) fn value_at<V: Exact>(values: &[Wrapped<V>], place: usize) -> Wrapped<V>
     requires { place < length values.now }
     ensures { result ≡ slice_index_or values.now place (Fault 0) }
 {
@@ -38,13 +37,14 @@ pub(crate) fn value_at<V: Copy + Eq>(values: &[Wrapped<V>], place: usize) -> Wra
 }
 
 /// Lays the values of these nodes, which lie by node, one after another from this place on.
-pub(crate) fn lay_row<V: Copy + Eq, const N: usize>(
+pub(crate) fn lay_row<V: Exact, const N: usize>(
     values: &mut [Wrapped<V>],
     from: usize,
     row: &[Wrapped<V>],
     nodes: &NodeSet<N>,
 )
-    requires capacity { IsCapacity N }
+where
+    Nodes: Capacity<N>,
     requires row { length row.now ≡ N }
     requires room { from + N ≤ length values.old }
     requires small { length values.old ≤ 4096 }

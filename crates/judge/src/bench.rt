@@ -15,7 +15,7 @@ use drawn_scenarios::{Options, make};
 use json::{Scratch, Value};
 use json_parts::{TextError, member, value_of, whole};
 use judge_text::{write_judged, write_refused, write_unread};
-use node_grid::NoMemory;
+use node_grid::{Capacity, NoMemory, Nodes};
 use run_judged::Judge;
 use run_print::WriteFault;
 use scenario::{Scenario, ScenarioError};
@@ -40,6 +40,8 @@ pub(crate) enum RowError {
 
 /// Runs the next period, and judges it.
 fn judge_next<const N: usize>(judge: &mut Judge<N>, scenario: &Scenario<N>, run: &mut Run<'_, N>)
+where
+    Nodes: Capacity<N>,
     requires same { run.old.scenario ≡ scenario.now }
     requires together { judge.old.periods ≡ run.old.run }
     requires more { run.old.run < run.old.scenario.periods }
@@ -58,6 +60,8 @@ fn judge_run<const N: usize>(
     judge: &mut Judge<N>,
     scenario: &Scenario<N>,
 ) -> Result<(), NoMemory>
+where
+    Nodes: Capacity<N>,
     ensures judged { OnOk result (Judges scenario.now judge.new) }
     ensures all { OnOk result (judge.new.periods ≡ scenario.now.periods) }
 {
@@ -97,6 +101,8 @@ fn judge_scenario<const N: usize, K: Sink>(
     number: u64,
     sink: &mut K,
 ) -> Result<(), RowError>
+where
+    Nodes: Capacity<N>,
     ensures { WritesRows (sink_seen K.written K.faults sink.old)
         (sink_seen K.written K.faults sink.new)
         (λ text. text ≡ scenario_rows number scenario.now) result }
@@ -122,6 +128,8 @@ fn judge_value<const N: usize, K: Sink>(
     number: u64,
     sink: &mut K,
 ) -> Result<(), RowError>
+where
+    Nodes: Capacity<N>,
     ensures { WritesRows (sink_seen K.written K.faults sink.old)
         (sink_seen K.written K.faults sink.new)
         (HasRows N number (view value.now)) result }
@@ -153,6 +161,8 @@ fn judge_drawn<const N: usize, K: Sink>(
     index: u32,
     sink: &mut K,
 ) -> Result<(), RowError>
+where
+    Nodes: Capacity<N>,
     requires { drawing.options.now.choices.nodes ≤ N }
     ensures { WritesRows (sink_seen K.written K.faults sink.old)
         (sink_seen K.written K.faults sink.new)

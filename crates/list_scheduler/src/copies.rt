@@ -1,9 +1,9 @@
 ghost use Rattle.std.specs.Prelude.{◌≡◌, ℕ, ◌<◌, is_some};
-ghost use Rattle.node_grid.specs.Capacity.{IsCapacity};
 ghost use Rattle.list_scheduler.specs.Copies.{copy_at, table, IsTable, with_copy, works, running};
 ghost use Rattle.list_scheduler.specs.Copies.{is_idle, is_passed};
 ghost use Rattle.list_scheduler.specs.Schedule.{left_by, all_idle};
 
+use node_grid::{Capacity, Nodes};
 use std::marker::Model;
 
 /// How one copy of a task stands in a frame of periods.
@@ -58,10 +58,12 @@ impl<const N: usize> Model for Copies<N> {
     ghost inverse = { λ xs. record { rows = xs } };
 }
 
-impl<const N: usize> Copies<N> {
+impl<const N: usize> Copies<N>
+where
+    Nodes: Capacity<N>,
+{
     /// All copies idle.
     pub fn idle() -> Self
-        requires { IsCapacity N }
         ensures { result ≡ table N all_idle }
     {
         Copies {
@@ -71,7 +73,6 @@ impl<const N: usize> Copies<N> {
 
     /// The copy of task `t` on a node.
     pub fn at(&self, t: u8, node: u8) -> CopyState
-        requires capacity { IsCapacity N }
         requires task { t < 32 }
         requires node { node < N }
         ensures copy { result ≡ copy_at self.now t node }
@@ -82,7 +83,6 @@ impl<const N: usize> Copies<N> {
 
     /// Sets the copy of task `t` on a node, and leaves all others.
     pub fn set(&mut self, t: u8, node: u8, state: CopyState)
-        requires capacity { IsCapacity N }
         requires task { t < 32 }
         requires node { node < N }
         ensures { self.new ≡ table N (with_copy self.old t node state) }
@@ -93,7 +93,6 @@ impl<const N: usize> Copies<N> {
     /// The node's running copy of the least task: the task, and since how many periods it runs.
     /// None exactly where no copy runs on the node.
     pub fn running(&self, node: u8) -> Option<(u8, u16)>
-        requires capacity { IsCapacity N }
         requires node { node < N }
         ensures { result ≡ works self.now node }
     {
@@ -107,7 +106,6 @@ impl<const N: usize> Copies<N> {
 
     /// Makes what runs on the node Failed.
     pub fn leave(&mut self, node: u8)
-        requires capacity { IsCapacity N }
         requires node { node < N }
         ensures { self.new ≡ table N (left_by node self.old) }
     {
@@ -122,7 +120,6 @@ impl<const N: usize> Copies<N> {
 
     /// Makes all copies idle.
     pub fn frame_end(&mut self)
-        requires { IsCapacity N }
         ensures { self.new ≡ table N all_idle }
     {
         *self = Copies::idle();

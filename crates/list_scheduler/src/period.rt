@@ -3,7 +3,6 @@
 ghost use Rattle.std.specs.Prelude.{◌≡◌, ℕ, ◌+◌, ◌%◌, ◌==◌, ◌<◌, ◌&&◌, true, false, length, None};
 ghost use Rattle.std.specs.Prelude.{is_some};
 ghost use Rattle.std.specs.List.{list_all};
-ghost use Rattle.node_grid.specs.Capacity.{IsCapacity};
 ghost use Rattle.node_grid.specs.NodeSet.{has_id, ids_where};
 ghost use Rattle.task_graph.specs.Graph.{GraphView, task_at};
 ghost use Rattle.list_scheduler.specs.declared.copies.CopyState.TheVariants.{Idle, Running};
@@ -14,7 +13,7 @@ ghost use Rattle.list_scheduler.specs.ByTask.{moved_state, moved, moved_task, is
 
 use crate::schedule::next_state;
 use crate::{Copies, CopyState};
-use node_grid::NodeSet;
+use node_grid::{Capacity, NodeSet, Nodes};
 use omh_paths::Wrapped;
 use task_graph::TaskGraph;
 
@@ -26,7 +25,10 @@ struct NodeClaim {
     claim: Wrapped<u8>,
 }
 
-impl<const N: usize> Copies<N> {
+impl<const N: usize> Copies<N>
+where
+    Nodes: Capacity<N>,
+{
     /// A whole period: the settled claims of the members `before` complete copies, what then runs
     /// on nodes outside the members `after` fails, all copies are idle again where a frame ends,
     /// and each member that runs nothing starts its next task.
@@ -38,7 +40,6 @@ impl<const N: usize> Copies<N> {
         claims: &[Wrapped<u8>; N],
         frame_ends: bool,
     )
-        requires capacity { IsCapacity N }
         requires copies { IsCopies graph.now self.old }
         ensures { (frame p : ℕ) → frame_ends ≡ ((p + 1) % frame == 0) → self.new
             ≡ copies_after N graph.now frame p before.now after.now self.old claims.now }
@@ -63,7 +64,6 @@ impl<const N: usize> Copies<N> {
         after: &NodeSet<N>,
         claims: &[Wrapped<u8>; N],
     ) -> NodeSet<N>
-        requires capacity { IsCapacity N }
         requires copies { IsCopies graph.now self.old }
         ensures copies { self.new ≡ table N
             (moved graph.now before.now after.now self.old claims.now) }
@@ -87,7 +87,6 @@ impl<const N: usize> Copies<N> {
         after: &NodeSet<N>,
         claims: &[Wrapped<u8>; N],
     ) -> NodeSet<N>
-        requires capacity { IsCapacity N }
         requires task { t < length graph.now.tasks }
         requires idle { (q : ℕ) → has_id (task_at graph.now.tasks t).nodes q ≡ false →
             copy_at self.old t q ≡ Idle }
@@ -116,7 +115,6 @@ impl<const N: usize> Copies<N> {
 
     // The same for one copy, by its node's claim; answers whether it runs.
     fn move_copy(&mut self, graph: &TaskGraph<N>, t: u8, node: u8, claimed: NodeClaim) -> bool
-        requires capacity { IsCapacity N }
         requires task { t < length graph.now.tasks }
         requires node { node < N }
         ensures copies { self.new ≡ table N
@@ -139,7 +137,6 @@ impl<const N: usize> Copies<N> {
 
     // Starts on each of these nodes, on which no copy runs, the least task that it may start.
     pub(crate) fn start_on(&mut self, graph: &TaskGraph<N>, nodes: &NodeSet<N>)
-        requires capacity { IsCapacity N }
         requires free { (q : ℕ) → has_id nodes.now q ≡ true → works self.old q ≡ None }
         ensures { self.new ≡ table N (picked graph.now nodes.now self.old) }
     {
@@ -156,7 +153,6 @@ impl<const N: usize> Copies<N> {
 
     // Those of the free nodes that may start task `t`.
     fn starters(&self, graph: &TaskGraph<N>, t: u8, free: &NodeSet<N>) -> NodeSet<N>
-        requires capacity { IsCapacity N }
         requires task { t < length graph.now.tasks }
         ensures { result ≡ ids_where (λ q. has_id free.now q && is_eligible graph.now self.now q t)
             N }
@@ -174,7 +170,6 @@ impl<const N: usize> Copies<N> {
 
     // Those of the free nodes that task `t` allows, and whose copy of it is idle.
     fn open_nodes(&self, graph: &TaskGraph<N>, t: u8, free: &NodeSet<N>) -> NodeSet<N>
-        requires capacity { IsCapacity N }
         requires task { t < length graph.now.tasks }
         ensures { result ≡ ids_where (λ q. has_id free.now q && is_open graph.now self.now q t) N }
     {
@@ -189,7 +184,6 @@ impl<const N: usize> Copies<N> {
 
     // Whether all predecessors of task `t` are finished.
     fn is_ready(&self, graph: &TaskGraph<N>, t: u8) -> bool
-        requires capacity { IsCapacity N }
         requires task { t < length graph.now.tasks }
         ensures { result ≡ list_all (finished graph.now self.now)
             (task_at graph.now.tasks t).after }
@@ -204,7 +198,6 @@ impl<const N: usize> Copies<N> {
 
     // Starts task `t` on these nodes.
     fn start(&mut self, t: u8, nodes: &NodeSet<N>)
-        requires capacity { IsCapacity N }
         requires task { t < 32 }
         ensures { self.new ≡ table N (started t nodes.now self.old) }
     {

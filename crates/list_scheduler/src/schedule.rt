@@ -1,6 +1,5 @@
 ghost use Rattle.std.specs.Prelude.{◌≡◌, ℕ, ◌<◌, ◌&&◌, length, is_none};
 ghost use Rattle.node_grid.specs.NodeSet.{has_id, ids_where};
-ghost use Rattle.node_grid.specs.Capacity.{IsCapacity};
 ghost use Rattle.task_graph.specs.Graph.{GraphView};
 ghost use Rattle.list_scheduler.specs.Copies.{copy_at, table, works, IsCopies};
 ghost use Rattle.list_scheduler.specs.Schedule.{no_verdict, claims_task, claims, verdict_at};
@@ -8,7 +7,7 @@ ghost use Rattle.list_scheduler.specs.Schedule.{worked_on, completed, finished, 
 ghost use Rattle.list_scheduler.specs.OneNode.{completed_by, verdicts};
 
 use crate::{Copies, CopyState};
-use node_grid::{NO_CLAIM, NodeSet};
+use node_grid::{Capacity, NO_CLAIM, NodeSet, Nodes};
 use omh_paths::Wrapped;
 use task_graph::TaskGraph;
 
@@ -101,11 +100,13 @@ fn verdict_on<const N: usize>(
     }
 }
 
-impl<const N: usize> Copies<N> {
+impl<const N: usize> Copies<N>
+where
+    Nodes: Capacity<N>,
+{
     /// Whether task `t` is finished: at least as many of its copies passed as it needs, those of
     /// nodes that aren't members too.
     pub fn finished(&self, graph: &TaskGraph<N>, t: u8) -> bool
-        requires capacity { IsCapacity N }
         requires task { t < length graph.now.tasks }
         ensures { result ≡ finished graph.now self.now t }
     {
@@ -129,7 +130,6 @@ impl<const N: usize> Copies<N> {
         members: &NodeSet<N>,
         claims: &[Wrapped<u8>; N],
     ) -> [Verdict; N]
-        requires capacity { IsCapacity N }
         requires copies { IsCopies graph.now self.old }
         ensures copies { self.new ≡ table N (completed graph.now members.now self.old claims.now) }
         ensures kept { IsCopies graph.now self.new }
@@ -147,7 +147,6 @@ impl<const N: usize> Copies<N> {
 
     // The node's running copy of the least task, where there are copies of the graph's tasks alone.
     fn works(&self, graph: &TaskGraph<N>, node: u8) -> Option<(u8, u16)>
-        requires capacity { IsCapacity N }
         requires node { node < N }
         requires copies { IsCopies graph.now self.now }
         ensures { result ≡ works self.now node }
@@ -162,7 +161,6 @@ impl<const N: usize> Copies<N> {
 
     // Completes one member's copy by its settled claim.
     fn complete_one(&mut self, graph: &TaskGraph<N>, node: u8, claim: Wrapped<u8>) -> Verdict
-        requires capacity { IsCapacity N }
         requires node { node < N }
         requires copies { IsCopies graph.now self.old }
         ensures copies { self.new ≡ table N (completed_by graph.now node self.old claim) }
@@ -183,7 +181,6 @@ impl<const N: usize> Copies<N> {
     /// Starts for each member without a running copy the least task that it may start: the node is
     /// allowed, its copy is idle, and all predecessors are finished.
     pub fn pick(&mut self, graph: &TaskGraph<N>, members: &NodeSet<N>)
-        requires capacity { IsCapacity N }
         requires copies { IsCopies graph.now self.old }
         ensures copies { self.new ≡ table N (picked graph.now members.now self.old) }
         ensures kept { IsCopies graph.now self.new }
@@ -196,7 +193,6 @@ impl<const N: usize> Copies<N> {
 
     // The members without a running copy.
     fn resting(&self, graph: &TaskGraph<N>, members: &NodeSet<N>) -> NodeSet<N>
-        requires capacity { IsCapacity N }
         requires copies { IsCopies graph.now self.now }
         ensures { result ≡ ids_where (λ q. has_id members.now q && is_none (works self.now q)) N }
     {

@@ -3,17 +3,17 @@
 ghost use Rattle.std.specs.Prelude.{◌≡◌, All, IfSome, None, slice_index_or};
 ghost use Rattle.clock_skew.specs.Correction.{IsReading};
 ghost use Rattle.frames.specs.Content.{IsValue};
-ghost use Rattle.node_grid.specs.Capacity.{IsCapacity};
 ghost use Rattle.protocol.specs.Clocks.{corrects};
 ghost use Rattle.live_node.specs.Live.{good_told, told_numbers};
 
 use clock_skew::correction;
 use node_core::{Mode, NodeRecord};
-use node_grid::NodeSet;
+use node_grid::{Capacity, NodeSet, Nodes};
 
 /// Of nodes whose frame in the sync slot was good, those of whose clock something was told.
 fn good_told<const N: usize>(sync: &NodeSet<N>, ahead: &[Option<i64>; N]) -> NodeSet<N>
-    requires capacity { IsCapacity N }
+where
+    Nodes: Capacity<N>,
     ensures { result ≡ good_told sync.now ahead.now }
 {
     let mut good = NodeSet::empty();
@@ -46,7 +46,8 @@ pub(crate) fn correction_by<const N: usize>(
     id: u8,
     m: u8,
 ) -> i64
-    requires capacity { IsCapacity N }
+where
+    Nodes: Capacity<N>,
     requires values { All (λ o. IfSome o IsValue) ahead.now }
     requires own { slice_index_or ahead.now id None ≡ None }
     ensures { result ≡ corrects m id (told_numbers ahead.now) outcome.now.members

@@ -3,7 +3,6 @@
 ghost use Rattle.std.specs.Prelude.{◌≡◌, ◌+◌, ◌*◌, ◌<◌, ◌≤◌, ℕ, None, true, false, List};
 ghost use Rattle.std.specs.Prelude.{All, IfOk, length, replicate, unwrap_or};
 ghost use Rattle.frames.specs.Content.{IsValue};
-ghost use Rattle.node_grid.specs.Capacity.{IsCapacity};
 ghost use Rattle.node_steps.specs.Steps.{after_slot, frame_of};
 ghost use Rattle.span_io.specs.Causes.{Writes};
 ghost use Rattle.live_node.specs.Live.{is_of_cluster, is_other, may_begin, allowed, is_open};
@@ -19,7 +18,7 @@ use crate::text::{AROUND, spell_correct, spell_say, write};
 use agreed_state::{Agreed, Inputs};
 use frames::frame_bound;
 use node_core::{Node, NodeRecord};
-use node_grid::NoMemory;
+use node_grid::{Capacity, NoMemory, Nodes};
 use run_print::{WriteFault, write_alone};
 use scenario::Scenario;
 use slot_plan::slot_count;
@@ -125,7 +124,8 @@ impl<'s, const N: usize> EventNode<'s, N> {
         id: u8,
         longest: usize,
     ) -> Result<EventNode<'s, N>, NoMemory>
-        requires capacity { IsCapacity N }
+    where
+        Nodes: Capacity<N>,
         requires id { id < scenario.now.config.nodes }
         ensures fresh { IfOk result (λ n. IsNewLive scenario.now id n) }
         ensures longest { IfOk result (λ n. n.longest ≡ longest) }
@@ -170,7 +170,8 @@ impl<'s, const N: usize> EventNode<'s, N> {
 
     /// Whether this is the number of another node of the cluster.
     fn is_other(&self, node: u8) -> bool
-        requires capacity { IsCapacity N }
+    where
+        Nodes: Capacity<N>,
         ensures { result ≡ is_other self.now node }
     {
         node < self.scenario.config().nodes && node != self.id
@@ -178,7 +179,8 @@ impl<'s, const N: usize> EventNode<'s, N> {
 
     /// Whether the cluster has the node, the channel or the clocks that the event names.
     pub(crate) fn is_of_cluster(&self, event: Event) -> bool
-        requires capacity { IsCapacity N }
+    where
+        Nodes: Capacity<N>,
         ensures { (room : List ℕ) → result ≡ is_of_cluster self.now (event_in room event) }
     {
         match event {
@@ -207,7 +209,8 @@ impl<'s, const N: usize> EventNode<'s, N> {
 
     /// Whether the event may come now.
     pub(crate) fn allows(&self, event: Event) -> bool
-        requires capacity { IsCapacity N }
+    where
+        Nodes: Capacity<N>,
         ensures event { (room : List ℕ) → result ≡ allowed self.now (event_in room event) }
         ensures live { IsLive self.now }
     {
@@ -233,7 +236,8 @@ impl<'s, const N: usize> EventNode<'s, N> {
 
     /// What the node is given for a period.
     fn inputs(&self, period: u32) -> Inputs
-        requires capacity { IsCapacity N }
+    where
+        Nodes: Capacity<N>,
         ensures inputs { result ≡ inputs_given self.now period }
         ensures readings { All IsValue result.reading }
     {
@@ -244,7 +248,8 @@ impl<'s, const N: usize> EventNode<'s, N> {
 
     /// Begins a period.
     fn begin(&mut self, period: u32)
-        requires capacity { IsCapacity N }
+    where
+        Nodes: Capacity<N>,
         requires closed { is_open self.old ≡ false }
         requires later { self.old.next ≤ period }
         ensures { self.new ≡ period_begun self.old period }
@@ -259,7 +264,8 @@ impl<'s, const N: usize> EventNode<'s, N> {
 
     /// Ends the open slot.
     fn end_slot(&mut self)
-        requires capacity { IsCapacity N }
+    where
+        Nodes: Capacity<N>,
         requires open { is_open self.old ≡ true }
         ensures { self.new ≡ slot_ended self.old (after_slot self.old.node) }
     {
@@ -277,7 +283,8 @@ impl<'s, const N: usize> EventNode<'s, N> {
 
     /// Takes an event, the bytes of whose frame stand at the front of the room.
     pub(crate) fn tell(&mut self, event: Event, room: &[u8])
-        requires capacity { IsCapacity N }
+    where
+        Nodes: Capacity<N>,
         requires of_cluster { is_of_cluster self.old (event_in room.now event) ≡ true }
         requires allowed { allowed self.old (event_in room.now event) ≡ true }
         requires fits { FitsIn (length room.now) event }
@@ -301,7 +308,8 @@ impl<'s, const N: usize> EventNode<'s, N> {
 
     /// Writes what the node says in the open slot.
     fn write_say<K: Sink>(&mut self, slot: u8, sink: &mut K) -> Result<(), WriteFault>
-        requires capacity { IsCapacity N }
+    where
+        Nodes: Capacity<N>,
         requires open { self.old.node.phase.is_open ≡ true }
         requires slot { slot ≡ self.old.node.phase.slot }
         ensures same { self.new ≡ self.old }
@@ -320,7 +328,8 @@ impl<'s, const N: usize> EventNode<'s, N> {
         outcome: &NodeRecord<N>,
         sink: &mut K,
     ) -> Result<(), WriteFault>
-        requires capacity { IsCapacity N }
+    where
+        Nodes: Capacity<N>,
         requires outcome { outcome.now ≡ self.old.node.outcome }
         ensures same { self.new ≡ self.old }
         ensures wrote { Writes (K.written sink.old) (K.written sink.new)
@@ -333,7 +342,8 @@ impl<'s, const N: usize> EventNode<'s, N> {
 
     /// Writes the lines of the period that was run last.
     fn write_run<K: Sink>(&mut self, sink: &mut K) -> Result<(), WriteFault>
-        requires capacity { IsCapacity N }
+    where
+        Nodes: Capacity<N>,
         requires closed { is_open self.old ≡ false }
         requires some { 0 < self.old.next }
         ensures same { self.new ≡ self.old }
@@ -354,7 +364,8 @@ impl<'s, const N: usize> EventNode<'s, N> {
 
     /// Writes what the node answers to an event that was taken last.
     pub(crate) fn answer<K: Sink>(&mut self, event: Event, sink: &mut K) -> Result<(), WriteFault>
-        requires capacity { IsCapacity N }
+    where
+        Nodes: Capacity<N>,
         requires some { IsAnswered event → 0 < self.old.next }
         ensures same { self.new ≡ self.old }
         ensures wrote { (room : List ℕ)

@@ -1,13 +1,12 @@
 //! A node that is told one line after another.
 
 ghost use Rattle.std.specs.Prelude.{◌≡◌, ◌<◌, ◌≤◌, IfOk, length};
-ghost use Rattle.node_grid.specs.Capacity.{IsCapacity};
 ghost use Rattle.live_node.specs.Live.{line_step, is_open, IsNewLive};
 ghost use Rattle.live_node.specs.Taking.{Takes};
 
 use crate::event::event_of;
 use crate::event_node::EventNode;
-use node_grid::NoMemory;
+use node_grid::{Capacity, NoMemory, Nodes};
 use scenario::Scenario;
 use span_io::Sink;
 use std::alloc::Global;
@@ -50,7 +49,10 @@ impl<'s, const N: usize> Model for Live<'s, N> {
     ghost invariant = { λ l. l.node.longest ≤ 2 * length l.arrived.items + 1 };
 }
 
-impl<'s, const N: usize> Live<'s, N> {
+impl<'s, const N: usize> Live<'s, N>
+where
+    Nodes: Capacity<N>,
+{
     /// Node `id` of the scenario, below its number of nodes, before it was told anything; for lines
     /// of at most `longest` bytes. No other call takes memory.
     ///
@@ -63,7 +65,6 @@ impl<'s, const N: usize> Live<'s, N> {
         id: u8,
         longest: usize,
     ) -> Result<Live<'s, N>, NoMemory>
-        requires capacity { IsCapacity N }
         requires id { id < scenario.now.config.nodes }
         ensures fresh { IfOk result (λ l. IsNewLive scenario.now id l) }
         ensures longest { IfOk result (λ l. l.longest ≡ longest) }
@@ -77,7 +78,6 @@ impl<'s, const N: usize> Live<'s, N> {
 
     /// How many periods were run.
     pub fn periods_run(&self) -> u64
-        requires { IsCapacity N }
         ensures { result ≡ self.now.run }
     {
         self.node.periods_run()
@@ -85,7 +85,6 @@ impl<'s, const N: usize> Live<'s, N> {
 
     /// Whether a slot is open.
     pub fn is_open(&self) -> bool
-        requires { IsCapacity N }
         ensures { result ≡ is_open self.now }
     {
         self.node.is_open()
@@ -99,7 +98,6 @@ impl<'s, const N: usize> Live<'s, N> {
     /// - `WriteFault` comes only where the sink's count of faults rose. The line was taken, and a
     ///   prefix of the answer was written then.
     pub fn take<K: Sink>(&mut self, line: &[u8], sink: &mut K) -> Result<(), Refusal>
-        requires capacity { IsCapacity N }
         requires short { length line.now ≤ self.old.longest }
         ensures { Takes K.written K.faults self.old sink.old self.new sink.new
             (line_step self.old line.now) result }

@@ -6,11 +6,10 @@
 
 ghost use Rattle.std.specs.Prelude.{◌≡◌, ℕ, Bool, ◌≤◌, ◌&&◌, not, replicate, if◌then◌else◌};
 ghost use Rattle.std.specs.Prelude.{slice_index};
-ghost use Rattle.node_grid.specs.Capacity.{IsCapacity};
 ghost use Rattle.membership.specs.Members.{remains, joins, all_would_leave, members_after};
 ghost use Rattle.membership.specs.Members.{times_after, left_after};
 
-use node_grid::NodeSet;
+use node_grid::{Capacity, NodeSet, Nodes};
 use penalty::{Counts, Policy};
 
 /// How often each node left the members, as far as that is counted.
@@ -20,10 +19,12 @@ pub struct Left<const N: usize> {
     pub times: [u16; N],
 }
 
-impl<const N: usize> Left<N> {
+impl<const N: usize> Left<N>
+where
+    Nodes: Capacity<N>,
+{
     /// No node ever left.
     pub fn zero() -> Self
-        requires { IsCapacity N }
         ensures { result.times ≡ replicate N 0 }
     {
         Left { times: [0; N] }
@@ -44,7 +45,8 @@ pub fn next<const N: usize>(
     left: &mut Left<N>,
     policy: &Policy,
 ) -> NodeSet<N>
-    requires capacity { IsCapacity N }
+where
+    Nodes: Capacity<N>,
     requires nodes { nodes ≤ N }
     ensures members { result ≡ members_after policy.now nodes members.now
         (λ j. slice_index counts.now.counts j) (λ j. slice_index left.old.times j) }
@@ -97,7 +99,8 @@ fn all_would_leave<const N: usize>(
     counts: &Counts<N>,
     policy: &Policy,
 ) -> bool
-    requires { IsCapacity N }
+where
+    Nodes: Capacity<N>,
     ensures { result ≡ all_would_leave policy.now members.now
         (λ j. slice_index counts.now.counts j) }
 {

@@ -1,11 +1,10 @@
 ghost use Rattle.std.specs.Prelude.{◌≡◌, ℕ, ◌<◌, ℤ, Option};
 ghost use Rattle.std.specs.List.{filter_map};
-ghost use Rattle.node_grid.specs.Capacity.{IsCapacity};
 ghost use Rattle.mme_vote.specs.Vote.{vote_of};
 
 use crate::vote;
 use arrayvec::ArrayVec;
-use node_grid::NodeSet;
+use node_grid::{Capacity, NodeSet, Nodes};
 
 /// The vote over the values of those members that have one, which tolerates `m` wrong ones.
 /// `value_of` gives the value of a node. None exactly where no member has a value.
@@ -14,7 +13,8 @@ pub fn vote_of_members<const N: usize, F: Fn(u8) -> Option<i64>>(
     value_of: F,
     m: u8,
 ) -> Option<i64>
-    requires capacity { IsCapacity N }
+where
+    Nodes: Capacity<N>,
     requires values { (k : ℕ) → k < N → F.pre value_of k }
     ensures { (values : ℕ → Option ℤ) → ((k : ℕ) (value : Option ℤ) → k < N →
         F.post value_of k value → value ≡ values k) → result

@@ -2,7 +2,6 @@
 
 ghost use Rattle.std.specs.Prelude.{◌≡◌, ◌<◌, ◌+◌, false, drop, IfOk};
 ghost use Rattle.std.specs.Borrow.{sem};
-ghost use Rattle.node_grid.specs.Capacity.{IsCapacity};
 ghost use Rattle.node_steps.specs.Stages.{outcome_of};
 ghost use Rattle.node_alone.specs.View.{view_alone};
 ghost use Rattle.node_alone.specs.Stepping.{begun_alone, from_slot, woken, IsAloneAt};
@@ -10,7 +9,7 @@ ghost use Rattle.node_alone.specs.Stepping.{begun_alone, from_slot, woken, IsAlo
 use crate::delivering::run_slots;
 use crate::record::Record;
 use node_core::{Node, NodeRecord};
-use node_grid::NoMemory;
+use node_grid::{Capacity, NoMemory, Nodes};
 use node_steps::laws;
 use slot_plan::slot_count;
 use std::alloc::Global;
@@ -42,7 +41,8 @@ impl<'s, const N: usize> Model for Alone<'s, N> {
 
 /// Restarts the node where its scenario says so.
 fn wake<'c, const N: usize>(node: &mut Node<'c, N>, input: &Record<N>, period: u32)
-    requires capacity { IsCapacity N }
+where
+    Nodes: Capacity<N>,
     requires closed { node.old.phase.is_open ≡ false }
     requires period { period < input.now.scenario.periods }
     ensures { node.new ≡ woken input.now period node.old }
@@ -54,7 +54,8 @@ fn wake<'c, const N: usize>(node: &mut Node<'c, N>, input: &Record<N>, period: u
 
 /// Restarts the node where its scenario says so, and begins the period.
 fn begin<'c, const N: usize>(node: &mut Node<'c, N>, input: &Record<N>, period: u32)
-    requires capacity { IsCapacity N }
+where
+    Nodes: Capacity<N>,
     requires closed { node.old.phase.is_open ≡ false }
     requires period { period < input.now.scenario.periods }
     ensures { node.new ≡ begun_alone input.now period node.old }
@@ -70,7 +71,8 @@ fn step<'c, const N: usize>(
     next: usize,
     period: u32,
 ) -> usize
-    requires capacity { IsCapacity N }
+where
+    Nodes: Capacity<N>,
     requires period { period < input.now.scenario.periods }
     requires before { IsAloneAt input.now period node.old }
     requires rest { drop next input.now.entries ≡ from_slot period 0 input.now.entries }
@@ -84,7 +86,10 @@ fn step<'c, const N: usize>(
     run_slots(node, input.entries(), next, period, count)
 }
 
-impl<'s, const N: usize> Alone<'s, N> {
+impl<'s, const N: usize> Alone<'s, N>
+where
+    Nodes: Capacity<N>,
+{
     ghost use Rattle.node_alone.specs.Lending.{RunsOn};
 
     /// The node before the first period. All memory of the replay is taken here.
@@ -93,7 +98,6 @@ impl<'s, const N: usize> Alone<'s, N> {
     ///
     /// `NoMemory` where there is none.
     pub fn open(alloc: Global, input: &'s Record<N>) -> Result<Alone<'s, N>, NoMemory>
-        requires { IsCapacity N }
         ensures { IfOk result (λ a. a ≡ record { input = input.now; run = 0 }) }
     {
         let node = Node::open(alloc, input.config(), input.id())?;
@@ -109,7 +113,6 @@ impl<'s, const N: usize> Alone<'s, N> {
 
     /// Steps the node through the next period.
     fn advance(&mut self)
-        requires capacity { IsCapacity N }
         requires more { self.old.run < self.old.input.scenario.periods }
         ensures { self.new ≡ record self.old { run = self.old.run + 1 } }
     {
@@ -121,7 +124,6 @@ impl<'s, const N: usize> Alone<'s, N> {
 
     /// Runs the next period, and shows what the node records of it. It takes no memory.
     pub fn period(&mut self) -> &NodeRecord<N>
-        requires capacity { IsCapacity N }
         requires more { self.old.run < self.old.input.scenario.periods }
         ensures* after { sem 𝓛 (RunsOn N.row self.entry) }
         ensures shown { result.now ≡ outcome_of (view_alone self.old.input self.old.run) }

@@ -1,7 +1,6 @@
 //! What a log brings to its node.
 
 ghost use Rattle.std.specs.Prelude.{◌≡◌, ◌≢◌, ◌<◌, ◌≤◌, ◌+◌, ℕ, true, All, drop};
-ghost use Rattle.node_grid.specs.Capacity.{IsCapacity};
 ghost use Rattle.node_steps.specs.Period.{slots_run};
 ghost use Rattle.node_alone.specs.Log.{arrivals};
 ghost use Rattle.node_alone.specs.Seen.{Ascends};
@@ -9,6 +8,7 @@ ghost use Rattle.node_alone.specs.Stepping.{handed, from_slot, IsFromOther, IsRe
 
 use crate::table::Table;
 use node_core::Node;
+use node_grid::{Capacity, Nodes};
 
 /// Delivers the entries of the open slot to the node, from entry `next` on. Answers the first entry
 /// of a later slot.
@@ -19,7 +19,8 @@ fn deliver_slot<'c, const N: usize>(
     period: u32,
     slot: u8,
 ) -> usize
-    requires capacity { IsCapacity N }
+where
+    Nodes: Capacity<N>,
     requires ready { IsReady node.old entries.now }
     requires ascends { Ascends entries.now }
     requires rest { drop next entries.now ≡ from_slot period slot entries.now }
@@ -44,7 +45,8 @@ pub(crate) fn run_slots<'c, const N: usize>(
     period: u32,
     count: u8,
 ) -> usize
-    requires capacity { IsCapacity N }
+where
+    Nodes: Capacity<N>,
     requires ready { (t : ℕ) → t < count →
         IsReady (slots_run (arrivals entries.now period) t node.old) entries.now }
     requires ascends { Ascends entries.now }

@@ -1,7 +1,6 @@
 //! A node's log, and how it is read.
 
 ghost use Rattle.std.specs.Prelude.{◌≡◌, ◌<◌, ◌+◌, ◌*◌, ℕ, Some, IfOk, IfErr, IsErrOf};
-ghost use Rattle.node_grid.specs.Capacity.{IsCapacity};
 ghost use Rattle.serde_json.specs.Data.{Data};
 ghost use Rattle.json_parts.specs.Meaning.{view};
 ghost use Rattle.json_parts.specs.Reading.{Reads};
@@ -15,6 +14,7 @@ use crate::table::Table;
 use agreed_state::Config;
 use json::{Scratch, Value};
 use json_parts::{PartError, TextError, value_of};
+use node_grid::{Capacity, Nodes};
 use scenario::{Scenario, ScenarioError};
 use slot_plan::slot_count;
 use std::alloc::Global;
@@ -43,7 +43,8 @@ impl<const N: usize> Model for Record<N> {
 
 /// The limits of an entry of node `id`'s log, under the scenario.
 fn limits_of<const N: usize>(scenario: &Scenario<N>, id: u8) -> Limits
-    requires { IsCapacity N }
+where
+    Nodes: Capacity<N>,
     ensures { limits_view result ≡ limits_of scenario.now id }
 {
     let config = scenario.config();
@@ -63,7 +64,8 @@ impl<const N: usize> Record<N> {
     /// - `Refused` comes exactly where a rule fails, with the first that does and its first place.
     /// - `NoMemory` may come at any time.
     pub fn read(alloc: Global, bytes: &[u8], id: u8) -> Result<Record<N>, ScenarioError>
-        requires { IsCapacity N }
+    where
+        Nodes: Capacity<N>,
         ensures accepted { IfOk result (λ r. (d : Data) × Reads bytes.now d
             × IsAcceptedRecord id d r) }
         ensures unreadable { IsErrOf result ScenarioError.Unreadable →
@@ -85,7 +87,8 @@ impl<const N: usize> Record<N> {
     /// - `Refused` comes exactly where a rule fails, with the first that does and its first place.
     /// - `NoMemory` may come at any time.
     fn from_value(alloc: Global, value: &Value<'_>, id: u8) -> Result<Record<N>, ScenarioError>
-        requires { IsCapacity N }
+    where
+        Nodes: Capacity<N>,
         ensures accepted { IfOk result (λ r. IsAcceptedRecord id (view value.now) r) }
         ensures refused { IfErr result (Tells (record_refusal N id (view value.now))) }
     {

@@ -1,7 +1,6 @@
 //! A node's controller: what the node knows.
 
 ghost use Rattle.std.specs.Prelude.{◌≡◌, ◌≢◌, ◌<◌, true};
-ghost use Rattle.node_grid.specs.Capacity.{IsCapacity};
 ghost use Rattle.protocol.specs.Run.{members_in};
 ghost use Rattle.node_steps.specs.Steps.{restarted, given_frame};
 
@@ -20,7 +19,7 @@ use agreed_state::{Agreed, Config, Inputs};
 use arrayvec::ArrayVec;
 use error_detect::{Rooms, SlotWatch};
 use error_reports::RowBuilder;
-use node_grid::{NodeSet, Row};
+use node_grid::{Capacity, NodeSet, Nodes, Row};
 use omh_paths::Wrapped;
 use relay_table::Table;
 use slot_plan::Slot;
@@ -116,6 +115,8 @@ impl<'c, const N: usize> Controller<'c, N> {
 
     /// A frame arrives in the open slot.
     pub fn deliver(&mut self, from: u8, tick: u8, bytes: &[u8])
+    where
+        Nodes: Capacity<N>,
         requires open { self.old.arrived.is_open ≡ true }
         requires node { from < self.old.config.nodes }
         requires other { from ≢ self.old.phase.me }
@@ -126,7 +127,8 @@ impl<'c, const N: usize> Controller<'c, N> {
 
     /// Forgets what it keeps from one period to the next.
     pub fn restart(&mut self)
-        requires { IsCapacity N }
+    where
+        Nodes: Capacity<N>,
         ensures { self.new ≡ restarted self.old }
     {
         self.kept.state = None;
@@ -137,7 +139,8 @@ impl<'c, const N: usize> Controller<'c, N> {
 
     /// The members with which the node goes through the period.
     fn members(&self) -> NodeSet<N>
-        requires { IsCapacity N }
+    where
+        Nodes: Capacity<N>,
         ensures { result ≡ members_in self.now.phase.before }
     {
         match &self.phase.before {

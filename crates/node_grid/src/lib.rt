@@ -5,12 +5,14 @@
 //! anything.
 #![tactic(auto)]
 
+mod capacity;
 mod class;
 pub mod kind;
 mod matrix;
 mod node_set;
 mod planes;
 
+pub use capacity::{Capacity, Nodes};
 pub use class::Class;
 pub use matrix::{Matrix, Row};
 pub use node_set::{Ids, NodeSet};

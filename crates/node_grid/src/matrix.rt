@@ -1,9 +1,9 @@
 ghost use Rattle.std.specs.Prelude.{◌≡◌, ℕ, ◌<◌, List, Option, Some, None, replicate, slice_set};
 ghost use Rattle.std.specs.Prelude.{length};
 ghost use Rattle.std.specs.Option.{option_copied};
-ghost use Rattle.node_grid.specs.Capacity.{IsCapacity};
 ghost use Rattle.node_grid.specs.Matrix.{row_at};
 
+use crate::{Capacity, Nodes};
 use std::marker::Model;
 
 /// What one node accuses each node of: a mask of kinds for each node.
@@ -24,10 +24,12 @@ impl<const N: usize> Model for Row<N> {
     ghost inverse = { λ xs. record { masks = xs } };
 }
 
-impl<const N: usize> Row<N> {
+impl<const N: usize> Row<N>
+where
+    Nodes: Capacity<N>,
+{
     /// The row that accuses nobody.
     pub fn zero() -> Self
-        requires { IsCapacity N }
         ensures { result ≡ replicate N 0 }
     {
         Row { masks: [0; N] }
@@ -51,10 +53,12 @@ impl<const N: usize> Model for Matrix<N> {
     ghost inverse = { λ xs. record { rows = xs } };
 }
 
-impl<const N: usize> Matrix<N> {
+impl<const N: usize> Matrix<N>
+where
+    Nodes: Capacity<N>,
+{
     /// No row at any node.
     pub fn empty() -> Self
-        requires { IsCapacity N }
         ensures { result ≡ replicate N None }
     {
         Matrix { rows: [None; N] }
@@ -62,7 +66,6 @@ impl<const N: usize> Matrix<N> {
 
     /// Puts the row of node `q`, in place of one that stood there.
     pub fn set(&mut self, q: u8, row: Row<N>)
-        requires capacity { IsCapacity N }
         requires in_range { q < N }
         ensures rows { self.new ≡ slice_set self.old q (Some row.entry) }
         ensures length { length self.new ≡ N }
@@ -72,7 +75,6 @@ impl<const N: usize> Matrix<N> {
 
     /// The row of node `q`; None exactly where no row stands there, as for a `q` of N or more.
     pub fn get(&self, q: u8) -> Option<&Row<N>>
-        requires { IsCapacity N }
         ensures row { option_copied result ≡ row_at self.now q }
         ensures length { length self.now ≡ N }
     {

@@ -1,10 +1,9 @@
 ghost use Rattle.std.specs.Prelude.{◌≡◌, ℕ, ◌+◌, ◌<◌, ◌≤◌, slice_index, replicate, bit_xor};
 ghost use Rattle.std.specs.Prelude.{bit_and};
 ghost use Rattle.std.specs.Int.{bit_at};
-ghost use Rattle.node_grid.specs.Capacity.{IsCapacity};
 ghost use Rattle.node_grid.specs.Planes.{count_at, EachCount, more_mask};
 
-use crate::Row;
+use crate::{Capacity, Nodes, Row};
 use std::marker::Model;
 
 /// How many planes there are: counts go up to 31.
@@ -34,7 +33,8 @@ impl<const N: usize> Model for Planes<N> {
 impl<const N: usize> Planes<N> {
     /// All counts are 0.
     pub fn zero() -> Self
-        requires { IsCapacity N }
+    where
+        Nodes: Capacity<N>,
         ensures { result ≡ replicate 5 (replicate N 0) }
     {
         Planes {
@@ -44,7 +44,8 @@ impl<const N: usize> Planes<N> {
 
     /// Adds 1 to the count of node j and kind k for each bit k of the row's mask of node j.
     pub fn add(&mut self, row: &Row<N>)
-        requires capacity { IsCapacity N }
+    where
+        Nodes: Capacity<N>,
         requires room { EachCount N (λ j k. count_at self.old j k < 31) }
         ensures { EachCount N (λ j k. count_at self.new j k
             ≡ count_at self.old j k + bit_at (slice_index row.now j) k) }
@@ -67,7 +68,8 @@ impl<const N: usize> Planes<N> {
     /// The row whose mask of node j has bit k exactly where the count of node j and kind k is
     /// greater than the limit of j.
     pub fn more_than(&self, limits: &[u8; N]) -> Row<N>
-        requires capacity { IsCapacity N }
+    where
+        Nodes: Capacity<N>,
         requires limits { (j : ℕ) → j < N → slice_index limits.now j ≤ 31 }
         ensures { (j : ℕ) → j < N → slice_index result j
             ≡ more_mask self.now j (slice_index limits.now j) }
@@ -82,7 +84,8 @@ impl<const N: usize> Planes<N> {
 
 /// The mask of the kinds whose count at this node is greater than the limit.
 fn above<const N: usize>(planes: &[[u16; N]; PLANES], node: usize, limit: u8) -> u16
-    requires capacity { IsCapacity N }
+where
+    Nodes: Capacity<N>,
     requires node { node < N }
     requires limit { limit ≤ 31 }
     ensures { result ≡ more_mask planes.now node limit }
@@ -102,7 +105,8 @@ fn above<const N: usize>(planes: &[[u16; N]; PLANES], node: usize, limit: u8) ->
 
 /// The lower bits of the sums of two planes, bit by bit.
 fn sum_bits<const N: usize>(one: &[u16; N], other: &[u16; N]) -> [u16; N]
-    requires { IsCapacity N }
+where
+    Nodes: Capacity<N>,
     ensures { (j : ℕ) → j < N → slice_index result j
         ≡ bit_xor (slice_index one.now j) (slice_index other.now j) }
 {
@@ -115,7 +119,8 @@ fn sum_bits<const N: usize>(one: &[u16; N], other: &[u16; N]) -> [u16; N]
 
 /// The carries of the sums of two planes, bit by bit.
 fn carry_bits<const N: usize>(one: &[u16; N], other: &[u16; N]) -> [u16; N]
-    requires { IsCapacity N }
+where
+    Nodes: Capacity<N>,
     ensures { (j : ℕ) → j < N → slice_index result j
         ≡ bit_and (slice_index one.now j) (slice_index other.now j) }
 {

@@ -1,7 +1,6 @@
 //! What was found of the frames of a slot.
 
 ghost use Rattle.std.specs.Prelude.{◌≡◌, ◌<◌, ◌≤◌, ◌==◌, ◌||◌, ◌&&◌, not, slice_index_or};
-ghost use Rattle.node_grid.specs.Capacity.{IsCapacity};
 ghost use Rattle.node_grid.specs.Kinds.{deviate};
 ghost use Rattle.node_grid.specs.NodeSet.{has_id, ids_where};
 ghost use Rattle.error_detect.specs.declared.finding.Finding.TheVariants.{Good};
@@ -11,8 +10,8 @@ ghost use Rattle.noting.specs.Findings.{found_bad};
 
 use error_detect::Finding;
 use error_reports::RowBuilder;
-use node_grid::NodeSet;
 use node_grid::kind::{COLD, DEVIATE, MALFORMED, MISSING, TIMING};
+use node_grid::{Capacity, NodeSet, Nodes};
 
 /// The kind of error that a finding is, if it is one.
 fn kind_of(found: Finding) -> Option<u8>
@@ -30,7 +29,8 @@ fn kind_of(found: Finding) -> Option<u8>
 /// Notes what was found of the frames of a slot, in this period's row. `found` has a finding for
 /// each node.
 pub fn note_found<const N: usize>(notes: &mut RowBuilder<N>, found: &[Finding; N])
-    requires capacity { IsCapacity N }
+where
+    Nodes: Capacity<N>,
     ensures { notes.new ≡ also_noted N notes.old (found_bad found.now) }
 {
     notes.note_each(
@@ -43,7 +43,8 @@ pub fn note_found<const N: usize>(notes: &mut RowBuilder<N>, found: &[Finding; N
 
 /// The same for the next period's row.
 pub fn carry_found<const N: usize>(notes: &mut RowBuilder<N>, found: &[Finding; N])
-    requires capacity { IsCapacity N }
+where
+    Nodes: Capacity<N>,
     ensures { notes.new ≡ also_carried N notes.old (found_bad found.now) }
 {
     notes.carry_each(
@@ -61,7 +62,8 @@ pub fn note_values<const N: usize>(
     found: &[Finding; N],
     off: &NodeSet<N>,
 )
-    requires capacity { IsCapacity N }
+where
+    Nodes: Capacity<N>,
     requires few { notes.old.kinds ≤ 16 }
     ensures { notes.new ≡ also_noted N notes.old
         (λ j k. found_bad found.now j k || (has_id off.now j && k == deviate)) }
@@ -82,7 +84,8 @@ fn is_good_sender<const N: usize>(found: &[Finding; N], me: u8, node: u8) -> boo
 /// The nodes below `nodes` other than `me` whose frames were found Good.
 #[tactic(auto, using(node_grid::specs::NodeSetLaws::id_loops))]
 pub fn good_senders<const N: usize>(found: &[Finding; N], me: u8, nodes: u8) -> NodeSet<N>
-    requires capacity { IsCapacity N }
+where
+    Nodes: Capacity<N>,
     requires few { nodes ≤ N }
     ensures { result ≡ ids_where (λ j. not (j == me) && is_good_at found.now j) nodes }
 {

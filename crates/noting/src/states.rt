@@ -2,7 +2,6 @@
 
 ghost use Rattle.std.specs.Prelude.{◌≡◌, ◌≤◌, ◌==◌, ◌||◌, ◌&&◌, Some, None};
 ghost use Rattle.std.specs.Prelude.{if◌then◌else◌};
-ghost use Rattle.node_grid.specs.Capacity.{IsCapacity};
 ghost use Rattle.node_grid.specs.Kinds.{state};
 ghost use Rattle.error_detect.specs.Watching.{findings, told_at};
 ghost use Rattle.error_reports.specs.Notes.{also_noted};
@@ -15,9 +14,12 @@ use error_detect::{Finding, SlotWatch};
 use error_reports::RowBuilder;
 use frames::Body;
 use node_grid::kind::STATE;
+use node_grid::{Capacity, Nodes};
 
 /// Whether another node tells another state than this in the closed sync slot.
 fn tells_other<const N: usize>(watch: &SlotWatch<N>, own: &[u8], node: u8) -> bool
+where
+    Nodes: Capacity<N>,
     requires { IsOtherHeard N watch.now node }
     ensures { result ≡ other_body own.now (arrived body_said None (told_at watch.now node)) }
 {
@@ -39,7 +41,8 @@ pub fn note_states<const N: usize>(
     found: &[Finding; N],
     own: &[u8],
 )
-    requires capacity { IsCapacity N }
+where
+    Nodes: Capacity<N>,
     requires few { notes.old.kinds ≤ 16 }
     requires sync { IsSyncOf notes.old.nodes notes.old.me watch.now }
     requires found { found.now ≡ findings N watch.now }

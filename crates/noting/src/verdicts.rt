@@ -2,7 +2,6 @@
 
 ghost use Rattle.std.specs.Prelude.{◌≡◌, ◌<◌, ◌≤◌, ◌==◌, ◌||◌, ◌&&◌, Some, None, if◌then◌else◌};
 ghost use Rattle.std.specs.Prelude.{slice_index_or};
-ghost use Rattle.node_grid.specs.Capacity.{IsCapacity};
 ghost use Rattle.node_grid.specs.Kinds.{claim, overrun};
 ghost use Rattle.list_scheduler.specs.Schedule.{no_verdict};
 ghost use Rattle.error_reports.specs.Notes.{also_noted};
@@ -10,10 +9,12 @@ ghost use Rattle.error_reports.specs.Notes.{also_noted};
 use error_reports::RowBuilder;
 use list_scheduler::Verdict;
 use node_grid::kind::{CLAIM, OVERRUN};
+use node_grid::{Capacity, Nodes};
 
 /// Notes false claims and overruns by the verdict on each node, in this period's row.
 pub fn note_verdicts<const N: usize>(notes: &mut RowBuilder<N>, verdicts: &[Verdict; N])
-    requires capacity { IsCapacity N }
+where
+    Nodes: Capacity<N>,
     requires few { notes.old.kinds ≤ 16 }
     ensures { notes.new ≡ also_noted N notes.old
         (λ j k. ((slice_index_or verdicts.now j no_verdict).claim && k == claim) ||

@@ -4,7 +4,6 @@ ghost use Rattle.std.specs.Prelude.{◌≡◌, ◌≢◌, ℕ, ◌+◌, ◌-◌,
 ghost use Rattle.std.specs.Prelude.{true, false};
 ghost use Rattle.node_grid.specs.NodeSet.{has_id};
 ghost use Rattle.omh_paths.specs.declared.wrapped.Wrapped.TheVariants.{Fault};
-ghost use Rattle.omh_paths.specs.Wrapped.{IsExact};
 ghost use Rattle.odd_relays.specs.Direct.{direct_heard, direct_settled};
 ghost use Rattle.odd_relays.specs.Telling.{telling, HasFewOdd, settled_item};
 ghost use Rattle.odd_relays.specs.Work.{AreHeardAlike, IsChain, KeepsBelow};
@@ -15,7 +14,7 @@ use crate::values::{
 };
 use node_grid::NodeSet;
 use omh::outside;
-use omh_paths::{Path, Wrapped};
+use omh_paths::{Exact, Path, Wrapped};
 
 /// The room that the paths of one length take: for each of sixteen receivers what it settles, and
 /// sixteen terms.
@@ -25,7 +24,7 @@ const LEVEL: usize = 272;
 /// those of four.
 pub const WORK: usize = 832;
 
-impl<'a, V: Copy + Eq, S: Relays<V>, const N: usize> Item<'a, V, S, N> {
+impl<'a, V: Exact, S: Relays<V>, const N: usize> Item<'a, V, S, N> {
     /// What each receiver heard for such a path, laid by node from `from` on.
     fn lay_heard(&self, receivers: &NodeSet<N>, path: &Path, work: &mut [Wrapped<V>], from: usize)
         requires { from + 16 ≤ length work.old }
@@ -43,7 +42,6 @@ impl<'a, V: Copy + Eq, S: Relays<V>, const N: usize> Item<'a, V, S, N> {
 
     /// Whether all these nodes heard this for such a path.
     fn have_heard(&self, nodes: &NodeSet<N>, path: &Path, value: &Wrapped<V>) -> bool
-        requires { IsExact V.eq }
         ensures { result ≡ true → (k : ℕ) → has_id nodes.now k ≡ true →
             direct_heard (telling S.says self.now) k path.now ≡ value.now }
     {
@@ -65,7 +63,6 @@ impl<'a, V: Copy + Eq, S: Relays<V>, const N: usize> Item<'a, V, S, N> {
         work: &mut [Wrapped<V>],
         from: usize,
     ) -> bool
-        requires exact { IsExact V.eq }
         requires nodes { (q : ℕ) → has_id path.now q ≡ true → q < N }
         requires room { from + 16 ≤ length work.old }
         ensures alike { result ≡ true →
@@ -101,7 +98,6 @@ impl<'a, V: Copy + Eq, S: Relays<V>, const N: usize> Item<'a, V, S, N> {
         work: &mut [Wrapped<V>],
         from: usize,
     )
-        requires exact { IsExact V.eq }
         requires room { from + 272 * (self.now.phase.rounds + 1 - length path.now) + 16
             ≤ length work.old }
         requires few { HasFewOdd (telling S.says self.now) }
@@ -138,7 +134,6 @@ impl<'a, V: Copy + Eq, S: Relays<V>, const N: usize> Item<'a, V, S, N> {
 
     /// What each of these nodes settles for the item, laid by node in `work`.
     pub(crate) fn settle_at(&self, receivers: &NodeSet<N>, work: &mut [Wrapped<V>])
-        requires exact { IsExact V.eq }
         requires few { HasFewOdd (telling S.says self.now) }
         requires others { has_id receivers.now self.now.commander ≡ false }
         requires room { length work.old ≡ WORK }
@@ -155,7 +150,6 @@ impl<'a, V: Copy + Eq, S: Relays<V>, const N: usize> Item<'a, V, S, N> {
     /// What odd members pass on is asked for on paths of odd members alone. `work` has `WORK`
     /// places, and is left with no meaning.
     pub fn settle(&self, i: u8, work: &mut [Wrapped<V>]) -> Wrapped<V>
-        requires exact { IsExact V.eq }
         requires few { HasFewOdd (telling S.says self.now) }
         requires node { i < N }
         requires other { self.now.commander ≢ i }

@@ -5,7 +5,7 @@ ghost use Rattle.std.specs.Prelude.{slice_index_or, true, false};
 ghost use Rattle.node_grid.specs.Count.{bit};
 ghost use Rattle.node_grid.specs.NodeSet.{has_id};
 ghost use Rattle.omh_paths.specs.declared.wrapped.Wrapped.TheVariants.{Fault};
-ghost use Rattle.omh_paths.specs.Wrapped.{IsExact, same, wrapped};
+ghost use Rattle.omh_paths.specs.Wrapped.{same, wrapped};
 ghost use Rattle.equivocation.specs.Conviction.{is_present, tolerated as tolerated_of};
 ghost use Rattle.odd_relays.specs.Telling.{telling, convicts_commander};
 ghost use Rattle.odd_relays.specs.Voices.{IsCounted, regular_relay, regular_members, odd_members};
@@ -14,7 +14,7 @@ use crate::item::{Item, Relays};
 use crate::values::{is_same, value_at};
 use equivocation::{is_present, tolerated};
 use node_grid::NodeSet;
-use omh_paths::{Path, Wrapped};
+use omh_paths::{Exact, Path, Wrapped};
 
 /// How many direct relays of an item are there, and how many of them say otherwise than a receiver
 /// expects by what it was told.
@@ -25,7 +25,7 @@ pub(crate) struct Voices {
 }
 
 /// Whether it is there, and says otherwise than it is expected to.
-fn disagrees<V: Copy + Eq>(relay: &Wrapped<V>, expected: &Wrapped<V>) -> bool
+fn disagrees<V: Exact>(relay: &Wrapped<V>, expected: &Wrapped<V>) -> bool
     ensures { result ≡ (is_present relay.now && not (same V.eq relay.now expected.now)) }
 {
     is_present(relay) && *relay != *expected
@@ -44,7 +44,7 @@ impl Voices {
     }
 
     /// The same and one relay, where a receiver expects this.
-    fn with<V: Copy + Eq>(&self, relay: &Wrapped<V>, expected: &Wrapped<V>) -> Voices
+    fn with<V: Exact>(&self, relay: &Wrapped<V>, expected: &Wrapped<V>) -> Voices
         requires present { self.now.present < 255 }
         requires against { self.now.against < 255 }
         ensures present { result.present ≡ self.now.present + bit (is_present relay.now) }
@@ -78,11 +78,10 @@ impl Voices {
     }
 }
 
-impl<'a, V: Copy + Eq, S: Relays<V>, const N: usize> Item<'a, V, S, N> {
+impl<'a, V: Exact, S: Relays<V>, const N: usize> Item<'a, V, S, N> {
     /// What members that aren't odd relay of the commander, counted for all receivers that were
     /// told what node `i` was.
     fn regular_voices(&self, i: u8) -> Voices
-        requires exact { IsExact V.eq }
         requires node { i < N }
         ensures { IsCounted V.eq (slice_index_or self.now.told.now i (Fault 0))
             (regular_relay (telling S.says self.now)) (regular_members (telling S.says self.now))
@@ -103,7 +102,6 @@ impl<'a, V: Copy + Eq, S: Relays<V>, const N: usize> Item<'a, V, S, N> {
     /// What is counted for a receiver that was told what node `i` was, where this is counted for
     /// one that was told what node `like` was.
     fn voices_for(&self, i: u8, like: u8, voices: &Voices) -> Voices
-        requires exact { IsExact V.eq }
         requires node { i < N }
         requires before { like < N }
         requires counted { IsCounted V.eq (slice_index_or self.now.told.now like (Fault 0))
@@ -130,7 +128,6 @@ impl<'a, V: Copy + Eq, S: Relays<V>, const N: usize> Item<'a, V, S, N> {
     /// Whether node `i`, another one than the commander, convicts it, where the relays of members
     /// that aren't odd are counted for it.
     fn convicts_beside(&self, i: u8, regular: &Voices) -> bool
-        requires exact { IsExact V.eq }
         requires node { i < N }
         requires other { self.now.commander ≢ i }
         requires counted { IsCounted V.eq (slice_index_or self.now.told.now i (Fault 0))
@@ -156,7 +153,6 @@ impl<'a, V: Copy + Eq, S: Relays<V>, const N: usize> Item<'a, V, S, N> {
     /// Those of these nodes, other ones than the commander, that convict it, where this is one of
     /// them.
     fn convicting_among(&self, nodes: &NodeSet<N>, first: u8) -> NodeSet<N>
-        requires exact { IsExact V.eq }
         requires others { has_id nodes.now self.now.commander ≡ false }
         requires first { first < N }
         ensures convicts { (i : ℕ) → has_id nodes.now i ≡ true →
@@ -180,7 +176,6 @@ impl<'a, V: Copy + Eq, S: Relays<V>, const N: usize> Item<'a, V, S, N> {
     /// Those of these nodes, other ones than the commander, that convict it. A commander that told
     /// all alike is convicted by nobody where few members are odd, and need not be asked for.
     pub fn convicting(&self, nodes: &NodeSet<N>) -> NodeSet<N>
-        requires exact { IsExact V.eq }
         requires others { has_id nodes.now self.now.commander ≡ false }
         ensures convicts { (i : ℕ) → has_id nodes.now i ≡ true →
             has_id result i ≡ convicts_commander V.eq (telling S.says self.now) i }

@@ -8,10 +8,10 @@ ghost use Rattle.omh_paths.specs.declared.wrapped.Wrapped.TheVariants.{Fault};
 
 use crate::values::value_at;
 use node_grid::NodeSet;
-use omh_paths::{Path, Wrapped};
+use omh_paths::{Exact, Path, Wrapped};
 
 /// What odd members pass on of an item to each node.
-pub trait Relays<V: Copy + Eq> {
+pub trait Relays<V: Exact> {
     ghost says: { Self → ℕ → List ℕ → Wrapped V };
 
     /// What the path's last node, an odd member, passes on to a node that isn't on the path.
@@ -59,7 +59,7 @@ pub struct Item<'a, V, S, const N: usize> {
     pub ghost known: { All (λ v. v ≢ Fault 255) told.now } by { Prim.hlevel props },
 }
 
-impl<'a, V: Copy + Eq, S: Relays<V>, const N: usize> Item<'a, V, S, N> {
+impl<'a, V: Exact, S: Relays<V>, const N: usize> Item<'a, V, S, N> {
     ghost use Rattle.omh.specs.Omh.{ear, own_term};
     ghost use Rattle.odd_relays.specs.Direct.{direct_heard, direct_world};
     ghost use Rattle.odd_relays.specs.Telling.{telling, HasFewOdd};

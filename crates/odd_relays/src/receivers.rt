@@ -4,7 +4,6 @@ ghost use Rattle.std.specs.Prelude.{◌≡◌, ◌≢◌, ℕ, ◌<◌, ◌⊎�
 ghost use Rattle.std.specs.Prelude.{IfSome};
 ghost use Rattle.node_grid.specs.NodeSet.{has_id};
 ghost use Rattle.omh_paths.specs.declared.wrapped.Wrapped.TheVariants.{Fault};
-ghost use Rattle.omh_paths.specs.Wrapped.{IsExact};
 ghost use Rattle.odd_relays.specs.Telling.{telling, HasFewOdd, settled_item};
 ghost use Rattle.odd_relays.specs.Work.{HearAlike, IsLedBy};
 
@@ -12,9 +11,9 @@ use crate::chains::WORK;
 use crate::item::{Item, Relays};
 use crate::values::{are_alike, copy_led, fill, value_at};
 use node_grid::NodeSet;
-use omh_paths::Wrapped;
+use omh_paths::{Exact, Wrapped};
 
-impl<'a, V: Copy + Eq, S: Relays<V>, const N: usize> Item<'a, V, S, N> {
+impl<'a, V: Exact, S: Relays<V>, const N: usize> Item<'a, V, S, N> {
     /// Whether no other member than the commander is odd.
     fn has_no_other_odd(&self) -> bool
         ensures { result ≡ true → (q : ℕ) → has_id self.now.odd q ≡ true → q ≡ self.now.commander }
@@ -26,7 +25,6 @@ impl<'a, V: Copy + Eq, S: Relays<V>, const N: usize> Item<'a, V, S, N> {
     /// What all these nodes settle for the item, where that is seen at once: where all of them were
     /// told the same, or no other member's relays are odd.
     fn settle_as_one(&self, nodes: &NodeSet<N>, work: &mut [Wrapped<V>]) -> Option<Wrapped<V>>
-        requires exact { IsExact V.eq }
         requires few { HasFewOdd (telling S.says self.now) }
         requires others { has_id nodes.now self.now.commander ≡ false }
         requires full { (q : ℕ) → has_id self.now.phase.members q ≡ true →
@@ -101,7 +99,6 @@ impl<'a, V: Copy + Eq, S: Relays<V>, const N: usize> Item<'a, V, S, N> {
 
     /// What each of these nodes settles for the item, laid at the node's place in `all`.
     fn settle_each(&self, nodes: &NodeSet<N>, work: &mut [Wrapped<V>], all: &mut [Wrapped<V>])
-        requires exact { IsExact V.eq }
         requires few { HasFewOdd (telling S.says self.now) }
         requires others { has_id nodes.now self.now.commander ≡ false }
         requires room { length work.old ≡ WORK }
@@ -125,7 +122,6 @@ impl<'a, V: Copy + Eq, S: Relays<V>, const N: usize> Item<'a, V, S, N> {
     /// was told, and where no other member's relays are odd one majority. `work` has `WORK` places,
     /// and is left with no meaning.
     pub fn settle_all(&self, awake: &NodeSet<N>, work: &mut [Wrapped<V>], all: &mut [Wrapped<V>])
-        requires exact { IsExact V.eq }
         requires few { HasFewOdd (telling S.says self.now) }
         requires full { (q : ℕ) → has_id self.now.phase.members q ≡ true →
             has_id self.now.phase.full q ≡ true → has_id awake.now q ≡ true }

@@ -4,15 +4,15 @@ ghost use Rattle.std.specs.Prelude.{◌≡◌, ◌≢◌, ℕ, ◌+◌, ◌-◌,
 ghost use Rattle.std.specs.Prelude.{slice_set, slice_index_or, true};
 ghost use Rattle.node_grid.specs.NodeSet.{has_id};
 ghost use Rattle.omh_paths.specs.declared.wrapped.Wrapped.TheVariants.{Fault};
-ghost use Rattle.omh_paths.specs.Wrapped.{unwrapped, IsExact};
+ghost use Rattle.omh_paths.specs.Wrapped.{unwrapped};
 ghost use Rattle.omh_paths.specs.Majority.{majority};
 ghost use Rattle.odd_relays.specs.Work.{KeepsOthers, KeepsBelow};
 
 use node_grid::NodeSet;
-use omh_paths::{Wrapped, majority};
+use omh_paths::{Exact, Wrapped, majority};
 
 /// The value of a node.
-pub(crate) fn value_at<V: Copy + Eq>(values: &[Wrapped<V>], i: u8) -> Wrapped<V>
+pub(crate) fn value_at<V: Exact>(values: &[Wrapped<V>], i: u8) -> Wrapped<V>
     requires { i < length values.now }
     ensures { result ≡ slice_index_or values.now i (Fault 0) }
 {
@@ -20,7 +20,7 @@ pub(crate) fn value_at<V: Copy + Eq>(values: &[Wrapped<V>], i: u8) -> Wrapped<V>
 }
 
 /// Puts a value in place of another one.
-pub(crate) fn set_value<V: Copy + Eq>(values: &mut [Wrapped<V>], place: usize, value: Wrapped<V>)
+pub(crate) fn set_value<V: Exact>(values: &mut [Wrapped<V>], place: usize, value: Wrapped<V>)
     requires { place < length values.old }
     ensures { values.new ≡ slice_set values.old place value }
 {
@@ -28,7 +28,7 @@ pub(crate) fn set_value<V: Copy + Eq>(values: &mut [Wrapped<V>], place: usize, v
 }
 
 /// Lays one value at the places of these nodes.
-pub(crate) fn fill<V: Copy + Eq, const N: usize>(
+pub(crate) fn fill<V: Exact, const N: usize>(
     values: &mut [Wrapped<V>],
     nodes: &NodeSet<N>,
     value: Wrapped<V>,
@@ -44,7 +44,7 @@ pub(crate) fn fill<V: Copy + Eq, const N: usize>(
 }
 
 /// Lays one value for each of these nodes, by node from `from` on.
-pub(crate) fn fill_from<V: Copy + Eq, const N: usize>(
+pub(crate) fn fill_from<V: Exact, const N: usize>(
     work: &mut [Wrapped<V>],
     nodes: &NodeSet<N>,
     from: usize,
@@ -62,7 +62,7 @@ pub(crate) fn fill_from<V: Copy + Eq, const N: usize>(
 }
 
 /// Lays for each of these nodes the value of its leader, which is told by node.
-pub(crate) fn copy_led<V: Copy + Eq, const N: usize>(
+pub(crate) fn copy_led<V: Exact, const N: usize>(
     all: &mut [Wrapped<V>],
     values: &[Wrapped<V>],
     nodes: &NodeSet<N>,
@@ -83,8 +83,7 @@ pub(crate) fn copy_led<V: Copy + Eq, const N: usize>(
 }
 
 /// Whether two nodes have the same value.
-pub(crate) fn is_same<V: Copy + Eq>(values: &[Wrapped<V>], i: u8, j: u8) -> bool
-    requires exact { IsExact V.eq }
+pub(crate) fn is_same<V: Exact>(values: &[Wrapped<V>], i: u8, j: u8) -> bool
     requires first { i < length values.now }
     requires second { j < length values.now }
     ensures { result ≡ true →
@@ -94,20 +93,18 @@ pub(crate) fn is_same<V: Copy + Eq>(values: &[Wrapped<V>], i: u8, j: u8) -> bool
 }
 
 /// Whether these are one value.
-pub(crate) fn are_one<V: Copy + Eq>(one: &Wrapped<V>, other: &Wrapped<V>) -> bool
-    requires { IsExact V.eq }
+pub(crate) fn are_one<V: Exact>(one: &Wrapped<V>, other: &Wrapped<V>) -> bool
     ensures { result ≡ true → one.now ≡ other.now }
 {
     *one == *other
 }
 
 /// Whether all these nodes have the same value as this one.
-pub(crate) fn are_alike<V: Copy + Eq, const N: usize>(
+pub(crate) fn are_alike<V: Exact, const N: usize>(
     values: &[Wrapped<V>],
     nodes: &NodeSet<N>,
     first: u8,
 ) -> bool
-    requires exact { IsExact V.eq }
     requires places { length values.now ≡ N }
     requires first { first < N }
     ensures { result ≡ true → (k : ℕ) → has_id nodes.now k ≡ true →
@@ -123,7 +120,7 @@ pub(crate) fn are_alike<V: Copy + Eq, const N: usize>(
 
 /// Lays one value as the term of each of these nodes at this place of its sixteen: node `i` has it
 /// at `at + 16 * i`.
-pub(crate) fn fill_terms<V: Copy + Eq, const N: usize>(
+pub(crate) fn fill_terms<V: Exact, const N: usize>(
     work: &mut [Wrapped<V>],
     nodes: &NodeSet<N>,
     at: usize,
@@ -141,7 +138,7 @@ pub(crate) fn fill_terms<V: Copy + Eq, const N: usize>(
 }
 
 /// Lays values, which begin at `from` and lie by node, as such terms.
-pub(crate) fn copy_terms<V: Copy + Eq, const N: usize>(
+pub(crate) fn copy_terms<V: Exact, const N: usize>(
     work: &mut [Wrapped<V>],
     nodes: &NodeSet<N>,
     from: usize,
@@ -163,13 +160,12 @@ pub(crate) fn copy_terms<V: Copy + Eq, const N: usize>(
 
 /// What each of these nodes settles from the first so many of its sixteen terms, which lie behind
 /// sixteen values by node that begin at `from`: it is laid among these.
-pub(crate) fn settle_terms<V: Copy + Eq, const N: usize>(
+pub(crate) fn settle_terms<V: Exact, const N: usize>(
     work: &mut [Wrapped<V>],
     nodes: &NodeSet<N>,
     from: usize,
     count: usize,
 )
-    requires exact { IsExact V.eq }
     requires nodes { N ≤ 16 }
     requires few { count ≤ 16 }
     requires room { from + 16 + 16 * N ≤ length work.old }
@@ -187,7 +183,7 @@ pub(crate) fn settle_terms<V: Copy + Eq, const N: usize>(
 }
 
 /// The value of a node among those that begin at `from`.
-fn value_from<V: Copy + Eq>(values: &[Wrapped<V>], from: usize, i: u8) -> Wrapped<V>
+fn value_from<V: Exact>(values: &[Wrapped<V>], from: usize, i: u8) -> Wrapped<V>
     requires { from + i < length values.now }
     ensures { result ≡ slice_index_or values.now (from + i) (Fault 0) }
 {
@@ -195,8 +191,7 @@ fn value_from<V: Copy + Eq>(values: &[Wrapped<V>], from: usize, i: u8) -> Wrappe
 }
 
 /// What is settled from the terms at these places.
-fn settled_from_terms<V: Copy + Eq>(terms: &[Wrapped<V>], from: usize, end: usize) -> Wrapped<V>
-    requires exact { IsExact V.eq }
+fn settled_from_terms<V: Exact>(terms: &[Wrapped<V>], from: usize, end: usize) -> Wrapped<V>
     requires ordered { from ≤ end }
     requires within { end ≤ length terms.now }
     ensures { result ≡ unwrapped (majority V.eq (take (end - from) (drop from terms.now))) }

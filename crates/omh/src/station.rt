@@ -4,15 +4,15 @@ ghost use Rattle.node_grid.specs.Capacity.{IsCapacity};
 ghost use Rattle.node_grid.specs.Count.{Distinct};
 ghost use Rattle.node_grid.specs.NodeSet.{has_id};
 ghost use Rattle.omh_paths.specs.declared.wrapped.Wrapped.TheVariants.{Fault};
-ghost use Rattle.omh_paths.specs.Wrapped.{wrapped, unwrapped, IsExact};
+ghost use Rattle.omh_paths.specs.Wrapped.{wrapped, unwrapped};
 ghost use Rattle.omh_paths.specs.Majority.{majority};
 ghost use Rattle.omh_paths.specs.Paths.{outside, index_in};
 ghost use Rattle.omh.specs.Omh.{settled_at};
 ghost use Rattle.omh.specs.Flat.{section_at, flat_place, flat_ear, IsStation, IsRoom, IsBranch};
 ghost use Rattle.omh.specs.Flat.{IsShorter, HasTerms, AreSettled, laid_own, path_settled};
 
-use node_grid::NodeSet;
-use omh_paths::{Path, Wrapped, count_paths, majority, rank, unrank};
+use node_grid::{Capacity, NodeSet, Nodes};
+use omh_paths::{Exact, Path, Wrapped, count_paths, majority, rank, unrank};
 
 /// How many paths of up to `len` nodes there are out of `nodes`, so where the longer ones begin.
 pub fn section_at(nodes: u8, len: u8) -> usize
@@ -41,7 +41,7 @@ pub fn outside<const N: usize>(members: &NodeSet<N>, path: &Path) -> NodeSet<N>
 }
 
 /// Puts a value in place of another one.
-fn set_value<V: Copy + Eq>(values: &mut [Wrapped<V>], place: usize, value: Wrapped<V>)
+fn set_value<V: Exact>(values: &mut [Wrapped<V>], place: usize, value: Wrapped<V>)
     requires { place < length values.old }
     ensures { values.new ≡ slice_set values.old place value }
 {
@@ -49,7 +49,7 @@ fn set_value<V: Copy + Eq>(values: &mut [Wrapped<V>], place: usize, value: Wrapp
 }
 
 /// The first value.
-fn first_value<V: Copy + Eq>(values: &[Wrapped<V>]) -> Wrapped<V>
+fn first_value<V: Exact>(values: &[Wrapped<V>]) -> Wrapped<V>
     requires { 0 < length values.now }
     ensures { result ≡ slice_index_or values.now 0 (Fault 0) }
 {
@@ -57,7 +57,7 @@ fn first_value<V: Copy + Eq>(values: &[Wrapped<V>]) -> Wrapped<V>
 }
 
 /// Copies `len` values, which begin at `from`, over the first ones of `work`.
-fn copy_part<V: Copy + Eq>(work: &mut [Wrapped<V>], values: &[Wrapped<V>], from: usize, len: usize)
+fn copy_part<V: Exact>(work: &mut [Wrapped<V>], values: &[Wrapped<V>], from: usize, len: usize)
     requires within { from + len ≤ length values.now }
     requires room { len ≤ length work.old }
     requires small { from + len ≤ 2097152 }
@@ -67,8 +67,7 @@ fn copy_part<V: Copy + Eq>(work: &mut [Wrapped<V>], values: &[Wrapped<V>], from:
 }
 
 /// What is settled from so many terms, which begin at `from`.
-fn settled_from_terms<V: Copy + Eq>(terms: &[Wrapped<V>], from: usize, width: usize) -> Wrapped<V>
-    requires exact { IsExact V.eq }
+fn settled_from_terms<V: Exact>(terms: &[Wrapped<V>], from: usize, width: usize) -> Wrapped<V>
     requires within { from + width ≤ length terms.now }
     requires small { from + width ≤ 1048576 }
     ensures { result ≡ unwrapped (majority V.eq (take width (drop from terms.now))) }
@@ -107,6 +106,8 @@ pub struct Station<const N: usize> {
 impl<const N: usize> Station<N> {
     /// The place of what was heard for a path.
     pub fn place(&self, path: &Path) -> usize
+    where
+        Nodes: Capacity<N>,
         requires station { IsStation N self.now.nodes self.now.rounds self.now.members
             self.now.count }
         requires within { (q : ℕ) → has_id path.now q ≡ true → has_id self.now.members q ≡ true }
@@ -121,6 +122,8 @@ impl<const N: usize> Station<N> {
 
     /// The place of a member among the members.
     fn member_place(&self, member: u8) -> usize
+    where
+        Nodes: Capacity<N>,
         requires station { IsStation N self.now.nodes self.now.rounds self.now.members
             self.now.count }
         requires member { has_id self.now.members member ≡ true }
@@ -148,7 +151,7 @@ impl<const N: usize> Station<N> {
     }
 
     /// What the node itself puts into the majority of a path for which it heard this.
-    fn own_term<V: Copy + Eq>(&self, heard: &Wrapped<V>) -> Wrapped<V>
+    fn own_term<V: Exact>(&self, heard: &Wrapped<V>) -> Wrapped<V>
         requires { heard.now ≢ Fault 255 }
         ensures { result ≡ (if self.now.full then wrapped heard.now else Fault 0) }
     {
@@ -161,13 +164,9 @@ impl<const N: usize> Station<N> {
 
     /// Lays the node's own term among those of the members outside the path, whose terms begin at
     /// `from`.
-    fn lay_own<V: Copy + Eq>(
-        &self,
-        path: &Path,
-        from: usize,
-        own: Wrapped<V>,
-        work: &mut [Wrapped<V>],
-    )
+    fn lay_own<V: Exact>(&self, path: &Path, from: usize, own: Wrapped<V>, work: &mut [Wrapped<V>])
+    where
+        Nodes: Capacity<N>,
         requires station { IsStation N self.now.nodes self.now.rounds self.now.members
             self.now.count }
         requires within { (q : ℕ) → has_id path.now q ≡ true → has_id self.now.members q ≡ true }
@@ -184,7 +183,7 @@ impl<const N: usize> Station<N> {
 
     /// Settles the path at place `k` from the terms of its majority, which begin at `k * width`,
     /// with its own term among them.
-    fn settle_path<V: Copy + Eq>(
+    fn settle_path<V: Exact>(
         &self,
         path: &Path,
         k: usize,
@@ -192,7 +191,8 @@ impl<const N: usize> Station<N> {
         own: Wrapped<V>,
         work: &mut [Wrapped<V>],
     )
-        requires exact { IsExact V.eq }
+    where
+        Nodes: Capacity<N>,
         requires station { IsStation N self.now.nodes self.now.rounds self.now.members
             self.now.count }
         requires within { (q : ℕ) → has_id path.now q ≡ true → has_id self.now.members q ≡ true }
@@ -208,14 +208,15 @@ impl<const N: usize> Station<N> {
 
     /// Settles all paths of so many relays behind the commander, in place of what was settled for
     /// those of one relay more.
-    fn settle_shorter<V: Copy + Eq>(
+    fn settle_shorter<V: Exact>(
         &self,
         commander: usize,
         relays: u8,
         heard: &[Wrapped<V>],
         work: &mut [Wrapped<V>],
     )
-        requires exact { IsExact V.eq }
+    where
+        Nodes: Capacity<N>,
         requires station { IsStation N self.now.nodes self.now.rounds self.now.members
             self.now.count }
         requires room { IsRoom self.now.nodes self.now.rounds heard.now work.old }
@@ -236,13 +237,14 @@ impl<const N: usize> Station<N> {
     }
 
     /// What the node settles for the item of another member.
-    pub fn settle<V: Copy + Eq>(
+    pub fn settle<V: Exact>(
         &self,
         commander: u8,
         heard: &[Wrapped<V>],
         work: &mut [Wrapped<V>],
     ) -> Wrapped<V>
-        requires exact { IsExact V.eq }
+    where
+        Nodes: Capacity<N>,
         requires station { IsStation N self.now.nodes self.now.rounds self.now.members
             self.now.count }
         requires room { IsRoom self.now.nodes self.now.rounds heard.now work.old }

@@ -1,21 +1,20 @@
 ghost use Rattle.std.specs.Prelude.{◌≡◌, ◌≢◌, ℕ, ◌+◌, ◌<◌, ◌≤◌, ◌∷◌, [], length, IfOk, map, true};
 ghost use Rattle.std.specs.Prelude.{false, replicate};
-ghost use Rattle.node_grid.specs.Capacity.{IsCapacity};
 ghost use Rattle.node_grid.specs.NodeSet.{has_id};
 ghost use Rattle.omh_paths.specs.declared.wrapped.Wrapped.TheVariants.{Fault};
-ghost use Rattle.omh_paths.specs.Wrapped.{wrapped, IsExact};
+ghost use Rattle.omh_paths.specs.Wrapped.{wrapped};
 ghost use Rattle.omh.specs.Omh.{settled_from};
 ghost use Rattle.omh.specs.Flat.{forgotten};
 ghost use Rattle.omh.specs.Heard.{ear_of, heard_in, nothing_heard, with_heard};
 
 use crate::station::{Station, section_at};
-use node_grid::{NoMemory, NodeSet};
-use omh_paths::{Path, Wrapped};
+use node_grid::{Capacity, NoMemory, NodeSet, Nodes};
+use omh_paths::{Exact, Path, Wrapped};
 use std::alloc::{AllocError, Global};
 use std::marker::Model;
 
 /// So many values of which nothing was heard.
-fn unheard<V: Copy + Eq>(alloc: Global, len: usize) -> Result<Vec<Wrapped<V>>, AllocError>
+fn unheard<V: Exact>(alloc: Global, len: usize) -> Result<Vec<Wrapped<V>>, AllocError>
     ensures { IfOk result (λ v. v.items ≡ replicate len (Fault 0)) }
 {
     let mut values = Vec::with_capacity(alloc, len)?;
@@ -26,7 +25,7 @@ fn unheard<V: Copy + Eq>(alloc: Global, len: usize) -> Result<Vec<Wrapped<V>>, A
 }
 
 /// Forgets all values.
-fn forget<V: Copy + Eq>(values: &mut [Wrapped<V>])
+fn forget<V: Exact>(values: &mut [Wrapped<V>])
     ensures { values.new ≡ forgotten values.old }
 {
     for value in values.iter_mut() {
@@ -69,10 +68,11 @@ impl<V, const N: usize> Model for Table<V, N> {
         t.station.count × IsRoom t.station.nodes t.station.rounds t.heard.items t.work.items };
 }
 
-impl<V: Copy + Eq + Drop, const N: usize> Table<V, N> {
+impl<V: Exact + Drop, const N: usize> Table<V, N> {
     /// A table for members out of `nodes` nodes and `m` rounds of relaying, with no members yet.
     pub fn open(alloc: Global, nodes: u8, m: u8) -> Result<Table<V, N>, NoMemory>
-        requires capacity { IsCapacity N }
+    where
+        Nodes: Capacity<N>,
         requires nodes { nodes ≤ N }
         requires rounds { m ≤ 3 }
         ensures { IfOk result (λ t. t ≡ record {
@@ -132,6 +132,8 @@ impl<V: Copy + Eq + Drop, const N: usize> Table<V, N> {
 
     /// Sets what was heard for a path, in place of what was heard for it before.
     pub fn put(&mut self, path: &Path, value: Wrapped<V>)
+    where
+        Nodes: Capacity<N>,
         requires members { (q : ℕ) → has_id path.now q ≡ true → has_id self.old.members q ≡ true }
         requires others { has_id path.now self.old.me ≡ false }
         requires short { length path.now ≤ self.old.rounds + 1 }
@@ -145,6 +147,8 @@ impl<V: Copy + Eq + Drop, const N: usize> Table<V, N> {
 
     /// What the node passes on of a path: what it heard for it, wrapped.
     pub fn relay(&self, path: &Path) -> Wrapped<V>
+    where
+        Nodes: Capacity<N>,
         requires members { (q : ℕ) → has_id path.now q ≡ true → has_id self.now.members q ≡ true }
         requires others { has_id path.now self.now.me ≡ false }
         requires short { length path.now ≤ self.now.rounds + 1 }
@@ -156,7 +160,8 @@ impl<V: Copy + Eq + Drop, const N: usize> Table<V, N> {
     /// What the node settles for the item of a member: its own item where it is Full and that
     /// member, and else what follows from what it heard. All that was heard stays.
     pub fn settle(&mut self, commander: u8) -> Wrapped<V>
-        requires exact { IsExact V.eq }
+    where
+        Nodes: Capacity<N>,
         requires member { has_id self.old.members commander ≡ true }
         ensures settled { result ≡ settled_from V.eq (ear_of self.old) self.old.own commander }
         ensures kept { self.new ≡ self.old }

@@ -9,3 +9,4 @@ pub mod Layout
 pub mod MemberLaws
 pub use Rattle.node_grid.specs.Count
 pub mod VoteLaws
+pub mod Exact

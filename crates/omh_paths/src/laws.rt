@@ -1,14 +1,14 @@
 //! The laws of majorities and of paths, over their definitions alone.
 
-ghost use Rattle.omh_paths.specs.Wrapped.{IsExact};
 ghost use Rattle.omh_paths.specs.Majority.{MajorityLaw};
 ghost use Rattle.omh_paths.specs.Paths.{PathsLaw, RanksLaw};
 ghost use Rattle.omh_paths.specs.Tables.{TablesLaw};
 
+use crate::Exact;
+
 /// What the majority is: the value at more than half of the places that hold no error, or
 /// `Fault(1)`.
-pub fn majorities<V: Copy + Eq>()
-    requires { IsExact V.eq }
+pub fn majorities<V: Exact>()
     ensures { MajorityLaw V.eq }
 {}
 

@@ -1,10 +1,9 @@
 ghost use Rattle.std.specs.Prelude.{◌≡◌, ℕ, ◌<◌, ◌≤◌, ◌*◌, ◌/◌, ◌%◌, length, slice_index, true};
-ghost use Rattle.node_grid.specs.Capacity.{IsCapacity};
 ghost use Rattle.node_grid.specs.NodeSet.{has_id, ids_below};
 ghost use Rattle.omh_paths.specs.Paths.{paths_of_length, path_count, place_in, path_at};
 
 use crate::path::{MAX_NODES, Path};
-use node_grid::NodeSet;
+use node_grid::{Capacity, NodeSet, Nodes};
 
 /// The number of paths of `len` nodes out of `k`: k (k - 1) .. (k - len + 1), and 0 where `len` is
 /// more than `k`.
@@ -41,7 +40,8 @@ fn product(k: u8, len: u8) -> usize
 ///
 /// This counts up from the least member: there are few, and a division would take longer.
 fn split_place<const N: usize>(set: &NodeSet<N>, behind: usize, index: usize) -> (u8, usize)
-    requires capacity { IsCapacity N }
+where
+    Nodes: Capacity<N>,
     requires within { index < length set.now * behind }
     ensures node { result.0 ≡ slice_index set.now (index / behind) }
     ensures rest { result.1 ≡ index % behind }
@@ -58,7 +58,8 @@ fn split_place<const N: usize>(set: &NodeSet<N>, behind: usize, index: usize) ->
 
 /// The place of the path among all paths of its length over the set, in lexicographic order.
 pub fn rank<const N: usize>(set: &NodeSet<N>, path: &Path) -> usize
-    requires capacity { IsCapacity N }
+where
+    Nodes: Capacity<N>,
     requires within { (q : ℕ) → has_id path.now q ≡ true → has_id set.now q ≡ true }
     ensures place { result ≡ place_in (paths_of_length set.now (length path.now)) path.now }
     ensures in_range { result < path_count (length set.now) (length path.now) }
@@ -78,7 +79,8 @@ pub fn rank<const N: usize>(set: &NodeSet<N>, path: &Path) -> usize
 /// The path of `len` nodes over the set that stands at a place in lexicographic order: the inverse
 /// of [`rank`].
 pub fn unrank<const N: usize>(set: &NodeSet<N>, len: u8, index: usize) -> Path
-    requires capacity { IsCapacity N }
+where
+    Nodes: Capacity<N>,
     requires some { 0 < len }
     requires few { len ≤ 4 }
     requires in_range { index < path_count (length set.now) len }

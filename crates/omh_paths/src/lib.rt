@@ -3,12 +3,14 @@
 //! Nothing here takes memory or refuses anything.
 #![tactic(auto)]
 
+mod exact;
 pub mod laws;
 mod lexicographic;
 mod path;
 mod voting;
 mod wrapped;
 
+pub use exact::Exact;
 pub use lexicographic::{count_paths, rank, unrank};
 pub use path::Path;
 pub use voting::majority;

@@ -1,10 +1,10 @@
 ghost use Rattle.std.specs.Prelude.{◌≡◌, false};
-ghost use Rattle.omh_paths.specs.Wrapped.{IsExact, is_error, same};
+ghost use Rattle.omh_paths.specs.Wrapped.{is_error, same};
 ghost use Rattle.omh_paths.specs.Majority.{has_majority, majority as majority_of, IsOnlyCandidate};
 
-use crate::Wrapped;
+use crate::{Exact, Wrapped};
 
-impl<V: Copy + Eq> Wrapped<V> {
+impl<V: Exact> Wrapped<V> {
     /// Whether this is the error itself.
     fn is_error(&self) -> bool
         ensures { result ≡ is_error self.now }
@@ -25,8 +25,7 @@ impl<V: Copy + Eq> Wrapped<V> {
 
 /// The only value that can have the majority: each value of another kind takes away one place that
 /// it leads by (Boyer and Moore 1991).
-fn candidate<V: Copy + Eq>(values: &[Wrapped<V>]) -> Wrapped<V>
-    requires { IsExact V.eq }
+fn candidate<V: Exact>(values: &[Wrapped<V>]) -> Wrapped<V>
     ensures { IsOnlyCandidate V.eq values.now result }
 {
     let mut candidate = Wrapped::Fault(1);
@@ -48,8 +47,7 @@ fn candidate<V: Copy + Eq>(values: &[Wrapped<V>]) -> Wrapped<V>
 }
 
 /// Whether a value that is no error has the majority.
-fn has_majority<V: Copy + Eq>(values: &[Wrapped<V>], value: Wrapped<V>) -> bool
-    requires exact { IsExact V.eq }
+fn has_majority<V: Exact>(values: &[Wrapped<V>], value: Wrapped<V>) -> bool
     requires good { is_error value ≡ false }
     ensures { result ≡ has_majority V.eq values.now value }
 {
@@ -70,8 +68,7 @@ fn has_majority<V: Copy + Eq>(values: &[Wrapped<V>], value: Wrapped<V>) -> bool
 /// there is none.
 ///
 /// `Fault(0)` is left out as in the hybrid majority of Lincoln and Rushby (1993).
-pub fn majority<V: Copy + Eq>(values: &[Wrapped<V>]) -> Wrapped<V>
-    requires { IsExact V.eq }
+pub fn majority<V: Exact>(values: &[Wrapped<V>]) -> Wrapped<V>
     ensures { result ≡ majority_of V.eq values.now }
 {
     let candidate = candidate(values);

@@ -1,10 +1,10 @@
 ghost use Rattle.std.specs.Prelude.{◌≡◌, ℕ, ◌<◌, ◌≤◌, ◌+◌, ◌^◌, replicate, slice_index};
-ghost use Rattle.node_grid.specs.Capacity.{IsCapacity};
 ghost use Rattle.penalty.specs.Policy.{IsPolicy};
 ghost use Rattle.penalty.specs.Step.{penalty, count_after, streak_after, counts_after};
 ghost use Rattle.penalty.specs.Step.{streaks_after, IsCounted};
 
 use crate::Policy;
+use node_grid::{Capacity, Nodes};
 
 /// For each node the penalties that it has gathered, and its streak: how many periods it has gone
 /// without a charge since the last one, or since its last full streak.
@@ -16,10 +16,12 @@ pub struct Counts<const N: usize> {
     pub streaks: [u16; N],
 }
 
-impl<const N: usize> Counts<N> {
+impl<const N: usize> Counts<N>
+where
+    Nodes: Capacity<N>,
+{
     /// Nothing was gathered by anybody.
     pub fn zero() -> Self
-        requires { IsCapacity N }
         ensures counts { result.counts ≡ replicate N 0 }
         ensures streaks { result.streaks ≡ replicate N 0 }
     {
@@ -32,7 +34,6 @@ impl<const N: usize> Counts<N> {
     /// A period's step, in which each of the `nodes` nodes in use is charged with the kinds of its
     /// mask.
     pub fn step(&mut self, policy: &Policy, nodes: u8, charged: &[u16; N])
-        requires capacity { IsCapacity N }
         requires nodes { nodes ≤ N }
         requires policy { IsPolicy policy.now }
         requires counted { IsCounted policy.now nodes self.old.counts self.old.streaks }

@@ -1,12 +1,11 @@
 ghost use Rattle.std.specs.Prelude.{◌≡◌, ◌+◌, ◌≤◌, ◌<◌, ◌∷◌, []};
 ghost use Rattle.std.specs.Prelude.{length, replicate, slice_index_or, IfOk};
-ghost use Rattle.node_grid.specs.Capacity.{IsCapacity};
 ghost use Rattle.node_grid.specs.NodeSet.{IsIdSet};
 ghost use Rattle.path_order.specs.Order.{each_left_out};
 ghost use Rattle.relay_walk.specs.Laid.{laid};
 ghost use Rattle.relay_table.specs.Free.{free_begins, AreFree, left_out_of};
 
-use node_grid::NodeSet;
+use node_grid::{Capacity, NodeSet, Nodes};
 use omh_paths::count_paths;
 use std::alloc::{AllocError, Global};
 
@@ -29,7 +28,8 @@ pub(crate) fn no_sets<const N: usize>(
     alloc: Global,
     len: usize,
 ) -> Result<Vec<NodeSet<N>>, AllocError>
-    requires capacity { IsCapacity N }
+where
+    Nodes: Capacity<N>,
     ensures { IfOk result (λ sets. sets.items ≡ replicate len []) }
 {
     let mut sets = Vec::with_capacity(alloc, len)?;
@@ -41,7 +41,8 @@ pub(crate) fn no_sets<const N: usize>(
 
 /// Puts a set in place of another one.
 fn set_set<const N: usize>(sets: &mut [NodeSet<N>], place: usize, set: &NodeSet<N>)
-    requires capacity { IsCapacity N }
+where
+    Nodes: Capacity<N>,
     requires place { place < length sets.old }
     ensures { sets.new ≡ laid place (set.now ∷ []) sets.old }
 {
@@ -51,7 +52,8 @@ fn set_set<const N: usize>(sets: &mut [NodeSet<N>], place: usize, set: &NodeSet<
 /// Lays what is left of a set without each of its members from a place on, and answers the place
 /// behind.
 fn lay_each_left_out<const N: usize>(set: &NodeSet<N>, at: usize, sets: &mut [NodeSet<N>]) -> usize
-    requires capacity { IsCapacity N }
+where
+    Nodes: Capacity<N>,
     requires room { at + length set.now ≤ length sets.old }
     ensures sets { sets.new ≡ laid at (each_left_out set.now) sets.old }
     ensures behind { result ≡ at + length set.now }
@@ -68,7 +70,8 @@ fn lay_each_left_out<const N: usize>(set: &NodeSet<N>, at: usize, sets: &mut [No
 /// Lays what is left of each of the sets from one place until another behind them, and answers the
 /// place behind.
 fn lay_longer<const N: usize>(from: usize, until: usize, sets: &mut [NodeSet<N>]) -> usize
-    requires capacity { IsCapacity N }
+where
+    Nodes: Capacity<N>,
     requires order { from ≤ until }
     requires room { until + length (left_out_of from until sets.old) ≤ length sets.old }
     ensures sets { sets.new ≡ laid until (left_out_of from until sets.old) sets.old }
@@ -87,7 +90,8 @@ fn lay_longer<const N: usize>(from: usize, until: usize, sets: &mut [NodeSet<N>]
 ///
 /// No path is worked out: behind each set stand those without one of its members.
 pub(crate) fn lay_free<const N: usize>(members: &NodeSet<N>, m: u8, sets: &mut [NodeSet<N>])
-    requires capacity { IsCapacity N }
+where
+    Nodes: Capacity<N>,
     requires rounds { m ≤ 3 }
     requires room { IsIdSet N members.now
         → free_begins (length members.now) (m + 1) ≤ length sets.old }

@@ -20,7 +20,7 @@ ghost use Rattle.relay_table.specs.Tabled.{AreKnown, kept_nodes, told_in, term_o
 
 use crate::free::{free_begins, lay_free};
 use equivocation::tolerated;
-use node_grid::NodeSet;
+use node_grid::{Capacity, NodeSet, Nodes};
 use omh_paths::count_paths;
 use relay_terms::{Item, Term, settled_from};
 use relay_walk::{Round, set_term};
@@ -85,6 +85,8 @@ pub(crate) struct Station<const N: usize> {
 impl<const N: usize> Station<N> {
     /// Takes up the members, the node itself and whether it is Full.
     pub(crate) fn seat(&mut self, members: &NodeSet<N>, me: u8, full: bool)
+    where
+        Nodes: Capacity<N>,
         requires station { IsLaidOut self.old }
         requires members { (q : ℕ) → has_id members.now q ≡ true → q < self.old.nodes }
         requires me { me < self.old.nodes }

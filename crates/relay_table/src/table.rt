@@ -12,7 +12,7 @@ ghost use Rattle.relay_table.specs.Tabled.{after_frames, term_of, settled_in, co
 
 use crate::free::{free_begins, no_sets};
 use crate::station::{Station, section_at};
-use node_grid::{NoMemory, NodeSet};
+use node_grid::{Capacity, NoMemory, NodeSet, Nodes};
 use omh_paths::count_paths;
 use relay_terms::{Item, Term};
 use relay_walk::Round;
@@ -90,7 +90,8 @@ impl<V, const N: usize> Model for Table<V, N> {
 impl<V: Item, const N: usize> Table<V, N> {
     /// A table for members out of `nodes` nodes and `m` rounds of relaying, with no members yet.
     pub fn open(alloc: Global, nodes: u8, m: u8) -> Result<Table<V, N>, NoMemory>
-        requires capacity { IsCapacity N }
+    where
+        Nodes: Capacity<N>,
         requires nodes { nodes ≤ N }
         requires rounds { m ≤ 3 }
         ensures { IfOk result (λ t. t ≡ unstarted nodes m) }
@@ -125,6 +126,8 @@ impl<V: Item, const N: usize> Table<V, N> {
     /// Forgets all that was heard, and takes up the members, the node itself, whether it is Full,
     /// and its own item.
     pub fn start(&mut self, members: &NodeSet<N>, me: u8, full: bool, own: V)
+    where
+        Nodes: Capacity<N>,
         requires members { (q : ℕ) → has_id members.now q ≡ true → q < self.old.nodes }
         requires me { me < self.old.nodes }
         ensures { self.new ≡ started self.old members.now me full (Plain own) }

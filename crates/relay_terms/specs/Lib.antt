@@ -1,4 +1,3 @@
 pub mod Terms
 pub mod Tallies
 pub mod TallyLaws
-pub mod Exact

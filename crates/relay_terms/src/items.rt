@@ -2,15 +2,12 @@
 
 ghost use Rattle.std.specs.Prelude.{◌≡◌, ◌*◌, ◌/◌, ◌≤◌, length, min, slice_index};
 ghost use Rattle.frames.specs.Reading.{content_row};
-ghost use Rattle.relay_terms.specs.Exact.{numbers_exact, rows_exact};
 
 use crate::term::Item;
 use node_grid::Row;
 
 impl Item for u8 {
     ghost of_bytes = { λ bytes. slice_index bytes 0 };
-
-    ghost exact = { numbers_exact };
 
     fn blank() -> u8 {
         0
@@ -39,8 +36,6 @@ fn read_row<const N: usize>(bytes: &[u8], nodes: usize) -> Row<N>
 
 impl<const N: usize> Item for Row<N> {
     ghost of_bytes = { λ bytes. content_row N (min (length bytes / 2) N) bytes };
-
-    ghost exact = { rows_exact };
 
     fn blank() -> Row<N> {
         Row { masks: [0; N] }

@@ -1,15 +1,15 @@
 ghost use Rattle.std.specs.Prelude.{◌≡◌, ◌≢◌, ◌+◌, ◌<◌, ℕ, List, length, drop, slice_index};
 ghost use Rattle.omh_paths.specs.declared.wrapped.Wrapped.TheVariants.{Plain, Fault};
-ghost use Rattle.omh_paths.specs.Wrapped.{IsExact, wrapped, unwrapped, is_error, same};
+ghost use Rattle.omh_paths.specs.Wrapped.{wrapped, unwrapped, is_error, same};
 ghost use Rattle.relay_terms.specs.Terms.{said, term_in};
 
-use omh_paths::Wrapped;
+use omh_paths::{Exact, Wrapped};
 
 /// The tag of a term of which nothing was heard.
 const NOTHING: u8 = 255;
 
 /// What relays pass on of a node, as the bytes that it has in a frame.
-pub trait Item: Copy + Eq + Drop {
+pub trait Item: Exact + Drop {
     /// The item that these bytes are.
     ghost of_bytes: { List ℕ → Self };
 
@@ -19,9 +19,6 @@ pub trait Item: Copy + Eq + Drop {
     /// The item of these bytes.
     fn read(bytes: &[u8]) -> Self
         ensures { result ≡ of_bytes bytes.now };
-
-    /// Items are equal only where they are the same.
-    ghost exact: { IsExact Self.PartialEq.eq };
 }
 
 /// An item, or an error with the number of relays that it went through.

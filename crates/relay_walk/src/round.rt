@@ -1,10 +1,9 @@
 ghost use Rattle.std.specs.Prelude.{◌≡◌, ◌-◌, ◌<◌, ◌∷◌, [], take, drop, true};
 ghost use Rattle.std.specs.Prelude.{replicate, slice_index, slice_set};
-ghost use Rattle.node_grid.specs.Capacity.{IsCapacity};
 ghost use Rattle.node_grid.specs.NodeSet.{has_id, with_id};
 ghost use Rattle.relay_walk.specs.Walking.{IsMoved, HaveNext, HaveLast};
 
-use node_grid::NodeSet;
+use node_grid::{Capacity, NodeSet, Nodes};
 
 /// The frames of a relay round, all in one room, and how far each is read.
 #[derive(Clone, Copy)]
@@ -27,7 +26,8 @@ impl<'a, const N: usize> Round<'a, N> {
     /// A round with `size` bytes of entries a frame, `width` bytes each, of which no frame came
     /// yet.
     pub fn open(room: &'a [u8], width: usize, size: usize) -> Round<'a, N>
-        requires capacity { IsCapacity N }
+    where
+        Nodes: Capacity<N>,
         ensures none { result.present ≡ [] }
         ensures begins { result.begins ≡ replicate N 0 }
         ensures next { result.next ≡ replicate N 0 }
@@ -47,7 +47,8 @@ impl<'a, const N: usize> Round<'a, N> {
 
     /// Takes up a member's frame, whose entries begin at a place of the room.
     pub fn put(&mut self, member: u8, begins: usize)
-        requires capacity { IsCapacity N }
+    where
+        Nodes: Capacity<N>,
         requires member { member < N }
         ensures begins { self.new.begins ≡ slice_set self.old.begins member begins }
         ensures next { self.new.next ≡ slice_set self.old.next member begins }

@@ -1,7 +1,6 @@
 //! What the frames of a round of the other members say.
 
 ghost use Rattle.std.specs.Prelude.{ℕ, ◌≡◌, ◌≢◌, ◌<◌, ◌≤◌, true};
-ghost use Rattle.node_grid.specs.Capacity.{IsCapacity};
 ghost use Rattle.node_grid.specs.NodeSet.{has_id};
 ghost use Rattle.error_detect.specs.Watching.{told_at, IsHeardBy};
 ghost use Rattle.relay_terms.specs.Terms.{term_in};
@@ -12,13 +11,15 @@ ghost use Rattle.relaying.specs.Told.{part_told, IsRoundHeard, IsRelayHeard};
 
 use crate::item::{RelayedItem, item_of};
 use error_detect::SlotWatch;
+use node_grid::{Capacity, Nodes};
 use omh_paths::count_paths;
 use relay_table::Table;
 use relay_walk::Round;
 
 /// The item that another node told of itself in the slot that was closed last, where it told one.
 fn item_told<V: RelayedItem<N>, const N: usize>(watch: &SlotWatch<N>, node: u8) -> Option<V>
-    requires capacity { IsCapacity N }
+where
+    Nodes: Capacity<N>,
     requires node { node < watch.now.nodes }
     requires closed { IsHeardBy watch.now watch.now.nodes watch.now.me }
     requires other { node ≢ watch.now.me }
@@ -32,6 +33,8 @@ fn item_told<V: RelayedItem<N>, const N: usize>(watch: &SlotWatch<N>, node: u8) 
 
 /// Takes the item that each of the other members told of itself in the slot that was closed last.
 fn hear_items<V: RelayedItem<N>, const N: usize>(table: &mut Table<V, N>, watch: &SlotWatch<N>)
+where
+    Nodes: Capacity<N>,
     requires closed { IsHeardBy watch.now table.old.nodes table.old.me }
     ensures { table.new ≡ after_round V.form table.old.nodes watch.now 0 table.old }
 {
@@ -49,6 +52,8 @@ pub(crate) fn round_of<'w, V: RelayedItem<N>, const N: usize>(
     watch: &'w SlotWatch<N>,
     round: u8,
 ) -> Round<'w, N>
+where
+    Nodes: Capacity<N>,
     requires relay { IsRelayHeard N V.kind round table.now watch.now }
     ensures walk { IsWalk table.now.members (others_in table.now) round 0 result }
     ensures told { (q : ℕ) → has_id (others_in table.now) q ≡ true →
@@ -76,6 +81,8 @@ pub fn hear_round<V: RelayedItem<N>, const N: usize>(
     watch: &SlotWatch<N>,
     round: u8,
 )
+where
+    Nodes: Capacity<N>,
     requires kept { round < kept_nodes table.old.rounds }
     requires heard { IsRoundHeard N V.kind round table.old watch.now }
     ensures { table.new ≡ after_round V.form table.old.nodes watch.now round table.old }

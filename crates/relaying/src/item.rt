@@ -1,7 +1,6 @@
 //! Items that are told and relayed.
 
 ghost use Rattle.std.specs.Prelude.{◌≡◌, ◌≢◌, ℕ, ◌+◌, ◌*◌, ◌≤◌, List, length, Option, Some, None};
-ghost use Rattle.node_grid.specs.Capacity.{IsCapacity};
 ghost use Rattle.omh_paths.specs.declared.wrapped.Wrapped.{Wrapped};
 ghost use Rattle.omh_paths.specs.declared.wrapped.Wrapped.TheVariants.{Fault};
 ghost use Rattle.frames.specs.Spelling.{claim_spelling, relayed_row_spelling};
@@ -17,7 +16,7 @@ ghost use Rattle.relaying.specs.ItemLaws.{claims_begun, rows_begun};
 ghost use Rattle.relaying.specs.ItemLaws.{claims_relayed, rows_relayed};
 
 use frames::{Body, put_done, put_row};
-use node_grid::Row;
+use node_grid::{Capacity, Nodes, Row};
 use omh_paths::Wrapped;
 use relay_terms::Item;
 
@@ -68,7 +67,8 @@ pub trait RelayedItem<const N: usize>: Item {
 
     /// Writes entry `k`, and leaves all else.
     fn put(out: &mut [u8], nodes: u8, k: usize, value: &Wrapped<Self>)
-        requires capacity { IsCapacity N }
+    where
+        Nodes: Capacity<N>,
         requires nodes { nodes ≤ N }
         requires fits { width nodes * k + width nodes ≤ length out.old }
         requires some { value.now ≢ Fault 0 }
@@ -125,7 +125,10 @@ impl<const N: usize> RelayedItem<N> for u8 {
     }
 }
 
-impl<const N: usize> RelayedItem<N> for Row<N> {
+impl<const N: usize> RelayedItem<N> for Row<N>
+where
+    Nodes: Capacity<N>,
+{
     ghost form = { row_form };
 
     ghost width = { λ nodes. 1 + 2 * nodes };

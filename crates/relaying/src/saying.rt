@@ -2,7 +2,6 @@
 
 ghost use Rattle.std.specs.Prelude.{◌≡◌, ◌≢◌, ◌+◌, ◌*◌, ◌<◌, ◌≤◌, map, length, vec_capacity};
 ghost use Rattle.std.specs.List.{flat_map};
-ghost use Rattle.node_grid.specs.Capacity.{IsCapacity};
 ghost use Rattle.omh_paths.specs.Wrapped.{wrapped};
 ghost use Rattle.omh_paths.specs.declared.wrapped.Wrapped.TheVariants.{Fault};
 ghost use Rattle.frames.specs.Seen.{expected};
@@ -14,6 +13,7 @@ ghost use Rattle.relaying.specs.Round.{IsRoundOf, IsOwnRound, CanPut};
 
 use crate::item::RelayedItem;
 use frames::{Expect, HEADER, header};
+use node_grid::{Capacity, Nodes};
 use omh_paths::count_paths;
 use relay_table::Table;
 use relay_terms::Term;
@@ -39,7 +39,8 @@ fn put_wrapped<V: RelayedItem<N>, const N: usize>(
     place: usize,
     term: &Term<V>,
 )
-    requires capacity { IsCapacity N }
+where
+    Nodes: Capacity<N>,
     requires nodes { nodes ≤ N }
     requires fits { V.width nodes * place + V.width nodes ≤ length out.old }
     requires few { said term.now ≢ Fault 254 }
@@ -51,7 +52,8 @@ fn put_wrapped<V: RelayedItem<N>, const N: usize>(
 
 /// Writes terms one after another, as a relay passes them on.
 fn put_terms<V: RelayedItem<N>, const N: usize>(out: &mut [u8], nodes: u8, terms: &[Term<V>])
-    requires capacity { IsCapacity N }
+where
+    Nodes: Capacity<N>,
     requires nodes { nodes ≤ N }
     requires can { CanPut (V.width nodes) (V.spelling nodes) (map said terms.now)
         (length out.old) }
@@ -66,6 +68,8 @@ fn put_terms<V: RelayedItem<N>, const N: usize>(out: &mut [u8], nodes: u8, terms
 /// Writes what the node itself passes on in a relay round to the front of `out`: nothing where it
 /// is no member.
 fn write_own<V: RelayedItem<N>, const N: usize>(table: &Table<V, N>, round: u8, out: &mut [u8])
+where
+    Nodes: Capacity<N>,
     requires round { IsOwnRound N V.kind V.in_range round table.now }
     requires room { length (flat_map (V.spelling table.now.nodes) (relays table.now round)) ≤
         length out.old }
@@ -87,6 +91,8 @@ pub fn say_round<V: RelayedItem<N>, const N: usize>(
     round: u8,
     out: &mut Vec<u8>,
 )
+where
+    Nodes: Capacity<N>,
     requires some_round { 0 < round }
     requires round { round ≤ table.now.rounds }
     requires slot { IsRoundOf N V.kind V.in_range round table.now (expected expect.now) }

@@ -1,7 +1,6 @@
 //! What a node settles of the items of all members, and whom it convicts.
 
 ghost use Rattle.std.specs.Prelude.{◌≡◌, ◌==◌, ◌&&◌, ◌<◌, not, map, length};
-ghost use Rattle.node_grid.specs.Capacity.{IsCapacity};
 ghost use Rattle.node_grid.specs.NodeSet.{ids_where};
 ghost use Rattle.omh.specs.Heard.{Hearing, ear_of, forgotten};
 ghost use Rattle.protocol.specs.FurtherKinds.{convicts_member};
@@ -15,13 +14,15 @@ ghost use Rattle.relaying.specs.Told.{IsRoundHeard, IsHeardWhereKept};
 use crate::hearing::{hear_round, round_of};
 use crate::item::RelayedItem;
 use error_detect::SlotWatch;
-use node_grid::{Matrix, NodeSet, Row};
+use node_grid::{Capacity, Matrix, NodeSet, Nodes, Row};
 use omh_paths::Wrapped;
 use relay_table::Table;
 use relay_terms::Term;
 
 /// Hears the last round where its terms are kept.
 fn hear_kept<V: RelayedItem<N>, const N: usize>(table: &mut Table<V, N>, watch: &SlotWatch<N>)
+where
+    Nodes: Capacity<N>,
     requires heard { IsRoundHeard N V.kind table.old.rounds table.old watch.now }
     ensures { IsHeardWhereKept V.form watch.now table.old table.new }
 {
@@ -38,6 +39,8 @@ fn settle_items<V: RelayedItem<N>, const N: usize>(
     watch: &SlotWatch<N>,
     items: &mut [Term<V>],
 )
+where
+    Nodes: Capacity<N>,
     requires heard { IsRoundHeard N V.kind table.old.rounds table.old watch.now }
     requires room { length items.old ≡ N }
     ensures settled { (was : Hearing V) → IsHeardWhereKept V.form watch.now was table.old →
@@ -64,6 +67,8 @@ pub fn settle<V: RelayedItem<N>, const N: usize>(
     watch: &SlotWatch<N>,
     items: &mut [Term<V>],
 ) -> NodeSet<N>
+where
+    Nodes: Capacity<N>,
     requires heard { IsRoundHeard N V.kind table.old.rounds table.old watch.now }
     requires room { length items.old ≡ N }
     ensures settled { map (λ t. plain (said t)) items.new ≡ settled_in V.eq N
@@ -83,7 +88,8 @@ pub fn settle<V: RelayedItem<N>, const N: usize>(
 
 /// The settled claims: `Fault(0)` where nothing is settled.
 pub fn claims_of<const N: usize>(items: &[Term<u8>; N]) -> [Wrapped<u8>; N]
-    requires capacity { IsCapacity N }
+where
+    Nodes: Capacity<N>,
     ensures { result ≡ map (λ t. as_claim (plain (said t))) items.now }
 {
     let mut claims = [Wrapped::Fault(0); N];
@@ -98,7 +104,8 @@ pub fn claims_of<const N: usize>(items: &[Term<u8>; N]) -> [Wrapped<u8>; N]
 
 /// The settled rows.
 pub fn rows_of<const N: usize>(items: &[Term<Row<N>>; N]) -> Matrix<N>
-    requires capacity { IsCapacity N }
+where
+    Nodes: Capacity<N>,
     ensures { result ≡ map (λ t. plain (said t)) items.now }
 {
     let mut rows = Matrix::empty();

@@ -1,5 +1,4 @@
 pub mod Numbers
-pub mod Rooms
 pub mod Illnesses
 pub mod Growing
 pub mod Found

@@ -10,6 +10,7 @@ ghost use Rattle.run_judged.specs.Apart.{offset_in, clocks_apart, skew_in};
 use crate::illness::is_sound;
 use crate::seen::Seen;
 use crate::tally::greater;
+use node_grid::{Capacity, Nodes};
 
 /// The least and the greatest number, with one more.
 fn widened(range: Option<(i64, i64)>, number: i64) -> (i64, i64)
@@ -43,6 +44,8 @@ fn width(range: Option<(i64, i64)>) -> Option<u64>
 
 /// The vote of a sound node on a channel; none of another node, and of a channel that isn't due.
 fn vote<const N: usize>(seen: &Seen<'_, N>, channel: u8, node: u8) -> Option<i64>
+where
+    Nodes: Capacity<N>,
     requires in_use { node < seen.now.shown.now.head.nodes }
     requires channel { channel < 8 }
     ensures { result ≡ vote_in (record_of seen.now.shown.now) channel node }
@@ -56,6 +59,8 @@ fn vote<const N: usize>(seen: &Seen<'_, N>, channel: u8, node: u8) -> Option<i64
 
 /// How far the votes of sound nodes on a channel are apart.
 fn votes_apart<const N: usize>(seen: &Seen<'_, N>, channel: u8) -> Option<u64>
+where
+    Nodes: Capacity<N>,
     requires { channel < 8 }
     ensures { result ≡ votes_apart (record_of seen.now.shown.now) channel }
 {
@@ -69,6 +74,8 @@ fn votes_apart<const N: usize>(seen: &Seen<'_, N>, channel: u8) -> Option<u64>
 
 /// How far they are apart on any of the first channels.
 fn votes_apart_on<const N: usize>(seen: &Seen<'_, N>, channels: u8) -> Option<u64>
+where
+    Nodes: Capacity<N>,
     requires { channels ≤ 8 }
     ensures { result ≡ greatest (votes_apart (record_of seen.now.shown.now)) channels }
 {
@@ -83,6 +90,8 @@ fn votes_apart_on<const N: usize>(seen: &Seen<'_, N>, channels: u8) -> Option<u6
 /// How far votes of sound nodes on any of the first channels are apart in a claimed period; none
 /// where it isn't claimed.
 pub(crate) fn spread<const N: usize>(seen: &Seen<'_, N>, channels: u8) -> Option<u64>
+where
+    Nodes: Capacity<N>,
     requires { channels ≤ 8 }
     ensures { result ≡ spread_in (record_of seen.now.shown.now) channels }
 {

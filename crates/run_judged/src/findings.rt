@@ -1,7 +1,6 @@
 //! What is found of all nodes in a period.
 
 ghost use Rattle.std.specs.Prelude.{◌≡◌, ℕ, ◌<◌, ◌≤◌, ◌==◌, Some, not, slice_index};
-ghost use Rattle.node_grid.specs.Capacity.{IsCapacity};
 ghost use Rattle.node_grid.specs.Class.{is_sound, is_nonfaulty};
 ghost use Rattle.node_grid.specs.NodeSet.{ids_where, has_id};
 ghost use Rattle.shown_period.specs.Whole.{record_of};
@@ -17,13 +16,14 @@ use crate::illness::{Sign, is_sound};
 use crate::seen::Seen;
 use error_reports::charged_all;
 use fault_classes::FaultPlan;
-use node_grid::{Class, NodeSet};
+use node_grid::{Capacity, Class, NodeSet, Nodes};
 use scenario::Scenario;
 
 /// The nodes whose class is sound.
 #[tactic(auto, using(node_grid::specs::NodeSetLaws::id_loops, crate::proofs::Sets::of_nodes))]
 fn sound_nodes<const N: usize>(classes: &[Class; N], nodes: u8) -> NodeSet<N>
-    requires capacity { IsCapacity N }
+where
+    Nodes: Capacity<N>,
     requires nodes { nodes ≤ N }
     ensures { result ≡ ids_where (λ j. is_sound (class_at classes.now j)) nodes }
 {
@@ -49,7 +49,8 @@ fn is_faulty(class: Class) -> bool
 /// The nodes whose class isn't nonfaulty.
 #[tactic(auto, using(node_grid::specs::NodeSetLaws::id_loops, crate::proofs::Sets::of_nodes))]
 fn faulty_nodes<const N: usize>(classes: &[Class; N], nodes: u8) -> NodeSet<N>
-    requires capacity { IsCapacity N }
+where
+    Nodes: Capacity<N>,
     requires nodes { nodes ≤ N }
     ensures { result ≡ ids_where (λ j. not (is_nonfaulty (class_at classes.now j))) nodes }
 {
@@ -72,7 +73,8 @@ fn has_kind(mask: u16) -> bool
 /// The nodes whose mask has a kind.
 #[tactic(auto, using(node_grid::specs::NodeSetLaws::id_loops, crate::proofs::Sets::of_nodes))]
 fn marked_nodes<const N: usize>(masks: &[u16; N], nodes: u8) -> NodeSet<N>
-    requires capacity { IsCapacity N }
+where
+    Nodes: Capacity<N>,
     requires nodes { nodes ≤ N }
     ensures { result ≡ ids_where (λ j. not (slice_index masks.now j == 0)) nodes }
 {
@@ -97,7 +99,8 @@ fn is_touched<const N: usize>(plan: &FaultPlan<N>, node: u8, period: u32) -> boo
 /// The nodes a frame of which some line touches in the period.
 #[tactic(auto, using(node_grid::specs::NodeSetLaws::id_loops, crate::proofs::Sets::of_nodes))]
 fn touched_nodes<const N: usize>(plan: &FaultPlan<N>, nodes: u8, period: u32) -> NodeSet<N>
-    requires capacity { IsCapacity N }
+where
+    Nodes: Capacity<N>,
     requires nodes { nodes ≤ N }
     requires in_use { nodes ≤ plan.now.nodes }
     requires period { period < plan.now.periods }
@@ -114,6 +117,8 @@ fn touched_nodes<const N: usize>(plan: &FaultPlan<N>, nodes: u8, period: u32) ->
 
 /// The nodes that the rows which the reference node settled charge with something.
 fn charged_nodes<const N: usize>(seen: &Seen<'_, N>) -> NodeSet<N>
+where
+    Nodes: Capacity<N>,
     ensures { (j : ℕ) → j < seen.now.shown.now.head.nodes
         → has_id result j ≡ is_charged_by (reference_outcome (record_of seen.now.shown.now)) j }
 {
@@ -128,6 +133,8 @@ fn charged_nodes<const N: usize>(seen: &Seen<'_, N>) -> NodeSet<N>
 
 /// The members of the reference node's state after the period; none without a state.
 fn members_after<const N: usize>(seen: &Seen<'_, N>) -> Option<NodeSet<N>>
+where
+    Nodes: Capacity<N>,
     ensures { result ≡ members_after (record_of seen.now.shown.now) }
 {
     let shown = seen.shown;
@@ -168,6 +175,8 @@ fn joined_nodes<const N: usize>(before: &NodeSet<N>, after: &Option<NodeSet<N>>)
 impl<const N: usize> Findings<N> {
     /// What is found of the nodes in a period of the scenario's run.
     pub(crate) fn of(scenario: &Scenario<N>, period: u32, seen: &Seen<'_, N>) -> Findings<N>
+    where
+        Nodes: Capacity<N>,
         requires in_run { period < scenario.now.periods }
         requires shown { ShowsPeriod scenario.now period seen.now.shown.now }
         requires fits { FitsScenario scenario.now seen.now.shown.now }

@@ -3,14 +3,12 @@
 ghost use Rattle.std.specs.Prelude.{◌≡◌, ◌+◌, ◌*◌, ◌-◌, ◌^◌, ◌<◌, ◌≤◌, ◌++◌, ◌&&◌, ℕ, not, []};
 ghost use Rattle.std.specs.Prelude.{map, length, All, IfOk, vec_capacity};
 ghost use Rattle.node_grid.specs.NodeSet.{ids_below, ids_where, has_id};
-ghost use Rattle.node_grid.specs.Capacity.{IsCapacity};
-ghost use Rattle.run_judged.specs.Rooms.{capacity-prop};
 ghost use Rattle.run_judged.specs.Found.{sign_by};
 ghost use Rattle.run_judged.specs.Growing.{begun, grown, IsOf};
 
 use crate::found::Findings;
 use crate::illness::Illness;
-use node_grid::{NoMemory, NodeSet};
+use node_grid::{Capacity, NoMemory, NodeSet, Nodes};
 use std::alloc::Global;
 
 /// How many periods a run has at most.
@@ -23,7 +21,6 @@ pub(crate) struct Illnesses<const N: usize> {
     pub(crate) list: Vec<Illness>,
     /// The nodes that were sound in the last period; all before the first.
     pub(crate) sound: NodeSet<N>,
-    ghost capacity: { IsCapacity N } by { capacity-prop N },
     ghost room: { N * 1024 ≤ vec_capacity list },
 }
 
@@ -46,7 +43,8 @@ impl<const N: usize> Illnesses<N> {
     ///
     /// `NoMemory` where there is none.
     pub(crate) fn open(alloc: Global) -> Result<Self, NoMemory>
-        requires { IsCapacity N }
+    where
+        Nodes: Capacity<N>,
         ensures { IfOk result (λ x. N * 1024 ≤ vec_capacity x.list) }
     {
         let Ok(list) = Vec::with_capacity(alloc, N * MOST_PERIODS) else {
@@ -60,6 +58,8 @@ impl<const N: usize> Illnesses<N> {
 
     /// Forgets all.
     pub(crate) fn forget(&mut self)
+    where
+        Nodes: Capacity<N>,
         ensures list { self.new.list.items ≡ [] }
         ensures sound { self.new.sound ≡ ids_below N }
         ensures room { vec_capacity self.new.list ≡ vec_capacity self.old.list }

@@ -2,9 +2,7 @@
 
 ghost use Rattle.std.specs.Prelude.{◌≡◌, ◌<◌, ◌≤◌, ◌+◌, ◌++◌, ◌∷◌, [], length};
 ghost use Rattle.std.specs.Prelude.{IfOk, MatchOption, vec_capacity};
-ghost use Rattle.node_grid.specs.Capacity.{IsCapacity};
 ghost use Rattle.at_once.specs.Run.{ShowsPeriod, FitsScenario};
-ghost use Rattle.run_judged.specs.Rooms.{capacity-prop};
 ghost use Rattle.run_judged.specs.Rows.{row_of, illnesses_of, skews_of};
 
 use crate::apart::skew;
@@ -14,7 +12,7 @@ use crate::illnesses::{Illnesses, MOST_PERIODS};
 use crate::row::RunRow;
 use crate::seen::Seen;
 use crate::tally::Tally;
-use node_grid::NoMemory;
+use node_grid::{Capacity, NoMemory, Nodes};
 use scenario::Scenario;
 use shown_period::Shown;
 use std::alloc::Global;
@@ -28,7 +26,6 @@ pub struct Judge<const N: usize> {
     pub(crate) tally: Tally<N>,
     pub(crate) illnesses: Illnesses<N>,
     pub(crate) skews: Vec<u64>,
-    pub ghost capacity: { IsCapacity N } by { capacity-prop N },
     pub ghost room: { 1024 ≤ vec_capacity skews },
 }
 
@@ -53,7 +50,8 @@ impl<const N: usize> Judge<N> {
     ///
     /// `NoMemory` where there is none.
     pub fn open(alloc: Global) -> Result<Self, NoMemory>
-        requires { IsCapacity N }
+    where
+        Nodes: Capacity<N>,
     {
         let illnesses = Illnesses::open(alloc)?;
         let Ok(skews) = Vec::with_capacity(alloc, MOST_PERIODS) else {
@@ -69,6 +67,8 @@ impl<const N: usize> Judge<N> {
 
     /// Begins with the run of this scenario. All of the run before is forgotten.
     pub fn begin(&mut self, scenario: &Scenario<N>)
+    where
+        Nodes: Capacity<N>,
         ensures judges { Judges scenario.now self.new }
         ensures none { self.new.periods ≡ 0 }
     {
@@ -81,6 +81,8 @@ impl<const N: usize> Judge<N> {
 
     /// Adds the next period of the run.
     pub fn add(&mut self, scenario: &Scenario<N>, shown: &Shown<N>)
+    where
+        Nodes: Capacity<N>,
         requires more { self.old.periods < scenario.now.periods }
         requires judges { Judges scenario.now self.old }
         requires shown { ShowsPeriod scenario.now self.old.periods shown.now }
@@ -99,6 +101,8 @@ impl<const N: usize> Judge<N> {
 
     /// What the run comes to, all of whose periods were added.
     pub fn row(&self, scenario: &Scenario<N>) -> RunRow
+    where
+        Nodes: Capacity<N>,
         requires judges { Judges scenario.now self.now }
         requires all { self.now.periods ≡ scenario.now.periods }
         ensures { result ≡ row_of scenario.now }

@@ -1,8 +1,6 @@
 //! A period that is judged.
 
 ghost use Rattle.std.specs.Prelude.{◌≡◌, ℕ, ◌<◌, ◌≤◌, Some, length, slice_index};
-ghost use Rattle.node_grid.specs.Capacity.{IsCapacity};
-ghost use Rattle.run_judged.specs.Rooms.{capacity-prop};
 
 use shown_period::Shown;
 
@@ -10,7 +8,6 @@ use shown_period::Shown;
 #[derive(Drop)]
 pub(crate) struct Seen<'s, const N: usize> {
     pub(crate) shown: &'s Shown<N>,
-    ghost capacity: { IsCapacity N } by { capacity-prop N },
     ghost nodes: { shown.now.head.nodes ≤ N },
     ghost reference: { (r : ℕ) → shown.now.head.reference ≡ Some r → r < shown.now.head.nodes },
     ghost many: { length shown.now.made.beliefs.items ≡ N },

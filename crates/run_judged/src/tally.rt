@@ -15,7 +15,7 @@ use crate::apart::spread;
 use crate::found::Findings;
 use crate::seen::Seen;
 use fault_classes::Budget;
-use node_grid::NodeSet;
+use node_grid::{Capacity, NodeSet, Nodes};
 use scenario::Scenario;
 
 /// The first period of a run that doesn't tolerate its faults.
@@ -209,6 +209,8 @@ impl<const N: usize> Tally<N> {
         findings: &Findings<N>,
         skew: Option<u64>,
     )
+    where
+        Nodes: Capacity<N>,
         requires shown { ShowsPeriod scenario.now findings.now.period seen.now.shown.now }
         requires fits { FitsScenario scenario.now seen.now.shown.now }
         requires found { AreFound (seen_of scenario.now) scenario.now.config.nodes

@@ -1,13 +1,13 @@
 //! Parts of the lines of a node, which other nodes mostly have too.
 ghost use Rattle.std.specs.Prelude.{◌≡◌, ◌≤◌, ◌<◌, ◌-◌, true, false, Some, [], length};
-ghost use Rattle.node_grid.specs.Capacity.{IsCapacity};
 ghost use Rattle.agreed_state.specs.Agreed.{AgreedView};
 ghost use Rattle.run_text.specs.NodeText.{standing_text, settled_text};
-ghost use Rattle.run_print.specs.Common.{capacity-prop, AreSettledAlike};
+ghost use Rattle.run_print.specs.Common.{AreSettledAlike};
 
 use crate::printer::Printer;
 use agreed_state::Agreed;
 use node_core::NodeRecord;
+use node_grid::{Capacity, Nodes};
 use span_io::{Failed, Sink};
 
 /// Room for the members, penalty counts and streaks, as they mostly are.
@@ -56,7 +56,6 @@ pub(crate) struct Common<'a, const N: usize> {
     pub standing: Printer<STANDING>,
     /// What was settled and voted, unless there was no room for it.
     pub settled: Printer<SETTLED>,
-    ghost capacity: { IsCapacity N } by { capacity-prop N },
     ghost few: { nodes ≤ N },
     ghost stands: { standing.failed ≡ false → (a : AgreedView) → shown.now.agreed ≡ Some a
         → standing.gathered ≡ standing_text nodes a },
@@ -66,7 +65,8 @@ pub(crate) struct Common<'a, const N: usize> {
 /// Gathers the members, penalty counts and streaks of a node; where there are none, or no room for
 /// them, the printer fails.
 fn standing_of<const N: usize>(nodes: u8, shown: &NodeRecord<N>) -> Printer<STANDING>
-    requires capacity { IsCapacity N }
+where
+    Nodes: Capacity<N>,
     requires nodes { nodes ≤ N }
     ensures { result.failed ≡ false → (a : AgreedView) → shown.now.agreed ≡ Some a
         → result.gathered ≡ standing_text nodes a }
@@ -82,7 +82,8 @@ fn standing_of<const N: usize>(nodes: u8, shown: &NodeRecord<N>) -> Printer<STAN
 
 /// Gathers what a node settled and voted; where there is no room for it, the printer fails.
 fn settled_of<const N: usize>(nodes: u8, shown: &NodeRecord<N>) -> Printer<SETTLED>
-    requires capacity { IsCapacity N }
+where
+    Nodes: Capacity<N>,
     requires nodes { nodes ≤ N }
     ensures { result.failed ≡ false → result.gathered ≡ settled_text nodes shown.now }
 {
@@ -95,7 +96,8 @@ fn settled_of<const N: usize>(nodes: u8, shown: &NodeRecord<N>) -> Printer<SETTL
 impl<'a, const N: usize> Common<'a, N> {
     /// The lines of one node.
     pub(crate) fn of(nodes: u8, shown: &'a NodeRecord<N>) -> Self
-        requires capacity { IsCapacity N }
+    where
+        Nodes: Capacity<N>,
         requires nodes { nodes ≤ N }
         ensures { result.nodes ≡ nodes }
     {
@@ -121,6 +123,8 @@ impl<'a, const N: usize> Common<'a, N> {
 
     /// Whether another node settled and voted the same.
     pub(crate) fn settles(&self, other: &NodeRecord<N>) -> bool
+    where
+        Nodes: Capacity<N>,
         ensures { result ≡ true →
             self.now.settled.gathered ≡ settled_text self.now.nodes other.now }
     {
@@ -145,7 +149,8 @@ fn standing_alike<const N: usize>(one: &Agreed<N>, other: &Agreed<N>) -> bool
 
 /// Whether two nodes settled and voted the same.
 fn settled_alike<const N: usize>(one: &NodeRecord<N>, other: &NodeRecord<N>) -> bool
-    requires { IsCapacity N }
+where
+    Nodes: Capacity<N>,
     ensures { result ≡ true → AreSettledAlike one.now other.now }
 {
     if one.members != other.members {

@@ -1,6 +1,5 @@
 //! The printed lines of one node in a period.
 ghost use Rattle.std.specs.Prelude.{◌≡◌, ◌≤◌, ◌++◌, false, codes, decimal};
-ghost use Rattle.node_grid.specs.Capacity.{IsCapacity};
 ghost use Rattle.run_print.specs.Printing.{Prints, WritesText};
 ghost use Rattle.run_text.specs.Text.{mode_text};
 ghost use Rattle.run_text.specs.NodeText.{left_text, standing_text, state_text, settled_text};
@@ -13,6 +12,7 @@ use crate::printer::{Printer, SMALL};
 use agreed_state::{Agreed, Config};
 use membership::Left;
 use node_core::NodeRecord;
+use node_grid::{Capacity, Nodes};
 use span_io::Sink;
 
 impl<const ROOM: usize> Printer<ROOM> {
@@ -79,6 +79,8 @@ impl<const ROOM: usize> Printer<ROOM> {
         agreed: &Agreed<N>,
         common: &Common<'_, N>,
     )
+    where
+        Nodes: Capacity<N>,
         ensures { Prints K.written K.faults self.old sink.old self.new sink.new
             (state_text common.now.nodes retire agreed.now) }
     {
@@ -95,7 +97,8 @@ impl<const ROOM: usize> Printer<ROOM> {
         nodes: u8,
         shown: &NodeRecord<N>,
     )
-        requires capacity { IsCapacity N }
+    where
+        Nodes: Capacity<N>,
         requires nodes { nodes ≤ N }
         ensures { Prints K.written K.faults self.old sink.old self.new sink.new
             (settled_text nodes shown.now) }
@@ -116,6 +119,8 @@ impl<const ROOM: usize> Printer<ROOM> {
         shown: &NodeRecord<N>,
         common: &Common<'_, N>,
     )
+    where
+        Nodes: Capacity<N>,
         ensures { Prints K.written K.faults self.old sink.old self.new sink.new
             (settled_text common.now.nodes shown.now) }
     {
@@ -134,6 +139,8 @@ impl<const ROOM: usize> Printer<ROOM> {
         shown: &NodeRecord<N>,
         common: &Common<'_, N>,
     )
+    where
+        Nodes: Capacity<N>,
         ensures { Prints K.written K.faults self.old sink.old self.new sink.new
             (beliefs_text common.now.nodes retire shown.now shown.now.agreed) }
     {
@@ -163,7 +170,8 @@ pub fn write_alone<const N: usize, K: Sink>(
     shown: &NodeRecord<N>,
     sink: &mut K,
 ) -> Result<(), WriteFault>
-    requires capacity { IsCapacity N }
+where
+    Nodes: Capacity<N>,
     requires nodes { config.now.nodes ≤ N }
     ensures { WritesText K.written K.faults sink.old sink.new
         (alone_text period id config.now.nodes config.now.policy.retire shown.now) result }

@@ -1,6 +1,5 @@
 //! The printed lines of a period, of the end of a run, and of a refusal.
 ghost use Rattle.std.specs.Prelude.{◌≡◌, ◌≤◌, ◌<◌, ◌++◌, true, false, codes, slice_get};
-ghost use Rattle.node_grid.specs.Capacity.{IsCapacity};
 ghost use Rattle.run_print.specs.Printing.{Prints, WritesText};
 ghost use Rattle.run_text.specs.Text.{yes_no};
 ghost use Rattle.run_text.specs.TraceText.{IsPlanOf, period_text};
@@ -14,6 +13,7 @@ use crate::pieces::letter_of;
 use crate::printer::{LARGE, Printer, SMALL};
 use cluster_record::PeriodRecord;
 use fault_classes::{Budget, FaultPlan};
+use node_grid::{Capacity, Nodes};
 use span_io::Sink;
 
 impl<const ROOM: usize> Printer<ROOM> {
@@ -62,6 +62,8 @@ impl<const ROOM: usize> Printer<ROOM> {
         i: u8,
         common: &Common<'_, N>,
     )
+    where
+        Nodes: Capacity<N>,
         requires node { i < shown.now.nodes }
         requires same { common.now.nodes ≡ shown.now.nodes }
         ensures { Prints K.written K.faults self.old sink.old self.new sink.new
@@ -73,7 +75,8 @@ impl<const ROOM: usize> Printer<ROOM> {
 
     /// Prints the lines of all nodes.
     fn nodes<K: Sink, const N: usize>(&mut self, sink: &mut K, shown: &PeriodRecord<N>)
-        requires capacity { IsCapacity N }
+    where
+        Nodes: Capacity<N>,
         requires nodes { shown.now.nodes ≤ N }
         ensures { Prints K.written K.faults self.old sink.old self.new sink.new
             (nodes_text shown.now) }
@@ -94,7 +97,8 @@ impl<const ROOM: usize> Printer<ROOM> {
 
     /// Prints all lines of a period but those of its frames.
     fn untraced<K: Sink, const N: usize>(&mut self, sink: &mut K, shown: &PeriodRecord<N>)
-        requires capacity { IsCapacity N }
+    where
+        Nodes: Capacity<N>,
         requires nodes { shown.now.nodes ≤ N }
         ensures { Prints K.written K.faults self.old sink.old self.new sink.new
             (untraced_text shown.now) }
@@ -134,7 +138,8 @@ fn write_untraced<const N: usize, K: Sink>(
     shown: &PeriodRecord<N>,
     sink: &mut K,
 ) -> Result<(), WriteFault>
-    requires capacity { IsCapacity N }
+where
+    Nodes: Capacity<N>,
     requires nodes { shown.now.nodes ≤ N }
     ensures { WritesText K.written K.faults sink.old sink.new
         (untraced_text shown.now) result }
@@ -152,7 +157,8 @@ fn write_traced<const N: usize, K: Sink>(
     plan: &FaultPlan<N>,
     sink: &mut K,
 ) -> Result<(), WriteFault>
-    requires capacity { IsCapacity N }
+where
+    Nodes: Capacity<N>,
     requires nodes { shown.now.nodes ≤ N }
     requires planned { IsPlanOf plan.now shown.now }
     ensures { WritesText K.written K.faults sink.old sink.new
@@ -179,7 +185,8 @@ pub fn write_period<const N: usize, K: Sink>(
     trace: bool,
     sink: &mut K,
 ) -> Result<(), WriteFault>
-    requires capacity { IsCapacity N }
+where
+    Nodes: Capacity<N>,
     requires nodes { shown.now.nodes ≤ N }
     requires planned { trace ≡ true → IsPlanOf plan.now shown.now }
     ensures { WritesText K.written K.faults sink.old sink.new

@@ -1,7 +1,6 @@
 //! Items of a node's lines that are mostly short, each handed on at once.
 ghost use Rattle.std.specs.Prelude.{◌≡◌, ◌≤◌, ◌<◌, ◌++◌, ◌∷◌, [], true, map, replicate, take};
 ghost use Rattle.std.specs.Prelude.{codes, decimal};
-ghost use Rattle.node_grid.specs.Capacity.{IsCapacity};
 ghost use Rattle.list_scheduler.specs.Copies.{works};
 ghost use Rattle.run_print.specs.Printing.{Prints};
 ghost use Rattle.run_print.specs.Example.{IsIdleFrom};
@@ -11,7 +10,7 @@ ghost use Rattle.run_text.specs.Text.{rows_item};
 
 use crate::printer::{Printer, two_digits};
 use list_scheduler::{Copies, CopyState};
-use node_grid::{Class, Matrix, NodeSet};
+use node_grid::{Capacity, Class, Matrix, NodeSet, Nodes};
 use span_io::Sink;
 
 /// As many zeros as there can be nodes, joined by commas.
@@ -43,7 +42,8 @@ pub(crate) fn letter_of(class: Class) -> u8
 
 /// What a node runs, of tasks below this number.
 fn running_among<const N: usize>(copies: &Copies<N>, tasks: u8, node: u8) -> Option<(u8, u16)>
-    requires capacity { IsCapacity N }
+where
+    Nodes: Capacity<N>,
     requires tasks { tasks ≤ 32 }
     requires node { node < N }
     requires idle { IsIdleFrom tasks copies.now }
@@ -88,7 +88,8 @@ impl<const ROOM: usize> Printer<ROOM> {
         nodes: u8,
         numbers: &[u16; N],
     )
-        requires capacity { IsCapacity N }
+    where
+        Nodes: Capacity<N>,
         requires nodes { nodes ≤ N }
         ensures { Prints K.written K.faults self.old sink.old self.new sink.new
             (numbers_text (take nodes numbers.now)) }
@@ -108,7 +109,8 @@ impl<const ROOM: usize> Printer<ROOM> {
         tasks: u8,
         copies: &Copies<N>,
     )
-        requires capacity { IsCapacity N }
+    where
+        Nodes: Capacity<N>,
         requires nodes { nodes ≤ N }
         requires tasks { tasks ≤ 32 }
         requires idle { IsIdleFrom tasks copies.now }
@@ -128,7 +130,8 @@ impl<const ROOM: usize> Printer<ROOM> {
         rows: &Matrix<N>,
         member: u8,
     )
-        requires capacity { IsCapacity N }
+    where
+        Nodes: Capacity<N>,
         requires nodes { nodes ≤ N }
         ensures { Prints K.written K.faults self.old sink.old self.new sink.new
             (row_text nodes (row_at rows.now member)) }
@@ -147,7 +150,8 @@ impl<const ROOM: usize> Printer<ROOM> {
         rows: &Matrix<N>,
         members: &NodeSet<N>,
     )
-        requires capacity { IsCapacity N }
+    where
+        Nodes: Capacity<N>,
         requires nodes { nodes ≤ N }
         ensures { Prints K.written K.faults self.old sink.old self.new sink.new
             (separated (codes " ") (map (rows_item nodes rows.now) members.now)) }

@@ -1,7 +1,6 @@
 //! The printed lines of a period that was worked out for all nodes together. What nodes are known
 //! to have in common is spelled once.
 ghost use Rattle.std.specs.Prelude.{◌≡◌, ◌≤◌, ◌<◌, [], true, false, slice_get};
-ghost use Rattle.node_grid.specs.Capacity.{IsCapacity};
 ghost use Rattle.shown_period.specs.Outcomes.{outcome_at};
 ghost use Rattle.shown_period.specs.Whole.{record_of};
 ghost use Rattle.run_text.specs.NodeText.{state_text, settled_text};
@@ -16,6 +15,7 @@ use crate::common::Nowhere;
 use crate::pieces::letter_of;
 use crate::printer::{Printer, SMALL};
 use agreed_state::Agreed;
+use node_grid::{Capacity, Nodes};
 use shown_period::{Head, Shown};
 use span_io::Sink;
 
@@ -56,6 +56,8 @@ fn common_node<const N: usize>(shown: &Shown<N>) -> u8
 
 /// Gathers what a node believes; where there is no room for it, the printer fails.
 fn gather<const N: usize>(printer: &mut Printer<BELIEFS>, shown: &Shown<N>, i: u8)
+where
+    Nodes: Capacity<N>,
     requires printable { IsPrintable shown.now }
     requires node { i < N }
     requires empty { printer.old.gathered ≡ [] }
@@ -112,7 +114,8 @@ impl<const ROOM: usize> Printer<ROOM> {
         head: &Head<N>,
         agreed: &Agreed<N>,
     )
-        requires capacity { IsCapacity N }
+    where
+        Nodes: Capacity<N>,
         requires nodes { head.now.nodes ≤ N }
         requires tasks { head.now.tasks ≤ 32 }
         requires idle { IsIdleFrom head.now.tasks agreed.now.copies }
@@ -133,6 +136,8 @@ impl<const ROOM: usize> Printer<ROOM> {
 
     /// Prints what a node settled and voted.
     fn settled_at<K: Sink, const N: usize>(&mut self, sink: &mut K, shown: &Shown<N>, i: u8)
+    where
+        Nodes: Capacity<N>,
         requires printable { IsPrintable shown.now }
         requires node { i < N }
         ensures { Prints K.written K.faults self.old sink.old self.new sink.new
@@ -151,6 +156,8 @@ impl<const ROOM: usize> Printer<ROOM> {
 
     /// Prints what node `i` believes.
     fn beliefs_at<K: Sink, const N: usize>(&mut self, sink: &mut K, shown: &Shown<N>, i: u8)
+    where
+        Nodes: Capacity<N>,
         requires printable { IsPrintable shown.now }
         requires node { i < N }
         ensures { Prints K.written K.faults self.old sink.old self.new sink.new
@@ -173,6 +180,8 @@ impl<const ROOM: usize> Printer<ROOM> {
         i: u8,
         example: &Example<'_, N>,
     )
+    where
+        Nodes: Capacity<N>,
         requires node { i < N }
         requires example { IsExample example.now.shown.now example.now.node
             example.now.beliefs.now }
@@ -188,6 +197,8 @@ impl<const ROOM: usize> Printer<ROOM> {
 
     /// Prints the lines of node `i`.
     fn shown_node<K: Sink, const N: usize>(&mut self, sink: &mut K, i: u8, example: &Example<'_, N>)
+    where
+        Nodes: Capacity<N>,
         requires node { i < example.now.shown.now.head.nodes }
         requires example { IsExample example.now.shown.now example.now.node
             example.now.beliefs.now }
@@ -202,6 +213,8 @@ impl<const ROOM: usize> Printer<ROOM> {
 
     /// Prints the lines of all nodes.
     fn shown_nodes<K: Sink, const N: usize>(&mut self, sink: &mut K, shown: &Shown<N>)
+    where
+        Nodes: Capacity<N>,
         requires { IsPrintable shown.now }
         ensures { Prints K.written K.faults self.old sink.old self.new sink.new
             (nodes_text (record_of shown.now)) }
@@ -234,6 +247,8 @@ impl<const ROOM: usize> Printer<ROOM> {
     /// Prints the lines of a period: the period line, the lines of each node, and the line of the
     /// clocks where the period has clocks.
     pub fn shown_period<K: Sink, const N: usize>(&mut self, sink: &mut K, shown: &Shown<N>)
+    where
+        Nodes: Capacity<N>,
         requires { IsPrintable shown.now }
         ensures { Prints K.written K.faults self.old sink.old self.new sink.new
             (untraced_text (record_of shown.now)) }
@@ -253,6 +268,8 @@ pub fn write_shown<const N: usize, K: Sink>(
     shown: &Shown<N>,
     sink: &mut K,
 ) -> Result<(), WriteFault>
+where
+    Nodes: Capacity<N>,
     requires { IsPrintable shown.now }
     ensures { WritesText K.written K.faults sink.old sink.new
         (untraced_text (record_of shown.now)) result }

@@ -1,7 +1,6 @@
 //! The printed texts of values.
 ghost use Rattle.std.specs.Prelude.{◌≡◌, ◌≤◌, ◌<◌, ◌∷◌, ◌++◌, [], None, codes, decimal, length};
 ghost use Rattle.std.specs.Prelude.{take, map, slice_index_or};
-ghost use Rattle.node_grid.specs.Capacity.{IsCapacity};
 ghost use Rattle.node_grid.specs.NodeSet.{ids_below};
 ghost use Rattle.omh_paths.specs.declared.wrapped.Wrapped.TheVariants.{Fault};
 ghost use Rattle.list_scheduler.specs.Copies.{works};
@@ -15,7 +14,7 @@ ghost use Rattle.run_text.specs.Text.{votes_text, claim_text, done_item};
 use crate::printer::{Printer, two_digits};
 use list_scheduler::Copies;
 use node_core::Mode;
-use node_grid::{NO_CLAIM, NodeSet};
+use node_grid::{Capacity, NO_CLAIM, NodeSet, Nodes};
 use omh_paths::Wrapped;
 use span_io::Sink;
 
@@ -169,7 +168,8 @@ impl<const ROOM: usize> Printer<ROOM> {
         nodes: u8,
         copies: &Copies<N>,
     )
-        requires capacity { IsCapacity N }
+    where
+        Nodes: Capacity<N>,
         requires nodes { nodes ≤ N }
         ensures { Prints K.written K.faults self.old sink.old self.new sink.new
             (runs_text nodes copies.now) }

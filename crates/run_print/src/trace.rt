@@ -9,8 +9,6 @@ ghost use Rattle.slot_plan.specs.Ticks.{on_time};
 ghost use Rattle.fault_classes.specs.Line.{effect_at};
 ghost use Rattle.fault_link.specs.Arrival.{delivered_of};
 ghost use Rattle.cluster_periods.specs.Record.{frame_at};
-ghost use Rattle.node_grid.specs.Capacity.{IsCapacity};
-ghost use Rattle.run_print.specs.Common.{capacity-prop};
 ghost use Rattle.run_print.specs.Printing.{Prints};
 ghost use Rattle.run_text.specs.TraceText.{IsPlanOf, bytes_text, start_text, arrival_text};
 ghost use Rattle.run_text.specs.TraceText.{frame_text, link_text, sender_text, slot_text};
@@ -22,6 +20,7 @@ use cluster_record::{LONGEST_FRAME, PeriodRecord};
 use fault_classes::FaultPlan;
 use fault_link::{Delivered, Transmission, deliveries};
 use itoa::{Buffer, Integer};
+use node_grid::{Capacity, Nodes};
 use slot_plan::slot_count;
 use span_io::Sink;
 
@@ -49,7 +48,6 @@ struct TracedSlot<'p, const N: usize> {
     shown: &'p PeriodRecord<N>,
     plan: &'p FaultPlan<N>,
     slot: u8,
-    ghost capacity: { IsCapacity N } by { capacity-prop N },
     ghost in_period: { slot < slot_count shown.now.m },
     ghost nodes: { plan.now.nodes ≡ shown.now.nodes },
     ghost rounds: { plan.now.rounds ≡ shown.now.m },
@@ -235,6 +233,8 @@ impl<const ROOM: usize> Printer<ROOM> {
         from: u8,
         room: &mut [u8],
     )
+    where
+        Nodes: Capacity<N>,
         requires from { from < traced.now.shown.now.nodes }
         requires room { 3 * length (frame_at traced.now.shown.now traced.now.slot from) + 5
             ≤ length room.old }
@@ -277,6 +277,8 @@ impl<const ROOM: usize> Printer<ROOM> {
         traced: &TracedSlot<'_, N>,
         room: &mut [u8],
     )
+    where
+        Nodes: Capacity<N>,
         requires { (from : ℕ) → from < traced.now.shown.now.nodes
             → 3 * length (frame_at traced.now.shown.now traced.now.slot from) + 5
             ≤ length room.old }
@@ -300,6 +302,8 @@ impl<const ROOM: usize> Printer<ROOM> {
         sink: &mut K,
         traced: &TracedSlot<'_, N>,
     )
+    where
+        Nodes: Capacity<N>,
         requires few { BYTES ≤ 270317 }
         requires room { (from : ℕ) → from < traced.now.shown.now.nodes
             → 3 * length (frame_at traced.now.shown.now traced.now.slot from) + 5 ≤ BYTES }
@@ -312,6 +316,8 @@ impl<const ROOM: usize> Printer<ROOM> {
 
     /// Prints all frames that arrive in a slot.
     fn slot<K: Sink, const N: usize>(&mut self, sink: &mut K, traced: &TracedSlot<'_, N>)
+    where
+        Nodes: Capacity<N>,
         ensures { Prints K.written K.faults self.old sink.old self.new sink.new
             (slot_text traced.now.plan.now traced.now.shown.now traced.now.slot) }
     {
@@ -329,7 +335,8 @@ impl<const ROOM: usize> Printer<ROOM> {
         shown: &PeriodRecord<N>,
         plan: &FaultPlan<N>,
     )
-        requires capacity { IsCapacity N }
+    where
+        Nodes: Capacity<N>,
         requires planned { IsPlanOf plan.now shown.now }
         ensures { Prints K.written K.faults self.old sink.old self.new sink.new
             (frames_text plan.now shown.now) }

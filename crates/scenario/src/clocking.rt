@@ -1,7 +1,6 @@
 //! From the parts of a clock to the clocks of the nodes, and the rules on clocks and lies.
 ghost use Rattle.std.specs.Prelude.{◌≡◌, ◌≤◌, ◌≤ℤ◌, ◌<◌, ℕ, pos, All, None, Some, IfOk, IfErr};
 ghost use Rattle.std.specs.Prelude.{IfSome, true, is_some, map, option_map, length};
-ghost use Rattle.node_grid.specs.Capacity.{IsCapacity};
 ghost use Rattle.clock_skew.specs.Clock.{lie_of};
 ghost use Rattle.fault_classes.specs.Rules.{IsSize};
 ghost use Rattle.scenario.specs.Numbers.{natural};
@@ -21,7 +20,7 @@ use crate::planning::{first_of, is_addressed, last_of, others_of};
 use crate::rules::{are_close, is_row_count};
 use clock_skew::{ClockCourse, ClockPlan, Lie};
 use fault_classes::{FaultPlan, PlanSize};
-use node_grid::Class;
+use node_grid::{Capacity, Class, Nodes};
 use std::alloc::{AllocError, Global};
 
 // The greatest reading error and drift.
@@ -156,7 +155,8 @@ fn is_said(part: &LiePart, nodes: u8, periods: u32) -> bool
 
 /// The lie that the part is.
 fn said<const N: usize>(part: &LiePart, nodes: u8, periods: u32) -> Lie<N>
-    requires capacity { IsCapacity N }
+where
+    Nodes: Capacity<N>,
     requires few { nodes ≤ N }
     requires few_periods { periods ≤ 1024 }
     requires said { is_said nodes periods (lie_view part.now) ≡ true }
@@ -179,7 +179,8 @@ fn lie<const N: usize>(
     nodes: u8,
     periods: u32,
 ) -> Option<Lie<N>>
-    requires capacity { IsCapacity N }
+where
+    Nodes: Capacity<N>,
     requires few { nodes ≤ N }
     requires nodes { nodes ≡ plan.now.nodes }
     requires periods { periods ≡ plan.now.periods }
@@ -210,7 +211,8 @@ fn lies<const N: usize>(
     nodes: u8,
     periods: u32,
 ) -> Result<Vec<Lie<N>>, ScenarioError>
-    requires capacity { IsCapacity N }
+where
+    Nodes: Capacity<N>,
     requires few { nodes ≤ N }
     requires nodes { nodes ≡ plan.now.nodes }
     requires periods { periods ≡ plan.now.periods }
@@ -241,7 +243,8 @@ fn lies<const N: usize>(
 
 /// The rows, with the numbers of the nodes in use, and 0 behind them.
 fn rows<const N: usize>(alloc: Global, rows: &[Vec<i64>]) -> Result<Vec<[i64; N]>, AllocError>
-    requires capacity { IsCapacity N }
+where
+    Nodes: Capacity<N>,
     requires few { All (λ row. length row ≤ N) (map (λ row. row.items) rows.now) }
     ensures { IfOk result (λ v. v.items ≡ map (padded N) (map (λ row. row.items) rows.now)) }
 {
@@ -262,6 +265,8 @@ fn clocks<const N: usize>(
     plan: &FaultPlan<N>,
     bounds: PlanSize,
 ) -> Result<ClockPlan<N>, ScenarioError>
+where
+    Nodes: Capacity<N>,
     requires size { IsSize N bounds }
     requires nodes { bounds.nodes ≡ plan.now.nodes }
     requires periods { bounds.periods ≡ plan.now.periods }
@@ -302,6 +307,8 @@ pub(crate) fn clock<const N: usize>(
     plan: &FaultPlan<N>,
     bounds: PlanSize,
 ) -> Result<Option<ClockPlan<N>>, ScenarioError>
+where
+    Nodes: Capacity<N>,
     requires size { IsSize N bounds }
     requires nodes { bounds.nodes ≡ plan.now.nodes }
     requires periods { bounds.periods ≡ plan.now.periods }

@@ -1,6 +1,5 @@
 //! Scenarios that JSON text and JSON values describe.
 ghost use Rattle.std.specs.Prelude.{◌≡◌, ℕ, Some, IfOk, IfErr, IsErrOf};
-ghost use Rattle.node_grid.specs.Capacity.{IsCapacity};
 ghost use Rattle.serde_json.specs.Data.{Data};
 ghost use Rattle.json_parts.specs.Meaning.{view};
 ghost use Rattle.json_parts.specs.Reading.{Reads};
@@ -11,6 +10,7 @@ ghost use Rattle.scenario_reading.specs.Verdict.{IsAcceptedValue, value_refusal}
 use crate::parts::parts;
 use json::{Scratch, Value};
 use json_parts::{PartError, TextError, value_of};
+use node_grid::{Capacity, Nodes};
 use scenario::{Scenario, ScenarioError};
 use std::alloc::Global;
 
@@ -21,7 +21,8 @@ use std::alloc::Global;
 /// - `Refused` comes exactly where a rule fails, with the first that does and its first place.
 /// - `NoMemory` may come at any time.
 pub fn read<const N: usize>(alloc: Global, bytes: &[u8]) -> Result<Scenario<N>, ScenarioError>
-    requires { IsCapacity N }
+where
+    Nodes: Capacity<N>,
     ensures accepted { IfOk result (λ s. (d : Data) × Reads bytes.now d × IsAcceptedValue d s) }
     ensures system { IfOk result (λ s. IsScenario s) }
     ensures unreadable { IsErrOf result ScenarioError.Unreadable →
@@ -46,7 +47,8 @@ pub fn from_value<const N: usize>(
     alloc: Global,
     value: &Value<'_>,
 ) -> Result<Scenario<N>, ScenarioError>
-    requires { IsCapacity N }
+where
+    Nodes: Capacity<N>,
     ensures accepted { IfOk result (λ s. IsAcceptedValue (view value.now) s) }
     ensures system { IfOk result (λ s. IsScenario s) }
     ensures refused { IfErr result (Tells (value_refusal N (view value.now))) }

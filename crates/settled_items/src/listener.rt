@@ -3,20 +3,19 @@ ghost use Rattle.std.specs.Prelude.{take, slice_index_or, true};
 ghost use Rattle.node_grid.specs.NodeSet.{has_id};
 ghost use Rattle.omh_paths.specs.declared.wrapped.Wrapped.{Wrapped};
 ghost use Rattle.omh_paths.specs.declared.wrapped.Wrapped.TheVariants.{Fault};
-ghost use Rattle.omh_paths.specs.Wrapped.{IsExact};
 ghost use Rattle.omh.specs.Omh.{own_term, settled_at};
 ghost use Rattle.equivocation.specs.Conviction.{convicts};
 
 use crate::values::{convict_by, set_value, settled_from_terms};
 use node_grid::NodeSet;
 use omh::outside;
-use omh_paths::{Path, Wrapped};
+use omh_paths::{Exact, Path, Wrapped};
 
 /// How many values a listener works in.
 pub const TERMS: usize = 48;
 
 /// What one node heard of the relays of items.
-pub trait Hearing<V: Copy + Eq> {
+pub trait Hearing<V: Exact> {
     ghost hears: { Self → List ℕ → Wrapped V };
 
     /// What it heard for a path that it isn't on.
@@ -44,7 +43,7 @@ impl<const N: usize> Listener<N> {
     ghost use Rattle.settled_items.specs.Listening.{listener_ear};
 
     /// What it puts into the majority of a path for itself.
-    fn own_term<V: Copy + Eq, H: Hearing<V>>(&self, hearing: &H, path: &Path) -> Wrapped<V>
+    fn own_term<V: Exact, H: Hearing<V>>(&self, hearing: &H, path: &Path) -> Wrapped<V>
         ensures { result ≡ own_term (listener_ear self.now (H.hears hearing.now)) path.now }
     {
         if self.full {
@@ -56,14 +55,13 @@ impl<const N: usize> Listener<N> {
 
     /// What it settles for a path, by what it settles for those of one relay more. The terms are
     /// laid from `from` on, and what lies behind is worked on.
-    fn settle_path<V: Copy + Eq, H: Hearing<V>>(
+    fn settle_path<V: Exact, H: Hearing<V>>(
         &self,
         hearing: &H,
         path: &Path,
         work: &mut [Wrapped<V>],
         from: usize,
     ) -> Wrapped<V>
-        requires exact { IsExact V.eq }
         requires nodes { (q : ℕ) → has_id path.now q ≡ true → q < N }
         requires short { length path.now ≤ self.now.rounds + 1 }
         requires room { from + 16 * (self.now.rounds + 1 - length path.now) ≤ length work.old }
@@ -90,13 +88,12 @@ impl<const N: usize> Listener<N> {
 
     /// What it settles for the item of another member, by all paths behind it. `work` has `TERMS`
     /// places, and is left with no meaning.
-    pub fn settle<V: Copy + Eq, H: Hearing<V>>(
+    pub fn settle<V: Exact, H: Hearing<V>>(
         &self,
         hearing: &H,
         commander: u8,
         work: &mut [Wrapped<V>],
     ) -> Wrapped<V>
-        requires exact { IsExact V.eq }
         requires commander { commander < N }
         requires room { length work.old ≡ TERMS }
         ensures settled { result ≡
@@ -107,13 +104,12 @@ impl<const N: usize> Listener<N> {
     }
 
     /// Whether it convicts another member. `work` has `TERMS` places, and is left with no meaning.
-    pub fn convicts<V: Copy + Eq, H: Hearing<V>>(
+    pub fn convicts<V: Exact, H: Hearing<V>>(
         &self,
         hearing: &H,
         commander: u8,
         work: &mut [Wrapped<V>],
     ) -> bool
-        requires exact { IsExact V.eq }
         requires member { has_id self.now.members commander ≡ true }
         requires node { self.now.me < N }
         requires other { commander ≢ self.now.me }

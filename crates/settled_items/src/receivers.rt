@@ -1,7 +1,6 @@
 ghost use Rattle.std.specs.Prelude.{◌≡◌, ◌≢◌, ℕ, ◌∷◌, [], All, length, slice_index_or, true, false};
 ghost use Rattle.node_grid.specs.NodeSet.{has_id};
 ghost use Rattle.omh_paths.specs.declared.wrapped.Wrapped.TheVariants.{Fault};
-ghost use Rattle.omh_paths.specs.Wrapped.{IsExact};
 ghost use Rattle.omh.specs.Omh.{ear, settled};
 ghost use Rattle.equivocation.specs.Conviction.{convicts};
 ghost use Rattle.settled_paths.specs.Passing.{or_passed};
@@ -11,16 +10,15 @@ ghost use Rattle.settled_items.specs.Relayed.{relayed_world, IsRelayed, IsToldBy
 use crate::relayed::{Relayed, has_few_odd};
 use crate::room::FewRoom;
 use crate::values::are_alike;
-use node_grid::NodeSet;
+use node_grid::{Capacity, NodeSet, Nodes};
 use odd_relays::{Item, Phase};
-use omh_paths::Wrapped;
+use omh_paths::{Exact, Wrapped};
 use settled_paths::Touched;
 
-impl<'a, V: Copy + Eq, T: Touched<V>, const N: usize> Relayed<'a, V, T, N> {
+impl<'a, V: Exact, T: Touched<V>, const N: usize> Relayed<'a, V, T, N> {
     /// What each awake node settles for the item of another member, by paths of odd members, laid
     /// at the node's place in `all`. It is laid by node what the commander told each of them.
     fn settle_told(&self, room: &mut FewRoom<V, N>, all: &mut [Wrapped<V>])
-        requires exact { IsExact V.eq }
         requires item { IsRelayed T.says self.now }
         requires few { AreFewOdd self.now.exchange.rounds self.now.exchange.members
             self.now.exchange.full self.now.odd }
@@ -50,7 +48,8 @@ impl<'a, V: Copy + Eq, T: Touched<V>, const N: usize> Relayed<'a, V, T, N> {
     /// Whether all these nodes were told the same and few members are odd, so that none of them
     /// convicts the commander.
     fn is_spared(&self, nodes: &NodeSet<N>, told: &[Wrapped<V>]) -> bool
-        requires exact { IsExact V.eq }
+    where
+        Nodes: Capacity<N>,
         requires item { IsRelayed T.says self.now }
         requires nodes { (i : ℕ) → has_id self.now.exchange.awake i ≡ true →
             self.now.exchange.commander ≢ i → has_id nodes.now i ≡ true }
@@ -70,7 +69,8 @@ impl<'a, V: Copy + Eq, T: Touched<V>, const N: usize> Relayed<'a, V, T, N> {
     /// The awake nodes that convict the commander, which is another node. It is laid by node what
     /// the commander told each of them.
     fn convict_told(&self, told: &[Wrapped<V>]) -> NodeSet<N>
-        requires exact { IsExact V.eq }
+    where
+        Nodes: Capacity<N>,
         requires item { IsRelayed T.says self.now }
         requires told { IsToldByNode T.says self.now told.now }
         ensures convicts { (i : ℕ) → has_id self.now.exchange.awake i ≡ true →
@@ -102,7 +102,6 @@ impl<'a, V: Copy + Eq, T: Touched<V>, const N: usize> Relayed<'a, V, T, N> {
     /// What each awake node settles for the item of another member, by paths of odd members, laid
     /// at the node's place in `all`. What is left in `room` means nothing.
     pub(crate) fn settle_few(&self, room: &mut FewRoom<V, N>, all: &mut [Wrapped<V>])
-        requires exact { IsExact V.eq }
         requires item { IsRelayed T.says self.now }
         requires few { AreFewOdd self.now.exchange.rounds self.now.exchange.members
             self.now.exchange.full self.now.odd }
@@ -119,7 +118,8 @@ impl<'a, V: Copy + Eq, T: Touched<V>, const N: usize> Relayed<'a, V, T, N> {
     /// The awake nodes that convict the commander, which is another node. What is left in `room`
     /// means nothing.
     pub(crate) fn convicting(&self, room: &mut FewRoom<V, N>) -> NodeSet<N>
-        requires exact { IsExact V.eq }
+    where
+        Nodes: Capacity<N>,
         requires item { IsRelayed T.says self.now }
         ensures convicts { (i : ℕ) → has_id self.now.exchange.awake i ≡ true →
             self.now.exchange.commander ≢ i → has_id result i ≡

@@ -1,6 +1,5 @@
 ghost use Rattle.std.specs.Prelude.{◌≡◌, ◌≢◌, ℕ, ◌<◌, ◌≤◌, ◌∷◌, [], All, length, slice_index_or};
 ghost use Rattle.std.specs.Prelude.{true, IsTrue, ◌↔◌, if◌then◌else◌};
-ghost use Rattle.node_grid.specs.Capacity.{IsCapacity};
 ghost use Rattle.node_grid.specs.NodeSet.{has_id};
 ghost use Rattle.omh_paths.specs.declared.wrapped.Wrapped.{Wrapped};
 ghost use Rattle.omh_paths.specs.declared.wrapped.Wrapped.TheVariants.{Fault};
@@ -10,8 +9,8 @@ ghost use Rattle.settled_paths.specs.Passing.{or_passed, passes, passed};
 ghost use Rattle.settled_items.specs.Relaying.{clipped, AreFewOdd};
 
 use crate::values::{clear, clip, set_value, wrap};
-use node_grid::NodeSet;
-use omh_paths::{Path, Wrapped};
+use node_grid::{Capacity, NodeSet, Nodes};
+use omh_paths::{Exact, Path, Wrapped};
 use settled_paths::{Exchange, Touched};
 
 /// One member's item as it is told and relayed.
@@ -30,7 +29,8 @@ pub struct Relayed<'a, V, T, const N: usize> {
 /// Whether so few members are odd that paths of odd members decide: n > 2o + z + m, where of n
 /// members o are odd and z of the others aren't Full.
 pub fn has_few_odd<const N: usize>(exchange: &Exchange<N>, odd: &NodeSet<N>) -> bool
-    requires capacity { IsCapacity N }
+where
+    Nodes: Capacity<N>,
     requires rounds { exchange.now.rounds ≤ 3 }
     ensures { IsTrue result ↔
         AreFewOdd exchange.now.rounds exchange.now.members exchange.now.full odd.now }
@@ -42,7 +42,7 @@ pub fn has_few_odd<const N: usize>(exchange: &Exchange<N>, odd: &NodeSet<N>) -> 
     2 * odd + idle + exchange.rounds < members.len()
 }
 
-impl<'a, V: Copy + Eq, T: Touched<V>, const N: usize> Relayed<'a, V, T, N> {
+impl<'a, V: Exact, T: Touched<V>, const N: usize> Relayed<'a, V, T, N> {
     ghost use Rattle.settled_items.specs.Relayed.{IsToldByNode};
 
     /// What its commander says of it.

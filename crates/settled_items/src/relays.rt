@@ -4,10 +4,10 @@ ghost use Rattle.settled_items.specs.Relaying.{relay_heard};
 
 use crate::relayed::Relayed;
 use odd_relays::Relays;
-use omh_paths::{Path, Wrapped};
+use omh_paths::{Exact, Path, Wrapped};
 use settled_paths::Touched;
 
-impl<'a, V: Copy + Eq, T: Touched<V>, const N: usize> Relays<V> for Relayed<'a, V, T, N> {
+impl<'a, V: Exact, T: Touched<V>, const N: usize> Relays<V> for Relayed<'a, V, T, N> {
     ghost says = { λ x. relay_heard x.exchange.full x.own.now (T.says x.touched.now) };
 
     fn said(&self, to: u8, path: &Path) -> Wrapped<V> {

@@ -3,7 +3,7 @@ ghost use Rattle.std.specs.Prelude.{◌≡◌, length, IfOk};
 use crate::values::blank;
 use node_grid::NoMemory;
 use odd_relays::WORK;
-use omh_paths::Wrapped;
+use omh_paths::{Exact, Wrapped};
 use std::alloc::Global;
 
 /// Room for settling an item by paths of odd members.
@@ -19,7 +19,7 @@ pub(crate) struct FewRoom<V, const N: usize> {
     ghost wide: { length work.items ≡ 832 },
 }
 
-impl<V: Copy + Eq + Drop, const N: usize> FewRoom<V, N> {
+impl<V: Exact + Drop, const N: usize> FewRoom<V, N> {
     /// Takes the room.
     pub fn open(alloc: Global) -> Result<FewRoom<V, N>, NoMemory> {
         let Ok(told) = blank(alloc, N) else {

@@ -1,9 +1,7 @@
 ghost use Rattle.std.specs.Prelude.{◌≡◌, ◌≢◌, ℕ, ◌<◌, ◌≤◌, ◌∷◌, [], length, slice_index_or, IfOk};
 ghost use Rattle.std.specs.Prelude.{true, false};
-ghost use Rattle.node_grid.specs.Capacity.{IsCapacity};
 ghost use Rattle.node_grid.specs.NodeSet.{has_id};
 ghost use Rattle.omh_paths.specs.declared.wrapped.Wrapped.TheVariants.{Fault};
-ghost use Rattle.omh_paths.specs.Wrapped.{IsExact};
 ghost use Rattle.omh.specs.Omh.{ear, settled};
 ghost use Rattle.equivocation.specs.Conviction.{convicts};
 ghost use Rattle.settled_items.specs.Relayed.{relayed_world, IsRelayed};
@@ -11,8 +9,8 @@ ghost use Rattle.settled_items.specs.Relayed.{relayed_world, IsRelayed};
 use crate::relayed::{Relayed, has_few_odd};
 use crate::room::FewRoom;
 use counted_relays::settle_untouched;
-use node_grid::{NoMemory, NodeSet};
-use omh_paths::Wrapped;
+use node_grid::{Capacity, NoMemory, NodeSet, Nodes};
+use omh_paths::{Exact, Wrapped};
 use settled_paths::{Laid, Touched};
 use std::alloc::Global;
 use std::marker::Model;
@@ -35,10 +33,11 @@ impl<V, const N: usize> Model for Settling<V, N> {
     ghost view = { λ s. s.laid };
 }
 
-impl<V: Copy + Eq + Drop, const N: usize> Settling<V, N> {
+impl<V: Exact + Drop, const N: usize> Settling<V, N> {
     /// Room for the items of `nodes` nodes, at most N, relayed in `rounds` rounds, at most 3.
     pub fn open(alloc: Global, nodes: u8, rounds: u8) -> Result<Settling<V, N>, NoMemory>
-        requires capacity { IsCapacity N }
+    where
+        Nodes: Capacity<N>,
         requires nodes { nodes ≤ N }
         requires rounds { rounds ≤ 3 }
         ensures { IfOk result (λ s. s ≡ record { nodes = nodes; rounds = rounds }) }
@@ -53,7 +52,8 @@ impl<V: Copy + Eq + Drop, const N: usize> Settling<V, N> {
     /// What each awake node but the commander settles for the item, laid at the node's place in
     /// `all`. Other places of `all` mean nothing.
     pub fn settle_all<T: Touched<V>>(&mut self, item: &Relayed<'_, V, T, N>, all: &mut [Wrapped<V>])
-        requires exact { IsExact V.eq }
+    where
+        Nodes: Capacity<N>,
         requires item { IsRelayed T.says item.now }
         requires rounds { item.now.exchange.rounds ≡ self.old.rounds }
         requires nodes { (q : ℕ) → has_id item.now.exchange.members q ≡ true → q < self.old.nodes }
@@ -74,7 +74,8 @@ impl<V: Copy + Eq + Drop, const N: usize> Settling<V, N> {
 
     /// The awake nodes that convict the commander, which is another node.
     pub fn convicting<T: Touched<V>>(&mut self, item: &Relayed<'_, V, T, N>) -> NodeSet<N>
-        requires exact { IsExact V.eq }
+    where
+        Nodes: Capacity<N>,
         requires item { IsRelayed T.says item.now }
         ensures convicts { (i : ℕ) → has_id item.now.exchange.awake i ≡ true →
             item.now.exchange.commander ≢ i → has_id result i ≡

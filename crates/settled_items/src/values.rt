@@ -4,7 +4,7 @@ ghost use Rattle.std.specs.Prelude.{◌≡◌, ◌≢◌, ℕ, ◌-◌, ◌<◌,
 ghost use Rattle.std.specs.Prelude.{slice_index_or, IfOk, replicate, true};
 ghost use Rattle.node_grid.specs.NodeSet.{has_id};
 ghost use Rattle.omh_paths.specs.declared.wrapped.Wrapped.TheVariants.{Fault};
-ghost use Rattle.omh_paths.specs.Wrapped.{wrapped, unwrapped, IsExact};
+ghost use Rattle.omh_paths.specs.Wrapped.{wrapped, unwrapped};
 ghost use Rattle.omh_paths.specs.Majority.{majority};
 ghost use Rattle.omh.specs.Flat.{forgotten};
 ghost use Rattle.equivocation.specs.Conviction.{is_convicted};
@@ -12,11 +12,11 @@ ghost use Rattle.settled_items.specs.Relaying.{clipped};
 
 use equivocation::convict;
 use node_grid::NodeSet;
-use omh_paths::{Wrapped, majority};
+use omh_paths::{Exact, Wrapped, majority};
 use std::alloc::{AllocError, Global};
 
 /// So many values, all of them the error.
-pub(crate) fn blank<V: Copy + Eq>(alloc: Global, len: usize) -> Result<Vec<Wrapped<V>>, AllocError>
+pub(crate) fn blank<V: Exact>(alloc: Global, len: usize) -> Result<Vec<Wrapped<V>>, AllocError>
     ensures { IfOk result (λ v. v.items ≡ replicate len (Fault 0)) }
 {
     let mut values = Vec::with_capacity(alloc, len)?;
@@ -27,7 +27,7 @@ pub(crate) fn blank<V: Copy + Eq>(alloc: Global, len: usize) -> Result<Vec<Wrapp
 }
 
 /// Puts a value in place of another one.
-pub(crate) fn set_value<V: Copy + Eq>(values: &mut [Wrapped<V>], place: usize, value: Wrapped<V>)
+pub(crate) fn set_value<V: Exact>(values: &mut [Wrapped<V>], place: usize, value: Wrapped<V>)
     requires { place < length values.old }
     ensures { values.new ≡ slice_set values.old place value }
 {
@@ -35,7 +35,7 @@ pub(crate) fn set_value<V: Copy + Eq>(values: &mut [Wrapped<V>], place: usize, v
 }
 
 /// Puts the error in place of all values.
-pub(crate) fn clear<V: Copy + Eq>(values: &mut [Wrapped<V>])
+pub(crate) fn clear<V: Exact>(values: &mut [Wrapped<V>])
     ensures { values.new ≡ forgotten values.old }
 {
     for value in values.iter_mut() {
@@ -45,7 +45,7 @@ pub(crate) fn clear<V: Copy + Eq>(values: &mut [Wrapped<V>])
 
 /// A value in which an error that was wrapped more than 254 times counts as one that was wrapped so
 /// often.
-pub(crate) fn clip<V: Copy + Eq>(value: Wrapped<V>) -> Wrapped<V>
+pub(crate) fn clip<V: Exact>(value: Wrapped<V>) -> Wrapped<V>
     ensures is { result ≡ clipped value }
     ensures known { result ≢ Fault 255 }
 {
@@ -56,7 +56,7 @@ pub(crate) fn clip<V: Copy + Eq>(value: Wrapped<V>) -> Wrapped<V>
 }
 
 /// An error that was wrapped so many times, at most 254 of which count.
-fn clip_fault<V: Copy + Eq>(times: u8) -> Wrapped<V>
+fn clip_fault<V: Exact>(times: u8) -> Wrapped<V>
     ensures is { result ≡ clipped (Fault times) }
     ensures known { result ≢ Fault 255 }
 {
@@ -68,7 +68,7 @@ fn clip_fault<V: Copy + Eq>(times: u8) -> Wrapped<V>
 }
 
 /// The value as a relay passes it on, clipped.
-pub(crate) fn wrap<V: Copy + Eq>(value: Wrapped<V>) -> Wrapped<V>
+pub(crate) fn wrap<V: Exact>(value: Wrapped<V>) -> Wrapped<V>
     ensures is { result ≡ clipped (wrapped value) }
     ensures known { result ≢ Fault 255 }
 {
@@ -76,8 +76,7 @@ pub(crate) fn wrap<V: Copy + Eq>(value: Wrapped<V>) -> Wrapped<V>
 }
 
 /// Whether two nodes have the same value.
-fn is_same<V: Copy + Eq>(values: &[Wrapped<V>], i: u8, j: u8) -> bool
-    requires exact { IsExact V.eq }
+fn is_same<V: Exact>(values: &[Wrapped<V>], i: u8, j: u8) -> bool
     requires first { i < length values.now }
     requires second { j < length values.now }
     ensures { result ≡ true →
@@ -87,12 +86,11 @@ fn is_same<V: Copy + Eq>(values: &[Wrapped<V>], i: u8, j: u8) -> bool
 }
 
 /// Whether all these nodes have the same value as this one.
-pub(crate) fn are_alike<V: Copy + Eq, const N: usize>(
+pub(crate) fn are_alike<V: Exact, const N: usize>(
     values: &[Wrapped<V>],
     nodes: &NodeSet<N>,
     first: u8,
 ) -> bool
-    requires exact { IsExact V.eq }
     requires places { length values.now ≡ N }
     requires first { first < N }
     ensures { result ≡ true → (k : ℕ) → has_id nodes.now k ≡ true →
@@ -107,12 +105,11 @@ pub(crate) fn are_alike<V: Copy + Eq, const N: usize>(
 }
 
 /// What is settled from the terms at these places.
-pub(crate) fn settled_from_terms<V: Copy + Eq>(
+pub(crate) fn settled_from_terms<V: Exact>(
     terms: &[Wrapped<V>],
     from: usize,
     end: usize,
 ) -> Wrapped<V>
-    requires exact { IsExact V.eq }
     requires ordered { from ≤ end }
     requires within { end ≤ length terms.now }
     ensures { result ≡ unwrapped (majority V.eq (take (end - from) (drop from terms.now))) }
@@ -121,14 +118,13 @@ pub(crate) fn settled_from_terms<V: Copy + Eq>(
 }
 
 /// Whether a member is convicted by the first so many of these relays.
-pub(crate) fn convict_by<V: Copy + Eq>(
+pub(crate) fn convict_by<V: Exact>(
     own: Wrapped<V>,
     relays: &[Wrapped<V>],
     count: usize,
     counted: bool,
     m: u8,
 ) -> bool
-    requires exact { IsExact V.eq }
     requires own { own ≢ Fault 255 }
     requires within { count ≤ length relays.now }
     requires few { count ≤ 15 }

@@ -4,7 +4,7 @@ ghost use Rattle.omh_paths.specs.Paths.{index_in};
 ghost use Rattle.omh.specs.Flat.{relay_path};
 ghost use Rattle.settled_paths.specs.Levels.{level_at, IsExchange, IsLevel};
 
-use node_grid::NodeSet;
+use node_grid::{Capacity, NodeSet, Nodes};
 use omh_paths::{Path, count_paths, unrank};
 
 /// How many paths of fewer relays there are behind one commander, where so many others may relay.
@@ -68,6 +68,8 @@ impl<const N: usize> Exchange<N> {
 
     /// The k-th path of so many relays.
     pub(crate) fn path(&self, relays: u8, level: &Level, k: usize) -> Path
+    where
+        Nodes: Capacity<N>,
         requires exchange { IsExchange N self.now.rounds self.now.members self.now.commander }
         requires few { relays ≤ self.now.rounds }
         requires level { IsLevel self.now.members (index_in self.now.members self.now.commander)

@@ -2,7 +2,6 @@ ghost use Rattle.std.specs.Prelude.{◌≡◌, ◌≢◌, ℕ, ◌+◌, ◌<◌,
 ghost use Rattle.std.specs.Prelude.{slice_index_or, IfOk, true, false};
 ghost use Rattle.node_grid.specs.NodeSet.{has_id};
 ghost use Rattle.omh_paths.specs.declared.wrapped.Wrapped.TheVariants.{Fault};
-ghost use Rattle.omh_paths.specs.Wrapped.{IsExact};
 ghost use Rattle.omh.specs.Omh.{settled};
 ghost use Rattle.omh.specs.Written.{IsSmall};
 ghost use Rattle.settled_paths.specs.Passing.{passing_world};
@@ -11,8 +10,8 @@ ghost use Rattle.settled_paths.specs.Rooms.{HasRoomFor};
 use crate::exchange::{Exchange, level_at};
 use crate::touched::Touched;
 use crate::values::blank;
-use node_grid::NoMemory;
-use omh_paths::Wrapped;
+use node_grid::{Capacity, NoMemory, Nodes};
+use omh_paths::{Exact, Wrapped};
 use std::alloc::Global;
 use std::marker::Model;
 
@@ -39,7 +38,7 @@ impl<V> Model for Laid<V> {
     ghost invariant = { λ l. HasRoom l.nodes l.rounds l.laid.items l.longest.items l.work.items };
 }
 
-impl<V: Copy + Eq + Drop> Laid<V> {
+impl<V: Exact + Drop> Laid<V> {
     /// Room for the items of `nodes` nodes, at most 16, relayed in `rounds` rounds, at most 3.
     pub fn open(alloc: Global, nodes: u8, rounds: u8) -> Result<Laid<V>, NoMemory>
         requires nodes { nodes ≤ 16 }
@@ -75,7 +74,8 @@ impl<V: Copy + Eq + Drop> Laid<V> {
         touched: &T,
         all: &mut [Wrapped<V>],
     )
-        requires exact { IsExact V.eq }
+    where
+        Nodes: Capacity<N>,
         requires room { HasRoomFor N exchange.now.rounds exchange.now.members
             exchange.now.commander self.old }
         requires own { IsSmall 252 own }

@@ -13,12 +13,13 @@ ghost use Rattle.settled_paths.specs.Levels.{level_at, IsExchange, AreLaid, AreS
 use crate::exchange::Exchange;
 use crate::touched::{Touched, Untouched, heard};
 use crate::values::{set_value, value_at};
+use node_grid::{Capacity, Nodes};
 use omh::outside;
-use omh_paths::{Path, Wrapped};
+use omh_paths::{Exact, Path, Wrapped};
 
 impl<const N: usize> Exchange<N> {
     /// What a member passes on of a path, whose last node passed this on.
-    fn passed_on<V: Copy + Eq, T: Touched<V>>(
+    fn passed_on<V: Exact, T: Touched<V>>(
         &self,
         q: u8,
         path: &Path,
@@ -37,7 +38,7 @@ impl<const N: usize> Exchange<N> {
     }
 
     /// Lays what each member outside a path passes on of it, one after another from this place on.
-    fn lay_behind<V: Copy + Eq, T: Touched<V>>(
+    fn lay_behind<V: Exact, T: Touched<V>>(
         &self,
         path: &Path,
         passed: Wrapped<V>,
@@ -69,12 +70,9 @@ impl<const N: usize> Exchange<N> {
 
     /// Lays what is passed on of all paths of so many relays, where that of shorter ones is laid,
     /// by what is said in place of what is passed on of these.
-    fn lay_level<V: Copy + Eq, T: Touched<V>>(
-        &self,
-        relays: u8,
-        touched: &T,
-        laid: &mut [Wrapped<V>],
-    )
+    fn lay_level<V: Exact, T: Touched<V>>(&self, relays: u8, touched: &T, laid: &mut [Wrapped<V>])
+    where
+        Nodes: Capacity<N>,
         requires exchange { IsExchange N self.now.rounds self.now.members self.now.commander }
         requires shorter { relays < self.now.rounds }
         requires small { AreSmall self.now.members relays laid.old }
@@ -101,12 +99,9 @@ impl<const N: usize> Exchange<N> {
     }
 
     /// Lays what is passed on of all paths of so many relays, where that of shorter ones is laid.
-    fn lay_longer<V: Copy + Eq, T: Touched<V>>(
-        &self,
-        relays: u8,
-        touched: &T,
-        laid: &mut [Wrapped<V>],
-    )
+    fn lay_longer<V: Exact, T: Touched<V>>(&self, relays: u8, touched: &T, laid: &mut [Wrapped<V>])
+    where
+        Nodes: Capacity<N>,
         requires exchange { IsExchange N self.now.rounds self.now.members self.now.commander }
         requires shorter { relays < self.now.rounds }
         requires small { AreSmall self.now.members relays laid.old }
@@ -129,12 +124,14 @@ impl<const N: usize> Exchange<N> {
 
     /// Lays what is passed on of the item, where its commander says this of it: for each path
     /// behind the commander, shorter ones first, what the path's last node passes on.
-    pub(crate) fn lay<V: Copy + Eq, T: Touched<V>>(
+    pub(crate) fn lay<V: Exact, T: Touched<V>>(
         &self,
         own: Wrapped<V>,
         touched: &T,
         laid: &mut [Wrapped<V>],
     )
+    where
+        Nodes: Capacity<N>,
         requires exchange { IsExchange N self.now.rounds self.now.members self.now.commander }
         requires own { IsSmall 252 own }
         requires room { level_at (length self.now.members - 1) (self.now.rounds + 1)

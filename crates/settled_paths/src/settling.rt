@@ -6,7 +6,6 @@ ghost use Rattle.std.specs.Prelude.{◌++◌, [], length, slice_index_or, true, 
 ghost use Rattle.node_grid.specs.NodeSet.{has_id};
 ghost use Rattle.omh_paths.specs.declared.wrapped.Wrapped.{Wrapped};
 ghost use Rattle.omh_paths.specs.declared.wrapped.Wrapped.TheVariants.{Fault};
-ghost use Rattle.omh_paths.specs.Wrapped.{IsExact};
 ghost use Rattle.omh_paths.specs.Paths.{outside, path_count, index_in};
 ghost use Rattle.omh.specs.Omh.{settled_at, settled};
 ghost use Rattle.omh.specs.Flat.{AreSettled, path_settled};
@@ -17,14 +16,14 @@ ghost use Rattle.settled_paths.specs.Levels.{AreLastTerms, AreRelayRooms};
 use crate::exchange::Exchange;
 use crate::touched::{Touched, Untouched, heard, term};
 use crate::values::{copy_front, part, set_value, settled_from_terms, value_at};
-use node_grid::NodeSet;
+use node_grid::{Capacity, NodeSet, Nodes};
 use omh::outside;
-use omh_paths::{Path, Wrapped};
+use omh_paths::{Exact, Path, Wrapped};
 
 impl<const N: usize> Exchange<N> {
     /// Lays what node `i` puts into the majority of a path of m nodes for each member outside it;
     /// these pass this on.
-    fn lay_terms<V: Copy + Eq, T: Touched<V>>(
+    fn lay_terms<V: Exact, T: Touched<V>>(
         &self,
         i: u8,
         path: &Path,
@@ -53,7 +52,7 @@ impl<const N: usize> Exchange<N> {
 
     /// Settles the paths of m nodes from what is laid and what node `i` hears in the last round in
     /// place of that.
-    fn settle_level<V: Copy + Eq, T: Touched<V>>(
+    fn settle_level<V: Exact, T: Touched<V>>(
         &self,
         i: u8,
         touched: &T,
@@ -61,7 +60,8 @@ impl<const N: usize> Exchange<N> {
         longest: &mut [Wrapped<V>],
         terms: &mut [Wrapped<V>],
     )
-        requires exact { IsExact V.eq }
+    where
+        Nodes: Capacity<N>,
         requires exchange { IsExchange N self.now.rounds self.now.members self.now.commander }
         requires room { AreRelayRooms self.now.rounds self.now.members laid.now
             longest.old terms.old }
@@ -88,7 +88,7 @@ impl<const N: usize> Exchange<N> {
 
     /// Settles the paths of m nodes from what node `i` hears in the last round. Each node for which
     /// the same is changed in that round settles them so.
-    fn settle_longest<V: Copy + Eq, T: Touched<V>>(
+    fn settle_longest<V: Exact, T: Touched<V>>(
         &self,
         i: u8,
         touched: &T,
@@ -96,7 +96,8 @@ impl<const N: usize> Exchange<N> {
         longest: &mut [Wrapped<V>],
         terms: &mut [Wrapped<V>],
     )
-        requires exact { IsExact V.eq }
+    where
+        Nodes: Capacity<N>,
         requires exchange { IsExchange N self.now.rounds self.now.members self.now.commander }
         requires room { AreRelayRooms self.now.rounds self.now.members laid.now
             longest.old terms.old }
@@ -117,13 +118,7 @@ impl<const N: usize> Exchange<N> {
 
     /// What node `i` itself puts into the majority of a path, which stands among what the members
     /// outside the path pass on of it, from this place on.
-    fn own_term<V: Copy + Eq>(
-        &self,
-        i: u8,
-        path: &Path,
-        from: usize,
-        laid: &[Wrapped<V>],
-    ) -> Wrapped<V>
+    fn own_term<V: Exact>(&self, i: u8, path: &Path, from: usize, laid: &[Wrapped<V>]) -> Wrapped<V>
         requires within { (q : ℕ) → has_id path.now q ≡ true → q < N }
         requires room { from + length (outside self.now.members path.now) ≤ length laid.now }
         ensures { has_id (outside self.now.members path.now) i ≡ true → result
@@ -141,7 +136,7 @@ impl<const N: usize> Exchange<N> {
 
     /// Settles the path at place `k` from the terms of its majority, with the node's own term among
     /// them.
-    fn settle_path<V: Copy + Eq>(
+    fn settle_path<V: Exact>(
         &self,
         i: u8,
         path: &Path,
@@ -149,7 +144,6 @@ impl<const N: usize> Exchange<N> {
         own: Wrapped<V>,
         work: &mut [Wrapped<V>],
     )
-        requires exact { IsExact V.eq }
         requires within { (q : ℕ) → has_id path.now q ≡ true → q < N }
         requires room { k * length (outside self.now.members path.now) + length
             (outside self.now.members path.now) ≤ length work.old }
@@ -168,14 +162,15 @@ impl<const N: usize> Exchange<N> {
 
     /// Settles all paths of so many relays, in place of what was settled for those of one relay
     /// more.
-    fn settle_shorter<V: Copy + Eq>(
+    fn settle_shorter<V: Exact>(
         &self,
         i: u8,
         relays: u8,
         laid: &[Wrapped<V>],
         work: &mut [Wrapped<V>],
     )
-        requires exact { IsExact V.eq }
+    where
+        Nodes: Capacity<N>,
         requires exchange { IsExchange N self.now.rounds self.now.members self.now.commander }
         requires shorter { relays + 1 < self.now.rounds }
         requires laid { level_at (length self.now.members - 1) (self.now.rounds + 1)
@@ -198,14 +193,15 @@ impl<const N: usize> Exchange<N> {
     }
 
     /// What node `i` settles for the item, from what it settles for the paths of m nodes.
-    fn settle_from<V: Copy + Eq>(
+    fn settle_from<V: Exact>(
         &self,
         i: u8,
         laid: &[Wrapped<V>],
         longest: &[Wrapped<V>],
         work: &mut [Wrapped<V>],
     ) -> Wrapped<V>
-        requires exact { IsExact V.eq }
+    where
+        Nodes: Capacity<N>,
         requires exchange { IsExchange N self.now.rounds self.now.members self.now.commander }
         requires other { self.now.commander ≢ i }
         requires room { AreRelayRooms self.now.rounds self.now.members laid.now
@@ -226,7 +222,7 @@ impl<const N: usize> Exchange<N> {
 
     /// Those of the nodes for which the same is changed in the last round as for this one of them,
     /// which is one of them.
-    fn alike<V: Copy + Eq, T: Touched<V>>(
+    fn alike<V: Exact, T: Touched<V>>(
         &self,
         touched: &T,
         first: u8,
@@ -251,7 +247,7 @@ impl<const N: usize> Exchange<N> {
 
     /// What each of these nodes settles for the item, from what they all settle for the paths of m
     /// nodes, laid at the node's place in `all`.
-    fn settle_each<V: Copy + Eq>(
+    fn settle_each<V: Exact>(
         &self,
         nodes: &NodeSet<N>,
         laid: &[Wrapped<V>],
@@ -259,7 +255,8 @@ impl<const N: usize> Exchange<N> {
         work: &mut [Wrapped<V>],
         all: &mut [Wrapped<V>],
     )
-        requires exact { IsExact V.eq }
+    where
+        Nodes: Capacity<N>,
         requires exchange { IsExchange N self.now.rounds self.now.members self.now.commander }
         requires others { has_id nodes.now self.now.commander ≡ false }
         requires room { AreRelayRooms self.now.rounds self.now.members laid.now
@@ -285,7 +282,7 @@ impl<const N: usize> Exchange<N> {
     /// What each node that hears the item of another member settles for it, where it is relayed:
     /// the paths of m nodes once for all nodes for which the same is changed in the last round, and
     /// the shorter ones for each.
-    pub(crate) fn settle_relayed<V: Copy + Eq, T: Touched<V>>(
+    pub(crate) fn settle_relayed<V: Exact, T: Touched<V>>(
         &self,
         touched: &T,
         laid: &[Wrapped<V>],
@@ -293,7 +290,8 @@ impl<const N: usize> Exchange<N> {
         work: &mut [Wrapped<V>],
         all: &mut [Wrapped<V>],
     )
-        requires exact { IsExact V.eq }
+    where
+        Nodes: Capacity<N>,
         requires exchange { IsExchange N self.now.rounds self.now.members self.now.commander }
         requires room { AreRelayRooms self.now.rounds self.now.members laid.now
             longest.old work.old }
@@ -325,7 +323,7 @@ impl<const N: usize> Exchange<N> {
 
     /// What each node that hears the item of another member settles for it, where nothing is
     /// relayed: what it hears.
-    pub(crate) fn settle_heard<V: Copy + Eq, T: Touched<V>>(
+    pub(crate) fn settle_heard<V: Exact, T: Touched<V>>(
         &self,
         own: Wrapped<V>,
         touched: &T,

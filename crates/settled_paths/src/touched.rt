@@ -5,10 +5,10 @@ ghost use Rattle.omh_paths.specs.declared.wrapped.Wrapped.{Wrapped};
 ghost use Rattle.omh.specs.Written.{IsSmall};
 ghost use Rattle.settled_paths.specs.Passing.{or_passed, instead, HearAlike};
 
-use omh_paths::{Path, Wrapped};
+use omh_paths::{Exact, Path, Wrapped};
 
 /// What was touched of one member's item on its way: what nodes hear in place of what is passed on.
-pub trait Touched<V: Copy + Eq> {
+pub trait Touched<V: Exact> {
     ghost says: { Self → ℕ → List ℕ → Option (Wrapped V) };
 
     /// What node `to` hears for a path in place of what the path's last node passes on; None where
@@ -32,7 +32,7 @@ pub trait Touched<V: Copy + Eq> {
 #[derive(Drop)]
 pub(crate) struct Untouched;
 
-impl<V: Copy + Eq> Touched<V> for Untouched {
+impl<V: Exact> Touched<V> for Untouched {
     ghost says = { λ u i path. None };
 
     fn said(&self, _to: u8, _path: &Path) -> Option<Wrapped<V>> {
@@ -49,7 +49,7 @@ impl<V: Copy + Eq> Touched<V> for Untouched {
 }
 
 /// What a node hears for a path whose last node passes this on.
-pub(crate) fn heard<V: Copy + Eq, T: Touched<V>>(
+pub(crate) fn heard<V: Exact, T: Touched<V>>(
     touched: &T,
     to: u8,
     path: &Path,
@@ -66,7 +66,7 @@ pub(crate) fn heard<V: Copy + Eq, T: Touched<V>>(
 
 /// What node `i` puts into the majority of a path of m nodes for the member `q`, which passes this
 /// on: what it hears of it, or just that where `q` is the node itself.
-pub(crate) fn term<V: Copy + Eq, T: Touched<V>>(
+pub(crate) fn term<V: Exact, T: Touched<V>>(
     touched: &T,
     i: u8,
     path: &Path,

@@ -3,14 +3,14 @@
 ghost use Rattle.std.specs.Prelude.{◌≡◌, ◌≢◌, ℕ, ◌+◌, ◌*◌, ◌<◌, ◌≤◌, ◌++◌, length, slice_set};
 ghost use Rattle.std.specs.Prelude.{slice_index_or, take, drop, IfOk, replicate};
 ghost use Rattle.omh_paths.specs.declared.wrapped.Wrapped.TheVariants.{Fault};
-ghost use Rattle.omh_paths.specs.Wrapped.{unwrapped, IsExact};
+ghost use Rattle.omh_paths.specs.Wrapped.{unwrapped};
 ghost use Rattle.omh_paths.specs.Majority.{majority};
 
-use omh_paths::{Wrapped, majority};
+use omh_paths::{Exact, Wrapped, majority};
 use std::alloc::{AllocError, Global};
 
 /// So many values, all of them the error.
-pub(crate) fn blank<V: Copy + Eq>(alloc: Global, len: usize) -> Result<Vec<Wrapped<V>>, AllocError>
+pub(crate) fn blank<V: Exact>(alloc: Global, len: usize) -> Result<Vec<Wrapped<V>>, AllocError>
     ensures { IfOk result (λ v. v.items ≡ replicate len (Fault 0)) }
 {
     let mut values = Vec::with_capacity(alloc, len)?;
@@ -21,7 +21,7 @@ pub(crate) fn blank<V: Copy + Eq>(alloc: Global, len: usize) -> Result<Vec<Wrapp
 }
 
 /// Puts a value in place of another one.
-pub(crate) fn set_value<V: Copy + Eq>(values: &mut [Wrapped<V>], place: usize, value: Wrapped<V>)
+pub(crate) fn set_value<V: Exact>(values: &mut [Wrapped<V>], place: usize, value: Wrapped<V>)
     requires { place < length values.old }
     ensures { values.new ≡ slice_set values.old place value }
 {
@@ -29,7 +29,7 @@ pub(crate) fn set_value<V: Copy + Eq>(values: &mut [Wrapped<V>], place: usize, v
 }
 
 /// The value at a place.
-pub(crate) fn value_at<V: Copy + Eq>(values: &[Wrapped<V>], place: usize) -> Wrapped<V>
+pub(crate) fn value_at<V: Exact>(values: &[Wrapped<V>], place: usize) -> Wrapped<V>
     requires { place < length values.now }
     ensures { result ≡ slice_index_or values.now place (Fault 0) }
 {
@@ -37,7 +37,7 @@ pub(crate) fn value_at<V: Copy + Eq>(values: &[Wrapped<V>], place: usize) -> Wra
 }
 
 /// So many values, which begin at `from`.
-pub(crate) fn part<V: Copy + Eq>(values: &[Wrapped<V>], from: usize, len: usize) -> &[Wrapped<V>]
+pub(crate) fn part<V: Exact>(values: &[Wrapped<V>], from: usize, len: usize) -> &[Wrapped<V>]
     requires { from + len ≤ length values.now }
     ensures { result.now ≡ take len (drop from values.now) }
 {
@@ -45,7 +45,7 @@ pub(crate) fn part<V: Copy + Eq>(values: &[Wrapped<V>], from: usize, len: usize)
 }
 
 /// Copies the first `len` values over the first ones of `work`.
-pub(crate) fn copy_front<V: Copy + Eq>(work: &mut [Wrapped<V>], values: &[Wrapped<V>], len: usize)
+pub(crate) fn copy_front<V: Exact>(work: &mut [Wrapped<V>], values: &[Wrapped<V>], len: usize)
     requires within { len ≤ length values.now }
     requires room { len ≤ length work.old }
     ensures { work.new ≡ take len values.now ++ drop len work.old }
@@ -54,12 +54,11 @@ pub(crate) fn copy_front<V: Copy + Eq>(work: &mut [Wrapped<V>], values: &[Wrappe
 }
 
 /// What is settled from so many terms, which begin at `from`.
-pub(crate) fn settled_from_terms<V: Copy + Eq>(
+pub(crate) fn settled_from_terms<V: Exact>(
     terms: &[Wrapped<V>],
     from: usize,
     width: usize,
 ) -> Wrapped<V>
-    requires exact { IsExact V.eq }
     requires within { from + width ≤ length terms.now }
     ensures { result ≡ unwrapped (majority V.eq (take width (drop from terms.now))) }
 {

@@ -1,11 +1,10 @@
 //! What nodes believe of a period.
 
 ghost use Rattle.std.specs.Prelude.{◌≡◌, [], replicate, None};
-ghost use Rattle.node_grid.specs.Capacity.{IsCapacity};
 ghost use Rattle.omh_paths.specs.declared.wrapped.Wrapped.TheVariants.{Fault};
 
 use arrayvec::ArrayVec;
-use node_grid::Matrix;
+use node_grid::{Capacity, Matrix, Nodes};
 use omh_paths::Wrapped;
 
 /// What a group of nodes settles and votes in a period.
@@ -22,10 +21,12 @@ pub struct Belief<const N: usize> {
     pub rows: Matrix<N>,
 }
 
-impl<const N: usize> Belief<N> {
+impl<const N: usize> Belief<N>
+where
+    Nodes: Capacity<N>,
+{
     /// What a node believes that settles nothing: each claim is an error, and no channel is due.
     pub fn none() -> Belief<N>
-        requires { IsCapacity N }
         ensures done { result.done ≡ replicate N (Fault 0) }
         ensures due { result.due.items ≡ [] }
         ensures votes { result.votes ≡ replicate 8 None }

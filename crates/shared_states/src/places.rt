@@ -2,16 +2,16 @@
 
 ghost use Rattle.std.specs.Prelude.{◌≡◌, ◌≢◌, ◌↔◌, ℕ, ◌<◌, ◌≤◌, ◌==◌, ◌&&◌, true, IsTrue, length};
 ghost use Rattle.std.specs.Prelude.{slice_get, slice_index, if◌then◌else◌};
-ghost use Rattle.node_grid.specs.Capacity.{IsCapacity};
 ghost use Rattle.node_grid.specs.NodeSet.{IsIdSet, has_id, ids_where};
 ghost use Rattle.shared_states.specs.Places.{ArePlaced, AreAtOne, IsAlike, LeadAlike};
 
 use agreed_state::Agreed;
-use node_grid::NodeSet;
+use node_grid::{Capacity, NodeSet, Nodes};
 
 /// Puts these nodes at one place.
 pub(crate) fn put_at<const N: usize>(places: &mut [u8; N], nodes: &NodeSet<N>, place: u8)
-    requires { IsCapacity N }
+where
+    Nodes: Capacity<N>,
     ensures put { (i : ℕ) → i < N → slice_index places.new i ≡
         (if has_id nodes.now i then place else slice_index places.old i) }
     ensures long { length places.new ≡ N }
@@ -30,7 +30,8 @@ pub(crate) fn nodes_at<const N: usize>(
     nodes: &NodeSet<N>,
     place: u8,
 ) -> NodeSet<N>
-    requires { IsCapacity N }
+where
+    Nodes: Capacity<N>,
     ensures { result ≡
         ids_where (λ i. has_id nodes.now i && (slice_index places.now i == place)) N }
 {
@@ -45,7 +46,8 @@ pub(crate) fn nodes_at<const N: usize>(
 
 /// Whether all these nodes are at one place.
 pub(crate) fn are_at_one<const N: usize>(places: &[u8; N], nodes: &NodeSet<N>) -> bool
-    requires capacity { IsCapacity N }
+where
+    Nodes: Capacity<N>,
     requires ids { IsIdSet N nodes.now }
     ensures { result ≡ true → AreAtOne nodes.now places.now }
 {
@@ -62,7 +64,8 @@ pub(crate) fn are_at_one<const N: usize>(places: &[u8; N], nodes: &NodeSet<N>) -
 
 /// The places of these nodes.
 fn places_of<const N: usize>(places: &[u8; N], nodes: &NodeSet<N>) -> NodeSet<N>
-    requires capacity { IsCapacity N }
+where
+    Nodes: Capacity<N>,
     requires ids { IsIdSet N nodes.now }
     requires placed { ArePlaced N nodes.now places.now }
     ensures places { (i : ℕ) → has_id nodes.now i ≡ true →
@@ -82,7 +85,8 @@ fn places_of<const N: usize>(places: &[u8; N], nodes: &NodeSet<N>) -> NodeSet<N>
 
 /// A place at which none of these nodes is, of which there are fewer than places.
 pub(crate) fn free_place<const N: usize>(places: &[u8; N], nodes: &NodeSet<N>) -> u8
-    requires capacity { IsCapacity N }
+where
+    Nodes: Capacity<N>,
     requires ids { IsIdSet N nodes.now }
     requires placed { ArePlaced N nodes.now places.now }
     requires few { length nodes.now < N }
@@ -95,7 +99,8 @@ pub(crate) fn free_place<const N: usize>(places: &[u8; N], nodes: &NodeSet<N>) -
 
 /// Whether two places have the same state.
 fn has_equal<const N: usize>(states: &[Agreed<N>], one: u8, other: u8) -> bool
-    requires capacity { IsCapacity N }
+where
+    Nodes: Capacity<N>,
     requires one { one < length states.now }
     requires other { other < length states.now }
     ensures { IsTrue result ↔ (slice_get states.now one ≡ slice_get states.now other) }
@@ -110,7 +115,8 @@ pub(crate) fn nodes_alike<const N: usize>(
     nodes: &NodeSet<N>,
     place: u8,
 ) -> NodeSet<N>
-    requires capacity { IsCapacity N }
+where
+    Nodes: Capacity<N>,
     requires ids { IsIdSet N nodes.now }
     requires room { length states.now ≡ N }
     requires placed { ArePlaced N nodes.now places.now }
@@ -135,7 +141,8 @@ fn join_at<const N: usize>(
     nodes: &NodeSet<N>,
     place: u8,
 )
-    requires capacity { IsCapacity N }
+where
+    Nodes: Capacity<N>,
     requires room { length states.now ≡ N }
     requires placed { ArePlaced N nodes.now places.old }
     requires place { place < N }
@@ -155,7 +162,8 @@ fn join_at<const N: usize>(
 
 /// Brings those of the nodes whose states are equal to one place.
 pub(crate) fn join<const N: usize>(places: &mut [u8; N], states: &[Agreed<N>], nodes: &NodeSet<N>)
-    requires capacity { IsCapacity N }
+where
+    Nodes: Capacity<N>,
     requires room { length states.now ≡ N }
     requires placed { ArePlaced N nodes.now places.old }
     ensures placed { ArePlaced N nodes.now places.new }

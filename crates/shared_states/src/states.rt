@@ -3,7 +3,6 @@
 ghost use Rattle.std.specs.Prelude.{◌≡◌, ◌↔◌, ℕ, ◌<◌, true, IsTrue, length, replicate, is_some};
 ghost use Rattle.std.specs.Prelude.{IfOk};
 ghost use Rattle.std.specs.Option.{option_map};
-ghost use Rattle.node_grid.specs.Capacity.{IsCapacity};
 ghost use Rattle.node_grid.specs.NodeSet.{has_id, ids_where};
 ghost use Rattle.agreed_state.specs.Config.{IsConfig};
 ghost use Rattle.shared_states.specs.Sharing.{state_at, first_states, without_state, with_state};
@@ -11,7 +10,7 @@ ghost use Rattle.shared_states.specs.Sharing.{shared_with, IsShared, IsOne};
 
 use crate::places::{are_at_one, free_place, join, nodes_alike, nodes_at, put_at};
 use agreed_state::{Agreed, Config};
-use node_grid::{NoMemory, NodeSet};
+use node_grid::{Capacity, NoMemory, NodeSet, Nodes};
 use std::alloc::{AllocError, Global};
 use std::marker::Model;
 
@@ -46,7 +45,8 @@ impl<const N: usize> Model for SharedStates<N> {
 
 /// A list of N states, each of them this one.
 fn repeated<const N: usize>(alloc: Global, state: &Agreed<N>) -> Result<Vec<Agreed<N>>, AllocError>
-    requires { IsCapacity N }
+where
+    Nodes: Capacity<N>,
     ensures { IfOk result (λ v. v.items ≡ replicate N state.now) }
 {
     let mut states = Vec::with_capacity(alloc, N)?;
@@ -63,7 +63,8 @@ impl<const N: usize> SharedStates<N> {
     ///
     /// `NoMemory`: there was no memory.
     pub fn open(alloc: Global, config: &Config<N>) -> Result<SharedStates<N>, NoMemory>
-        requires capacity { IsCapacity N }
+    where
+        Nodes: Capacity<N>,
         requires config { IsConfig N config.now }
         ensures { IfOk result (λ s. s ≡ first_states N config.now) }
     {
@@ -114,6 +115,8 @@ impl<const N: usize> SharedStates<N> {
 
     /// The nodes that share the state of this one, it included; none where it has none.
     pub fn sharers(&self, i: u8) -> NodeSet<N>
+    where
+        Nodes: Capacity<N>,
         ensures shared { (j : ℕ) → has_id result j ≡ true → IsShared self.now i j }
         ensures own { is_some (state_at self.now i) ≡ true → has_id result i ≡ true }
     {
@@ -129,6 +132,8 @@ impl<const N: usize> SharedStates<N> {
     /// The nodes that have the same state as this one, it included, whether they share it
     /// or not; none where it has none.
     pub fn alike(&self, i: u8) -> NodeSet<N>
+    where
+        Nodes: Capacity<N>,
         ensures { (j : ℕ) → IsTrue (has_id result j) ↔ IsShared self.now i j }
     {
         if !self.awake.has(i) {
@@ -172,6 +177,8 @@ impl<const N: usize> SharedStates<N> {
 
     /// Gives these nodes this state, in place of what they had.
     pub fn replace(&mut self, nodes: &NodeSet<N>, state: &Agreed<N>)
+    where
+        Nodes: Capacity<N>,
         ensures { self.new ≡ with_state N self.old nodes.now state.now }
     {
         let others = self.awake.minus(nodes);
@@ -188,6 +195,8 @@ impl<const N: usize> SharedStates<N> {
 
     /// Brings equal states together, so that the nodes that have them share one.
     pub fn join(&mut self)
+    where
+        Nodes: Capacity<N>,
         ensures { self.new ≡ self.old }
     {
         if self.one {

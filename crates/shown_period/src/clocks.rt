@@ -3,7 +3,6 @@
 
 ghost use Rattle.std.specs.Prelude.{◌≡◌, ◌<◌, All, map, option_map};
 ghost use Rattle.node_grid.specs.NodeSet.{ids_below};
-ghost use Rattle.node_grid.specs.Capacity.{IsCapacity};
 ghost use Rattle.clock_skew.specs.Correction.{IsReading};
 ghost use Rattle.clock_skew.specs.Reading.{AreSteady};
 ghost use Rattle.scenario.specs.Scenario.{system_of};
@@ -18,11 +17,14 @@ use crate::made::Made;
 use clock_skew::{Clocks, correction};
 use cluster_record::ClockRecord;
 use node_core::Mode;
+use node_grid::{Capacity, Nodes};
 use safety::laws::clocks::offsets;
 use scenario::Scenario;
 
 /// By how much node `i` corrects its clock. It is 0 of a node that isn't in use.
 fn correction_of<const N: usize>(clocks: &Clocks<'_, N>, made: &Made<N>, m: u8, i: u8) -> i64
+where
+    Nodes: Capacity<N>,
     requires node { i < N }
     requires steady { AreSteady N clocks.now.plan.now clocks.now.nodes clocks.now.offset.now }
     requires others { AreOthers (outcomes made.now clocks.now.nodes) }
@@ -45,6 +47,8 @@ fn correction_of<const N: usize>(clocks: &Clocks<'_, N>, made: &Made<N>, m: u8, 
 
 /// By how much all nodes correct their clocks.
 fn corrections<const N: usize>(clocks: &Clocks<'_, N>, made: &Made<N>, m: u8) -> [i64; N]
+where
+    Nodes: Capacity<N>,
     requires steady { AreSteady N clocks.now.plan.now clocks.now.nodes clocks.now.offset.now }
     requires others { AreOthers (outcomes made.now clocks.now.nodes) }
     ensures corrections { result ≡ map (correction_by N clocks.now.plan.now m clocks.now.offset.now
@@ -66,7 +70,8 @@ pub(crate) fn next_clocks<const N: usize>(
     made: &Made<N>,
     before: Option<ClockRecord<N>>,
 ) -> Option<ClockRecord<N>>
-    requires capacity { IsCapacity N }
+where
+    Nodes: Capacity<N>,
     requires in_run { period < scenario.now.periods }
     requires made { AreMade scenario.now period made.now }
     requires offsets { offsets_kept (option_map clock_shown before)

@@ -2,7 +2,6 @@
 //! the period.
 
 ghost use Rattle.std.specs.Prelude.{◌≡◌, ◌<◌, ◌≤◌, ◌+◌, map};
-ghost use Rattle.node_grid.specs.Capacity.{IsCapacity};
 ghost use Rattle.node_grid.specs.NodeSet.{ids_below};
 ghost use Rattle.cluster_record.specs.Filling.{class_or_first};
 ghost use Rattle.shown_period.specs.Heads.{members_shown, IsBefore, IsBegun, AreBegun};
@@ -10,7 +9,7 @@ ghost use Rattle.shown_period.specs.Heads.{members_shown, IsBefore, IsBegun, Are
 use crate::made::members_in;
 use cluster_record::{ClockRecord, first_clocks};
 use fault_classes::{Budget, Class, FaultPlan};
-use node_grid::NodeSet;
+use node_grid::{Capacity, NodeSet, Nodes};
 use scenario::Scenario;
 use shared_states::SharedStates;
 
@@ -59,7 +58,8 @@ fn no_members() -> Budget
 /// The members with which the reference node begins the period; none without one, or where it has
 /// no agreed state.
 fn members_of<const N: usize>(states: &SharedStates<N>, reference: Option<u8>) -> NodeSet<N>
-    requires { IsCapacity N }
+where
+    Nodes: Capacity<N>,
     ensures { result ≡ members_shown states.now reference }
 {
     match reference {
@@ -83,7 +83,8 @@ fn class_of<const N: usize>(plan: &FaultPlan<N>, nodes: u8, period: u32, node: u
 
 /// The classes of the nodes in use, with N behind them.
 fn classes_of<const N: usize>(plan: &FaultPlan<N>, nodes: u8, period: u32) -> [Class; N]
-    requires capacity { IsCapacity N }
+where
+    Nodes: Capacity<N>,
     requires nodes { nodes ≤ plan.now.nodes }
     requires period { period < plan.now.periods }
     ensures { result ≡ map (class_or_first plan.now nodes period) (ids_below N) }
@@ -95,10 +96,12 @@ fn classes_of<const N: usize>(plan: &FaultPlan<N>, nodes: u8, period: u32) -> [C
     classes
 }
 
-impl<const N: usize> Head<N> {
+impl<const N: usize> Head<N>
+where
+    Nodes: Capacity<N>,
+{
     /// The head before the first period of a scenario.
     pub(crate) fn first(scenario: &Scenario<N>) -> Self
-        requires { IsCapacity N }
         ensures { IsBefore scenario.now 0 result }
     {
         let config = scenario.config();
@@ -123,7 +126,6 @@ impl<const N: usize> Head<N> {
     ///
     /// The head must be that of the period before.
     pub fn begin(&mut self, scenario: &Scenario<N>, period: u32, states: &SharedStates<N>)
-        requires capacity { IsCapacity N }
         requires in_run { period < scenario.now.periods }
         requires before { IsBefore scenario.now period self.old }
         requires states { AreBegun scenario.now period states.now }

@@ -2,7 +2,6 @@
 
 ghost use Rattle.std.specs.Prelude.{◌≡◌, ◌≢◌, ℕ, ◌<◌, IfOk, length, option_map, replicate};
 ghost use Rattle.std.specs.Prelude.{slice_get, slice_set};
-ghost use Rattle.node_grid.specs.Capacity.{IsCapacity};
 ghost use Rattle.agreed_state.specs.Config.{IsConfig};
 ghost use Rattle.node_steps.specs.Outcome.{cold_outcome};
 ghost use Rattle.shared_states.specs.Sharing.{first_states, state_at};
@@ -13,7 +12,7 @@ ghost use Rattle.shown_period.specs.Whole.{AreAlike};
 
 use agreed_state::{Agreed, Config};
 use node_core::Mode;
-use node_grid::{NoMemory, NodeSet, Row};
+use node_grid::{Capacity, NoMemory, NodeSet, Nodes, Row};
 use shared_states::{Belief, SharedStates};
 use std::alloc::{AllocError, Global};
 
@@ -38,7 +37,8 @@ pub struct Made<const N: usize> {
 
 /// A place for what each node believes, where nothing is believed yet.
 fn no_beliefs<const N: usize>(alloc: Global) -> Result<Vec<Belief<N>>, AllocError>
-    requires { IsCapacity N }
+where
+    Nodes: Capacity<N>,
     ensures { IfOk result (λ v. length v.items ≡ N) }
 {
     let mut beliefs = Vec::with_capacity(alloc, N)?;
@@ -61,7 +61,8 @@ fn mode_with<const N: usize>(full: bool, state: Option<&Agreed<N>>) -> Mode
 
 /// How each node goes through it.
 fn modes_through<const N: usize>(full: &NodeSet<N>, states: &SharedStates<N>) -> [Mode; N]
-    requires { IsCapacity N }
+where
+    Nodes: Capacity<N>,
     ensures { result ≡ modes_through N full.now states.now }
 {
     let mut modes = [Mode::Cold; N];
@@ -73,7 +74,8 @@ fn modes_through<const N: usize>(full: &NodeSet<N>, states: &SharedStates<N>) ->
 
 /// The members of this node's state; none without a state.
 pub(crate) fn members_in<const N: usize>(states: &SharedStates<N>, i: u8) -> NodeSet<N>
-    requires { IsCapacity N }
+where
+    Nodes: Capacity<N>,
     ensures { result ≡ members_in (state_at states.now i) }
 {
     match states.get(i) {
@@ -84,7 +86,8 @@ pub(crate) fn members_in<const N: usize>(states: &SharedStates<N>, i: u8) -> Nod
 
 /// The members with which each node goes through it.
 fn members_through<const N: usize>(states: &SharedStates<N>) -> [NodeSet<N>; N]
-    requires { IsCapacity N }
+where
+    Nodes: Capacity<N>,
     ensures { result ≡ members_through N states.now }
 {
     let mut members = [NodeSet::empty(); N];
@@ -101,7 +104,8 @@ impl<const N: usize> Made<N> {
     ///
     /// `NoMemory` where there is none.
     pub(crate) fn open(alloc: Global, config: &Config<N>) -> Result<Self, NoMemory>
-        requires capacity { IsCapacity N }
+    where
+        Nodes: Capacity<N>,
         requires config { IsConfig N config.now }
         ensures { IfOk result (λ made. (made.states ≡ first_states N config.now)
             × HasBeliefs made) }
@@ -124,7 +128,8 @@ impl<const N: usize> Made<N> {
     /// How each node goes through a period, and with which members, by the nodes that were Full
     /// when it began, and by the states that are kept now, behind the sync slot.
     pub fn go_through(&mut self, full: &NodeSet<N>)
-        requires { IsCapacity N }
+    where
+        Nodes: Capacity<N>,
         ensures { self.new ≡ record self.old {
           modes = modes_through N full.now self.old.states;
           members = members_through N self.old.states;
@@ -136,6 +141,8 @@ impl<const N: usize> Made<N> {
 
     /// Leaves a node alone, which believes nothing and has no row, as of one that is Cold.
     pub fn leave(&mut self, i: u8)
+    where
+        Nodes: Capacity<N>,
         requires node { i < N }
         requires beliefs { HasBeliefs self.old }
         ensures nothing { AreAlike (outcome_at self.new i) (cold_outcome N) }

@@ -1,7 +1,6 @@
 //! What is shown of a period.
 
 ghost use Rattle.std.specs.Prelude.{◌≡◌, ◌<◌, ◌+◌, IfOk, option_map, slice_index};
-ghost use Rattle.node_grid.specs.Capacity.{IsCapacity};
 ghost use Rattle.scenario.specs.Scenario.{system_of};
 ghost use Rattle.node_core.specs.Modes.{mode_of};
 ghost use Rattle.cluster_periods.specs.Record.{period_record, without_frames};
@@ -14,7 +13,7 @@ use crate::head::Head;
 use crate::made::Made;
 use agreed_state::Agreed;
 use node_core::Mode;
-use node_grid::{NoMemory, NodeSet, Row};
+use node_grid::{Capacity, NoMemory, NodeSet, Nodes, Row};
 use scenario::Scenario;
 use shared_states::Belief;
 use std::alloc::Global;
@@ -36,7 +35,8 @@ impl<const N: usize> Shown<N> {
     ///
     /// `NoMemory` where there is none.
     pub fn open(alloc: Global, scenario: &Scenario<N>) -> Result<Self, NoMemory>
-        requires { IsCapacity N }
+    where
+        Nodes: Capacity<N>,
         ensures { IfOk result (IsFirst scenario.now) }
     {
         let made = Made::open(alloc, scenario.config())?;
@@ -49,7 +49,8 @@ impl<const N: usize> Shown<N> {
     ///
     /// The period before must be the one that is shown, or there must be none.
     pub fn begin(&mut self, scenario: &Scenario<N>, period: u32)
-        requires capacity { IsCapacity N }
+    where
+        Nodes: Capacity<N>,
         requires in_run { period < scenario.now.periods }
         requires before { IsBefore scenario.now period self.old.head }
         requires states { AreBegun scenario.now period self.old.made.states }
@@ -61,7 +62,8 @@ impl<const N: usize> Shown<N> {
 
     /// Ends the period, of which the nodes made what stands here: their clocks are corrected.
     pub fn end(&mut self, scenario: &Scenario<N>, period: u32)
-        requires capacity { IsCapacity N }
+    where
+        Nodes: Capacity<N>,
         requires begun { IsBegun scenario.now period self.old.head }
         requires made { AreMade scenario.now period self.old.made }
         ensures shows { record_of self.new
@@ -107,7 +109,8 @@ impl<const N: usize> Shown<N> {
 
     /// The agreed state of a node after the period; None of one that is Cold.
     pub fn agreed(&self, i: u8) -> Option<&Agreed<N>>
-        requires { IsCapacity N }
+    where
+        Nodes: Capacity<N>,
         ensures { option_map (λ a. a.now) result ≡ (outcome_at self.now.made i).agreed }
     {
         self.made.states.get(i)

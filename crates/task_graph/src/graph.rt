@@ -1,12 +1,12 @@
 ghost use Rattle.std.specs.Prelude.{◌≡◌, ℕ, ◌<◌, ◌≤◌, ◌↔◌, length, slice_get, Some, Err, IsOk};
 ghost use Rattle.std.specs.Prelude.{IfOk, ◌==◌};
-ghost use Rattle.node_grid.specs.Capacity.{IsCapacity};
 ghost use Rattle.task_graph.specs.Graph.{IsOut, IsCyclic, IsLeast, IsTasks, IsGraph, task_at};
 ghost use Rattle.task_graph.specs.Refusal.{IsRefusal};
 
 use crate::Task;
 use crate::cycles::first_cyclic;
 use crate::range::first_out_of_range;
+use node_grid::{Capacity, Nodes};
 use std::error::Error;
 use std::fmt;
 use std::marker::Model;
@@ -69,7 +69,8 @@ impl<const N: usize> TaskGraph<N> {
     /// `Range(t)` comes exactly where a task is out of range and t is the least such task, and
     /// `Cycle(t)` exactly where none is and t is the least task that comes after itself.
     pub fn new(nodes: u8, tasks: Vec<Task<N>>) -> Result<TaskGraph<N>, GraphError>
-        requires capacity { IsCapacity N }
+    where
+        Nodes: Capacity<N>,
         requires some { 3 ≤ nodes }
         requires few { nodes ≤ N }
         ensures ok { IfOk result (λ g. g ≡ record { nodes = nodes; tasks = tasks.entry.items }) }

@@ -2,7 +2,6 @@
 
 ghost use Rattle.std.specs.Prelude.{◌≡◌, ◌≢◌, ◌==◌, ℕ, ◌<◌, ◌≤◌, List, ℤ, None, Some, length};
 ghost use Rattle.std.specs.Prelude.{true, false};
-ghost use Rattle.node_grid.specs.Capacity.{IsCapacity};
 ghost use Rattle.node_grid.specs.NodeSet.{IsIdSet, has_id};
 ghost use Rattle.frames.specs.Content.{Expectation};
 ghost use Rattle.frames.specs.Seen.{content, expected, HasWidth};
@@ -26,6 +25,7 @@ use data_slot::put_values;
 use fault_classes::Effect;
 use frames::{Body, Expect, Frame, Values};
 use node_grid::kind::{COLD, MALFORMED};
+use node_grid::{Capacity, Nodes};
 use touched_frames::{Arrived, arrives, unread_kind};
 
 /// What a node has of one other node's values.
@@ -63,7 +63,8 @@ impl Heard {
 
 /// What a node with these due channels has of what a frame says.
 fn hear_body<const N: usize>(body: &Body<'_, N>, due: &[u8]) -> Heard
-    requires capacity { IsCapacity N }
+where
+    Nodes: Capacity<N>,
     requires due { IsIdSet 8 due.now }
     ensures { (nodes : ℕ) → IsHeard due.now result (read_as (values_in (content nodes body.now))) }
 {
@@ -81,6 +82,8 @@ fn hear_frame<const N: usize>(
     receiver: &Expect<N>,
     due: &[u8],
 ) -> Heard
+where
+    Nodes: Capacity<N>,
     requires cluster { IsCluster N receiver.now.nodes receiver.now.m }
     requires widths { HasWidth receiver.now.nodes frame.now.body }
     requires short { length (body_spelling receiver.now.nodes
@@ -102,6 +105,8 @@ fn hear_frame<const N: usize>(
 impl<'s, 'a, D: Dues<N>, const N: usize> Link<'s, 'a, D, N> {
     /// What the receiver expects of the frame.
     fn expect(&self) -> Expect<N>
+    where
+        Nodes: Capacity<N>,
         ensures { expected result ≡
             expects (slot_of D.dues self.now.slot.now) self.now.from self.now.to }
     {
@@ -112,6 +117,8 @@ impl<'s, 'a, D: Dues<N>, const N: usize> Link<'s, 'a, D, N> {
     /// What the receiver has of the values of a Full node, by the effect of the line that touches
     /// the frame.
     fn hear_values(&self, effect: &Effect) -> Heard
+    where
+        Nodes: Capacity<N>,
         requires { has_id self.now.slot.now.full self.now.from ≡ true }
         ensures { let d = slot_of D.dues self.now.slot.now in
             IsInRange (expects d self.now.from self.now.from) (said d self.now.from) →
@@ -135,6 +142,8 @@ impl<'s, 'a, D: Dues<N>, const N: usize> Link<'s, 'a, D, N> {
     /// What the receiver has of the frame of a node that isn't Full, by the effect of the line that
     /// touches it.
     fn hear_cold(&self, effect: &Effect) -> Heard
+    where
+        Nodes: Capacity<N>,
         requires { has_id self.now.slot.now.full self.now.from ≡ false }
         ensures { let d = slot_of D.dues self.now.slot.now in
             IsInRange (expects d self.now.from self.now.from) (said d self.now.from) →
@@ -152,6 +161,8 @@ impl<'s, 'a, D: Dues<N>, const N: usize> Link<'s, 'a, D, N> {
 
     /// What the receiver has of the frame, by the effect of the line that touches it.
     fn hear_touched(&self, effect: &Effect) -> Heard
+    where
+        Nodes: Capacity<N>,
         ensures { let d = slot_of D.dues self.now.slot.now in
             IsInRange (expects d self.now.from self.now.from) (said d self.now.from) →
             IsHeard (d.due self.now.to) result (arrives values_in (Some (change_of effect.now))
@@ -213,6 +224,8 @@ impl<'s, 'a, D: Dues<N>, const N: usize> Link<'s, 'a, D, N> {
 
     /// What the receiver has of the sender's values.
     pub(crate) fn hear(&self) -> Heard
+    where
+        Nodes: Capacity<N>,
         ensures { let d = slot_of D.dues self.now.slot.now in
             IsInRange (expects d self.now.from self.now.from) (said d self.now.from) →
             IsHeard (d.due self.now.to) result (values_at d self.now.from self.now.to) }
@@ -228,6 +241,8 @@ impl<'a, D: Dues<N>, const N: usize> DataSlot<'a, D, N> {
     /// The kind of error that a node finds of another one's frame; None exactly where the frame is
     /// good.
     pub fn kind(&self, from: u8, to: u8) -> Option<u8>
+    where
+        Nodes: Capacity<N>,
         requires from { from < self.now.config.nodes }
         requires to { to < self.now.config.nodes }
         requires link { from ≢ to }

@@ -2,7 +2,6 @@
 
 ghost use Rattle.std.specs.Prelude.{◌≡◌, ◌≢◌, ℕ, ◌<◌, ◌≤◌, ◌==◌, ◌&&◌, ◌||◌, Bool, None, true};
 ghost use Rattle.std.specs.Prelude.{slice_index_or};
-ghost use Rattle.node_grid.specs.Capacity.{IsCapacity};
 ghost use Rattle.node_grid.specs.Kinds.{deviate};
 ghost use Rattle.node_grid.specs.NodeSet.{has_id, ids_below};
 ghost use Rattle.error_reports.specs.Notes.{also_noted, is_kind, of_each};
@@ -14,11 +13,13 @@ ghost use Rattle.told_values.specs.Within.{IsWithin, AreNotesOf};
 use crate::dues::Dues;
 use crate::slot::DataSlot;
 use error_reports::RowBuilder;
-use node_grid::NodeSet;
 use node_grid::kind::DEVIATE;
+use node_grid::{Capacity, NodeSet, Nodes};
 
 /// Notes these kinds of error by node.
 fn note_kinds<const N: usize>(notes: &mut RowBuilder<N>, kinds: &[Option<u8>; N])
+where
+    Nodes: Capacity<N>,
     ensures { notes.new ≡ also_noted N notes.old
         (λ j k. is_kind (slice_index_or kinds.now j None) k) }
 {
@@ -32,7 +33,8 @@ fn note_kinds<const N: usize>(notes: &mut RowBuilder<N>, kinds: &[Option<u8>; N]
 
 /// Notes the other nodes of which a value is too far from the vote.
 fn note_off<const N: usize>(notes: &mut RowBuilder<N>, i: u8, off: &NodeSet<N>)
-    requires capacity { IsCapacity N }
+where
+    Nodes: Capacity<N>,
     requires node { i < N }
     requires me { notes.old.me ≡ i }
     requires within { IsWithin N notes.old }
@@ -67,6 +69,8 @@ impl<'a, D: Dues<N>, const N: usize> DataSlot<'a, D, N> {
 
     /// The kind of error that a node finds of each other node's frame.
     fn kinds(&self, i: u8) -> [Option<u8>; N]
+    where
+        Nodes: Capacity<N>,
         requires { i < self.now.config.nodes }
         ensures { (x : Received) → Hears (slot_of D.dues self.now) i x →
             (j k : ℕ) → j < self.now.config.nodes → j ≢ i →
@@ -84,6 +88,8 @@ impl<'a, D: Dues<N>, const N: usize> DataSlot<'a, D, N> {
 
     /// Notes what a node finds of the frames.
     fn note_errors(&self, i: u8, notes: &mut RowBuilder<N>)
+    where
+        Nodes: Capacity<N>,
         requires node { i < self.now.config.nodes }
         requires notes { AreNotesOf N self.now.config.nodes i notes.old }
         ensures errors { (x : Received) → Hears (slot_of D.dues self.now) i x →
@@ -99,6 +105,8 @@ impl<'a, D: Dues<N>, const N: usize> DataSlot<'a, D, N> {
     /// Notes what node `i` finds of the frames, and the other nodes of which a value is too far
     /// from the vote, in this period's row. Where it finds nothing its notes are left as they are.
     pub fn note(&self, i: u8, off: &NodeSet<N>, notes: &mut RowBuilder<N>)
+    where
+        Nodes: Capacity<N>,
         requires node { i < self.now.config.nodes }
         requires notes { AreNotesOf N self.now.config.nodes i notes.old }
         ensures noted { (x : Received) → Hears (slot_of D.dues self.now) i x →

@@ -17,7 +17,7 @@ use crate::talk::Talk;
 use agreed_state::Config;
 use fault_classes::{Effect, FaultPlan};
 use frames::Expect;
-use node_grid::NodeSet;
+use node_grid::{Capacity, NodeSet, Nodes};
 use std::marker::Model;
 
 /// The data slot of a period, as all nodes go into it.
@@ -74,7 +74,8 @@ pub fn touched_senders<const N: usize>(
     plan: &FaultPlan<N>,
     period: u32,
 ) -> NodeSet<N>
-    requires capacity { IsCapacity N }
+where
+    Nodes: Capacity<N>,
     requires config { IsConfig N config.now }
     requires nodes { plan.now.nodes ≡ config.now.nodes }
     requires rounds { plan.now.rounds ≡ config.now.m }
@@ -185,6 +186,8 @@ impl<'a, D: Dues<N>, const N: usize> DataSlot<'a, D, N> {
 
     /// What a node to which so many channels are due expects of the frame of another one.
     pub(crate) fn expect(&self, from: u8, due: u8) -> Expect<N>
+    where
+        Nodes: Capacity<N>,
         ensures { expected result ≡
             expectation self.now.config self.now.period (self.now.config.m + 2) from [] due }
     {

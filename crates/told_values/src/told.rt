@@ -11,6 +11,7 @@ use crate::dues::Dues;
 use crate::link::Link;
 use crate::slot::DataSlot;
 use data_slot::own_by_channel;
+use node_grid::{Capacity, Nodes};
 
 impl<'a, D: Dues<N>, const N: usize> DataSlot<'a, D, N> {
     /// A node's own values of its due channels, by channel; None where it isn't Full, as only a
@@ -44,6 +45,8 @@ impl<'a, D: Dues<N>, const N: usize> DataSlot<'a, D, N> {
 
     /// The values of its due channels that a node has from one node.
     fn values_from(&self, from: u8, i: u8) -> Option<[i64; 8]>
+    where
+        Nodes: Capacity<N>,
         requires from { from < self.now.config.nodes }
         requires node { i < self.now.config.nodes }
         ensures { let d = slot_of D.dues self.now in (x : Received) → Hears d i x → (c : ℕ) →
@@ -63,6 +66,8 @@ impl<'a, D: Dues<N>, const N: usize> DataSlot<'a, D, N> {
 
     /// What a node has, asked of each sender.
     fn told_by_each(&self, i: u8) -> [Option<[i64; 8]>; N]
+    where
+        Nodes: Capacity<N>,
         requires { i < self.now.config.nodes }
         ensures { (x : Received) → Hears (slot_of D.dues self.now) i x →
             IsTold (slot_of D.dues self.now) i x result }
@@ -89,6 +94,8 @@ impl<'a, D: Dues<N>, const N: usize> DataSlot<'a, D, N> {
     /// What a node has to which the same channels are due as to all Full nodes: their own values,
     /// but where a line touches the frame.
     fn told_alike(&self, i: u8, own: &[Option<[i64; 8]>; N]) -> [Option<[i64; 8]>; N]
+    where
+        Nodes: Capacity<N>,
         requires node { i < self.now.config.nodes }
         requires own { AreOwnTold (slot_of D.dues self.now) own.now }
         requires alike { (j : ℕ) → has_id self.now.full j ≡ true →
@@ -115,6 +122,8 @@ impl<'a, D: Dues<N>, const N: usize> DataSlot<'a, D, N> {
     /// its own are among them where it is Full. What stands in the places of other channels counts
     /// for nothing.
     pub fn told(&self, i: u8, own: &[Option<[i64; 8]>; N]) -> [Option<[i64; 8]>; N]
+    where
+        Nodes: Capacity<N>,
         requires node { i < self.now.config.nodes }
         requires own { AreOwnTold (slot_of D.dues self.now) own.now }
         ensures { (x : Received) → Hears (slot_of D.dues self.now) i x →

@@ -1,7 +1,6 @@
 //! The votes on the due channels, and who is off.
 
 ghost use Rattle.std.specs.Prelude.{◌≡◌, ◌≢◌, ℕ, ◌<◌, ◌≤◌, ◌∷◌, [], All, length};
-ghost use Rattle.node_grid.specs.Capacity.{IsCapacity};
 ghost use Rattle.node_grid.specs.NodeSet.{has_id, ids_where};
 ghost use Rattle.mme_vote.specs.Channel.{delta_of};
 ghost use Rattle.agreed_state.specs.Agreed.{IsAgreed};
@@ -17,7 +16,7 @@ use crate::slot::DataSlot;
 use agreed_state::{Agreed, Config};
 use data_slot::vote_due;
 use mme_vote::{Channel, deviates};
-use node_grid::NodeSet;
+use node_grid::{Capacity, NodeSet, Nodes};
 use omh_paths::Wrapped;
 
 /// Whether there is a value of a channel that is further than `delta` from the vote on it.
@@ -43,7 +42,8 @@ fn nodes_far<const N: usize>(
     channel: &Channel<N>,
     vote: Option<i64>,
 ) -> NodeSet<N>
-    requires capacity { IsCapacity N }
+where
+    Nodes: Capacity<N>,
     requires nodes { nodes ≤ N }
     requires channel { c < 8 }
     ensures { result ≡
@@ -65,7 +65,8 @@ fn nodes_off_on<const N: usize>(
     votes: &[Option<i64>; 8],
     c: u8,
 ) -> NodeSet<N>
-    requires capacity { IsCapacity N }
+where
+    Nodes: Capacity<N>,
     requires config { IsConfig N config.now }
     requires channel { c < length config.now.channels.items }
     ensures { result ≡ ids_where (is_off config.now (c ∷ []) told.now votes.now) config.now.nodes }
@@ -85,7 +86,8 @@ fn nodes_off<const N: usize>(
     told: &[Option<[i64; 8]>; N],
     votes: &[Option<i64>; 8],
 ) -> NodeSet<N>
-    requires capacity { IsCapacity N }
+where
+    Nodes: Capacity<N>,
     requires config { IsConfig N config.now }
     requires channels { All (λ c. c < length config.now.channels.items) due.now }
     ensures { result ≡ ids_where (is_off config.now due.now told.now votes.now) config.now.nodes }
@@ -109,6 +111,8 @@ impl<'a, D: Dues<N>, const N: usize> DataSlot<'a, D, N> {
         claims: &[Wrapped<u8>; N],
         told: &[Option<[i64; 8]>; N],
     ) -> [Option<i64>; 8]
+    where
+        Nodes: Capacity<N>,
         requires node { i < self.now.config.nodes }
         requires agreed { IsAgreed N self.now.config agreed.now }
         ensures { let d = slot_of D.dues self.now in (j : ℕ) (y : Received) →
@@ -124,6 +128,8 @@ impl<'a, D: Dues<N>, const N: usize> DataSlot<'a, D, N> {
     /// They are those of each node to which the same channels are due and to which these values
     /// were told, but for that node itself.
     pub fn off(&self, i: u8, told: &[Option<[i64; 8]>; N], votes: &[Option<i64>; 8]) -> NodeSet<N>
+    where
+        Nodes: Capacity<N>,
         requires { i < self.now.config.nodes }
         ensures { let d = slot_of D.dues self.now in (j : ℕ) (y : Received) →
             d.due j ≡ d.due i → IsTold d j y told.now →

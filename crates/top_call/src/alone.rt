@@ -1,12 +1,12 @@
 //! One node alone, written as its log is replayed.
 ghost use Rattle.std.specs.Prelude.{◌≡◌, ◌+◌, ◌<◌};
-ghost use Rattle.node_grid.specs.Capacity.{IsCapacity};
 ghost use Rattle.span_io.specs.Causes.{Writes};
 ghost use Rattle.top_call.specs.Alone.{log_printed, log_text, IsLogRun};
 
 use crate::ReplayError;
 use crate::replay::told;
 use node_alone::{Alone, Record};
+use node_grid::{Capacity, Nodes};
 use run_print::{WriteFault, write_alone, write_end};
 use span_io::Sink;
 use std::alloc::Global;
@@ -18,7 +18,8 @@ fn write_next<const N: usize, K: Sink>(
     period: u32,
     sink: &mut K,
 ) -> Result<(), WriteFault>
-    requires capacity { IsCapacity N }
+where
+    Nodes: Capacity<N>,
     requires same { alone.old ≡ record { input = log.now; run = period } }
     requires more { period < log.now.scenario.periods }
     ensures ran { alone.new ≡ record { input = log.now; run = period + 1 } }
@@ -35,7 +36,8 @@ fn write_run<const N: usize, K: Sink>(
     alone: &mut Alone<'_, N>,
     sink: &mut K,
 ) -> Result<(), WriteFault>
-    requires capacity { IsCapacity N }
+where
+    Nodes: Capacity<N>,
     requires fresh { alone.old ≡ record { input = log.now; run = 0 } }
     ensures { Writes (K.written sink.old) (K.written sink.new) (K.faults sink.old)
         (K.faults sink.new) (log_text log.now) result }
@@ -59,7 +61,8 @@ pub(crate) fn write_log<const N: usize, K: Sink>(
     log: &Record<N>,
     sink: &mut K,
 ) -> Result<(), ReplayError>
-    requires { IsCapacity N }
+where
+    Nodes: Capacity<N>,
     ensures { IsLogRun log.now (K.written sink.old) (K.written sink.new) (K.faults sink.old)
         (K.faults sink.new) result }
 {

@@ -2,7 +2,6 @@
 ghost use Rattle.std.specs.Prelude.{◌≡◌, ℕ, ◌<◌, ◌↔◌, ◌⊎◌, List, length, IfSome};
 ghost use Rattle.std.specs.Io.KnownBytes.{Appends, Keeps};
 ghost use Rattle.span_io.specs.Causes.{Rose, AppendsPrefix, GivenPast};
-ghost use Rattle.node_grid.specs.Capacity.{IsCapacity};
 ghost use Rattle.serde_json.specs.Data.{Data};
 ghost use Rattle.json_parts.specs.Meaning.{view};
 ghost use Rattle.scenario.specs.Scenario.{ScenarioView};
@@ -29,6 +28,7 @@ use crate::{Command, Form, Reading, ReplayError, Status};
 use json::{Scratch, Value};
 use json_parts::{TextError, member, value_of, whole};
 use node_alone::Record;
+use node_grid::{Capacity, Nodes};
 use run_print::{WriteFault, write_refused, write_storm};
 use scenario::{Scenario, ScenarioError};
 use scenario_reading::from_value;
@@ -75,7 +75,8 @@ fn write_form<const N: usize, K: Sink>(
     form: Form,
     sink: &mut K,
 ) -> Result<(), ReplayError>
-    requires { IsCapacity N }
+where
+    Nodes: Capacity<N>,
     ensures { IsRun form scenario.now (K.written sink.old) (K.written sink.new) (K.faults sink.old)
         (K.faults sink.new) result }
 {

@@ -1,7 +1,6 @@
 //! The run of an accepted scenario, written as it goes: of all nodes at once, or node by node where
 //! the frames are written too.
 ghost use Rattle.std.specs.Prelude.{◌≡◌, ◌+◌, ◌<◌, false, Ok, Err, MatchResult};
-ghost use Rattle.node_grid.specs.Capacity.{IsCapacity};
 ghost use Rattle.span_io.specs.Causes.{Writes};
 ghost use Rattle.run_print.specs.Printing.{Prints};
 ghost use Rattle.top_call.specs.Run.{traced, has_frames, printed, run_text, IsRun};
@@ -10,7 +9,7 @@ use crate::Form;
 use crate::laws::safe_runs;
 use at_once::Run;
 use cluster_step::Cluster;
-use node_grid::NoMemory;
+use node_grid::{Capacity, NoMemory, Nodes};
 use run_print::{LARGE, Printer, WriteFault, write_end, write_period};
 use scenario::Scenario;
 use span_io::Sink;
@@ -31,7 +30,8 @@ fn trace_next<const N: usize, K: Sink>(
     cluster: &mut Cluster<'_, N>,
     sink: &mut K,
 ) -> Result<(), WriteFault>
-    requires capacity { IsCapacity N }
+where
+    Nodes: Capacity<N>,
     requires same { cluster.old.scenario ≡ scenario.now }
     requires more { cluster.old.run < scenario.now.periods }
     ensures ran { cluster.new ≡ record cluster.old { run = cluster.old.run + 1 } }
@@ -51,7 +51,8 @@ fn trace_all<const N: usize, K: Sink>(
     periods: u32,
     sink: &mut K,
 ) -> Result<(), WriteFault>
-    requires capacity { IsCapacity N }
+where
+    Nodes: Capacity<N>,
     requires fresh { cluster.old ≡ record { scenario = scenario.now; run = 0 } }
     requires periods { periods ≡ scenario.now.periods }
     ensures { Writes (K.written sink.old) (K.written sink.new) (K.faults sink.old)
@@ -70,7 +71,8 @@ fn print_next<const N: usize, K: Sink>(
     printer: &mut Printer<LARGE>,
     sink: &mut K,
 )
-    requires capacity { IsCapacity N }
+where
+    Nodes: Capacity<N>,
     requires frames { has_frames form ≡ false }
     requires more { run.old.run < run.old.scenario.periods }
     ensures ran { run.new ≡ record run.old { run = run.old.run + 1 } }
@@ -92,7 +94,8 @@ fn print_all<const N: usize, K: Sink>(
     form: Form,
     sink: &mut K,
 ) -> Result<(), WriteFault>
-    requires capacity { IsCapacity N }
+where
+    Nodes: Capacity<N>,
     requires fresh { run.old.run ≡ 0 }
     requires frames { has_frames form ≡ false }
     requires periods { periods ≡ run.old.scenario.periods }
@@ -131,7 +134,8 @@ fn write_traced<const N: usize, K: Sink>(
     scenario: &Scenario<N>,
     sink: &mut K,
 ) -> Result<(), ReplayError>
-    requires { IsCapacity N }
+where
+    Nodes: Capacity<N>,
     ensures { IsRun Form.Trace scenario.now (K.written sink.old) (K.written sink.new)
         (K.faults sink.old) (K.faults sink.new) result }
 {
@@ -154,7 +158,8 @@ fn write_untraced<const N: usize, K: Sink>(
     form: Form,
     sink: &mut K,
 ) -> Result<(), ReplayError>
-    requires capacity { IsCapacity N }
+where
+    Nodes: Capacity<N>,
     requires frames { has_frames form ≡ false }
     ensures { IsRun form scenario.now (K.written sink.old) (K.written sink.new)
         (K.faults sink.old) (K.faults sink.new) result }
@@ -178,7 +183,8 @@ fn run_and_write<const N: usize, K: Sink>(
     form: Form,
     sink: &mut K,
 ) -> Result<(), ReplayError>
-    requires { IsCapacity N }
+where
+    Nodes: Capacity<N>,
     ensures { IsRun form scenario.now (K.written sink.old) (K.written sink.new)
         (K.faults sink.old) (K.faults sink.new) result }
 {
@@ -204,7 +210,8 @@ pub fn replay_at<const N: usize, K: Sink>(
     trace: bool,
     sink: &mut K,
 ) -> Result<(), ReplayError>
-    requires { IsCapacity N }
+where
+    Nodes: Capacity<N>,
     ensures { IsRun (traced trace) scenario.now (K.written sink.old) (K.written sink.new)
         (K.faults sink.old) (K.faults sink.new) result }
 {
@@ -222,7 +229,8 @@ pub(crate) fn check_at<const N: usize, K: Sink>(
     scenario: &Scenario<N>,
     sink: &mut K,
 ) -> Result<(), ReplayError>
-    requires { IsCapacity N }
+where
+    Nodes: Capacity<N>,
     ensures { IsRun Form.Check scenario.now (K.written sink.old) (K.written sink.new)
         (K.faults sink.old) (K.faults sink.new) result }
 {

@@ -7,6 +7,7 @@ ghost use Rattle.touched_frames.specs.Arrived.{seen, arrived_as, IsCluster};
 
 use frames::{Body, Expect, decode};
 use node_grid::kind::{COLD, MALFORMED};
+use node_grid::{Capacity, Nodes};
 
 /// What a receiver has of a frame.
 #[derive(Clone, Copy)]
@@ -19,6 +20,8 @@ pub enum Arrived<'a, const N: usize> {
 
 /// What a receiver has of bytes that came once, in time.
 pub(crate) fn read<'a, const N: usize>(receiver: &Expect<N>, bytes: &'a [u8]) -> Arrived<'a, N>
+where
+    Nodes: Capacity<N>,
     requires { IsCluster N receiver.now.nodes receiver.now.m }
     ensures { seen receiver.now.nodes result
         ≡ arrived_as (reading (expected receiver.now) bytes.now) }

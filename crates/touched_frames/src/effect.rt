@@ -14,6 +14,7 @@ use crate::arrived::{Arrived, read};
 use fault_classes::Effect;
 use frames::{Expect, Frame, encode};
 use node_grid::kind::{MALFORMED, MISSING, TIMING};
+use node_grid::{Capacity, Nodes};
 use slot_plan::is_in_window;
 
 /// The kind of error that is found of a frame with this effect whatever the frame says: it doesn't
@@ -69,6 +70,8 @@ pub fn arrives<'a, const N: usize>(
     receiver: &Expect<N>,
     room: &'a mut [u8],
 ) -> Arrived<'a, N>
+where
+    Nodes: Capacity<N>,
     requires cluster { IsCluster N receiver.now.nodes receiver.now.m }
     requires widths { HasWidth receiver.now.nodes frame.now.body }
     requires short { length (body_spelling receiver.now.nodes

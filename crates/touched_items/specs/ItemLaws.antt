@@ -2,13 +2,10 @@
 use Rattle.std.proofs.Common.{ℕ, zero, suc, false, true, List, [], ◌∷◌, ◌==◌, ◌≡◌, ◌<◌, ◌≤◌, ◌+◌, ◌*◌, length, take, refl, ap, ◌∙◌, inl, inr, arith, lit<, Some, None}
 use Rattle.std.specs.Prelude.{◌≢◌, replicate, is_some}
 use Rattle.std.specs.Int.{w16, to_be_bytes, byte_at}
-use Rattle.std.specs.Cmp.Lexicographic.{pointwise}
 use Rattle.std.specs.List.{flat_map}
-use Rattle.std.proofs.lemmas.Bool.{eq-eqb, eqb-true, leb-true, and_parts}
+use Rattle.std.proofs.lemmas.Bool.{eqb-true, leb-true, and_parts}
 use Rattle.std.proofs.lemmas.List.{length-take}
 use Rattle.std.proofs.lemmas.Option.{same_Some}
-use Rattle.std.proofs.lemmas.Slice.Eq.{bytes_eq-Decides}
-use Rattle.omh_paths.specs.Wrapped.{IsExact}
 use Rattle.omh_paths.specs.declared.wrapped.Wrapped.{Wrapped}
 use Rattle.omh_paths.specs.declared.wrapped.Wrapped.TheVariants.{Plain, Fault}
 use Rattle.frames.specs.FrameKinds.{claim_kind, claim_relay_kind, row_kind, row_relay_kind}
@@ -30,14 +27,6 @@ use Rattle.safety.proofs.Runs.{valid}
 use Rattle.touched_items.specs.Items.{Sizes, sizes_in, talk_of, EntryForm, IsSpelt, AreEntries}
 use Rattle.touched_items.specs.Overlaid.{overlaid}
 use Rattle.touched_items.specs.OverlaidLaws.{length-overlaid, bytes-overlaid}
-
--- ---- equal only where they are the same
-
-pub numbers_exact : IsExact {V = ℕ} ◌==◌
-numbers_exact = record { finds = λ x. eq-eqb x x refl; tells = λ x y h. eqb-true x y h }
-
-pub rows_exact : IsExact {V = List ℕ} (pointwise {A = ℕ} ◌==◌)
-rows_exact = record { finds = λ xs. (bytes_eq-Decides xs xs).1 refl; tells = λ xs ys h. (bytes_eq-Decides xs ys).0 h }
 
 -- ---- claims
 

@@ -1,11 +1,10 @@
 //! The bytes of entries of rows.
 
 ghost use Rattle.std.specs.Prelude.{◌≡◌, ◌*◌, ◌≤◌, length};
-ghost use Rattle.node_grid.specs.Capacity.{IsCapacity};
 ghost use Rattle.frames.specs.Checks.{are_masks, are_zero};
 ghost use Rattle.frames.specs.Reading.{content_row};
 
-use node_grid::Row;
+use node_grid::{Capacity, Nodes, Row};
 
 /// Whether all bytes are 0.
 pub(crate) fn are_zero(bytes: &[u8]) -> bool
@@ -36,7 +35,8 @@ pub(crate) fn are_masks(version: u8, bytes: &[u8]) -> bool
 
 /// The row of the first `nodes` nodes' masks.
 pub(crate) fn read_row<const N: usize>(bytes: &[u8], nodes: u8) -> Row<N>
-    requires capacity { IsCapacity N }
+where
+    Nodes: Capacity<N>,
     requires nodes { nodes ≤ N }
     requires whole { length bytes.now ≡ 2 * nodes }
     ensures { result ≡ content_row N nodes bytes.now }

@@ -1,11 +1,11 @@
 //! How many entries a receiver expects of a relay frame.
 
 ghost use Rattle.std.specs.Prelude.{◌≡◌, ◌≤◌};
-ghost use Rattle.node_grid.specs.Capacity.{IsCapacity};
 ghost use Rattle.frames.specs.Content.{entries_due, round_in};
 ghost use Rattle.frames.specs.Seen.{expected};
 
 use frames::Expect;
+use node_grid::{Capacity, Nodes};
 use omh_paths::count_paths;
 
 /// The relay round of the slot.
@@ -23,7 +23,8 @@ pub(crate) fn round_of<const N: usize>(expect: &Expect<N>) -> u8
 /// The number of entries of a relay frame: one for each path of as many members, without the
 /// sender, as its round.
 pub(crate) fn entries_due<const N: usize>(expect: &Expect<N>) -> usize
-    requires capacity { IsCapacity N }
+where
+    Nodes: Capacity<N>,
     requires round { round_in expect.now.m expect.now.slot ≤ 3 }
     ensures number { result ≡ entries_due (expected expect.now) }
     ensures few { result ≤ 4096 }

@@ -1,7 +1,6 @@
 //! First frames.
 
 ghost use Rattle.std.specs.Prelude.{◌≡◌, ℕ, ◌<◌, ◌≤◌, Some};
-ghost use Rattle.node_grid.specs.Capacity.{IsCapacity};
 ghost use Rattle.frames.specs.Seen.{content, expected, HasWidth};
 ghost use Rattle.frames.specs.Spelling.{IsInRange};
 ghost use Rattle.fault_classes.specs.Change.{change_of};
@@ -13,6 +12,7 @@ use crate::told::Told;
 use fault_classes::Effect;
 use frames::{Body, Expect, Frame};
 use node_grid::kind::MALFORMED;
+use node_grid::{Capacity, Nodes};
 use omh_paths::Wrapped;
 use touched_frames::{Arrived, arrives};
 
@@ -49,7 +49,8 @@ pub fn first_frame<V: Item<N>, const N: usize>(
     expect: &Expect<N>,
     said: &Wrapped<V>,
 ) -> Told<V>
-    requires capacity { IsCapacity N }
+where
+    Nodes: Capacity<N>,
     requires some_nodes { 0 < expect.now.nodes }
     requires nodes { expect.now.nodes ≤ N }
     requires rounds { expect.now.m ≤ 3 }

@@ -1,8 +1,6 @@
 //! Items that nodes tell and relay, as they stand in frames: claims and rows.
 
 ghost use Rattle.std.specs.Prelude.{ℕ, ◌≡◌, ◌≢◌, ◌+◌, ◌≤◌, length};
-ghost use Rattle.node_grid.specs.Capacity.{IsCapacity};
-ghost use Rattle.omh_paths.specs.Wrapped.{IsExact};
 ghost use Rattle.omh_paths.specs.declared.wrapped.Wrapped.TheVariants.{Fault};
 ghost use Rattle.frames.specs.Content.{Done0, Report0};
 ghost use Rattle.frames.specs.Seen.{expected};
@@ -13,15 +11,14 @@ ghost use Rattle.protocol.specs.Run.{System};
 ghost use Rattle.safety.proofs.Talks.{FormFits};
 ghost use Rattle.touched_items.specs.Items.{Sizes, sizes_of, sizes_in, talk_of};
 ghost use Rattle.touched_items.specs.Items.{EntryForm, AreEntries, first_said};
-ghost use Rattle.touched_items.specs.ItemLaws.{numbers_exact, rows_exact};
 ghost use Rattle.touched_items.specs.ItemLaws.{claim_entries, claims_made_of, IsClaimIn};
 ghost use Rattle.touched_items.specs.ItemLaws.{row_entries, rows_made_of, IsRowIn};
 ghost use Rattle.touched_items.specs.ItemLaws.{claim_told, claims_fit, row_told, rows_fit};
 
 use crate::bytes::{are_masks, are_zero, read_row};
 use frames::{Expect, put_done, put_row};
-use node_grid::{NO_CLAIM, Row};
-use omh_paths::Wrapped;
+use node_grid::{Capacity, NO_CLAIM, Nodes, Row};
+use omh_paths::{Exact, Wrapped};
 
 /// The kind of the relay frames of claims.
 const CLAIM_RELAY: u8 = 3;
@@ -39,7 +36,7 @@ pub enum First<const N: usize> {
 }
 
 /// An item that each node tells of itself in its slots of a period, and relays of the others.
-pub trait Item<const N: usize>: Copy + Eq + Drop {
+pub trait Item<const N: usize>: Exact + Drop {
     /// How it is told.
     ghost form: { ItemForm Self };
 
@@ -70,7 +67,8 @@ pub trait Item<const N: usize>: Copy + Eq + Drop {
 
     /// Writes an entry to the front of `out`, and leaves all else.
     fn put_entry(out: &mut [u8], nodes: u8, value: &Wrapped<Self>)
-        requires capacity { IsCapacity N }
+    where
+        Nodes: Capacity<N>,
         requires nodes { nodes ≤ N }
         requires room { entry_form.width nodes ≤ length out.old }
         requires some { value.now ≢ Fault 0 }
@@ -78,7 +76,8 @@ pub trait Item<const N: usize>: Copy + Eq + Drop {
 
     /// The entry that so many bytes say, whether it is in range or not.
     fn read_entry(bytes: &[u8], nodes: u8) -> Wrapped<Self>
-        requires capacity { IsCapacity N }
+    where
+        Nodes: Capacity<N>,
         requires nodes { nodes ≤ N }
         requires whole { length bytes.now ≡ entry_form.width nodes }
         ensures { result ≡ entry_form.read N nodes bytes.now };
@@ -100,9 +99,6 @@ pub trait Item<const N: usize>: Copy + Eq + Drop {
     fn of_masks(masks: &[u16]) -> Option<Self>
         requires { length masks.now ≡ N }
         ensures { result ≡ form.item_in (Report0 masks.now) };
-
-    /// Items are equal only where they are the same.
-    ghost exact: { IsExact Self.PartialEq.eq };
 
     /// In a run what is told of items is in range.
     ghost fits: { (sys : System) → IsAccepted sys → (p : ℕ) →
@@ -172,14 +168,15 @@ impl<const N: usize> Item<N> for u8 {
         None
     }
 
-    ghost exact = { numbers_exact };
-
     ghost fits = { claims_fit };
 
     ghost made_of = { claims_made_of };
 }
 
-impl<const N: usize> Item<N> for Row<N> {
+impl<const N: usize> Item<N> for Row<N>
+where
+    Nodes: Capacity<N>,
+{
     ghost form = { row_form };
 
     ghost first_slot = { λ m. m + 3 };
@@ -235,8 +232,6 @@ impl<const N: usize> Item<N> for Row<N> {
         row.copy_from_slice(masks);
         Some(Row { masks: row })
     }
-
-    ghost exact = { rows_exact };
 
     ghost fits = { rows_fit };
 

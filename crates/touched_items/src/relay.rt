@@ -2,7 +2,6 @@
 
 ghost use Rattle.std.specs.Prelude.{◌≡◌, ◌≢◌, ◌+◌, ◌*◌, ◌<◌, ◌≤◌, List, length, take, drop};
 ghost use Rattle.std.specs.Prelude.{slice_index_or, Some};
-ghost use Rattle.node_grid.specs.Capacity.{IsCapacity};
 ghost use Rattle.omh_paths.specs.declared.wrapped.Wrapped.{Wrapped};
 ghost use Rattle.omh_paths.specs.declared.wrapped.Wrapped.TheVariants.{Fault};
 ghost use Rattle.frames.specs.Content.{Content, Cold, kind, round_in};
@@ -20,6 +19,7 @@ use crate::patch::Patch;
 use fault_classes::Effect;
 use frames::{Body, Expect, Frame, HEADER, Head, header, is_header};
 use node_grid::kind::{COLD, MALFORMED};
+use node_grid::{Capacity, Nodes};
 use omh_paths::Wrapped;
 use touched_frames::{Arrived, arrives, unread_kind};
 
@@ -51,7 +51,8 @@ pub fn cold_relay_frame<V: Item<N>, const N: usize>(
     effect: &Effect,
     expect: &Expect<N>,
 ) -> Option<u8>
-    requires capacity { IsCapacity N }
+where
+    Nodes: Capacity<N>,
     requires some_nodes { 0 < expect.now.nodes }
     requires nodes { expect.now.nodes ≤ N }
     requires rounds { expect.now.m ≤ 3 }
@@ -104,7 +105,8 @@ fn lay_cell<V: Item<N>, const N: usize>(
     own: &Wrapped<V>,
     patch: &Patch<'_>,
 )
-    requires capacity { IsCapacity N }
+where
+    Nodes: Capacity<N>,
     requires nodes { nodes ≤ N }
     requires few { k < 4096 }
     requires some { own.now ≢ Fault 0 }
@@ -123,7 +125,8 @@ fn is_cell<V: Item<N>, const N: usize>(
     own: &Wrapped<V>,
     patch: &Patch<'_>,
 ) -> bool
-    requires capacity { IsCapacity N }
+where
+    Nodes: Capacity<N>,
     requires nodes { expect.now.nodes ≤ N }
     requires few { k < 4096 }
     requires some { own.now ≢ Fault 0 }
@@ -146,7 +149,8 @@ fn are_due<V: Item<N>, E: Entries<V>, const N: usize>(
     entries: &E,
     patch: &Patch<'_>,
 ) -> bool
-    requires capacity { IsCapacity N }
+where
+    Nodes: Capacity<N>,
     requires nodes { expect.now.nodes ≤ N }
     requires rounds { expect.now.m ≤ 3 }
     requires sent { IsSent (expected expect.now) (V.form.relay (E.entries entries.now)) }
@@ -173,7 +177,8 @@ fn patched_kind<V: Item<N>, E: Entries<V>, const N: usize>(
     entries: &E,
     patch: &Patch<'_>,
 ) -> Option<u8>
-    requires capacity { IsCapacity N }
+where
+    Nodes: Capacity<N>,
     requires nodes { expect.now.nodes ≤ N }
     requires rounds { expect.now.m ≤ 3 }
     requires sent { IsSent (expected expect.now) (V.form.relay (E.entries entries.now)) }
@@ -202,7 +207,8 @@ pub fn relay_frame<V: Item<N>, E: Entries<V>, const N: usize>(
     expect: &Expect<N>,
     entries: &E,
 ) -> Option<u8>
-    requires capacity { IsCapacity N }
+where
+    Nodes: Capacity<N>,
     requires some_nodes { 0 < expect.now.nodes }
     requires nodes { expect.now.nodes ≤ N }
     requires rounds { expect.now.m ≤ 3 }
@@ -227,7 +233,8 @@ fn patched_entry<V: Item<N>, const N: usize>(
     own: Wrapped<V>,
     patch: &Patch<'_>,
 ) -> Wrapped<V>
-    requires capacity { IsCapacity N }
+where
+    Nodes: Capacity<N>,
     requires nodes { nodes ≤ N }
     requires few { k < 4096 }
     ensures { own ≢ Fault 0 → length (V.entry_form.spelling nodes own) ≡ V.entry_form.width nodes →
@@ -250,7 +257,8 @@ fn patched_entry<V: Item<N>, const N: usize>(
 
 /// Entry `k` of a relay frame with these bytes, or `Fault(0)` where it has none.
 fn entry_in<V: Item<N>, const N: usize>(bytes: &[u8], nodes: u8, k: usize) -> Wrapped<V>
-    requires capacity { IsCapacity N }
+where
+    Nodes: Capacity<N>,
     requires nodes { nodes ≤ N }
     requires few { k < 4096 }
     ensures { 14 + V.entry_form.width nodes * k + V.entry_form.width nodes ≤ length bytes.now →
@@ -274,7 +282,8 @@ pub fn entry<V: Item<N>, const N: usize>(
     k: usize,
     own: Wrapped<V>,
 ) -> Wrapped<V>
-    requires capacity { IsCapacity N }
+where
+    Nodes: Capacity<N>,
     requires some_nodes { 0 < expect.now.nodes }
     requires nodes { expect.now.nodes ≤ N }
     requires rounds { expect.now.m ≤ 3 }

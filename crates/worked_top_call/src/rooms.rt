@@ -1,7 +1,6 @@
 //! One scenario, read and run with room for 8 nodes and for 16.
 
-ghost use Rattle.node_grid.specs.Capacity.{IsCapacity};
-
+use node_grid::{Capacity, Nodes};
 use scenario_reading::read;
 use span_io::{MemSink, StdSource, read_all};
 use std::alloc::Global;
@@ -13,7 +12,8 @@ const ROOM: usize = 2_000_000;
 
 /// The text of a scenario's replay at a capacity, with its frames or without.
 fn text_at<const N: usize>(alloc: Global, bytes: &[u8], trace: bool) -> anyhow::Result<Vec<u8>>
-    requires { IsCapacity N }
+where
+    Nodes: Capacity<N>,
 {
     let Ok(scenario) = read::<N>(alloc, bytes) else {
         anyhow::bail!("the scenario is refused");

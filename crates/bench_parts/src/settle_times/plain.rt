@@ -4,12 +4,11 @@
 ghost use Rattle.std.specs.Prelude.{◌≡◌, ◌≢◌, ℕ, ◌+◌, ◌≤◌, ◌++◌, ◌∷◌, [], List, All, length, IfOk};
 ghost use Rattle.std.specs.Prelude.{OnOk};
 ghost use Rattle.omh_paths.specs.declared.wrapped.Wrapped.TheVariants.{Fault};
-ghost use Rattle.omh_paths.specs.Wrapped.{IsExact};
 ghost use Rattle.omh_paths.specs.Paths.{same_nodes};
 ghost use Rattle.omh.specs.Omh.{own_term, settled_at, settled_from};
 ghost use Rattle.bench_parts.specs.Plain.{said_in, plain_ear};
 
-use omh_paths::{Path, Wrapped, majority};
+use omh_paths::{Exact, Path, Wrapped, majority};
 use std::alloc::AllocError;
 
 /// Whether two paths have the same nodes in the same order.
@@ -51,7 +50,7 @@ pub struct PlainTable<V> {
     pub heard: Vec<Entry<V>>,
 }
 
-impl<V: Copy + Eq + Drop> PlainTable<V> {
+impl<V: Exact + Drop> PlainTable<V> {
     /// Adds what was heard for a path for which nothing was heard before.
     pub fn hear(&mut self, path: &Path, value: Wrapped<V>) -> Result<(), AllocError>
         ensures heard { OnOk result (self.new.heard.items ≡ self.old.heard.items
@@ -88,7 +87,6 @@ impl<V: Copy + Eq + Drop> PlainTable<V> {
 
     /// What the node settles for a path. The values of each majority are laid on `work`.
     fn settle_from(&self, path: &Path, work: &mut Vec<Wrapped<V>>) -> Result<Wrapped<V>, AllocError>
-        requires exact { IsExact V.eq }
         requires known { (p : List ℕ) → said_in self.now.heard.items p ≢ Fault 255 }
         requires few { self.now.rounds ≤ 3 }
         requires within { length path.now ≤ self.now.rounds + 1 }
@@ -122,7 +120,6 @@ impl<V: Copy + Eq + Drop> PlainTable<V> {
         own: Wrapped<V>,
         work: &mut Vec<Wrapped<V>>,
     ) -> Result<Wrapped<V>, AllocError>
-        requires exact { IsExact V.eq }
         requires known { All (λ e. e.value ≢ Fault 255) self.now.heard.items }
         requires few { self.now.rounds ≤ 3 }
         ensures settled { IfOk result (λ v. v

@@ -1,7 +1,6 @@
 //! How a period's record is filled.
 
 ghost use Rattle.std.specs.Prelude.{◌≡◌, ◌<◌, ◌≤◌, ◌+◌, false, All, map, length};
-ghost use Rattle.node_grid.specs.Capacity.{IsCapacity};
 ghost use Rattle.scenario.specs.Scenario.{system_of};
 ghost use Rattle.node_grid.specs.NodeSet.{ids_below};
 ghost use Rattle.cluster_periods.specs.Record.{period_record};
@@ -12,12 +11,13 @@ use super::PeriodRecord;
 use crate::clocks::next_clocks;
 use fault_classes::{Class, FaultPlan};
 use node_core::{Mode, Node, NodeRecord};
-use node_grid::NodeSet;
+use node_grid::{Capacity, NodeSet, Nodes};
 use scenario::Scenario;
 
 /// Takes what all nodes recorded.
 fn take_records<'c, const N: usize>(nodes: &[Node<'c, N>], records: &mut [NodeRecord<N>])
-    requires capacity { IsCapacity N }
+where
+    Nodes: Capacity<N>,
     requires closed { All (λ v. v.phase.is_open ≡ false) nodes.now }
     requires each { length records.old ≡ length nodes.now }
     ensures { records.new ≡ map (λ v. v.outcome) nodes.now }
@@ -30,7 +30,8 @@ fn take_records<'c, const N: usize>(nodes: &[Node<'c, N>], records: &mut [NodeRe
 /// The members with which the reference node began the period; none without one, or where it had no
 /// agreed state.
 fn members_of<const N: usize>(records: &[NodeRecord<N>], reference: Option<u8>) -> NodeSet<N>
-    requires { IsCapacity N }
+where
+    Nodes: Capacity<N>,
     ensures { result ≡ members_shown records.now reference }
 {
     let Some(node) = reference else {
@@ -61,7 +62,8 @@ fn class_of<const N: usize>(plan: &FaultPlan<N>, nodes: u8, period: u32, node: u
 
 /// The classes of the nodes in use, with N behind them.
 fn classes_of<const N: usize>(plan: &FaultPlan<N>, nodes: u8, period: u32) -> [Class; N]
-    requires capacity { IsCapacity N }
+where
+    Nodes: Capacity<N>,
     requires nodes { nodes ≤ plan.now.nodes }
     requires period { period < plan.now.periods }
     ensures { result ≡ map (class_or_first plan.now nodes period) (ids_below N) }
@@ -73,13 +75,15 @@ fn classes_of<const N: usize>(plan: &FaultPlan<N>, nodes: u8, period: u32) -> [C
     classes
 }
 
-impl<const N: usize> PeriodRecord<N> {
+impl<const N: usize> PeriodRecord<N>
+where
+    Nodes: Capacity<N>,
+{
     /// Shows what all nodes made of a period of the scenario that they went through. The frames
     /// stay as they are.
     ///
     /// The record must be one of the period before it.
     pub fn fill<'c>(&mut self, scenario: &Scenario<N>, period: u32, nodes: &[Node<'c, N>])
-        requires capacity { IsCapacity N }
         requires in_run { period < scenario.now.periods }
         requires taken { IsShownBefore scenario.now period self.old }
         requires after { AreNodes scenario.now (period + 1) nodes.now }

@@ -1,7 +1,6 @@
 //! The record of a period, before there is one.
 
 ghost use Rattle.std.specs.Prelude.{◌≡◌, ◌≤◌, ◌<◌, ◌+◌, ◌*◌, All, IfOk, length, option_map};
-ghost use Rattle.node_grid.specs.Capacity.{IsCapacity};
 ghost use Rattle.agreed_state.specs.Config.{IsConfig};
 ghost use Rattle.cluster_record.specs.Buffers.{IsSlot, IsRoom};
 ghost use Rattle.cluster_record.specs.Shown.{clock_shown};
@@ -13,7 +12,7 @@ use agreed_state::Config;
 use fault_classes::{Budget, Class};
 use frames::frame_bound;
 use node_core::NodeRecord;
-use node_grid::{NoMemory, NodeSet};
+use node_grid::{Capacity, NoMemory, NodeSet, Nodes};
 use slot_plan::slot_count;
 use std::alloc::{AllocError, Global};
 
@@ -73,7 +72,8 @@ fn all_buffers(
 
 /// Room for the records of so many nodes. Until a period is recorded they are those of Cold nodes.
 fn no_records<const N: usize>(alloc: Global, nodes: u8) -> Result<Vec<NodeRecord<N>>, AllocError>
-    requires { IsCapacity N }
+where
+    Nodes: Capacity<N>,
     ensures { IfOk result (λ v. length v.items ≡ nodes) }
 {
     let mut records = Vec::with_capacity(alloc, nodes as usize)?;
@@ -83,7 +83,10 @@ fn no_records<const N: usize>(alloc: Global, nodes: u8) -> Result<Vec<NodeRecord
     Ok(records)
 }
 
-impl<const N: usize> PeriodRecord<N> {
+impl<const N: usize> PeriodRecord<N>
+where
+    Nodes: Capacity<N>,
+{
     /// A record with all the room that a run of the configuration takes, before the first period,
     /// with these clocks.
     ///
@@ -95,7 +98,6 @@ impl<const N: usize> PeriodRecord<N> {
         config: &Config<N>,
         clock: Option<ClockRecord<N>>,
     ) -> Result<PeriodRecord<N>, NoMemory>
-        requires capacity { IsCapacity N }
         requires config { IsConfig N config.now }
         ensures { IfOk result (IsBlank config.now (option_map clock_shown clock.entry)) }
     {

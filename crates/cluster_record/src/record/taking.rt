@@ -1,17 +1,18 @@
 //! How a period's record takes the frames of a slot.
 
 ghost use Rattle.std.specs.Prelude.{◌≡◌, ◌<◌, ◌≤◌, true, All, map, length, slice_set};
-ghost use Rattle.node_grid.specs.Capacity.{IsCapacity};
 ghost use Rattle.slot_plan.specs.Slots.{slot_count};
 ghost use Rattle.node_steps.specs.Steps.{frame_of};
 ghost use Rattle.cluster_record.specs.Buffers.{IsBuffer, AreShort};
 
 use super::PeriodRecord;
 use node_core::Node;
+use node_grid::{Capacity, Nodes};
 
 /// Writes the frames of all nodes, each into room for `room` bytes.
 fn say_all<'c, const N: usize>(nodes: &[Node<'c, N>], frames: &mut [Vec<u8>], room: usize)
-    requires capacity { IsCapacity N }
+where
+    Nodes: Capacity<N>,
     requires open { All (λ v. v.phase.is_open ≡ true) nodes.now }
     requires each { length frames.old ≡ length nodes.now }
     requires short { All (λ v. v.arrived.frame_max ≤ room) nodes.now }
@@ -24,10 +25,12 @@ fn say_all<'c, const N: usize>(nodes: &[Node<'c, N>], frames: &mut [Vec<u8>], ro
     }
 }
 
-impl<const N: usize> PeriodRecord<N> {
+impl<const N: usize> PeriodRecord<N>
+where
+    Nodes: Capacity<N>,
+{
     /// Takes the frames that all nodes send in a slot.
     pub fn take_frames<'c>(&mut self, slot: u8, nodes: &[Node<'c, N>])
-        requires capacity { IsCapacity N }
         requires slot { slot < slot_count self.old.m }
         requires open { All (λ v. v.phase.is_open ≡ true) nodes.now }
         requires each { length nodes.now ≡ self.old.nodes }

@@ -6,12 +6,15 @@ ghost use Rattle.node_steps.specs.Steps.{shut, taken};
 
 use super::Controller;
 use data_slot::DataSlot;
+use node_grid::{Capacity, Nodes};
 use noting::note_values;
 
 impl<'c, const N: usize> Controller<'c, N> {
     /// Closes the data slot: votes on the due channels, notes what is against the others, finishes
     /// the node's own row, and starts the table of rows.
     pub(super) fn hear_values(&mut self)
+    where
+        Nodes: Capacity<N>,
         requires sound { IsSound self.old }
         requires open { self.old.phase.is_open ≡ true }
         requires slot { self.old.phase.slot ≡ self.old.config.m + 2 }

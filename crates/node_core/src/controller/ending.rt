@@ -1,7 +1,6 @@
 //! The end of a period.
 
 ghost use Rattle.std.specs.Prelude.{◌≡◌, ◌+◌, ◌*◌, true, IfSome, if◌then◌else◌};
-ghost use Rattle.node_grid.specs.Capacity.{IsCapacity};
 ghost use Rattle.agreed_state.specs.Agreed.{IsAgreed};
 ghost use Rattle.protocol.specs.Arrival.{row_form};
 ghost use Rattle.protocol.specs.View.Mode.{Full as ViewFull, Joining as ViewJoining};
@@ -14,6 +13,7 @@ ghost use Rattle.node_core.specs.Closing.{IsReportClosed};
 use super::{Controller, Keeping};
 use crate::outcome::{Mode, NodeRecord, copied};
 use node_grid::kind::EQUIVOCATE;
+use node_grid::{Capacity, Nodes};
 use noting::carry_found;
 use relay_terms::Term;
 use relaying::{rows_of, settle};
@@ -28,7 +28,8 @@ fn mode_through(full: bool) -> Mode
 impl<'c, const N: usize> Controller<'c, N> {
     /// Closes the last slot of a period, takes what it says, and ends the period.
     pub(super) fn end_period(&mut self)
-        requires capacity { IsCapacity N }
+    where
+        Nodes: Capacity<N>,
         requires sound { IsSound self.old }
         requires open { self.old.phase.is_open ≡ true }
         requires last { self.old.phase.slot ≡ 2 * self.old.config.m + 3 }
@@ -48,6 +49,8 @@ impl<'c, const N: usize> Controller<'c, N> {
     /// Settles the rows by what was heard of them and by the last slot, which was closed, and ends
     /// the period of a node that went through it with a state.
     fn end_with_state(&mut self)
+    where
+        Nodes: Capacity<N>,
         requires agreed { IfSome self.old.phase.before (λ a. IsAgreed N self.old.config a) }
         requires hears { IfSome self.old.phase.before
             (λ a. Hears self.old.rows self.old.phase.me a) }
@@ -87,7 +90,8 @@ impl<'c, const N: usize> Controller<'c, N> {
 
     /// Ends the period of a node that stayed Cold: it keeps nothing.
     fn end_cold(&mut self)
-        requires { IsCapacity N }
+    where
+        Nodes: Capacity<N>,
         ensures { self.new ≡ ended_cold self.old }
     {
         self.restart();

@@ -1,7 +1,6 @@
 //! A node before its first period.
 
 ghost use Rattle.std.specs.Prelude.{◌≡◌, ◌<◌, ◌≤◌, IfOk};
-ghost use Rattle.node_grid.specs.Capacity.{IsCapacity};
 ghost use Rattle.node_grid.specs.Version.{kind_count};
 ghost use Rattle.frames.specs.Bound.{IsGreatest};
 ghost use Rattle.error_detect.specs.Watching.{fresh};
@@ -16,7 +15,7 @@ use agreed_state::{Agreed, Config, Inputs};
 use arrayvec::ArrayVec;
 use error_detect::SlotWatch;
 use error_reports::RowBuilder;
-use node_grid::{NoMemory, NodeSet, Row};
+use node_grid::{Capacity, NoMemory, NodeSet, Nodes, Row};
 use omh_paths::Wrapped;
 use relay_table::Table;
 use slot_plan::Slot;
@@ -30,10 +29,12 @@ fn kind_count(version: u8) -> u8
     if version == 1 { 8 } else { 16 }
 }
 
-impl<const N: usize> Findings<N> {
+impl<const N: usize> Findings<N>
+where
+    Nodes: Capacity<N>,
+{
     /// Nothing is found yet in a period that begins with these notes.
     pub(super) fn none(notes: RowBuilder<N>) -> Findings<N>
-        requires { IsCapacity N }
         ensures found { found_of result ≡ none_found N notes.entry }
         ensures notes { result.notes ≡ notes.entry }
     {
@@ -61,7 +62,8 @@ impl<'c, const N: usize> Controller<'c, N> {
         me: u8,
         frame_max: usize,
     ) -> Result<Controller<'c, N>, NoMemory>
-        requires capacity { IsCapacity N }
+    where
+        Nodes: Capacity<N>,
         requires config { IsConfig N config.now }
         requires me { me < config.now.nodes }
         requires greatest { IsGreatest config.now.nodes config.now.m (state_len config.now) 8
@@ -82,6 +84,8 @@ impl<'c, const N: usize> Controller<'c, N> {
         rows: Table<Row<N>, N>,
         watch: SlotWatch<N>,
     ) -> Controller<'c, N>
+    where
+        Nodes: Capacity<N>,
         requires place { IsPlace N config.now me }
         requires unused { AreUnused config.now done rows }
         requires watch { watch ≡ fresh config.now.nodes me watch.frame_max }

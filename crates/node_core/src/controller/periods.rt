@@ -1,7 +1,6 @@
 //! From slot to slot, and from period to period.
 
 ghost use Rattle.std.specs.Prelude.{◌≡◌, ◌+◌, ◌≤◌, true, length};
-ghost use Rattle.node_grid.specs.Capacity.{IsCapacity};
 ghost use Rattle.slot_plan.specs.Slots.{slot_number, IsSlot};
 ghost use Rattle.frames.specs.Seen.{expected};
 ghost use Rattle.node_steps.specs.Sound.{IsSound, IsTaken};
@@ -10,13 +9,15 @@ ghost use Rattle.node_steps.specs.Steps.{after_slot, begun, expected_in, slot_op
 use super::{Controller, Findings, Phase};
 use agreed_state::Inputs;
 use frames::Expect;
-use node_grid::NodeSet;
+use node_grid::{Capacity, NodeSet, Nodes};
 use slot_plan::Slot;
 
-impl<'c, const N: usize> Controller<'c, N> {
+impl<'c, const N: usize> Controller<'c, N>
+where
+    Nodes: Capacity<N>,
+{
     /// Begins a period, and opens its first slot.
     pub fn begin(&mut self, period: u32, inputs: &Inputs)
-        requires { IsCapacity N }
         ensures { self.new ≡ begun self.old period inputs.now }
     {
         let me = self.phase.me;
@@ -38,7 +39,6 @@ impl<'c, const N: usize> Controller<'c, N> {
 
     /// What it expects of the frames of a slot of the period.
     pub(super) fn expectation(&self, slot: Slot) -> Expect<N>
-        requires capacity { IsCapacity N }
         requires slot { IsSlot self.now.config.m slot }
         requires due { length self.now.found.due ≤ 8 }
         ensures { expected result ≡ expected_in self.now (slot_number self.now.config.m slot) }
@@ -52,7 +52,6 @@ impl<'c, const N: usize> Controller<'c, N> {
 
     /// Opens a slot after the first one.
     fn open_slot(&mut self, slot: Slot)
-        requires capacity { IsCapacity N }
         requires slot { IsSlot self.old.config.m slot }
         requires next { slot_number self.old.config.m slot ≡ self.old.phase.slot + 1 }
         requires taken { IsTaken self.old }
@@ -65,7 +64,6 @@ impl<'c, const N: usize> Controller<'c, N> {
 
     /// Ends the open slot: takes what it says, and opens the next one, or ends the period.
     pub fn end_slot(&mut self)
-        requires capacity { IsCapacity N }
         requires sound { IsSound self.old }
         requires open { self.old.phase.is_open ≡ true }
         ensures { self.new ≡ after_slot self.old }

@@ -5,12 +5,15 @@ ghost use Rattle.node_steps.specs.Sound.{IsSound};
 ghost use Rattle.node_steps.specs.Steps.{shut, taken};
 
 use super::Controller;
+use node_grid::{Capacity, Nodes};
 use noting::carry_found;
 use relaying::hear_round;
 
 impl<'c, const N: usize> Controller<'c, N> {
     /// Closes a slot of rows that isn't the last one, and takes what it says.
     pub(super) fn hear_rows(&mut self, round: u8)
+    where
+        Nodes: Capacity<N>,
         requires sound { IsSound self.old }
         requires open { self.old.phase.is_open ≡ true }
         requires slot { self.old.phase.slot ≡ self.old.config.m + 3 + round }

@@ -11,6 +11,7 @@ use crate::claim::own_claim;
 use agreed_state::Agreed;
 use data_slot::put_values;
 use frames::{Body, Frame, HEADER, Head, Values, encode};
+use node_grid::{Capacity, Nodes};
 use relaying::say_round;
 use slot_plan::Slot;
 
@@ -29,6 +30,8 @@ impl<'c, const N: usize> Controller<'c, N> {
 
     /// Writes a frame, which says what the node says in the open slot, with a body of `size` bytes.
     fn write(&self, frame: &Frame<'_, N>, size: usize, out: &mut Vec<u8>)
+    where
+        Nodes: Capacity<N>,
         requires ready { IsReady self.now (vec_capacity out.old) }
         requires head { frame.now.head ≡ head_now self.now }
         requires widths { HasWidth self.now.config.nodes frame.now.body }
@@ -47,6 +50,8 @@ impl<'c, const N: usize> Controller<'c, N> {
     /// Writes the node's agreed state, in the sync slot. The other slots need no room for a state.
     #[inline(never)]
     fn say_state(&self, agreed: &Agreed<N>, out: &mut Vec<u8>)
+    where
+        Nodes: Capacity<N>,
         requires ready { IsReady self.now (vec_capacity out.old) }
         requires own { IsFullWith self.now agreed.now }
         requires slot { self.now.phase.slot ≡ 0 }
@@ -64,6 +69,8 @@ impl<'c, const N: usize> Controller<'c, N> {
 
     /// Writes the node's claim, or in a relay slot what it passes on of claims.
     fn say_claims(&self, agreed: &Agreed<N>, round: u8, out: &mut Vec<u8>)
+    where
+        Nodes: Capacity<N>,
         requires ready { IsReady self.now (vec_capacity out.old) }
         requires own { IsFullWith self.now agreed.now }
         requires round { round ≤ self.now.config.m }
@@ -86,6 +93,8 @@ impl<'c, const N: usize> Controller<'c, N> {
 
     /// Writes the node's own values of the due channels, in the data slot.
     fn say_values(&self, agreed: &Agreed<N>, out: &mut Vec<u8>)
+    where
+        Nodes: Capacity<N>,
         requires ready { IsReady self.now (vec_capacity out.old) }
         requires own { IsFullWith self.now agreed.now }
         requires slot { self.now.phase.slot ≡ self.now.config.m + 2 }
@@ -107,6 +116,8 @@ impl<'c, const N: usize> Controller<'c, N> {
 
     /// Writes the node's row, or in a relay slot what it passes on of rows.
     fn say_rows(&self, agreed: &Agreed<N>, round: u8, out: &mut Vec<u8>)
+    where
+        Nodes: Capacity<N>,
         requires ready { IsReady self.now (vec_capacity out.old) }
         requires own { IsFullWith self.now agreed.now }
         requires round { round ≤ self.now.config.m }
@@ -129,6 +140,8 @@ impl<'c, const N: usize> Controller<'c, N> {
 
     /// Writes what the Full node says, by the slot.
     fn say_own(&self, agreed: &Agreed<N>, out: &mut Vec<u8>)
+    where
+        Nodes: Capacity<N>,
         requires ready { IsReady self.now (vec_capacity out.old) }
         requires own { IsFullWith self.now agreed.now }
         ensures written { out.new.items ≡ frame_of self.now }
@@ -144,6 +157,8 @@ impl<'c, const N: usize> Controller<'c, N> {
 
     /// Writes the frame of the open slot into `out`, which has room for it.
     pub fn say(&self, out: &mut Vec<u8>)
+    where
+        Nodes: Capacity<N>,
         requires ready { IsReady self.now (vec_capacity out.old) }
         ensures written { out.new.items ≡ frame_of self.now }
         ensures room { vec_capacity out.old ≤ vec_capacity out.new }

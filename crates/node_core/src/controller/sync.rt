@@ -1,7 +1,6 @@
 //! The slot of agreed states.
 
 ghost use Rattle.std.specs.Prelude.{◌≡◌, ◌≤◌, true, false, None, IfSome, if◌then◌else◌, length};
-ghost use Rattle.node_grid.specs.Capacity.{IsCapacity};
 ghost use Rattle.error_detect.specs.Watching.{told_at, IsHeardBy};
 ghost use Rattle.agreed_state.specs.Agreed.{IsAgreed};
 ghost use Rattle.agreed_state.specs.Config.{IsConfig};
@@ -17,6 +16,7 @@ use crate::adopting::adopt;
 use crate::claim::own_claim;
 use agreed_state::{Agreed, Config};
 use error_detect::SlotWatch;
+use node_grid::{Capacity, Nodes};
 use noting::{good_senders, note_states};
 
 /// The state with which a node goes through a period: the one that it keeps where it had one when
@@ -27,7 +27,8 @@ fn state_of_period<const N: usize>(
     phase: &Phase<N>,
     kept: &Option<Agreed<N>>,
 ) -> Option<Agreed<N>>
-    requires capacity { IsCapacity N }
+where
+    Nodes: Capacity<N>,
     requires config { IsConfig N config.now }
     requires kept { IfSome kept.now (λ a. IsAgreed N config.now a) }
     requires watching { IsHeardBy watch.now config.now.nodes phase.now.me }
@@ -48,6 +49,8 @@ impl<'c, const N: usize> Controller<'c, N> {
     /// Closes the sync slot, and takes what it says. A node that goes on with a state notes what
     /// the slot says against it, and starts to hear claims.
     pub(super) fn hear_states(&mut self)
+    where
+        Nodes: Capacity<N>,
         requires sound { IsSound self.old }
         requires open { self.old.phase.is_open ≡ true }
         requires slot { self.old.phase.slot ≡ 0 }

@@ -12,7 +12,7 @@ convicting-convicting-requires c = (
   omega arith,
   (
     omega arith,
-    (search rules, ap (λ (s : List ℕ). has_id s c.args.item.now.commander) c.without-others.ensures ∙ not_rest c.args.awake.now c.args.item.now.commander),
+    ap (λ (s : List ℕ). has_id s c.args.item.now.commander) c.without-others.ensures ∙ not_rest c.args.awake.now c.args.item.now.commander,
   ),
 )
 

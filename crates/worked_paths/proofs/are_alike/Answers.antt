@@ -6,15 +6,12 @@ pub settle_all-requires : goal.settle_all-requires
 settle_all-requires c = (
   omega arith,
   (
-    record { finds = λ x. eq-eqb x x refl; tells = λ x y h. eqb-true x y h },
-    (
-      record {
-        capacity_ok = inl refl;
-        rounds_are = c.requires.rounds;
-        nodes_ok = λ q on. omega (arith, member-lt 8 c.args.item.now.exchange.now.members q c.len.ensures.ids on, c.requires.nodes);
-        member_ok = c.args.item.now.member;
-      },
-      (c.requires.own, refl),
-    ),
+    record {
+      capacity_ok = inl refl;
+      rounds_are = c.requires.rounds;
+      nodes_ok = λ q on. omega (arith, member-lt 8 c.args.item.now.exchange.now.members q c.len.ensures.ids on, c.requires.nodes);
+      member_ok = c.args.item.now.member;
+    },
+    (c.requires.own, refl),
   ),
 )

@@ -22,13 +22,13 @@ has-requires g c = lit< tt
 pub is_passed-requires : goal.is_passed-requires
 is_passed-requires g c =
     let within : c.loop-node.node < g.row.N = (let n = c.requires.nodes in let t = c.loop-node-test.true in omega arith) in
-    (elim c.requires.capacity [ inl e ↦ rw e (lit< tt) | inr e ↦ rw e (lit< tt) ], (c.requires.capacity, (c.requires.task, within)))
+    (elim g.bound-1.eight_or_sixteen [ inl e ↦ rw e (lit< tt) | inr e ↦ rw e (lit< tt) ], (c.requires.task, within))
 
 pub put-requires : goal.put-requires
 put-requires g c = (lit< tt, (let n = c.requires.nodes in let t = c.loop-node-test.true in omega arith))
 
 pub empty-passed-requires : goal.empty-passed-requires
-empty-passed-requires g c = (lit< tt, capacity_small g.row.N c.requires.capacity)
+empty-passed-requires g c = (lit< tt, capacity_small g.row.N g.bound-1.eight_or_sixteen)
 
 pub loop-node-init : goal.loop-node-init
 loop-node-init g c = c.empty-passed.ensures ∙ sym (ids_where_none _ g.row.N)

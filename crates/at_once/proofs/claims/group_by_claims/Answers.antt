@@ -11,7 +11,7 @@ use Rattle.at_once.proofs.claims.group_by_claims.Goals as goal
 pub by-groups-requires : goal.by-groups-requires
 by-groups-requires g c =
     let cap : IsCapacity g.row.N = c.requires.settled.heard.set.capacity in
-    (lit< tt, (elim cap [ inl e ↦ rw e (lit< tt) | inr e ↦ rw e (lit< tt) ], (cap, λ r i before less. (elim cap [ inl e ↦ rw e (lit< tt) | inr e ↦ rw e (lit< tt) ], (elim cap [ inl e ↦ rw e (lit< tt) | inr e ↦ rw e (lit< tt) ], (elim cap [ inl e ↦ rw e (lit< tt) | inr e ↦ rw e (lit< tt) ], c.requires.settled))))))
+    (lit< tt, (elim cap [ inl e ↦ rw e (lit< tt) | inr e ↦ rw e (lit< tt) ], λ r i before less. (elim cap [ inl e ↦ rw e (lit< tt) | inr e ↦ rw e (lit< tt) ], (elim cap [ inl e ↦ rw e (lit< tt) | inr e ↦ rw e (lit< tt) ], (elim cap [ inl e ↦ rw e (lit< tt) | inr e ↦ rw e (lit< tt) ], c.requires.settled)))))
 
 pub returns-clause-firsts : goal.returns-clause-firsts
 returns-clause-firsts g c = c.of.ensures.all

@@ -15,7 +15,7 @@ use Rattle.at_once.proofs.claims.note_convicted.Goals as goal
 
 pub convicted-requires : goal.convicted-requires
 convicted-requires g c =
-    let cap : IsCapacity g.row.N = c.requires.capacity in
+    let cap : IsCapacity g.row.N = g.bound-1.eight_or_sixteen in
     (elim cap [ inl e ↦ rw e (lit< tt) | inr e ↦ rw e (lit< tt) ], (elim cap [ inl e ↦ rw e (lit< tt) | inr e ↦ rw e (lit< tt) ], (lit< tt, (c.requires.settled, (sym c.has.ensures ∙ c.if-has.true, c.if-phase-eq1.false)))))
 
 pub note_against-requires : goal.note_against-requires
@@ -25,7 +25,7 @@ note_against-requires g c =
     let low : i < g.row.N = c.loop-i-test.true in
     let room : i < length xs = (let w = c.loop-i.invariant.wide in omega arith) in
     let at : get_or xs i c.index-notes-i.result ≡ notes_at xs i = same_at xs i c.index-notes-i.result (record { nodes = 0; me = 0; kinds = 0; row = []; carried = [] }) room in
-    let cap : IsCapacity g.row.N = c.requires.capacity in
+    let cap : IsCapacity g.row.N = g.bound-1.eight_or_sixteen in
     (lit< tt, (elim cap [ inl e ↦ rw e (lit< tt) | inr e ↦ rw e (lit< tt) ], subst (IsWithin g.row.N) (sym (at ∙ c.loop-i.invariant.rest i (omega arith))) (c.requires.within i low (sym c.has.ensures ∙ c.if-has.true))))
 
 pub returns-then-phase-eq1-clause-notes : goal.returns-then-phase-eq1-clause-notes

@@ -12,7 +12,7 @@ use Rattle.at_once.proofs.claims.note_frames.Goals as goal
 
 pub note-requires : goal.note-requires
 note-requires g c =
-    let cap : IsCapacity g.row.N = c.requires.capacity in
+    let cap : IsCapacity g.row.N = g.bound-1.eight_or_sixteen in
     let config = c.args.phase.now.config.now in
     let old : List Notes = c.args.notes.now in
     let xs : List Notes = c.loop-i.notes in

@@ -16,7 +16,7 @@ use Rattle.at_once.proofs.rows.carry.Goals as goal
 
 pub carry_at-requires : goal.carry_at-requires
 carry_at-requires g c =
-    let cap : IsCapacity g.row.N = c.requires.capacity in
+    let cap : IsCapacity g.row.N = g.bound-1.eight_or_sixteen in
     let config = c.args.phase.now.config.now in
     let old : List Notes = c.args.notes.now in
     let xs : List Notes = c.loop-i.notes in

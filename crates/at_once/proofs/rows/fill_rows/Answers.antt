@@ -14,8 +14,8 @@ loop-first-init g c = filled_none c.args.phase.now.awake c.args.groups.now (λ f
 
 pub rows_settled-belief-requires : goal.rows_settled-belief-requires
 rows_settled-belief-requires g c =
-    let cap : IsCapacity g.row.N = c.requires.capacity in
-    (elim cap [ inl e ↦ rw e (lit< tt) | inr e ↦ rw e (lit< tt) ], (elim cap [ inl e ↦ rw e (lit< tt) | inr e ↦ rw e (lit< tt) ], (elim cap [ inl e ↦ rw e (lit< tt) | inr e ↦ rw e (lit< tt) ], (elim cap [ inl e ↦ rw e (lit< tt) | inr e ↦ rw e (lit< tt) ], (cap, (c.requires.settled, (sym c.has.ensures ∙ c.if-has.true, c.loop-first-test.true)))))))
+    let cap : IsCapacity g.row.N = g.bound-1.eight_or_sixteen in
+    (elim cap [ inl e ↦ rw e (lit< tt) | inr e ↦ rw e (lit< tt) ], (elim cap [ inl e ↦ rw e (lit< tt) | inr e ↦ rw e (lit< tt) ], (elim cap [ inl e ↦ rw e (lit< tt) | inr e ↦ rw e (lit< tt) ], (elim cap [ inl e ↦ rw e (lit< tt) | inr e ↦ rw e (lit< tt) ], (c.requires.settled, (sym c.has.ensures ∙ c.if-has.true, c.loop-first-test.true))))))
 
 pub loop-first-preserved : goal.loop-first-preserved
 loop-first-preserved g c =

@@ -25,7 +25,7 @@ loop-c-init g c =
 
 pub settled-requires : goal.settled-requires
 settled-requires g c =
-    let cap : IsCapacity g.row.N = c.requires.capacity in
+    let cap : IsCapacity g.row.N = g.bound-1.eight_or_sixteen in
     let member : has_id (members_at c.args.phase.now c.args.i) c.loop-c.c ≡ true = sym (c.has.ensures ∙ ap (λ (ms : List ℕ). has_id ms c.loop-c.c) c.members_at-members.ensures) ∙ c.if-has.true in
     (elim cap [ inl e ↦ rw e (lit< tt) | inr e ↦ rw e (lit< tt) ], (elim cap [ inl e ↦ rw e (lit< tt) | inr e ↦ rw e (lit< tt) ], (c.requires.settled, (c.requires.node, member))))
 

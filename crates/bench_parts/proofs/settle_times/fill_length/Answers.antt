@@ -9,7 +9,7 @@ use prog.Memory
 use Prim.Native.Nat.{max}
 
 pub count_paths-place-end-requires-clause-nodes : goal.count_paths-place-end-requires-clause-nodes
-count_paths-place-end-requires-clause-nodes g c = omega (arith, few_ids g.row.N c.args.others.now c.requires.capacity c.len-count.ensures.ids, c.len-count.ensures.count)
+count_paths-place-end-requires-clause-nodes g c = omega (arith, few_ids g.row.N c.args.others.now g.bound-1.eight_or_sixteen c.len-count.ensures.ids, c.len-count.ensures.count)
 
 pub put-requires : goal.put-requires
 put-requires g c =
@@ -18,7 +18,7 @@ put-requires g c =
     let members = ap (λ h. h.members) c.loop-place.invariant.table in
     let me = ap (λ h. h.me) c.loop-place.invariant.table in
     let rounds = ap (λ h. h.rounds) c.loop-place.invariant.table in (
-      at_capacity (λ (n : ℕ). Memory.up 8 (Memory.up 8 (Memory.up 8 (8 + Memory.up 2 (max (2 + Memory.up 2 (0 + n * 2)) 2)) + 24) + 24) < 9223372036854775808) g.row.N c.requires.capacity (omega arith) (omega arith),
+      at_capacity (λ (n : ℕ). Memory.up 8 (Memory.up 8 (Memory.up 8 (8 + Memory.up 2 (max (2 + Memory.up 2 (0 + n * 2)) 2)) + 24) + 24) < 9223372036854775808) g.row.N g.bound-1.eight_or_sixteen (omega arith) (omega arith),
       (
         (λ q on. ap (λ s. has_id s q) members ∙ within_members now.members c.args.others.now c.unrank-path.result now.me c.requires.others c.unrank-path.ensures.within q on),
         (

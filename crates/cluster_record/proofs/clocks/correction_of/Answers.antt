@@ -18,7 +18,7 @@ correction-requires g c =
       lit< tt,
       (
         elim c.requires.steady.capacity [ inl e ↦ rw e (lit< tt) | inr e ↦ rw e (lit< tt) ],
-        (c.requires.steady.capacity, (c.readings-readings.ensures.range, ap (λ (o : Outcome). has_id o.sync c.args.i) c.record.view_is ∙ c.requires.others c.args.i c.in-Some.record.now there)),
+        (c.readings-readings.ensures.range, ap (λ (o : Outcome). has_id o.sync c.args.i) c.record.view_is ∙ c.requires.others c.args.i c.in-Some.record.now there),
       ),
     )
 
@@ -37,7 +37,7 @@ readings-readings-requires g c = (
 pub correction-requires-in-Joining : goal.correction-requires-in-Joining
 correction-requires-in-Joining g c = (
   lit< tt,
-  (elim c.requires.steady.capacity [ inl e ↦ rw e (lit< tt) | inr e ↦ rw e (lit< tt) ], (c.requires.steady.capacity, (c.readings-readings.ensures.range, tt))),
+  (elim c.requires.steady.capacity [ inl e ↦ rw e (lit< tt) | inr e ↦ rw e (lit< tt) ], (c.readings-readings.ensures.range, tt)),
 )
 
 pub returns-in-Full-clause-range : goal.returns-in-Full-clause-range

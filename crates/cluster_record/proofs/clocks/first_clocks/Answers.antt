@@ -12,18 +12,18 @@ use Rattle.cluster_record.proofs.Clocking.{starts_are}
 use Rattle.cluster_record.proofs.clocks.first_clocks.Goals as goal
 
 pub clock-requires : goal.clock-requires
-clock-requires g c = elim c.requires [ inl e ↦ rw e (lit< tt, lit< tt) | inr e ↦ rw e (lit< tt, lit< tt) ]
+clock-requires g c = elim g.bound-1.eight_or_sixteen [ inl e ↦ rw e (lit< tt, lit< tt) | inr e ↦ rw e (lit< tt, lit< tt) ]
 
 pub config-requires : goal.config-requires
-config-requires g c = elim c.requires [ inl e ↦ rw e (lit< tt, lit< tt) | inr e ↦ rw e (lit< tt, lit< tt) ]
+config-requires g c = elim g.bound-1.eight_or_sixteen [ inl e ↦ rw e (lit< tt, lit< tt) | inr e ↦ rw e (lit< tt, lit< tt) ]
 
 pub starts-requires : goal.starts-requires
 starts-requires g c =
     let sc : ScenarioView g.row.N = c.args.scenario.now in
     let k : ClockView = c.in-Some.plan.now in
     let fit : AreClocks (run (system_of sc)) (classes (system_of sc)) k = c.config.ensures.scenario.clock k (sym c.in-Some.ensures.clock) in (
-      elim c.requires [ inl e ↦ rw e (lit< tt) | inr e ↦ rw e (lit< tt) ],
-      (elim c.requires [ inl e ↦ rw e (lit< tt) | inr e ↦ rw e (lit< tt) ], (c.requires, ap (λ (y : Config g.row.N). y.nodes) c.config.ensures.config ∙ sym fit.nodes)),
+      elim g.bound-1.eight_or_sixteen [ inl e ↦ rw e (lit< tt) | inr e ↦ rw e (lit< tt) ],
+      (elim g.bound-1.eight_or_sixteen [ inl e ↦ rw e (lit< tt) | inr e ↦ rw e (lit< tt) ], ap (λ (y : Config g.row.N). y.nodes) c.config.ensures.config ∙ sym fit.nodes),
     )
 
 pub returns : goal.returns

@@ -18,10 +18,10 @@ use Rattle.cluster_record.proofs.Clocking.{AreAtHand, at_hand, others, correctio
 use Rattle.cluster_record.proofs.clocks.next_clocks.Goals as goal
 
 pub clock-requires : goal.clock-requires
-clock-requires g c = elim c.requires.capacity [ inl e ↦ rw e (lit< tt, lit< tt) | inr e ↦ rw e (lit< tt, lit< tt) ]
+clock-requires g c = elim g.bound-1.eight_or_sixteen [ inl e ↦ rw e (lit< tt, lit< tt) | inr e ↦ rw e (lit< tt, lit< tt) ]
 
 pub config-config-requires : goal.config-config-requires
-config-config-requires g c = elim c.requires.capacity [ inl e ↦ rw e (lit< tt, lit< tt) | inr e ↦ rw e (lit< tt, lit< tt) ]
+config-config-requires g c = elim g.bound-1.eight_or_sixteen [ inl e ↦ rw e (lit< tt, lit< tt) | inr e ↦ rw e (lit< tt, lit< tt) ]
 
 pub corrections-correction-requires : goal.corrections-correction-requires
 corrections-correction-requires g c =
@@ -29,12 +29,12 @@ corrections-correction-requires g c =
     let p : ℕ = c.args.period in
     let k : ClockView = c.in-Some.plan.now in
     let h : AreAtHand sc p k c.config-config.result.now.nodes c.in-Some-before.before.offset =
-    at_hand sc p (option_map clock_shown c.args.before) (clock_shown c.in-Some-before.before) k c.config-config.result.now.nodes c.config-config.ensures.scenario c.requires.capacity c.requires.in_run c.offsets.ensures (ap (λ (y : Config g.row.N). y.nodes) c.config-config.ensures.config) (ap (option_map clock_shown) c.in-Some-before.is) c.in-Some.ensures.clock c.requires.offsets in (
+    at_hand sc p (option_map clock_shown c.args.before) (clock_shown c.in-Some-before.before) k c.config-config.result.now.nodes c.config-config.ensures.scenario g.bound-1.eight_or_sixteen c.requires.in_run c.offsets.ensures (ap (λ (y : Config g.row.N). y.nodes) c.config-config.ensures.config) (ap (option_map clock_shown) c.in-Some-before.is) c.in-Some.ensures.clock c.requires.offsets in (
       lit< tt,
       (
-        elim c.requires.capacity [ inl e ↦ rw e (lit< tt) | inr e ↦ rw e (lit< tt) ],
+        elim g.bound-1.eight_or_sixteen [ inl e ↦ rw e (lit< tt) | inr e ↦ rw e (lit< tt) ],
         (
-          elim c.requires.capacity [ inl e ↦ rw e (lit< tt) | inr e ↦ rw e (lit< tt) ],
+          elim g.bound-1.eight_or_sixteen [ inl e ↦ rw e (lit< tt) | inr e ↦ rw e (lit< tt) ],
           (
             h.steady,
             (
@@ -52,7 +52,7 @@ all_moved-offset-requires g c =
     let p : ℕ = c.args.period in
     let k : ClockView = c.in-Some.plan.now in
     let h : AreAtHand sc p k c.config-config.result.now.nodes c.in-Some-before.before.offset =
-    at_hand sc p (option_map clock_shown c.args.before) (clock_shown c.in-Some-before.before) k c.config-config.result.now.nodes c.config-config.ensures.scenario c.requires.capacity c.requires.in_run c.offsets.ensures (ap (λ (y : Config g.row.N). y.nodes) c.config-config.ensures.config) (ap (option_map clock_shown) c.in-Some-before.is) c.in-Some.ensures.clock c.requires.offsets in (lit< tt, (elim c.requires.capacity [ inl e ↦ rw e (lit< tt) | inr e ↦ rw e (lit< tt) ], (h.steady, c.corrections-correction.ensures.range)))
+    at_hand sc p (option_map clock_shown c.args.before) (clock_shown c.in-Some-before.before) k c.config-config.result.now.nodes c.config-config.ensures.scenario g.bound-1.eight_or_sixteen c.requires.in_run c.offsets.ensures (ap (λ (y : Config g.row.N). y.nodes) c.config-config.ensures.config) (ap (option_map clock_shown) c.in-Some-before.is) c.in-Some.ensures.clock c.requires.offsets in (lit< tt, (elim g.bound-1.eight_or_sixteen [ inl e ↦ rw e (lit< tt) | inr e ↦ rw e (lit< tt) ], (h.steady, c.corrections-correction.ensures.range)))
 
 pub returns : goal.returns
 returns g c =
@@ -61,7 +61,7 @@ returns g c =
     let p : ℕ = c.args.period in
     let k : ClockView = c.in-Some.plan.now in
     let h : AreAtHand sc p k c.config-config.result.now.nodes c.in-Some-before.before.offset =
-    at_hand sc p (option_map clock_shown c.args.before) (clock_shown c.in-Some-before.before) k c.config-config.result.now.nodes c.config-config.ensures.scenario c.requires.capacity c.requires.in_run c.offsets.ensures (ap (λ (y : Config g.row.N). y.nodes) c.config-config.ensures.config) (ap (option_map clock_shown) c.in-Some-before.is) c.in-Some.ensures.clock c.requires.offsets in
+    at_hand sc p (option_map clock_shown c.args.before) (clock_shown c.in-Some-before.before) k c.config-config.result.now.nodes c.config-config.ensures.scenario g.bound-1.eight_or_sixteen c.requires.in_run c.offsets.ensures (ap (λ (y : Config g.row.N). y.nodes) c.config-config.ensures.config) (ap (option_map clock_shown) c.in-Some-before.is) c.in-Some.ensures.clock c.requires.offsets in
     let few : sc.config.nodes ≤ g.row.N = c.config-config.ensures.scenario.system.config.few_nodes in
     let corrected : c.corrections-correction.result ≡ by_node sys (λ i. correction_at (run sys) k (offsets (run sys) k p) p i) =
     c.corrections-correction.ensures.corrections

@@ -5,13 +5,13 @@ use Rattle.node_steps.specs.Steps.{restarted}
 use Rattle.cluster_step.proofs.beginning.wake.Goals as goal
 
 pub me-requires : goal.me-requires
-me-requires g c = elim c.requires.capacity [ inl e ↦ rw e (lit< tt) | inr e ↦ rw e (lit< tt) ]
+me-requires g c = elim g.bound-1.eight_or_sixteen [ inl e ↦ rw e (lit< tt) | inr e ↦ rw e (lit< tt) ]
 
 pub restarts-requires : goal.restarts-requires
 restarts-requires g c = (lit< tt, (subst (λ (k : ℕ). k < c.args.plan.now.nodes) (sym c.me.ensures) c.requires.resting.me, c.requires.period))
 
 pub restart-requires : goal.restart-requires
-restart-requires g c = (elim c.requires.capacity [ inl e ↦ rw e (lit< tt) | inr e ↦ rw e (lit< tt) ], (c.requires.capacity, c.requires.resting.shut))
+restart-requires g c = (elim g.bound-1.eight_or_sixteen [ inl e ↦ rw e (lit< tt) | inr e ↦ rw e (lit< tt) ], c.requires.resting.shut)
 
 pub returns-then-restarts : goal.returns-then-restarts
 returns-then-restarts g c =

@@ -9,7 +9,7 @@ loop-init g c = refl
 
 pub deliver-requires : goal.deliver-requires
 deliver-requires g c = (
-  elim c.requires.capacity [ inl e ↦ rw e (lit< tt) | inr e ↦ rw e (lit< tt) ],
+  elim g.bound-1.eight_or_sixteen [ inl e ↦ rw e (lit< tt) | inr e ↦ rw e (lit< tt) ],
   (
     ap (λ (v : NodeView g.row.N). v.phase.is_open) c.loop.invariant ∙ c.requires.takes.is_open,
     (

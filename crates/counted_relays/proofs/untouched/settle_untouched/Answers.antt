@@ -12,4 +12,4 @@ pub returns-clause-settled : goal.returns-clause-settled
 returns-clause-settled g c = λ told i on ne.
     let s = c.args.exchange.now in
     c.settle_counted.ensures.settled i on ne
-    ∙ sym (untouched_law g.V.PartialEq.eq c.requires.exact s.rounds s.members s.full c.args.own (g.T.Touched.says c.args.touched.now) (Distinct-ids g.row.N s.members c.len.ensures.ids) (c.is_untouched.ensures c.if-not-is_untouched.false) s.commander i ne)
+    ∙ sym (untouched_law g.V.PartialEq.eq g.met.V.Exact.exact s.rounds s.members s.full c.args.own (g.T.Touched.says c.args.touched.now) (Distinct-ids g.row.N s.members c.len.ensures.ids) (c.is_untouched.ensures c.if-not-is_untouched.false) s.commander i ne)

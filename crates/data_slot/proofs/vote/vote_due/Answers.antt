@@ -26,7 +26,7 @@ bounds-due-k g c = c.loop-k-test.true
 
 pub vote_over-requires : goal.vote_over-requires
 vote_over-requires g c =
-    let cap : IsCapacity g.row.N = c.requires.capacity in (
+    let cap : IsCapacity g.row.N = g.bound-1.eight_or_sixteen in (
       elim cap [ inl e ↦ rw e (lit< tt) | inr e ↦ rw e (lit< tt) ],
       (
         elim cap [ inl e ↦ rw e (lit< tt) | inr e ↦ rw e (lit< tt) ],
@@ -34,7 +34,7 @@ vote_over-requires g c =
           elim cap [ inl e ↦ rw e (lit< tt) | inr e ↦ rw e (lit< tt) ],
           (
             elim cap [ inl e ↦ rw e (lit< tt) | inr e ↦ rw e (lit< tt) ],
-            (c.requires.capacity, (c.requires.config, (c.requires.agreed, c.requires.channels c.loop-k.k 0 c.loop-k-test.true))),
+            (c.requires.config, (c.requires.agreed, c.requires.channels c.loop-k.k 0 c.loop-k-test.true)),
           ),
         ),
       ),

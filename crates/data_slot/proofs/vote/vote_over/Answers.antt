@@ -14,34 +14,34 @@ passed_after-group-requires g c =
     let channel = subst (λ (ch : Channel g.row.N). IsChannel c.args.config.now.nodes (length c.args.config.now.graph.tasks) ch)
     (ap (λ (xs : List (Channel g.row.N)). get_or xs c.args.c c.index-deref-c.result) (sym c.deref.ensures.0) ∙ sym c.index-deref-c.is ∙ c.in-Copy.is)
     (c.requires.config.channels c.args.c c.index-deref-c.result c.requires.channel) in
-    let cap : IsCapacity g.row.N = c.requires.capacity in (
+    let cap : IsCapacity g.row.N = g.bound-1.eight_or_sixteen in (
       elim cap [ inl e ↦ rw e (lit< tt) | inr e ↦ rw e (lit< tt) ],
       (
         elim cap [ inl e ↦ rw e (lit< tt) | inr e ↦ rw e (lit< tt) ],
         (
           elim cap [ inl e ↦ rw e (lit< tt) | inr e ↦ rw e (lit< tt) ],
-          (lit< tt, (c.requires.capacity, (c.requires.config, (c.requires.agreed, channel.1.0)))),
+          (lit< tt, (c.requires.config, (c.requires.agreed, channel.1.0))),
         ),
       ),
     )
 
 pub group_vote-requires : goal.group_vote-requires
 group_vote-requires g c =
-    let cap : IsCapacity g.row.N = c.requires.capacity in
-    (lit< tt, (elim cap [ inl e ↦ rw e (lit< tt) | inr e ↦ rw e (lit< tt) ], cap))
+    let cap : IsCapacity g.row.N = g.bound-1.eight_or_sixteen in
+    (lit< tt, elim cap [ inl e ↦ rw e (lit< tt) | inr e ↦ rw e (lit< tt) ])
 
 pub values_told-requires : goal.values_told-requires
 values_told-requires g c =
-    let cap : IsCapacity g.row.N = c.requires.capacity in (
+    let cap : IsCapacity g.row.N = g.bound-1.eight_or_sixteen in (
       elim cap [ inl e ↦ rw e (lit< tt) | inr e ↦ rw e (lit< tt) ],
-      (elim cap [ inl e ↦ rw e (lit< tt) | inr e ↦ rw e (lit< tt) ], (cap, let low = c.requires.channel in let few = c.requires.config.few_channels in omega arith)),
+      (elim cap [ inl e ↦ rw e (lit< tt) | inr e ↦ rw e (lit< tt) ], let low = c.requires.channel in let few = c.requires.config.few_channels in omega arith),
     )
 
 pub vote_among-requires : goal.vote_among-requires
 vote_among-requires g c =
-    let cap : IsCapacity g.row.N = c.requires.capacity in (
+    let cap : IsCapacity g.row.N = g.bound-1.eight_or_sixteen in (
       elim cap [ inl e ↦ rw e (lit< tt) | inr e ↦ rw e (lit< tt) ],
-      (lit< tt, (cap, let low = c.requires.channel in let few = c.requires.config.few_channels in omega arith)),
+      (lit< tt, let low = c.requires.channel in let few = c.requires.config.few_channels in omega arith),
     )
 
 pub returns-in-Copy : goal.returns-in-Copy
@@ -53,7 +53,7 @@ returns-in-Copy g c =
     (sym c.in-Copy.is ∙ c.index-deref-c.is ∙ ap (λ (xs : List (Channel g.row.N)). get_or xs c.args.c c.index-deref-c.result) c.deref.ensures.0 ∙ get_or_default c.args.config.now.channels.items c.args.c c.index-deref-c.result no_channel c.requires.channel)
 
 pub deref-requires : goal.deref-requires
-deref-requires g c = elim c.requires.capacity [ inl e ↦ rw e (lit< tt) | inr e ↦ rw e (lit< tt) ]
+deref-requires g c = elim g.bound-1.eight_or_sixteen [ inl e ↦ rw e (lit< tt) | inr e ↦ rw e (lit< tt) ]
 
 pub bounds-deref-c : goal.bounds-deref-c
 bounds-deref-c g c = subst (λ (xs : List (Channel g.row.N)). c.args.c < length xs) (sym c.deref.ensures.0) c.requires.channel

@@ -4,8 +4,8 @@ use Rattle.error_detect.proofs.arrival.found_of.Goals as goal
 
 pub decode-requires : goal.decode-requires
 decode-requires g c =
-    let cap : IsCapacity g.row.N = c.requires.capacity in
-    (lit< tt, (elim cap [ inl e ↦ rw e (lit< tt) | inr e ↦ rw e (lit< tt) ], (cap, (c.requires.some_nodes, (c.requires.nodes, c.requires.rounds)))))
+    let cap : IsCapacity g.row.N = g.bound-1.eight_or_sixteen in
+    (lit< tt, (elim cap [ inl e ↦ rw e (lit< tt) | inr e ↦ rw e (lit< tt) ], (c.requires.some_nodes, (c.requires.nodes, c.requires.rounds))))
 
 pub is_cold-requires : goal.is_cold-requires
-is_cold-requires g c = elim c.requires.capacity [ inl e ↦ rw e (lit< tt) | inr e ↦ rw e (lit< tt) ]
+is_cold-requires g c = elim g.bound-1.eight_or_sixteen [ inl e ↦ rw e (lit< tt) | inr e ↦ rw e (lit< tt) ]

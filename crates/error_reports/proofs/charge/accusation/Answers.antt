@@ -14,16 +14,13 @@ returns-then-member-node g c =
 
 pub get-requires : goal.get-requires
 get-requires g c =
-    let cap : IsCapacity g.row.N = c.requires.capacity in (
+    let cap : IsCapacity g.row.N = g.bound-1.eight_or_sixteen in (
       elim cap [ inl e ↦ rw e (lit< tt) | inr e ↦ rw e (lit< tt) ],
-      (
-        elim cap [ inl e ↦ rw e (lit< tt) | inr e ↦ rw e (lit< tt) ],
-        cap,
-      ),
+      elim cap [ inl e ↦ rw e (lit< tt) | inr e ↦ rw e (lit< tt) ],
     )
 
 pub offset_bounds-row-inside-node : goal.offset_bounds-row-inside-node
-offset_bounds-row-inside-node g c = let r = c.requires.in_range in let cap : IsCapacity g.row.N = c.requires.capacity in omega arith
+offset_bounds-row-inside-node g c = let r = c.requires.in_range in let cap : IsCapacity g.row.N = g.bound-1.eight_or_sixteen in omega arith
 
 pub bounds-row-inside-node : goal.bounds-row-inside-node
 bounds-row-inside-node g c = c.requires.in_range

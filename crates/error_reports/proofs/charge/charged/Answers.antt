@@ -22,9 +22,9 @@ loop-kind-init g c = refl
 
 pub is_charged-requires : goal.is_charged-requires
 is_charged-requires g c =
-    let cap : IsCapacity g.row.N = c.requires.capacity in (
+    let cap : IsCapacity g.row.N = g.bound-1.eight_or_sixteen in (
       elim cap [ inl e ↦ rw e (lit< tt) | inr e ↦ rw e (lit< tt) ],
-      (lit< tt, (cap, (c.requires.in_range, c.loop-kind-test.true))),
+      (lit< tt, (c.requires.in_range, c.loop-kind-test.true)),
     )
 
 pub overflow_cast-mask : goal.overflow_cast-mask

@@ -48,9 +48,9 @@ next-requires g c = (lit< tt, tt)
 
 pub accusation-requires : goal.accusation-requires
 accusation-requires g c =
-    let cap : IsCapacity g.row.N = c.requires.capacity in (
+    let cap : IsCapacity g.row.N = g.bound-1.eight_or_sixteen in (
       elim cap [ inl e ↦ rw e (lit< tt) | inr e ↦ rw e (lit< tt) ],
-      (cap, (c.requires.in_range, c.requires.kind)),
+      (c.requires.in_range, c.requires.kind),
     )
 
 pub overflow_add-voters : goal.overflow_add-voters
@@ -58,7 +58,7 @@ overflow_add-voters g c =
     let seen : List ℕ = c.loop-member.yielded in
     let part : length c.args.members.now ≡ length seen + length c.loop-member.member-iterator = ap length c.loop-member.invariant.split ∙ length-append seen c.loop-member.member-iterator in
     let few = c.iter-member-items.ensures.few in
-    let cap : IsCapacity g.row.N = c.requires.capacity in
+    let cap : IsCapacity g.row.N = g.bound-1.eight_or_sixteen in
     let v = c.loop-member.invariant.tally.few_voters in
     omega arith
 
@@ -70,7 +70,7 @@ overflow_add-accusers g c =
     let seen : List ℕ = c.loop-member.yielded in
     let part : length c.args.members.now ≡ length seen + length c.loop-member.member-iterator = ap length c.loop-member.invariant.split ∙ length-append seen c.loop-member.member-iterator in
     let few = c.iter-member-items.ensures.few in
-    let cap : IsCapacity g.row.N = c.requires.capacity in
+    let cap : IsCapacity g.row.N = g.bound-1.eight_or_sixteen in
     let a = c.loop-member.invariant.tally.few_accusers in
     let one : c.from-accusers.result ≡ bit c.in-Some-accusation.accuses = c.from-accusers.ensures ∙ byte_is c.in-Some-accusation.accuses in
     let low : bit c.in-Some-accusation.accuses ≤ 1 = bit_le c.in-Some-accusation.accuses in
@@ -87,6 +87,6 @@ overflow_mul-result g c =
     let seen : List ℕ = c.loop-member.yielded in
     let part : length c.args.members.now ≡ length seen + length c.loop-member.member-iterator = ap length c.loop-member.invariant.split ∙ length-append seen c.loop-member.member-iterator in
     let few = c.iter-member-items.ensures.few in
-    let cap : IsCapacity g.row.N = c.requires.capacity in
+    let cap : IsCapacity g.row.N = g.bound-1.eight_or_sixteen in
     let a = c.loop-member.invariant.tally.few_accusers in
     omega arith

@@ -10,18 +10,15 @@ more_than-requires g c =
     let rows = c.args.rows.now in
     let members = c.args.members.now in
     let few : count (is_sender rows) members ≤ 16 = omega (arith, c.tally-accusers.ensures.few, c.tally-accusers.ensures.senders) in (
-      elim c.requires.capacity [ inl e ↦ rw e (lit< tt) | inr e ↦ rw e (lit< tt) ],
+      elim g.bound-1.eight_or_sixteen [ inl e ↦ rw e (lit< tt) | inr e ↦ rw e (lit< tt) ],
       (
-        elim c.requires.capacity [ inl e ↦ rw e (lit< tt) | inr e ↦ rw e (lit< tt) ],
+        elim g.bound-1.eight_or_sixteen [ inl e ↦ rw e (lit< tt) | inr e ↦ rw e (lit< tt) ],
         (
-          elim c.requires.capacity [ inl e ↦ rw e (lit< tt) | inr e ↦ rw e (lit< tt) ],
-          (
-            c.requires.capacity,
-            λ j in_use. elim (cases_lt j c.args.nodes) [
-              | inl used ↦ omega (arith, c.limits.ensures.voters j used, voters_few rows members j, few)
-              | inr rest ↦ omega (arith, c.limits.ensures.rest j rest in_use)
-            ],
-          ),
+          elim g.bound-1.eight_or_sixteen [ inl e ↦ rw e (lit< tt) | inr e ↦ rw e (lit< tt) ],
+          λ j in_use. elim (cases_lt j c.args.nodes) [
+            | inl used ↦ omega (arith, c.limits.ensures.voters j used, voters_few rows members j, few)
+            | inr rest ↦ omega (arith, c.limits.ensures.rest j rest in_use)
+          ],
         ),
       ),
     )

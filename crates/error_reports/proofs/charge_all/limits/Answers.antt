@@ -13,9 +13,9 @@ loop-node-init g c =
 
 pub voters-requires : goal.voters-requires
 voters-requires g c =
-    let cap : IsCapacity g.row.N = c.requires.capacity in (
+    let cap : IsCapacity g.row.N = g.bound-1.eight_or_sixteen in (
       elim cap [ inl e ↦ rw e (lit< tt) | inr e ↦ rw e (lit< tt) ],
-      (lit< tt, (cap, (c.requires.members, c.requires.senders))),
+      (lit< tt, (c.requires.members, c.requires.senders)),
     )
 
 pub overflow_cast-limits : goal.overflow_cast-limits

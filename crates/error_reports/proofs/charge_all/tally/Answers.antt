@@ -36,11 +36,11 @@ add-requires g c =
     let seen = c.loop-member.yielded in
     let part : length c.args.members.now ≡ length seen + length c.loop-member.member-iterator = ap length c.loop-member.invariant.split ∙ length-append seen c.loop-member.member-iterator in
     let few_members = c.iter-member-items.ensures.few in
-    let small : length seen ≤ 16 = elim c.requires [ inl e ↦ omega (arith, e, part, few_members) | inr e ↦ omega (arith, e, part, few_members) ] in (
-      elim c.requires [ inl e ↦ rw e (lit< tt) | inr e ↦ rw e (lit< tt) ],
+    let small : length seen ≤ 16 = elim g.bound-1.eight_or_sixteen [ inl e ↦ omega (arith, e, part, few_members) | inr e ↦ omega (arith, e, part, few_members) ] in (
+      elim g.bound-1.eight_or_sixteen [ inl e ↦ rw e (lit< tt) | inr e ↦ rw e (lit< tt) ],
       (
-        elim c.requires [ inl e ↦ rw e (lit< tt) | inr e ↦ rw e (lit< tt) ],
-        (c.requires, λ j k in_use few. omega (arith, c.loop-member.invariant.accusers j k in_use few, accusers_few rows seen j k)),
+        elim g.bound-1.eight_or_sixteen [ inl e ↦ rw e (lit< tt) | inr e ↦ rw e (lit< tt) ],
+        λ j k in_use few. omega (arith, c.loop-member.invariant.accusers j k in_use few, accusers_few rows seen j k),
       ),
     )
 
@@ -80,10 +80,7 @@ loop-member-preserved g c =
 
 pub zero-accusers-requires : goal.zero-accusers-requires
 zero-accusers-requires g c =
-    let cap : IsCapacity g.row.N = c.requires in (
-      elim cap [ inl e ↦ rw e (lit< tt) | inr e ↦ rw e (lit< tt) ],
-      cap,
-    )
+    let cap : IsCapacity g.row.N = g.bound-1.eight_or_sixteen in elim cap [ inl e ↦ rw e (lit< tt) | inr e ↦ rw e (lit< tt) ]
 
 pub iter-member-items-requires : goal.iter-member-items-requires
 iter-member-items-requires g c = (lit< tt, lit< tt)
@@ -93,12 +90,9 @@ next-requires g c = (lit< tt, tt)
 
 pub get-requires : goal.get-requires
 get-requires g c =
-    let cap : IsCapacity g.row.N = c.requires in (
+    let cap : IsCapacity g.row.N = g.bound-1.eight_or_sixteen in (
       elim cap [ inl e ↦ rw e (lit< tt) | inr e ↦ rw e (lit< tt) ],
-      (
-        elim cap [ inl e ↦ rw e (lit< tt) | inr e ↦ rw e (lit< tt) ],
-        cap,
-      ),
+      elim cap [ inl e ↦ rw e (lit< tt) | inr e ↦ rw e (lit< tt) ],
     )
 
 pub overflow_cast-others : goal.overflow_cast-others
@@ -114,7 +108,7 @@ overflow_add-senders g c =
     let seen : List ℕ = c.loop-member.yielded in
     let part : length c.args.members.now ≡ length seen + length c.loop-member.member-iterator = ap length c.loop-member.invariant.split ∙ length-append seen c.loop-member.member-iterator in
     let few = c.iter-member-items.ensures.few in
-    let cap : IsCapacity g.row.N = c.requires in
+    let cap : IsCapacity g.row.N = g.bound-1.eight_or_sixteen in
     let s = c.loop-member.invariant.few in
     omega arith
 
@@ -141,7 +135,7 @@ returns-clause-few g c =
     let seen : List ℕ = c.loop-member.yielded in
     let part : length c.args.members.now ≡ length seen + length c.loop-member.member-iterator = ap length c.loop-member.invariant.split ∙ length-append seen c.loop-member.member-iterator in
     let few = c.iter-member-items.ensures.few in
-    let cap : IsCapacity g.row.N = c.requires in
+    let cap : IsCapacity g.row.N = g.bound-1.eight_or_sixteen in
     let s = c.loop-member.invariant.few in
     omega arith
 
@@ -160,7 +154,7 @@ offset_bounds-others-inside-member g c =
     let seen : List ℕ = c.loop-member.yielded in
     let low : c.in-Some.member < g.row.N =
     member_in g.row.N c.args.members.now seen c.next.new.self c.in-Some.member c.iter-member-items.ensures.within (c.loop-member.invariant.split ∙ ap (λ (zs : List ℕ). seen ++ zs) c.in-Some.ensures.steps) in
-    let cap : IsCapacity g.row.N = c.requires in
+    let cap : IsCapacity g.row.N = g.bound-1.eight_or_sixteen in
     omega arith
 
 pub loop-member-init : goal.loop-member-init

@@ -36,7 +36,7 @@ put_sender-requires g c =
     let f = line_facts n s t (line_of x) ok in
     let long : length c.as_mut_slice.result.now ≡ t = ap length c.as_mut_slice.ensures.value ∙ c.loop-line.invariant.long in
     let few : t < 2 ^ 32 = omega (arith, c.requires.shape.few_periods) in
-    (lit< tt, (lit< tt, (c.requires.shape.capacity, (omega (arith, f.from, c.requires.shape.few_nodes), (f.ordered, (omega (arith, f.last, long), omega (arith, few, long)))))))
+    (lit< tt, (lit< tt, (omega (arith, f.from, c.requires.shape.few_nodes), (f.ordered, (omega (arith, f.last, long), omega (arith, few, long))))))
 
 pub loop-line-preserved : goal.loop-line-preserved
 loop-line-preserved g c =

@@ -31,7 +31,7 @@ pub overflow_add-at : goal.overflow_add-at
 overflow_add-at g c = omega arith
 
 pub shared_whole_as_front-write_masks : goal.shared_whole_as_front-write_masks
-shared_whole_as_front-write_masks g c = (c.requires.nodes, elim c.requires.capacity [ inl e ↦ rw e (lit< tt) | inr e ↦ rw e (lit< tt) ])
+shared_whole_as_front-write_masks g c = (c.requires.nodes, elim g.bound-1.eight_or_sixteen [ inl e ↦ rw e (lit< tt) | inr e ↦ rw e (lit< tt) ])
 
 pub write_masks-requires : goal.write_masks-requires
 write_masks-requires g c =

@@ -75,4 +75,4 @@ pub slice_bounds-copy_from_slice-start : goal.slice_bounds-copy_from_slice-start
 slice_bounds-copy_from_slice-start g c = two_more c.loop-j.j
 
 pub zero-row-requires : goal.zero-row-requires
-zero-row-requires g c = (elim c.requires.capacity [ inl e ↦ rw e (lit< tt) | inr e ↦ rw e (lit< tt) ], c.requires.capacity)
+zero-row-requires g c = elim g.bound-1.eight_or_sixteen [ inl e ↦ rw e (lit< tt) | inr e ↦ rw e (lit< tt) ]

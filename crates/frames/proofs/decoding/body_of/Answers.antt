@@ -142,7 +142,7 @@ bounds-bytes-0 g c =
 
 pub has_claims-requires : goal.has_claims-requires
 has_claims-requires g c =
-    (lit< tt, (c.requires.capacity, (c.requires.rounds, placed_round (expected c.args.expect.now) c.in_slot-placed.result _ c.in_slot-placed.ensures c.in-DoneRelay.is (lit< tt) c.requires.rounds)))
+    (lit< tt, (c.requires.rounds, placed_round (expected c.args.expect.now) c.in_slot-placed.result _ c.in_slot-placed.ensures c.in-DoneRelay.is (lit< tt) c.requires.rounds))
 
 pub over-requires-clause-wide : goal.over-requires-clause-wide
 over-requires-clause-wide g c = lit≤ tt
@@ -156,11 +156,11 @@ over-requires-then-has_values g c = whole_values (expected c.args.expect.now) c.
 pub read_row-requires : goal.read_row-requires
 read_row-requires g c =
     let whole = whole_row (expected c.args.expect.now) c.args.bytes.now (sym c.has_row.ensures ∙ c.if-has_row.true) in
-    (elim c.requires.capacity [ inl e ↦ rw e (lit< tt) | inr e ↦ rw e (lit< tt) ], (c.requires.capacity, (c.requires.nodes, whole)))
+    (elim g.bound-1.eight_or_sixteen [ inl e ↦ rw e (lit< tt) | inr e ↦ rw e (lit< tt) ], (c.requires.nodes, whole))
 
 pub has_rows-requires : goal.has_rows-requires
 has_rows-requires g c =
-    (lit< tt, (c.requires.capacity, (c.requires.rounds, placed_round (expected c.args.expect.now) c.in_slot-placed.result _ c.in_slot-placed.ensures c.in-ReportRelay.is (lit< tt) c.requires.rounds)))
+    (lit< tt, (c.requires.rounds, placed_round (expected c.args.expect.now) c.in_slot-placed.result _ c.in_slot-placed.ensures c.in-ReportRelay.is (lit< tt) c.requires.rounds))
 
 pub over-requires-then-has_rows-clause-wide : goal.over-requires-then-has_rows-clause-wide
 over-requires-then-has_rows-clause-wide g c = omega (arith, c.row_width.ensures, c.requires.some_nodes)

@@ -71,7 +71,7 @@ returns-then-not-has_header-clause-widths g c = tt
 
 pub body_of-requires : goal.body_of-requires
 body_of-requires g c =
-    (lit< tt, (elim c.requires.capacity [ inl e ↦ rw e (lit< tt) | inr e ↦ rw e (lit< tt) ], (c.requires.capacity, (c.requires.some_nodes, (c.requires.nodes, c.requires.rounds)))))
+    (lit< tt, (elim g.bound-1.eight_or_sixteen [ inl e ↦ rw e (lit< tt) | inr e ↦ rw e (lit< tt) ], (c.requires.some_nodes, (c.requires.nodes, c.requires.rounds))))
 
 pub returns-in_default-body_of-clause-head : goal.returns-in_default-body_of-clause-head
 returns-in_default-body_of-clause-head g c = tt

@@ -78,7 +78,7 @@ pub write_at-requires-in-Cold : goal.write_at-requires-in-Cold
 write_at-requires-in-Cold g c = room_for _ _ _ (spelt c.args.nodes _ _ c.in-Cold.is) c.requires.fits
 
 pub shared_whole_as_front-masks : goal.shared_whole_as_front-masks
-shared_whole_as_front-masks g c = (c.requires.nodes, elim c.requires.capacity [ inl e ↦ rw e (lit< tt) | inr e ↦ rw e (lit< tt) ])
+shared_whole_as_front-masks g c = (c.requires.nodes, elim g.bound-1.eight_or_sixteen [ inl e ↦ rw e (lit< tt) | inr e ↦ rw e (lit< tt) ])
 
 pub overflow_mul-result : goal.overflow_mul-result
 overflow_mul-result g c =

@@ -27,7 +27,7 @@ known_body-requires g c =
     let read : R c.split_at.result.0.now body =
     subst (λ f. R f body) (sym c.split_at.ensures.front) (subst (R (take 14 c.args.bytes.now)) (sym c.split_at.ensures.back) k.said) in
     let said = subst (λ n. IsSaid e (content_said e n body) body) (sym c.numbered.ensures) read in
-    (lit< tt, (elim c.requires.capacity [ inl e ↦ rw e (lit< tt) | inr e ↦ rw e (lit< tt) ], (c.requires.capacity, (c.requires.some_nodes, (c.requires.nodes, said)))))
+    (lit< tt, (elim g.bound-1.eight_or_sixteen [ inl e ↦ rw e (lit< tt) | inr e ↦ rw e (lit< tt) ], (c.requires.some_nodes, (c.requires.nodes, said))))
 
 pub returns-clause-frame : goal.returns-clause-frame
 returns-clause-frame g c =

@@ -40,7 +40,7 @@ read_row-requires g c =
     let bytes : AreBytes c.args.bytes.now = λ i. omega (arith, c.type_inv.bytes i) in
     let k : number_of c.args.kind ≡ 5 = ap number_of c.in-Report0.is in
     let whole = row_known e c.args.bytes.now c.requires.nodes bytes (said_as e (number_of c.args.kind) 5 c.args.bytes.now k c.requires.said) in
-    (elim c.requires.capacity [ inl e ↦ rw e (lit< tt) | inr e ↦ rw e (lit< tt) ], (c.requires.capacity, (c.requires.nodes, whole)))
+    (elim g.bound-1.eight_or_sixteen [ inl e ↦ rw e (lit< tt) | inr e ↦ rw e (lit< tt) ], (c.requires.nodes, whole))
 
 pub over-requires-in-ReportRelay-clause-wide : goal.over-requires-in-ReportRelay-clause-wide
 over-requires-in-ReportRelay-clause-wide g c = omega (arith, c.row_width.ensures, c.requires.some_nodes)

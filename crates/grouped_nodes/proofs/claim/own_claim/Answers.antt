@@ -12,9 +12,9 @@ low copies q (Some w) e = (works_runs copies q w (sym e)).1
 
 pub running_in-requires : goal.running_in-requires
 running_in-requires g c =
-    let cap : IsCapacity g.row.N = c.requires.capacity in
+    let cap : IsCapacity g.row.N = g.bound-1.eight_or_sixteen in
     let copies = subst (λ (v : AgreedView). IsCopies c.args.config.now.graph v.copies) (sym c.state.view_is) c.requires.agreed.copies in
-    (lit< tt, (elim cap [ inl e ↦ rw e (lit< tt) | inr e ↦ rw e (lit< tt) ], (cap, (copies, c.requires.me))))
+    (lit< tt, (elim cap [ inl e ↦ rw e (lit< tt) | inr e ↦ rw e (lit< tt) ], (copies, c.requires.me)))
 
 pub claim_at-requires : goal.claim_at-requires
 claim_at-requires g c = low c.state.inside.copies c.args.me c.running_in.result c.running_in.ensures

@@ -18,17 +18,17 @@ use Rattle.grouped_nodes.proofs.completing.complete.Goals.{then-is_first+in-Some
 use Rattle.grouped_nodes.proofs.completing.complete.Goals as goal
 
 pub get-requires : goal.get-requires
-get-requires g c = let cap : IsCapacity g.row.N = c.requires.capacity in (elim cap [ inl e ↦ rw e (lit< tt) | inr e ↦ rw e (lit< tt) ], elim cap [ inl e ↦ rw e (lit< tt) | inr e ↦ rw e (lit< tt) ])
+get-requires g c = let cap : IsCapacity g.row.N = g.bound-1.eight_or_sixteen in (elim cap [ inl e ↦ rw e (lit< tt) | inr e ↦ rw e (lit< tt) ], elim cap [ inl e ↦ rw e (lit< tt) | inr e ↦ rw e (lit< tt) ])
 
 pub follow-judged-requires : goal.follow-judged-requires
 follow-judged-requires g c =
-    let cap : IsCapacity g.row.N = c.requires.capacity in
+    let cap : IsCapacity g.row.N = g.bound-1.eight_or_sixteen in
     let here : state_at c.args.states.now c.loop-first.first ≡ Some c.in-Some.state.now = sym c.in-Some.ensures in
-    (elim cap [ inl e ↦ rw e (lit< tt) | inr e ↦ rw e (lit< tt) ], (elim cap [ inl e ↦ rw e (lit< tt) | inr e ↦ rw e (lit< tt) ], (elim cap [ inl e ↦ rw e (lit< tt) | inr e ↦ rw e (lit< tt) ], (elim cap [ inl e ↦ rw e (lit< tt) | inr e ↦ rw e (lit< tt) ], (cap, (c.requires.config, c.requires.grouped.agreed c.loop-first.first c.in-Some.state.now here))))))
+    (elim cap [ inl e ↦ rw e (lit< tt) | inr e ↦ rw e (lit< tt) ], (elim cap [ inl e ↦ rw e (lit< tt) | inr e ↦ rw e (lit< tt) ], (elim cap [ inl e ↦ rw e (lit< tt) | inr e ↦ rw e (lit< tt) ], (elim cap [ inl e ↦ rw e (lit< tt) | inr e ↦ rw e (lit< tt) ], (c.requires.config, c.requires.grouped.agreed c.loop-first.first c.in-Some.state.now here)))))
 
 pub note_all-requires : goal.note_all-requires
 note_all-requires g c =
-    let cap : IsCapacity g.row.N = c.requires.capacity in
+    let cap : IsCapacity g.row.N = g.bound-1.eight_or_sixteen in
     let states : List (Option AgreedView) = c.args.states.now in
     let groups : List ℕ = c.args.groups.now in
     let f : ℕ = c.loop-first.first in
@@ -44,19 +44,16 @@ note_all-requires g c =
         (
           elim cap [ inl e ↦ rw e (lit< tt) | inr e ↦ rw e (lit< tt) ],
           (
-            cap,
+            m.many,
             (
-              m.many,
-              (
-                λ i low on.
-                    let e = own i low on in
-                    subst (λ (k : ℕ). k ≤ 16) (sym (judged_kinds c.args.config.now states groups c.of.ensures.all c.args.beliefs.now c.requires.grouped.many c.args.notes.now f ns d m i low))
-                    (c.requires.notes.kinds i c.in-Some.state.now low (sym (c.requires.grouped.shared i low) ∙ ap (state_at states) e ∙ here)),
-                λ i low on.
-                    let e = own i low on in
-                    let late : f ≤ first_of groups i = omega (arith, e) in
-                    subst (IsWithin g.row.N) (sym (m.later i low late)) (c.requires.notes.within i c.in-Some.state.now low (sym (c.requires.grouped.shared i low) ∙ ap (state_at states) e ∙ here)),
-              ),
+              λ i low on.
+                  let e = own i low on in
+                  subst (λ (k : ℕ). k ≤ 16) (sym (judged_kinds c.args.config.now states groups c.of.ensures.all c.args.beliefs.now c.requires.grouped.many c.args.notes.now f ns d m i low))
+                  (c.requires.notes.kinds i c.in-Some.state.now low (sym (c.requires.grouped.shared i low) ∙ ap (state_at states) e ∙ here)),
+              λ i low on.
+                  let e = own i low on in
+                  let late : f ≤ first_of groups i = omega (arith, e) in
+                  subst (IsWithin g.row.N) (sym (m.later i low late)) (c.requires.notes.within i c.in-Some.state.now low (sym (c.requires.grouped.shared i low) ∙ ap (state_at states) e ∙ here)),
             ),
           ),
         ),

@@ -53,7 +53,7 @@ loop-c-preserved g c =
 
 pub is_due-requires : goal.is_due-requires
 is_due-requires g c =
-    let cap : IsCapacity g.row.N = c.requires.capacity in
+    let cap : IsCapacity g.row.N = g.bound-1.eight_or_sixteen in
     let items = c.args.config.now.channels.items in
     let i : ℕ = c.loop-c.c in
     let d = c.index-deref-c.result in
@@ -63,7 +63,7 @@ is_due-requires g c =
       elim cap [ inl e ↦ rw e (lit< tt) | inr e ↦ rw e (lit< tt) ],
       (
         elim cap [ inl e ↦ rw e (lit< tt) | inr e ↦ rw e (lit< tt) ],
-        (elim cap [ inl e ↦ rw e (lit< tt) | inr e ↦ rw e (lit< tt) ], (elim cap [ inl e ↦ rw e (lit< tt) | inr e ↦ rw e (lit< tt) ], (cap, channel))),
+        (elim cap [ inl e ↦ rw e (lit< tt) | inr e ↦ rw e (lit< tt) ], (elim cap [ inl e ↦ rw e (lit< tt) | inr e ↦ rw e (lit< tt) ], channel)),
       ),
     )
 

@@ -11,9 +11,9 @@ returns-in-None g c = λ done is. due_without c.args.config.now c.args.state.now
 
 pub finishes-requires : goal.finishes-requires
 finishes-requires g c =
-    let cap : IsCapacity g.row.N = c.requires.capacity in
+    let cap : IsCapacity g.row.N = g.bound-1.eight_or_sixteen in
     let low = below c.args.config.now.nodes _ c.in-Some.task c.args.channel.now c.requires.channel c.in-Some.ensures in
-    (lit< tt, (elim cap [ inl e ↦ rw e (lit< tt) | inr e ↦ rw e (lit< tt) ], (cap, low)))
+    (lit< tt, (elim cap [ inl e ↦ rw e (lit< tt) | inr e ↦ rw e (lit< tt) ], low))
 
 pub returns-in-Some : goal.returns-in-Some
 returns-in-Some g c = λ done is.

@@ -10,19 +10,19 @@ use Rattle.grouped_nodes.proofs.stepping.step.Goals.{then-is_first+in-Some, then
 use Rattle.grouped_nodes.proofs.stepping.step.Goals as goal
 
 pub get-requires : goal.get-requires
-get-requires g c = let cap : IsCapacity g.row.N = c.requires.capacity in (elim cap [ inl e ↦ rw e (lit< tt) | inr e ↦ rw e (lit< tt) ], elim cap [ inl e ↦ rw e (lit< tt) | inr e ↦ rw e (lit< tt) ])
+get-requires g c = let cap : IsCapacity g.row.N = g.bound-1.eight_or_sixteen in (elim cap [ inl e ↦ rw e (lit< tt) | inr e ↦ rw e (lit< tt) ], elim cap [ inl e ↦ rw e (lit< tt) | inr e ↦ rw e (lit< tt) ])
 
 pub step_by-requires : goal.step_by-requires
 step_by-requires g c =
-    let cap : IsCapacity g.row.N = c.requires.capacity in
+    let cap : IsCapacity g.row.N = g.bound-1.eight_or_sixteen in
     let here : state_at c.loop-first.states c.loop-first.first ≡ Some c.in-Some.state.now = sym c.in-Some.ensures in
-    (elim cap [ inl e ↦ rw e (lit< tt) | inr e ↦ rw e (lit< tt) ], (elim cap [ inl e ↦ rw e (lit< tt) | inr e ↦ rw e (lit< tt) ], (elim cap [ inl e ↦ rw e (lit< tt) | inr e ↦ rw e (lit< tt) ], (cap, (c.requires.config, c.loop-first.invariant.agreed c.loop-first.first c.in-Some.state.now here)))))
+    (elim cap [ inl e ↦ rw e (lit< tt) | inr e ↦ rw e (lit< tt) ], (elim cap [ inl e ↦ rw e (lit< tt) | inr e ↦ rw e (lit< tt) ], (elim cap [ inl e ↦ rw e (lit< tt) | inr e ↦ rw e (lit< tt) ], (c.requires.config, c.loop-first.invariant.agreed c.loop-first.first c.in-Some.state.now here))))
 
 pub replace-requires : goal.replace-requires
-replace-requires g c = let cap : IsCapacity g.row.N = c.requires.capacity in (elim cap [ inl e ↦ rw e (lit< tt) | inr e ↦ rw e (lit< tt) ], (lit< tt, elim cap [ inl e ↦ rw e (lit< tt) | inr e ↦ rw e (lit< tt) ]))
+replace-requires g c = let cap : IsCapacity g.row.N = g.bound-1.eight_or_sixteen in (elim cap [ inl e ↦ rw e (lit< tt) | inr e ↦ rw e (lit< tt) ], (lit< tt, elim cap [ inl e ↦ rw e (lit< tt) | inr e ↦ rw e (lit< tt) ]))
 
 pub join-requires : goal.join-requires
-join-requires g c = let cap : IsCapacity g.row.N = c.requires.capacity in elim cap [ inl e ↦ rw e (lit< tt) | inr e ↦ rw e (lit< tt) ]
+join-requires g c = let cap : IsCapacity g.row.N = g.bound-1.eight_or_sixteen in elim cap [ inl e ↦ rw e (lit< tt) | inr e ↦ rw e (lit< tt) ]
 
 pub loop-first-init : goal.loop-first-init
 loop-first-init g c = stepped_none c.args.config.now c.args.period c.args.groups.now c.of.ensures.all c.args.beliefs.now c.requires.grouped.many c.args.states.now c.requires.grouped.shared c.requires.grouped.agreed

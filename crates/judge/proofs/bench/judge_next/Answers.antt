@@ -5,15 +5,15 @@ use Rattle.judge.proofs.bench.judge_next.Goals as goal
 
 pub period-shown-requires : goal.period-shown-requires
 period-shown-requires g c =
-    (elim c.args.judge.now.capacity [ inl e ↦ rw e (lit< tt) | inr e ↦ rw e (lit< tt) ], (elim c.args.judge.now.capacity [ inl e ↦ rw e (lit< tt) | inr e ↦ rw e (lit< tt) ], (c.args.judge.now.capacity, c.requires.more)))
+    (elim g.bound-1.eight_or_sixteen [ inl e ↦ rw e (lit< tt) | inr e ↦ rw e (lit< tt) ], (elim g.bound-1.eight_or_sixteen [ inl e ↦ rw e (lit< tt) | inr e ↦ rw e (lit< tt) ], c.requires.more))
 
 pub add-requires : goal.add-requires
 add-requires g c = (
   lit< tt,
   (
-    elim c.args.judge.now.capacity [ inl e ↦ rw e (lit< tt) | inr e ↦ rw e (lit< tt) ],
+    elim g.bound-1.eight_or_sixteen [ inl e ↦ rw e (lit< tt) | inr e ↦ rw e (lit< tt) ],
     (
-      elim c.args.judge.now.capacity [ inl e ↦ rw e (lit< tt) | inr e ↦ rw e (lit< tt) ],
+      elim g.bound-1.eight_or_sixteen [ inl e ↦ rw e (lit< tt) | inr e ↦ rw e (lit< tt) ],
       (
         is_more c.args.scenario.now c.args.run.now.scenario c.args.judge.now.periods c.args.run.now.run c.requires.same c.requires.together c.requires.more,
         (

@@ -10,8 +10,8 @@ judge_next-requires g c =
     let more : c.periods.run.run < c.periods.run.scenario.periods = omega (arith, i.run, periods, c.periods-test.true, c.periods-period-end.ensures.periods) in (
       lit< tt,
       (
-        elim c.args.judge.now.capacity [ inl e ↦ rw e (lit< tt) | inr e ↦ rw e (lit< tt) ],
-        (elim c.args.judge.now.capacity [ inl e ↦ rw e (lit< tt) | inr e ↦ rw e (lit< tt) ], (i.same, (i.periods ∙ sym i.run, (more, i.judges)))),
+        elim g.bound-1.eight_or_sixteen [ inl e ↦ rw e (lit< tt) | inr e ↦ rw e (lit< tt) ],
+        (elim g.bound-1.eight_or_sixteen [ inl e ↦ rw e (lit< tt) | inr e ↦ rw e (lit< tt) ], (i.same, (i.periods ∙ sym i.run, (more, i.judges)))),
       ),
     )
 

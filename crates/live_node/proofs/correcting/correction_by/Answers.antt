@@ -7,13 +7,10 @@ pub correction-requires : goal.correction-requires
 correction-requires g c = (
   lit< tt,
   (
-    elim c.requires.capacity [ inl e ↦ rw e (lit< tt) | inr e ↦ rw e (lit< tt) ],
+    elim g.bound-1.eight_or_sixteen [ inl e ↦ rw e (lit< tt) | inr e ↦ rw e (lit< tt) ],
     (
-      c.requires.capacity,
-      (
-        c.told_numbers-readings.ensures.readings,
-        ap (λ s. has_id s c.args.id) c.good_told-good.ensures ∙ not_read c.outcome.inside.sync c.args.ahead.now c.args.id c.requires.own,
-      ),
+      c.told_numbers-readings.ensures.readings,
+      ap (λ s. has_id s c.args.id) c.good_told-good.ensures ∙ not_read c.outcome.inside.sync c.args.ahead.now c.args.id c.requires.own,
     ),
   ),
 )

@@ -11,7 +11,7 @@ use Rattle.node_alone.proofs.Stepped.{woken_shut}
 use Rattle.node_alone.proofs.alone.begin.Goals as goal
 
 pub scenario-requires : goal.scenario-requires
-scenario-requires g c = (elim c.requires.capacity [ inl e ↦ rw e (lit< tt) | inr e ↦ rw e (lit< tt) ], elim c.requires.capacity [ inl e ↦ rw e (lit< tt) | inr e ↦ rw e (lit< tt) ])
+scenario-requires g c = (elim g.bound-1.eight_or_sixteen [ inl e ↦ rw e (lit< tt) | inr e ↦ rw e (lit< tt) ], elim g.bound-1.eight_or_sixteen [ inl e ↦ rw e (lit< tt) | inr e ↦ rw e (lit< tt) ])
 
 pub inputs-requires : goal.inputs-requires
 inputs-requires g c =
@@ -19,13 +19,13 @@ inputs-requires g c =
     let nodes : c.scenario.result.now.config.nodes ≡ c.args.input.now.scenario.config.nodes = ap (λ (s : ScenarioView g.row.N). s.config.nodes) is in
     let id = c.id.ensures.id in
     let low = c.id.ensures.log.id in
-    (elim c.requires.capacity [ inl e ↦ rw e (lit< tt) | inr e ↦ rw e (lit< tt) ], omega (arith, nodes, id, low))
+    (elim g.bound-1.eight_or_sixteen [ inl e ↦ rw e (lit< tt) | inr e ↦ rw e (lit< tt) ], omega (arith, nodes, id, low))
 
 pub begin-requires : goal.begin-requires
 begin-requires g c =
     let log : RecordView g.row.N = c.args.input.now in
     let given : c.inputs.result ≡ inputs_of log.scenario log.id c.args.period = c.inputs.ensures ∙ ap₂ (λ (s : ScenarioView g.row.N) (i : ℕ). inputs_of s i c.args.period) c.scenario.ensures.scenario c.id.ensures.id in (
-      elim c.requires.capacity [ inl e ↦ rw e (lit< tt) | inr e ↦ rw e (lit< tt) ],
+      elim g.bound-1.eight_or_sixteen [ inl e ↦ rw e (lit< tt) | inr e ↦ rw e (lit< tt) ],
       (
         ap (λ (y : NodeView g.row.N). y.phase.is_open) c.wake.ensures ∙ woken_shut (restarts_at log.scenario.plan log.id c.args.period) c.args.node.now ∙ c.requires.closed,
         subst (λ (x : Inputs). All IsValue x.reading) (sym given) (c.id.ensures.log.scenario.system.inputs log.id c.args.period c.id.ensures.log.id).readings,
@@ -34,10 +34,10 @@ begin-requires g c =
 
 pub wake-requires : goal.wake-requires
 wake-requires g c =
-    (elim c.requires.capacity [ inl e ↦ rw e (lit< tt) | inr e ↦ rw e (lit< tt) ], (elim c.requires.capacity [ inl e ↦ rw e (lit< tt) | inr e ↦ rw e (lit< tt) ], (c.requires.capacity, (c.requires.closed, c.requires.period))))
+    (elim g.bound-1.eight_or_sixteen [ inl e ↦ rw e (lit< tt) | inr e ↦ rw e (lit< tt) ], (elim g.bound-1.eight_or_sixteen [ inl e ↦ rw e (lit< tt) | inr e ↦ rw e (lit< tt) ], (c.requires.closed, c.requires.period)))
 
 pub id-requires : goal.id-requires
-id-requires g c = elim c.requires.capacity [ inl e ↦ rw e (lit< tt) | inr e ↦ rw e (lit< tt) ]
+id-requires g c = elim g.bound-1.eight_or_sixteen [ inl e ↦ rw e (lit< tt) | inr e ↦ rw e (lit< tt) ]
 
 pub returns : goal.returns
 returns g c =

@@ -12,15 +12,12 @@ run_slots-requires g c =
     let es = c.entries.result.now in
     let same : es ≡ log.entries = c.entries.ensures.entries in
     let m : c.config.result.now.m ≡ log.scenario.config.m = ap (λ (y : Config g.row.N). y.m) c.config.ensures.config in (
-      elim c.requires.capacity [ inl e ↦ rw e (lit< tt) | inr e ↦ rw e (lit< tt) ],
+      elim g.bound-1.eight_or_sixteen [ inl e ↦ rw e (lit< tt) | inr e ↦ rw e (lit< tt) ],
       (
-        c.requires.capacity,
+        λ t low. ready_here log c.config.ensures.log c.period.ensures c.args.period c.args.node.now c.begin.new.node c.requires.before c.begin.ensures es same t (omega (arith, low, c.slot_count-count.ensures, m)),
         (
-          λ t low. ready_here log c.config.ensures.log c.period.ensures c.args.period c.args.node.now c.begin.new.node c.requires.before c.begin.ensures es same t (omega (arith, low, c.slot_count-count.ensures, m)),
-          (
-            subst Ascends (sym same) c.config.ensures.log.ascends,
-            ap (drop c.args.next) same ∙ c.requires.rest ∙ ap (from_slot c.args.period 0) (sym same),
-          ),
+          subst Ascends (sym same) c.config.ensures.log.ascends,
+          ap (drop c.args.next) same ∙ c.requires.rest ∙ ap (from_slot c.args.period 0) (sym same),
         ),
       ),
     )
@@ -47,7 +44,7 @@ returns-clause-rest g c =
     (omega (arith, c.slot_count-count.ensures, m)) c.run_slots.ensures.rest
 
 pub config-requires : goal.config-requires
-config-requires g c = (elim c.requires.capacity [ inl e ↦ rw e (lit< tt) | inr e ↦ rw e (lit< tt) ], elim c.requires.capacity [ inl e ↦ rw e (lit< tt) | inr e ↦ rw e (lit< tt) ])
+config-requires g c = (elim g.bound-1.eight_or_sixteen [ inl e ↦ rw e (lit< tt) | inr e ↦ rw e (lit< tt) ], elim g.bound-1.eight_or_sixteen [ inl e ↦ rw e (lit< tt) | inr e ↦ rw e (lit< tt) ])
 
 pub slot_count-count-requires : goal.slot_count-count-requires
 slot_count-count-requires g c =
@@ -59,7 +56,7 @@ period-requires g c = tt
 
 pub begin-requires : goal.begin-requires
 begin-requires g c =
-    (elim c.requires.capacity [ inl e ↦ rw e (lit< tt) | inr e ↦ rw e (lit< tt) ], (elim c.requires.capacity [ inl e ↦ rw e (lit< tt) | inr e ↦ rw e (lit< tt) ], (c.requires.capacity, (c.requires.before.shut, c.requires.period))))
+    (elim g.bound-1.eight_or_sixteen [ inl e ↦ rw e (lit< tt) | inr e ↦ rw e (lit< tt) ], (elim g.bound-1.eight_or_sixteen [ inl e ↦ rw e (lit< tt) | inr e ↦ rw e (lit< tt) ], (c.requires.before.shut, c.requires.period)))
 
 pub entries-requires : goal.entries-requires
-entries-requires g c = elim c.requires.capacity [ inl e ↦ rw e (lit< tt) | inr e ↦ rw e (lit< tt) ]
+entries-requires g c = elim g.bound-1.eight_or_sixteen [ inl e ↦ rw e (lit< tt) | inr e ↦ rw e (lit< tt) ]

@@ -3,20 +3,20 @@ use Rattle.node_alone.proofs.Stepped.{restart_places, restarting, wakes, sleeps}
 use Rattle.node_alone.proofs.alone.wake.Goals as goal
 
 pub scenario-requires : goal.scenario-requires
-scenario-requires g c = (elim c.requires.capacity [ inl e ↦ rw e (lit< tt) | inr e ↦ rw e (lit< tt) ], elim c.requires.capacity [ inl e ↦ rw e (lit< tt) | inr e ↦ rw e (lit< tt) ])
+scenario-requires g c = (elim g.bound-1.eight_or_sixteen [ inl e ↦ rw e (lit< tt) | inr e ↦ rw e (lit< tt) ], elim g.bound-1.eight_or_sixteen [ inl e ↦ rw e (lit< tt) | inr e ↦ rw e (lit< tt) ])
 
 pub plan-requires : goal.plan-requires
-plan-requires g c = (elim c.requires.capacity [ inl e ↦ rw e (lit< tt) | inr e ↦ rw e (lit< tt) ], lit< tt)
+plan-requires g c = (elim g.bound-1.eight_or_sixteen [ inl e ↦ rw e (lit< tt) | inr e ↦ rw e (lit< tt) ], lit< tt)
 
 pub id-requires : goal.id-requires
-id-requires g c = elim c.requires.capacity [ inl e ↦ rw e (lit< tt) | inr e ↦ rw e (lit< tt) ]
+id-requires g c = elim g.bound-1.eight_or_sixteen [ inl e ↦ rw e (lit< tt) | inr e ↦ rw e (lit< tt) ]
 
 pub restarts-requires : goal.restarts-requires
 restarts-requires g c =
     (lit< tt, restart_places c.args.input.now c.id.ensures.log c.scenario.result.now c.scenario.ensures.scenario c.plan.result.now c.plan.ensures.plan c.id.result c.args.period c.id.ensures.id c.requires.period)
 
 pub restart-requires : goal.restart-requires
-restart-requires g c = (elim c.requires.capacity [ inl e ↦ rw e (lit< tt) | inr e ↦ rw e (lit< tt) ], (c.requires.capacity, c.requires.closed))
+restart-requires g c = (elim g.bound-1.eight_or_sixteen [ inl e ↦ rw e (lit< tt) | inr e ↦ rw e (lit< tt) ], c.requires.closed)
 
 pub returns-then-restarts : goal.returns-then-restarts
 returns-then-restarts g c =

@@ -48,7 +48,7 @@ deliver-requires g c =
     let test = c.loop-place-test.true in
     let low : c.loop-place.place < length c.args.entries.now = omega (arith, long, test) in
     let o = other_at c.loop-place.node c.args.entries.now c.loop-place.place (delivery_view c.entry-entry.result) low c.entry-entry.ensures c.loop-place.invariant.ready in
-    (elim c.requires.capacity [ inl e ↦ rw e (lit< tt) | inr e ↦ rw e (lit< tt) ], (c.loop-place.invariant.ready.is_open, (o.from, o.other)))
+    (elim g.bound-1.eight_or_sixteen [ inl e ↦ rw e (lit< tt) | inr e ↦ rw e (lit< tt) ], (c.loop-place.invariant.ready.is_open, (o.from, o.other)))
 
 pub loop-place-preserved : goal.loop-place-preserved
 loop-place-preserved g c =

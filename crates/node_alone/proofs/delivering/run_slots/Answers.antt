@@ -10,13 +10,13 @@ use Rattle.node_alone.proofs.delivering.run_slots.Goals as goal
 pub deliver_slot-next-requires : goal.deliver_slot-next-requires
 deliver_slot-next-requires g c =
     let es : List Entry = c.args.entries.now in (
-      elim c.requires.capacity [ inl e ↦ rw e (lit< tt) | inr e ↦ rw e (lit< tt) ],
-      (c.requires.capacity, (subst (λ (v : NodeView g.row.N). IsReady v es) (sym c.loop-slot.invariant.node) (c.requires.ready c.loop-slot.slot c.loop-slot-test.true), (c.requires.ascends, c.loop-slot.invariant.rest))),
+      elim g.bound-1.eight_or_sixteen [ inl e ↦ rw e (lit< tt) | inr e ↦ rw e (lit< tt) ],
+      (subst (λ (v : NodeView g.row.N). IsReady v es) (sym c.loop-slot.invariant.node) (c.requires.ready c.loop-slot.slot c.loop-slot-test.true), (c.requires.ascends, c.loop-slot.invariant.rest)),
     )
 
 pub slot_end-requires : goal.slot_end-requires
 slot_end-requires g c = (
-  elim c.requires.capacity [ inl e ↦ rw e (lit< tt) | inr e ↦ rw e (lit< tt) ],
+  elim g.bound-1.eight_or_sixteen [ inl e ↦ rw e (lit< tt) | inr e ↦ rw e (lit< tt) ],
   ap (λ (v : NodeView g.row.N). v.phase.is_open) (c.deliver_slot-next.ensures.given ∙ ap (λ (v : NodeView g.row.N). handed v (arrivals c.args.entries.now c.args.period c.loop-slot.slot)) c.loop-slot.invariant.node)
       ∙ (c.requires.ready c.loop-slot.slot c.loop-slot-test.true).is_open,
 )

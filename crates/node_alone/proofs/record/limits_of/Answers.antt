@@ -6,7 +6,7 @@ use Rattle.node_alone.proofs.Accepted.{same_limits}
 use Rattle.node_alone.proofs.record.limits_of.Goals as goal
 
 pub config-config-requires : goal.config-config-requires
-config-config-requires g c = (elim c.requires [ inl e ↦ rw e (lit< tt) | inr e ↦ rw e (lit< tt) ], elim c.requires [ inl e ↦ rw e (lit< tt) | inr e ↦ rw e (lit< tt) ])
+config-config-requires g c = (elim g.bound-1.eight_or_sixteen [ inl e ↦ rw e (lit< tt) | inr e ↦ rw e (lit< tt) ], elim g.bound-1.eight_or_sixteen [ inl e ↦ rw e (lit< tt) | inr e ↦ rw e (lit< tt) ])
 
 pub slot_count-requires : goal.slot_count-requires
 slot_count-requires g c =
@@ -14,7 +14,7 @@ slot_count-requires g c =
     omega (arith, m, few_rounds g.row.N c.args.scenario.now.config c.config-config.ensures.scenario.system.config)
 
 pub periods-requires : goal.periods-requires
-periods-requires g c = elim c.requires [ inl e ↦ rw e (lit< tt) | inr e ↦ rw e (lit< tt) ]
+periods-requires g c = elim g.bound-1.eight_or_sixteen [ inl e ↦ rw e (lit< tt) | inr e ↦ rw e (lit< tt) ]
 
 pub returns : goal.returns
 returns g c = same_limits c.args.scenario.now c.args.id c.config-config.result.now c.slot_count.result c.periods.result c.config-config.ensures.config c.slot_count.ensures c.periods.ensures.periods

@@ -42,7 +42,7 @@ frame-requires g c =
     let heard = c.requires.watching in (
       lit< tt,
       (
-        elim c.requires.capacity [ inl e ↦ rw e (lit< tt) | inr e ↦ rw e (lit< tt) ],
+        elim g.bound-1.eight_or_sixteen [ inl e ↦ rw e (lit< tt) | inr e ↦ rw e (lit< tt) ],
         (
           heard.closed,
           (
@@ -56,11 +56,8 @@ frame-requires g c =
 pub state_of-requires : goal.state_of-requires
 state_of-requires g c =
     let w = c.args.watch.now in (
-      elim c.requires.capacity [ inl e ↦ rw e (lit< tt) | inr e ↦ rw e (lit< tt) ],
-      (
-        c.requires.capacity,
-        subst (λ (o : Option Content). IfSome (content (arrived body_said None o)) (λ bytes. length bytes ≤ 1152)) (sym (told_here w c.args.nodes c.args.node c.frame.result c.requires.watching.nodes_are c.frame.ensures.told)) (c.requires.sized c.args.node),
-      ),
+      elim g.bound-1.eight_or_sixteen [ inl e ↦ rw e (lit< tt) | inr e ↦ rw e (lit< tt) ],
+      subst (λ (o : Option Content). IfSome (content (arrived body_said None o)) (λ bytes. length bytes ≤ 1152)) (sym (told_here w c.args.nodes c.args.node c.frame.result c.requires.watching.nodes_are c.frame.ensures.told)) (c.requires.sized c.args.node),
     )
 
 pub overflow_cast-node : goal.overflow_cast-node

@@ -11,7 +11,7 @@ pub settled_from_terms-settled-requires : goal.settled_from_terms-settled-requir
 settled_from_terms-settled-requires g c =
     let i = c.loop-i.invariant in
     let l = low_of g.row.N c.args.nodes.now c.loop-i.yielded c.next.new.self c.loop-i.i-iterator c.in-Some.i c.iter-i-items.ensures.ids i.split c.in-Some.ensures.steps in
-    record { exact = c.requires.exact; ordered = omega arith; within = omega (arith, l, i.long, c.requires.room, c.requires.few) }
+    record { ordered = omega arith; within = omega (arith, l, i.long, c.requires.room, c.requires.few) }
 
 pub set_value-requires : goal.set_value-requires
 set_value-requires g c =

@@ -10,13 +10,13 @@ use Rattle.omh_paths.proofs.lexicographic.rank.Goals as goal
 
 pub loop-k-init : goal.loop-k-init
 loop-k-init g c = record {
-  ranked = ranked_start g.row.N c.args.set.now c.args.path.now (capacity-le g.row.N c.requires.capacity) c.len-choices.ensures.ids c.len-k-end.ensures.distinct c.requires.within;
+  ranked = ranked_start g.row.N c.args.set.now c.args.path.now (capacity-le g.row.N g.bound-1.eight_or_sixteen) c.len-choices.ensures.ids c.len-k-end.ensures.distinct c.requires.within;
   choices = c.len-choices.ensures.count;
 }
 
 pub overflow_mul-place : goal.overflow_mul-place
 overflow_mul-place g c =
-    let few = few_ids g.row.N c.args.set.now c.requires.capacity c.len-choices.ensures.ids in
+    let few = few_ids g.row.N c.args.set.now g.bound-1.eight_or_sixteen c.len-choices.ensures.ids in
     let low = place_bound c.loop-k.invariant.ranked (Distinct-ids g.row.N c.args.set.now c.len-choices.ensures.ids) few c.len-k-end.ensures.distinct c.requires.within
     (omega (arith, c.len-k-end.ensures.count, c.len-k-end.ensures.few)) in
     let choices : c.loop-k.choices ≤ 16 = omega (arith, c.loop-k.invariant.choices, c.loop-k.invariant.ranked.few) in
@@ -25,7 +25,7 @@ overflow_mul-place g c =
 
 pub overflow_add-place : goal.overflow_add-place
 overflow_add-place g c =
-    let few = few_ids g.row.N c.args.set.now c.requires.capacity c.len-choices.ensures.ids in
+    let few = few_ids g.row.N c.args.set.now g.bound-1.eight_or_sixteen c.len-choices.ensures.ids in
     let low = place_bound c.loop-k.invariant.ranked (Distinct-ids g.row.N c.args.set.now c.len-choices.ensures.ids) few c.len-k-end.ensures.distinct c.requires.within
     (omega (arith, c.len-k-end.ensures.count, c.len-k-end.ensures.few)) in
     let choices : c.loop-k.choices ≤ 16 = omega (arith, c.loop-k.invariant.choices, c.loop-k.invariant.ranked.few) in

@@ -11,7 +11,7 @@ use Rattle.omh_paths.proofs.lexicographic.unrank.Goals as goal
 
 pub loop-k-init : goal.loop-k-init
 loop-k-init g c = record {
-  unranked = unranked_start g.row.N c.args.set.now c.args.len c.args.index (capacity-le g.row.N c.requires.capacity) c.len-choices.ensures.ids c.requires.in_range;
+  unranked = unranked_start g.row.N c.args.set.now c.args.len c.args.index (capacity-le g.row.N g.bound-1.eight_or_sixteen) c.len-choices.ensures.ids c.requires.in_range;
   choices = c.len-choices.ensures.count;
   whole = refl;
   zeros = refl;
@@ -27,7 +27,7 @@ pub split_place-node-requires : goal.split_place-node-requires
 split_place-node-requires g c =
     let now = unranked_at c.loop-k.k c.loop-k.invariant.unranked c.loop-k-test.true in
     let behind = behind_is c.count_paths-behind.result c.loop-k.choices (length c.loop-k.left) (c.args.len - c.loop-k.k - 1) c.count_paths-behind.ensures.product c.loop-k.invariant.choices in
-    (omega arith, (c.requires.capacity, subst (λ (w : ℕ). c.loop-k.rest < length c.loop-k.left * w) (sym behind) now.in_range))
+    (omega arith, subst (λ (w : ℕ). c.loop-k.rest < length c.loop-k.left * w) (sym behind) now.in_range)
 
 pub cut-requires : goal.cut-requires
 cut-requires g c =

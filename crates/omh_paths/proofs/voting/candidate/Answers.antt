@@ -16,7 +16,7 @@ loop-value-preserved-then-is_error g c =
     let here : c.loop-value.value-index < length c.args.values.now = omega arith in
     record {
       leads = seen_more g.V.PartialEq.eq c.args.values.now c.loop-value.value-index c.value-item.result c.loop-value.candidate c.loop-value.lead here c.value-item.is
-          (leads_error c.requires _ c.loop-value.candidate c.value-item.result c.loop-value.lead c.loop-value.invariant.leads (sym c.is_error.ensures ∙ c.if-is_error.true));
+          (leads_error g.met.V.Exact.exact _ c.loop-value.candidate c.value-item.result c.loop-value.lead c.loop-value.invariant.leads (sym c.is_error.ensures ∙ c.if-is_error.true));
       few = omega (arith, c.loop-value.invariant.few);
     }
 
@@ -29,17 +29,17 @@ loop-value-preserved g c =
     elim c.if-lead-eq0.branch [
       | then-lead-eq0 w ↦ record {
         leads = after g c here c.if-lead-eq0.candidate c.if-lead-eq0.lead c.value-item.result 1 w.candidate-is w.lead-is
-            (leads_first c.requires _ c.loop-value.candidate c.value-item.result (lead_is g c 0 w.if-lead-eq0.true) good);
+            (leads_first g.met.V.Exact.exact _ c.loop-value.candidate c.value-item.result (lead_is g c 0 w.if-lead-eq0.true) good);
         few = omega (arith, few, w.lead-is);
       }
       | else-lead-eq0+then-is w ↦ record {
         leads = after g c here c.if-lead-eq0.candidate c.if-lead-eq0.lead c.loop-value.candidate (c.loop-value.lead + 1) w.candidate-is w.lead-is
-            (leads_more c.requires _ c.loop-value.candidate c.value-item.result c.loop-value.lead c.loop-value.invariant.leads (sym w.is.ensures ∙ w.if-is.true));
+            (leads_more g.met.V.Exact.exact _ c.loop-value.candidate c.value-item.result c.loop-value.lead c.loop-value.invariant.leads (sym w.is.ensures ∙ w.if-is.true));
         few = omega (arith, few, w.lead-is);
       }
       | else-lead-eq0+else-is w ↦ record {
         leads = after g c here c.if-lead-eq0.candidate c.if-lead-eq0.lead c.loop-value.candidate (c.loop-value.lead - 1) w.candidate-is w.lead-is
-            (leads_less c.requires _ c.loop-value.candidate c.value-item.result c.loop-value.lead c.loop-value.invariant.leads (omega (arith, w.if-lead-eq0.false)) good (sym w.is.ensures ∙ w.if-is.false));
+            (leads_less g.met.V.Exact.exact _ c.loop-value.candidate c.value-item.result c.loop-value.lead c.loop-value.invariant.leads (omega (arith, w.if-lead-eq0.false)) good (sym w.is.ensures ∙ w.if-is.false));
         few = omega (arith, few, w.lead-is);
       }
     ]
@@ -56,6 +56,6 @@ loop-value-preserved g c =
 
 pub returns : goal.returns
 returns g c =
-    only_candidate c.requires c.args.values.now c.loop-value.candidate c.loop-value.lead
+    only_candidate g.met.V.Exact.exact c.args.values.now c.loop-value.candidate c.loop-value.lead
     (let P : List (_) → Type 0 = λ xs. Leads g.V.PartialEq.eq xs c.loop-value.candidate c.loop-value.lead in
     subst P (take_all c.loop-value.value-index c.args.values.now (omega (arith, c.loop-value-test.false))) c.loop-value.invariant.leads)

@@ -19,7 +19,7 @@ loop-member-init g c = record {
 pub set_set-requires : goal.set_set-requires
 set_set-requires g c =
     let t = turn g.row.N c.args.set.now c.loop-member.yielded c.next.new.self c.loop-member.member-iterator c.in-Some.member c.iter-member-items.ensures.ids c.loop-member.invariant.split c.in-Some.ensures.steps in
-    (lit< tt, (c.requires.capacity, omega (arith, t.short, c.loop-member.invariant.end, c.loop-member.invariant.long, c.requires.room)))
+    (lit< tt, omega (arith, t.short, c.loop-member.invariant.end, c.loop-member.invariant.long, c.requires.room))
 
 pub loop-member-preserved : goal.loop-member-preserved
 loop-member-preserved g c =

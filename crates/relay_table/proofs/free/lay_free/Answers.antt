@@ -13,7 +13,7 @@ some_room n m room h =
     omega (arith, begins-mono n 1 (m + 1) (omega arith), first, h)
 
 pub set_set-requires : goal.set_set-requires
-set_set-requires g c = (lit< tt, (c.requires.capacity, some_room (length c.args.members.now) c.args.m (length c.args.sets.now) (c.requires.room c.len-count.ensures.ids)))
+set_set-requires g c = (lit< tt, some_room (length c.args.members.now) c.args.m (length c.args.sets.now) (c.requires.room c.len-count.ensures.ids))
 
 pub loop-len-init : goal.loop-len-init
 loop-len-init g c =
@@ -24,10 +24,10 @@ loop-len-init g c =
     }
 
 pub free_begins-requires-clause-members : goal.free_begins-requires-clause-members
-free_begins-requires-clause-members g c = omega (arith, c.len-count.ensures.count, few_ids g.row.N c.args.members.now c.requires.capacity c.len-count.ensures.ids)
+free_begins-requires-clause-members g c = omega (arith, c.len-count.ensures.count, few_ids g.row.N c.args.members.now g.bound-1.eight_or_sixteen c.len-count.ensures.ids)
 
 pub free_begins-requires-in-loop-len-clause-members : goal.free_begins-requires-in-loop-len-clause-members
-free_begins-requires-in-loop-len-clause-members g c = omega (arith, c.len-count.ensures.count, few_ids g.row.N c.args.members.now c.requires.capacity c.len-count.ensures.ids)
+free_begins-requires-in-loop-len-clause-members g c = omega (arith, c.len-count.ensures.count, few_ids g.row.N c.args.members.now g.bound-1.eight_or_sixteen c.len-count.ensures.ids)
 
 -- where the sets of one length begin, and those of one node more
 begins_are : (count n len from until : ℕ) → count ≡ n → from ≡ free_begins count len → until ≡ free_begins count (len + 1) → (from ≡ free_begins n len) × (until ≡ free_begins n (suc len))
@@ -48,7 +48,7 @@ lay_longer-requires g c =
     let room = room_more n c.args.m len (length c.loop-len.sets) c.loop-len-test.true (omega (arith, i.long, (c.requires.room c.len-count.ensures.ids))) in
     let fits = longer_fits g.row.N c.args.members.now len c.loop-len.sets c.len-count.ensures.ids i.free room in
     let same = ap₂ (λ (from until : ℕ). until + length (left_out_of from until c.loop-len.sets)) b.0 b.1 in
-    (lit< tt, (c.requires.capacity, (omega (arith, b.0, b.1, begins-mono n len (suc len) (omega arith)), omega (arith, fits, same))))
+    (lit< tt, (omega (arith, b.0, b.1, begins-mono n len (suc len) (omega arith)), omega (arith, fits, same)))
 
 pub loop-len-preserved : goal.loop-len-preserved
 loop-len-preserved g c =

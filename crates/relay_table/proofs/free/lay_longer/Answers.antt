@@ -27,7 +27,7 @@ lay_each_left_out-end-requires g c =
     let set : c.index-sets-k.result ≡ get_or old c.loop-k.k [] =
     set_is c.args.until c.loop-k.k before old c.loop-k.sets c.index-sets-k.result c.index-sets-k.is c.loop-k.invariant.sets c.loop-k-test.true (omega (arith, c.requires.room)) in
     let fits = left_fits c.args.from c.args.until c.loop-k.k old c.loop-k.auto.k c.loop-k-test.true (omega (arith, c.requires.room)) in
-    (lit< tt, (c.requires.capacity, omega (arith, fits, ap (λ xs. length xs) set, c.loop-k.invariant.end, c.loop-k.auto.sets, c.requires.room)))
+    (lit< tt, omega (arith, fits, ap (λ xs. length xs) set, c.loop-k.invariant.end, c.loop-k.auto.sets, c.requires.room))
 
 pub loop-k-preserved : goal.loop-k-preserved
 loop-k-preserved g c =

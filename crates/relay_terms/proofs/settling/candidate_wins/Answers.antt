@@ -10,5 +10,5 @@ returns-then-is_contested g c =
 
 pub returns-else-is_contested : goal.returns-else-is_contested
 returns-else-is_contested g c =
-    sym (one_has g.met.V.Item.exact (said c.args.own.now ∷ map said c.args.terms.now) (said c.args.tally.now.candidate) c.args.tally.now.lead
+    sym (one_has g.met.V.Exact.exact (said c.args.own.now ∷ map said c.args.terms.now) (said c.args.tally.now.candidate) c.args.tally.now.lead
     (c.requires.tally.calm (sym c.is_contested.ensures ∙ c.if-is_contested.false)) c.requires.good)

@@ -61,10 +61,7 @@ item_told-requires g c =
     let low : q < c.args.watch.now.nodes = omega (arith, c.loop-node-test.true, by.nodes_are, c.nodes-node-end.ensures.nodes) in
     let ne : q ≢ c.args.watch.now.me = λ same. (has-without-left was.members was.me q on).0 (same ∙ by.me_is) in (
       lit< tt,
-      (
-        c.nodes-node-end.ensures.capacity,
-        (low, (record { nodes_are = refl; me_is = refl; closed = by.closed; some_slot = by.some_slot }, ne)),
-      ),
+      (low, (record { nodes_are = refl; me_is = refl; closed = by.closed; some_slot = by.some_slot }, ne)),
     )
 
 pub without-others-requires : goal.without-others-requires

@@ -8,13 +8,13 @@ pub frame-requires : goal.frame-requires
 frame-requires g c = (
   lit< tt,
   (
-    elim c.requires.capacity [ inl e ↦ rw e (lit< tt) | inr e ↦ rw e (lit< tt) ],
+    elim g.bound-7.eight_or_sixteen [ inl e ↦ rw e (lit< tt) | inr e ↦ rw e (lit< tt) ],
     (c.requires.closed.closed, (c.requires.closed.some_slot, (c.requires.node, c.requires.other))),
   ),
 )
 
 pub item_of-requires : goal.item_of-requires
-item_of-requires g c = elim c.requires.capacity [ inl e ↦ rw e (lit< tt) | inr e ↦ rw e (lit< tt) ]
+item_of-requires g c = elim g.bound-7.eight_or_sixteen [ inl e ↦ rw e (lit< tt) | inr e ↦ rw e (lit< tt) ]
 
 pub returns-in-Some : goal.returns-in-Some
 returns-in-Some g c = c.item_of.ensures c.args.watch.now.nodes ∙ ap (part_told g.V.RelayedItem.form.item_in) (sym (ap (option_map (λ f. content c.args.watch.now.nodes f.body)) c.in-Some.is) ∙ c.frame.ensures.told)

@@ -17,7 +17,6 @@ put_wrapped-requires g c =
     let k : ℕ = c.loop-place.place in
     let low : k < length terms = (let l = length-map c.args.terms.now said in omega (arith, l, c.loop-place-test.true)) in
     record {
-      capacity = c.requires.capacity;
       nodes = c.requires.nodes;
       fits = put_fits (g.V.RelayedItem.width c.args.nodes) (g.V.RelayedItem.spelling c.args.nodes) terms (length c.args.out.now) c.requires.can k c.args.out.now c.loop-place.out low refl c.loop-place.invariant;
       few = subst (λ x. x ≢ Fault 254) (get_or-map said c.args.terms.now k c.index-terms-place.result (Fault 0) c.loop-place-test.true ∙ ap said (sym c.index-terms-place.is)) (c.requires.can.few k);

@@ -23,7 +23,6 @@ put_terms-requires g c =
     let nodes : h.nodes ≡ c.nodes-nodes.result = sym c.nodes-nodes.ensures.nodes in
     let can = can_put g.met.V.RelayedItem.laws h c.args.round c.requires.round.slot.0 c.requires.round.slot.1 few c.requires.round.some short distinct (sym c.is_member.ensures ∙ c.if-is_member.true) (length c.args.out.now) c.requires.room in
     record {
-      capacity = c.nodes-nodes.ensures.capacity;
       nodes = c.nodes-nodes.ensures.few;
       can = subst (λ (n : ℕ). CanPut (g.V.RelayedItem.width n) (g.V.RelayedItem.spelling n) (map said c.heard.result.now) (length c.args.out.now)) nodes
           (subst (λ ts. CanPut (g.V.RelayedItem.width h.nodes) (g.V.RelayedItem.spelling h.nodes) ts (length c.args.out.now)) (sym c.heard.ensures.heard) can);

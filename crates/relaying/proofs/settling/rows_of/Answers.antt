@@ -30,11 +30,11 @@ returns g c =
     ∙ map_map said (λ x. (plain x)) c.args.items.now
 
 pub empty-rows-requires : goal.empty-rows-requires
-empty-rows-requires g c = (elim c.requires.capacity [ inl e ↦ rw e (lit< tt) | inr e ↦ rw e (lit< tt) ], c.requires.capacity)
+empty-rows-requires g c = elim g.bound-1.eight_or_sixteen [ inl e ↦ rw e (lit< tt) | inr e ↦ rw e (lit< tt) ]
 
 pub set-requires : goal.set-requires
 set-requires g c =
-    (elim c.requires.capacity [ inl e ↦ rw e (lit< tt) | inr e ↦ rw e (lit< tt) ], (elim c.requires.capacity [ inl e ↦ rw e (lit< tt) | inr e ↦ rw e (lit< tt) ], (c.requires.capacity, c.loop-node-test.true)))
+    (elim g.bound-1.eight_or_sixteen [ inl e ↦ rw e (lit< tt) | inr e ↦ rw e (lit< tt) ], (elim g.bound-1.eight_or_sixteen [ inl e ↦ rw e (lit< tt) | inr e ↦ rw e (lit< tt) ], c.loop-node-test.true))
 
 pub overflow_cast-node-end : goal.overflow_cast-node-end
-overflow_cast-node-end g c = let cap : IsCapacity g.row.N = c.requires.capacity in omega arith
+overflow_cast-node-end g c = let cap : IsCapacity g.row.N = g.bound-1.eight_or_sixteen in omega arith

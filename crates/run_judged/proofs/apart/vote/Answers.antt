@@ -1,8 +1,14 @@
-use Rattle.std.proofs.Common.{◌≡◌, true, sym, ◌∙◌, arith}
+use Rattle.std.proofs.Common.{◌≡◌, true, sym, ◌∙◌, arith, inl, inr, lit<}
 use Rattle.node_grid.specs.Class.{is_sound}
 use Rattle.run_judged.specs.Found.{class_at}
 use Rattle.run_judged.proofs.Ranges.{vote_sound}
 use Rattle.run_judged.proofs.apart.vote.Goals as goal
+
+pub belief-requires : goal.belief-requires
+belief-requires g c =
+    let few = c.args.seen.now.nodes in
+    let low = c.requires.in_use in
+    (elim g.bound-1.eight_or_sixteen [ inl e ↦ rw e (lit< tt) | inr e ↦ rw e (lit< tt) ], (elim g.bound-1.eight_or_sixteen [ inl e ↦ rw e (lit< tt) | inr e ↦ rw e (lit< tt) ], (omega arith, record { capacity = g.bound-1.eight_or_sixteen; many = c.args.seen.now.many; placed = c.args.seen.now.placed })))
 
 pub returns : goal.returns
 returns g c =

@@ -15,16 +15,16 @@ pub belief-requires : goal.belief-requires
 belief-requires g c =
     let low = c.args.seen.now.reference _ c.in-Some.is in
     let few = c.args.seen.now.nodes in
-    (elim c.args.seen.now.capacity [ inl e ↦ rw e (lit< tt) | inr e ↦ rw e (lit< tt) ], (elim c.args.seen.now.capacity [ inl e ↦ rw e (lit< tt) | inr e ↦ rw e (lit< tt) ], (omega arith, record { capacity = c.args.seen.now.capacity; many = c.args.seen.now.many; placed = c.args.seen.now.placed })))
+    (elim g.bound-1.eight_or_sixteen [ inl e ↦ rw e (lit< tt) | inr e ↦ rw e (lit< tt) ], (elim g.bound-1.eight_or_sixteen [ inl e ↦ rw e (lit< tt) | inr e ↦ rw e (lit< tt) ], (omega arith, record { capacity = g.bound-1.eight_or_sixteen; many = c.args.seen.now.many; placed = c.args.seen.now.placed })))
 
 pub members-requires : goal.members-requires
 members-requires g c =
     let low = c.args.seen.now.reference _ c.in-Some.is in
     let few = c.args.seen.now.nodes in
-    (elim c.args.seen.now.capacity [ inl e ↦ rw e (lit< tt) | inr e ↦ rw e (lit< tt) ], (lit< tt, omega arith))
+    (elim g.bound-1.eight_or_sixteen [ inl e ↦ rw e (lit< tt) | inr e ↦ rw e (lit< tt) ], (lit< tt, omega arith))
 
 pub charged_all-masks-requires : goal.charged_all-masks-requires
-charged_all-masks-requires g c = (elim c.args.seen.now.capacity [ inl e ↦ rw e (lit< tt) | inr e ↦ rw e (lit< tt) ], (lit< tt, (elim c.args.seen.now.capacity [ inl e ↦ rw e (lit< tt) | inr e ↦ rw e (lit< tt) ], (c.args.seen.now.capacity, c.args.seen.now.nodes))))
+charged_all-masks-requires g c = (elim g.bound-1.eight_or_sixteen [ inl e ↦ rw e (lit< tt) | inr e ↦ rw e (lit< tt) ], (lit< tt, (elim g.bound-1.eight_or_sixteen [ inl e ↦ rw e (lit< tt) | inr e ↦ rw e (lit< tt) ], c.args.seen.now.nodes)))
 
 pub marked_nodes-requires : goal.marked_nodes-requires
-marked_nodes-requires g c = (elim c.args.seen.now.capacity [ inl e ↦ rw e (lit< tt) | inr e ↦ rw e (lit< tt) ], (lit< tt, (c.args.seen.now.capacity, c.args.seen.now.nodes)))
+marked_nodes-requires g c = (elim g.bound-1.eight_or_sixteen [ inl e ↦ rw e (lit< tt) | inr e ↦ rw e (lit< tt) ], (lit< tt, c.args.seen.now.nodes))

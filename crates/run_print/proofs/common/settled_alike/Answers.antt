@@ -16,10 +16,10 @@ pub ne-requires : goal.ne-requires
 ne-requires g c κs = ((lit< tt, tt), λ a m. absurd (not-mem-nil m))
 
 pub ne-requires-2 : goal.ne-requires-2
-ne-requires-2 g c κs = ((elim c.requires [ inl e ↦ rw e (lit< tt) | inr e ↦ rw e (lit< tt) ], tt), λ a m. absurd (not-mem-nil m))
+ne-requires-2 g c κs = ((elim g.bound-1.eight_or_sixteen [ inl e ↦ rw e (lit< tt) | inr e ↦ rw e (lit< tt) ], tt), λ a m. absurd (not-mem-nil m))
 
 pub ne-requires-3 : goal.ne-requires-3
-ne-requires-3 g c κs = ((elim c.requires [ inl e ↦ rw e (lit< tt) | inr e ↦ rw e (lit< tt) ], tt), λ a m. absurd (not-mem-nil m))
+ne-requires-3 g c κs = ((elim g.bound-1.eight_or_sixteen [ inl e ↦ rw e (lit< tt) | inr e ↦ rw e (lit< tt) ], tt), λ a m. absurd (not-mem-nil m))
 
 pub as_slice-requires : goal.as_slice-requires
 as_slice-requires g c = lit< tt

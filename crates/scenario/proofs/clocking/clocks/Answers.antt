@@ -41,21 +41,21 @@ pub rows-requires : goal.rows-requires
 rows-requires g c =
     let on : is_clock c.args.bounds.nodes (clock_view c.args.part.now) ≡ true = sym c.is_clock.ensures ∙ c.if-not-is_clock.false in (
       elim c.requires.size.capacity [ inl e ↦ rw e (lit< tt) | inr e ↦ rw e (lit< tt) ],
-      (c.requires.size.capacity, rw c.deref-2.ensures.value (rooms g.row.N c.args.bounds.nodes (clock_view c.args.part.now) c.requires.size.few_nodes on).0),
+      rw c.deref-2.ensures.value (rooms g.row.N c.args.bounds.nodes (clock_view c.args.part.now) c.requires.size.few_nodes on).0,
     )
 
 pub rows-requires-2 : goal.rows-requires-2
 rows-requires-2 g c =
     let on : is_clock c.args.bounds.nodes (clock_view c.args.part.now) ≡ true = sym c.is_clock.ensures ∙ c.if-not-is_clock.false in (
       elim c.requires.size.capacity [ inl e ↦ rw e (lit< tt) | inr e ↦ rw e (lit< tt) ],
-      (c.requires.size.capacity, rw c.deref-3.ensures.value (rooms g.row.N c.args.bounds.nodes (clock_view c.args.part.now) c.requires.size.few_nodes on).1.0),
+      rw c.deref-3.ensures.value (rooms g.row.N c.args.bounds.nodes (clock_view c.args.part.now) c.requires.size.few_nodes on).1.0,
     )
 
 pub padded-requires : goal.padded-requires
 padded-requires g c =
     let on : is_clock c.args.bounds.nodes (clock_view c.args.part.now) ≡ true = sym c.is_clock.ensures ∙ c.if-not-is_clock.false in (
       elim c.requires.size.capacity [ inl e ↦ rw e (lit< tt) | inr e ↦ rw e (lit< tt) ],
-      (c.requires.size.capacity, rw c.deref-4.ensures.value (rooms g.row.N c.args.bounds.nodes (clock_view c.args.part.now) c.requires.size.few_nodes on).1.1),
+      rw c.deref-4.ensures.value (rooms g.row.N c.args.bounds.nodes (clock_view c.args.part.now) c.requires.size.few_nodes on).1.1,
     )
 
 pub new-requires : goal.new-requires
@@ -74,7 +74,7 @@ new-requires g c =
       elim c.requires.size.capacity [ inl e ↦ rw e (lit< tt) | inr e ↦ rw e (lit< tt) ],
       (
         elim c.requires.size.capacity [ inl e ↦ rw e (lit< tt) | inr e ↦ rw e (lit< tt) ],
-        (c.requires.size.capacity, rw (to_z-of_z epsilon_fits, to_z-of_z drift_fits) (subst (λ (v : ClockView). IsClock g.row.N v) (sym same) is)),
+        rw (to_z-of_z epsilon_fits, to_z-of_z drift_fits) (subst (λ (v : ClockView). IsClock g.row.N v) (sym same) is),
       ),
     )
 

@@ -40,7 +40,7 @@ returns-then-place-ge-MOST_LIES-clause-refused g c =
     subst (λ (o : Option (ℕ × ℕ)). Tells o c.refused.result) (sym (ap (at_place 19) (sym c.loop-place.invariant.left ∙ bad))) c.refused.ensures
 
 pub lie-requires : goal.lie-requires
-lie-requires g c = (lit< tt, (lit< tt, (c.requires.capacity, (c.requires.few, (c.requires.nodes, (c.requires.periods, c.requires.few_periods))))))
+lie-requires g c = (lit< tt, (lit< tt, (c.requires.few, (c.requires.nodes, (c.requires.periods, c.requires.few_periods)))))
 
 pub loop-place-init : goal.loop-place-init
 loop-place-init g c = record { so_far = ap (map (lie_of {n = g.row.N})) c.new-lies.ensures.items; left = refl }

@@ -27,7 +27,7 @@ returns-clause-size g c =
     let rounds = simp to_z-of_z at c.natural-2.ensures in
     let periods = simp to_z-of_z at c.natural-3.ensures in
     record {
-      capacity = c.requires.capacity;
+      capacity = g.bound-1.eight_or_sixteen;
       some_nodes = omega (arith, nodes, r.some_nodes);
       few_nodes = omega (arith, nodes, r.few_nodes);
       rounds = omega (arith, nodes, rounds, r.rounds);
@@ -40,7 +40,7 @@ pub overflow_cast-result : goal.overflow_cast-result
 overflow_cast-result g c =
     let fits : FitsSigned w64 c.args.parts.now.nodes = search rules in
     let is = simp to_z-of_z at c.natural.ensures in
-    elim c.requires.capacity [ inl e ↦ omega (arith, is, e, c.requires.ranges.few_nodes) | inr e ↦ omega (arith, is, e, c.requires.ranges.few_nodes) ]
+    elim g.bound-1.eight_or_sixteen [ inl e ↦ omega (arith, is, e, c.requires.ranges.few_nodes) | inr e ↦ omega (arith, is, e, c.requires.ranges.few_nodes) ]
 
 pub overflow_cast-result-2 : goal.overflow_cast-result-2
 overflow_cast-result-2 g c =

@@ -42,4 +42,4 @@ pub returns-in-Err-NoMemory-clause-refused : goal.returns-in-Err-NoMemory-clause
 returns-in-Err-NoMemory-clause-refused g c = tt
 
 pub from_parts-requires : goal.from_parts-requires
-from_parts-requires g c = (elim c.requires [ inl cap ↦ rw cap (lit< tt) | inr cap ↦ rw cap (lit< tt) ], c.requires)
+from_parts-requires g c = elim g.bound-1.eight_or_sixteen [ inl cap ↦ rw cap (lit< tt) | inr cap ↦ rw cap (lit< tt) ]

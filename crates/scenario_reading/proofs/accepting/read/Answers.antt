@@ -25,4 +25,4 @@ returns-in-Ok-clause-refused g c = λ rule place is.
     (view c.in-Ok.value, c.in-Ok.ensures.value, IfErr-at_err (Tells (value_refusal g.row.N (view c.in-Ok.value))) is c.from_value.ensures.refused)
 
 pub from_value-requires : goal.from_value-requires
-from_value-requires g c = (elim c.requires [ inl cap ↦ rw cap (lit< tt) | inr cap ↦ rw cap (lit< tt) ], c.requires)
+from_value-requires g c = elim g.bound-1.eight_or_sixteen [ inl cap ↦ rw cap (lit< tt) | inr cap ↦ rw cap (lit< tt) ]

@@ -17,17 +17,17 @@ overflow_sub-odd g c = regular_fewer c.args.exchange.now.members c.args.odd.now 
 
 pub overflow_mul-result : goal.overflow_mul-result
 overflow_mul-result g c =
-    let f = few_nodes g.row.N c.len.result c.args.exchange.now.members (capacity-le g.row.N c.requires.capacity) c.len.ensures.count (length-ids g.row.N c.args.exchange.now.members c.len.ensures.ids) in omega arith
+    let f = few_nodes g.row.N c.len.result c.args.exchange.now.members (capacity-le g.row.N g.bound-1.eight_or_sixteen) c.len.ensures.count (length-ids g.row.N c.args.exchange.now.members c.len.ensures.ids) in omega arith
 
 pub overflow_add-result : goal.overflow_add-result
 overflow_add-result g c =
-    let f = few_nodes g.row.N c.len.result c.args.exchange.now.members (capacity-le g.row.N c.requires.capacity) c.len.ensures.count (length-ids g.row.N c.args.exchange.now.members c.len.ensures.ids) in
-    let h = few_nodes g.row.N c.len-idle.result c.minus.result (capacity-le g.row.N c.requires.capacity) c.len-idle.ensures.count (length-ids g.row.N c.minus.result c.len-idle.ensures.ids) in omega arith
+    let f = few_nodes g.row.N c.len.result c.args.exchange.now.members (capacity-le g.row.N g.bound-1.eight_or_sixteen) c.len.ensures.count (length-ids g.row.N c.args.exchange.now.members c.len.ensures.ids) in
+    let h = few_nodes g.row.N c.len-idle.result c.minus.result (capacity-le g.row.N g.bound-1.eight_or_sixteen) c.len-idle.ensures.count (length-ids g.row.N c.minus.result c.len-idle.ensures.ids) in omega arith
 
 pub overflow_add-result-2 : goal.overflow_add-result-2
 overflow_add-result-2 g c =
-    let f = few_nodes g.row.N c.len.result c.args.exchange.now.members (capacity-le g.row.N c.requires.capacity) c.len.ensures.count (length-ids g.row.N c.args.exchange.now.members c.len.ensures.ids) in
-    let h = few_nodes g.row.N c.len-idle.result c.minus.result (capacity-le g.row.N c.requires.capacity) c.len-idle.ensures.count (length-ids g.row.N c.minus.result c.len-idle.ensures.ids) in
+    let f = few_nodes g.row.N c.len.result c.args.exchange.now.members (capacity-le g.row.N g.bound-1.eight_or_sixteen) c.len.ensures.count (length-ids g.row.N c.args.exchange.now.members c.len.ensures.ids) in
+    let h = few_nodes g.row.N c.len-idle.result c.minus.result (capacity-le g.row.N g.bound-1.eight_or_sixteen) c.len-idle.ensures.count (length-ids g.row.N c.minus.result c.len-idle.ensures.ids) in
     let m = c.requires.rounds in omega arith
 
 sides : (members full odd regular left : List ℕ) (n k j m o z : ℕ) → o ≡ count (λ q. has_id odd q) members → z ≡ count (λ q. not (has_id odd q) && not (has_id full q)) members

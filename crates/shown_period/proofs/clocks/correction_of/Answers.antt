@@ -19,7 +19,7 @@ correction-requires g c =
     let low : c.args.i < length c.args.made.now.sync = omega (arith, c.requires.node) in
     let good : get_or c.args.made.now.sync c.args.i c.index-made-i-2.result ≡ get_or c.args.made.now.sync c.args.i [] = get_or_default c.args.made.now.sync c.args.i _ [] low in
     let others : has_id (get_or c.args.made.now.sync c.args.i []) c.args.i ≡ false = c.requires.others c.args.i (outcome_at c.args.made.now c.args.i) (recorded (outcome_at c.args.made.now) c.args.clocks.now.nodes c.args.i c.if-i-clocks.false) in
-    (lit< tt, (elim c.requires.steady.capacity [ inl e ↦ rw e (lit< tt) | inr e ↦ rw e (lit< tt) ], (c.requires.steady.capacity, (c.readings-readings.ensures.range, ap (λ (s : List ℕ). has_id s c.args.i) good ∙ others))))
+    (lit< tt, (elim c.requires.steady.capacity [ inl e ↦ rw e (lit< tt) | inr e ↦ rw e (lit< tt) ], (c.readings-readings.ensures.range, ap (λ (s : List ℕ). has_id s c.args.i) good ∙ others)))
 
 pub returns-then-i-clocks-clause-correction : goal.returns-then-i-clocks-clause-correction
 returns-then-i-clocks-clause-correction g c =

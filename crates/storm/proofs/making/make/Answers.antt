@@ -9,7 +9,7 @@ returns-clause-weathered c =
     subst (λ (s : ScenarioView 8). Weathers (system_of s)) (sym (c.in-Ok-from_parts.ensures.says ∙ ap (scenario_of 8) c.in-Ok.ensures)) (c.weathered.ensures c.args.seed)
 
 pub from_parts-requires : goal.from_parts-requires
-from_parts-requires c = (lit< tt, inl refl)
+from_parts-requires c = lit< tt
 
 pub returns-clause-says : goal.returns-clause-says
 returns-clause-says c = c.in-Ok-from_parts.ensures.says ∙ ap (scenario_of 8) c.in-Ok.ensures

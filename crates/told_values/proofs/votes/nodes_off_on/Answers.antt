@@ -8,7 +8,7 @@ use Rattle.std.proofs.lemmas.List.{get_or_default}
 use Rattle.told_values.proofs.votes.nodes_off_on.Goals as goal
 
 pub deref-requires : goal.deref-requires
-deref-requires g c = elim c.requires.capacity [ inl e ↦ rw e (lit< tt) | inr e ↦ rw e (lit< tt) ]
+deref-requires g c = elim g.bound-1.eight_or_sixteen [ inl e ↦ rw e (lit< tt) | inr e ↦ rw e (lit< tt) ]
 
 pub bounds-deref-c : goal.bounds-deref-c
 bounds-deref-c g c = subst (λ (xs : List (Channel g.row.N)). c.args.c < length xs) (sym c.deref.ensures.0) c.requires.channel
@@ -29,9 +29,9 @@ pub nodes_far-requires : goal.nodes_far-requires
 nodes_far-requires g c =
     let low = c.requires.channel in
     let few = c.requires.config.few_channels in
-    let cap : IsCapacity g.row.N = c.requires.capacity in
+    let cap : IsCapacity g.row.N = g.bound-1.eight_or_sixteen in
     let number : c.args.c < 8 = omega arith in
-    (elim cap [ inl e ↦ rw e (lit< tt) | inr e ↦ rw e (lit< tt) ], (elim cap [ inl e ↦ rw e (lit< tt) | inr e ↦ rw e (lit< tt) ], (lit< tt, (cap, (c.requires.config.few_nodes, number)))))
+    (elim cap [ inl e ↦ rw e (lit< tt) | inr e ↦ rw e (lit< tt) ], (elim cap [ inl e ↦ rw e (lit< tt) | inr e ↦ rw e (lit< tt) ], (lit< tt, (c.requires.config.few_nodes, number))))
 
 pub returns-then-is_judged : goal.returns-then-is_judged
 returns-then-is_judged g c =

@@ -8,12 +8,12 @@ use Rattle.top_call.proofs.alone.write_next.Goals as goal
 pub period-requires : goal.period-requires
 period-requires g c =
     let more : c.args.alone.now.run < c.args.alone.now.input.scenario.periods = rw c.requires.same c.requires.more in
-    (elim c.requires.capacity [ inl e ↦ rw e (lit< tt) | inr e ↦ rw e (lit< tt) ], (elim c.requires.capacity [ inl e ↦ rw e (lit< tt) | inr e ↦ rw e (lit< tt) ], (c.requires.capacity, more)))
+    (elim g.bound-2.eight_or_sixteen [ inl e ↦ rw e (lit< tt) | inr e ↦ rw e (lit< tt) ], (elim g.bound-2.eight_or_sixteen [ inl e ↦ rw e (lit< tt) | inr e ↦ rw e (lit< tt) ], more))
 
 pub write_alone-requires : goal.write_alone-requires
 write_alone-requires g c =
     let few : c.config-config.result.now.nodes ≤ g.row.N = rw c.config-config.ensures.config c.config-config.ensures.log.scenario.system.config.few_nodes in
-    (elim c.requires.capacity [ inl e ↦ rw e (lit< tt) | inr e ↦ rw e (lit< tt) ], (elim c.requires.capacity [ inl e ↦ rw e (lit< tt) | inr e ↦ rw e (lit< tt) ], (c.requires.capacity, few)))
+    (elim g.bound-2.eight_or_sixteen [ inl e ↦ rw e (lit< tt) | inr e ↦ rw e (lit< tt) ], (elim g.bound-2.eight_or_sixteen [ inl e ↦ rw e (lit< tt) | inr e ↦ rw e (lit< tt) ], few))
 
 pub returns-clause-wrote : goal.returns-clause-wrote
 returns-clause-wrote g c =
@@ -22,10 +22,10 @@ returns-clause-wrote g c =
     c.write_alone.ensures
 
 pub config-config-requires : goal.config-config-requires
-config-config-requires g c = elim c.requires.capacity [ inl e ↦ rw e (lit< tt, lit< tt) | inr e ↦ rw e (lit< tt, lit< tt) ]
+config-config-requires g c = elim g.bound-2.eight_or_sixteen [ inl e ↦ rw e (lit< tt, lit< tt) | inr e ↦ rw e (lit< tt, lit< tt) ]
 
 pub id-requires : goal.id-requires
-id-requires g c = elim c.requires.capacity [ inl e ↦ rw e (lit< tt) | inr e ↦ rw e (lit< tt) ]
+id-requires g c = elim g.bound-2.eight_or_sixteen [ inl e ↦ rw e (lit< tt) | inr e ↦ rw e (lit< tt) ]
 
 pub returns-clause-ran : goal.returns-clause-ran
 returns-clause-ran g c = c.period.follows.holds-at-none ∙ ap (λ (v : AloneView g.row.N). record v { run = v.run + 1 }) c.requires.same

@@ -14,7 +14,7 @@ periods-init g c = record {
 pub write_next-requires : goal.write_next-requires
 write_next-requires g c =
     let below : c.periods.period < c.args.log.now.scenario.periods = omega (arith, c.periods-periods.ensures.periods, c.periods-test.true) in
-    (elim c.requires.capacity [ inl e ↦ rw e (lit< tt) | inr e ↦ rw e (lit< tt) ], (elim c.requires.capacity [ inl e ↦ rw e (lit< tt) | inr e ↦ rw e (lit< tt) ], (c.requires.capacity, (c.periods.invariant.stands, below))))
+    (elim g.bound-2.eight_or_sixteen [ inl e ↦ rw e (lit< tt) | inr e ↦ rw e (lit< tt) ], (elim g.bound-2.eight_or_sixteen [ inl e ↦ rw e (lit< tt) | inr e ↦ rw e (lit< tt) ], (c.periods.invariant.stands, below)))
 
 pub returns-in_err-write_next : goal.returns-in_err-write_next
 returns-in_err-write_next g c =
@@ -42,7 +42,7 @@ returns g c =
     last _ _ _ _ _ _ _ _ _ (rw (rest-last (log_printed log) log.scenario.periods c.periods.period ends) at c.periods.invariant.so_far) (rw c.periods-periods.ensures.periods at c.write_end.ensures)
 
 pub periods-periods-requires : goal.periods-periods-requires
-periods-periods-requires g c = elim c.requires.capacity [ inl e ↦ rw e (lit< tt) | inr e ↦ rw e (lit< tt) ]
+periods-periods-requires g c = elim g.bound-2.eight_or_sixteen [ inl e ↦ rw e (lit< tt) | inr e ↦ rw e (lit< tt) ]
 
 pub periods-smaller : goal.periods-smaller
 periods-smaller g c = omega (arith, c.periods-test.true)

@@ -48,4 +48,4 @@ pub print_next-requires : goal.print_next-requires
 print_next-requires g c =
     let stands = c.periods.invariant in
     let more : c.periods.run.run < c.periods.run.scenario.periods = rw stands.scenario (omega (arith, stands.run, c.requires.periods, c.periods-test.true)) in
-    (elim c.requires.capacity [ inl e ↦ rw e (lit< tt) | inr e ↦ rw e (lit< tt) ], (c.requires.capacity, (c.requires.frames, more)))
+    (elim g.bound-2.eight_or_sixteen [ inl e ↦ rw e (lit< tt) | inr e ↦ rw e (lit< tt) ], (c.requires.frames, more))

@@ -24,5 +24,5 @@ returns-in-Replay-clause-ran g c = c.period-shown.follows.holds-at-none
 pub shown_period-requires : goal.shown_period-requires
 shown_period-requires g c = (
   lit< tt,
-  (elim c.requires.capacity [ inl e ↦ rw e (lit< tt) | inr e ↦ rw e (lit< tt) ], fits_print c.args.run.now.scenario c.period-shown.result.now c.period-shown.ensures.fits),
+  (elim g.bound-2.eight_or_sixteen [ inl e ↦ rw e (lit< tt) | inr e ↦ rw e (lit< tt) ], fits_print c.args.run.now.scenario c.period-shown.result.now c.period-shown.ensures.fits),
 )

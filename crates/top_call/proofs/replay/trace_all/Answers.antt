@@ -42,10 +42,10 @@ returns g c =
 pub trace_next-requires : goal.trace_next-requires
 trace_next-requires g c =
     let stands = c.periods.invariant in (
-      elim c.requires.capacity [ inl e ↦ rw e (lit< tt) | inr e ↦ rw e (lit< tt) ],
+      elim g.bound-2.eight_or_sixteen [ inl e ↦ rw e (lit< tt) | inr e ↦ rw e (lit< tt) ],
       (
-        elim c.requires.capacity [ inl e ↦ rw e (lit< tt) | inr e ↦ rw e (lit< tt) ],
-        (c.requires.capacity, (stands.scenario, omega (arith, stands.run, c.requires.periods, c.periods-test.true))),
+        elim g.bound-2.eight_or_sixteen [ inl e ↦ rw e (lit< tt) | inr e ↦ rw e (lit< tt) ],
+        (stands.scenario, omega (arith, stands.run, c.requires.periods, c.periods-test.true)),
       ),
     )
 

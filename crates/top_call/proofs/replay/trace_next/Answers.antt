@@ -14,22 +14,19 @@ pub returns-clause-ran : goal.returns-clause-ran
 returns-clause-ran g c = c.period-shown.follows.holds-at-none
 
 pub plan-plan-requires : goal.plan-plan-requires
-plan-plan-requires g c = elim c.requires.capacity [ inl e ↦ rw e (lit< tt, lit< tt) | inr e ↦ rw e (lit< tt, lit< tt) ]
+plan-plan-requires g c = elim g.bound-2.eight_or_sixteen [ inl e ↦ rw e (lit< tt, lit< tt) | inr e ↦ rw e (lit< tt, lit< tt) ]
 
 pub period-shown-requires : goal.period-shown-requires
 period-shown-requires g c =
     let more : c.args.cluster.now.run < c.args.cluster.now.scenario.periods = rw c.requires.same c.requires.more in
-    (elim c.requires.capacity [ inl e ↦ rw e (lit< tt) | inr e ↦ rw e (lit< tt) ], (elim c.requires.capacity [ inl e ↦ rw e (lit< tt) | inr e ↦ rw e (lit< tt) ], (c.requires.capacity, more)))
+    (elim g.bound-2.eight_or_sixteen [ inl e ↦ rw e (lit< tt) | inr e ↦ rw e (lit< tt) ], (elim g.bound-2.eight_or_sixteen [ inl e ↦ rw e (lit< tt) | inr e ↦ rw e (lit< tt) ], more))
 
 pub write_period-requires : goal.write_period-requires
 write_period-requires g c =
     let few : c.period-shown.result.now.nodes ≤ g.row.N = shown_few c.args.scenario.now c.args.cluster.now.scenario c.period-shown.result.now c.args.cluster.now.run c.requires.same c.plan-plan.ensures.scenario c.period-shown.ensures.shown in (
-      elim c.requires.capacity [ inl e ↦ rw e (lit< tt) | inr e ↦ rw e (lit< tt) ],
+      elim g.bound-2.eight_or_sixteen [ inl e ↦ rw e (lit< tt) | inr e ↦ rw e (lit< tt) ],
       (
         lit< tt,
-        (
-          c.requires.capacity,
-          (few, λ e. shown_planned c.args.scenario.now c.args.cluster.now.scenario c.period-shown.result.now c.args.cluster.now.run c.requires.same c.plan-plan.ensures.scenario c.period-shown.ensures.shown c.plan-plan.result.now c.plan-plan.ensures.plan (rw c.requires.same c.requires.more)),
-        ),
+        (few, λ e. shown_planned c.args.scenario.now c.args.cluster.now.scenario c.period-shown.result.now c.args.cluster.now.run c.requires.same c.plan-plan.ensures.scenario c.period-shown.ensures.shown c.plan-plan.result.now c.plan-plan.ensures.plan (rw c.requires.same c.requires.more)),
       ),
     )

@@ -4,7 +4,7 @@ use Rattle.top_call.proofs.Printed.{told_whole, told_faultless, told_fault, told
 use Rattle.top_call.proofs.replay.write_traced.Goals as goal
 
 pub drop-cluster-inside-requires-room-T-Destruct : goal.drop-cluster-inside-requires-room-T-Destruct
-drop-cluster-inside-requires-room-T-Destruct g c κs = elim c.requires [ inl e ↦ rw e (lit< tt) | inr e ↦ rw e (lit< tt) ]
+drop-cluster-inside-requires-room-T-Destruct g c κs = elim g.bound-2.eight_or_sixteen [ inl e ↦ rw e (lit< tt) | inr e ↦ rw e (lit< tt) ]
 
 pub returns : goal.returns
 returns g c =
@@ -20,24 +20,21 @@ returns g c =
 
 pub trace_all-requires : goal.trace_all-requires
 trace_all-requires g c = (
-  elim c.requires [ inl e ↦ rw e (lit< tt) | inr e ↦ rw e (lit< tt) ],
+  elim g.bound-2.eight_or_sixteen [ inl e ↦ rw e (lit< tt) | inr e ↦ rw e (lit< tt) ],
   (
-    elim c.requires [ inl e ↦ rw e (lit< tt) | inr e ↦ rw e (lit< tt) ],
+    elim g.bound-2.eight_or_sixteen [ inl e ↦ rw e (lit< tt) | inr e ↦ rw e (lit< tt) ],
     (
-      c.requires,
-      (
-        c.in-Ok.ensures,
-        c.periods-periods.ensures.periods,
-      ),
+      c.in-Ok.ensures,
+      c.periods-periods.ensures.periods,
     ),
   ),
 )
 
 pub periods-periods-requires : goal.periods-periods-requires
-periods-periods-requires g c = elim c.requires [ inl e ↦ rw e (lit< tt) | inr e ↦ rw e (lit< tt) ]
+periods-periods-requires g c = elim g.bound-2.eight_or_sixteen [ inl e ↦ rw e (lit< tt) | inr e ↦ rw e (lit< tt) ]
 
 pub open-requires : goal.open-requires
-open-requires g c = (elim c.requires [ inl e ↦ rw e (lit< tt) | inr e ↦ rw e (lit< tt) ], (elim c.requires [ inl e ↦ rw e (lit< tt) | inr e ↦ rw e (lit< tt) ], c.requires))
+open-requires g c = (elim g.bound-2.eight_or_sixteen [ inl e ↦ rw e (lit< tt) | inr e ↦ rw e (lit< tt) ], elim g.bound-2.eight_or_sixteen [ inl e ↦ rw e (lit< tt) | inr e ↦ rw e (lit< tt) ])
 
 pub returns-in_default : goal.returns-in_default
 returns-in_default g c = record {

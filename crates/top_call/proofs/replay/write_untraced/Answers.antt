@@ -34,12 +34,12 @@ pub print_all-requires : goal.print_all-requires
 print_all-requires g c =
     let fresh = ap (λ (r : RunView g.row.N). r.run) c.in-Ok.ensures in
     let same = ap (λ (r : RunView g.row.N). r.scenario.periods) c.in-Ok.ensures in (
-      elim c.requires.capacity [ inl e ↦ rw e (lit< tt) | inr e ↦ rw e (lit< tt) ],
-      (c.requires.capacity, (fresh, (c.requires.frames, c.periods-periods.ensures.periods ∙ sym same))),
+      elim g.bound-2.eight_or_sixteen [ inl e ↦ rw e (lit< tt) | inr e ↦ rw e (lit< tt) ],
+      (fresh, (c.requires.frames, c.periods-periods.ensures.periods ∙ sym same)),
     )
 
 pub open-requires : goal.open-requires
 open-requires g c = (
-  elim c.requires.capacity [ inl e ↦ rw e (lit< tt) | inr e ↦ rw e (lit< tt) ],
-  (elim c.requires.capacity [ inl e ↦ rw e (lit< tt) | inr e ↦ rw e (lit< tt) ], c.requires.capacity),
+  elim g.bound-2.eight_or_sixteen [ inl e ↦ rw e (lit< tt) | inr e ↦ rw e (lit< tt) ],
+  elim g.bound-2.eight_or_sixteen [ inl e ↦ rw e (lit< tt) | inr e ↦ rw e (lit< tt) ],
 )

@@ -6,11 +6,11 @@ use Rattle.touched_items.proofs.due.entries_due.Goals as goal
 pub count_paths-requires-clause-nodes : goal.count_paths-requires-clause-nodes
 count_paths-requires-clause-nodes g c =
     let few : length c.args.expect.now.members ≤ g.row.N = length-ids g.row.N c.args.expect.now.members c.len.ensures.ids in
-    grind (arith, c.requires.capacity)
+    grind (arith, g.bound-1.eight_or_sixteen)
 
 pub returns-then-has-clause-few : goal.returns-then-has-clause-few
 returns-then-has-clause-few g c =
     let few : length c.args.expect.now.members ≤ g.row.N = length-ids g.row.N c.args.expect.now.members c.len.ensures.ids in
-    let less : c.saturating_sub.result ≤ 16 = grind (arith, c.requires.capacity) in
+    let less : c.saturating_sub.result ≤ 16 = grind (arith, g.bound-1.eight_or_sixteen) in
     let short : c.round_of.result ≤ 3 = omega (arith, c.requires.round) in
     omega (arith, few_paths c.saturating_sub.result c.round_of.result less, small_power c.round_of.result short)

@@ -39,16 +39,16 @@ returns-in-None g c =
 pub arrives-requires : goal.arrives-requires
 arrives-requires g c =
     let nodes : ℕ = c.args.expect.now.nodes in
-    let few : nodes ≤ 16 = elim c.requires.capacity [ inl e ↦ omega (arith, e, c.requires.nodes) | inr e ↦ omega (arith, e, c.requires.nodes) ] in
+    let few : nodes ≤ 16 = elim g.bound-6.eight_or_sixteen [ inl e ↦ omega (arith, e, c.requires.nodes) | inr e ↦ omega (arith, e, c.requires.nodes) ] in
     let short = first_short g.V.Item.form g.V.Item.entry_form g.V.Item.in_range g.met.V.Item.made_of (expected c.args.expect.now) nodes c.args.said.now few in
     let says = ap (λ (x : Content). length (body_spelling nodes x)) (c.first_body.ensures.says nodes) in (
-      elim c.requires.capacity [ inl e ↦ rw e (lit< tt) | inr e ↦ rw e (lit< tt) ],
+      elim g.bound-6.eight_or_sixteen [ inl e ↦ rw e (lit< tt) | inr e ↦ rw e (lit< tt) ],
       (
         lit< tt,
         (
-          elim c.requires.capacity [ inl e ↦ rw e (lit< tt) | inr e ↦ rw e (lit< tt) ],
+          elim g.bound-6.eight_or_sixteen [ inl e ↦ rw e (lit< tt) | inr e ↦ rw e (lit< tt) ],
           (
-            record { capacity_ok = c.requires.capacity; some_nodes = c.requires.some_nodes; few_nodes = c.requires.nodes; few_rounds = c.requires.rounds },
+            record { capacity_ok = g.bound-6.eight_or_sixteen; some_nodes = c.requires.some_nodes; few_nodes = c.requires.nodes; few_rounds = c.requires.rounds },
             (c.first_body.ensures.widths nodes, (omega (arith, short, says), omega (arith, short, says))),
           ),
         ),

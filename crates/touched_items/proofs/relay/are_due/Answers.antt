@@ -20,7 +20,7 @@ is_cell-requires g c =
     let low : c.loop-k.k < length es = omega (arith, c.loop-k-test.true, c.hit_entries-first.ensures.within, c.len-2.ensures) in
     let few : c.loop-k.k < 4096 = omega (arith, low, c.len.ensures, c.if-len-entries_due.false, c.entries_due.ensures.few) in
     let f = spelt_entry g.V.Item.form g.V.Item.entry_form g.V.Item.in_range g.met.V.Item.made_of e es c.loop-k.k c.requires.sent low in
-    (lit< tt, (c.requires.capacity, (c.requires.nodes, (few, (λ none. f.0 (sym c.at.ensures ∙ none), ap (λ own. length (g.V.Item.entry_form.spelling e.nodes own)) c.at.ensures ∙ f.1)))))
+    (lit< tt, (c.requires.nodes, (few, (λ none. f.0 (sym c.at.ensures ∙ none), ap (λ own. length (g.V.Item.entry_form.spelling e.nodes own)) c.at.ensures ∙ f.1))))
 
 pub returns-then-not-is_cell : goal.returns-then-not-is_cell
 returns-then-not-is_cell g c =

@@ -11,10 +11,7 @@ new-requires c =
       lit< tt,
       (
         lit< tt,
-        (
-          inr refl,
-          rw (c.in_ok-drifts.ensures.items, c.in_ok-errors.ensures.items)
-              (standing _ (omega (arith, few, c.requires.few)) (All-map (IsLie 12) (lie_of {n = 16}) c.args.lies.items c.requires.lies)),
-        ),
+        rw (c.in_ok-drifts.ensures.items, c.in_ok-errors.ensures.items)
+            (standing _ (omega (arith, few, c.requires.few)) (All-map (IsLie 12) (lie_of {n = 16}) c.args.lies.items c.requires.lies)),
       ),
     )

@@ -6,24 +6,18 @@ pub settle_all-requires : goal.settle_all-requires
 settle_all-requires c = (
   omega arith,
   (
-    record { finds = λ x. eq-eqb x x refl; tells = λ x y h. eqb-true x y h },
-    (
-      record {
-        capacity_ok = inl refl;
-        rounds_are = c.requires.rounds;
-        nodes_ok = λ q on. omega (arith, member-lt 8 c.args.exchange.now.members q c.len.ensures.ids on, c.requires.nodes);
-        member_ok = c.requires.member;
-      },
-      (tt, refl),
-    ),
+    record {
+      capacity_ok = inl refl;
+      rounds_are = c.requires.rounds;
+      nodes_ok = λ q on. omega (arith, member-lt 8 c.args.exchange.now.members q c.len.ensures.ids on, c.requires.nodes);
+      member_ok = c.requires.member;
+    },
+    (tt, refl),
   ),
 )
 
 pub settle_untouched-is_counted-requires : goal.settle_untouched-is_counted-requires
 settle_untouched-is_counted-requires c = (
   omega arith,
-  (
-    record { finds = λ x. eq-eqb x x refl; tells = λ x y h. eqb-true x y h },
-    (omega (arith, c.requires.rounds, c.requires.few), (c.requires.member, refl)),
-  ),
+  (omega (arith, c.requires.rounds, c.requires.few), (c.requires.member, refl)),
 )

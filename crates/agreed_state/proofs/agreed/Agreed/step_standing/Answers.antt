@@ -12,20 +12,20 @@ returns g c =
 
 pub charged_all-charges-requires : goal.charged_all-charges-requires
 charged_all-charges-requires g c = (
-  elim c.requires.capacity [ inl e ↦ rw e (lit< tt) | inr e ↦ rw e (lit< tt) ],
+  elim g.bound-1.eight_or_sixteen [ inl e ↦ rw e (lit< tt) | inr e ↦ rw e (lit< tt) ],
   (
     lit< tt,
-    (elim c.requires.capacity [ inl e ↦ rw e (lit< tt) | inr e ↦ rw e (lit< tt) ], (c.requires.capacity, c.requires.config.few_nodes)),
+    (elim g.bound-1.eight_or_sixteen [ inl e ↦ rw e (lit< tt) | inr e ↦ rw e (lit< tt) ], c.requires.config.few_nodes),
   ),
 )
 
 pub step-requires : goal.step-requires
 step-requires g c =
     let counted = subst (λ (v : AgreedView). IsCounted c.args.config.now.policy c.args.config.now.nodes v.standing.counts v.standing.streaks) (sym c.self.view_is) c.requires.agreed.standing.counted in (
-      elim c.requires.capacity [ inl e ↦ rw e (lit< tt) | inr e ↦ rw e (lit< tt) ],
+      elim g.bound-1.eight_or_sixteen [ inl e ↦ rw e (lit< tt) | inr e ↦ rw e (lit< tt) ],
       (
-        elim c.requires.capacity [ inl e ↦ rw e (lit< tt) | inr e ↦ rw e (lit< tt) ],
-        (c.requires.capacity, (c.requires.config.few_nodes, (c.requires.config.policy, counted))),
+        elim g.bound-1.eight_or_sixteen [ inl e ↦ rw e (lit< tt) | inr e ↦ rw e (lit< tt) ],
+        (c.requires.config.few_nodes, (c.requires.config.policy, counted)),
       ),
     )
 
@@ -33,7 +33,7 @@ pub next-self-inside-requires : goal.next-self-inside-requires
 next-self-inside-requires g c = (
   lit< tt,
   (
-    elim c.requires.capacity [ inl e ↦ rw e (lit< tt) | inr e ↦ rw e (lit< tt) ],
-    (elim c.requires.capacity [ inl e ↦ rw e (lit< tt) | inr e ↦ rw e (lit< tt) ], (c.requires.capacity, c.requires.config.few_nodes)),
+    elim g.bound-1.eight_or_sixteen [ inl e ↦ rw e (lit< tt) | inr e ↦ rw e (lit< tt) ],
+    (elim g.bound-1.eight_or_sixteen [ inl e ↦ rw e (lit< tt) | inr e ↦ rw e (lit< tt) ], c.requires.config.few_nodes),
   ),
 )

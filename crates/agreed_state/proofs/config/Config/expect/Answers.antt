@@ -16,7 +16,7 @@ pub number-requires-2-clause-slot : goal.number-requires-2-clause-slot
 number-requires-2-clause-slot g c = tt
 
 pub empty-requires : goal.empty-requires
-empty-requires g c = (lit< tt, capacity_small g.row.N c.requires.capacity)
+empty-requires g c = (lit< tt, capacity_small g.row.N g.bound-1.eight_or_sixteen)
 
 pub len-requires : goal.len-requires
 len-requires g c = lit< tt

@@ -11,7 +11,7 @@ use Rattle.at_once.proofs.period.Period.end.Goals as goal
 
 pub step-requires : goal.step-requires
 step-requires g c =
-    let cap : IsCapacity g.row.N = c.requires.capacity in
+    let cap : IsCapacity g.row.N = g.bound-1.eight_or_sixteen in
     let config : IsConfig g.row.N c.config-config.result.now = subst (λ (x : Config g.row.N). IsConfig g.row.N x) (sym c.config-config.ensures.config) c.config-config.ensures.scenario.system.config in
     let agreed : AreAgreed c.config-config.result.now c.args.made.now.states =
     subst (λ (x : Config g.row.N). AreAgreed x c.args.made.now.states) (sym c.config-config.ensures.config) c.requires.reported.1.going.used.agreed in
@@ -23,7 +23,7 @@ step-requires g c =
           elim cap [ inl e ↦ rw e (lit< tt) | inr e ↦ rw e (lit< tt) ],
           (
             elim cap [ inl e ↦ rw e (lit< tt) | inr e ↦ rw e (lit< tt) ],
-            (cap, (config, record { agreed = agreed; shared = c.requires.reported.1.claimed.shared; many = many })),
+            (config, record { agreed = agreed; shared = c.requires.reported.1.claimed.shared; many = many }),
           ),
         ),
       ),
@@ -51,7 +51,7 @@ returns-clause-beliefs g c =
     λ i a d low is. c.step.ensures.stepped i a d low is
     ∙ ap (λ (xs : List (Belief g.row.N)). Some (agreed_after g.row.N c.config-config.result.now c.args.self.now.number a (belief_of d xs c.args.groups.now i).done (belief_of d xs c.args.groups.now i).rows)) c.as_slice.ensures.value in
     believed_still sc c.args.self.now.number c.requires.reported.0 c.args.made.now c.args.keeping.now c.args.groups.now c.requires.reported.1 few c.requires.firsts c.requires.grouped
-    c.config-config.result.now c.config-config.ensures.config c.step.new.states stepped c.step.ensures.cold c.requires.capacity
+    c.config-config.result.now c.config-config.ensures.config c.step.new.states stepped c.step.ensures.cold g.bound-1.eight_or_sixteen
 
 pub returns-clause-kept : goal.returns-clause-kept
 returns-clause-kept g c =

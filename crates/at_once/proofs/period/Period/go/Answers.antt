@@ -44,13 +44,10 @@ settle_claims-groups-requires g c =
               (
                 elim cap [ inl e ↦ rw e (lit< tt) | inr e ↦ rw e (lit< tt) ],
                 (
-                  cap,
+                  c.requires.in_run,
                   (
-                    c.requires.in_run,
-                    (
-                      subst (λ (xs : List Notes). AreSynced sc p c.awake-full.result c.hear.new.made xs) (sym value) c.hear.ensures.synced,
-                      c.requires.claims_room,
-                    ),
+                    subst (λ (xs : List Notes). AreSynced sc p c.awake-full.result c.hear.new.made xs) (sym value) c.hear.ensures.synced,
+                    c.requires.claims_room,
                   ),
                 ),
               ),
@@ -78,13 +75,10 @@ vote-requires g c =
             (
               elim cap [ inl e ↦ rw e (lit< tt) | inr e ↦ rw e (lit< tt) ],
               (
-                cap,
+                c.requires.in_run,
                 (
-                  c.requires.in_run,
-                  (
-                    subst (λ (xs : List Notes). AreSettled sc p c.awake-full.result c.settle_claims-groups.new.made xs c.settle_claims-groups.result) (sym noted) c.settle_claims-groups.ensures.settled,
-                    record { votes = unvoted.votes; owns = unvoted.owns },
-                  ),
+                  subst (λ (xs : List Notes). AreSettled sc p c.awake-full.result c.settle_claims-groups.new.made xs c.settle_claims-groups.result) (sym noted) c.settle_claims-groups.ensures.settled,
+                  record { votes = unvoted.votes; owns = unvoted.owns },
                 ),
               ),
             ),
@@ -103,7 +97,7 @@ find_rows-requires g c =
           elim cap [ inl e ↦ rw e (lit< tt) | inr e ↦ rw e (lit< tt) ],
           (
             elim cap [ inl e ↦ rw e (lit< tt) | inr e ↦ rw e (lit< tt) ],
-            (cap, c.vote.ensures.shaped.many),
+            c.vote.ensures.shaped.many,
           ),
         ),
       ),
@@ -134,18 +128,15 @@ settle_rows-finer-requires g c =
                 (
                   elim cap [ inl e ↦ rw e (lit< tt) | inr e ↦ rw e (lit< tt) ],
                   (
-                    cap,
+                    c.requires.in_run,
                     (
-                      c.requires.in_run,
-                      (
-                        record {
-                          going = going_found sc p full made found notes room c.find_rows.ensures settled.going;
-                          claimed = claimed_found sc p made found c.settle_claims-groups.result settled.claimed;
-                          voted = c.vote.ensures;
-                          found = rows_found sc p full made found notes room c.find_rows.ensures settled.going c.vote.ensures.notes;
-                        },
-                        c.requires.rows_room,
-                      ),
+                      record {
+                        going = going_found sc p full made found notes room c.find_rows.ensures settled.going;
+                        claimed = claimed_found sc p made found c.settle_claims-groups.result settled.claimed;
+                        voted = c.vote.ensures;
+                        found = rows_found sc p full made found notes room c.find_rows.ensures settled.going c.vote.ensures.notes;
+                      },
+                      c.requires.rows_room,
                     ),
                   ),
                 ),
@@ -169,13 +160,10 @@ end-requires g c =
           (
             elim cap [ inl e ↦ rw e (lit< tt) | inr e ↦ rw e (lit< tt) ],
             (
-              cap,
+              c.requires.in_run,
               (
-                c.requires.in_run,
-                (
-                  (c.awake-full.result, reported_grouped sc p c.awake-full.result c.settle_rows-finer.new.made c.by_node-made.result c.settle_rows-finer.new.keeping c.settle_rows-finer.result c.settle_rows-finer.ensures.reported),
-                  (c.by_node-made.ensures.firsts, c.by_node-made.ensures.each),
-                ),
+                (c.awake-full.result, reported_grouped sc p c.awake-full.result c.settle_rows-finer.new.made c.by_node-made.result c.settle_rows-finer.new.keeping c.settle_rows-finer.result c.settle_rows-finer.ensures.reported),
+                (c.by_node-made.ensures.firsts, c.by_node-made.ensures.each),
               ),
             ),
           ),

@@ -49,14 +49,11 @@ leave_cold-requires g c =
       (
         elim cap [ inl e ↦ rw e (lit< tt) | inr e ↦ rw e (lit< tt) ],
         (
-          cap,
+          omega (arith, nodes, few),
           (
-            omega (arith, nodes, few),
-            (
-              c.awake-awake.ensures.nodes,
-              subst (λ (m : Made g.row.N). HasBeliefs m) (sym c.go_through.ensures)
-                  (record { capacity = c.requires.beliefs.capacity; many = c.requires.beliefs.many; placed = c.requires.beliefs.placed }),
-            ),
+            c.awake-awake.ensures.nodes,
+            subst (λ (m : Made g.row.N). HasBeliefs m) (sym c.go_through.ensures)
+                (record { capacity = c.requires.beliefs.capacity; many = c.requires.beliefs.many; placed = c.requires.beliefs.placed }),
           ),
         ),
       ),

@@ -27,19 +27,19 @@ use Rattle.at_once.proofs.ClaimsSettled.{claims_heard, few_noted, state_awake, s
 use Rattle.at_once.proofs.period.Period.settle_claims.Goals as goal
 
 pub config-config-requires : goal.config-config-requires
-config-config-requires g c = let cap : IsCapacity g.row.N = c.requires.capacity in (elim cap [ inl e ↦ rw e (lit< tt) | inr e ↦ rw e (lit< tt) ], elim cap [ inl e ↦ rw e (lit< tt) | inr e ↦ rw e (lit< tt) ])
+config-config-requires g c = let cap : IsCapacity g.row.N = g.bound-1.eight_or_sixteen in (elim cap [ inl e ↦ rw e (lit< tt) | inr e ↦ rw e (lit< tt) ], elim cap [ inl e ↦ rw e (lit< tt) | inr e ↦ rw e (lit< tt) ])
 
 pub of_run-requires : goal.of_run-requires
 of_run-requires g c κs = (λ a m. absurd (not-mem-nil m), λ a m. absurd (not-mem-nil m))
 
 pub tell_claims-requires : goal.tell_claims-requires
 tell_claims-requires g c =
-    let cap : IsCapacity g.row.N = c.requires.capacity in
-    (lit< tt, (lit< tt, (elim cap [ inl e ↦ rw e (lit< tt) | inr e ↦ rw e (lit< tt) ], (elim cap [ inl e ↦ rw e (lit< tt) | inr e ↦ rw e (lit< tt) ], (cap, c.requires.synced.going)))))
+    let cap : IsCapacity g.row.N = g.bound-1.eight_or_sixteen in
+    (lit< tt, (lit< tt, (elim cap [ inl e ↦ rw e (lit< tt) | inr e ↦ rw e (lit< tt) ], (elim cap [ inl e ↦ rw e (lit< tt) | inr e ↦ rw e (lit< tt) ], c.requires.synced.going))))
 
 pub agree-requires : goal.agree-requires
 agree-requires g c =
-    let cap : IsCapacity g.row.N = c.requires.capacity in
+    let cap : IsCapacity g.row.N = g.bound-1.eight_or_sixteen in
     let told = claims_heard c.args.self.now.scenario.now c.args.self.now.number c.args.full.now c.args.made.now c.requires.synced.going c.config-config.ensures.scenario c.requires.in_run c.phase-phase.result c.phase-phase.ensures
     c.tell_claims.new.claims.links c.tell_claims.ensures.told in
     let room = c.tell_claims.ensures.room ∙ c.requires.room ∙ ap (λ (y : Config g.row.N). record { nodes = y.nodes; rounds = y.m }) (sym c.phase-phase.ensures.config) in
@@ -47,26 +47,26 @@ agree-requires g c =
 
 pub note_frames-requires : goal.note_frames-requires
 note_frames-requires g c =
-    let cap : IsCapacity g.row.N = c.requires.capacity in
+    let cap : IsCapacity g.row.N = g.bound-1.eight_or_sixteen in
     let shaped = subst (λ (y : Config g.row.N). AreShaped {N = g.row.N} y c.args.notes.now) (sym c.phase-phase.ensures.config) c.requires.synced.shaped in
     let within = synced_within c.args.self.now.scenario.now c.args.self.now.number c.args.full.now c.args.made.now c.requires.synced.going c.config-config.ensures.scenario c.requires.in_run c.phase-phase.result c.phase-phase.ensures
     c.args.notes.now c.requires.synced.shaped c.requires.synced.notes_are in
-    (elim cap [ inl e ↦ rw e (lit< tt) | inr e ↦ rw e (lit< tt) ], (elim cap [ inl e ↦ rw e (lit< tt) | inr e ↦ rw e (lit< tt) ], (elim cap [ inl e ↦ rw e (lit< tt) | inr e ↦ rw e (lit< tt) ], (cap, (c.agree.ensures.settled, (shaped, within))))))
+    (elim cap [ inl e ↦ rw e (lit< tt) | inr e ↦ rw e (lit< tt) ], (elim cap [ inl e ↦ rw e (lit< tt) | inr e ↦ rw e (lit< tt) ], (elim cap [ inl e ↦ rw e (lit< tt) | inr e ↦ rw e (lit< tt) ], (c.agree.ensures.settled, (shaped, within)))))
 
 pub group_by_claims-groups-requires : goal.group_by_claims-groups-requires
 group_by_claims-groups-requires g c =
-    let cap : IsCapacity g.row.N = c.requires.capacity in
+    let cap : IsCapacity g.row.N = g.bound-1.eight_or_sixteen in
     (elim cap [ inl e ↦ rw e (lit< tt) | inr e ↦ rw e (lit< tt) ], (elim cap [ inl e ↦ rw e (lit< tt) | inr e ↦ rw e (lit< tt) ], (elim cap [ inl e ↦ rw e (lit< tt) | inr e ↦ rw e (lit< tt) ], (elim cap [ inl e ↦ rw e (lit< tt) | inr e ↦ rw e (lit< tt) ], c.agree.ensures.settled))))
 
 pub fill_claims-requires : goal.fill_claims-requires
 fill_claims-requires g c =
-    let cap : IsCapacity g.row.N = c.requires.capacity in
+    let cap : IsCapacity g.row.N = g.bound-1.eight_or_sixteen in
     let many = ap length c.as_mut_slice.ensures.value ∙ c.requires.synced.going.many in
-    (elim cap [ inl e ↦ rw e (lit< tt) | inr e ↦ rw e (lit< tt) ], (elim cap [ inl e ↦ rw e (lit< tt) | inr e ↦ rw e (lit< tt) ], (elim cap [ inl e ↦ rw e (lit< tt) | inr e ↦ rw e (lit< tt) ], (elim cap [ inl e ↦ rw e (lit< tt) | inr e ↦ rw e (lit< tt) ], (cap, (c.agree.ensures.settled, many))))))
+    (elim cap [ inl e ↦ rw e (lit< tt) | inr e ↦ rw e (lit< tt) ], (elim cap [ inl e ↦ rw e (lit< tt) | inr e ↦ rw e (lit< tt) ], (elim cap [ inl e ↦ rw e (lit< tt) | inr e ↦ rw e (lit< tt) ], (elim cap [ inl e ↦ rw e (lit< tt) | inr e ↦ rw e (lit< tt) ], (c.agree.ensures.settled, many)))))
 
 pub complete-requires : goal.complete-requires
 complete-requires g c =
-    let cap : IsCapacity g.row.N = c.requires.capacity in
+    let cap : IsCapacity g.row.N = g.bound-1.eight_or_sixteen in
     let sc : ScenarioView g.row.N = c.args.self.now.scenario.now in
     let p : ℕ = c.args.self.now.number in
     let x : Phase g.row.N = c.phase-phase.result in
@@ -85,11 +85,11 @@ complete-requires g c =
     few_noted sc p c.args.full.now c.args.made.now c.requires.synced.going given c.requires.in_run x c.phase-phase.ensures c.note_frames.new.notes framed i (awake i a low is) in
     let within = λ (i : ℕ) (a : AgreedView) (low : i < g.row.N) (is : state_at made.states i ≡ Some a).
     more_within sc p c.args.full.now c.args.made.now c.requires.synced.going given c.requires.in_run x c.phase-phase.ensures c.args.notes.now c.note_frames.new.notes bad framed c.note_frames.ensures.notes i low (awake i a low is) in
-    (elim cap [ inl e ↦ rw e (lit< tt) | inr e ↦ rw e (lit< tt) ], (elim cap [ inl e ↦ rw e (lit< tt) | inr e ↦ rw e (lit< tt) ], (elim cap [ inl e ↦ rw e (lit< tt) | inr e ↦ rw e (lit< tt) ], (elim cap [ inl e ↦ rw e (lit< tt) | inr e ↦ rw e (lit< tt) ], (elim cap [ inl e ↦ rw e (lit< tt) | inr e ↦ rw e (lit< tt) ], (cap, (config, (record { agreed = agreed; shared = c.group_by_claims-groups.ensures.shared; many = many }, record { many = c.note_frames.ensures.many; kinds = kinds; within = within }))))))))
+    (elim cap [ inl e ↦ rw e (lit< tt) | inr e ↦ rw e (lit< tt) ], (elim cap [ inl e ↦ rw e (lit< tt) | inr e ↦ rw e (lit< tt) ], (elim cap [ inl e ↦ rw e (lit< tt) | inr e ↦ rw e (lit< tt) ], (elim cap [ inl e ↦ rw e (lit< tt) | inr e ↦ rw e (lit< tt) ], (elim cap [ inl e ↦ rw e (lit< tt) | inr e ↦ rw e (lit< tt) ], (config, (record { agreed = agreed; shared = c.group_by_claims-groups.ensures.shared; many = many }, record { many = c.note_frames.ensures.many; kinds = kinds; within = within })))))))
 
 pub note_convicted-requires : goal.note_convicted-requires
 note_convicted-requires g c =
-    let cap : IsCapacity g.row.N = c.requires.capacity in
+    let cap : IsCapacity g.row.N = g.bound-1.eight_or_sixteen in
     let sc : ScenarioView g.row.N = c.args.self.now.scenario.now in
     let p : ℕ = c.args.self.now.number in
     let x : Phase g.row.N = c.phase-phase.result in
@@ -104,7 +104,7 @@ note_convicted-requires g c =
     subst (λ (y : Config g.row.N). AreShaped {N = g.row.N} y c.complete.new.notes) (sym c.phase-phase.ensures.config)
     (judged_shaped sc p c.args.full.now c.args.made.now c.requires.synced.going given c.requires.in_run x c.phase-phase.ensures c.note_frames.new.notes c.complete.new.notes more framed c.complete.ensures.many_notes noted c.complete.ensures.cold) in
     let within = judged_within sc p c.args.full.now c.args.made.now c.requires.synced.going given c.requires.in_run x c.phase-phase.ensures c.note_frames.new.notes c.complete.new.notes more framed c.complete.ensures.many_notes noted c.complete.ensures.cold in
-    (elim cap [ inl e ↦ rw e (lit< tt) | inr e ↦ rw e (lit< tt) ], (elim cap [ inl e ↦ rw e (lit< tt) | inr e ↦ rw e (lit< tt) ], (elim cap [ inl e ↦ rw e (lit< tt) | inr e ↦ rw e (lit< tt) ], (cap, (c.agree.ensures.settled, (shaped, within))))))
+    (elim cap [ inl e ↦ rw e (lit< tt) | inr e ↦ rw e (lit< tt) ], (elim cap [ inl e ↦ rw e (lit< tt) | inr e ↦ rw e (lit< tt) ], (elim cap [ inl e ↦ rw e (lit< tt) | inr e ↦ rw e (lit< tt) ], (c.agree.ensures.settled, (shaped, within)))))
 
 pub returns-clause-settled : goal.returns-clause-settled
 returns-clause-settled g c =

@@ -28,12 +28,12 @@ use Rattle.at_once.proofs.period.Period.settle_rows.Goals as goal
 
 pub tell_rows-requires : goal.tell_rows-requires
 tell_rows-requires g c =
-    let cap : IsCapacity g.row.N = c.requires.capacity in
-    (lit< tt, (lit< tt, (elim cap [ inl e ↦ rw e (lit< tt) | inr e ↦ rw e (lit< tt) ], (elim cap [ inl e ↦ rw e (lit< tt) | inr e ↦ rw e (lit< tt) ], (elim cap [ inl e ↦ rw e (lit< tt) | inr e ↦ rw e (lit< tt) ], (cap, (c.requires.reporting.going, c.requires.reporting.found)))))))
+    let cap : IsCapacity g.row.N = g.bound-1.eight_or_sixteen in
+    (lit< tt, (lit< tt, (elim cap [ inl e ↦ rw e (lit< tt) | inr e ↦ rw e (lit< tt) ], (elim cap [ inl e ↦ rw e (lit< tt) | inr e ↦ rw e (lit< tt) ], (elim cap [ inl e ↦ rw e (lit< tt) | inr e ↦ rw e (lit< tt) ], (c.requires.reporting.going, c.requires.reporting.found))))))
 
 pub agree-requires : goal.agree-requires
 agree-requires g c =
-    let cap : IsCapacity g.row.N = c.requires.capacity in
+    let cap : IsCapacity g.row.N = g.bound-1.eight_or_sixteen in
     let heard : IsHeard row_form (λ m. m + 3) row_told c.phase-phase.result c.tell_rows.new.rows.links 0 =
     rows_told c.args.self.now.scenario.now c.args.self.now.number c.args.full.now c.args.made.now c.requires.reporting.going c.config.ensures.scenario c.requires.in_run _ (ap (λ (y : Config g.row.N). y.m + 3) c.config.ensures.config)
     c.phase-phase.result c.phase-phase.ensures c.tell_rows.new.rows c.tell_rows.ensures.told in
@@ -43,7 +43,7 @@ agree-requires g c =
 
 pub carry-requires : goal.carry-requires
 carry-requires g c =
-    let cap : IsCapacity g.row.N = c.requires.capacity in
+    let cap : IsCapacity g.row.N = g.bound-1.eight_or_sixteen in
     let sc : ScenarioView g.row.N = c.args.self.now.scenario.now in
     let notes : c.as_mut_slice.result.now ≡ c.args.keeping.now.notes.items = c.as_mut_slice.ensures.value in
     let shaped : AreShaped {N = g.row.N} c.phase-phase.result.config.now c.as_mut_slice.result.now =
@@ -53,24 +53,24 @@ carry-requires g c =
     λ i low on. subst (λ (xs : List Notes). IsCarriedWithin g.row.N (notes_at xs i)) (sym notes)
     (votes_within sc c.args.self.now.number c.args.full.now c.args.made.now c.requires.reporting.going c.config.ensures.scenario c.requires.in_run _ (ap (λ (y : Config g.row.N). y.m + 3) c.config.ensures.config)
     c.phase-phase.result c.phase-phase.ensures c.args.keeping.now c.requires.reporting.voted i on) in
-    (elim cap [ inl e ↦ rw e (lit< tt) | inr e ↦ rw e (lit< tt) ], (elim cap [ inl e ↦ rw e (lit< tt) | inr e ↦ rw e (lit< tt) ], (elim cap [ inl e ↦ rw e (lit< tt) | inr e ↦ rw e (lit< tt) ], (elim cap [ inl e ↦ rw e (lit< tt) | inr e ↦ rw e (lit< tt) ], (cap, (c.agree.ensures.settled, (shaped, within)))))))
+    (elim cap [ inl e ↦ rw e (lit< tt) | inr e ↦ rw e (lit< tt) ], (elim cap [ inl e ↦ rw e (lit< tt) | inr e ↦ rw e (lit< tt) ], (elim cap [ inl e ↦ rw e (lit< tt) | inr e ↦ rw e (lit< tt) ], (elim cap [ inl e ↦ rw e (lit< tt) | inr e ↦ rw e (lit< tt) ], (c.agree.ensures.settled, (shaped, within))))))
 
 pub group_by_rows-finer-requires : goal.group_by_rows-finer-requires
 group_by_rows-finer-requires g c =
-    let cap : IsCapacity g.row.N = c.requires.capacity in
+    let cap : IsCapacity g.row.N = g.bound-1.eight_or_sixteen in
     (elim cap [ inl e ↦ rw e (lit< tt) | inr e ↦ rw e (lit< tt) ], (elim cap [ inl e ↦ rw e (lit< tt) | inr e ↦ rw e (lit< tt) ], (elim cap [ inl e ↦ rw e (lit< tt) | inr e ↦ rw e (lit< tt) ], (elim cap [ inl e ↦ rw e (lit< tt) | inr e ↦ rw e (lit< tt) ], (elim cap [ inl e ↦ rw e (lit< tt) | inr e ↦ rw e (lit< tt) ], (c.agree.ensures.settled, c.requires.reporting.voted.voters))))))
 
 pub part-requires : goal.part-requires
 part-requires g c =
-    let cap : IsCapacity g.row.N = c.requires.capacity in
-    (elim cap [ inl e ↦ rw e (lit< tt) | inr e ↦ rw e (lit< tt) ], (elim cap [ inl e ↦ rw e (lit< tt) | inr e ↦ rw e (lit< tt) ], (cap, (ap length c.as_mut_slice-2.ensures.value ∙ c.requires.reporting.going.many, c.group_by_rows-finer.ensures.parted))))
+    let cap : IsCapacity g.row.N = g.bound-1.eight_or_sixteen in
+    (elim cap [ inl e ↦ rw e (lit< tt) | inr e ↦ rw e (lit< tt) ], (elim cap [ inl e ↦ rw e (lit< tt) | inr e ↦ rw e (lit< tt) ], (ap length c.as_mut_slice-2.ensures.value ∙ c.requires.reporting.going.many, c.group_by_rows-finer.ensures.parted)))
 
 pub fill_rows-requires : goal.fill_rows-requires
 fill_rows-requires g c =
-    let cap : IsCapacity g.row.N = c.requires.capacity in
+    let cap : IsCapacity g.row.N = g.bound-1.eight_or_sixteen in
     let many : length c.as_mut_slice-3.result.now ≡ g.row.N =
     ap length (c.as_mut_slice-3.ensures.value ∙ with_items_is c.args.made.now.beliefs c.part.new.beliefs (c.part.auto.beliefs ∙ c.as_mut_slice-2.ensures.len)) ∙ c.part.ensures.many in
-    (elim cap [ inl e ↦ rw e (lit< tt) | inr e ↦ rw e (lit< tt) ], (elim cap [ inl e ↦ rw e (lit< tt) | inr e ↦ rw e (lit< tt) ], (elim cap [ inl e ↦ rw e (lit< tt) | inr e ↦ rw e (lit< tt) ], (elim cap [ inl e ↦ rw e (lit< tt) | inr e ↦ rw e (lit< tt) ], (elim cap [ inl e ↦ rw e (lit< tt) | inr e ↦ rw e (lit< tt) ], (elim cap [ inl e ↦ rw e (lit< tt) | inr e ↦ rw e (lit< tt) ], (cap, (c.agree.ensures.settled, many))))))))
+    (elim cap [ inl e ↦ rw e (lit< tt) | inr e ↦ rw e (lit< tt) ], (elim cap [ inl e ↦ rw e (lit< tt) | inr e ↦ rw e (lit< tt) ], (elim cap [ inl e ↦ rw e (lit< tt) | inr e ↦ rw e (lit< tt) ], (elim cap [ inl e ↦ rw e (lit< tt) | inr e ↦ rw e (lit< tt) ], (elim cap [ inl e ↦ rw e (lit< tt) | inr e ↦ rw e (lit< tt) ], (elim cap [ inl e ↦ rw e (lit< tt) | inr e ↦ rw e (lit< tt) ], (c.agree.ensures.settled, many)))))))
 
 pub returns-clause-reported : goal.returns-clause-reported
 returns-clause-reported g c =

@@ -16,20 +16,20 @@ use Rattle.at_once.proofs.period.Period.tell_claims.Goals as goal
 
 pub run_times-run-requires : goal.run_times-run-requires
 run_times-run-requires g c =
-    let cap : IsCapacity g.row.N = c.requires.capacity in
+    let cap : IsCapacity g.row.N = g.bound-1.eight_or_sixteen in
     let low = full_low c.args.self.now.scenario.now c.args.self.now.number c.args.full.now c.args.made.now c.requires.going c.loop-i.i (sym c.has.ensures ∙ c.if-has.true) in
     (elim cap [ inl e ↦ rw e (lit< tt) | inr e ↦ rw e (lit< tt) ], low)
 
 pub own_claim-requires : goal.own_claim-requires
 own_claim-requires g c =
-    let cap : IsCapacity g.row.N = c.requires.capacity in
+    let cap : IsCapacity g.row.N = g.bound-1.eight_or_sixteen in
     let config_is : c.config-config.result.now ≡ c.args.self.now.scenario.now.config = c.config-config.ensures.config in
     let known : IsConfig g.row.N c.args.self.now.scenario.now.config = c.config-config.ensures.scenario.system.config in
     let agreed : IsAgreed g.row.N c.config-config.result.now c.in-Some.state.now =
     subst (λ (x : Config g.row.N). IsAgreed g.row.N x c.in-Some.state.now) (sym config_is) (c.requires.going.used.agreed c.loop-i.i c.in-Some.state.now (sym c.in-Some.ensures)) in
     let used = full_low c.args.self.now.scenario.now c.args.self.now.number c.args.full.now c.args.made.now c.requires.going c.loop-i.i (sym c.has.ensures ∙ c.if-has.true) in
     let low : c.loop-i.i < g.row.N = (let f = known.few_nodes in omega arith) in
-    (elim cap [ inl e ↦ rw e (lit< tt) | inr e ↦ rw e (lit< tt) ], (elim cap [ inl e ↦ rw e (lit< tt) | inr e ↦ rw e (lit< tt) ], (cap, (agreed, low))))
+    (elim cap [ inl e ↦ rw e (lit< tt) | inr e ↦ rw e (lit< tt) ], (elim cap [ inl e ↦ rw e (lit< tt) | inr e ↦ rw e (lit< tt) ], (agreed, low)))
 
 pub loop-i-init : goal.loop-i-init
 loop-i-init g c = (λ j less. absurd (omega arith), refl)

@@ -12,7 +12,7 @@ use Rattle.at_once.proofs.period.Period.tell_rows.Goals as goal
 
 pub tell-requires : goal.tell-requires
 tell-requires g c =
-    let cap : IsCapacity g.row.N = c.requires.capacity in
+    let cap : IsCapacity g.row.N = g.bound-1.eight_or_sixteen in
     (elim cap [ inl e ↦ rw e (lit< tt) | inr e ↦ rw e (lit< tt) ], c.loop-i-test.true)
 
 pub loop-i-init : goal.loop-i-init

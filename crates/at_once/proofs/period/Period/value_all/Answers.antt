@@ -9,10 +9,16 @@ use Rattle.at_once.specs.Kept.{of_node}
 use Rattle.at_once.proofs.Voting.{owned_put}
 use Rattle.at_once.proofs.period.Period.value_all.Goals as goal
 
+pub config-config-requires : goal.config-config-requires
+config-config-requires g c = (
+  elim g.bound-1.eight_or_sixteen [ inl e ↦ rw e (lit< tt) | inr e ↦ rw e (lit< tt) ],
+  elim g.bound-1.eight_or_sixteen [ inl e ↦ rw e (lit< tt) | inr e ↦ rw e (lit< tt) ],
+)
+
 pub own_values-requires : goal.own_values-requires
 own_values-requires g c =
     let config : IsConfig g.row.N c.config-config.result.now = subst (IsConfig g.row.N) (sym c.config-config.ensures.config) c.config-config.ensures.scenario.system.config in (
-      elim c.requires.capacity [ inl e ↦ rw e (lit< tt) | inr e ↦ rw e (lit< tt) ],
+      elim g.bound-1.eight_or_sixteen [ inl e ↦ rw e (lit< tt) | inr e ↦ rw e (lit< tt) ],
       (config, let f = config.few_nodes in let t = c.loop-i-test.true in omega arith),
     )
 

@@ -21,17 +21,17 @@ use Rattle.at_once.proofs.period.Period.vote.Goals as goal
 
 pub of-dues-requires : goal.of-dues-requires
 of-dues-requires g c =
-    let cap : IsCapacity g.row.N = c.requires.capacity in (
+    let cap : IsCapacity g.row.N = g.bound-1.eight_or_sixteen in (
       elim cap [ inl e ↦ rw e (lit< tt) | inr e ↦ rw e (lit< tt) ],
       (
         elim cap [ inl e ↦ rw e (lit< tt) | inr e ↦ rw e (lit< tt) ],
-        (lit< tt, (lit< tt, (cap, ap length c.as_slice.ensures.value ∙ c.requires.settled.going.many))),
+        (lit< tt, (lit< tt, ap length c.as_slice.ensures.value ∙ c.requires.settled.going.many)),
       ),
     )
 
 pub touched_senders-requires : goal.touched_senders-requires
 touched_senders-requires g c =
-    let cap : IsCapacity g.row.N = c.requires.capacity in
+    let cap : IsCapacity g.row.N = g.bound-1.eight_or_sixteen in
     let sc : ScenarioView g.row.N = c.args.self.now.scenario.now in
     let cf : Config g.row.N = c.config-config.result.now in
     let plan : Plan = c.plan-plan.result.now in
@@ -44,7 +44,7 @@ touched_senders-requires g c =
     let periods : plan.periods ≡ sc.periods = ap (λ (x : Plan). x.periods) plan_is ∙ scenario.plan_periods in
     let in_run : c.args.self.now.number < sc.periods = c.requires.in_run in (
       elim cap [ inl e ↦ rw e (lit< tt) | inr e ↦ rw e (lit< tt) ],
-      (lit< tt, (lit< tt, (cap, (config, (nodes, (rounds, omega (arith, periods, in_run))))))),
+      (lit< tt, (lit< tt, (config, (nodes, (rounds, omega (arith, periods, in_run)))))),
     )
 
 pub invariant_of-slot : goal.invariant_of-slot
@@ -53,14 +53,14 @@ invariant_of-slot g c =
     let groups : List ℕ = c.args.groups.now in
     let dues_are : c.of-dues.result ≡ (groups, made.beliefs.items) =
     ap₂ (λ (a : List ℕ) (b : List (Belief g.row.N)). (a, b)) c.of-dues.ensures.groups (c.of-dues.ensures.beliefs ∙ c.as_slice.ensures.value) in (
-      c.requires.capacity,
+      g.bound-1.eight_or_sixteen,
       slot_by_is c.hears.ensures c.through.ensures c.cold.ensures c.args.self.now.scenario.now c.args.self.now.number c.args.full.now made c.args.keeping.now.notes.items groups c.config-config.ensures.scenario c.requires.settled
           c.requires.in_run c.config-config.result.now c.plan-plan.result.now c.of-dues.result c.touched_senders.result c.value_all.new.owns c.config-config.ensures.config c.plan-plan.ensures.plan dues_are c.touched_senders.ensures,
     )
 
 pub vote_each-keeping-requires : goal.vote_each-keeping-requires
 vote_each-keeping-requires g c =
-    let cap : IsCapacity g.row.N = c.requires.capacity in
+    let cap : IsCapacity g.row.N = g.bound-1.eight_or_sixteen in
     let made : Made g.row.N = c.args.made.now in
     let settled = c.requires.settled in (
       lit< tt,
@@ -90,7 +90,7 @@ vote_each-keeping-requires g c =
 
 pub note_each-requires : goal.note_each-requires
 note_each-requires g c =
-    let cap : IsCapacity g.row.N = c.requires.capacity in
+    let cap : IsCapacity g.row.N = g.bound-1.eight_or_sixteen in
     let sc : ScenarioView g.row.N = c.args.self.now.scenario.now in
     let p : ℕ = c.args.self.now.number in
     let full : List ℕ = c.args.full.now in

@@ -10,33 +10,33 @@ use Rattle.at_once.proofs.run.Run.advance.Goals as goal
 
 pub begin-requires : goal.begin-requires
 begin-requires g c =
-    let cap : IsCapacity g.row.N = c.requires.capacity in
+    let cap : IsCapacity g.row.N = g.bound-1.eight_or_sixteen in
     let more : c.self.inside.run < c.self.inside.scenario.now.periods = subst (λ (v : RunView g.row.N). v.run < v.scenario.periods) (sym c.self.view_is) c.requires.more in (
       lit< tt,
       (
         elim cap [ inl e ↦ rw e (lit< tt) | inr e ↦ rw e (lit< tt) ],
         (
           elim cap [ inl e ↦ rw e (lit< tt) | inr e ↦ rw e (lit< tt) ],
-          (cap, (more, c.self.invariant.kept)),
+          (more, c.self.invariant.kept),
         ),
       ),
     )
 
 pub begin-requires-2 : goal.begin-requires-2
 begin-requires-2 g c =
-    let cap : IsCapacity g.row.N = c.requires.capacity in
+    let cap : IsCapacity g.row.N = g.bound-1.eight_or_sixteen in
     let sc : ScenarioView g.row.N = c.self.inside.scenario.now in
     let more : c.self.inside.run < sc.periods = subst (λ (v : RunView g.row.N). v.run < v.scenario.periods) (sym c.self.view_is) c.requires.more in (
       elim cap [ inl e ↦ rw e (lit< tt) | inr e ↦ rw e (lit< tt) ],
       (
         elim cap [ inl e ↦ rw e (lit< tt) | inr e ↦ rw e (lit< tt) ],
-        (cap, (more, (c.self.invariant.before, begun_in_run sc c.self.inside.run c.begin.new.states c.begin.new.keeping c.begin.ensures))),
+        (more, (c.self.invariant.before, begun_in_run sc c.self.inside.run c.begin.new.states c.begin.new.keeping c.begin.ensures)),
       ),
     )
 
 pub go-requires : goal.go-requires
 go-requires g c =
-    let cap : IsCapacity g.row.N = c.requires.capacity in
+    let cap : IsCapacity g.row.N = g.bound-1.eight_or_sixteen in
     let sc : ScenarioView g.row.N = c.self.inside.scenario.now in
     let more : c.self.inside.run < sc.periods = subst (λ (v : RunView g.row.N). v.run < v.scenario.periods) (sym c.self.view_is) c.requires.more in
     let made = c.begin-2.ensures.made in (
@@ -70,11 +70,11 @@ go-requires g c =
 
 pub end-requires : goal.end-requires
 end-requires g c =
-    let cap : IsCapacity g.row.N = c.requires.capacity in (
+    let cap : IsCapacity g.row.N = g.bound-1.eight_or_sixteen in (
       elim cap [ inl e ↦ rw e (lit< tt) | inr e ↦ rw e (lit< tt) ],
       (
         elim cap [ inl e ↦ rw e (lit< tt) | inr e ↦ rw e (lit< tt) ],
-        (cap, (c.begin-2.ensures.begun, c.go.ensures.made)),
+        (c.begin-2.ensures.begun, c.go.ensures.made),
       ),
     )
 

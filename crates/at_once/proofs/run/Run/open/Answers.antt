@@ -30,32 +30,29 @@ invariant_of-result g c =
 
 pub open-requires : goal.open-requires
 open-requires g c = (
-  elim c.requires [ inl e ↦ rw e (lit< tt) | inr e ↦ rw e (lit< tt) ],
+  elim g.bound-1.eight_or_sixteen [ inl e ↦ rw e (lit< tt) | inr e ↦ rw e (lit< tt) ],
   (
-    elim c.requires [ inl e ↦ rw e (lit< tt) | inr e ↦ rw e (lit< tt) ],
-    (c.requires, subst (λ (x : Config g.row.N). IsConfig g.row.N x) (sym c.config-config.ensures.config) c.config-config.ensures.scenario.system.config),
+    elim g.bound-1.eight_or_sixteen [ inl e ↦ rw e (lit< tt) | inr e ↦ rw e (lit< tt) ],
+    subst (λ (x : Config g.row.N). IsConfig g.row.N x) (sym c.config-config.ensures.config) c.config-config.ensures.scenario.system.config,
   ),
 )
 
 pub open-requires-2 : goal.open-requires-2
 open-requires-2 g c = (
-  elim c.requires [ inl e ↦ rw e (lit< tt) | inr e ↦ rw e (lit< tt) ],
-  (
-    elim c.requires [ inl e ↦ rw e (lit< tt) | inr e ↦ rw e (lit< tt) ],
-    c.requires,
-  ),
+  elim g.bound-1.eight_or_sixteen [ inl e ↦ rw e (lit< tt) | inr e ↦ rw e (lit< tt) ],
+  elim g.bound-1.eight_or_sixteen [ inl e ↦ rw e (lit< tt) | inr e ↦ rw e (lit< tt) ],
 )
 
 pub phases-requires : goal.phases-requires
 phases-requires g c = (
-  elim c.requires [ inl e ↦ rw e (lit< tt) | inr e ↦ rw e (lit< tt) ],
+  elim g.bound-1.eight_or_sixteen [ inl e ↦ rw e (lit< tt) | inr e ↦ rw e (lit< tt) ],
   (
-    elim c.requires [ inl e ↦ rw e (lit< tt) | inr e ↦ rw e (lit< tt) ],
+    elim g.bound-1.eight_or_sixteen [ inl e ↦ rw e (lit< tt) | inr e ↦ rw e (lit< tt) ],
     (
-      elim c.requires [ inl e ↦ rw e (lit< tt) | inr e ↦ rw e (lit< tt) ],
+      elim g.bound-1.eight_or_sixteen [ inl e ↦ rw e (lit< tt) | inr e ↦ rw e (lit< tt) ],
       (
-        elim c.requires [ inl e ↦ rw e (lit< tt) | inr e ↦ rw e (lit< tt) ],
-        (c.requires, subst (λ (x : Config g.row.N). IsConfig g.row.N x) (sym c.config-config.ensures.config) c.config-config.ensures.scenario.system.config),
+        elim g.bound-1.eight_or_sixteen [ inl e ↦ rw e (lit< tt) | inr e ↦ rw e (lit< tt) ],
+        subst (λ (x : Config g.row.N). IsConfig g.row.N x) (sym c.config-config.ensures.config) c.config-config.ensures.scenario.system.config,
       ),
     ),
   ),

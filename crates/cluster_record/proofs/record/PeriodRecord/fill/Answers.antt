@@ -29,24 +29,21 @@ take_records-requires g c =
     let sc : ScenarioView g.row.N = c.args.scenario.now in
     let p : ℕ = c.args.period in
     let nodes : c.self.inside.nodes ≡ sc.config.nodes = ap (λ (v : PeriodView). v.nodes) c.self.view_is ∙ c.requires.taken.shape.nodes in (
-      elim c.requires.capacity [ inl e ↦ rw e (lit< tt) | inr e ↦ rw e (lit< tt) ],
+      elim g.bound-1.eight_or_sixteen [ inl e ↦ rw e (lit< tt) | inr e ↦ rw e (lit< tt) ],
       (
-        elim c.requires.capacity [ inl e ↦ rw e (lit< tt) | inr e ↦ rw e (lit< tt) ],
+        elim g.bound-1.eight_or_sixteen [ inl e ↦ rw e (lit< tt) | inr e ↦ rw e (lit< tt) ],
         (
-          c.requires.capacity,
-          (
-            all_shut sc c.requires.after.room (p + 1) c.args.nodes.now c.requires.after.before,
-            ap length c.as_mut_slice.ensures.value ∙ c.self.invariant.records ∙ nodes ∙ sym (many_nodes sc c.requires.after.room (p + 1) c.args.nodes.now c.requires.after.before),
-          ),
+          all_shut sc c.requires.after.room (p + 1) c.args.nodes.now c.requires.after.before,
+          ap length c.as_mut_slice.ensures.value ∙ c.self.invariant.records ∙ nodes ∙ sym (many_nodes sc c.requires.after.room (p + 1) c.args.nodes.now c.requires.after.before),
         ),
       ),
     )
 
 pub plan-plan-requires : goal.plan-plan-requires
-plan-plan-requires g c = elim c.requires.capacity [ inl e ↦ rw e (lit< tt, lit< tt) | inr e ↦ rw e (lit< tt, lit< tt) ]
+plan-plan-requires g c = elim g.bound-1.eight_or_sixteen [ inl e ↦ rw e (lit< tt, lit< tt) | inr e ↦ rw e (lit< tt, lit< tt) ]
 
 pub members_of-members-requires : goal.members_of-members-requires
-members_of-members-requires g c = (elim c.requires.capacity [ inl e ↦ rw e (lit< tt) | inr e ↦ rw e (lit< tt) ], (lit< tt, c.requires.capacity))
+members_of-members-requires g c = (elim g.bound-1.eight_or_sixteen [ inl e ↦ rw e (lit< tt) | inr e ↦ rw e (lit< tt) ], lit< tt)
 
 pub budget-budget-requires : goal.budget-budget-requires
 budget-budget-requires g c =
@@ -66,7 +63,7 @@ classes_of-self-inside-requires g c =
     let nodes : c.self.inside.nodes ≡ sc.config.nodes = ap (λ (v : PeriodView). v.nodes) c.self.view_is ∙ c.requires.taken.shape.nodes in
     let planned : c.plan-plan.result.now.nodes ≡ sc.config.nodes = planned_nodes c.plan-plan.ensures.plan c.plan-plan.ensures.scenario in
     let periods : c.plan-plan.result.now.periods ≡ sc.periods = planned_periods c.plan-plan.ensures.plan c.plan-plan.ensures.scenario in
-    (lit< tt, (elim c.requires.capacity [ inl e ↦ rw e (lit< tt) | inr e ↦ rw e (lit< tt) ], (c.requires.capacity, (omega (arith, nodes, planned), omega (arith, periods, c.requires.in_run)))))
+    (lit< tt, (elim g.bound-1.eight_or_sixteen [ inl e ↦ rw e (lit< tt) | inr e ↦ rw e (lit< tt) ], (omega (arith, nodes, planned), omega (arith, periods, c.requires.in_run))))
 
 pub next_clocks-self-inside-requires : goal.next_clocks-self-inside-requires
 next_clocks-self-inside-requires g c =
@@ -74,12 +71,12 @@ next_clocks-self-inside-requires g c =
     let p : ℕ = c.args.period in
     let nodes : c.self.inside.nodes ≡ sc.config.nodes = ap (λ (v : PeriodView). v.nodes) c.self.view_is ∙ c.requires.taken.shape.nodes in
     let made = records_are sc p c.args.nodes.now c.self.inside.records c.take_records.new.records c.requires.after c.take_records.ensures (c.self.invariant.records ∙ nodes) in (
-      elim c.requires.capacity [ inl e ↦ rw e (lit< tt) | inr e ↦ rw e (lit< tt) ],
+      elim g.bound-1.eight_or_sixteen [ inl e ↦ rw e (lit< tt) | inr e ↦ rw e (lit< tt) ],
       (
-        elim c.requires.capacity [ inl e ↦ rw e (lit< tt) | inr e ↦ rw e (lit< tt) ],
+        elim g.bound-1.eight_or_sixteen [ inl e ↦ rw e (lit< tt) | inr e ↦ rw e (lit< tt) ],
         (
-          elim c.requires.capacity [ inl e ↦ rw e (lit< tt) | inr e ↦ rw e (lit< tt) ],
-          (c.requires.capacity, (c.requires.in_run, (c.as_slice-2.ensures.value ∙ made, ap (λ (v : PeriodView). offsets_kept v.clock) c.self.view_is ∙ c.requires.taken.clocks))),
+          elim g.bound-1.eight_or_sixteen [ inl e ↦ rw e (lit< tt) | inr e ↦ rw e (lit< tt) ],
+          (c.requires.in_run, (c.as_slice-2.ensures.value ∙ made, ap (λ (v : PeriodView). offsets_kept v.clock) c.self.view_is ∙ c.requires.taken.clocks)),
         ),
       ),
     )

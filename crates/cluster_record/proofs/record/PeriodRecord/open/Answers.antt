@@ -7,18 +7,18 @@ use Rattle.cluster_record.proofs.record.PeriodRecord.open.Goals as goal
 
 pub longest_frame-room-requires : goal.longest_frame-room-requires
 longest_frame-room-requires g c =
-    let wide : g.row.N ≤ 16 = elim c.requires.capacity [ inl e ↦ omega arith | inr e ↦ omega arith ] in
+    let wide : g.row.N ≤ 16 = elim g.bound-1.eight_or_sixteen [ inl e ↦ omega arith | inr e ↦ omega arith ] in
     record { nodes = omega (arith, c.requires.config.few_nodes, wide); rounds = few_rounds g.row.N c.args.config.now c.requires.config; fewer = c.requires.config.rounds }
 
 pub no_records-requires : goal.no_records-requires
-no_records-requires g c = (elim c.requires.capacity [ inl e ↦ rw e (lit< tt) | inr e ↦ rw e (lit< tt) ], c.requires.capacity)
+no_records-requires g c = elim g.bound-1.eight_or_sixteen [ inl e ↦ rw e (lit< tt) | inr e ↦ rw e (lit< tt) ]
 
 pub slot_count-requires : goal.slot_count-requires
 slot_count-requires g c = few_rounds g.row.N c.args.config.now c.requires.config
 
 pub invariant_of-result : goal.invariant_of-result
 invariant_of-result g c = record {
-  capacity = c.requires.capacity;
+  capacity = g.bound-1.eight_or_sixteen;
   records = c.in-Ok.ensures;
   slots = c.in-Ok-all_buffers.ensures.0 ∙ c.slot_count.ensures;
   frames = c.in-Ok-all_buffers.ensures.1;
@@ -46,7 +46,7 @@ pub no_members-requires : goal.no_members-requires
 no_members-requires g c = tt
 
 pub empty-requires : goal.empty-requires
-empty-requires g c = (lit< tt, elim c.requires.capacity [ inl e ↦ rw e (lit≤ tt) | inr e ↦ rw e (lit≤ tt) ])
+empty-requires g c = (lit< tt, elim g.bound-1.eight_or_sixteen [ inl e ↦ rw e (lit≤ tt) | inr e ↦ rw e (lit≤ tt) ])
 
 pub drop-records-requires : goal.drop-records-requires
 drop-records-requires g c κs = ((λ a m. absurd (not-mem-nil m)), (λ a m. absurd (not-mem-nil m)))

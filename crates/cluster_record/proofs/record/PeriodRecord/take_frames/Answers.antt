@@ -18,15 +18,12 @@ say_all-requires g c =
     let low : c.args.slot < length c.self.inside.sent.items = omega (arith, c.self.invariant.slots, ap slot_count m, c.requires.slot) in
     let was : IsSlot c.self.inside.room c.self.inside.nodes c.index_mut.result.now = subst (IsSlot c.self.inside.room c.self.inside.nodes) (sym c.index_mut.ensures.value) (All-get_or (IsSlot c.self.inside.room c.self.inside.nodes) c.self.inside.sent.items c.args.slot c.index_mut.result.now low c.self.invariant.frames) in
     let room : IsRoom c.args.self.now.nodes c.args.self.now.m c.self.inside.room = subst (λ (k : ℕ). IsRoom k c.args.self.now.m c.self.inside.room) nodes (subst (λ (k : ℕ). IsRoom c.self.inside.nodes k c.self.inside.room) m c.self.invariant.room) in (
-      elim c.requires.capacity [ inl e ↦ rw e (lit< tt) | inr e ↦ rw e (lit< tt) ],
+      elim g.bound-1.eight_or_sixteen [ inl e ↦ rw e (lit< tt) | inr e ↦ rw e (lit< tt) ],
       (
-        c.requires.capacity,
+        c.requires.open,
         (
-          c.requires.open,
-          (
-            ap length c.as_mut_slice.ensures.value ∙ was.each ∙ nodes ∙ sym c.requires.each,
-            (c.requires.short c.self.inside.room room, subst (All (IsBuffer c.self.inside.room)) (sym c.as_mut_slice.ensures.value) was.buffers),
-          ),
+          ap length c.as_mut_slice.ensures.value ∙ was.each ∙ nodes ∙ sym c.requires.each,
+          (c.requires.short c.self.inside.room room, subst (All (IsBuffer c.self.inside.room)) (sym c.as_mut_slice.ensures.value) was.buffers),
         ),
       ),
     )

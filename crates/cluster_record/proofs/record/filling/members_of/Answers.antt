@@ -28,13 +28,13 @@ returns-else-eq g c =
     ∙ sym (shown_with c.args.records.now c.args.reference c.in-Some.node c.in-Some-get.record.now c.in-Some.is at)
 
 pub empty-requires : goal.empty-requires
-empty-requires g c = (lit< tt, elim c.requires [ inl e ↦ omega (arith, e) | inr e ↦ omega (arith, e) ])
+empty-requires g c = (lit< tt, elim g.bound-1.eight_or_sixteen [ inl e ↦ omega (arith, e) | inr e ↦ omega (arith, e) ])
 
 pub empty-requires-else-eq : goal.empty-requires-else-eq
-empty-requires-else-eq g c = (lit< tt, elim c.requires [ inl e ↦ omega (arith, e) | inr e ↦ omega (arith, e) ])
+empty-requires-else-eq g c = (lit< tt, elim g.bound-1.eight_or_sixteen [ inl e ↦ omega (arith, e) | inr e ↦ omega (arith, e) ])
 
 pub empty-requires-in_default-get : goal.empty-requires-in_default-get
-empty-requires-in_default-get g c = (lit< tt, elim c.requires [ inl e ↦ omega (arith, e) | inr e ↦ omega (arith, e) ])
+empty-requires-in_default-get g c = (lit< tt, elim g.bound-1.eight_or_sixteen [ inl e ↦ omega (arith, e) | inr e ↦ omega (arith, e) ])
 
 pub eq-requires : goal.eq-requires
 eq-requires g c = tt

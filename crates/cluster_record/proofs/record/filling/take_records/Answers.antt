@@ -25,9 +25,9 @@ bounds-records-i g c = omega (arith, c.loop-i-test.true, c.loop-i.auto.records, 
 
 pub record-requires : goal.record-requires
 record-requires g c = (
-  elim c.requires.capacity [ inl e ↦ rw e (lit< tt) | inr e ↦ rw e (lit< tt) ],
+  elim g.bound-1.eight_or_sixteen [ inl e ↦ rw e (lit< tt) | inr e ↦ rw e (lit< tt) ],
   (
-    elim c.requires.capacity [ inl e ↦ rw e (lit< tt) | inr e ↦ rw e (lit< tt) ],
+    elim g.bound-1.eight_or_sixteen [ inl e ↦ rw e (lit< tt) | inr e ↦ rw e (lit< tt) ],
     ap (λ (v : NodeView g.row.N). v.phase.is_open) c.index-nodes-i.is ∙ c.requires.closed c.loop-i.i c.index-nodes-i.result c.loop-i-test.true,
   ),
 )

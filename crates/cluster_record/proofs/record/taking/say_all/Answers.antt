@@ -35,7 +35,7 @@ say-requires g c =
     let h : IsBuffer c.args.room (get_or c.loop-i.frames c.loop-i.i c.index-frames-i.result) = All-get_or (IsBuffer c.args.room) c.loop-i.frames c.loop-i.i c.index-frames-i.result
     (omega (arith, c.loop-i-test.true, c.loop-i.auto.frames, c.requires.each)) c.loop-i.invariant.1 in
     let s = fits c.args.nodes.now c.loop-i.i c.args.room c.index-nodes-i.result c.index-nodes-i.result.arrived.frame_max c.loop-i-test.true c.index-nodes-i.is (omega arith) c.requires.short in (
-      elim c.requires.capacity [ inl e ↦ rw e (lit< tt) | inr e ↦ rw e (lit< tt) ],
+      elim g.bound-1.eight_or_sixteen [ inl e ↦ rw e (lit< tt) | inr e ↦ rw e (lit< tt) ],
       (ap (λ (v : NodeView g.row.N). v.phase.is_open) c.index-nodes-i.is ∙ c.requires.open c.loop-i.i c.index-nodes-i.result c.loop-i-test.true, omega (arith, h.roomy, s)),
     )
 

@@ -9,12 +9,12 @@ use Rattle.cluster_periods.proofs.Handing.{ready_takes}
 use Rattle.cluster_step.proofs.links.Link.deliver_changed.Goals as goal
 
 pub me-requires : goal.me-requires
-me-requires g c = elim c.requires.capacity [ inl e ↦ rw e (lit< tt) | inr e ↦ rw e (lit< tt) ]
+me-requires g c = elim g.bound-1.eight_or_sixteen [ inl e ↦ rw e (lit< tt) | inr e ↦ rw e (lit< tt) ]
 
 pub hand-requires : goal.hand-requires
 hand-requires g c = (
-  elim c.requires.capacity [ inl e ↦ rw e (lit< tt) | inr e ↦ rw e (lit< tt) ],
-  (c.requires.capacity, (ready_takes c.args.self.now.plan.now c.args.self.now.from c.args.node.now c.args.self.now.in_use c.requires.ready, c.requires.other)),
+  elim g.bound-1.eight_or_sixteen [ inl e ↦ rw e (lit< tt) | inr e ↦ rw e (lit< tt) ],
+  (ready_takes c.args.self.now.plan.now c.args.self.now.from c.args.node.now c.args.self.now.in_use c.requires.ready, c.requires.other),
 )
 
 pub returns : goal.returns

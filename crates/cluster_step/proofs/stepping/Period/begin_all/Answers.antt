@@ -8,12 +8,9 @@ pub begin_node-requires : goal.begin_node-requires
 begin_node-requires g c = (
   lit< tt,
   (
-    elim c.requires.capacity [ inl e ↦ rw e (lit< tt) | inr e ↦ rw e (lit< tt) ],
-    (
-      c.requires.capacity,
-      subst (IsResting c.args.self.now.scenario.now.plan) c.node-item.is
-          (holds_here (IsResting c.args.self.now.scenario.now.plan) (begun_by c.args.self.now.scenario.now c.args.self.now.number) c.args.nodes.now c.loop-node.nodes c.loop-node.node-index c.node-item.result c.loop-node-test.true c.loop-node.invariant c.node-item.is c.requires.resting),
-    ),
+    elim g.bound-1.eight_or_sixteen [ inl e ↦ rw e (lit< tt) | inr e ↦ rw e (lit< tt) ],
+    subst (IsResting c.args.self.now.scenario.now.plan) c.node-item.is
+        (holds_here (IsResting c.args.self.now.scenario.now.plan) (begun_by c.args.self.now.scenario.now c.args.self.now.number) c.args.nodes.now c.loop-node.nodes c.loop-node.node-index c.node-item.result c.loop-node-test.true c.loop-node.invariant c.node-item.is c.requires.resting),
   ),
 )
 

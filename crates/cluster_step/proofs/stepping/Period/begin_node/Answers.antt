@@ -6,35 +6,32 @@ use Rattle.cluster_step.proofs.Waking.{woken_shut, begun_is}
 use Rattle.cluster_step.proofs.stepping.Period.begin_node.Goals as goal
 
 pub me-me-requires : goal.me-me-requires
-me-me-requires g c = elim c.requires.capacity [ inl e ↦ rw e (lit< tt) | inr e ↦ rw e (lit< tt) ]
+me-me-requires g c = elim g.bound-1.eight_or_sixteen [ inl e ↦ rw e (lit< tt) | inr e ↦ rw e (lit< tt) ]
 
 pub wake-requires : goal.wake-requires
 wake-requires g c = (
-  elim c.requires.capacity [ inl e ↦ rw e (lit< tt) | inr e ↦ rw e (lit< tt) ],
+  elim g.bound-1.eight_or_sixteen [ inl e ↦ rw e (lit< tt) | inr e ↦ rw e (lit< tt) ],
   (
     lit< tt,
     (
-      c.requires.capacity,
-      (
-        subst (λ (p : Plan). IsResting p c.args.node.now) (sym c.plan.ensures.plan) c.requires.resting,
-        omega (arith, planned_periods c.plan.ensures.plan c.plan.ensures.scenario, c.args.self.now.in_run),
-      ),
+      subst (λ (p : Plan). IsResting p c.args.node.now) (sym c.plan.ensures.plan) c.requires.resting,
+      omega (arith, planned_periods c.plan.ensures.plan c.plan.ensures.scenario, c.args.self.now.in_run),
     ),
   ),
 )
 
 pub plan-requires : goal.plan-requires
-plan-requires g c = elim c.requires.capacity [ inl e ↦ rw e (lit< tt, lit< tt) | inr e ↦ rw e (lit< tt, lit< tt) ]
+plan-requires g c = elim g.bound-1.eight_or_sixteen [ inl e ↦ rw e (lit< tt, lit< tt) | inr e ↦ rw e (lit< tt, lit< tt) ]
 
 pub inputs-requires : goal.inputs-requires
 inputs-requires g c =
     let me : c.me-me.result < c.args.self.now.scenario.now.config.nodes = omega (arith, c.me-me.ensures, c.requires.resting.me, c.plan.ensures.scenario.system.plan_nodes) in
-    (elim c.requires.capacity [ inl e ↦ rw e (lit< tt) | inr e ↦ rw e (lit< tt) ], me)
+    (elim g.bound-1.eight_or_sixteen [ inl e ↦ rw e (lit< tt) | inr e ↦ rw e (lit< tt) ], me)
 
 pub begin-requires : goal.begin-requires
 begin-requires g c =
     let me : c.me-me.result < c.args.self.now.scenario.now.config.nodes = omega (arith, c.me-me.ensures, c.requires.resting.me, c.plan.ensures.scenario.system.plan_nodes) in (
-      elim c.requires.capacity [ inl e ↦ rw e (lit< tt) | inr e ↦ rw e (lit< tt) ],
+      elim g.bound-1.eight_or_sixteen [ inl e ↦ rw e (lit< tt) | inr e ↦ rw e (lit< tt) ],
       (
         woken_shut (restarts_at c.plan.result.now c.args.node.now.phase.me c.args.self.now.number) c.args.node.now c.wake.new.node c.wake.ensures c.requires.resting.shut,
         rw c.inputs.ensures (c.plan.ensures.scenario.system.inputs c.me-me.result c.args.self.now.number me).readings,

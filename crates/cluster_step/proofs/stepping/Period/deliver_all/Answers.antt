@@ -6,22 +6,22 @@ use Rattle.cluster_step.proofs.Pieces.{all_here, ready_still}
 use Rattle.cluster_step.proofs.stepping.Period.deliver_all.Goals as goal
 
 pub order-order-requires : goal.order-order-requires
-order-order-requires g c = elim c.requires.capacity [ inl e ↦ rw e (lit< tt) | inr e ↦ rw e (lit< tt) ]
+order-order-requires g c = elim g.bound-1.eight_or_sixteen [ inl e ↦ rw e (lit< tt) | inr e ↦ rw e (lit< tt) ]
 
 pub config-requires : goal.config-requires
-config-requires g c = elim c.requires.capacity [ inl e ↦ rw e (lit< tt, lit< tt) | inr e ↦ rw e (lit< tt, lit< tt) ]
+config-requires g c = elim g.bound-1.eight_or_sixteen [ inl e ↦ rw e (lit< tt, lit< tt) | inr e ↦ rw e (lit< tt, lit< tt) ]
 
 pub deliver_senders-requires : goal.deliver_senders-requires
 deliver_senders-requires g c =
     let sc : ScenarioView g.row.N = c.args.self.now.scenario.now in
     let nodes : c.config.result.now.nodes ≡ sc.config.nodes = ap (λ (y : Config g.row.N). y.nodes) c.config.ensures.config in
-    (lit< tt, (elim c.requires.capacity [ inl e ↦ rw e (lit< tt) | inr e ↦ rw e (lit< tt) ], (c.requires.capacity, (c.requires.ready, (c.requires.slot, ((omega (arith, nodes, c.order-order.ensures.order, c.order-order.ensures.scenario.order), omega (arith, nodes)), c.requires.frames))))))
+    (lit< tt, (elim g.bound-1.eight_or_sixteen [ inl e ↦ rw e (lit< tt) | inr e ↦ rw e (lit< tt) ], (c.requires.ready, (c.requires.slot, ((omega (arith, nodes, c.order-order.ensures.order, c.order-order.ensures.scenario.order), omega (arith, nodes)), c.requires.frames)))))
 
 pub deliver_senders-requires-2 : goal.deliver_senders-requires-2
 deliver_senders-requires-2 g c =
     let sc : ScenarioView g.row.N = c.args.self.now.scenario.now in
     let ready = ready_still sc.plan c.args.node.now c.deliver_senders.new.node _ c.deliver_senders.ensures c.requires.ready in
-    (lit< tt, (elim c.requires.capacity [ inl e ↦ rw e (lit< tt) | inr e ↦ rw e (lit< tt) ], (c.requires.capacity, (ready, (c.requires.slot, ((omega arith, omega (arith, c.order-order.ensures.order, c.order-order.ensures.scenario.order)), c.requires.frames))))))
+    (lit< tt, (elim g.bound-1.eight_or_sixteen [ inl e ↦ rw e (lit< tt) | inr e ↦ rw e (lit< tt) ], (ready, (c.requires.slot, ((omega arith, omega (arith, c.order-order.ensures.order, c.order-order.ensures.scenario.order)), c.requires.frames)))))
 
 pub returns : goal.returns
 returns g c =

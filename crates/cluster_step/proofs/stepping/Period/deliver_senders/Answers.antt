@@ -10,7 +10,7 @@ use Rattle.cluster_step.proofs.Pieces.{none_taken_yet, one_behind, ready_still}
 use Rattle.cluster_step.proofs.stepping.Period.deliver_senders.Goals as goal
 
 pub plan-plan-requires : goal.plan-plan-requires
-plan-plan-requires g c = elim c.requires.capacity [ inl e ↦ rw e (lit< tt, lit< tt) | inr e ↦ rw e (lit< tt, lit< tt) ]
+plan-plan-requires g c = elim g.bound-1.eight_or_sixteen [ inl e ↦ rw e (lit< tt, lit< tt) | inr e ↦ rw e (lit< tt, lit< tt) ]
 
 pub invariant_of-link : goal.invariant_of-link
 invariant_of-link g c =
@@ -42,8 +42,8 @@ deliver-requires g c =
     let short : length c.index-frames-from.result.items ≤ 90104 = subst (λ (f : Vec ℕ Global). length f.items ≤ 90104) (sym c.index-frames-from.is) (All-get_or (λ (f : Vec ℕ Global). length f.items ≤ 90104) c.args.frames.now c.loop-from.from c.index-frames-from.result low c.requires.frames.short) in (
       lit< tt,
       (
-        elim c.requires.capacity [ inl e ↦ rw e (lit< tt) | inr e ↦ rw e (lit< tt) ],
-        (c.requires.capacity, (subst (λ (q : Plan). IsReady q node) (sym c.plan-plan.ensures.plan) ready, subst (λ (bytes : List ℕ). length bytes ≤ 90104) (sym c.as_slice.ensures.value) short)),
+        elim g.bound-1.eight_or_sixteen [ inl e ↦ rw e (lit< tt) | inr e ↦ rw e (lit< tt) ],
+        (subst (λ (q : Plan). IsReady q node) (sym c.plan-plan.ensures.plan) ready, subst (λ (bytes : List ℕ). length bytes ≤ 90104) (sym c.as_slice.ensures.value) short),
       ),
     )
 
@@ -75,7 +75,7 @@ pub loop-from-smaller : goal.loop-from-smaller
 loop-from-smaller g c = omega (arith, c.loop-from-test.true)
 
 pub offset_bounds-frames-from : goal.offset_bounds-frames-from
-offset_bounds-frames-from g c = let few = c.plan-plan.ensures.scenario.system.config.few_nodes in elim c.requires.capacity [ inl e ↦ omega (arith, e, few, c.loop-from-test.true, c.requires.senders.1) | inr e ↦ omega (arith, e, few, c.loop-from-test.true, c.requires.senders.1) ]
+offset_bounds-frames-from g c = let few = c.plan-plan.ensures.scenario.system.config.few_nodes in elim g.bound-1.eight_or_sixteen [ inl e ↦ omega (arith, e, few, c.loop-from-test.true, c.requires.senders.1) | inr e ↦ omega (arith, e, few, c.loop-from-test.true, c.requires.senders.1) ]
 
 pub overflow_cast-from : goal.overflow_cast-from
-overflow_cast-from g c = let few = c.plan-plan.ensures.scenario.system.config.few_nodes in elim c.requires.capacity [ inl e ↦ omega (arith, e, few, c.loop-from-test.true, c.requires.senders.1) | inr e ↦ omega (arith, e, few, c.loop-from-test.true, c.requires.senders.1) ]
+overflow_cast-from g c = let few = c.plan-plan.ensures.scenario.system.config.few_nodes in elim g.bound-1.eight_or_sixteen [ inl e ↦ omega (arith, e, few, c.loop-from-test.true, c.requires.senders.1) | inr e ↦ omega (arith, e, few, c.loop-from-test.true, c.requires.senders.1) ]

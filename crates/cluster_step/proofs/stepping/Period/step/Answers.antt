@@ -15,7 +15,7 @@ use Rattle.cluster_step.proofs.Slotting.{slots_none, slots_more, all_short, none
 use Rattle.cluster_step.proofs.stepping.Period.step.Goals as goal
 
 pub config-requires : goal.config-requires
-config-requires g c = elim c.requires.capacity [ inl e ↦ rw e (lit< tt, lit< tt) | inr e ↦ rw e (lit< tt, lit< tt) ]
+config-requires g c = elim g.bound-1.eight_or_sixteen [ inl e ↦ rw e (lit< tt, lit< tt) | inr e ↦ rw e (lit< tt, lit< tt) ]
 
 pub slot_count-slots-requires : goal.slot_count-slots-requires
 slot_count-slots-requires g c =
@@ -26,8 +26,8 @@ pub begin_all-requires : goal.begin_all-requires
 begin_all-requires g c = (
   lit< tt,
   (
-    elim c.requires.capacity [ inl e ↦ rw e (lit< tt) | inr e ↦ rw e (lit< tt) ],
-    (c.requires.capacity, all_resting c.args.self.now.scenario.now c.config.ensures.scenario c.args.self.now.number c.requires.before.room c.args.nodes.now c.requires.before.before),
+    elim g.bound-1.eight_or_sixteen [ inl e ↦ rw e (lit< tt) | inr e ↦ rw e (lit< tt) ],
+    all_resting c.args.self.now.scenario.now c.config.ensures.scenario c.args.self.now.number c.requires.before.room c.args.nodes.now c.requires.before.before,
   ),
 )
 
@@ -49,22 +49,19 @@ step_slot-requires g c =
     let shape = shape_taken sc p c.loop-slot.slot c.args.shown.now c.loop-slot.shown c.requires.shape c.loop-slot.invariant.1 in (
       lit< tt,
       (
-        elim c.requires.capacity [ inl e ↦ rw e (lit< tt) | inr e ↦ rw e (lit< tt) ],
+        elim g.bound-1.eight_or_sixteen [ inl e ↦ rw e (lit< tt) | inr e ↦ rw e (lit< tt) ],
         (
-          elim c.requires.capacity [ inl e ↦ rw e (lit< tt) | inr e ↦ rw e (lit< tt) ],
+          elim g.bound-1.eight_or_sixteen [ inl e ↦ rw e (lit< tt) | inr e ↦ rw e (lit< tt) ],
           (
-            c.requires.capacity,
+            low,
             (
-              low,
+              subst (All (IsReady sc.plan)) (sym at) (is.ready c.loop-slot.slot low),
               (
-                subst (All (IsReady sc.plan)) (sym at) (is.ready c.loop-slot.slot low),
-                (
-                  record {
-                    each = omega (arith, c.loop-slot.auto.nodes, c.begin_all.auto.nodes, many_nodes sc room p c.args.nodes.now c.requires.before.before, shape.nodes);
-                    short = all_short sc room c.loop-slot.nodes c.loop-slot.shown wf.system.config c.requires.capacity c.requires.before.greatest shape (subst (All (λ (v : NodeView g.row.N). v.arrived.frame_max ≤ room)) (sym at) (is.roomy c.loop-slot.slot low));
-                  },
-                  shape,
-                ),
+                record {
+                  each = omega (arith, c.loop-slot.auto.nodes, c.begin_all.auto.nodes, many_nodes sc room p c.args.nodes.now c.requires.before.before, shape.nodes);
+                  short = all_short sc room c.loop-slot.nodes c.loop-slot.shown wf.system.config g.bound-1.eight_or_sixteen c.requires.before.greatest shape (subst (All (λ (v : NodeView g.row.N). v.arrived.frame_max ≤ room)) (sym at) (is.roomy c.loop-slot.slot low));
+                },
+                shape,
               ),
             ),
           ),

@@ -9,7 +9,7 @@ use Rattle.cluster_periods.proofs.Handing.{holds_here, put_over, all_put}
 use Rattle.cluster_step.proofs.stepping.Period.step_each.Goals as goal
 
 pub frames-frames-requires : goal.frames-frames-requires
-frames-frames-requires g c = (elim c.requires.capacity [ inl e ↦ rw e (lit< tt) | inr e ↦ rw e (lit< tt) ], subst (λ (m : ℕ). c.args.slot < slot_count m) (sym c.requires.shape.m) c.requires.slot)
+frames-frames-requires g c = (elim g.bound-1.eight_or_sixteen [ inl e ↦ rw e (lit< tt) | inr e ↦ rw e (lit< tt) ], subst (λ (m : ℕ). c.args.slot < slot_count m) (sym c.requires.shape.m) c.requires.slot)
 
 pub loop-node-init : goal.loop-node-init
 loop-node-init g c = refl
@@ -22,8 +22,8 @@ step_node-requires g c =
     let ready : IsReady sc.plan node = subst (IsReady sc.plan) c.node-item.is (holds_here (IsReady sc.plan) (through_slot sc.plan sc.order sc.config.nodes c.args.self.now.number c.args.slot frames) c.args.nodes.now c.loop-node.nodes c.loop-node.node-index c.node-item.result c.loop-node-test.true c.loop-node.invariant c.node-item.is c.requires.ready) in (
       lit< tt,
       (
-        elim c.requires.capacity [ inl e ↦ rw e (lit< tt) | inr e ↦ rw e (lit< tt) ],
-        (c.requires.capacity, (ready, (c.requires.slot, record { each = c.frames-frames.ensures.each ∙ c.requires.shape.nodes; short = c.frames-frames.ensures.short }))),
+        elim g.bound-1.eight_or_sixteen [ inl e ↦ rw e (lit< tt) | inr e ↦ rw e (lit< tt) ],
+        (ready, (c.requires.slot, record { each = c.frames-frames.ensures.each ∙ c.requires.shape.nodes; short = c.frames-frames.ensures.short })),
       ),
     )
 

@@ -7,15 +7,15 @@ use Rattle.cluster_step.proofs.Pieces.{ready_still}
 use Rattle.cluster_step.proofs.stepping.Period.step_node.Goals as goal
 
 pub swap_rooms-requires : goal.swap_rooms-requires
-swap_rooms-requires g c = elim c.requires.capacity [ inl e ↦ rw e (lit< tt) | inr e ↦ rw e (lit< tt) ]
+swap_rooms-requires g c = elim g.bound-1.eight_or_sixteen [ inl e ↦ rw e (lit< tt) | inr e ↦ rw e (lit< tt) ]
 
 pub deliver_all-requires : goal.deliver_all-requires
 deliver_all-requires g c =
     let sc : ScenarioView g.row.N = c.args.self.now.scenario.now in (
       lit< tt,
       (
-        elim c.requires.capacity [ inl e ↦ rw e (lit< tt) | inr e ↦ rw e (lit< tt) ],
-        (c.requires.capacity, (subst (IsReady sc.plan) (sym c.swap_rooms.ensures) c.requires.ready, (c.requires.slot, c.requires.frames))),
+        elim g.bound-1.eight_or_sixteen [ inl e ↦ rw e (lit< tt) | inr e ↦ rw e (lit< tt) ],
+        (subst (IsReady sc.plan) (sym c.swap_rooms.ensures) c.requires.ready, (c.requires.slot, c.requires.frames)),
       ),
     )
 
@@ -23,12 +23,12 @@ pub slot_end-requires : goal.slot_end-requires
 slot_end-requires g c =
     let sc : ScenarioView g.row.N = c.args.self.now.scenario.now in
     let ready : IsReady sc.plan c.swap_rooms.new.self = subst (IsReady sc.plan) (sym c.swap_rooms.ensures) c.requires.ready in (
-      elim c.requires.capacity [ inl e ↦ rw e (lit< tt) | inr e ↦ rw e (lit< tt) ],
+      elim g.bound-1.eight_or_sixteen [ inl e ↦ rw e (lit< tt) | inr e ↦ rw e (lit< tt) ],
       (ready_still sc.plan c.swap_rooms.new.self c.deliver_all.new.node _ c.deliver_all.ensures ready).is_open,
     )
 
 pub swap_rooms-requires-2 : goal.swap_rooms-requires-2
-swap_rooms-requires-2 g c = elim c.requires.capacity [ inl e ↦ rw e (lit< tt) | inr e ↦ rw e (lit< tt) ]
+swap_rooms-requires-2 g c = elim g.bound-1.eight_or_sixteen [ inl e ↦ rw e (lit< tt) | inr e ↦ rw e (lit< tt) ]
 
 pub returns : goal.returns
 returns g c =

@@ -8,17 +8,14 @@ use Rattle.cluster_step.proofs.stepping.Period.step_slot.Goals as goal
 pub take_frames-requires : goal.take_frames-requires
 take_frames-requires g c =
     let shape = c.requires.shape in (
-      elim c.requires.capacity [ inl e ↦ rw e (lit< tt) | inr e ↦ rw e (lit< tt) ],
+      elim g.bound-1.eight_or_sixteen [ inl e ↦ rw e (lit< tt) | inr e ↦ rw e (lit< tt) ],
       (
-        elim c.requires.capacity [ inl e ↦ rw e (lit< tt) | inr e ↦ rw e (lit< tt) ],
+        elim g.bound-1.eight_or_sixteen [ inl e ↦ rw e (lit< tt) | inr e ↦ rw e (lit< tt) ],
         (
-          c.requires.capacity,
+          omega (arith, c.requires.slot, ap slot_count shape.m),
           (
-            omega (arith, c.requires.slot, ap slot_count shape.m),
-            (
-              open_all c.args.self.now.scenario.now.plan c.args.nodes.now c.requires.ready,
-              (c.requires.room.each, c.requires.room.short),
-            ),
+            open_all c.args.self.now.scenario.now.plan c.args.nodes.now c.requires.ready,
+            (c.requires.room.each, c.requires.room.short),
           ),
         ),
       ),
@@ -29,10 +26,10 @@ step_each-requires g c =
     let shape = shape_kept c.args.self.now.scenario.now.config c.args.slot c.args.shown.now c.take_frames.new.self (map frame_of c.args.nodes.now) c.requires.shape c.take_frames.ensures in (
       lit< tt,
       (
-        elim c.requires.capacity [ inl e ↦ rw e (lit< tt) | inr e ↦ rw e (lit< tt) ],
+        elim g.bound-1.eight_or_sixteen [ inl e ↦ rw e (lit< tt) | inr e ↦ rw e (lit< tt) ],
         (
-          elim c.requires.capacity [ inl e ↦ rw e (lit< tt) | inr e ↦ rw e (lit< tt) ],
-          (c.requires.capacity, (c.requires.ready, (shape, c.requires.slot))),
+          elim g.bound-1.eight_or_sixteen [ inl e ↦ rw e (lit< tt) | inr e ↦ rw e (lit< tt) ],
+          (c.requires.ready, (shape, c.requires.slot)),
         ),
       ),
     )

@@ -34,7 +34,7 @@ returns g c =
     c.loop-node.invariant ∙ ap (λ (n : ℕ). ids_where_below off g.row.N n) all ∙ ids_where-within off g.row.N c.args.config.now.nodes c.requires.config.few_nodes
 
 pub empty-off-requires : goal.empty-off-requires
-empty-off-requires g c = let cap : IsCapacity g.row.N = c.requires.capacity in (lit< tt, omega arith)
+empty-off-requires g c = let cap : IsCapacity g.row.N = g.bound-1.eight_or_sixteen in (lit< tt, omega arith)
 
 pub loop-node-init : goal.loop-node-init
 loop-node-init g c =
@@ -44,7 +44,7 @@ loop-node-init g c =
 pub is_off-requires : goal.is_off-requires
 is_off-requires g c =
     let room : c.loop-node.node < g.row.N = (let t = c.loop-node-test.true in let f = c.requires.config.few_nodes in omega arith) in
-    let cap : IsCapacity g.row.N = c.requires.capacity in (
+    let cap : IsCapacity g.row.N = g.bound-1.eight_or_sixteen in (
       elim cap [ inl e ↦ rw e (lit< tt) | inr e ↦ rw e (lit< tt) ],
       (
         elim cap [ inl e ↦ rw e (lit< tt) | inr e ↦ rw e (lit< tt) ],

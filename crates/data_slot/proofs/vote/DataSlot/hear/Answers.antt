@@ -30,11 +30,11 @@ loop-from-init g c = record { wide = length-replicate {A = Option (List ℤ)} g.
 pub values_from-requires : goal.values_from-requires
 values_from-requires g c =
     let r = c.requires in
-    let cap : IsCapacity g.row.N = r.capacity in (
+    let cap : IsCapacity g.row.N = g.bound-1.eight_or_sixteen in (
       lit< tt,
       (
         elim cap [ inl e ↦ rw e (lit< tt) | inr e ↦ rw e (lit< tt) ],
-        (cap, (r.config, (r.due, (r.heard, c.loop-from-test.true)))),
+        (r.config, (r.due, (r.heard, c.loop-from-test.true))),
       ),
     )
 
@@ -42,7 +42,7 @@ pub overflow_cast-from : goal.overflow_cast-from
 overflow_cast-from g c = let t = c.loop-from-test.true in let f = c.requires.config.few_nodes in let n = g.N.fits in omega arith
 
 pub offset_bounds-told-from : goal.offset_bounds-told-from
-offset_bounds-told-from g c = let t = c.loop-from-test.true in let f = c.requires.config.few_nodes in let cap : IsCapacity g.row.N = c.requires.capacity in omega arith
+offset_bounds-told-from g c = let t = c.loop-from-test.true in let f = c.requires.config.few_nodes in let cap : IsCapacity g.row.N = g.bound-1.eight_or_sixteen in omega arith
 
 pub bounds-told-from : goal.bounds-told-from
 bounds-told-from g c = let t = c.loop-from-test.true in let f = c.requires.config.few_nodes in omega arith

@@ -10,7 +10,7 @@ use Rattle.data_slot.proofs.vote.DataSlot.values_from.Goals as goal
 
 pub values_in_frame-requires : goal.values_in_frame-requires
 values_in_frame-requires g c =
-    (search rules, (c.requires.capacity, wider (length c.args.config.now.channels.items) 8 c.args.self.now.due.now c.requires.config.few_channels c.requires.due))
+    (search rules, wider (length c.args.config.now.channels.items) 8 c.args.self.now.due.now c.requires.config.few_channels c.requires.due)
 
 pub returns-then-from-self : goal.returns-then-from-self
 returns-then-from-self g c x on =

@@ -6,7 +6,7 @@ use Rattle.data_slot.proofs.vote.DataSlot.vote.Goals as goal
 
 pub vote_due-votes-requires : goal.vote_due-votes-requires
 vote_due-votes-requires g c =
-    let cap : IsCapacity g.row.N = c.requires.capacity in (
+    let cap : IsCapacity g.row.N = g.bound-1.eight_or_sixteen in (
       elim cap [ inl e ↦ rw e (lit< tt) | inr e ↦ rw e (lit< tt) ],
       (
         elim cap [ inl e ↦ rw e (lit< tt) | inr e ↦ rw e (lit< tt) ],
@@ -14,7 +14,7 @@ vote_due-votes-requires g c =
           elim cap [ inl e ↦ rw e (lit< tt) | inr e ↦ rw e (lit< tt) ],
           (
             elim cap [ inl e ↦ rw e (lit< tt) | inr e ↦ rw e (lit< tt) ],
-            (c.requires.capacity, (c.requires.config, (c.requires.agreed, All-ids (length c.args.config.now.channels.items) c.args.self.now.due.now c.requires.due))),
+            (c.requires.config, (c.requires.agreed, All-ids (length c.args.config.now.channels.items) c.args.self.now.due.now c.requires.due)),
           ),
         ),
       ),
@@ -22,11 +22,11 @@ vote_due-votes-requires g c =
 
 pub deviating-off-requires : goal.deviating-off-requires
 deviating-off-requires g c =
-    let cap : IsCapacity g.row.N = c.requires.capacity in (
+    let cap : IsCapacity g.row.N = g.bound-1.eight_or_sixteen in (
       elim cap [ inl e ↦ rw e (lit< tt) | inr e ↦ rw e (lit< tt) ],
       (
         elim cap [ inl e ↦ rw e (lit< tt) | inr e ↦ rw e (lit< tt) ],
-        (lit< tt, (c.requires.capacity, (c.requires.config, All-ids (length c.args.config.now.channels.items) c.args.self.now.due.now c.requires.due))),
+        (lit< tt, (c.requires.config, All-ids (length c.args.config.now.channels.items) c.args.self.now.due.now c.requires.due)),
       ),
     )
 
@@ -46,5 +46,5 @@ returns-clause-off g c =
 
 pub hear-told-requires : goal.hear-told-requires
 hear-told-requires g c =
-    let cap : IsCapacity g.row.N = c.requires.capacity in
-    (lit< tt, (elim cap [ inl e ↦ rw e (lit< tt) | inr e ↦ rw e (lit< tt) ], (elim cap [ inl e ↦ rw e (lit< tt) | inr e ↦ rw e (lit< tt) ], (cap, (c.requires.config, (c.requires.due, c.requires.heard))))))
+    let cap : IsCapacity g.row.N = g.bound-1.eight_or_sixteen in
+    (lit< tt, (elim cap [ inl e ↦ rw e (lit< tt) | inr e ↦ rw e (lit< tt) ], (elim cap [ inl e ↦ rw e (lit< tt) | inr e ↦ rw e (lit< tt) ], (c.requires.config, (c.requires.due, c.requires.heard)))))

@@ -16,7 +16,7 @@ take-requires g c =
     let r = subst (λ q. IfSome q (λ (y : Expectation). (y.nodes ≡ n.nodes) × (0 < y.nodes) × (y.m ≤ 3))) (ap (option_map expected) c.in-Some.is) c.self.invariant.inboxes.readable in
     let few : e.nodes ≤ g.row.N = omega (arith, r.0, c.self.invariant.inboxes.few) in
     let low : c.args.from < length n.arrivals.held = omega (arith, c.self.invariant.inboxes.each, ap (λ (w : Watch). w.nodes) c.self.view_is, c.requires.node) in
-    (lit< tt, (c.self.invariant.inboxes.capacity, (r.1, (few, (r.2, low)))))
+    (lit< tt, (r.1, (few, (r.2, low))))
 
 pub returns : goal.returns
 returns g c =

@@ -14,7 +14,7 @@ good_frame-requires g c =
     let cap = c.self.invariant.inboxes.capacity in
     let nodes = ap (λ (v : Watch). v.nodes) c.self.view_is in
     let low : c.args.from < length n.arrivals.held = omega (arith, c.self.invariant.inboxes.each, nodes, c.requires.node) in
-    (lit< tt, (elim cap [ inl y ↦ rw y (lit< tt) | inr y ↦ rw y (lit< tt) ], (cap, (h.readable.1, (omega (arith, h.readable.0, nodes, c.self.invariant.inboxes.few), (low, h.found))))))
+    (lit< tt, (elim cap [ inl y ↦ rw y (lit< tt) | inr y ↦ rw y (lit< tt) ], (h.readable.1, (omega (arith, h.readable.0, nodes, c.self.invariant.inboxes.few), (low, h.found)))))
 
 pub returns-in-Some-clause-told : goal.returns-in-Some-clause-told
 returns-in-Some-clause-told g c =

@@ -79,13 +79,10 @@ slice_bounds-read_row-start g c = behind c.args.nodes c.args.self.now.width (c.a
 
 pub read_row-requires : goal.read_row-requires
 read_row-requires g c = (
-  elim c.requires.capacity [ inl e ↦ rw e (lit< tt) | inr e ↦ rw e (lit< tt) ],
+  elim g.bound-1.eight_or_sixteen [ inl e ↦ rw e (lit< tt) | inr e ↦ rw e (lit< tt) ],
   (
-    c.requires.capacity,
-    (
-      c.requires.nodes,
-      part_long c.args.nodes c.args.self.now.width (c.args.k * c.args.self.now.width) c.args.self.now.bytes.now c.requires.wide
-          (inside c.args.nodes c.args.self.now.width c.args.k (length c.args.self.now.bytes.now) c.requires.wide c.requires.within),
-    ),
+    c.requires.nodes,
+    part_long c.args.nodes c.args.self.now.width (c.args.k * c.args.self.now.width) c.args.self.now.bytes.now c.requires.wide
+        (inside c.args.nodes c.args.self.now.width c.args.k (length c.args.self.now.bytes.now) c.requires.wide c.requires.within),
   ),
 )

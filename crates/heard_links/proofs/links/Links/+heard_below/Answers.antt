@@ -54,11 +54,10 @@ is_bad-requires g t' c =
     let low = in_use x s a.i q on in
     let low_q = node_low x s q low in
     let low_i = node_low x s a.i (s.awake a.i c.requires.asked.awake_is) in
-    let cap = s.capacity in
     let few = few_m x s in
     let short = c.requires.asked.short in
     let other : a.i ≢ q = λ e. c.requires.asked.other (e ∙ last) in
-    (search rules, (cap, (omega (arith, len, short, few), (low_q, low_i))))
+    (search rules, (omega (arith, len, short, few), (low_q, low_i)))
 
 pub returns-then-is_bad : goal.returns-then-is_bad
 returns-then-is_bad g t' c =

@@ -33,7 +33,7 @@ unrank-path-requires g c =
     let most = few_m x set in
     let brief = inv.few in (
       lit< tt,
-      (set.capacity, (inv.some, (omega (arith, brief, most), subst (λ (those : List ℕ). c.args.k < path_count (length those) c.args.round) (sym others) (subst (λ (n : ℕ). c.args.k < n) many few)))),
+      (inv.some, (omega (arith, brief, most), subst (λ (those : List ℕ). c.args.k < path_count (length those) c.args.round) (sym others) (subst (λ (n : ℕ). c.args.k < n) many few))),
     )
 
 pub heard_below-requires : goal.heard_below-requires

@@ -17,7 +17,7 @@ came-requires g c =
     let short = front_short t x.config.now.m x.awake a.i a.q a.front.now c.requires.asked c.requires.off in
     let other = last_other t x.config.now.m x.awake a.i a.q a.front.now c.requires.asked c.requires.off in
     let most = few_m x s in
-    (search rules, (s.capacity, (omega (arith, c.len.ensures.count, short, most), (node_low x s a.q low, node_low x s a.i (s.awake a.i c.requires.asked.awake_is)))))
+    (search rules, (omega (arith, c.len.ensures.count, short, most), (node_low x s a.q low, node_low x s a.i (s.awake a.i c.requires.asked.awake_is))))
 
 pub entry-requires : goal.entry-requires
 entry-requires g c =

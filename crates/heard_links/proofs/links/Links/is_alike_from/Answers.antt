@@ -8,14 +8,14 @@ came-requires g c =
     let x = c.args.phase.now in
     let s = c.requires.hearers.heard.set in
     let f = few_m x s in
-    (search rules, (s.capacity, (omega (arith, c.requires.hearers.few, f), (node_low x s c.args.q c.requires.from, node_low x s c.args.j (s.awake c.args.j c.requires.hearers.other)))))
+    (search rules, (omega (arith, c.requires.hearers.few, f), (node_low x s c.args.q c.requires.from, node_low x s c.args.j (s.awake c.args.j c.requires.hearers.other))))
 
 pub came-requires-then-q-j : goal.came-requires-then-q-j
 came-requires-then-q-j g c =
     let x = c.args.phase.now in
     let s = c.requires.hearers.heard.set in
     let f = few_m x s in
-    (search rules, (s.capacity, (omega (arith, c.requires.hearers.few, f), (node_low x s c.args.q c.requires.from, node_low x s c.args.i (s.awake c.args.i c.requires.hearers.one)))))
+    (search rules, (omega (arith, c.requires.hearers.few, f), (node_low x s c.args.q c.requires.from, node_low x s c.args.i (s.awake c.args.i c.requires.hearers.one))))
 
 pub returns-then-q-i : goal.returns-then-q-i
 returns-then-q-i g c = λ is.

@@ -24,16 +24,13 @@ first_frame-requires g c =
     let most = few_m x h.set in (
       lit< tt,
       (
-        h.set.capacity,
+        omega (arith, nodes, some),
         (
-          omega (arith, nodes, some),
+          omega (arith, nodes, few),
           (
-            omega (arith, nodes, few),
-            (
-              omega (arith, rounds, most),
-              subst (λ (those : Expectation). IsInRange those (first_content g.V.Item.form c.own.result)) (sym c.expect-expect.ensures)
-                  (item_range g.V.Item.form g.V.Item.first_slot g.V.Item.tells g.V.Item.entry_form g.V.Item.in_range g.met.V.Item.made_of g.met.V.Item.fits x (item_of a.self.now) h.set h.sys h.run a.from a.to c.requires.frame.from (h.set.awake a.to c.requires.frame.to) c.own.result c.own.ensures),
-            ),
+            omega (arith, rounds, most),
+            subst (λ (those : Expectation). IsInRange those (first_content g.V.Item.form c.own.result)) (sym c.expect-expect.ensures)
+                (item_range g.V.Item.form g.V.Item.first_slot g.V.Item.tells g.V.Item.entry_form g.V.Item.in_range g.met.V.Item.made_of g.met.V.Item.fits x (item_of a.self.now) h.set h.sys h.run a.from a.to c.requires.frame.from (h.set.awake a.to c.requires.frame.to) c.own.result c.own.ensures),
           ),
         ),
       ),

@@ -22,7 +22,7 @@ cold_relay_frame-requires g c =
     let some = h.set.config.some_nodes in
     let few = h.set.config.few_nodes in
     let most = few_m x h.set in
-    (lit< tt, (h.set.capacity, (omega (arith, nodes, some), (omega (arith, nodes, few), omega (arith, rounds, most)))))
+    (lit< tt, (omega (arith, nodes, some), (omega (arith, nodes, few), omega (arith, rounds, most))))
 
 pub returns-then-not-has : goal.returns-then-not-has
 returns-then-not-has g c =
@@ -56,11 +56,8 @@ relay_frame-requires g c =
     sent_range form g.V.Item.first_slot g.V.Item.tells g.V.Item.entry_form g.V.Item.in_range g.met.V.Item.made_of g.met.V.Item.fits x links h.set h.sys h.run a.round a.from a.to c.requires.some c.requires.frame.few c.requires.frame.from in (
       lit< tt,
       (
-        h.set.capacity,
-        (
-          omega (arith, nodes, some),
-          (omega (arith, nodes, few), (omega (arith, rounds, most), subst (λ (those : Expectation). IsSent those (form.relay (sent_by form x links a.round a.from))) (sym c.expect-expect.ensures) sends)),
-        ),
+        omega (arith, nodes, some),
+        (omega (arith, nodes, few), (omega (arith, rounds, most), subst (λ (those : Expectation). IsSent those (form.relay (sent_by form x links a.round a.from))) (sym c.expect-expect.ensures) sends)),
       ),
     )
 

@@ -13,7 +13,7 @@ use Rattle.heard_links.proofs.Sets.{in_use, node_low}
 use Rattle.heard_links.proofs.links.Links.said.Goals as goal
 
 pub has_uneven-requires : goal.has_uneven-requires
-has_uneven-requires g c = let few = c.len-last.ensures.few in (search rules, (c.requires.heard.set.capacity, omega arith))
+has_uneven-requires g c = let few = c.len-last.ensures.few in (search rules, omega arith)
 
 pub said_by-requires : goal.said_by-requires
 said_by-requires g c = (search rules, (elim c.requires.heard.set.capacity [ inl e ↦ rw e (lit< tt) | inr e ↦ rw e (lit< tt) ], c.requires.heard))

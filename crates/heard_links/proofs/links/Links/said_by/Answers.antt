@@ -22,7 +22,7 @@ came-requires g c =
     let asked = asked_is g.V.Item.form g.V.Item.first_slot g.V.Item.tells g.V.Item.entry_form g.V.Item.in_range g.met.V.Item.made_of g.met.V.Item.fits x a.self.now c.requires.heard a.to path
     (sym c.is_asked.ensures ∙ c.if-not-is_asked.false) in
     let on : has_id (members_at x a.to) q ≡ true = asked.within q (ap (has_id path) last ∙ last_has path (omega (arith, len, some))) in
-    (search rules, (s.capacity, (omega (arith, len, asked.short, few_m x s), (node_low x s q (in_use x s a.to q on), node_low x s a.to (s.awake a.to asked.awake_is)))))
+    (search rules, (omega (arith, len, asked.short, few_m x s), (node_low x s q (in_use x s a.to q on), node_low x s a.to (s.awake a.to asked.awake_is))))
 
 pub returns-in-Untouched-clause-is : goal.returns-in-Untouched-clause-is
 returns-in-Untouched-clause-is g c =

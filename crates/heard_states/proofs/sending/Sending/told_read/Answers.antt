@@ -74,11 +74,8 @@ told_in-requires g c =
     let as_read = arrived_read x ok c.args.from (change_of c.args.effect.now) e c.if-has.frame c.head.result c.arrives.result is said c.head.ensures c.arrives.ensures in
     let said_in = state_content (setting_of config) (sent_by x.senders.full x.states.now c.args.from) in (
       elim ok.slot_is.capacity [ inl q ↦ rw q (lit< tt) | inr q ↦ rw q (lit< tt) ],
-      (
-        ok.slot_is.capacity,
-        subst (λ (k : ℕ). IsShortState (content k c.in-Good.body)) nodes_are
-            (read_short config ok.slot_is.capacity ok.slot_is.config x.slot.period c.args.from (Some (change_of c.args.effect.now)) said_in (content e.nodes c.in-Good.body) (sym as_read ∙ ap (λ (r : Arrived g.row.N). seen e.nodes r) c.in-Good.is)),
-      ),
+      subst (λ (k : ℕ). IsShortState (content k c.in-Good.body)) nodes_are
+          (read_short config ok.slot_is.capacity ok.slot_is.config x.slot.period c.args.from (Some (change_of c.args.effect.now)) said_in (content e.nodes c.in-Good.body) (sym as_read ∙ ap (λ (r : Arrived g.row.N). seen e.nodes r) c.in-Good.is)),
     )
 
 pub returns-in-Bad : goal.returns-in-Bad

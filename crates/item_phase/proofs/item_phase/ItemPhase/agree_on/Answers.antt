@@ -23,7 +23,7 @@ lay_row-requires g c =
     let inside = row_within g.row.N c.args.commander low in
     let row_long : s.row.len ≡ g.row.N = sym c.as_mut_slice.ensures.len ∙ ap length c.as_mut_slice.ensures.value ∙ s.row_room in
     let each_long : length c.as_mut_slice-2.result.now ≡ g.row.N * g.row.N = ap length c.as_mut_slice-2.ensures.value ∙ s.each_room in
-    (omega arith, (set.capacity, (c.as_slice.ensures.len ∙ row_long, (omega (arith, inside, each_long), omega (arith, most, each_long)))))
+    (omega arith, (c.as_slice.ensures.len ∙ row_long, (omega (arith, inside, each_long), omega (arith, most, each_long))))
 
 pub listed : goal.listed
 listed g c =

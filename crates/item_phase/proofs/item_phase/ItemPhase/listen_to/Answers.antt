@@ -20,10 +20,7 @@ settle-settled-requires g c =
     let x = c.args.phase.now in
     let set = c.requires.heard.set in (
       lit< tt,
-      (
-        g.met.V.Item.exact,
-        (member_low x set c.args.me c.args.commander c.requires.member, ap length c.as_mut_slice.ensures.value ∙ c.args.self.now.work_room),
-      ),
+      (member_low x set c.args.me c.args.commander c.requires.member, ap length c.as_mut_slice.ensures.value ∙ c.args.self.now.work_room),
     )
 
 pub convicts-convicts-requires : goal.convicts-convicts-requires
@@ -34,11 +31,8 @@ convicts-convicts-requires g c =
     let whole = with_items_is c.args.self.now.work c.settle-settled.new.work (c.settle-settled.auto.work ∙ c.as_mut_slice.ensures.len) in (
       lit< tt,
       (
-        g.met.V.Item.exact,
-        (
-          ap (λ (ids : List ℕ). has_id ids c.args.commander) c.members_of.ensures ∙ c.requires.member,
-          (node_low x set me (set.awake me c.requires.node), (c.requires.other, ap length (c.as_mut_slice-then-phase-ne1.ensures.value ∙ whole) ∙ c.settle-settled.ensures.room)),
-        ),
+        ap (λ (ids : List ℕ). has_id ids c.args.commander) c.members_of.ensures ∙ c.requires.member,
+        (node_low x set me (set.awake me c.requires.node), (c.requires.other, ap length (c.as_mut_slice-then-phase-ne1.ensures.value ∙ whole) ∙ c.settle-settled.ensures.room)),
       ),
     )
 

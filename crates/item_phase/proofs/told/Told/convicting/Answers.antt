@@ -36,18 +36,15 @@ convicting-requires g c =
         lit< tt,
         (
           lit< tt,
-          (
-            g.met.V.Item.exact,
-            record {
-              capacity_ok = t.heard.set.capacity;
-              rounds_ok = r.rounds_ok;
-              member = r.member;
-              awake = r.awake;
-              own_small = r.own_small;
-              said_small = r.said_small;
-              odd_heard = r.odd_heard;
-            },
-          ),
+          record {
+            capacity_ok = t.heard.set.capacity;
+            rounds_ok = r.rounds_ok;
+            member = r.member;
+            awake = r.awake;
+            own_small = r.own_small;
+            said_small = r.said_small;
+            odd_heard = r.odd_heard;
+          },
         ),
       ),
     )

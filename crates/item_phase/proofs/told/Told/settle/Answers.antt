@@ -39,25 +39,22 @@ settle_all-requires g c =
       (
         lit< tt,
         (
-          g.met.V.Item.exact,
+          record {
+            capacity_ok = t.heard.set.capacity;
+            rounds_ok = r.rounds_ok;
+            member = r.member;
+            awake = r.awake;
+            own_small = r.own_small;
+            said_small = r.said_small;
+            odd_heard = r.odd_heard;
+          },
           (
-            record {
-              capacity_ok = t.heard.set.capacity;
-              rounds_ok = r.rounds_ok;
-              member = r.member;
-              awake = r.awake;
-              own_small = r.own_small;
-              said_small = r.said_small;
-              odd_heard = r.odd_heard;
-            },
+            ap (λ (y : Exchange g.row.N). y.rounds) c.exchange.ensures ∙ sym (ap (λ (s : Room). s.rounds) c.requires.room),
             (
-              ap (λ (y : Exchange g.row.N). y.rounds) c.exchange.ensures ∙ sym (ap (λ (s : Room). s.rounds) c.requires.room),
-              (
-                λ q on.
-                    let low : q < x.config.now.nodes = member-lt x.config.now.nodes a.members.now q t.all.ids (sym (ap (λ (y : Exchange g.row.N). has_id y.members q) c.exchange.ensures) ∙ on) in
-                    omega arith,
-                c.requires.places,
-              ),
+              λ q on.
+                  let low : q < x.config.now.nodes = member-lt x.config.now.nodes a.members.now q t.all.ids (sym (ap (λ (y : Exchange g.row.N). has_id y.members q) c.exchange.ensures) ∙ on) in
+                  omega arith,
+              c.requires.places,
             ),
           ),
         ),

@@ -44,8 +44,8 @@ bounds-verdicts-node g c = next_within g.row.N c.args.members.now c.loop-node.yi
 
 pub complete_one-requires : goal.complete_one-requires
 complete_one-requires g c = (
-  elim c.requires.capacity [ inl e ↦ rw e (lit< tt) | inr e ↦ rw e (lit< tt) ],
-  (lit< tt, (c.requires.capacity, (next_within g.row.N c.args.members.now c.loop-node.yielded c.iter-node-items.ensures.ids c.loop-node.invariant.split c.in-Some.ensures.steps, c.loop-node.invariant.kept))),
+  elim g.bound-1.eight_or_sixteen [ inl e ↦ rw e (lit< tt) | inr e ↦ rw e (lit< tt) ],
+  (lit< tt, (next_within g.row.N c.args.members.now c.loop-node.yielded c.iter-node-items.ensures.ids c.loop-node.invariant.split c.in-Some.ensures.steps, c.loop-node.invariant.kept)),
 )
 
 pub iter-node-items-requires : goal.iter-node-items-requires
@@ -67,22 +67,22 @@ pub offset_bounds-claims-node : goal.offset_bounds-claims-node
 offset_bounds-claims-node g c =
     let low : c.in-Some.node < g.row.N =
     next_within g.row.N c.args.members.now c.loop-node.yielded c.iter-node-items.ensures.ids c.loop-node.invariant.split c.in-Some.ensures.steps in
-    omega (arith, low, capacity-le g.row.N c.requires.capacity)
+    omega (arith, low, capacity-le g.row.N g.bound-1.eight_or_sixteen)
 
 pub offset_bounds-verdicts-node : goal.offset_bounds-verdicts-node
 offset_bounds-verdicts-node g c =
     let low : c.in-Some.node < g.row.N =
     next_within g.row.N c.args.members.now c.loop-node.yielded c.iter-node-items.ensures.ids c.loop-node.invariant.split c.in-Some.ensures.steps in
-    omega (arith, low, capacity-le g.row.N c.requires.capacity)
+    omega (arith, low, capacity-le g.row.N g.bound-1.eight_or_sixteen)
 
 pub overflow_cast-node : goal.overflow_cast-node
 overflow_cast-node g c =
     let low : c.in-Some.node < g.row.N =
     next_within g.row.N c.args.members.now c.loop-node.yielded c.iter-node-items.ensures.ids c.loop-node.invariant.split c.in-Some.ensures.steps in
-    omega (arith, low, capacity-le g.row.N c.requires.capacity)
+    omega (arith, low, capacity-le g.row.N g.bound-1.eight_or_sixteen)
 
 pub overflow_cast-node-in-loop-node : goal.overflow_cast-node-in-loop-node
 overflow_cast-node-in-loop-node g c =
     let low : c.in-Some.node < g.row.N =
     next_within g.row.N c.args.members.now c.loop-node.yielded c.iter-node-items.ensures.ids c.loop-node.invariant.split c.in-Some.ensures.steps in
-    omega (arith, low, capacity-le g.row.N c.requires.capacity)
+    omega (arith, low, capacity-le g.row.N g.bound-1.eight_or_sixteen)

@@ -11,7 +11,7 @@ pub next_state-requires : goal.next_state-requires
 next_state-requires g c = (omega arith, works_listed c.args.graph.now c.args.self.now c.args.node c.in-Some.t c.in-Some.periods c.requires.copies (sym c.works.ensures ∙ c.in-Some.is))
 
 pub set-requires : goal.set-requires
-set-requires g c = (search rules, (c.requires.capacity, (works_few c.args.self.now c.args.node c.in-Some.t c.in-Some.periods (sym c.works.ensures ∙ c.in-Some.is), c.requires.node)))
+set-requires g c = (search rules, (works_few c.args.self.now c.args.node c.in-Some.t c.in-Some.periods (sym c.works.ensures ∙ c.in-Some.is), c.requires.node))
 
 pub verdict_on-requires : goal.verdict_on-requires
 verdict_on-requires g c = (omega arith, works_listed c.args.graph.now c.args.self.now c.args.node c.in-Some.t c.in-Some.periods c.requires.copies (sym c.works.ensures ∙ c.in-Some.is))

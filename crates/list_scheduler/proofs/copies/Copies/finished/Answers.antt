@@ -14,7 +14,7 @@ overflow_add-passed g c =
     let few = count_few (λ q. is_passed (copy_at c.args.self.now c.args.t q)) c.loop-node.node in
     let so_far : c.loop-node.passed ≡ count (λ q. is_passed (copy_at c.args.self.now c.args.t q)) (ids_below c.loop-node.node) = c.loop-node.invariant in
     let nodes : c.args.graph.now.nodes ≤ g.row.N = c.nodes-node-end.ensures.graph.few_nodes in
-    let capacity = capacity-le g.row.N c.requires.capacity in
+    let capacity = capacity-le g.row.N g.bound-1.eight_or_sixteen in
     let end : c.nodes-node-end.result ≡ c.args.graph.now.nodes = c.nodes-node-end.ensures.count in
     let below : c.loop-node.node < c.nodes-node-end.result = c.loop-node-test.true in
     let fits : c.loop-node.passed + 1 < 256 = omega arith in
@@ -48,4 +48,4 @@ task-requires g c = (lit< tt, (lit< tt, c.requires.task))
 pub at-requires : goal.at-requires
 at-requires g c =
     let few = few_tasks _ _ c.nodes-node-end.ensures.graph.tasks.in_range in
-    (elim c.requires.capacity [ inl e ↦ rw e (lit< tt) | inr e ↦ rw e (lit< tt) ], (c.requires.capacity, (omega (arith, c.requires.task, few), omega (arith, c.loop-node-test.true, c.nodes-node-end.ensures.count, c.nodes-node-end.ensures.graph.few_nodes))))
+    (elim g.bound-1.eight_or_sixteen [ inl e ↦ rw e (lit< tt) | inr e ↦ rw e (lit< tt) ], (omega (arith, c.requires.task, few), omega (arith, c.loop-node-test.true, c.nodes-node-end.ensures.count, c.nodes-node-end.ensures.graph.few_nodes)))

@@ -10,7 +10,7 @@ finished-requires g c =
     let e : c.deref-before-items.result.now ≡ (task_at c.args.graph.now.tasks c.args.t).after = c.deref-before-items.ensures.value ∙ ap (λ (x : TaskView). x.after) (c.behind-graph.view_is ∙ c.task.ensures.task) in
     let l : c.loop-before.before-index < length (task_at c.args.graph.now.tasks c.args.t).after = subst (λ (xs : List ℕ). c.loop-before.before-index < length xs) e c.loop-before-test.true in
     let b = before_listed g.row.N c.args.graph.now c.args.t c.loop-before.before-index c.task.ensures.graph c.requires.task l in
-    (search rules, (omega arith, (c.requires.capacity, subst (λ (xs : List ℕ). get_or xs c.loop-before.before-index 0 < length c.args.graph.now.tasks) (sym e) b)))
+    (search rules, (omega arith, subst (λ (xs : List ℕ). get_or xs c.loop-before.before-index 0 < length c.args.graph.now.tasks) (sym e) b))
 
 pub loop-before-preserved : goal.loop-before-preserved
 loop-before-preserved g c = all_more (finished c.args.graph.now c.args.self.now) c.deref-before-items.result.now c.loop-before.before-index (omega arith) c.loop-before.invariant (sym c.finished.ensures ∙ c.if-not-finished.false)

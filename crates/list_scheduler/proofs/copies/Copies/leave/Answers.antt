@@ -12,10 +12,10 @@ loop-t-preserved g c = elim c.match-at.branch [
 ]
 
 pub at-requires : goal.at-requires
-at-requires g c = (elim c.requires.capacity [ inl e ↦ rw e (lit< tt) | inr e ↦ rw e (lit< tt) ], (c.requires.capacity, (c.loop-t-test.true, c.requires.node)))
+at-requires g c = (elim g.bound-1.eight_or_sixteen [ inl e ↦ rw e (lit< tt) | inr e ↦ rw e (lit< tt) ], (c.loop-t-test.true, c.requires.node))
 
 pub set-requires : goal.set-requires
-set-requires g c = (elim c.requires.capacity [ inl e ↦ rw e (lit< tt) | inr e ↦ rw e (lit< tt) ], (c.requires.capacity, (c.loop-t-test.true, c.requires.node)))
+set-requires g c = (elim g.bound-1.eight_or_sixteen [ inl e ↦ rw e (lit< tt) | inr e ↦ rw e (lit< tt) ], (c.loop-t-test.true, c.requires.node))
 
 pub loop-t-smaller : goal.loop-t-smaller
 loop-t-smaller g c = omega (arith, c.loop-t-test.true)

@@ -22,19 +22,16 @@ pub move_task-requires : goal.move_task-requires
 move_task-requires g c =
     let count = c.len-t-end.ensures.count in
     let test = c.loop-t-test.true in (
-      elim c.requires.capacity [ inl e ↦ rw e (lit< tt) | inr e ↦ rw e (lit< tt) ],
+      elim g.bound-1.eight_or_sixteen [ inl e ↦ rw e (lit< tt) | inr e ↦ rw e (lit< tt) ],
       (
         lit< tt,
         (
           lit< tt,
           (
-            elim c.requires.capacity [ inl e ↦ rw e (lit< tt) | inr e ↦ rw e (lit< tt) ],
+            elim g.bound-1.eight_or_sixteen [ inl e ↦ rw e (lit< tt) | inr e ↦ rw e (lit< tt) ],
             (
-              c.requires.capacity,
-              (
-                omega arith,
-                λ q off. moved_below-idle g.row.N c.loop-t.t q c.args.graph.now c.args.before.now c.args.after.now c.args.self.now c.loop-t.self c.args.claims.now c.requires.copies c.loop-t.invariant.copies off,
-              ),
+              omega arith,
+              λ q off. moved_below-idle g.row.N c.loop-t.t q c.args.graph.now c.args.before.now c.args.after.now c.args.self.now c.loop-t.self c.args.claims.now c.requires.copies c.loop-t.invariant.copies off,
             ),
           ),
         ),

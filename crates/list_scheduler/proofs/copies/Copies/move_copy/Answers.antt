@@ -6,13 +6,13 @@ pub at-requires : goal.at-requires
 at-requires g c =
     let few = few_tasks c.args.graph.now.nodes c.args.graph.now.tasks c.len.ensures.graph.tasks.in_range in
     let task = c.requires.task in
-    (search rules, (c.requires.capacity, (omega arith, c.requires.node)))
+    (search rules, (omega arith, c.requires.node))
 
 pub set-requires : goal.set-requires
 set-requires g c =
     let few = few_tasks c.args.graph.now.nodes c.args.graph.now.tasks c.len.ensures.graph.tasks.in_range in
     let task = c.requires.task in
-    (search rules, (c.requires.capacity, (omega arith, c.requires.node)))
+    (search rules, (omega arith, c.requires.node))
 
 pub len-requires : goal.len-requires
 len-requires g c = lit< tt

@@ -99,7 +99,7 @@ pub bounds-claims-node : goal.bounds-claims-node
 bounds-claims-node g c = next_within g.row.N (task_at c.args.graph.now.tasks c.args.t).nodes c.loop-node.yielded (set_of g.row.N c.iter-node-items.ensures.ids (c.behind-graph.view_is ∙ c.task.ensures.task)) c.loop-node.invariant.split c.in-Some.ensures.steps
 
 pub empty-busy-requires : goal.empty-busy-requires
-empty-busy-requires g c = (lit< tt, capacity-le g.row.N c.requires.capacity)
+empty-busy-requires g c = (lit< tt, capacity-le g.row.N g.bound-1.eight_or_sixteen)
 
 pub has-requires : goal.has-requires
 has-requires g c = lit< tt
@@ -118,15 +118,12 @@ loop-node-smaller-then-move_copy g c = one_less c.in-Some.ensures.steps
 
 pub move_copy-requires : goal.move_copy-requires
 move_copy-requires g c = (
-  elim c.requires.capacity [ inl e ↦ rw e (lit< tt) | inr e ↦ rw e (lit< tt) ],
+  elim g.bound-1.eight_or_sixteen [ inl e ↦ rw e (lit< tt) | inr e ↦ rw e (lit< tt) ],
   (
     lit< tt,
     (
-      c.requires.capacity,
-      (
-        c.requires.task,
-        next_within g.row.N (task_at c.args.graph.now.tasks c.args.t).nodes c.loop-node.yielded (set_of g.row.N c.iter-node-items.ensures.ids (c.behind-graph.view_is ∙ c.task.ensures.task)) c.loop-node.invariant.split c.in-Some.ensures.steps,
-      ),
+      c.requires.task,
+      next_within g.row.N (task_at c.args.graph.now.tasks c.args.t).nodes c.loop-node.yielded (set_of g.row.N c.iter-node-items.ensures.ids (c.behind-graph.view_is ∙ c.task.ensures.task)) c.loop-node.invariant.split c.in-Some.ensures.steps,
     ),
   ),
 )
@@ -138,13 +135,13 @@ pub offset_bounds-claims-node : goal.offset_bounds-claims-node
 offset_bounds-claims-node g c =
     let low : c.in-Some.node < g.row.N =
     next_within g.row.N (task_at c.args.graph.now.tasks c.args.t).nodes c.loop-node.yielded (set_of g.row.N c.iter-node-items.ensures.ids (c.behind-graph.view_is ∙ c.task.ensures.task)) c.loop-node.invariant.split c.in-Some.ensures.steps in
-    omega (arith, low, capacity-le g.row.N c.requires.capacity)
+    omega (arith, low, capacity-le g.row.N g.bound-1.eight_or_sixteen)
 
 pub overflow_cast-claim : goal.overflow_cast-claim
 overflow_cast-claim g c =
     let low : c.in-Some.node < g.row.N =
     next_within g.row.N (task_at c.args.graph.now.tasks c.args.t).nodes c.loop-node.yielded (set_of g.row.N c.iter-node-items.ensures.ids (c.behind-graph.view_is ∙ c.task.ensures.task)) c.loop-node.invariant.split c.in-Some.ensures.steps in
-    omega (arith, low, capacity-le g.row.N c.requires.capacity)
+    omega (arith, low, capacity-le g.row.N g.bound-1.eight_or_sixteen)
 
 pub put-requires : goal.put-requires
 put-requires g c = (

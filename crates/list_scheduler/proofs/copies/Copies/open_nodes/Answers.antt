@@ -61,18 +61,15 @@ returns g c =
 
 pub at-requires : goal.at-requires
 at-requires g c = (
-  elim c.requires.capacity [ inl e ↦ rw e (lit< tt) | inr e ↦ rw e (lit< tt) ],
+  elim g.bound-1.eight_or_sixteen [ inl e ↦ rw e (lit< tt) | inr e ↦ rw e (lit< tt) ],
   (
-    c.requires.capacity,
-    (
-      let few = few_tasks c.args.graph.now.nodes c.args.graph.now.tasks c.task.ensures.graph.tasks.in_range in let task = c.requires.task in omega (arith, few, task),
-      next_within g.row.N (task_at c.args.graph.now.tasks c.args.t).nodes c.loop-node.yielded (set_of g.row.N c.iter-node-items.ensures.ids (c.behind-graph.view_is ∙ c.task.ensures.task)) c.loop-node.invariant.split c.in-Some.ensures.steps,
-    ),
+    let few = few_tasks c.args.graph.now.nodes c.args.graph.now.tasks c.task.ensures.graph.tasks.in_range in let task = c.requires.task in omega (arith, few, task),
+    next_within g.row.N (task_at c.args.graph.now.tasks c.args.t).nodes c.loop-node.yielded (set_of g.row.N c.iter-node-items.ensures.ids (c.behind-graph.view_is ∙ c.task.ensures.task)) c.loop-node.invariant.split c.in-Some.ensures.steps,
   ),
 )
 
 pub empty-open-requires : goal.empty-open-requires
-empty-open-requires g c = (lit< tt, capacity-le g.row.N c.requires.capacity)
+empty-open-requires g c = (lit< tt, capacity-le g.row.N g.bound-1.eight_or_sixteen)
 
 pub has-requires : goal.has-requires
 has-requires g c = lit< tt

@@ -10,17 +10,14 @@ use Rattle.list_scheduler.proofs.copies.Copies.pick.Goals as goal
 
 pub start_on-requires : goal.start_on-requires
 start_on-requires g c = (
-  elim c.requires.capacity [ inl e ↦ rw e (lit< tt) | inr e ↦ rw e (lit< tt) ],
+  elim g.bound-1.eight_or_sixteen [ inl e ↦ rw e (lit< tt) | inr e ↦ rw e (lit< tt) ],
   (
     lit< tt,
     (
       lit< tt,
-      (
-        c.requires.capacity,
-        λ q on.
-            let resting : (has_id c.args.members.now q && is_none (works c.args.self.now q)) ≡ true = passes_where (λ r. has_id c.args.members.now r && is_none (works c.args.self.now r)) g.row.N q (ap (λ (s : List ℕ). has_id s q) (sym c.resting-free.ensures) ∙ on) in
-            none_is (works c.args.self.now q) (and_parts _ _ resting).1,
-      ),
+      λ q on.
+          let resting : (has_id c.args.members.now q && is_none (works c.args.self.now q)) ≡ true = passes_where (λ r. has_id c.args.members.now r && is_none (works c.args.self.now r)) g.row.N q (ap (λ (s : List ℕ). has_id s q) (sym c.resting-free.ensures) ∙ on) in
+          none_is (works c.args.self.now q) (and_parts _ _ resting).1,
     ),
   ),
 )

@@ -53,7 +53,7 @@ returns g c =
     c.loop-node.invariant.resting ∙ ap (found g.row.N (λ q. is_none (works c.args.self.now q))) (sym all)
 
 pub empty-resting-requires : goal.empty-resting-requires
-empty-resting-requires g c = (lit< tt, capacity-le g.row.N c.requires.capacity)
+empty-resting-requires g c = (lit< tt, capacity-le g.row.N g.bound-1.eight_or_sixteen)
 
 pub iter-node-items-requires : goal.iter-node-items-requires
 iter-node-items-requires g c = (lit< tt, lit< tt)
@@ -72,6 +72,6 @@ put-requires g c = (lit< tt, next_within g.row.N c.args.members.now c.loop-node.
 
 pub works-requires : goal.works-requires
 works-requires g c = (
-  elim c.requires.capacity [ inl e ↦ rw e (lit< tt) | inr e ↦ rw e (lit< tt) ],
-  (lit< tt, (c.requires.capacity, (next_within g.row.N c.args.members.now c.loop-node.yielded c.iter-node-items.ensures.ids c.loop-node.invariant.split c.in-Some.ensures.steps, c.requires.copies))),
+  elim g.bound-1.eight_or_sixteen [ inl e ↦ rw e (lit< tt) | inr e ↦ rw e (lit< tt) ],
+  (lit< tt, (next_within g.row.N c.args.members.now c.loop-node.yielded c.iter-node-items.ensures.ids c.loop-node.invariant.split c.in-Some.ensures.steps, c.requires.copies)),
 )

@@ -32,12 +32,9 @@ next-requires g c = (lit< tt, tt)
 
 pub set-requires : goal.set-requires
 set-requires g c = (
-  elim c.requires.capacity [ inl e ↦ rw e (lit< tt) | inr e ↦ rw e (lit< tt) ],
+  elim g.bound-1.eight_or_sixteen [ inl e ↦ rw e (lit< tt) | inr e ↦ rw e (lit< tt) ],
   (
-    c.requires.capacity,
-    (
-      c.requires.task,
-      next_within g.row.N c.args.nodes.now c.loop-node.yielded c.iter-node-items.ensures.ids c.loop-node.invariant.split c.in-Some.ensures.steps,
-    ),
+    c.requires.task,
+    next_within g.row.N c.args.nodes.now c.loop-node.yielded c.iter-node-items.ensures.ids c.loop-node.invariant.split c.in-Some.ensures.steps,
   ),
 )

@@ -42,7 +42,7 @@ pub starters-starters-requires : goal.starters-starters-requires
 starters-starters-requires g c =
     let count = c.len-t-end.ensures.count in
     let test = c.loop-t-test.true in
-    (elim c.requires.capacity [ inl e ↦ rw e (lit< tt) | inr e ↦ rw e (lit< tt) ], (lit< tt, (lit< tt, (c.requires.capacity, omega (arith, count, test)))))
+    (elim g.bound-1.eight_or_sixteen [ inl e ↦ rw e (lit< tt) | inr e ↦ rw e (lit< tt) ], (lit< tt, (lit< tt, omega (arith, count, test))))
 
 pub start-requires : goal.start-requires
 start-requires g c =
@@ -50,7 +50,7 @@ start-requires g c =
     let few = few_tasks graph.nodes graph.tasks c.len-t-end.ensures.graph.tasks.in_range in
     let count = c.len-t-end.ensures.count in
     let test = c.loop-t-test.true in
-    (elim c.requires.capacity [ inl e ↦ rw e (lit< tt) | inr e ↦ rw e (lit< tt) ], (lit< tt, (c.requires.capacity, omega (arith, few, count, test))))
+    (elim g.bound-1.eight_or_sixteen [ inl e ↦ rw e (lit< tt) | inr e ↦ rw e (lit< tt) ], (lit< tt, omega (arith, few, count, test)))
 
 pub loop-t-smaller : goal.loop-t-smaller
 loop-t-smaller g c = omega (arith, c.loop-t-test.true)

@@ -5,12 +5,12 @@ use Rattle.list_scheduler.proofs.copies.Copies.step.Goals as goal
 
 pub start_on-requires : goal.start_on-requires
 start_on-requires g c =
-    (elim c.requires.capacity [ inl e ↦ rw e (lit< tt) | inr e ↦ rw e (lit< tt) ], (lit< tt, (lit< tt, (c.requires.capacity, λ q on. idle_rests g.row.N q c.frame_end.new.self c.frame_end.ensures))))
+    (elim g.bound-1.eight_or_sixteen [ inl e ↦ rw e (lit< tt) | inr e ↦ rw e (lit< tt) ], (lit< tt, (lit< tt, λ q on. idle_rests g.row.N q c.frame_end.new.self c.frame_end.ensures)))
 
 pub start_on-requires-else-frame_ends : goal.start_on-requires-else-frame_ends
 start_on-requires-else-frame_ends g c = (
-  elim c.requires.capacity [ inl e ↦ rw e (lit< tt) | inr e ↦ rw e (lit< tt) ],
-  (lit< tt, (lit< tt, (c.requires.capacity, λ q on. rests_after g.row.N q c.args.after.now c.move_all-busy.result c.move_all-busy.new.self c.len.ensures.ids c.move_all-busy.ensures.busy (ap (λ (s : List ℕ). has_id s q) (sym c.minus.ensures) ∙ on)))),
+  elim g.bound-1.eight_or_sixteen [ inl e ↦ rw e (lit< tt) | inr e ↦ rw e (lit< tt) ],
+  (lit< tt, (lit< tt, λ q on. rests_after g.row.N q c.args.after.now c.move_all-busy.result c.move_all-busy.new.self c.len.ensures.ids c.move_all-busy.ensures.busy (ap (λ (s : List ℕ). has_id s q) (sym c.minus.ensures) ∙ on))),
 )
 
 pub returns-then-frame_ends : goal.returns-then-frame_ends

@@ -9,7 +9,7 @@ at-requires g c =
     let few = few_tasks c.args.graph.now.nodes c.args.graph.now.tasks c.len-t-end.ensures.graph.tasks.in_range in
     let count = c.len-t-end.ensures.count in
     let here = c.loop-t-test.true in
-    (search rules, (c.requires.capacity, (omega arith, c.requires.node)))
+    (search rules, (omega arith, c.requires.node))
 
 pub returns-in-Running : goal.returns-in-Running
 returns-in-Running g c =

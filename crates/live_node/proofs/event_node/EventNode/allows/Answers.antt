@@ -9,7 +9,7 @@ use Rattle.live_node.proofs.event_node.EventNode.allows.Goals as goal
 
 pub may_begin-requires : goal.may_begin-requires
 may_begin-requires g c =
-    elim c.requires.capacity [ inl e ↦ rw e (lit< tt) | inr e ↦ rw e (lit< tt) ]
+    elim g.bound-1.eight_or_sixteen [ inl e ↦ rw e (lit< tt) | inr e ↦ rw e (lit< tt) ]
 
 pub returns-then-not-is_open-clause-event : goal.returns-then-not-is_open-clause-event
 returns-then-not-is_open-clause-event g c =

@@ -16,7 +16,7 @@ write_say-requires g c =
     let same : v ≡ c.args.self.now = c.self.view_is in
     let held : IsHeld v c.self.inside.slot (vec_capacity c.self.inside.frame) (vec_capacity c.self.inside.text) = c.self.invariant in
     let opened = opened_at v.node c.self.inside.slot held.slot_is c.in-Some.slot c.in-Some.is in
-    (elim c.requires.capacity [ inl e ↦ rw e (lit< tt) | inr e ↦ rw e (lit< tt) ], (c.requires.capacity, (sym (ap (λ (x : LiveView g.row.N). is_open x) same) ∙ opened, slot_at v.node c.self.inside.slot held.slot_is c.in-Some.slot c.in-Some.is opened ∙ ap (λ (x : LiveView g.row.N). x.node.phase.slot) same)))
+    (elim g.bound-2.eight_or_sixteen [ inl e ↦ rw e (lit< tt) | inr e ↦ rw e (lit< tt) ], (sym (ap (λ (x : LiveView g.row.N). is_open x) same) ∙ opened, slot_at v.node c.self.inside.slot held.slot_is c.in-Some.slot c.in-Some.is opened ∙ ap (λ (x : LiveView g.row.N). x.node.phase.slot) same))
 
 pub write_run-requires : goal.write_run-requires
 write_run-requires g c =
@@ -24,7 +24,7 @@ write_run-requires g c =
     let same : v ≡ c.args.self.now = c.self.view_is in
     let held : IsHeld v c.self.inside.slot (vec_capacity c.self.inside.frame) (vec_capacity c.self.inside.text) = c.self.invariant in
     let answered : IsAnswered c.args.event = elim c.in-Begin.is [ inl p ↦ subst IsAnswered (sym p.1) tt | inr p ↦ subst IsAnswered (sym p) tt ] in
-    (elim c.requires.capacity [ inl e ↦ rw e (lit< tt) | inr e ↦ rw e (lit< tt) ], (c.requires.capacity, (sym (ap (λ (x : LiveView g.row.N). is_open x) same) ∙ shut_at v.node c.self.inside.slot held.slot_is c.in-None.is, c.requires.some answered)))
+    (elim g.bound-2.eight_or_sixteen [ inl e ↦ rw e (lit< tt) | inr e ↦ rw e (lit< tt) ], (sym (ap (λ (x : LiveView g.row.N). is_open x) same) ∙ shut_at v.node c.self.inside.slot held.slot_is c.in-None.is, c.requires.some answered))
 
 pub returns-in-Some-clause-same : goal.returns-in-Some-clause-same
 returns-in-Some-clause-same g c =

@@ -7,17 +7,17 @@ use Rattle.live_node.proofs.event_node.EventNode.begin.Goals as goal
 
 pub inputs-inputs-requires : goal.inputs-inputs-requires
 inputs-inputs-requires g c =
-    (elim c.requires.capacity [ inl e ↦ rw e (lit< tt) | inr e ↦ rw e (lit< tt) ], c.requires.capacity)
+    elim g.bound-1.eight_or_sixteen [ inl e ↦ rw e (lit< tt) | inr e ↦ rw e (lit< tt) ]
 
 pub begin-requires : goal.begin-requires
 begin-requires g c =
     let v : LiveView g.row.N = record { scenario = c.self.inside.scenario.now; id = c.self.inside.id; node = c.self.inside.node; next = c.self.inside.next; run = c.self.inside.run; forgot = c.self.inside.forgot; given = c.self.inside.told.given; ahead = c.self.inside.told.ahead; longest = c.self.inside.longest } in
     let same : v ≡ c.args.self.now = c.self.view_is in
-    (elim c.requires.capacity [ inl e ↦ rw e (lit< tt) | inr e ↦ rw e (lit< tt) ], (ap (λ (x : LiveView g.row.N). is_open x) same ∙ c.requires.closed, c.inputs-inputs.ensures.readings))
+    (elim g.bound-1.eight_or_sixteen [ inl e ↦ rw e (lit< tt) | inr e ↦ rw e (lit< tt) ], (ap (λ (x : LiveView g.row.N). is_open x) same ∙ c.requires.closed, c.inputs-inputs.ensures.readings))
 
 pub nothing-self-inside-requires : goal.nothing-self-inside-requires
 nothing-self-inside-requires g c =
-    elim c.requires.capacity [ inl e ↦ rw e (lit< tt) | inr e ↦ rw e (lit< tt) ]
+    elim g.bound-1.eight_or_sixteen [ inl e ↦ rw e (lit< tt) | inr e ↦ rw e (lit< tt) ]
 
 pub invariant_of-self : goal.invariant_of-self
 invariant_of-self g c =

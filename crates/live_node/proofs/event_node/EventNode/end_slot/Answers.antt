@@ -21,7 +21,7 @@ slot_end-requires g c =
     let v : LiveView g.row.N = record { scenario = c.self.inside.scenario.now; id = c.self.inside.id; node = c.self.inside.node; next = c.self.inside.next; run = c.self.inside.run; forgot = c.self.inside.forgot; given = c.self.inside.told.given; ahead = c.self.inside.told.ahead; longest = c.self.inside.longest } in
     let same : v ≡ c.args.self.now = c.self.view_is in
     let opened : is_open v ≡ true = ap (λ (x : LiveView g.row.N). is_open x) same ∙ c.requires.open in
-    (elim c.requires.capacity [ inl e ↦ rw e (lit< tt) | inr e ↦ rw e (lit< tt) ], opened)
+    (elim g.bound-1.eight_or_sixteen [ inl e ↦ rw e (lit< tt) | inr e ↦ rw e (lit< tt) ], opened)
 
 pub overflow_add-slot : goal.overflow_add-slot
 overflow_add-slot g c =
@@ -33,7 +33,7 @@ overflow_add-slot g c =
 
 pub config-requires : goal.config-requires
 config-requires g c =
-    elim c.requires.capacity [ inl e ↦ rw e (lit< tt, lit< tt) | inr e ↦ rw e (lit< tt, lit< tt) ]
+    elim g.bound-1.eight_or_sixteen [ inl e ↦ rw e (lit< tt, lit< tt) | inr e ↦ rw e (lit< tt, lit< tt) ]
 
 pub slot_count-requires : goal.slot_count-requires
 slot_count-requires g c =

@@ -5,7 +5,7 @@ use Rattle.live_node.proofs.Deciding.{is_other_then, is_other_else}
 use Rattle.live_node.proofs.event_node.EventNode.is_other.Goals as goal
 
 pub config-requires : goal.config-requires
-config-requires g c = elim c.requires.capacity [ inl e ↦ rw e (lit< tt, lit< tt) | inr e ↦ rw e (lit< tt, lit< tt) ]
+config-requires g c = elim g.bound-1.eight_or_sixteen [ inl e ↦ rw e (lit< tt, lit< tt) | inr e ↦ rw e (lit< tt, lit< tt) ]
 
 pub returns-then-node-config : goal.returns-then-node-config
 returns-then-node-config g c =

@@ -11,16 +11,16 @@ use Rattle.live_node.proofs.event_node.EventNode.open.Goals as goal
 
 pub config-config-requires : goal.config-config-requires
 config-config-requires g c =
-    elim c.requires.capacity [ inl e ↦ rw e (lit< tt, lit< tt) | inr e ↦ rw e (lit< tt, lit< tt) ]
+    elim g.bound-1.eight_or_sixteen [ inl e ↦ rw e (lit< tt, lit< tt) | inr e ↦ rw e (lit< tt, lit< tt) ]
 
 pub state_len-requires : goal.state_len-requires
 state_len-requires g c =
     let fine : IsConfig g.row.N c.config-config.result.now = subst (IsConfig g.row.N) (sym c.config-config.ensures.config) c.config-config.ensures.scenario.system.config in
-    (elim c.requires.capacity [ inl e ↦ rw e (lit< tt) | inr e ↦ rw e (lit< tt) ], (c.requires.capacity, fine))
+    (elim g.bound-1.eight_or_sixteen [ inl e ↦ rw e (lit< tt) | inr e ↦ rw e (lit< tt) ], fine)
 
 pub frame_bound-room-requires-clause-nodes : goal.frame_bound-room-requires-clause-nodes
 frame_bound-room-requires-clause-nodes g c =
-    few_nodes g.row.N c.config-config.result.now c.requires.capacity (subst (IsConfig g.row.N) (sym c.config-config.ensures.config) c.config-config.ensures.scenario.system.config)
+    few_nodes g.row.N c.config-config.result.now g.bound-1.eight_or_sixteen (subst (IsConfig g.row.N) (sym c.config-config.ensures.config) c.config-config.ensures.scenario.system.config)
 
 pub frame_bound-room-requires-clause-rounds : goal.frame_bound-room-requires-clause-rounds
 frame_bound-room-requires-clause-rounds g c =
@@ -37,11 +37,11 @@ open-requires g c =
     let fine : IsConfig g.row.N c.config-config.result.now = subst (IsConfig g.row.N) (sym c.config-config.ensures.config) c.config-config.ensures.scenario.system.config in
     let nodes : c.config-config.result.now.nodes ≡ c.args.scenario.now.config.nodes = ap (λ (y : Config g.row.N). y.nodes) c.config-config.ensures.config in
     let low = c.requires.id in
-    (elim c.requires.capacity [ inl e ↦ rw e (lit< tt) | inr e ↦ rw e (lit< tt) ], (elim c.requires.capacity [ inl e ↦ rw e (lit< tt) | inr e ↦ rw e (lit< tt) ], (c.requires.capacity, (fine, omega (arith, nodes, low)))))
+    (elim g.bound-1.eight_or_sixteen [ inl e ↦ rw e (lit< tt) | inr e ↦ rw e (lit< tt) ], (elim g.bound-1.eight_or_sixteen [ inl e ↦ rw e (lit< tt) | inr e ↦ rw e (lit< tt) ], (fine, omega (arith, nodes, low))))
 
 pub nothing-requires : goal.nothing-requires
 nothing-requires g c =
-    elim c.requires.capacity [ inl e ↦ rw e (lit< tt) | inr e ↦ rw e (lit< tt) ]
+    elim g.bound-1.eight_or_sixteen [ inl e ↦ rw e (lit< tt) | inr e ↦ rw e (lit< tt) ]
 
 pub invariant_of-result : goal.invariant_of-result
 invariant_of-result g c =

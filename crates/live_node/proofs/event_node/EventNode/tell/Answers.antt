@@ -14,12 +14,12 @@ use Rattle.live_node.proofs.event_node.EventNode.tell.Goals as goal
 pub period_of-period-requires : goal.period_of-period-requires
 period_of-period-requires g c =
     let may = both (not (is_open c.args.self.now)) (may_begin c.args.self.now c.in-Begin.named) (sym (ap (λ e. allowed c.args.self.now (event_in c.args.room.now e)) c.in-Begin.is) ∙ c.requires.allowed) in
-    (elim c.requires.capacity [ inl e ↦ rw e (lit< tt) | inr e ↦ rw e (lit< tt) ], may.1)
+    (elim g.bound-1.eight_or_sixteen [ inl e ↦ rw e (lit< tt) | inr e ↦ rw e (lit< tt) ], may.1)
 
 pub begin-requires : goal.begin-requires
 begin-requires g c =
     let may = both (not (is_open c.args.self.now)) (may_begin c.args.self.now c.in-Begin.named) (sym (ap (λ e. allowed c.args.self.now (event_in c.args.room.now e)) c.in-Begin.is) ∙ c.requires.allowed) in
-    (elim c.requires.capacity [ inl e ↦ rw e (lit< tt) | inr e ↦ rw e (lit< tt) ], (c.requires.capacity, (not_so (is_open c.args.self.now) may.0, c.period_of-period.ensures.later)))
+    (elim g.bound-1.eight_or_sixteen [ inl e ↦ rw e (lit< tt) | inr e ↦ rw e (lit< tt) ], (not_so (is_open c.args.self.now) may.0, c.period_of-period.ensures.later))
 
 pub slice_bounds-deliver-end : goal.slice_bounds-deliver-end
 slice_bounds-deliver-end g c =
@@ -33,7 +33,7 @@ deliver-requires g c =
     let held : IsHeld v c.self.inside.slot (vec_capacity c.self.inside.frame) (vec_capacity c.self.inside.text) = c.self.invariant in
     let opened : is_open v ≡ true = ap (λ (x : LiveView g.row.N). is_open x) same ∙ (sym (ap (λ e. allowed c.args.self.now (event_in c.args.room.now e)) c.in-Deliver.is) ∙ c.requires.allowed) in
     let other = other_is v held.live c.in-Deliver.from (ap (λ (x : LiveView g.row.N). is_other x c.in-Deliver.from) same ∙ (sym (ap (λ e. is_of_cluster c.args.self.now (event_in c.args.room.now e)) c.in-Deliver.is) ∙ c.requires.of_cluster)) in
-    (elim c.requires.capacity [ inl e ↦ rw e (lit< tt) | inr e ↦ rw e (lit< tt) ], (opened, (other.0, other.1)))
+    (elim g.bound-1.eight_or_sixteen [ inl e ↦ rw e (lit< tt) | inr e ↦ rw e (lit< tt) ], (opened, (other.0, other.1)))
 
 pub invariant_of-self : goal.invariant_of-self
 invariant_of-self g c =
@@ -43,13 +43,13 @@ invariant_of-self g c =
 
 pub end_slot-requires : goal.end_slot-requires
 end_slot-requires g c =
-    (elim c.requires.capacity [ inl e ↦ rw e (lit< tt) | inr e ↦ rw e (lit< tt) ], (c.requires.capacity, (sym (ap (λ e. allowed c.args.self.now (event_in c.args.room.now e)) c.in-End.is) ∙ c.requires.allowed)))
+    (elim g.bound-1.eight_or_sixteen [ inl e ↦ rw e (lit< tt) | inr e ↦ rw e (lit< tt) ], (sym (ap (λ e. allowed c.args.self.now (event_in c.args.room.now e)) c.in-End.is) ∙ c.requires.allowed))
 
 pub restart-requires : goal.restart-requires
 restart-requires g c =
     let v : LiveView g.row.N = record { scenario = c.self-in-Restart.inside.scenario.now; id = c.self-in-Restart.inside.id; node = c.self-in-Restart.inside.node; next = c.self-in-Restart.inside.next; run = c.self-in-Restart.inside.run; forgot = c.self-in-Restart.inside.forgot; given = c.self-in-Restart.inside.told.given; ahead = c.self-in-Restart.inside.told.ahead; longest = c.self-in-Restart.inside.longest } in
     let same : v ≡ c.args.self.now = c.self-in-Restart.view_is in
-    (elim c.requires.capacity [ inl e ↦ rw e (lit< tt) | inr e ↦ rw e (lit< tt) ], (c.requires.capacity, ap (λ (x : LiveView g.row.N). is_open x) same ∙ not_so (is_open c.args.self.now) (sym (ap (λ e. allowed c.args.self.now (event_in c.args.room.now e)) c.in-Restart.is) ∙ c.requires.allowed)))
+    (elim g.bound-1.eight_or_sixteen [ inl e ↦ rw e (lit< tt) | inr e ↦ rw e (lit< tt) ], ap (λ (x : LiveView g.row.N). is_open x) same ∙ not_so (is_open c.args.self.now) (sym (ap (λ e. allowed c.args.self.now (event_in c.args.room.now e)) c.in-Restart.is) ∙ c.requires.allowed))
 
 pub invariant_of-self-in-Restart : goal.invariant_of-self-in-Restart
 invariant_of-self-in-Restart g c =

@@ -13,13 +13,13 @@ use Rattle.live_node.proofs.event_node.EventNode.write_run.Goals as goal
 
 pub config-config-requires : goal.config-config-requires
 config-config-requires g c =
-    elim c.requires.capacity [ inl e ↦ rw e (lit< tt, lit< tt) | inr e ↦ rw e (lit< tt, lit< tt) ]
+    elim g.bound-2.eight_or_sixteen [ inl e ↦ rw e (lit< tt, lit< tt) | inr e ↦ rw e (lit< tt, lit< tt) ]
 
 pub record-outcome-requires : goal.record-outcome-requires
 record-outcome-requires g c =
     let v : LiveView g.row.N = record { scenario = c.self.inside.scenario.now; id = c.self.inside.id; node = c.self.inside.node; next = c.self.inside.next; run = c.self.inside.run; forgot = c.self.inside.forgot; given = c.self.inside.told.given; ahead = c.self.inside.told.ahead; longest = c.self.inside.longest } in
     let same : v ≡ c.args.self.now = c.self.view_is in
-    (elim c.requires.capacity [ inl e ↦ rw e (lit< tt) | inr e ↦ rw e (lit< tt) ], (elim c.requires.capacity [ inl e ↦ rw e (lit< tt) | inr e ↦ rw e (lit< tt) ], ap (λ (x : LiveView g.row.N). is_open x) same ∙ c.requires.closed))
+    (elim g.bound-2.eight_or_sixteen [ inl e ↦ rw e (lit< tt) | inr e ↦ rw e (lit< tt) ], (elim g.bound-2.eight_or_sixteen [ inl e ↦ rw e (lit< tt) | inr e ↦ rw e (lit< tt) ], ap (λ (x : LiveView g.row.N). is_open x) same ∙ c.requires.closed))
 
 pub overflow_sub-period : goal.overflow_sub-period
 overflow_sub-period g c =
@@ -34,17 +34,17 @@ overflow_cast-period g c =
 pub write_alone-requires : goal.write_alone-requires
 write_alone-requires g c =
     let few : c.config-config.result.now.nodes ≤ g.row.N = rw c.config-config.ensures.config c.config-config.ensures.scenario.system.config.few_nodes in
-    (elim c.requires.capacity [ inl e ↦ rw e (lit< tt) | inr e ↦ rw e (lit< tt) ], (elim c.requires.capacity [ inl e ↦ rw e (lit< tt) | inr e ↦ rw e (lit< tt) ], (c.requires.capacity, few)))
+    (elim g.bound-2.eight_or_sixteen [ inl e ↦ rw e (lit< tt) | inr e ↦ rw e (lit< tt) ], (elim g.bound-2.eight_or_sixteen [ inl e ↦ rw e (lit< tt) | inr e ↦ rw e (lit< tt) ], few))
 
 pub clock-requires : goal.clock-requires
 clock-requires g c =
-    elim c.requires.capacity [ inl e ↦ rw e (lit< tt, lit< tt) | inr e ↦ rw e (lit< tt, lit< tt) ]
+    elim g.bound-2.eight_or_sixteen [ inl e ↦ rw e (lit< tt, lit< tt) | inr e ↦ rw e (lit< tt, lit< tt) ]
 
 pub write_correct-requires : goal.write_correct-requires
 write_correct-requires g c =
     let v : LiveView g.row.N = record { scenario = c.self.inside.scenario.now; id = c.self.inside.id; node = c.self.inside.node; next = c.self.inside.next; run = c.self.inside.run; forgot = c.self.inside.forgot; given = c.self.inside.told.given; ahead = c.self.inside.told.ahead; longest = c.self.inside.longest } in
     let same : v ≡ c.args.self.now = c.self.view_is in
-    (elim c.requires.capacity [ inl e ↦ rw e (lit< tt) | inr e ↦ rw e (lit< tt) ], (elim c.requires.capacity [ inl e ↦ rw e (lit< tt) | inr e ↦ rw e (lit< tt) ], (c.requires.capacity, c.record-outcome.ensures ∙ ap (λ (x : LiveView g.row.N). x.node.outcome) same)))
+    (elim g.bound-2.eight_or_sixteen [ inl e ↦ rw e (lit< tt) | inr e ↦ rw e (lit< tt) ], (elim g.bound-2.eight_or_sixteen [ inl e ↦ rw e (lit< tt) | inr e ↦ rw e (lit< tt) ], c.record-outcome.ensures ∙ ap (λ (x : LiveView g.row.N). x.node.outcome) same))
 
 pub returns-in_default-clause-wrote : goal.returns-in_default-clause-wrote
 returns-in_default-clause-wrote g c =

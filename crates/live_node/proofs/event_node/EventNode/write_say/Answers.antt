@@ -14,7 +14,7 @@ say-requires g c =
     let v : LiveView g.row.N = record { scenario = c.self.inside.scenario.now; id = c.self.inside.id; node = c.self.inside.node; next = c.self.inside.next; run = c.self.inside.run; forgot = c.self.inside.forgot; given = c.self.inside.told.given; ahead = c.self.inside.told.ahead; longest = c.self.inside.longest } in
     let same : v ≡ c.args.self.now = c.self.view_is in
     let held : IsHeld v c.self.inside.slot (vec_capacity c.self.inside.frame) (vec_capacity c.self.inside.text) = c.self.invariant in
-    (elim c.requires.capacity [ inl e ↦ rw e (lit< tt) | inr e ↦ rw e (lit< tt) ], (ap (λ (x : LiveView g.row.N). is_open x) same ∙ c.requires.open, held.frame_room))
+    (elim g.bound-2.eight_or_sixteen [ inl e ↦ rw e (lit< tt) | inr e ↦ rw e (lit< tt) ], (ap (λ (x : LiveView g.row.N). is_open x) same ∙ c.requires.open, held.frame_room))
 
 pub spell_say-requires : goal.spell_say-requires
 spell_say-requires g c =

@@ -2,4 +2,4 @@ use Rattle.std.proofs.Common.{inl, inr, lit<}
 use Rattle.live_node.proofs.live.Live.periods_run.Goals as goal
 
 pub periods_run-requires : goal.periods_run-requires
-periods_run-requires g c = elim c.requires [ inl e ↦ rw e (lit< tt) | inr e ↦ rw e (lit< tt) ]
+periods_run-requires g c = elim g.bound-1.eight_or_sixteen [ inl e ↦ rw e (lit< tt) | inr e ↦ rw e (lit< tt) ]

@@ -56,11 +56,11 @@ invariant_of-self-then-not-allows g c =
 
 pub is_of_cluster-requires : goal.is_of_cluster-requires
 is_of_cluster-requires g c =
-    (elim c.requires.capacity [ inl e ↦ rw e (lit< tt) | inr e ↦ rw e (lit< tt) ], c.requires.capacity)
+    elim g.bound-1.eight_or_sixteen [ inl e ↦ rw e (lit< tt) | inr e ↦ rw e (lit< tt) ]
 
 pub allows-requires : goal.allows-requires
 allows-requires g c =
-    (elim c.requires.capacity [ inl e ↦ rw e (lit< tt) | inr e ↦ rw e (lit< tt) ], c.requires.capacity)
+    elim g.bound-1.eight_or_sixteen [ inl e ↦ rw e (lit< tt) | inr e ↦ rw e (lit< tt) ]
 
 pub returns-in_default : goal.returns-in_default
 returns-in_default g c =
@@ -88,13 +88,10 @@ tell-requires g c =
     let whole : take c.self.inside.arrived.len (c.event_of.new.room ++ drop (length c.event_of.new.room) c.self.inside.arrived.items) ≡ c.event_of.new.room =
     take_at c.event_of.new.room (drop (length c.event_of.new.room) c.self.inside.arrived.items) c.self.inside.arrived.len (c.event_of.ensures.room ∙ c.as_mut_slice.ensures.len) in
     let room : length c.as_slice.result.now ≡ length c.as_mut_slice.result.now = ap length c.as_slice.ensures.value ∙ ap length whole ∙ c.event_of.ensures.room in (
-      elim c.requires.capacity [ inl e ↦ rw e (lit< tt) | inr e ↦ rw e (lit< tt) ],
+      elim g.bound-1.eight_or_sixteen [ inl e ↦ rw e (lit< tt) | inr e ↦ rw e (lit< tt) ],
       (
-        c.requires.capacity,
-        (
-          sym (c.is_of_cluster.ensures c.as_slice.result.now) ∙ c.if-not-is_of_cluster.false,
-          (sym (c.allows.ensures.event c.as_slice.result.now) ∙ c.if-not-allows.false, subst (λ n. FitsIn n c.in-Some.event) (sym room) c.in-Some.ensures.fits),
-        ),
+        sym (c.is_of_cluster.ensures c.as_slice.result.now) ∙ c.if-not-is_of_cluster.false,
+        (sym (c.allows.ensures.event c.as_slice.result.now) ∙ c.if-not-allows.false, subst (λ n. FitsIn n c.in-Some.event) (sym room) c.in-Some.ensures.fits),
       ),
     )
 
@@ -102,7 +99,7 @@ pub answer-requires : goal.answer-requires
 answer-requires g c =
     let later : IsAnswered c.in-Some.event → 0 < (told c.self.inside.node (event_in c.as_slice.result.now c.in-Some.event)).next = λ a.
     said_later c.self.inside.node c.allows.ensures.live (event_in c.as_slice.result.now c.in-Some.event) (sym (c.allows.ensures.event c.as_slice.result.now) ∙ c.if-not-allows.false) (answered c.as_slice.result.now c.in-Some.event a) in
-    (elim c.requires.capacity [ inl e ↦ rw e (lit< tt) | inr e ↦ rw e (lit< tt) ], (c.requires.capacity, λ a. subst (λ (x : LiveView g.row.N). 0 < x.next) (sym c.tell.ensures) (later a)))
+    (elim g.bound-1.eight_or_sixteen [ inl e ↦ rw e (lit< tt) | inr e ↦ rw e (lit< tt) ], λ a. subst (λ (x : LiveView g.row.N). 0 < x.next) (sym c.tell.ensures) (later a))
 
 pub invariant_of-self-2 : goal.invariant_of-self-2
 invariant_of-self-2 g c =

@@ -8,15 +8,15 @@ pub step-self-inside-requires : goal.step-self-inside-requires
 step-self-inside-requires g c =
     let run : c.self.inside.run ≡ c.args.self.now.run = ap (λ (v : AloneView g.row.N). v.run) c.self.view_is in
     let periods : c.self.inside.input.now.scenario.periods ≡ c.args.self.now.input.scenario.periods = ap (λ (v : AloneView g.row.N). v.input.scenario.periods) c.self.view_is in (
-      elim c.requires.capacity [ inl e ↦ rw e (lit< tt) | inr e ↦ rw e (lit< tt) ],
+      elim g.bound-1.eight_or_sixteen [ inl e ↦ rw e (lit< tt) | inr e ↦ rw e (lit< tt) ],
       (
-        elim c.requires.capacity [ inl e ↦ rw e (lit< tt) | inr e ↦ rw e (lit< tt) ],
-        (c.requires.capacity, (omega (arith, run, periods, c.requires.more), (c.self.invariant.node, c.self.invariant.rest))),
+        elim g.bound-1.eight_or_sixteen [ inl e ↦ rw e (lit< tt) | inr e ↦ rw e (lit< tt) ],
+        (omega (arith, run, periods, c.requires.more), (c.self.invariant.node, c.self.invariant.rest)),
       ),
     )
 
 pub record-shown-requires : goal.record-shown-requires
-record-shown-requires g c = (elim c.requires.capacity [ inl e ↦ rw e (lit< tt) | inr e ↦ rw e (lit< tt) ], (elim c.requires.capacity [ inl e ↦ rw e (lit< tt) | inr e ↦ rw e (lit< tt) ], c.step-self-inside.ensures.after.shut))
+record-shown-requires g c = (elim g.bound-1.eight_or_sixteen [ inl e ↦ rw e (lit< tt) | inr e ↦ rw e (lit< tt) ], (elim g.bound-1.eight_or_sixteen [ inl e ↦ rw e (lit< tt) | inr e ↦ rw e (lit< tt) ], c.step-self-inside.ensures.after.shut))
 
 pub invariant_of-self : goal.invariant_of-self
 invariant_of-self g c =

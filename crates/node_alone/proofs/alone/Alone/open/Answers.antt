@@ -10,15 +10,15 @@ pub open-requires : goal.open-requires
 open-requires g c =
     let is = c.config.ensures.config in
     let nodes : c.config.result.now.nodes ≡ c.args.input.now.scenario.config.nodes = ap (λ (y : Config g.row.N). y.nodes) is in (
-      elim c.requires [ inl e ↦ rw e (lit< tt) | inr e ↦ rw e (lit< tt) ],
+      elim g.bound-1.eight_or_sixteen [ inl e ↦ rw e (lit< tt) | inr e ↦ rw e (lit< tt) ],
       (
-        elim c.requires [ inl e ↦ rw e (lit< tt) | inr e ↦ rw e (lit< tt) ],
-        (c.requires, (subst (IsConfig g.row.N) (sym is) c.config.ensures.log.scenario.system.config, let id = c.id.ensures.id in let low = c.id.ensures.log.id in omega (arith, id, low, nodes))),
+        elim g.bound-1.eight_or_sixteen [ inl e ↦ rw e (lit< tt) | inr e ↦ rw e (lit< tt) ],
+        (subst (IsConfig g.row.N) (sym is) c.config.ensures.log.scenario.system.config, let id = c.id.ensures.id in let low = c.id.ensures.log.id in omega (arith, id, low, nodes)),
       ),
     )
 
 pub record-shown-requires : goal.record-shown-requires
-record-shown-requires g c = (elim c.requires [ inl e ↦ rw e (lit< tt) | inr e ↦ rw e (lit< tt) ], (elim c.requires [ inl e ↦ rw e (lit< tt) | inr e ↦ rw e (lit< tt) ], c.in_ok-node.ensures.shut))
+record-shown-requires g c = (elim g.bound-1.eight_or_sixteen [ inl e ↦ rw e (lit< tt) | inr e ↦ rw e (lit< tt) ], (elim g.bound-1.eight_or_sixteen [ inl e ↦ rw e (lit< tt) | inr e ↦ rw e (lit< tt) ], c.in_ok-node.ensures.shut))
 
 pub invariant_of-result : goal.invariant_of-result
 invariant_of-result g c = record {
@@ -30,10 +30,10 @@ invariant_of-result g c = record {
 }
 
 pub config-requires : goal.config-requires
-config-requires g c = (elim c.requires [ inl e ↦ rw e (lit< tt) | inr e ↦ rw e (lit< tt) ], elim c.requires [ inl e ↦ rw e (lit< tt) | inr e ↦ rw e (lit< tt) ])
+config-requires g c = (elim g.bound-1.eight_or_sixteen [ inl e ↦ rw e (lit< tt) | inr e ↦ rw e (lit< tt) ], elim g.bound-1.eight_or_sixteen [ inl e ↦ rw e (lit< tt) | inr e ↦ rw e (lit< tt) ])
 
 pub id-requires : goal.id-requires
-id-requires g c = elim c.requires [ inl e ↦ rw e (lit< tt) | inr e ↦ rw e (lit< tt) ]
+id-requires g c = elim g.bound-1.eight_or_sixteen [ inl e ↦ rw e (lit< tt) | inr e ↦ rw e (lit< tt) ]
 
 pub returns : goal.returns
 returns g c = refl

@@ -11,10 +11,10 @@ pub returns-in-Err-NoPart-clause-refused : goal.returns-in-Err-NoPart-clause-ref
 returns-in-Err-NoPart-clause-refused g c = no_parts g.row.N c.args.id (view c.args.value.now) (search rules)
 
 pub from_value-requires : goal.from_value-requires
-from_value-requires g c = (elim c.requires [ inl e ↦ rw e (lit< tt) | inr e ↦ rw e (lit< tt) ], c.requires)
+from_value-requires g c = elim g.bound-1.eight_or_sixteen [ inl e ↦ rw e (lit< tt) | inr e ↦ rw e (lit< tt) ]
 
 pub limits_of-limits-requires : goal.limits_of-limits-requires
-limits_of-limits-requires g c = (elim c.requires [ inl e ↦ rw e (lit< tt) | inr e ↦ rw e (lit< tt) ], c.requires)
+limits_of-limits-requires g c = elim g.bound-1.eight_or_sixteen [ inl e ↦ rw e (lit< tt) | inr e ↦ rw e (lit< tt) ]
 
 pub returns-then-id-limits-clause-refused : goal.returns-then-id-limits-clause-refused
 returns-then-id-limits-clause-refused g c =

@@ -16,17 +16,17 @@ use Rattle.node_core.proofs.controller.Controller.before_first.Goals as goal
 pub new-notes-requires : goal.new-notes-requires
 new-notes-requires g c = (
   elim c.requires.place.capacity [ inl e ↦ rw e (lit< tt) | inr e ↦ rw e (lit< tt) ],
-  (c.requires.place.capacity, (c.requires.place.few, c.kind_count.ensures.few)),
+  (c.requires.place.few, c.kind_count.ensures.few),
 )
 
 pub first-requires : goal.first-requires
 first-requires g c = (
   elim c.requires.place.capacity [ inl e ↦ rw e (lit< tt) | inr e ↦ rw e (lit< tt) ],
-  (elim c.requires.place.capacity [ inl e ↦ rw e (lit< tt) | inr e ↦ rw e (lit< tt) ], (c.requires.place.capacity, c.requires.place.config_is)),
+  (elim c.requires.place.capacity [ inl e ↦ rw e (lit< tt) | inr e ↦ rw e (lit< tt) ], c.requires.place.config_is),
 )
 
 pub cold-requires : goal.cold-requires
-cold-requires g c = (elim c.requires.place.capacity [ inl e ↦ rw e (lit< tt) | inr e ↦ rw e (lit< tt) ], c.requires.place.capacity)
+cold-requires g c = elim c.requires.place.capacity [ inl e ↦ rw e (lit< tt) | inr e ↦ rw e (lit< tt) ]
 
 pub invariant_of-result : goal.invariant_of-result
 invariant_of-result g c =
@@ -53,7 +53,7 @@ pub kind_count-requires : goal.kind_count-requires
 kind_count-requires g c = tt
 
 pub none-requires : goal.none-requires
-none-requires g c = (elim c.requires.place.capacity [ inl e ↦ rw e (lit< tt) | inr e ↦ rw e (lit< tt) ], (elim c.requires.place.capacity [ inl e ↦ rw e (lit< tt) | inr e ↦ rw e (lit< tt) ], c.requires.place.capacity))
+none-requires g c = (elim c.requires.place.capacity [ inl e ↦ rw e (lit< tt) | inr e ↦ rw e (lit< tt) ], elim c.requires.place.capacity [ inl e ↦ rw e (lit< tt) | inr e ↦ rw e (lit< tt) ])
 
 -- what is opened is seen as a node before its first period
 abbrev made : {N : ℕ} → Config N → ℕ → ℕ → AgreedView → List ℕ → Hearing ℕ → Hearing (List ℕ) → Found → Watch → Outcome → NodeView N

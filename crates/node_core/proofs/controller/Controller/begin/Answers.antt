@@ -16,12 +16,12 @@ use Rattle.node_core.proofs.Standing.{watch_open}
 use Rattle.node_core.proofs.controller.Controller.begin.Goals as goal
 
 pub empty-requires : goal.empty-requires
-empty-requires g c = (lit< tt, few_capacity g.row.N c.requires)
+empty-requires g c = (lit< tt, few_capacity g.row.N g.bound-1.eight_or_sixteen)
 
 pub expect-expect-requires : goal.expect-expect-requires
 expect-expect-requires g c =
     let inv = c.self.invariant in
-    (elim c.requires [ inl e ↦ rw e (lit< tt) | inr e ↦ rw e (lit< tt) ], (lit< tt, (lit< tt, (c.requires, inv.place.config_is))))
+    (elim g.bound-1.eight_or_sixteen [ inl e ↦ rw e (lit< tt) | inr e ↦ rw e (lit< tt) ], (lit< tt, (lit< tt, inv.place.config_is)))
 
 pub open_slot-requires : goal.open_slot-requires
 open_slot-requires g c =
@@ -40,10 +40,10 @@ pub is_some-requires : goal.is_some-requires
 is_some-requires g c κs = λ a m. absurd (not-mem-nil m)
 
 pub next_period-requires : goal.next_period-requires
-next_period-requires g c = elim c.requires [ inl e ↦ rw e (lit< tt) | inr e ↦ rw e (lit< tt) ]
+next_period-requires g c = elim g.bound-1.eight_or_sixteen [ inl e ↦ rw e (lit< tt) | inr e ↦ rw e (lit< tt) ]
 
 pub none-self-inside-requires : goal.none-self-inside-requires
-none-self-inside-requires g c = (elim c.requires [ inl e ↦ rw e (lit< tt) | inr e ↦ rw e (lit< tt) ], (elim c.requires [ inl e ↦ rw e (lit< tt) | inr e ↦ rw e (lit< tt) ], c.requires))
+none-self-inside-requires g c = (elim g.bound-1.eight_or_sixteen [ inl e ↦ rw e (lit< tt) | inr e ↦ rw e (lit< tt) ], elim g.bound-1.eight_or_sixteen [ inl e ↦ rw e (lit< tt) | inr e ↦ rw e (lit< tt) ])
 
 pub invariant_of-self : goal.invariant_of-self
 invariant_of-self g c =

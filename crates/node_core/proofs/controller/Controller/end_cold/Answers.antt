@@ -3,7 +3,7 @@ use Rattle.node_core.proofs.Ended.{recorded}
 use Rattle.node_core.proofs.controller.Controller.end_cold.Goals as goal
 
 pub cold-outcome-requires : goal.cold-outcome-requires
-cold-outcome-requires g c = (elim c.requires [ inl e ↦ rw e (lit< tt) | inr e ↦ rw e (lit< tt) ], c.requires)
+cold-outcome-requires g c = elim g.bound-1.eight_or_sixteen [ inl e ↦ rw e (lit< tt) | inr e ↦ rw e (lit< tt) ]
 
 pub invariant_of-self : goal.invariant_of-self
 invariant_of-self g c = recorded c.self.inside _ c.self.invariant

@@ -23,10 +23,10 @@ use Rattle.node_core.proofs.controller.Controller.end_period.Goals.{then-is_some
 pub close-found-requires : goal.close-found-requires
 close-found-requires g c =
     let open' = (c.requires.sound.in_slot c.requires.open).watching in
-    (lit< tt, (elim c.requires.capacity [ inl e ↦ rw e (lit< tt) | inr e ↦ rw e (lit< tt) ], ap (λ (v : NodeView g.row.N). v.arrived.is_open) c.self.view_is ∙ open'))
+    (lit< tt, (elim g.bound-1.eight_or_sixteen [ inl e ↦ rw e (lit< tt) | inr e ↦ rw e (lit< tt) ], ap (λ (v : NodeView g.row.N). v.arrived.is_open) c.self.view_is ∙ open'))
 
 pub carry_found-requires : goal.carry_found-requires
-carry_found-requires g c = (elim c.requires.capacity [ inl e ↦ rw e (lit< tt) | inr e ↦ rw e (lit< tt) ], (elim c.requires.capacity [ inl e ↦ rw e (lit< tt) | inr e ↦ rw e (lit< tt) ], c.requires.capacity))
+carry_found-requires g c = (elim g.bound-1.eight_or_sixteen [ inl e ↦ rw e (lit< tt) | inr e ↦ rw e (lit< tt) ], elim g.bound-1.eight_or_sixteen [ inl e ↦ rw e (lit< tt) | inr e ↦ rw e (lit< tt) ])
 
 pub invariant_of-self : goal.invariant_of-self
 invariant_of-self g c =
@@ -55,7 +55,7 @@ end_with_state-requires g c =
     let number : (seen n).phase.slot ≡ n.config.now.m + 3 + n.config.now.m = omega (arith, last) in
     let hears = (sound.in_slot open').rows (omega (arith, last)) in
     let closed = subst (λ (k : ℕ). IsRoundHeard g.row.N row_relay_kind k n.rows u) (sym sound.sizes.rows.rounds_are) (rows_closed n inv sound open' u shut' some.0 some.1 n.config.now.m (omega arith) number) in
-    (elim c.requires.capacity [ inl e ↦ rw e (lit< tt) | inr e ↦ rw e (lit< tt) ], (sound.sizes.before, (hears, closed)))
+    (elim g.bound-1.eight_or_sixteen [ inl e ↦ rw e (lit< tt) | inr e ↦ rw e (lit< tt) ], (sound.sizes.before, (hears, closed)))
 
 pub invariant_of-self-else-is_some : goal.invariant_of-self-else-is_some
 invariant_of-self-else-is_some g c =

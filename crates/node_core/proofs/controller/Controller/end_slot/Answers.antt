@@ -44,7 +44,7 @@ take_slot-requires g c =
     let slot : IsSlot v.config.m c.in-Some.next = subst (λ (k : ℕ). IsSlot k c.in-Some.next) m found.0 in
     let stands : c.number-number.result ≡ v.phase.slot = c.number-number.ensures.number ∙ ap (λ (u : NodeView g.row.N). u.phase.slot) is in
     let next : slot_number v.config.m c.in-Some.next ≡ v.phase.slot + 1 = ap (λ (k : ℕ). slot_number k c.in-Some.next) (sym m) ∙ found.1 ∙ ap (λ (k : ℕ). k + 1) stands in
-    (elim c.requires.capacity [ inl e ↦ rw e (lit< tt) | inr e ↦ rw e (lit< tt) ], (c.requires.sound, (c.requires.open, early v c.in-Some.next (c.requires.sound.in_slot c.requires.open).within slot next)))
+    (elim g.bound-1.eight_or_sixteen [ inl e ↦ rw e (lit< tt) | inr e ↦ rw e (lit< tt) ], (c.requires.sound, (c.requires.open, early v c.in-Some.next (c.requires.sound.in_slot c.requires.open).within slot next)))
 
 pub open_slot-requires : goal.open_slot-requires
 open_slot-requires g c =
@@ -61,8 +61,8 @@ open_slot-requires g c =
     let rounds : w.config.m ≡ v.config.m = ap (λ (p : Place g.row.N). p.lasts.of_node.config.m) kept in
     let still : w.phase.slot ≡ v.phase.slot = ap (λ (p : Place g.row.N). p.slot) kept in
     let next-now : slot_number w.config.m c.in-Some.next ≡ w.phase.slot + 1 = ap (λ (k : ℕ). slot_number k c.in-Some.next) rounds ∙ next ∙ ap (λ (k : ℕ). k + 1) (sym still) in
-    let taken = slot_is_taken v (few_capacity g.row.N c.requires.capacity) (config_ok n v c.self.invariant is) c.requires.sound c.requires.open in
-    (elim c.requires.capacity [ inl e ↦ rw e (lit< tt) | inr e ↦ rw e (lit< tt) ], (c.requires.capacity, (subst (λ (k : ℕ). IsSlot k c.in-Some.next) (sym rounds) slot, (next-now, subst (IsTaken {N = g.row.N}) (sym c.take_slot.ensures) taken))))
+    let taken = slot_is_taken v (few_capacity g.row.N g.bound-1.eight_or_sixteen) (config_ok n v c.self.invariant is) c.requires.sound c.requires.open in
+    (elim g.bound-1.eight_or_sixteen [ inl e ↦ rw e (lit< tt) | inr e ↦ rw e (lit< tt) ], (subst (λ (k : ℕ). IsSlot k c.in-Some.next) (sym rounds) slot, (next-now, subst (IsTaken {N = g.row.N}) (sym c.take_slot.ensures) taken)))
 
 pub returns-in-Some : goal.returns-in-Some
 returns-in-Some g c =
@@ -95,4 +95,4 @@ end_period-requires g c =
     let within = c.number-number.ensures.within in
     let stands : c.number-number.result ≡ v.phase.slot = c.number-number.ensures.number ∙ ap (λ (u : NodeView g.row.N). u.phase.slot) is in
     let last : v.phase.slot ≡ 2 * v.config.m + 3 = omega (arith, past, within, stands, m) in
-    (elim c.requires.capacity [ inl e ↦ rw e (lit< tt) | inr e ↦ rw e (lit< tt) ], (c.requires.capacity, (c.requires.sound, (c.requires.open, last))))
+    (elim g.bound-1.eight_or_sixteen [ inl e ↦ rw e (lit< tt) | inr e ↦ rw e (lit< tt) ], (c.requires.sound, (c.requires.open, last)))

@@ -31,7 +31,7 @@ pub settle-guilty-requires-room-V-PartialEq : goal.settle-guilty-requires-room-V
 settle-guilty-requires-room-V-PartialEq g c = λ κs. elim c.self.invariant.place.capacity [ inl e ↦ rw e (lit< tt) | inr e ↦ rw e (lit< tt) ]
 
 pub rows_of-rows-requires : goal.rows_of-rows-requires
-rows_of-rows-requires g c = (elim c.self.invariant.place.capacity [ inl e ↦ rw e (lit< tt) | inr e ↦ rw e (lit< tt) ], (elim c.self.invariant.place.capacity [ inl e ↦ rw e (lit< tt) | inr e ↦ rw e (lit< tt) ], (elim c.self.invariant.place.capacity [ inl e ↦ rw e (lit< tt) | inr e ↦ rw e (lit< tt) ], c.self.invariant.place.capacity)))
+rows_of-rows-requires g c = (elim c.self.invariant.place.capacity [ inl e ↦ rw e (lit< tt) | inr e ↦ rw e (lit< tt) ], (elim c.self.invariant.place.capacity [ inl e ↦ rw e (lit< tt) | inr e ↦ rw e (lit< tt) ], elim c.self.invariant.place.capacity [ inl e ↦ rw e (lit< tt) | inr e ↦ rw e (lit< tt) ]))
 
 pub step-requires : goal.step-requires
 step-requires g c =
@@ -39,7 +39,7 @@ step-requires g c =
     let cap = c.self.invariant.place.capacity in
     let agreed = subst (λ (v : NodeView g.row.N). IfSome v.phase.before (λ a. IsAgreed g.row.N v.config a)) (sym c.self.view_is) c.requires.agreed in
     let valid : IsAgreed g.row.N n.config.now c.in-Some.agreed = subst (λ (o : Option AgreedView). IfSome o (λ a. IsAgreed g.row.N n.config.now a)) c.in-Some.is agreed in
-    (elim cap [ inl e ↦ rw e (lit< tt) | inr e ↦ rw e (lit< tt) ], (elim cap [ inl e ↦ rw e (lit< tt) | inr e ↦ rw e (lit< tt) ], (elim cap [ inl e ↦ rw e (lit< tt) | inr e ↦ rw e (lit< tt) ], (elim cap [ inl e ↦ rw e (lit< tt) | inr e ↦ rw e (lit< tt) ], (cap, (c.self.invariant.place.config_is, subst (IsAgreed g.row.N n.config.now) (sym c.agreed.view_is) valid))))))
+    (elim cap [ inl e ↦ rw e (lit< tt) | inr e ↦ rw e (lit< tt) ], (elim cap [ inl e ↦ rw e (lit< tt) | inr e ↦ rw e (lit< tt) ], (elim cap [ inl e ↦ rw e (lit< tt) | inr e ↦ rw e (lit< tt) ], (elim cap [ inl e ↦ rw e (lit< tt) | inr e ↦ rw e (lit< tt) ], (c.self.invariant.place.config_is, subst (IsAgreed g.row.N n.config.now) (sym c.agreed.view_is) valid)))))
 
 pub invariant_of-self : goal.invariant_of-self
 invariant_of-self g c = ended_well c.self.inside c.self.invariant _ c.settle-guilty.new.table _ _ c.carry_all.ensures

@@ -22,10 +22,10 @@ overflow_cast-due g c =
     omega (arith, few, is)
 
 pub members-members-requires : goal.members-members-requires
-members-members-requires g c = (elim c.requires.capacity [ inl e ↦ rw e (lit< tt) | inr e ↦ rw e (lit< tt) ], (lit< tt, c.requires.capacity))
+members-members-requires g c = (elim g.bound-1.eight_or_sixteen [ inl e ↦ rw e (lit< tt) | inr e ↦ rw e (lit< tt) ], lit< tt)
 
 pub expect-requires : goal.expect-requires
-expect-requires g c = (elim c.requires.capacity [ inl e ↦ rw e (lit< tt) | inr e ↦ rw e (lit< tt) ], (lit< tt, (lit< tt, (c.requires.capacity, c.self.invariant.place.config_is))))
+expect-requires g c = (elim g.bound-1.eight_or_sixteen [ inl e ↦ rw e (lit< tt) | inr e ↦ rw e (lit< tt) ], (lit< tt, (lit< tt, c.self.invariant.place.config_is)))
 
 pub returns : goal.returns
 returns g c =

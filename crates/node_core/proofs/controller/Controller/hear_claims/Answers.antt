@@ -54,7 +54,7 @@ returns-then-is_none g c =
     ∙ ap (λ (v : NodeView g.row.N). taken (shut v) v.phase.before) c.self.view_is
 
 pub note_found-requires : goal.note_found-requires
-note_found-requires g c = (elim c.self.invariant.place.capacity [ inl e ↦ rw e (lit< tt) | inr e ↦ rw e (lit< tt) ], (elim c.self.invariant.place.capacity [ inl e ↦ rw e (lit< tt) | inr e ↦ rw e (lit< tt) ], c.self.invariant.place.capacity))
+note_found-requires g c = (elim c.self.invariant.place.capacity [ inl e ↦ rw e (lit< tt) | inr e ↦ rw e (lit< tt) ], elim c.self.invariant.place.capacity [ inl e ↦ rw e (lit< tt) | inr e ↦ rw e (lit< tt) ])
 
 pub hear_round-requires : goal.hear_round-requires
 hear_round-requires g c =

@@ -22,7 +22,7 @@ close-found-requires g c =
     (lit< tt, (elim c.self.invariant.place.capacity [ inl e ↦ rw e (lit< tt) | inr e ↦ rw e (lit< tt) ], ap (λ (v : NodeView g.row.N). v.arrived.is_open) is ∙ open'))
 
 pub good_senders-self-inside-requires : goal.good_senders-self-inside-requires
-good_senders-self-inside-requires g c = (elim c.self.invariant.place.capacity [ inl e ↦ rw e (lit< tt) | inr e ↦ rw e (lit< tt) ], (lit< tt, (c.self.invariant.place.capacity, c.self.invariant.place.few)))
+good_senders-self-inside-requires g c = (elim c.self.invariant.place.capacity [ inl e ↦ rw e (lit< tt) | inr e ↦ rw e (lit< tt) ], (lit< tt, c.self.invariant.place.few))
 
 pub state_of_period-self-inside-requires : goal.state_of_period-self-inside-requires
 state_of_period-self-inside-requires g c =
@@ -34,7 +34,7 @@ state_of_period-self-inside-requires g c =
     let first : (seen n).phase.slot ≡ 0 = ap (λ (v : NodeView g.row.N). v.phase.slot) is ∙ c.requires.slot in
     let u : Watch = c.close-found.new.self in
     let shut' = c.close-found.ensures.closed in
-    (elim inv.place.capacity [ inl e ↦ rw e (lit< tt) | inr e ↦ rw e (lit< tt) ], (lit< tt, (elim inv.place.capacity [ inl e ↦ rw e (lit< tt) | inr e ↦ rw e (lit< tt) ], (elim inv.place.capacity [ inl e ↦ rw e (lit< tt) | inr e ↦ rw e (lit< tt) ], (inv.place.capacity, (inv.place.config_is, (sound.sizes.kept.state, (heard_watch n inv sound open' first u shut', states_sized n inv sound open' first u shut'))))))))
+    (elim inv.place.capacity [ inl e ↦ rw e (lit< tt) | inr e ↦ rw e (lit< tt) ], (lit< tt, (elim inv.place.capacity [ inl e ↦ rw e (lit< tt) | inr e ↦ rw e (lit< tt) ], (elim inv.place.capacity [ inl e ↦ rw e (lit< tt) | inr e ↦ rw e (lit< tt) ], (inv.place.config_is, (sound.sizes.kept.state, (heard_watch n inv sound open' first u shut', states_sized n inv sound open' first u shut')))))))
 
 pub invariant_of-self : goal.invariant_of-self
 invariant_of-self g c =
@@ -67,7 +67,7 @@ pub body-body-requires : goal.body-body-requires
 body-body-requires g c =
     let n = c.self.inside in
     let inv = c.self.invariant in
-    (elim inv.place.capacity [ inl e ↦ rw e (lit< tt) | inr e ↦ rw e (lit< tt) ], (elim inv.place.capacity [ inl e ↦ rw e (lit< tt) | inr e ↦ rw e (lit< tt) ], (inv.place.capacity, (inv.place.config_is, subst (λ (o : Option AgreedView). IfSome o (λ a. IsAgreed g.row.N n.config.now a)) c.in-Some.is c.state_of_period-self-inside.ensures.agreed))))
+    (elim inv.place.capacity [ inl e ↦ rw e (lit< tt) | inr e ↦ rw e (lit< tt) ], (elim inv.place.capacity [ inl e ↦ rw e (lit< tt) | inr e ↦ rw e (lit< tt) ], (inv.place.config_is, subst (λ (o : Option AgreedView). IfSome o (λ a. IsAgreed g.row.N n.config.now a)) c.in-Some.is c.state_of_period-self-inside.ensures.agreed)))
 
 pub note_states-requires : goal.note_states-requires
 note_states-requires g c =
@@ -79,12 +79,12 @@ note_states-requires g c =
     let first : (seen n).phase.slot ≡ 0 = ap (λ (v : NodeView g.row.N). v.phase.slot) is ∙ c.requires.slot in
     let u : Watch = c.close-found.new.self in
     let shut' = c.close-found.ensures.closed in
-    (elim inv.place.capacity [ inl e ↦ rw e (lit< tt) | inr e ↦ rw e (lit< tt) ], (lit< tt, (elim inv.place.capacity [ inl e ↦ rw e (lit< tt) | inr e ↦ rw e (lit< tt) ], (inv.place.capacity, (subst (λ (k : ℕ). k ≤ 16) (sym inv.notes.kinds) (kinds-few n.config.now.version), (sync_slot n inv sound open' first u shut', c.close-found.ensures.found ∙ ap (findings g.row.N) (sym shut')))))))
+    (elim inv.place.capacity [ inl e ↦ rw e (lit< tt) | inr e ↦ rw e (lit< tt) ], (lit< tt, (elim inv.place.capacity [ inl e ↦ rw e (lit< tt) | inr e ↦ rw e (lit< tt) ], (subst (λ (k : ℕ). k ≤ 16) (sym inv.notes.kinds) (kinds-few n.config.now.version), (sync_slot n inv sound open' first u shut', c.close-found.ensures.found ∙ ap (findings g.row.N) (sym shut'))))))
 
 pub own_claim-claim-requires : goal.own_claim-claim-requires
 own_claim-claim-requires g c =
     let inv = c.self.invariant in
-    (elim inv.place.capacity [ inl e ↦ rw e (lit< tt) | inr e ↦ rw e (lit< tt) ], (inv.place.capacity, (let a = inv.place.me_low in let b = inv.place.few in omega (arith, a, b))))
+    (elim inv.place.capacity [ inl e ↦ rw e (lit< tt) | inr e ↦ rw e (lit< tt) ], (let a = inv.place.me_low in let b = inv.place.few in omega (arith, a, b)))
 
 pub start-requires : goal.start-requires
 start-requires g c =

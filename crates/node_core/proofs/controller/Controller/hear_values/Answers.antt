@@ -62,13 +62,10 @@ vote-voted-requires g c =
             (
               lit< tt,
               (
-                inv.place.capacity,
+                inv.place.config_is,
                 (
-                  inv.place.config_is,
-                  (
-                    values_agreed n inv sound open' number u shut' c.in-Some.agreed c.in-Some.is,
-                    (ids, values_heard n inv sound open' number u shut'),
-                  ),
+                  values_agreed n inv sound open' number u shut' c.in-Some.agreed c.in-Some.is,
+                  (ids, values_heard n inv sound open' number u shut'),
                 ),
               ),
             ),
@@ -93,7 +90,7 @@ note_values-requires g c =
       elim inv.place.capacity [ inl e ↦ rw e (lit< tt) | inr e ↦ rw e (lit< tt) ],
       (
         elim inv.place.capacity [ inl e ↦ rw e (lit< tt) | inr e ↦ rw e (lit< tt) ],
-        (lit< tt, (inv.place.capacity, let k = inv.notes.kinds in let f = kinds-few c.self.inside.config.now.version in omega (arith, k, f))),
+        (lit< tt, let k = inv.notes.kinds in let f = kinds-few c.self.inside.config.now.version in omega (arith, k, f)),
       ),
     )
 

@@ -21,20 +21,20 @@ pub settle-guilty-requires : goal.settle-guilty-requires
 settle-guilty-requires g c = (lit< tt, (lit< tt, (lit< tt, (subst (λ (v : NodeView g.row.N). IsDoneClosed v.done.rounds v) (sym c.self.view_is) c.requires.closed, length-replicate g.row.N _))))
 
 pub claims_of-claims-requires : goal.claims_of-claims-requires
-claims_of-claims-requires g c = (elim c.self.invariant.place.capacity [ inl e ↦ rw e (lit< tt) | inr e ↦ rw e (lit< tt) ], (elim c.self.invariant.place.capacity [ inl e ↦ rw e (lit< tt) | inr e ↦ rw e (lit< tt) ], c.self.invariant.place.capacity))
+claims_of-claims-requires g c = (elim c.self.invariant.place.capacity [ inl e ↦ rw e (lit< tt) | inr e ↦ rw e (lit< tt) ], elim c.self.invariant.place.capacity [ inl e ↦ rw e (lit< tt) | inr e ↦ rw e (lit< tt) ])
 
 pub preview-preview-requires : goal.preview-preview-requires
 preview-preview-requires g c =
     let n = c.self.inside in
     let inv = c.self.invariant in
     let agreed = subst (λ (v : NodeView g.row.N). IfSome v.phase.before (λ a. IsAgreed g.row.N v.config a)) (sym c.self.view_is) c.requires.agreed in
-    (elim inv.place.capacity [ inl e ↦ rw e (lit< tt) | inr e ↦ rw e (lit< tt) ], (elim inv.place.capacity [ inl e ↦ rw e (lit< tt) | inr e ↦ rw e (lit< tt) ], (elim inv.place.capacity [ inl e ↦ rw e (lit< tt) | inr e ↦ rw e (lit< tt) ], (elim inv.place.capacity [ inl e ↦ rw e (lit< tt) | inr e ↦ rw e (lit< tt) ], (inv.place.capacity, (inv.place.config_is, subst (λ (o : Option AgreedView). IfSome o (λ a. IsAgreed g.row.N n.config.now a)) c.in-Some.is agreed))))))
+    (elim inv.place.capacity [ inl e ↦ rw e (lit< tt) | inr e ↦ rw e (lit< tt) ], (elim inv.place.capacity [ inl e ↦ rw e (lit< tt) | inr e ↦ rw e (lit< tt) ], (elim inv.place.capacity [ inl e ↦ rw e (lit< tt) | inr e ↦ rw e (lit< tt) ], (elim inv.place.capacity [ inl e ↦ rw e (lit< tt) | inr e ↦ rw e (lit< tt) ], (inv.place.config_is, subst (λ (o : Option AgreedView). IfSome o (λ a. IsAgreed g.row.N n.config.now a)) c.in-Some.is agreed)))))
 
 pub note_verdicts-requires : goal.note_verdicts-requires
 note_verdicts-requires g c =
     let n = c.self.inside in
     let inv = c.self.invariant in
-    (elim inv.place.capacity [ inl e ↦ rw e (lit< tt) | inr e ↦ rw e (lit< tt) ], (elim inv.place.capacity [ inl e ↦ rw e (lit< tt) | inr e ↦ rw e (lit< tt) ], (inv.place.capacity, subst (λ (k : ℕ). k ≤ 16) (sym inv.notes.kinds) (kinds-few n.config.now.version))))
+    (elim inv.place.capacity [ inl e ↦ rw e (lit< tt) | inr e ↦ rw e (lit< tt) ], (elim inv.place.capacity [ inl e ↦ rw e (lit< tt) | inr e ↦ rw e (lit< tt) ], subst (λ (k : ℕ). k ≤ 16) (sym inv.notes.kinds) (kinds-few n.config.now.version)))
 
 pub invariant_of-self : goal.invariant_of-self
 invariant_of-self g c =

@@ -12,4 +12,4 @@ pub returns-in-Some : goal.returns-in-Some
 returns-in-Some g c = ap (λ (a : AgreedView). a.standing.members) c.agreed.view_is ∙ sym (ap members_in c.in-Some.is) ∙ ap (λ (v : NodeView g.row.N). members_in v.phase.before) c.self.view_is
 
 pub empty-requires : goal.empty-requires
-empty-requires g c = (lit< tt, few_capacity g.row.N c.requires)
+empty-requires g c = (lit< tt, few_capacity g.row.N g.bound-1.eight_or_sixteen)

@@ -9,26 +9,26 @@ use Rattle.node_core.specs.Inside.{IsPlace, AreUnused}
 use Rattle.node_core.proofs.controller.Controller.open.Goals as goal
 
 pub open-requires : goal.open-requires
-open-requires g c = (lit< tt, (c.requires.capacity, (c.requires.config.few_nodes, few_rounds g.row.N c.args.config.now c.requires.config)))
+open-requires g c = (lit< tt, (c.requires.config.few_nodes, few_rounds g.row.N c.args.config.now c.requires.config))
 
 pub open-requires-2 : goal.open-requires-2
 open-requires-2 g c = (
-  elim c.requires.capacity [ inl e ↦ rw e (lit< tt) | inr e ↦ rw e (lit< tt) ],
-  (c.requires.capacity, (c.requires.config.few_nodes, few_rounds g.row.N c.args.config.now c.requires.config)),
+  elim g.bound-1.eight_or_sixteen [ inl e ↦ rw e (lit< tt) | inr e ↦ rw e (lit< tt) ],
+  (c.requires.config.few_nodes, few_rounds g.row.N c.args.config.now c.requires.config),
 )
 
 pub open-requires-2-room-V-Eq : goal.open-requires-2-room-V-Eq
-open-requires-2-room-V-Eq g c = λ κs. elim c.requires.capacity [ inl e ↦ rw e (lit< tt) | inr e ↦ rw e (lit< tt) ]
+open-requires-2-room-V-Eq g c = λ κs. elim g.bound-1.eight_or_sixteen [ inl e ↦ rw e (lit< tt) | inr e ↦ rw e (lit< tt) ]
 
 pub open-requires-2-room-V-PartialEq : goal.open-requires-2-room-V-PartialEq
-open-requires-2-room-V-PartialEq g c = λ κs. elim c.requires.capacity [ inl e ↦ rw e (lit< tt) | inr e ↦ rw e (lit< tt) ]
+open-requires-2-room-V-PartialEq g c = λ κs. elim g.bound-1.eight_or_sixteen [ inl e ↦ rw e (lit< tt) | inr e ↦ rw e (lit< tt) ]
 
 pub open-requires-3 : goal.open-requires-3
-open-requires-3 g c = (lit< tt, (c.requires.capacity, c.requires.config.few_nodes))
+open-requires-3 g c = (lit< tt, c.requires.config.few_nodes)
 
 pub before_first-requires : goal.before_first-requires
 before_first-requires g c =
-    let cap : IsCapacity g.row.N = c.requires.capacity in
+    let cap : IsCapacity g.row.N = g.bound-1.eight_or_sixteen in
     let config = c.args.config.now in
     let ok = c.requires.config in
     let watch = c.in_ok-watch.ensures in

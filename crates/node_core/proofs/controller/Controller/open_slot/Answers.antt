@@ -16,7 +16,7 @@ use Rattle.node_core.proofs.controller.Controller.open_slot.Goals as goal
 pub expectation-expect-requires : goal.expectation-expect-requires
 expectation-expect-requires g c =
     let few = few_due c.args.self.now (config_ok c.self.inside c.args.self.now c.self.invariant c.self.view_is) c.requires.taken.sizes in
-    (elim c.requires.capacity [ inl e ↦ rw e (lit< tt) | inr e ↦ rw e (lit< tt) ], (lit< tt, (c.requires.capacity, (c.requires.slot, few))))
+    (elim g.bound-1.eight_or_sixteen [ inl e ↦ rw e (lit< tt) | inr e ↦ rw e (lit< tt) ], (lit< tt, (c.requires.slot, few)))
 
 pub open_slot-requires : goal.open_slot-requires
 open_slot-requires g c =

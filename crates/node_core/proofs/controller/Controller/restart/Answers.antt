@@ -3,7 +3,7 @@ use Rattle.error_reports.specs.Notes.{Notes}
 use Rattle.node_core.proofs.controller.Controller.restart.Goals as goal
 
 pub forget-requires : goal.forget-requires
-forget-requires g c = elim c.requires [ inl e ↦ rw e (lit< tt) | inr e ↦ rw e (lit< tt) ]
+forget-requires g c = elim g.bound-1.eight_or_sixteen [ inl e ↦ rw e (lit< tt) | inr e ↦ rw e (lit< tt) ]
 
 pub invariant_of-self : goal.invariant_of-self
 invariant_of-self g c =

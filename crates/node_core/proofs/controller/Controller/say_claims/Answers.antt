@@ -12,7 +12,7 @@ use Rattle.node_core.proofs.controller.Controller.say_claims.Goals as goal
 pub own_claim-claim-requires : goal.own_claim-claim-requires
 own_claim-claim-requires g c =
     let place = c.self.invariant.place in
-    (elim place.capacity [ inl e ↦ rw e (lit< tt) | inr e ↦ rw e (lit< tt) ], (place.capacity, (let l = place.me_low in let f = place.few in omega arith)))
+    (elim place.capacity [ inl e ↦ rw e (lit< tt) | inr e ↦ rw e (lit< tt) ], (let l = place.me_low in let f = place.few in omega arith))
 
 pub write-requires : goal.write-requires
 write-requires g c =
@@ -28,7 +28,7 @@ write-requires g c =
     )
 
 pub expectation-expect-requires : goal.expectation-expect-requires
-expectation-expect-requires g c = (elim c.self.invariant.place.capacity [ inl e ↦ rw e (lit< tt) | inr e ↦ rw e (lit< tt) ], (lit< tt, (c.self.invariant.place.capacity, (c.requires.round, few_due c.args.self.now (config_ok c.self.inside c.args.self.now c.self.invariant c.self.view_is) c.requires.ready.sound.sizes))))
+expectation-expect-requires g c = (elim c.self.invariant.place.capacity [ inl e ↦ rw e (lit< tt) | inr e ↦ rw e (lit< tt) ], (lit< tt, (c.requires.round, few_due c.args.self.now (config_ok c.self.inside c.args.self.now c.self.invariant c.self.view_is) c.requires.ready.sound.sizes)))
 
 pub say_round-requires : goal.say_round-requires
 say_round-requires g c =

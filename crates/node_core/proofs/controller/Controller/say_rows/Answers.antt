@@ -27,7 +27,7 @@ write-requires g c =
     )
 
 pub expectation-expect-requires : goal.expectation-expect-requires
-expectation-expect-requires g c = (elim c.self.invariant.place.capacity [ inl e ↦ rw e (lit< tt) | inr e ↦ rw e (lit< tt) ], (lit< tt, (c.self.invariant.place.capacity, (c.requires.round, few_due c.args.self.now (config_ok c.self.inside c.args.self.now c.self.invariant c.self.view_is) c.requires.ready.sound.sizes))))
+expectation-expect-requires g c = (elim c.self.invariant.place.capacity [ inl e ↦ rw e (lit< tt) | inr e ↦ rw e (lit< tt) ], (lit< tt, (c.requires.round, few_due c.args.self.now (config_ok c.self.inside c.args.self.now c.self.invariant c.self.view_is) c.requires.ready.sound.sizes)))
 
 pub say_round-requires-room-V-Item : goal.say_round-requires-room-V-Item
 say_round-requires-room-V-Item g c = λ κs. elim c.self.invariant.place.capacity [ inl e ↦ rw e (lit< tt) | inr e ↦ rw e (lit< tt) ]

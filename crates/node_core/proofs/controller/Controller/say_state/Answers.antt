@@ -12,7 +12,7 @@ body-state-requires g c =
     let inv = c.self.invariant in
     let v = c.args.self.now in
     let agreed : IsAgreed g.row.N c.self.inside.config.now c.args.agreed.now = subst (λ (w : NodeView g.row.N). IsAgreed g.row.N w.config c.args.agreed.now) (sym c.self.view_is) (goes_agreed v c.args.agreed.now c.requires.ready.sound.sizes c.requires.own.goes) in
-    (elim inv.place.capacity [ inl e ↦ rw e (lit< tt) | inr e ↦ rw e (lit< tt) ], (elim inv.place.capacity [ inl e ↦ rw e (lit< tt) | inr e ↦ rw e (lit< tt) ], (inv.place.capacity, (inv.place.config_is, agreed))))
+    (elim inv.place.capacity [ inl e ↦ rw e (lit< tt) | inr e ↦ rw e (lit< tt) ], (elim inv.place.capacity [ inl e ↦ rw e (lit< tt) | inr e ↦ rw e (lit< tt) ], (inv.place.config_is, agreed)))
 
 pub write-requires : goal.write-requires
 write-requires g c =

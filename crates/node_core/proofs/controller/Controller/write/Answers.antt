@@ -36,7 +36,7 @@ encode-requires g c =
     let fits : 14 + c.args.size ≤ vec_capacity c.args.out.now = omega (arith, size, sent.fits, c.requires.ready.room) in
     let made : vec_len c.resize.new.self ≡ 14 + c.args.size = c.resize.ensures.len ∙ cond-true (is_ok c.resize.result) (14 + c.args.size) (vec_len c.args.out.now) (c.resize.ensures.succeeds fits) in
     let widths : HasWidth n.config.now.nodes c.args.frame.now.body = subst (λ (w : NodeView g.row.N). HasWidth w.config.nodes c.args.frame.now.body) (sym is) c.requires.widths in
-    (elim inv.place.capacity [ inl e ↦ rw e (lit< tt) | inr e ↦ rw e (lit< tt) ], (inv.place.capacity, (inv.place.few, (widths, (sent.short, omega (arith, size, made, c.as_mut_slice.ensures.len))))))
+    (elim inv.place.capacity [ inl e ↦ rw e (lit< tt) | inr e ↦ rw e (lit< tt) ], (inv.place.few, (widths, (sent.short, omega (arith, size, made, c.as_mut_slice.ensures.len)))))
 
 pub returns-clause-written : goal.returns-clause-written
 returns-clause-written g c =

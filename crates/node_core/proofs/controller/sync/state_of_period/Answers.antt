@@ -15,4 +15,4 @@ pub returns-then-phase-clause-state : goal.returns-then-phase-clause-state
 returns-then-phase-clause-state g c = sym (cond-true _ _ _ c.if-phase.true)
 
 pub adopt-requires : goal.adopt-requires
-adopt-requires g c = (elim c.requires.capacity [ inl e ↦ rw e (lit< tt) | inr e ↦ rw e (lit< tt) ], (lit< tt, (elim c.requires.capacity [ inl e ↦ rw e (lit< tt) | inr e ↦ rw e (lit< tt) ], (c.requires.capacity, (c.requires.config, (c.requires.watching, c.requires.sized))))))
+adopt-requires g c = (elim g.bound-1.eight_or_sixteen [ inl e ↦ rw e (lit< tt) | inr e ↦ rw e (lit< tt) ], (lit< tt, (elim g.bound-1.eight_or_sixteen [ inl e ↦ rw e (lit< tt) | inr e ↦ rw e (lit< tt) ], (c.requires.config, (c.requires.watching, c.requires.sized)))))

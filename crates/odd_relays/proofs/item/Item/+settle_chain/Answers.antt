@@ -62,7 +62,7 @@ pub returns-then-lay_alike-clause-settled : goal.returns-then-lay_alike-clause-s
 returns-then-lay_alike-clause-settled g k c = λ i on.
     let t = telling g.S.Relays.says c.args.self.now in
     c.lay_alike.ensures.laid c.if-lay_alike.true i on
-    ∙ alike_settles t g.V.PartialEq.eq c.requires.exact c.requires.few i c.args.receivers.now c.args.path.now c.requires.chain on (c.requires.off i on) (c.lay_alike.ensures.alike c.if-lay_alike.true)
+    ∙ alike_settles t g.V.PartialEq.eq g.met.V.Exact.exact c.requires.few i c.args.receivers.now c.args.path.now c.requires.chain on (c.requires.off i on) (c.lay_alike.ensures.alike c.if-lay_alike.true)
 
 pub passed-own-requires : goal.passed-own-requires
 passed-own-requires g k c =
@@ -99,7 +99,7 @@ settle_chain-requires g k c κs within =
               omega arith,
               (
                 omega arith,
-                (c.requires.exact, (omega (arith, l, deep, long, c.loop-q.invariant.long, c.requires.room), (c.requires.few, (chain, off)))),
+                (omega (arith, l, deep, long, c.loop-q.invariant.long, c.requires.room), (c.requires.few, (chain, off))),
               ),
             ),
           ),
@@ -110,7 +110,7 @@ settle_chain-requires g k c κs within =
 pub lay_alike-requires : goal.lay_alike-requires
 lay_alike-requires g k c =
     let low = chain_low (telling g.S.Relays.says c.args.self.now) c.args.path.now g.row.N c.len-2.ensures.ids c.requires.chain in
-    (omega arith, (omega arith, (c.requires.exact, (low, omega (arith, c.requires.room)))))
+    (omega arith, (omega arith, (low, omega (arith, c.requires.room))))
 
 pub outside-requires : goal.outside-requires
 outside-requires g k c = (omega arith, chain_low (telling g.S.Relays.says c.args.self.now) c.args.path.now g.row.N c.len-2.ensures.ids c.requires.chain)

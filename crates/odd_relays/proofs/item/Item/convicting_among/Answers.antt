@@ -51,11 +51,8 @@ voices_for-voices-requires g c =
     let i = c.loop-i.invariant in (
       omega arith,
       (
-        c.requires.exact,
-        (
-          low_of g.row.N c.args.nodes.now c.loop-i.yielded c.next.new.self c.loop-i.i-iterator c.in-Some.i c.iter-i-items.ensures.ids i.split c.in-Some.ensures.steps,
-          (i.low, i.counted),
-        ),
+        low_of g.row.N c.args.nodes.now c.loop-i.yielded c.next.new.self c.loop-i.i-iterator c.in-Some.i c.iter-i-items.ensures.ids i.split c.in-Some.ensures.steps,
+        (i.low, i.counted),
       ),
     )
 
@@ -66,11 +63,8 @@ convicts_beside-requires g c =
     let on = next_on nodes c.loop-i.yielded c.next.new.self c.loop-i.i-iterator c.in-Some.i i.split c.in-Some.ensures.steps in (
       omega arith,
       (
-        c.requires.exact,
-        (
-          low_of g.row.N nodes c.loop-i.yielded c.next.new.self c.loop-i.i-iterator c.in-Some.i c.iter-i-items.ensures.ids i.split c.in-Some.ensures.steps,
-          (apart nodes c.args.self.now.commander c.in-Some.i c.requires.others on, c.voices_for-voices.ensures),
-        ),
+        low_of g.row.N nodes c.loop-i.yielded c.next.new.self c.loop-i.i-iterator c.in-Some.i c.iter-i-items.ensures.ids i.split c.in-Some.ensures.steps,
+        (apart nodes c.args.self.now.commander c.in-Some.i c.requires.others on, c.voices_for-voices.ensures),
       ),
     )
 

@@ -130,6 +130,6 @@ returns g c =
     let a = ap (count (λ q. disagrees g.V.PartialEq.eq own (odd_relay t c.args.i q))) all in
     let voice = ap bit (c.is_full_among.ensures ∙ ap (λ (s : List ℕ). has_id s c.args.i && has_id t.full c.args.i) odd) in
     c.convict.ensures
-    ∙ counted_convicts t g.V.PartialEq.eq c.requires.exact c.args.i (Distinct-ids g.row.N t.members c.len.ensures.ids) c.requires.other c.args.regular.now c.and_own.result c.requires.counted
+    ∙ counted_convicts t g.V.PartialEq.eq g.met.V.Exact.exact c.args.i (Distinct-ids g.row.N t.members c.len.ensures.ids) c.requires.other c.args.regular.now c.and_own.result c.requires.counted
     (omega (arith, c.and_own.ensures.present, i.present, p, voice))
     (omega (arith, c.and_own.ensures.against, i.against, a))

@@ -19,7 +19,7 @@ only_alone n empty alone c i ne none is = elim (cases_Bool (has_id alone c)) [
 
 pub settle_at-requires : goal.settle_at-requires
 settle_at-requires g c =
-    (omega arith, (omega arith, (c.requires.exact, (c.requires.few, (only_alone g.row.N c.empty-alone.result c.put.new.self c.args.self.now.commander c.args.i c.requires.other c.empty-alone.ensures c.put.ensures, c.requires.room)))))
+    (omega arith, (omega arith, (c.requires.few, (only_alone g.row.N c.empty-alone.result c.put.new.self c.args.self.now.commander c.args.i c.requires.other c.empty-alone.ensures c.put.ensures, c.requires.room))))
 
 pub value_at-requires : goal.value_at-requires
 value_at-requires g c = omega (arith, c.settle_at.ensures.room, c.requires.node, c.args.self.now.fits)

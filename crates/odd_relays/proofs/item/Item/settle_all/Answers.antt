@@ -25,13 +25,13 @@ settle_as_one-requires g c =
     let fulls : (q : ℕ) → has_id c.args.self.now.phase.members q ≡ true → has_id c.args.self.now.phase.full q ≡ true → c.args.self.now.commander ≢ q → has_id c.without-nodes.result q ≡ true =
     λ q on f ne. on_rest c.args.awake.now c.without-nodes.result c.args.self.now.commander q c.without-nodes.ensures (c.requires.full q on f) ne in (
       omega arith,
-      (omega arith, (c.requires.exact, (c.requires.few, (off, (fulls, c.requires.room))))),
+      (omega arith, (c.requires.few, (off, (fulls, c.requires.room)))),
     )
 
 pub settle_each-requires : goal.settle_each-requires
 settle_each-requires g c =
     let off = off_rest c.args.awake.now c.without-nodes.result c.args.self.now.commander c.without-nodes.ensures in
-    (omega arith, (omega arith, (c.requires.exact, (c.requires.few, (off, (c.in-None.ensures.room, c.requires.places))))))
+    (omega arith, (omega arith, (c.requires.few, (off, (c.in-None.ensures.room, c.requires.places)))))
 
 pub returns-in-Some-clause-settled : goal.returns-in-Some-clause-settled
 returns-in-Some-clause-settled g c = λ i on ne.

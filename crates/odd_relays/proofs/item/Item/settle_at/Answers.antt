@@ -21,11 +21,8 @@ settle_chain-requires g c =
       (
         omega arith,
         (
-          c.requires.exact,
-          (
-            omega (arith, long, c.requires.room, c.args.self.now.short),
-            (c.requires.few, (chain, off)),
-          ),
+          omega (arith, long, c.requires.room, c.args.self.now.short),
+          (c.requires.few, (chain, off)),
         ),
       ),
     )
@@ -41,4 +38,4 @@ returns-clause-settled g c =
     ∙ c.settle_chain.ensures.settled i on
     ∙ ap (λ (n : ℕ). chain_within g.V.PartialEq.eq w t.odd i n c.root.result) e
     ∙ ap (chain_within g.V.PartialEq.eq w t.odd i t.rounds) c.root.ensures
-    ∙ direct_settles t g.V.PartialEq.eq c.requires.exact (Distinct-ids g.row.N t.members c.len.ensures.ids) c.requires.few c.args.self.now.member i (apart c.args.receivers.now t.commander i c.requires.others on)
+    ∙ direct_settles t g.V.PartialEq.eq g.met.V.Exact.exact (Distinct-ids g.row.N t.members c.len.ensures.ids) c.requires.few c.args.self.now.member i (apart c.args.receivers.now t.commander i c.requires.others on)

@@ -16,7 +16,7 @@ off_within leaders nodes c within off = elim (cases_Bool (has_id leaders c)) [
 pub settle_at-requires : goal.settle_at-requires
 settle_at-requires g c =
     let off = off_within c.find_leaders-leaders.result c.args.nodes.now c.args.self.now.commander c.find_leaders-leaders.ensures.within c.requires.others in
-    (omega arith, (omega arith, (c.requires.exact, (c.requires.few, (off, c.requires.room)))))
+    (omega arith, (omega arith, (c.requires.few, (off, c.requires.room))))
 
 pub copy_led-requires : goal.copy_led-requires
 copy_led-requires g c =
@@ -40,6 +40,6 @@ returns-clause-settled g c =
     ∙ elim led.alike [
       | inl same ↦ ap (settled_item eq t) (sym same)
       | inr alike ↦
-          direct_views t eq c.requires.exact (Distinct-ids g.row.N t.members c.len.ensures.ids) c.requires.few c.args.self.now.member alike.relayed i j
+          direct_views t eq g.met.V.Exact.exact (Distinct-ids g.row.N t.members c.len.ensures.ids) c.requires.few c.args.self.now.member alike.relayed i j
           (apart c.args.nodes.now t.commander i c.requires.others on) (apart c.args.nodes.now t.commander j c.requires.others (leaders.within j led.among)) alike.first alike.second alike.says
     ]

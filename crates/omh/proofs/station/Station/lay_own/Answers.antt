@@ -32,7 +32,7 @@ pub has-requires : goal.has-requires
 has-requires g c = lit< tt
 
 pub rank-requires : goal.rank-requires
-rank-requires g c = (lit< tt, (c.requires.station.capacity_ok, λ q on. only_me c.outside-others.result c.root.result c.args.self.now.me q c.root.ensures (sym c.has.ensures ∙ c.if-has.true) on))
+rank-requires g c = (lit< tt, λ q on. only_me c.outside-others.result c.root.result c.args.self.now.me q c.root.ensures (sym c.has.ensures ∙ c.if-has.true) on)
 
 pub overflow_add-from : goal.overflow_add-from
 overflow_add-from g c = omega (arith, low g c)

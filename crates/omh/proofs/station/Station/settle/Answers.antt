@@ -29,7 +29,7 @@ settle_shorter-requires g c =
     let x = flat_ear s.nodes s.rounds s.members s.me s.full c.args.heard.now in
     let shorter : IsShorter s.rounds s.members c.member_place-place.result (s.rounds - c.loop-done.done - 1) = record { member = c.member_place-place.ensures.in_range; shorter = omega (arith, c.loop-done-test.true) } in
     let settled = settled_moved_to g.V.PartialEq.eq x c.member_place-place.result (s.rounds - c.loop-done.done) (s.rounds - c.loop-done.done - 1 + 1) c.loop-done.work (omega (arith, c.loop-done-test.true)) c.loop-done.invariant.settled in
-    (omega arith, (c.requires.exact, (c.requires.station, (c.loop-done.invariant.room, (shorter, settled)))))
+    (omega arith, (c.requires.station, (c.loop-done.invariant.room, (shorter, settled))))
 
 pub loop-done-preserved : goal.loop-done-preserved
 loop-done-preserved g c =

@@ -22,10 +22,7 @@ pub unrank-path-requires : goal.unrank-path-requires
 unrank-path-requires g c =
     let b = c.branch-branch.ensures in (
       omega arith,
-      (
-        c.requires.station.capacity_ok,
-        (omega arith, (omega (arith, c.requires.shorter.shorter, c.requires.station.rounds_ok), omega (arith, b.listed, c.loop-k-test.true))),
-      ),
+      (omega arith, (omega (arith, c.requires.shorter.shorter, c.requires.station.rounds_ok), omega (arith, b.listed, c.loop-k-test.true))),
     )
 
 pub overflow_add-branch-in-loop-k : goal.overflow_add-branch-in-loop-k
@@ -51,7 +48,7 @@ settle_path-requires g c =
     let step = step_of g.row.N s.nodes s.rounds s.members c.unrank-path.result s.count a.commander a.relays c.loop-k.k c.saturating_sub-width.result c.branch-branch.result a.heard.now c.loop-k.work c.requires.station c.loop-k.invariant.room
     c.requires.shorter.member c.requires.shorter.shorter c.branch-branch.ensures c.loop-k-test.true c.unrank-path.ensures.path c.saturating_sub-width.ensures in (
       omega arith,
-      (c.requires.exact, (c.requires.station, (c.unrank-path.ensures.within, (step.width_at, record { within = step.terms; place = step.here; small = step.terms_few })))),
+      (c.requires.station, (c.unrank-path.ensures.within, (step.width_at, record { within = step.terms; place = step.here; small = step.terms_few }))),
     )
 
 pub loop-k-preserved : goal.loop-k-preserved

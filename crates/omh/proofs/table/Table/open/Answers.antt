@@ -21,11 +21,11 @@ fits_one : (k : ℕ) → k ≤ 262144 → Fits w64 (1 + k)
 fits_one k h = omega arith
 
 pub section_at-requires : goal.section_at-requires
-section_at-requires g c = record { nodes = few_nodes g.row.N c.args.nodes c.requires.capacity c.requires.nodes; short = next_few c.args.m c.requires.rounds }
+section_at-requires g c = record { nodes = few_nodes g.row.N c.args.nodes g.bound-5.eight_or_sixteen c.requires.nodes; short = next_few c.args.m c.requires.rounds }
 
 pub section_at-requires-2 : goal.section_at-requires-2
 section_at-requires-2 g c = record {
-  nodes = one_less g.row.N c.args.nodes c.saturating_sub.result c.requires.capacity c.requires.nodes c.saturating_sub.ensures;
+  nodes = one_less g.row.N c.args.nodes c.saturating_sub.result g.bound-5.eight_or_sixteen c.requires.nodes c.saturating_sub.ensures;
   short = same_few c.args.m c.requires.rounds;
 }
 
@@ -34,7 +34,7 @@ overflow_add-section_at g c = fits_one c.section_at-2.result c.section_at-2.ensu
 
 pub invariant_of-result : goal.invariant_of-result
 invariant_of-result g c = (
-  opened_station g.row.N c.args.nodes c.args.m c.empty.result c.requires.capacity c.requires.nodes c.requires.rounds c.empty.ensures,
+  opened_station g.row.N c.args.nodes c.args.m c.empty.result g.bound-5.eight_or_sixteen c.requires.nodes c.requires.rounds c.empty.ensures,
   opened_room c.args.nodes c.args.m c.section_at.result c.section_at-2.result c.in-Ok.heard.items c.in-Ok-unheard.work.items c.in-Ok.ensures c.in-Ok-unheard.ensures c.section_at.ensures.begins
       (c.section_at-2.ensures.begins ∙ ap (λ (k : ℕ). section_at k c.args.m) c.saturating_sub.ensures),
 )

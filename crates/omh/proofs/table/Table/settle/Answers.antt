@@ -19,17 +19,14 @@ settle-requires g c =
     let s = c.self.inside.station in (
       lit< tt,
       (
-        c.requires.exact,
+        c.self.invariant.0,
         (
-          c.self.invariant.0,
+          room_seen g.row.N s.nodes s.rounds s.members s.count s.me s.full c.self.inside.own c.self.inside.heard.items c.self.inside.work.items c.args.self.now c.self.view_is c.self.invariant.0 c.self.invariant.1
+              c.as_slice.result.now c.as_mut_slice.result.now c.as_slice.ensures.value c.as_mut_slice.ensures.value,
           (
-            room_seen g.row.N s.nodes s.rounds s.members s.count s.me s.full c.self.inside.own c.self.inside.heard.items c.self.inside.work.items c.args.self.now c.self.view_is c.self.invariant.0 c.self.invariant.1
-                c.as_slice.result.now c.as_mut_slice.result.now c.as_slice.ensures.value c.as_mut_slice.ensures.value,
-            (
-              member_seen g.row.N s.nodes s.rounds s.members s.count s.me s.full c.self.inside.own c.self.inside.heard.items c.self.inside.work.items c.args.self.now c.self.view_is c.self.invariant.0 c.self.invariant.1
-                  c.args.commander c.requires.member,
-              c.if-commander-self.false,
-            ),
+            member_seen g.row.N s.nodes s.rounds s.members s.count s.me s.full c.self.inside.own c.self.inside.heard.items c.self.inside.work.items c.args.self.now c.self.view_is c.self.invariant.0 c.self.invariant.1
+                c.args.commander c.requires.member,
+            c.if-commander-self.false,
           ),
         ),
       ),

@@ -24,7 +24,7 @@ pub lay_free-requires : goal.lay_free-requires
 lay_free-requires g c =
     let s = c.args.self.now in
     let is = c.requires.station in
-    (lit< tt, (is.seated.capacity_ok, (is.seated.rounds_ok, λ ids. omega (arith, sets_fit g.row.N s.nodes s.rounds (length s.free.items) c.args.members.now is.sets.long c.requires.members ids, ap (λ ss. length ss) c.as_mut_slice.ensures.value))))
+    (lit< tt, (is.seated.rounds_ok, λ ids. omega (arith, sets_fit g.row.N s.nodes s.rounds (length s.free.items) c.args.members.now is.sets.long c.requires.members ids, ap (λ ss. length ss) c.as_mut_slice.ensures.value)))
 
 equal : (b : Bool) → false ≡ not b → b ≡ true
 equal true h = refl

@@ -88,7 +88,7 @@ loop-k-preserved g c =
       behind = behind_more read s.members s.others s.me s.rounds c.args.frames.now c.loop-k.k c.loop-k.at c.loop-k.frames st.members_ok st.others_ok low i.behind c.outside-outside.result c.outside-outside.ensures c.settle_path-at.new.frames c.settle_path-at.result
           c.settle_path-at.ensures.moved c.settle_path-at.ensures.behind;
       settled = λ x kept last.
-          settled_more read s.members s.others s.me s.rounds c.args.frames.now c.loop-k.k c.loop-k.at c.loop-k.frames st.members_ok st.others_ok low i.behind c.outside-outside.result c.outside-outside.ensures g.met.V.Item.exact s.full (map said heard) x c.requires.some kept last
+          settled_more read s.members s.others s.me s.rounds c.args.frames.now c.loop-k.k c.loop-k.at c.loop-k.frames st.members_ok st.others_ok low i.behind c.outside-outside.result c.outside-outside.ensures g.met.V.Exact.exact s.full (map said heard) x c.requires.some kept last
           (map said (take (length heard - c.section_at.result) (drop c.section_at.result heard))) section (map said c.loop-k.settled) (map said c.settle_path-at.new.settled) c.settle_path-at.result c.settle_path-at.ensures.behind
           (omega (arith, settled_room st s.rounds (length c.args.settled.now) c.requires.some (omega arith) c.requires.room.settled_ok, i.long, length-map c.loop-k.settled said)) c.settle_path-at.ensures.settled (i.settled x kept last);
       long = c.settle_path-at.ensures.length ∙ i.long;

@@ -124,7 +124,7 @@ loop-k-preserved g c =
     let room : path_count n (len + 1) ≤ length now = omega (arith, settled_room c.requires.station (c.args.len + 1) (length c.args.settled.now) (omega arith) (omega (arith, c.requires.shorter)) c.requires.room.settled_ok, i.long, size) in
     record {
       settled = λ x kept longer.
-          shorter_more g.met.V.Item.exact g.row.N s.members s.others s.me s.rounds len k s.full (map said heard) (map said c.args.settled.now) now x st.members_ok st.others_ok c.requires.some c.requires.shorter low kept longer i.rest room
+          shorter_more g.met.V.Exact.exact g.row.N s.members s.others s.me s.rounds len k s.full (map said heard) (map said c.args.settled.now) now x st.members_ok st.others_ok c.requires.some c.requires.shorter low kept longer i.rest room
           (map said part) section (map said c.set_term.new.terms) value fits (i.settled x kept longer) value_is c.set_term.ensures.terms;
       rest = rest_more k value (map said c.args.settled.now) now (map said c.set_term.new.terms) fits c.set_term.ensures.terms i.rest;
       long = c.set_term.ensures.length ∙ i.long;

@@ -9,7 +9,7 @@ use Rattle.relay_table.proofs.table.Table.open.Goals as goal
 pub invariant_of-result : goal.invariant_of-result
 invariant_of-result g c = (
   record {
-    seated = opened_station g.row.N c.args.nodes c.args.m c.empty.result c.empty-2.result c.requires.capacity c.requires.nodes c.requires.rounds c.empty.ensures c.empty-2.ensures;
+    seated = opened_station g.row.N c.args.nodes c.args.m c.empty.result c.empty-2.result g.bound-6.eight_or_sixteen c.requires.nodes c.requires.rounds c.empty.ensures c.empty-2.ensures;
     sets = opened_sets c.args.nodes c.args.m c.free_begins.result c.empty.result c.in-Ok-no_sets.free.items c.free_begins.ensures.begins c.empty.ensures c.in-Ok-no_sets.ensures;
   },
   opened_room c.args.nodes c.args.m c.saturating_sub.result c.kept_nodes.result c.section_at-room.result c.in-Ok.heard.items c.in-Ok-unheard.settled.items c.saturating_sub.ensures c.kept_nodes.ensures.kept c.section_at-room.ensures.begins

@@ -10,16 +10,16 @@ pub returns-then-is_nothing-clause-tally : goal.returns-then-is_nothing-clause-t
 returns-then-is_nothing-clause-tally g c =
     let bad : is_error (said c.args.term.now) ≡ true = sym c.is_nothing.ensures ∙ c.if-is_nothing.true in
     λ seen h. record {
-      leads = leads_error g.met.V.Item.exact seen (said c.args.self.now.candidate) (said c.args.term.now) c.args.self.now.lead h.leads bad;
-      calm = λ k. one_with_error g.met.V.Item.exact seen (said c.args.self.now.candidate) (said c.args.term.now) c.args.self.now.lead (h.calm k) bad;
+      leads = leads_error g.met.V.Exact.exact seen (said c.args.self.now.candidate) (said c.args.term.now) c.args.self.now.lead h.leads bad;
+      calm = λ k. one_with_error g.met.V.Exact.exact seen (said c.args.self.now.candidate) (said c.args.term.now) c.args.self.now.lead (h.calm k) bad;
     }
 
 pub returns-then-self-eq0-clause-tally : goal.returns-then-self-eq0-clause-tally
 returns-then-self-eq0-clause-tally g c =
     let good : is_error (said c.args.term.now) ≡ false = sym c.is_nothing.ensures ∙ c.if-is_nothing.false in
     λ seen h. record {
-      leads = leads_first g.met.V.Item.exact seen (said c.args.self.now.candidate) (said c.args.term.now) (subst (Leads g.V.PartialEq.eq seen (said c.args.self.now.candidate)) c.if-self-eq0.true h.leads) good;
-      calm = λ k. one_first g.met.V.Item.exact seen (said c.args.self.now.candidate) (said c.args.term.now) (subst (AreOne g.V.PartialEq.eq seen (said c.args.self.now.candidate)) c.if-self-eq0.true (h.calm k)) good;
+      leads = leads_first g.met.V.Exact.exact seen (said c.args.self.now.candidate) (said c.args.term.now) (subst (Leads g.V.PartialEq.eq seen (said c.args.self.now.candidate)) c.if-self-eq0.true h.leads) good;
+      calm = λ k. one_first g.met.V.Exact.exact seen (said c.args.self.now.candidate) (said c.args.term.now) (subst (AreOne g.V.PartialEq.eq seen (said c.args.self.now.candidate)) c.if-self-eq0.true (h.calm k)) good;
     }
 
 pub returns-then-is-clause-tally : goal.returns-then-is-clause-tally
@@ -27,8 +27,8 @@ returns-then-is-clause-tally g c =
     let good : is_error (said c.args.term.now) ≡ false = sym c.is_nothing.ensures ∙ c.if-is_nothing.false in
     let alike : same g.V.PartialEq.eq (said c.args.self.now.candidate) (said c.args.term.now) ≡ true = sym c.is.ensures ∙ c.if-is.true in
     λ seen h. record {
-      leads = leads_more g.met.V.Item.exact seen (said c.args.self.now.candidate) (said c.args.term.now) c.args.self.now.lead h.leads good alike;
-      calm = λ k. one_more g.met.V.Item.exact seen (said c.args.self.now.candidate) (said c.args.term.now) c.args.self.now.lead (h.calm k) good alike;
+      leads = leads_more g.met.V.Exact.exact seen (said c.args.self.now.candidate) (said c.args.term.now) c.args.self.now.lead h.leads good alike;
+      calm = λ k. one_more g.met.V.Exact.exact seen (said c.args.self.now.candidate) (said c.args.term.now) c.args.self.now.lead (h.calm k) good alike;
     }
 
 pub returns-else-is-clause-tally : goal.returns-else-is-clause-tally
@@ -37,6 +37,6 @@ returns-else-is-clause-tally g c =
     let other : same g.V.PartialEq.eq (said c.args.self.now.candidate) (said c.args.term.now) ≡ false = sym c.is.ensures ∙ c.if-is.false in
     let some : 0 < c.args.self.now.lead = omega (arith, c.if-self-eq0.false) in
     λ seen h. record {
-      leads = leads_less g.met.V.Item.exact seen (said c.args.self.now.candidate) (said c.args.term.now) c.args.self.now.lead h.leads some good other;
+      leads = leads_less g.met.V.Exact.exact seen (said c.args.self.now.candidate) (said c.args.term.now) c.args.self.now.lead h.leads some good other;
       calm = λ k. absurd (both_ways true k refl);
     }

@@ -11,7 +11,7 @@ returns-then-is_nothing-clause-settled g c =
     let all = said c.args.own.now ∷ map (last_in (term_in g.V.Item.of_bytes) c.tally-tally.new.self) c.args.others.now in
     let bad : is_error (said c.tally-tally.result.candidate) ≡ true =
     ap (λ x. is_error (said x)) (sym c.candidate-candidate.ensures) ∙ sym c.is_nothing.ensures ∙ c.if-is_nothing.true in
-    c.nothing.ensures ∙ ap unwrapped (sym (nothing_wins g.met.V.Item.exact all (said c.tally-tally.result.candidate) c.tally-tally.result.lead c.tally-tally.ensures.tally.leads bad))
+    c.nothing.ensures ∙ ap unwrapped (sym (nothing_wins g.met.V.Exact.exact all (said c.tally-tally.result.candidate) c.tally-tally.result.lead c.tally-tally.ensures.tally.leads bad))
     ∙ ap (λ xs. unwrapped (majority g.V.PartialEq.eq (said c.args.own.now ∷ xs))) c.tally-tally.ensures.same
 
 pub candidate_wins-requires : goal.candidate_wins-requires
@@ -32,12 +32,12 @@ returns-then-candidate_wins-clause-settled g c =
     let good : is_error (said c.tally-tally.result.candidate) ≡ false =
     ap (λ x. is_error (said x)) (sym c.candidate-candidate.ensures) ∙ sym c.is_nothing.ensures ∙ c.if-is_nothing.false in
     let won : has_most g.V.PartialEq.eq all (said c.tally-tally.result.candidate) ≡ true = sym c.candidate_wins.ensures ∙ c.if-candidate_wins.true in
-    c.unwrap.ensures ∙ ap (λ x. unwrapped (said x)) c.candidate-candidate.ensures ∙ ap unwrapped (sym (candidate_wins g.met.V.Item.exact all (said c.tally-tally.result.candidate) good won))
+    c.unwrap.ensures ∙ ap (λ x. unwrapped (said x)) c.candidate-candidate.ensures ∙ ap unwrapped (sym (candidate_wins g.met.V.Exact.exact all (said c.tally-tally.result.candidate) good won))
     ∙ ap (λ xs. unwrapped (majority g.V.PartialEq.eq (said c.args.own.now ∷ xs))) c.tally-tally.ensures.same
 
 pub returns-else-candidate_wins-clause-settled : goal.returns-else-candidate_wins-clause-settled
 returns-else-candidate_wins-clause-settled g c =
     let all = said c.args.own.now ∷ map (last_in (term_in g.V.Item.of_bytes) c.tally-tally.new.self) c.args.others.now in
     let lost : has_most g.V.PartialEq.eq all (said c.tally-tally.result.candidate) ≡ false = sym c.candidate_wins.ensures ∙ c.if-candidate_wins.false in
-    c.nothing-else-candidate_wins.ensures ∙ ap unwrapped (sym (candidate_loses g.met.V.Item.exact all (said c.tally-tally.result.candidate) c.tally-tally.result.lead c.tally-tally.ensures.tally.leads lost))
+    c.nothing-else-candidate_wins.ensures ∙ ap unwrapped (sym (candidate_loses g.met.V.Exact.exact all (said c.tally-tally.result.candidate) c.tally-tally.result.lead c.tally-tally.ensures.tally.leads lost))
     ∙ ap (λ xs. unwrapped (majority g.V.PartialEq.eq (said c.args.own.now ∷ xs))) c.tally-tally.ensures.same

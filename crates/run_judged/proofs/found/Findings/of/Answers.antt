@@ -10,14 +10,14 @@ sound_nodes-requires g c =
     let fits = c.requires.fits.scenario.system.config.few_nodes in
     let nodes = c.requires.fits.shape.nodes in
     let few : c.args.seen.now.shown.now.head.nodes ≤ g.row.N = omega arith in
-    (elim c.args.seen.now.capacity [ inl e ↦ rw e (lit< tt) | inr e ↦ rw e (lit< tt) ], (lit< tt, (c.args.seen.now.capacity, few)))
+    (elim g.bound-1.eight_or_sixteen [ inl e ↦ rw e (lit< tt) | inr e ↦ rw e (lit< tt) ], (lit< tt, few))
 
 pub faulty_nodes-requires : goal.faulty_nodes-requires
 faulty_nodes-requires g c =
     let fits = c.requires.fits.scenario.system.config.few_nodes in
     let nodes = c.requires.fits.shape.nodes in
     let few : c.args.seen.now.shown.now.head.nodes ≤ g.row.N = omega arith in
-    (elim c.args.seen.now.capacity [ inl e ↦ rw e (lit< tt) | inr e ↦ rw e (lit< tt) ], (lit< tt, (c.args.seen.now.capacity, few)))
+    (elim g.bound-1.eight_or_sixteen [ inl e ↦ rw e (lit< tt) | inr e ↦ rw e (lit< tt) ], (lit< tt, few))
 
 pub touched_nodes-requires : goal.touched_nodes-requires
 touched_nodes-requires g c =
@@ -33,7 +33,7 @@ touched_nodes-requires g c =
     let of_run : sc.plan.periods ≡ sc.periods = is.plan_periods in
     let more = c.requires.in_run in
     let period : c.args.period < c.plan.result.now.periods = omega arith in
-    (lit< tt, (lit< tt, (c.args.seen.now.capacity, (few, (in_use, period)))))
+    (lit< tt, (lit< tt, (few, (in_use, period))))
 
 pub returns : goal.returns
 returns g c =
@@ -55,4 +55,4 @@ returns g c =
     })
 
 pub plan-requires : goal.plan-requires
-plan-requires g c = (elim c.args.seen.now.capacity [ inl e ↦ rw e (lit< tt) | inr e ↦ rw e (lit< tt) ], lit< tt)
+plan-requires g c = (elim g.bound-1.eight_or_sixteen [ inl e ↦ rw e (lit< tt) | inr e ↦ rw e (lit< tt) ], lit< tt)

@@ -17,7 +17,6 @@ invariant_of-seen g c =
     let fits = c.requires.fits.scenario.system.config.few_nodes in
     let nodes = c.requires.fits.shape.nodes in
     record {
-      capacity = c.args.self.now.capacity;
       nodes = omega arith;
       reference = reference_in c.args.scenario.now c.args.self.now.periods c.args.shown.now c.requires.shown nodes;
       many = c.requires.fits.beliefs.many;
@@ -26,8 +25,8 @@ invariant_of-seen g c =
 
 pub of-findings-requires : goal.of-findings-requires
 of-findings-requires g c = (
-  elim c.args.self.now.capacity [ inl e ↦ rw e (lit< tt) | inr e ↦ rw e (lit< tt) ],
-  (lit< tt, (elim c.args.self.now.capacity [ inl e ↦ rw e (lit< tt) | inr e ↦ rw e (lit< tt) ], (c.requires.more, (c.requires.shown, c.requires.fits)))),
+  elim g.bound-1.eight_or_sixteen [ inl e ↦ rw e (lit< tt) | inr e ↦ rw e (lit< tt) ],
+  (lit< tt, (elim g.bound-1.eight_or_sixteen [ inl e ↦ rw e (lit< tt) | inr e ↦ rw e (lit< tt) ], (c.requires.more, (c.requires.shown, c.requires.fits)))),
 )
 
 pub add-requires : goal.add-requires
@@ -39,11 +38,11 @@ add-requires g c =
     let shown : ShowsPeriod sc f.period s = subst (λ (k : ℕ). ShowsPeriod sc k s) same c.requires.shown in (
       lit< tt,
       (
-        elim c.args.self.now.capacity [ inl e ↦ rw e (lit< tt) | inr e ↦ rw e (lit< tt) ],
+        elim g.bound-1.eight_or_sixteen [ inl e ↦ rw e (lit< tt) | inr e ↦ rw e (lit< tt) ],
         (
           lit< tt,
           (
-            elim c.args.self.now.capacity [ inl e ↦ rw e (lit< tt) | inr e ↦ rw e (lit< tt) ],
+            elim g.bound-1.eight_or_sixteen [ inl e ↦ rw e (lit< tt) | inr e ↦ rw e (lit< tt) ],
             (
               shown,
               (
@@ -76,7 +75,7 @@ add-requires-2 g c =
     let enough : length list.items + f.nodes ≤ vec_capacity list = omega arith in (
       lit< tt,
       (
-        elim c.args.self.now.capacity [ inl e ↦ rw e (lit< tt) | inr e ↦ rw e (lit< tt) ],
+        elim g.bound-1.eight_or_sixteen [ inl e ↦ rw e (lit< tt) | inr e ↦ rw e (lit< tt) ],
         (each_of (seen_of sc) sc.config.nodes f.period f.nodes list.items before in_use, enough),
       ),
     )

@@ -18,7 +18,7 @@ returns-clause-judges g c =
     }
 
 pub config-requires : goal.config-requires
-config-requires g c = (elim c.args.self.now.capacity [ inl e ↦ rw e (lit< tt) | inr e ↦ rw e (lit< tt) ], elim c.args.self.now.capacity [ inl e ↦ rw e (lit< tt) | inr e ↦ rw e (lit< tt) ])
+config-requires g c = (elim g.bound-1.eight_or_sixteen [ inl e ↦ rw e (lit< tt) | inr e ↦ rw e (lit< tt) ], elim g.bound-1.eight_or_sixteen [ inl e ↦ rw e (lit< tt) | inr e ↦ rw e (lit< tt) ])
 
 pub none-self-requires : goal.none-self-requires
-none-self-requires g c = (lit< tt, capacity-le g.row.N c.args.self.now.capacity)
+none-self-requires g c = (lit< tt, capacity-le g.row.N g.bound-1.eight_or_sixteen)

@@ -17,7 +17,7 @@ add_charges-requires g c =
     let same = c.add_budget.ensures in (
       lit< tt,
       (
-        elim c.args.seen.now.capacity [ inl e ↦ rw e (lit< tt) | inr e ↦ rw e (lit< tt) ],
+        elim g.bound-1.eight_or_sixteen [ inl e ↦ rw e (lit< tt) | inr e ↦ rw e (lit< tt) ],
         (
           subst (λ (k : ℕ). k ≤ 16384) (sym (ap (λ (x : Tally g.row.N). x.charges) same)) (few_charges sc f.period t c.requires.sums few f.early),
           (
@@ -47,7 +47,7 @@ returns g c =
     c.add_budget.ensures c.add_charges.ensures c.add_claim.ensures spread c.requires.skew c.requires.sums
 
 pub config-requires : goal.config-requires
-config-requires g c = (elim c.args.seen.now.capacity [ inl e ↦ rw e (lit< tt) | inr e ↦ rw e (lit< tt) ], elim c.args.seen.now.capacity [ inl e ↦ rw e (lit< tt) | inr e ↦ rw e (lit< tt) ])
+config-requires g c = (elim g.bound-1.eight_or_sixteen [ inl e ↦ rw e (lit< tt) | inr e ↦ rw e (lit< tt) ], elim g.bound-1.eight_or_sixteen [ inl e ↦ rw e (lit< tt) | inr e ↦ rw e (lit< tt) ])
 
 pub spread-spread-requires : goal.spread-spread-requires
 spread-spread-requires g c =

@@ -9,4 +9,4 @@ pub returns-else-not-self : goal.returns-else-not-self
 returns-else-not-self g c e = absurd (true≢false (sym e ∙ ap not c.if-not-self.false))
 
 pub settled_alike-requires : goal.settled_alike-requires
-settled_alike-requires g c = (elim c.args.self.now.capacity [ inl e ↦ rw e (lit< tt) | inr e ↦ rw e (lit< tt) ], c.args.self.now.capacity)
+settled_alike-requires g c = elim g.bound-1.eight_or_sixteen [ inl e ↦ rw e (lit< tt) | inr e ↦ rw e (lit< tt) ]

@@ -19,11 +19,11 @@ at_most : (a b n : ℕ) → a ≡ b → b ≤ n → a ≤ n
 at_most a b n e h = omega (arith, e, h)
 
 pub node-requires : goal.node-requires
-node-requires g c = (assumption, (elim c.requires.capacity [ inl e ↦ rw e (lit< tt) | inr e ↦ rw e (lit< tt) ], among _ _ _ (ap (λ (t : PeriodView). t.nodes) c.shown.view_is) c.if-shown-eq0.false c.example_of.ensures))
+node-requires g c = (assumption, (elim g.bound-2.eight_or_sixteen [ inl e ↦ rw e (lit< tt) | inr e ↦ rw e (lit< tt) ], among _ _ _ (ap (λ (t : PeriodView). t.nodes) c.shown.view_is) c.if-shown-eq0.false c.example_of.ensures))
 
 pub of-common-requires : goal.of-common-requires
 of-common-requires g c =
-    (elim c.requires.capacity [ inl e ↦ rw e (lit< tt) | inr e ↦ rw e (lit< tt) ], (lit< tt, (c.requires.capacity, at_most _ _ _ (ap (λ (t : PeriodView). t.nodes) c.shown.view_is) c.requires.nodes)))
+    (elim g.bound-2.eight_or_sixteen [ inl e ↦ rw e (lit< tt) | inr e ↦ rw e (lit< tt) ], (lit< tt, at_most _ _ _ (ap (λ (t : PeriodView). t.nodes) c.shown.view_is) c.requires.nodes))
 
 pub recorded-requires : goal.recorded-requires
 recorded-requires g c =

@@ -50,7 +50,7 @@ returns g c =
     (flat_map (link_text c.args.traced.now.plan.now c.args.traced.now.shown.now c.args.traced.now.slot c.args.from) (ids_below k))) last c.loop-to.invariant
 
 pub sent-sent-requires : goal.sent-sent-requires
-sent-sent-requires g c = (elim c.args.traced.now.capacity [ inl e ↦ rw e (lit< tt) | inr e ↦ rw e (lit< tt) ], (c.requires.from, c.args.traced.now.in_period))
+sent-sent-requires g c = (elim g.bound-2.eight_or_sixteen [ inl e ↦ rw e (lit< tt) | inr e ↦ rw e (lit< tt) ], (c.requires.from, c.args.traced.now.in_period))
 
 pub start_of-written-requires : goal.start_of-written-requires
 start_of-written-requires g c = tt

@@ -18,4 +18,4 @@ pub front-requires : goal.front-requires
 front-requires g c = assumption
 
 pub node-requires : goal.node-requires
-node-requires g c = (assumption, (elim c.args.common.now.capacity [ inl e ↦ rw e (lit< tt) | inr e ↦ rw e (lit< tt) ], c.requires.node))
+node-requires g c = (assumption, (elim g.bound-2.eight_or_sixteen [ inl e ↦ rw e (lit< tt) | inr e ↦ rw e (lit< tt) ], c.requires.node))

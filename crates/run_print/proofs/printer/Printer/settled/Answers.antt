@@ -26,8 +26,8 @@ as_slice-requires g c = lit< tt
 
 pub done-requires : goal.done-requires
 done-requires g c =
-    (assumption, (elim c.requires.capacity [ inl e ↦ rw e (lit< tt) | inr e ↦ rw e (lit< tt) ], lit< tt))
+    (assumption, (elim g.bound-2.eight_or_sixteen [ inl e ↦ rw e (lit< tt) | inr e ↦ rw e (lit< tt) ], lit< tt))
 
 pub rows-requires : goal.rows-requires
 rows-requires g c =
-    (assumption, (elim c.requires.capacity [ inl e ↦ rw e (lit< tt) | inr e ↦ rw e (lit< tt) ], (lit< tt, (c.requires.capacity, c.requires.nodes))))
+    (assumption, (elim g.bound-2.eight_or_sixteen [ inl e ↦ rw e (lit< tt) | inr e ↦ rw e (lit< tt) ], (lit< tt, c.requires.nodes)))

@@ -65,10 +65,7 @@ settle_path-term-requires g k c κs within =
             search rules,
             (
               omega arith,
-              (
-                c.requires.exact,
-                (low_push g.row.N p c.then.result q c.requires.nodes low c.then.ensures, (omega (arith, l, deep), omega (arith, l, deep, few, i.end, i.long, c.requires.room))),
-              ),
+              (low_push g.row.N p c.then.result q c.requires.nodes low c.then.ensures, (omega (arith, l, deep), omega (arith, l, deep, few, i.end, i.long, c.requires.room))),
             ),
           ),
         ),
@@ -109,7 +106,7 @@ pub settled_from_terms-requires : goal.settled_from_terms-requires
 settled_from_terms-requires g k c =
     let i = c.loop-q.invariant in
     let all = split_all (outside c.args.self.now.members c.args.path.now) c.loop-q.yielded c.loop-q.q-iterator i.split c.in-None.ensures.steps.0 in
-    record { exact = c.requires.exact; ordered = omega (arith, i.end); within = omega (arith, i.end, i.long, ap length all, ap length c.outside.ensures, c.iter-q-items.ensures.few, c.args.self.now.fits, c.requires.room, c.if-len-self.false, c.len.ensures.count) }
+    record { ordered = omega (arith, i.end); within = omega (arith, i.end, i.long, ap length all, ap length c.outside.ensures, c.iter-q-items.ensures.few, c.args.self.now.fits, c.requires.room, c.if-len-self.false, c.len.ensures.count) }
 
 pub returns-clause-settled : goal.returns-clause-settled
 returns-clause-settled g k c =

@@ -26,11 +26,8 @@ is_spared-requires g c = (
   (
     omega arith,
     (
-      c.requires.exact,
-      (
-        c.requires.item,
-        ((λ i on ne. on_rest c.args.self.now.exchange.awake c.without-nodes.result c.args.self.now.exchange.commander i c.without-nodes.ensures on ne), c.requires.told),
-      ),
+      c.requires.item,
+      ((λ i on ne. on_rest c.args.self.now.exchange.awake c.without-nodes.result c.args.self.now.exchange.commander i c.without-nodes.ensures on ne), c.requires.told),
     ),
   ),
 )
@@ -38,7 +35,7 @@ is_spared-requires g c = (
 pub convicting-requires : goal.convicting-requires
 convicting-requires g c =
     let e = c.args.self.now.exchange in
-    (omega arith, (omega arith, (c.requires.exact, off_rest e.awake c.without-nodes.result e.commander c.without-nodes.ensures)))
+    (omega arith, (omega arith, off_rest e.awake c.without-nodes.result e.commander c.without-nodes.ensures))
 
 pub returns-clause-convicts : goal.returns-clause-convicts
 returns-clause-convicts g c = λ k here ne.

@@ -19,11 +19,8 @@ settle_from-settled-requires g c =
     let on = next_on nodes c.loop-i.yielded c.next.new.self c.loop-i.i-iterator q i.split c.in-Some.ensures.steps in (
       omega arith,
       (
-        c.requires.exact,
-        (
-          c.requires.exchange,
-          (apart nodes c.args.self.now.commander q c.requires.others on, record { relayed = c.requires.room.relayed; laid_ok = c.requires.room.laid_ok; longest_ok = c.requires.room.longest_ok; work_ok = omega (arith, c.requires.room.work_ok, i.work); terms_ok = omega (arith, c.requires.room.terms_ok, i.work) }),
-        ),
+        c.requires.exchange,
+        (apart nodes c.args.self.now.commander q c.requires.others on, record { relayed = c.requires.room.relayed; laid_ok = c.requires.room.laid_ok; longest_ok = c.requires.room.longest_ok; work_ok = omega (arith, c.requires.room.work_ok, i.work); terms_ok = omega (arith, c.requires.room.terms_ok, i.work) }),
       ),
     )
 

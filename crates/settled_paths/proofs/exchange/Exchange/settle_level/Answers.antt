@@ -36,8 +36,8 @@ lay_terms-requires g c =
       ),
     )
 
-pub settled_from_terms-settled-requires-clause-within : goal.settled_from_terms-settled-requires-clause-within
-settled_from_terms-settled-requires-clause-within g c =
+pub settled_from_terms-settled-requires : goal.settled_from_terms-settled-requires
+settled_from_terms-settled-requires g c =
     let s = c.args.self.now in
     let x = c.requires.exchange in
     let t = term_place g.row.N s.rounds s.members s.commander (s.rounds - 1) c.loop-k.k c.len.result c.saturating_sub-width.result c.level-level.result c.path-path.result x x.members_ok (omega (arith, c.requires.room.relayed)) c.level-level.ensures c.loop-k-test.true

@@ -47,11 +47,8 @@ settle_each-requires g c =
       (
         omega arith,
         (
-          c.requires.exact,
-          (
-            c.requires.exchange,
-            (off, (record { relayed = c.requires.room.relayed; laid_ok = c.requires.room.laid_ok; longest_ok = omega (arith, longest, c.requires.room.longest_ok); work_ok = omega (arith, work, c.requires.room.work_ok); terms_ok = omega (arith, work, c.requires.room.terms_ok) }, c.loop-first.invariant.places)),
-          ),
+          c.requires.exchange,
+          (off, (record { relayed = c.requires.room.relayed; laid_ok = c.requires.room.laid_ok; longest_ok = omega (arith, longest, c.requires.room.longest_ok); work_ok = omega (arith, work, c.requires.room.work_ok); terms_ok = omega (arith, work, c.requires.room.terms_ok) }, c.loop-first.invariant.places)),
         ),
       ),
     )
@@ -61,7 +58,26 @@ settle_longest-requires g c =
     let r = c.requires.room in
     let i = c.loop-first.invariant in
     let room : AreRelayRooms c.args.self.now.rounds c.args.self.now.members c.args.laid.now c.loop-first.longest c.loop-first.work = record { relayed = r.relayed; laid_ok = r.laid_ok; longest_ok = omega (arith, i.longest, r.longest_ok); work_ok = omega (arith, i.work, r.work_ok); terms_ok = omega (arith, i.work, r.terms_ok) } in
-    (omega arith, (c.requires.exact, (c.requires.exchange, room)))
+    (omega arith, (c.requires.exchange, room))
+
+pub loop-first-preserved : goal.loop-first-preserved
+loop-first-preserved g c =
+    let i = c.loop-first.invariant in
+    let q = c.in-Some.first in
+    record {
+      can = tt;
+      ends = tt;
+      split = split_more c.without-nodes.result c.loop-first.yielded c.next.new.self c.loop-first.first-iterator q i.split c.in-Some.ensures.steps;
+      longest = i.longest;
+      work = i.work;
+      places = i.places;
+      reached = λ k on. elim (or_cases (has_id c.loop-first.yielded k) (q == k) (sym (has_push c.loop-first.yielded q k) ∙ on)) [
+        | inl was ↦ i.reached k was
+        | inr is ↦ ap (has_id c.loop-first.done) (sym (eqb-true q k is)) ∙ sym c.has.ensures ∙ c.if-not-has.false
+      ];
+      settled = i.settled;
+      kept = i.kept;
+    }
 
 pub loop-first-preserved-then-not-has : goal.loop-first-preserved-then-not-has
 loop-first-preserved-then-not-has g c =

@@ -39,11 +39,8 @@ settle_path-requires g c =
     let same = ap (λ (n : ℕ). c.loop-k.k * n) t.many in (
       omega arith,
       (
-        c.requires.exact,
-        (
-          (λ q on. member-lt g.row.N s.members q x.members_ok (c.path-path.ensures.within q on)),
-          (omega (arith, t.terms_few, t.many, same, room), here),
-        ),
+        (λ q on. member-lt g.row.N s.members q x.members_ok (c.path-path.ensures.within q on)),
+        (omega (arith, t.terms_few, t.many, same, room), here),
       ),
     )
 

@@ -26,19 +26,16 @@ settle_relayed-requires g c =
     let laid = c.self.inside.laid.ok.0 in (
       omega arith,
       (
-        c.requires.exact,
+        record { capacity_ok = c.requires.room.capacity_ok; rounds_ok = omega (arith, room.2, c.self.invariant.rounds_ok); members_ok = c.len.ensures.ids; member_ok = c.requires.room.member_ok },
         (
-          record { capacity_ok = c.requires.room.capacity_ok; rounds_ok = omega (arith, room.2, c.self.invariant.rounds_ok); members_ok = c.len.ensures.ids; member_ok = c.requires.room.member_ok },
-          (
-            record {
-              relayed = omega (arith, c.if-exchange-eq0.false);
-              laid_ok = omega (arith, room.0, c.as_slice.ensures.len, laid, c.self.invariant.laid_ok);
-              longest_ok = omega (arith, room.1, ap length c.as_mut_slice-2.ensures.value, c.self.invariant.longest_ok);
-              work_ok = omega (arith, room.1, ap length c.as_mut_slice-3.ensures.value, c.self.invariant.work_ok);
-              terms_ok = omega (arith, ap length c.as_mut_slice-3.ensures.value, c.self.invariant.work_ok);
-            },
-            c.requires.places,
-          ),
+          record {
+            relayed = omega (arith, c.if-exchange-eq0.false);
+            laid_ok = omega (arith, room.0, c.as_slice.ensures.len, laid, c.self.invariant.laid_ok);
+            longest_ok = omega (arith, room.1, ap length c.as_mut_slice-2.ensures.value, c.self.invariant.longest_ok);
+            work_ok = omega (arith, room.1, ap length c.as_mut_slice-3.ensures.value, c.self.invariant.work_ok);
+            terms_ok = omega (arith, ap length c.as_mut_slice-3.ensures.value, c.self.invariant.work_ok);
+          },
+          c.requires.places,
         ),
       ),
     )

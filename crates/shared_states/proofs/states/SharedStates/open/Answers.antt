@@ -15,10 +15,10 @@ pub invariant_of-result : goal.invariant_of-result
 invariant_of-result g c =
     let n = g.row.N in
     record {
-      capacity = c.requires.capacity;
+      capacity = g.bound-1.eight_or_sixteen;
       ids = subst (λ (s : List ℕ). IsIdSet n s) (sym c.full.ensures) (ids_ids c.args.config.now.nodes n c.requires.config.few_nodes);
       room = ap length c.in-Ok.ensures ∙ length-replicate n _;
-      placed = λ i up. omega (arith, zero_at n i, some_nodes n c.requires.capacity);
+      placed = λ i up. omega (arith, zero_at n i, some_nodes n g.bound-1.eight_or_sixteen);
       at_one = λ yes' i j on other. zero_at n j ∙ sym (zero_at n i);
     }
 
@@ -27,4 +27,4 @@ returns g c =
     let n = g.row.N in
     let nodes = c.args.config.now.nodes in
     ap₂ (λ (up : List ℕ) (xs : List AgreedView). states_by n up (replicate n 0) xs) c.full.ensures (c.in-Ok.ensures ∙ ap (λ (a : AgreedView). replicate n a) c.first.ensures.first)
-    ∙ begun n nodes (first_agreed n c.args.config.now) (some_nodes n c.requires.capacity) c.requires.config.few_nodes
+    ∙ begun n nodes (first_agreed n c.args.config.now) (some_nodes n g.bound-1.eight_or_sixteen) c.requires.config.few_nodes

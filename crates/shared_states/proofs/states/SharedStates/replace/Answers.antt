@@ -80,13 +80,10 @@ free_place-place-requires g c =
       (
         lit< tt,
         (
-          c.self.invariant.capacity,
+          subst (λ (xs : List ℕ). IsIdSet n xs) (sym c.minus-others.ensures) (filtered_ids (λ k. not (has_id nodes k)) n s.awake ok.ids),
           (
-            subst (λ (xs : List ℕ). IsIdSet n xs) (sym c.minus-others.ensures) (filtered_ids (λ k. not (has_id nodes k)) n s.awake ok.ids),
-            (
-              subst (λ (xs : List ℕ). ArePlaced n xs s.places) (sym c.minus-others.ensures) (placed_others n s.awake nodes s.places ok.placed),
-              omega (arith, ap length c.minus-others.ensures, fewer_others n s.awake nodes ok.ids c.len.ensures.ids (λ e. c.if-len-eq0.false (c.len.ensures.count ∙ e))),
-            ),
+            subst (λ (xs : List ℕ). ArePlaced n xs s.places) (sym c.minus-others.ensures) (placed_others n s.awake nodes s.places ok.placed),
+            omega (arith, ap length c.minus-others.ensures, fewer_others n s.awake nodes ok.ids c.len.ensures.ids (λ e. c.if-len-eq0.false (c.len.ensures.count ∙ e))),
           ),
         ),
       ),

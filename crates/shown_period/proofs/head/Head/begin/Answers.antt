@@ -30,7 +30,7 @@ classes_of-self-requires g c =
     let nodes : c.args.self.now.nodes ≡ sc.config.nodes = c.requires.before.shape.nodes in
     let planned : c.plan-plan.result.now.nodes ≡ sc.config.nodes = planned_nodes c.plan-plan.ensures.plan c.plan-plan.ensures.scenario in
     let periods : c.plan-plan.result.now.periods ≡ sc.periods = planned_periods c.plan-plan.ensures.plan c.plan-plan.ensures.scenario in
-    (lit< tt, (elim c.requires.capacity [ inl e ↦ rw e (lit< tt) | inr e ↦ rw e (lit< tt) ], (c.requires.capacity, (omega (arith, nodes, planned), omega (arith, periods, c.requires.in_run)))))
+    (lit< tt, (elim g.bound-1.eight_or_sixteen [ inl e ↦ rw e (lit< tt) | inr e ↦ rw e (lit< tt) ], (omega (arith, nodes, planned), omega (arith, periods, c.requires.in_run))))
 
 pub reference-reference-requires : goal.reference-reference-requires
 reference-reference-requires g c = (lit< tt, omega (arith, planned_periods c.plan-plan.ensures.plan c.plan-plan.ensures.scenario, c.requires.in_run))

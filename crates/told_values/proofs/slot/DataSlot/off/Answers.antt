@@ -26,11 +26,8 @@ nodes_off-requires g c =
         (
           lit< tt,
           (
-            cap,
-            (
-              subst (IsConfig g.row.N) (sym c.config.ensures.config) slot.config,
-              channels_low d slot c.args.i c.requires c.config.result.now c.due.result.now c.config.ensures.config c.due.ensures.due,
-            ),
+            subst (IsConfig g.row.N) (sym c.config.ensures.config) slot.config,
+            channels_low d slot c.args.i c.requires c.config.result.now c.due.result.now c.config.ensures.config c.due.ensures.due,
           ),
         ),
       ),

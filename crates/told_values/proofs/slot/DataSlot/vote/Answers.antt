@@ -30,13 +30,10 @@ vote_due-requires g c =
           (
             elim cap [ inl e ↦ rw e (lit< tt) | inr e ↦ rw e (lit< tt) ],
             (
-              cap,
+              subst (IsConfig g.row.N) (sym c.config.ensures.config) slot.config,
               (
-                subst (IsConfig g.row.N) (sym c.config.ensures.config) slot.config,
-                (
-                  subst (λ (config : Config g.row.N). IsAgreed g.row.N config c.args.agreed.now) (sym c.config.ensures.config) c.requires.agreed,
-                  channels_low d slot c.args.i c.requires.node c.config.result.now c.due.result.now c.config.ensures.config c.due.ensures.due,
-                ),
+                subst (λ (config : Config g.row.N). IsAgreed g.row.N config c.args.agreed.now) (sym c.config.ensures.config) c.requires.agreed,
+                channels_low d slot c.args.i c.requires.node c.config.result.now c.due.result.now c.config.ensures.config c.due.ensures.due,
               ),
             ),
           ),

@@ -20,4 +20,4 @@ unrank-path-requires c =
     let fewer : length c.without-others.result ≡ length members - 1 = ap length c.without-others.ensures ∙ length-without members sender (Distinct-ids 16 members c.size_of.ensures.ids) on in
     let count : c.saturating_sub-count.result ≡ length c.without-others.result = c.saturating_sub-count.ensures ∙ ap (λ n. n - 1) c.size_of.ensures.count ∙ sym fewer in
     let end : c.count_paths-place-end.result ≡ path_count (length c.without-others.result) c.args.turn.round = c.count_paths-place-end.ensures.product ∙ ap (λ n. path_count n c.args.turn.round) count in
-    (lit< tt, (inr refl, (c.requires.some, (omega (arith, c.requires.short, seat.short), omega (arith, end, c.loop-place-test.true)))))
+    (lit< tt, (c.requires.some, (omega (arith, c.requires.short, seat.short), omega (arith, end, c.loop-place-test.true))))
