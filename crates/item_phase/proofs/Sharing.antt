@@ -3,6 +3,7 @@ use Rattle.std.proofs.Common.{ℕ, suc, ◌≡◌, ◌≢◌, ◌<◌, ◌≤◌
 use Rattle.std.specs.Prelude.{◌*◌, slice_index_or, if◌then◌else◌, IfSome}
 use Rattle.std.proofs.lemmas.Bool.{or_right}
 use Rattle.std.proofs.lemmas.List.{length_push}
+use Rattle.node_grid.specs.Capacity.{IsCapacity}
 use Rattle.node_grid.specs.NodeSet.{has_id}
 use Rattle.node_grid.specs.ListLaws.{has_push}
 use Rattle.omh_paths.specs.declared.wrapped.Wrapped.{Wrapped}
@@ -16,6 +17,8 @@ use Rattle.equivocation.specs.Conviction.{convicts}
 use Rattle.settled_paths.specs.Passing.{passing_world}
 use Rattle.settled_paths.proofs.Worlds.{passing_law}
 use Rattle.settled_items.specs.Relaying.{AreOddHeard, AreFewOdd}
+use Rattle.settled_items.specs.Relayed.{IsRelayed}
+use Rattle.settled_items.specs.declared.relayed.Relayed.{Relayed}
 use Rattle.settled_items.specs.Laws.{IsToldAsIs}
 use Rattle.settled_paths.specs.declared.exchange.Exchange.{Exchange}
 use Rattle.settled_items.proofs.Worlds.{convicting_law, plain_law, spared}
@@ -134,6 +137,10 @@ pub record IsRelayedAs {V : Type 0} {N : ℕ} (ex : Exchange N) (odd : List ℕ)
   pub own_small : IsSmall 251 own
   pub said_small : (i : ℕ) (path : List ℕ) → IfSome (said i path) (λ v. IsSmall 251 v)
   pub odd_heard : AreOddHeard ex.rounds ex.members ex.commander odd (λ i. has_id ex.awake i) said
+
+-- so it is relayed as `settled_items` asks
+pub relayed_here : {V T : Type 0} {n : ℕ} (says : T → ℕ → List ℕ → Option (Wrapped V)) (x : Relayed V T n) → IsCapacity n → IsRelayedAs x.exchange x.odd x.own.now (says x.touched.now) → IsRelayed says x
+relayed_here says x cap r = record { capacity_ok = cap; rounds_ok = r.rounds_ok; member = r.member; awake = r.awake; own_small = r.own_small; said_small = r.said_small; odd_heard = r.odd_heard }
 
 pub relayed_as : {V : Type 0} {N : ℕ} (eq : V → V → Bool) (form : ItemForm V) (x : Phase N) (links : Links V N) (members : List ℕ) → IsSet x → (all : IsOfAll x members) → (c : ℕ)
     → has_id members c ≡ true → IsSaidOfOdd form x links → ((i : ℕ) (path : List ℕ) → IfSome (says_of form x links i path) (λ v. IsSmall 251 v))

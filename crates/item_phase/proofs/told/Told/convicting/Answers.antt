@@ -5,7 +5,7 @@ use Rattle.heard_links.specs.declared.links.Links.{Links}
 use Rattle.heard_links.specs.declared.phase.Phase.{Phase}
 use Rattle.heard_links.specs.Passing.{says_of}
 use Rattle.heard_links.proofs.Sets.{node_low}
-use Rattle.item_phase.proofs.Sharing.{relayed_as, convicts_told}
+use Rattle.item_phase.proofs.Sharing.{relayed_as, relayed_here, convicts_told}
 use Rattle.item_phase.proofs.told.Told.convicting.Goals as goal
 
 pub own-own-requires : goal.own-own-requires
@@ -36,15 +36,7 @@ convicting-requires g c =
         lit< tt,
         (
           lit< tt,
-          record {
-            capacity_ok = t.heard.set.capacity;
-            rounds_ok = r.rounds_ok;
-            member = r.member;
-            awake = r.awake;
-            own_small = r.own_small;
-            said_small = r.said_small;
-            odd_heard = r.odd_heard;
-          },
+          relayed_here _ _ t.heard.set.capacity r,
         ),
       ),
     )

@@ -8,7 +8,7 @@ use Rattle.heard_links.specs.declared.links.Links.{Links}
 use Rattle.heard_links.specs.declared.phase.Phase.{Phase}
 use Rattle.heard_links.specs.Passing.{says_of}
 use Rattle.heard_links.proofs.Sets.{node_low}
-use Rattle.item_phase.proofs.Sharing.{relayed_as, settles_told}
+use Rattle.item_phase.proofs.Sharing.{relayed_as, relayed_here, settles_told}
 use Rattle.item_phase.proofs.told.Told.settle.Goals as goal
 
 pub own-own-requires : goal.own-own-requires
@@ -39,15 +39,7 @@ settle_all-requires g c =
       (
         lit< tt,
         (
-          record {
-            capacity_ok = t.heard.set.capacity;
-            rounds_ok = r.rounds_ok;
-            member = r.member;
-            awake = r.awake;
-            own_small = r.own_small;
-            said_small = r.said_small;
-            odd_heard = r.odd_heard;
-          },
+          relayed_here _ _ t.heard.set.capacity r,
           (
             ap (λ (y : Exchange g.row.N). y.rounds) c.exchange.ensures ∙ sym (ap (λ (s : Room). s.rounds) c.requires.room),
             (
