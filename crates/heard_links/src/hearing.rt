@@ -49,11 +49,12 @@ impl<'p, const N: usize> Phase<'p, N> {
     }
 }
 
-impl<V: Item<N>, const N: usize> Links<V, N> {
+impl<V: Item<N>, const N: usize> Links<V, N>
+where
+    Nodes: Capacity<N>,
+{
     /// What node `i` heard of node `q` itself.
     fn heard_first(&self, phase: &Phase<'_, N>, i: u8, q: u8) -> Wrapped<V>
-    where
-        Nodes: Capacity<N>,
         requires heard { IsHeard V.form V.first_slot V.tells phase.now self.now 1 }
         requires node { has_id phase.now.awake i ≡ true }
         requires from { q < phase.now.config.now.nodes }
@@ -77,8 +78,6 @@ impl<V: Item<N>, const N: usize> Links<V, N> {
         front: &Path,
         own: Wrapped<V>,
     ) -> Wrapped<V>
-    where
-        Nodes: Capacity<N>,
         requires heard { IsHeard V.form V.first_slot V.tells phase.now self.now
             (length front.now + 1) }
         requires asked { IsAsked (talk_in V.form phase.now self.now) phase.now.config.now.m
@@ -101,8 +100,6 @@ impl<V: Item<N>, const N: usize> Links<V, N> {
 
     /// Whether the frame of a round from one node to another isn't good.
     fn is_bad(&self, round: u8, from: u8, to: u8) -> bool
-    where
-        Nodes: Capacity<N>,
         requires round { round ≤ 3 }
         requires from { from < N }
         requires to { to < N }
@@ -116,8 +113,6 @@ impl<V: Item<N>, const N: usize> Links<V, N> {
 
     /// What node `i` heard for a path, where what came in the rounds up to its own is laid down.
     pub(crate) fn heard_below(&self, phase: &Phase<'_, N>, i: u8, path: &Path) -> Wrapped<V>
-    where
-        Nodes: Capacity<N>,
         requires heard { IsHeard V.form V.first_slot V.tells phase.now self.now
             (length path.now) }
         requires asked { IsAsked (talk_in V.form phase.now self.now) phase.now.config.now.m
@@ -145,8 +140,6 @@ impl<V: Item<N>, const N: usize> Links<V, N> {
 
     /// What a node that is awake heard for a path of its members that ends in another node.
     pub fn heard(&self, phase: &Phase<'_, N>, i: u8, path: &Path) -> Wrapped<V>
-    where
-        Nodes: Capacity<N>,
         requires heard { IsHeard V.form V.first_slot V.tells phase.now self.now
             (phase.now.config.now.m + 1) }
         requires asked { IsAsked (talk_in V.form phase.now self.now) phase.now.config.now.m

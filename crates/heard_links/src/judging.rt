@@ -260,11 +260,12 @@ impl<V: Item<N>, const N: usize> Links<V, N> {
     }
 }
 
-impl<V: Item<N>, const N: usize> Links<V, N> {
+impl<V: Item<N>, const N: usize> Links<V, N>
+where
+    Nodes: Capacity<N>,
+{
     /// Lays down what comes of the frames of a round, where only these nodes have to be looked at.
     fn hear_round(&mut self, phase: &Phase<'_, N>, round: u8, judged: &NodeSet<N>)
-    where
-        Nodes: Capacity<N>,
         requires heard { IsHeard V.form V.first_slot V.tells phase.now self.old round }
         requires few { round ≤ phase.now.config.now.m }
         requires fresh { (r j : ℕ) → round ≤ r → j < N →
@@ -288,8 +289,6 @@ impl<V: Item<N>, const N: usize> Links<V, N> {
 
     /// Takes what comes over each link, by what was told.
     pub fn hear(&mut self, phase: &Phase<'_, N>)
-    where
-        Nodes: Capacity<N>,
         requires told { IsHeard V.form V.first_slot V.tells phase.now self.old 0 }
         ensures heard { IsHeard V.form V.first_slot V.tells phase.now self.new
             (phase.now.config.now.m + 1) }

@@ -14,12 +14,13 @@ use agreed_state::Agreed;
 use frames::StateBody;
 use node_grid::{Capacity, NodeSet, Nodes};
 
-impl<const N: usize> Sending<'_, N> {
+impl<const N: usize> Sending<'_, N>
+where
+    Nodes: Capacity<N>,
+{
     /// The full nodes that are known to have the state of this one, where no line touches a frame
     /// of theirs.
     fn tellers(&self, leader: u8) -> NodeSet<N>
-    where
-        Nodes: Capacity<N>,
         ensures { (j : ℕ) → has_id result j ≡ true → IsTeller self.now leader j }
     {
         let plain = self.senders.full.minus(&self.senders.touched);
@@ -29,8 +30,6 @@ impl<const N: usize> Sending<'_, N> {
     /// A node whose state more than half of all nodes tell every node without one, where places
     /// show it. None says nothing.
     pub(crate) fn leader(&self) -> Option<u8>
-    where
-        Nodes: Capacity<N>,
         requires { IsSending self.now }
         ensures { IfSome result (λ j. IsLeader self.now j) }
     {
@@ -44,8 +43,6 @@ impl<const N: usize> Sending<'_, N> {
 
     /// The state that node `to` is told by node `from`, if any.
     fn body_told(&self, from: u8, to: u8) -> Option<StateBody>
-    where
-        Nodes: Capacity<N>,
         requires sending { IsSending self.now }
         requires to { to < self.now.slot.config.now.nodes }
         ensures { bytes_in result ≡ body_at self.now.slot.config.now.nodes to (told_by self.now to)
@@ -69,8 +66,6 @@ impl<const N: usize> Sending<'_, N> {
 
     /// The states that node `to` is told by the others.
     fn bodies_told(&self, to: u8) -> [Option<StateBody>; N]
-    where
-        Nodes: Capacity<N>,
         requires sending { IsSending self.now }
         requires to { to < self.now.slot.config.now.nodes }
         ensures { map bytes_in result ≡
@@ -85,8 +80,6 @@ impl<const N: usize> Sending<'_, N> {
 
     /// The state that node `to` adopts, where it has none.
     pub(crate) fn adopted(&self, to: u8) -> Option<Agreed<N>>
-    where
-        Nodes: Capacity<N>,
         requires sending { IsSending self.now }
         requires to { to < self.now.slot.config.now.nodes }
         ensures adopted { result ≡

@@ -34,7 +34,10 @@ fn members_of_all<const N: usize>(phase: &Phase<'_, N>) -> Option<NodeSet<N>>
     Some(members)
 }
 
-impl<V: Item<N>, const N: usize> ItemPhase<V, N> {
+impl<V: Item<N>, const N: usize> ItemPhase<V, N>
+where
+    Nodes: Capacity<N>,
+{
     /// The members whose item all awake nodes settle as it is said, as far as that is seen at once.
     fn plain_members(
         &self,
@@ -42,8 +45,6 @@ impl<V: Item<N>, const N: usize> ItemPhase<V, N> {
         members: &NodeSet<N>,
         odd: &NodeSet<N>,
     ) -> NodeSet<N>
-    where
-        Nodes: Capacity<N>,
         requires heard { IsHeard V.form V.first_slot V.tells phase.now self.now.links
             (phase.now.config.now.m + 1) }
         requires all { IsOfAll phase.now members.now }
@@ -73,8 +74,6 @@ impl<V: Item<N>, const N: usize> ItemPhase<V, N> {
         odd: &NodeSet<N>,
         commander: u8,
     )
-    where
-        Nodes: Capacity<N>,
         requires told { IsTold V.form V.first_slot V.tells phase.now self.old.links members.now
             odd.now commander }
         requires room { self.old.settling ≡
@@ -112,8 +111,6 @@ impl<V: Item<N>, const N: usize> ItemPhase<V, N> {
 
     /// What all settle, where all awake nodes have these members.
     fn agree_among(&mut self, phase: &Phase<'_, N>, members: &NodeSet<N>)
-    where
-        Nodes: Capacity<N>,
         requires heard { IsHeard V.form V.first_slot V.tells phase.now self.old.links
             (phase.now.config.now.m + 1) }
         requires all { IsOfAll phase.now members.now }
@@ -137,8 +134,6 @@ impl<V: Item<N>, const N: usize> ItemPhase<V, N> {
 
     /// Hears all frames, and settles all items as each awake node does.
     pub fn agree(&mut self, phase: &Phase<'_, N>)
-    where
-        Nodes: Capacity<N>,
         requires told { IsHeard V.form V.first_slot V.tells phase.now self.old.links 0 }
         requires room { self.old.settling ≡
             record { nodes = phase.now.config.now.nodes; rounds = phase.now.config.now.m } }

@@ -33,11 +33,12 @@ impl<V, const N: usize> Model for Settling<V, N> {
     ghost view = { λ s. s.laid };
 }
 
-impl<V: Exact + Drop, const N: usize> Settling<V, N> {
+impl<V: Exact + Drop, const N: usize> Settling<V, N>
+where
+    Nodes: Capacity<N>,
+{
     /// Room for the items of `nodes` nodes, at most N, relayed in `rounds` rounds, at most 3.
     pub fn open(alloc: Global, nodes: u8, rounds: u8) -> Result<Settling<V, N>, NoMemory>
-    where
-        Nodes: Capacity<N>,
         requires nodes { nodes ≤ N }
         requires rounds { rounds ≤ 3 }
         ensures { IfOk result (λ s. s ≡ record { nodes = nodes; rounds = rounds }) }
@@ -52,8 +53,6 @@ impl<V: Exact + Drop, const N: usize> Settling<V, N> {
     /// What each awake node but the commander settles for the item, laid at the node's place in
     /// `all`. Other places of `all` mean nothing.
     pub fn settle_all<T: Touched<V>>(&mut self, item: &Relayed<'_, V, T, N>, all: &mut [Wrapped<V>])
-    where
-        Nodes: Capacity<N>,
         requires item { IsRelayed T.says item.now }
         requires rounds { item.now.exchange.rounds ≡ self.old.rounds }
         requires nodes { (q : ℕ) → has_id item.now.exchange.members q ≡ true → q < self.old.nodes }
@@ -74,8 +73,6 @@ impl<V: Exact + Drop, const N: usize> Settling<V, N> {
 
     /// The awake nodes that convict the commander, which is another node.
     pub fn convicting<T: Touched<V>>(&mut self, item: &Relayed<'_, V, T, N>) -> NodeSet<N>
-    where
-        Nodes: Capacity<N>,
         requires item { IsRelayed T.says item.now }
         ensures convicts { (i : ℕ) → has_id item.now.exchange.awake i ≡ true →
             item.now.exchange.commander ≢ i → has_id result i ≡

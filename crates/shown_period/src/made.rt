@@ -97,15 +97,16 @@ where
     members
 }
 
-impl<const N: usize> Made<N> {
+impl<const N: usize> Made<N>
+where
+    Nodes: Capacity<N>,
+{
     /// Before the first period: the nodes in use have the first state, and nothing is believed.
     ///
     /// # Errors
     ///
     /// `NoMemory` where there is none.
     pub(crate) fn open(alloc: Global, config: &Config<N>) -> Result<Self, NoMemory>
-    where
-        Nodes: Capacity<N>,
         requires config { IsConfig N config.now }
         ensures { IfOk result (λ made. (made.states ≡ first_states N config.now)
             × HasBeliefs made) }
@@ -128,8 +129,6 @@ impl<const N: usize> Made<N> {
     /// How each node goes through a period, and with which members, by the nodes that were Full
     /// when it began, and by the states that are kept now, behind the sync slot.
     pub fn go_through(&mut self, full: &NodeSet<N>)
-    where
-        Nodes: Capacity<N>,
         ensures { self.new ≡ record self.old {
           modes = modes_through N full.now self.old.states;
           members = members_through N self.old.states;
@@ -141,8 +140,6 @@ impl<const N: usize> Made<N> {
 
     /// Leaves a node alone, which believes nothing and has no row, as of one that is Cold.
     pub fn leave(&mut self, i: u8)
-    where
-        Nodes: Capacity<N>,
         requires node { i < N }
         requires beliefs { HasBeliefs self.old }
         ensures nothing { AreAlike (outcome_at self.new i) (cold_outcome N) }

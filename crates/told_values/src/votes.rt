@@ -99,7 +99,10 @@ where
     off
 }
 
-impl<'a, D: Dues<N>, const N: usize> DataSlot<'a, D, N> {
+impl<'a, D: Dues<N>, const N: usize> DataSlot<'a, D, N>
+where
+    Nodes: Capacity<N>,
+{
     /// The votes by channel over these values, with none on channels that aren't due to node `i`.
     ///
     /// They are those of each node to which the same channels are due and to which these values
@@ -111,8 +114,6 @@ impl<'a, D: Dues<N>, const N: usize> DataSlot<'a, D, N> {
         claims: &[Wrapped<u8>; N],
         told: &[Option<[i64; 8]>; N],
     ) -> [Option<i64>; 8]
-    where
-        Nodes: Capacity<N>,
         requires node { i < self.now.config.nodes }
         requires agreed { IsAgreed N self.now.config agreed.now }
         ensures { let d = slot_of D.dues self.now in (j : ℕ) (y : Received) →
@@ -128,8 +129,6 @@ impl<'a, D: Dues<N>, const N: usize> DataSlot<'a, D, N> {
     /// They are those of each node to which the same channels are due and to which these values
     /// were told, but for that node itself.
     pub fn off(&self, i: u8, told: &[Option<[i64; 8]>; N], votes: &[Option<i64>; 8]) -> NodeSet<N>
-    where
-        Nodes: Capacity<N>,
         requires { i < self.now.config.nodes }
         ensures { let d = slot_of D.dues self.now in (j : ℕ) (y : Received) →
             d.due j ≡ d.due i → IsTold d j y told.now →

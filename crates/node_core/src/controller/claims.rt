@@ -16,12 +16,13 @@ use noting::{note_found, note_verdicts};
 use relay_terms::Term;
 use relaying::{claims_of, hear_round, settle};
 
-impl<'c, const N: usize> Controller<'c, N> {
+impl<'c, const N: usize> Controller<'c, N>
+where
+    Nodes: Capacity<N>,
+{
     /// Closes a slot of claims, and takes what it says, and after the last one what follows from
     /// the claims.
     pub(super) fn hear_claims(&mut self, round: u8)
-    where
-        Nodes: Capacity<N>,
         requires sound { IsSound self.old }
         requires open { self.old.phase.is_open ≡ true }
         requires slot { self.old.phase.slot ≡ 1 + round }
@@ -43,8 +44,6 @@ impl<'c, const N: usize> Controller<'c, N> {
     /// Settles the claims by what was heard of them and by the last slot, which was closed, and
     /// takes what follows from them.
     fn know_claims(&mut self)
-    where
-        Nodes: Capacity<N>,
         requires agreed { IfSome self.old.phase.before (λ a. IsAgreed N self.old.config a) }
         requires hears { IfSome self.old.phase.before
             (λ a. Hears self.old.done self.old.phase.me a) }

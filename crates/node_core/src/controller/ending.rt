@@ -25,11 +25,12 @@ fn mode_through(full: bool) -> Mode
     if full { Mode::Full } else { Mode::Joining }
 }
 
-impl<'c, const N: usize> Controller<'c, N> {
+impl<'c, const N: usize> Controller<'c, N>
+where
+    Nodes: Capacity<N>,
+{
     /// Closes the last slot of a period, takes what it says, and ends the period.
     pub(super) fn end_period(&mut self)
-    where
-        Nodes: Capacity<N>,
         requires sound { IsSound self.old }
         requires open { self.old.phase.is_open ≡ true }
         requires last { self.old.phase.slot ≡ 2 * self.old.config.m + 3 }
@@ -49,8 +50,6 @@ impl<'c, const N: usize> Controller<'c, N> {
     /// Settles the rows by what was heard of them and by the last slot, which was closed, and ends
     /// the period of a node that went through it with a state.
     fn end_with_state(&mut self)
-    where
-        Nodes: Capacity<N>,
         requires agreed { IfSome self.old.phase.before (λ a. IsAgreed N self.old.config a) }
         requires hears { IfSome self.old.phase.before
             (λ a. Hears self.old.rows self.old.phase.me a) }
@@ -90,8 +89,6 @@ impl<'c, const N: usize> Controller<'c, N> {
 
     /// Ends the period of a node that stayed Cold: it keeps nothing.
     fn end_cold(&mut self)
-    where
-        Nodes: Capacity<N>,
         ensures { self.new ≡ ended_cold self.old }
     {
         self.restart();

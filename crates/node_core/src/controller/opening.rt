@@ -49,7 +49,10 @@ where
     }
 }
 
-impl<'c, const N: usize> Controller<'c, N> {
+impl<'c, const N: usize> Controller<'c, N>
+where
+    Nodes: Capacity<N>,
+{
     /// Node `me` before the first period, with room for frames of `frame_max` bytes. No other call
     /// takes memory.
     ///
@@ -62,8 +65,6 @@ impl<'c, const N: usize> Controller<'c, N> {
         me: u8,
         frame_max: usize,
     ) -> Result<Controller<'c, N>, NoMemory>
-    where
-        Nodes: Capacity<N>,
         requires config { IsConfig N config.now }
         requires me { me < config.now.nodes }
         requires greatest { IsGreatest config.now.nodes config.now.m (state_len config.now) 8
@@ -84,8 +85,6 @@ impl<'c, const N: usize> Controller<'c, N> {
         rows: Table<Row<N>, N>,
         watch: SlotWatch<N>,
     ) -> Controller<'c, N>
-    where
-        Nodes: Capacity<N>,
         requires place { IsPlace N config.now me }
         requires unused { AreUnused config.now done rows }
         requires watch { watch ≡ fresh config.now.nodes me watch.frame_max }
