@@ -72,3 +72,9 @@ returns-clause-told g c i on =
 
 pub returns-clause-room : goal.returns-clause-room
 returns-clause-room g c = c.loop-i.invariant.1
+
+pub config-config-requires : goal.config-config-requires
+config-config-requires g c = elim g.bound-1.eight_or_sixteen [ inl e ↦ rw e (lit< tt, lit< tt) | inr e ↦ rw e (lit< tt, lit< tt) ]
+
+pub overflow_cast-i-end : goal.overflow_cast-i-end
+overflow_cast-i-end g c = elim g.bound-1.eight_or_sixteen [ inl e ↦ omega (arith, e) | inr e ↦ omega (arith, e) ]

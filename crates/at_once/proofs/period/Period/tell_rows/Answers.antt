@@ -53,3 +53,15 @@ returns-clause-told g c i on =
 
 pub returns-clause-room : goal.returns-clause-room
 returns-clause-room g c = c.loop-i.invariant.1
+
+pub config-requires : goal.config-requires
+config-requires g c = elim g.bound-1.eight_or_sixteen [ inl e ↦ rw e (lit< tt, lit< tt) | inr e ↦ rw e (lit< tt, lit< tt) ]
+
+pub overflow_cast-i-end : goal.overflow_cast-i-end
+overflow_cast-i-end g c = elim g.bound-1.eight_or_sixteen [ inl e ↦ omega (arith, e) | inr e ↦ omega (arith, e) ]
+
+pub found_at-requires : goal.found_at-requires
+found_at-requires g c = (
+  elim g.bound-1.eight_or_sixteen [ inl e ↦ rw e (lit< tt) | inr e ↦ rw e (lit< tt) ],
+  (elim g.bound-1.eight_or_sixteen [ inl e ↦ rw e (lit< tt) | inr e ↦ rw e (lit< tt) ], c.loop-i-test.true),
+)
