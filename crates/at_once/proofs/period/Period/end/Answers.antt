@@ -1,4 +1,4 @@
-use Rattle.std.proofs.Common.{ℕ, ◌≡◌, ◌<◌, List, Some, length, sym, ap, subst, ◌∙◌, lit<, inl, inr}
+use Rattle.std.proofs.Common.{ℕ, ◌≡◌, ◌<◌, ◌≤◌, List, Some, length, sym, ap, subst, ◌∙◌, lit<, inl, inr}
 use Rattle.node_grid.specs.Capacity.{IsCapacity}
 use Rattle.agreed_state.specs.Config.{IsConfig}
 use Rattle.agreed_state.specs.declared.config.Config.{Config}
@@ -65,3 +65,17 @@ returns-clause-kept g c =
     kept_on sc c.args.self.now.number c.requires.reported.0 c.args.made.now c.args.keeping.now c.args.groups.now c.requires.reported.1 few c.requires.firsts c.requires.grouped
     c.config-config.result.now c.config-config.ensures.config c.step.new.states stepped c.step.ensures.cold
     c.awake-awake.result c.forget_cold.new.keeping c.awake-awake.ensures.nodes c.forget_cold.ensures c.step.ensures.agreed c.awake.ensures.length
+
+pub config-config-requires : goal.config-config-requires
+config-config-requires g c = elim g.bound-1.eight_or_sixteen [ inl e ↦ rw e (lit< tt, lit< tt) | inr e ↦ rw e (lit< tt, lit< tt) ]
+
+pub awake-awake-requires : goal.awake-awake-requires
+awake-awake-requires g c = elim g.bound-1.eight_or_sixteen [ inl e ↦ rw e (lit< tt, lit< tt) | inr e ↦ rw e (lit< tt, lit< tt) ]
+
+pub awake-requires : goal.awake-requires
+awake-requires g c = elim g.bound-1.eight_or_sixteen [ inl e ↦ rw e (lit< tt, lit< tt) | inr e ↦ rw e (lit< tt, lit< tt) ]
+
+pub forget_cold-requires : goal.forget_cold-requires
+forget_cold-requires g c =
+    let few : c.config-config.result.now.nodes ≤ g.row.N = subst (λ (x : Config g.row.N). x.nodes ≤ g.row.N) (sym c.config-config.ensures.config) c.config-config.ensures.scenario.system.config.few_nodes in
+    (lit< tt, (elim g.bound-1.eight_or_sixteen [ inl e ↦ rw e (lit< tt) | inr e ↦ rw e (lit< tt) ], (few, c.requires.reported.1.shaped.many)))

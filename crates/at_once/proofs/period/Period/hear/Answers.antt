@@ -89,3 +89,15 @@ returns-clause-unvoted g c = record { votes = c.requires.begun.votes; owns = c.r
 
 pub returns-clause-beliefs : goal.returns-clause-beliefs
 returns-clause-beliefs g c = c.leave_cold.ensures.beliefs
+
+pub config-config-requires : goal.config-config-requires
+config-config-requires g c = elim g.bound-1.eight_or_sixteen [ inl e ↦ rw e (lit< tt, lit< tt) | inr e ↦ rw e (lit< tt, lit< tt) ]
+
+pub plan-requires : goal.plan-requires
+plan-requires g c = elim g.bound-1.eight_or_sixteen [ inl e ↦ rw e (lit< tt, lit< tt) | inr e ↦ rw e (lit< tt, lit< tt) ]
+
+pub awake-awake-requires : goal.awake-awake-requires
+awake-awake-requires g c = elim g.bound-1.eight_or_sixteen [ inl e ↦ rw e (lit< tt, lit< tt) | inr e ↦ rw e (lit< tt, lit< tt) ]
+
+pub go_through-requires : goal.go_through-requires
+go_through-requires g c = elim g.bound-1.eight_or_sixteen [ inl e ↦ rw e (lit< tt, lit< tt) | inr e ↦ rw e (lit< tt, lit< tt) ]

@@ -114,3 +114,9 @@ returns-clause-reported g c =
 
 pub returns-clause-room : goal.returns-clause-room
 returns-clause-room g c = c.agree.ensures.room ∙ c.tell_rows.ensures.room
+
+pub config-requires : goal.config-requires
+config-requires g c = elim g.bound-1.eight_or_sixteen [ inl e ↦ rw e (lit< tt, lit< tt) | inr e ↦ rw e (lit< tt, lit< tt) ]
+
+pub phase-phase-requires : goal.phase-phase-requires
+phase-phase-requires g c = elim g.bound-1.eight_or_sixteen [ inl e ↦ rw e (lit< tt, (lit< tt, (lit< tt, lit< tt))) | inr e ↦ rw e (lit< tt, (lit< tt, (lit< tt, lit< tt))) ]

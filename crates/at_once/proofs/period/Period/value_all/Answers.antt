@@ -41,3 +41,6 @@ pub returns : goal.returns
 returns g c = λ i state carried low.
     let n : c.config-config.result.now.nodes ≡ c.args.self.now.scenario.now.config.nodes = ap (λ (cf : Config g.row.N). cf.nodes) c.config-config.ensures.config in
     c.loop-i.invariant.so_far i (let t = c.loop-i-test.false in omega arith) state carried
+
+pub inputs-inputs-requires : goal.inputs-inputs-requires
+inputs-inputs-requires g c = (elim g.bound-1.eight_or_sixteen [ inl e ↦ rw e (lit< tt) | inr e ↦ rw e (lit< tt) ], omega (arith, ap (λ (x : Config g.row.N). x.nodes) c.config-config.ensures.config, c.loop-i-test.true))

@@ -164,3 +164,18 @@ returns g c =
       owns = λ i a low is. own_now hears_law view_law cold_law sc p full made notes groups scenario settled touched owns are i a low is;
       voters = c.vote_each-keeping.ensures.voters;
     }
+
+pub config-config-requires : goal.config-config-requires
+config-config-requires g c = elim g.bound-1.eight_or_sixteen [ inl e ↦ rw e (lit< tt, lit< tt) | inr e ↦ rw e (lit< tt, lit< tt) ]
+
+pub plan-plan-requires : goal.plan-plan-requires
+plan-plan-requires g c = elim g.bound-1.eight_or_sixteen [ inl e ↦ rw e (lit< tt, lit< tt) | inr e ↦ rw e (lit< tt, lit< tt) ]
+
+pub awake-requires : goal.awake-requires
+awake-requires g c = elim g.bound-1.eight_or_sixteen [ inl e ↦ rw e (lit< tt, lit< tt) | inr e ↦ rw e (lit< tt, lit< tt) ]
+
+pub value_all-requires : goal.value_all-requires
+value_all-requires g c = elim g.bound-1.eight_or_sixteen [ inl e ↦ rw e (lit< tt, lit< tt) | inr e ↦ rw e (lit< tt, lit< tt) ]
+
+pub empty-off-requires : goal.empty-off-requires
+empty-off-requires g c = (lit< tt, elim g.bound-1.eight_or_sixteen [ inl e ↦ omega (arith, e) | inr e ↦ omega (arith, e) ])

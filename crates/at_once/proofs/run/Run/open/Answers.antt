@@ -57,3 +57,6 @@ phases-requires g c = (
     ),
   ),
 )
+
+pub config-config-requires : goal.config-config-requires
+config-config-requires g c = elim g.bound-1.eight_or_sixteen [ inl e ↦ rw e (lit< tt, lit< tt) | inr e ↦ rw e (lit< tt, lit< tt) ]

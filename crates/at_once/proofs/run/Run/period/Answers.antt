@@ -1,4 +1,4 @@
-use Rattle.std.proofs.Common.{suc, ◌≡◌, ◌+◌, refl, ap, subst, ◌∙◌, arith}
+use Rattle.std.proofs.Common.{suc, ◌≡◌, ◌+◌, refl, ap, subst, ◌∙◌, inl, inr, lit<, arith}
 use Rattle.scenario.specs.Scenario.{ScenarioView}
 use Rattle.at_once.specs.Run.{RunView, ShowsPeriod, FitsScenario}
 use Rattle.at_once.proofs.run.Run.period.Goals as goal
@@ -17,3 +17,6 @@ returns g c =
             (record { scenario = c.self.invariant.scenario; shape = c.self.invariant.before.shape; beliefs = c.self.invariant.beliefs; agreed = c.self.invariant.kept.used.agreed });
       },
     )
+
+pub advance-requires : goal.advance-requires
+advance-requires g c = (elim g.bound-1.eight_or_sixteen [ inl e ↦ rw e (lit< tt) | inr e ↦ rw e (lit< tt) ], c.requires.more)
