@@ -1,4 +1,4 @@
-use Rattle.std.proofs.Common.{ℕ, ◌≡◌, ◌<◌, ◌+◌, ◌*◌, List, [], length, refl, sym, ap, ◌∙◌, arith, get_or, get_or-set_same, get_or-set_other}
+use Rattle.std.proofs.Common.{ℕ, ◌≡◌, ◌<◌, ◌+◌, ◌*◌, List, [], length, refl, sym, ap, ◌∙◌, arith, get_or, get_or-set_same, get_or-set_other, lit<}
 use Rattle.std.proofs.lemmas.List.{with_items_is}
 use Rattle.std.proofs.lemmas.Nat.{mul-le}
 use Rattle.node_grid.specs.CapacityLaws.{capacity-le}
@@ -92,3 +92,9 @@ returns-else-phase-ne1-clause-others g c = λ i k low ne is.
     ∙ c.lay_row.ensures.kept (k * g.row.N + i) (rows_apart g.row.N c.args.commander k i ne low)
     ∙ ap (λ (vs : List (Wrapped g.row.V.Denot)). get_or vs (k * g.row.N + i) (Fault 0)) c.as_mut_slice-2.ensures.value)
     refl
+
+pub settle-requires : goal.settle-requires
+settle-requires g c = (lit< tt, (lit< tt, (c.requires.told, (c.requires.room, ap length c.as_mut_slice.ensures.value ∙ c.args.self.now.row_room))))
+
+pub convicting-requires : goal.convicting-requires
+convicting-requires g c = (lit< tt, (lit< tt, (lit< tt, c.requires.told)))

@@ -96,3 +96,31 @@ returns-clause-others g c = λ i k low apart is.
     (sym (c.lay.ensures.links ∙ links_kept))
     (c.lay.ensures.each place (places_apart g.row.N c.args.commander k i me low low_me apart) ∙ each_kept)
     (c.lay.ensures.convicting i k low apart ∙ sets_kept)
+
+pub members_of-requires : goal.members_of-requires
+members_of-requires g c =
+    let set = c.requires.heard.set in (
+      elim set.capacity [ inl e ↦ rw e (lit< tt) | inr e ↦ rw e (lit< tt) ],
+      (lit< tt, node_low c.args.phase.now set c.args.me (set.awake c.args.me c.requires.node)),
+    )
+
+pub invariant_of-hearing : goal.invariant_of-hearing
+invariant_of-hearing g c = c.requires.heard
+
+pub returns-clause-links : goal.returns-clause-links
+returns-clause-links g c = c.lay.ensures.links ∙ elim c.if-phase-ne1.branch [
+  | then-phase-ne1 w ↦ ap (λ (s : ItemPhase g.row.V.Denot g.row.N). s.links) w.self-is
+  | else-phase-ne1 w ↦ ap (λ (s : ItemPhase g.row.V.Denot g.row.N). s.links) w.self-is
+]
+
+pub returns-clause-seen : goal.returns-clause-seen
+returns-clause-seen g c = c.lay.ensures.seen ∙ elim c.if-phase-ne1.branch [
+  | then-phase-ne1 w ↦ ap (λ (s : ItemPhase g.row.V.Denot g.row.N). s.seen) w.self-is
+  | else-phase-ne1 w ↦ ap (λ (s : ItemPhase g.row.V.Denot g.row.N). s.seen) w.self-is
+]
+
+pub returns-clause-room : goal.returns-clause-room
+returns-clause-room g c = c.lay.ensures.room ∙ elim c.if-phase-ne1.branch [
+  | then-phase-ne1 w ↦ ap (λ (s : ItemPhase g.row.V.Denot g.row.N). s.settling) w.self-is
+  | else-phase-ne1 w ↦ ap (λ (s : ItemPhase g.row.V.Denot g.row.N). s.settling) w.self-is
+]
