@@ -1,12 +1,13 @@
 use Rattle.std.proofs.Common.{ℕ, ◌≡◌, ◌+◌, ◌*◌, List, [], ◌∷◌, length, sym, ap, ◌∙◌, inl, inr, lit<}
 use Rattle.std.specs.Prelude.{slice_index_or}
 use Rattle.std.proofs.lemmas.List.{with_items_is}
+use Rattle.node_grid.specs.CapacityLaws.{capacity-le}
 use Rattle.node_grid.specs.NodeSet.{has_id}
 use Rattle.omh_paths.specs.declared.wrapped.Wrapped.TheVariants.{Fault}
 use Rattle.omh.specs.Omh.{settled_at}
 use Rattle.equivocation.specs.Conviction.{convicts}
 use Rattle.heard_links.specs.declared.links.Links.{Links}
-use Rattle.heard_links.proofs.Sets.{member_low, node_low}
+use Rattle.heard_links.proofs.Sets.{few_m, member_low, node_low}
 use Rattle.item_phase.specs.declared.item_phase.ItemPhase.{ItemPhase}
 use Rattle.item_phase.specs.Settled.{listener}
 use Rattle.item_phase.proofs.Hearers.{settles_by, convicts_by}
@@ -124,3 +125,6 @@ returns-clause-room g c = c.lay.ensures.room ∙ elim c.if-phase-ne1.branch [
   | then-phase-ne1 w ↦ ap (λ (s : ItemPhase g.row.V.Denot g.row.N). s.settling) w.self-is
   | else-phase-ne1 w ↦ ap (λ (s : ItemPhase g.row.V.Denot g.row.N). s.settling) w.self-is
 ]
+
+pub invariant_of-node : goal.invariant_of-node
+invariant_of-node g c = record { fits = capacity-le g.row.N c.requires.heard.set.capacity; short = few_m c.args.phase.now c.requires.heard.set }
