@@ -1,4 +1,4 @@
-use Rattle.std.proofs.Common.{ap, subst, ◌∙◌}
+use Rattle.std.proofs.Common.{inl, inr, lit<, ap, subst, ◌∙◌}
 use Rattle.node_alone.specs.Log.{RecordView}
 use Rattle.node_alone.specs.Seen.{IsRecord}
 use Rattle.node_alone.proofs.record.Record.config.Goals as goal
@@ -8,3 +8,6 @@ returns-clause-config g c = c.config.ensures.config ∙ ap (λ (r : RecordView g
 
 pub returns-clause-log : goal.returns-clause-log
 returns-clause-log g c = subst (λ (r : RecordView g.row.N). IsRecord r) c.self.view_is c.self.invariant
+
+pub config-requires : goal.config-requires
+config-requires g c = elim c.self.invariant.scenario.system.capacity [ inl e ↦ rw e (lit< tt, lit< tt) | inr e ↦ rw e (lit< tt, lit< tt) ]

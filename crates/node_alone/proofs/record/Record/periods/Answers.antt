@@ -1,4 +1,4 @@
-use Rattle.std.proofs.Common.{ap, subst, ◌∙◌}
+use Rattle.std.proofs.Common.{inl, inr, lit<, ap, subst, ◌∙◌}
 use Rattle.node_alone.specs.Log.{RecordView}
 use Rattle.node_alone.specs.Seen.{IsRecord}
 use Rattle.node_alone.proofs.record.Record.periods.Goals as goal
@@ -8,3 +8,6 @@ returns-clause-periods g c = c.periods.ensures.periods ∙ ap (λ (r : RecordVie
 
 pub returns-clause-log : goal.returns-clause-log
 returns-clause-log g c = subst (λ (r : RecordView g.row.N). IsRecord r) c.self.view_is c.self.invariant
+
+pub periods-requires : goal.periods-requires
+periods-requires g c = elim c.self.invariant.scenario.system.capacity [ inl e ↦ rw e (lit< tt) | inr e ↦ rw e (lit< tt) ]
