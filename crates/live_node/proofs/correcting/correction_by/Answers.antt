@@ -14,3 +14,9 @@ correction-requires g c = (
     ),
   ),
 )
+
+pub good_told-good-requires : goal.good_told-good-requires
+good_told-good-requires g c = elim g.bound-1.eight_or_sixteen [ inl e ↦ rw e (lit< tt, lit< tt) | inr e ↦ rw e (lit< tt, lit< tt) ]
+
+pub told_numbers-readings-requires : goal.told_numbers-readings-requires
+told_numbers-readings-requires g c = (elim g.bound-1.eight_or_sixteen [ inl e ↦ rw e (lit< tt) | inr e ↦ rw e (lit< tt) ], (elim g.bound-1.eight_or_sixteen [ inl e ↦ rw e (lit< tt) | inr e ↦ rw e (lit< tt) ], c.requires.values))
