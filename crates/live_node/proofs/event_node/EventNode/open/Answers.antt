@@ -57,3 +57,9 @@ pub returns-clause-fresh : goal.returns-clause-fresh
 returns-clause-fresh g c =
     let fresh : IsFresh c.args.scenario.now.config c.args.id c.in_ok-node.node = subst (λ (y : Config g.row.N). IsFresh y c.args.id c.in_ok-node.node) c.config-config.ensures.config c.in_ok-node.ensures in
     new_live c.args.scenario.now c.args.id c.frame_bound-room.result (vec_capacity c.in-Ok.frame) (vec_capacity c.in-Ok-with_capacity.text) c.args.longest c.in_ok-node.node c.nothing.result.given c.nothing.result.ahead c.nothing.ensures.given c.nothing.ensures.ahead fresh
+
+pub overflow_mul-room : goal.overflow_mul-room
+overflow_mul-room g c = omega (arith, c.frame_bound-room.ensures.short)
+
+pub overflow_add-room : goal.overflow_add-room
+overflow_add-room g c = omega (arith, c.frame_bound-room.ensures.short)
