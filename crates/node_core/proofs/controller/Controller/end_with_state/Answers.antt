@@ -81,3 +81,6 @@ mode_through-requires g c = tt
 
 pub row-requires : goal.row-requires
 row-requires g c = (elim c.self.invariant.place.capacity [ inl e ↦ rw e (lit< tt) | inr e ↦ rw e (lit< tt) ], elim c.self.invariant.place.capacity [ inl e ↦ rw e (lit< tt) | inr e ↦ rw e (lit< tt) ])
+
+pub whole_as_slice-settle : goal.whole_as_slice-settle
+whole_as_slice-settle g c = elim g.bound-1.eight_or_sixteen [ inl e ↦ rw e (lit< tt) | inr e ↦ rw e (lit< tt) ]
