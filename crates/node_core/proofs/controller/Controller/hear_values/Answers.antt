@@ -136,6 +136,12 @@ invariant_of-self-2 g c =
       notes = subst (AreItsNotes n.config.now n.phase.me) (sym (told_is g c)) (still_notes n.config.now n.phase.me n.phase.full c.note_values.new.notes (replicate g.row.N 0) noted);
     }
 
+pub returns-in_default : goal.returns-in_default
+returns-in_default g c =
+    let v : NodeView g.row.N = seen c.self.inside in
+    ap (λ (w : Watch). record v { arrived = w }) c.close-found.ensures.closed ∙ ap (λ (o : Option AgreedView). taken (shut v) o) (sym c.in_default.is)
+    ∙ ap (λ (w : NodeView g.row.N). taken (shut w) w.phase.before) c.self.view_is
+
 pub returns : goal.returns
 returns g c =
     let n = c.self.inside in
