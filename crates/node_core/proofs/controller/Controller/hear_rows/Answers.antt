@@ -114,3 +114,6 @@ returns g c =
     (c.hear_round.ensures ∙ rows_heard n inv sound open' closing shut' a some.1 r low number r refl)
     ∙ sym (rows_taken (seen n) a r number) ∙ ap (λ (o : Option AgreedView). taken (shut (seen n)) o) (sym some.1)
     ∙ ap (λ (v : NodeView g.row.N). taken (shut v) v.phase.before) is
+
+pub hear_round-requires-room-V-Exact : goal.hear_round-requires-room-V-Exact
+hear_round-requires-room-V-Exact g c = λ κs. elim g.bound-1.eight_or_sixteen [ inl e ↦ rw e (lit< tt) | inr e ↦ rw e (lit< tt) ]

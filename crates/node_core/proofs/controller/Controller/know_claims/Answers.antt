@@ -86,3 +86,6 @@ note_all-requires g c = (elim c.self.invariant.place.capacity [ inl e ↦ rw e (
 
 pub own_values-self-inside-requires : goal.own_values-self-inside-requires
 own_values-self-inside-requires g c = (elim c.self.invariant.place.capacity [ inl e ↦ rw e (lit< tt) | inr e ↦ rw e (lit< tt) ], (c.self.invariant.place.config_is, (let low = c.self.invariant.place.me_low in let few = c.self.invariant.place.few in omega (arith, low, few))))
+
+pub whole_as_slice-settle : goal.whole_as_slice-settle
+whole_as_slice-settle g c = elim g.bound-1.eight_or_sixteen [ inl e ↦ rw e (lit< tt) | inr e ↦ rw e (lit< tt) ]

@@ -23,9 +23,6 @@ open-requires-2-room-V-Eq g c = λ κs. elim g.bound-1.eight_or_sixteen [ inl e 
 pub open-requires-2-room-V-PartialEq : goal.open-requires-2-room-V-PartialEq
 open-requires-2-room-V-PartialEq g c = λ κs. elim g.bound-1.eight_or_sixteen [ inl e ↦ rw e (lit< tt) | inr e ↦ rw e (lit< tt) ]
 
-pub open-requires-2-room-V-Item : goal.open-requires-2-room-V-Item
-open-requires-2-room-V-Item g c = λ κs. elim g.bound-1.eight_or_sixteen [ inl e ↦ rw e (lit< tt) | inr e ↦ rw e (lit< tt) ]
-
 pub open-requires-2-room-V-Exact : goal.open-requires-2-room-V-Exact
 open-requires-2-room-V-Exact g c = λ κs. elim g.bound-1.eight_or_sixteen [ inl e ↦ rw e (lit< tt) | inr e ↦ rw e (lit< tt) ]
 

@@ -79,3 +79,6 @@ overflow_mul-self-inside g c =
     let few = c.self.invariant.place.few in
     let cap = few_capacity g.row.N c.self.invariant.place.capacity in
     omega (arith, few, cap)
+
+pub say_round-requires-room-V-Exact : goal.say_round-requires-room-V-Exact
+say_round-requires-room-V-Exact g c = λ κs. elim g.bound-1.eight_or_sixteen [ inl e ↦ rw e (lit< tt) | inr e ↦ rw e (lit< tt) ]
