@@ -1,4 +1,4 @@
-use Rattle.std.proofs.Common.{◌≡◌, ◌+◌, suc, refl, ap, ◌∙◌, arith}
+use Rattle.std.proofs.Common.{◌≡◌, ◌+◌, suc, refl, ap, ◌∙◌, arith, inl, inr, lit<}
 use Rattle.node_steps.specs.Stages.{outcome_of}
 use Rattle.node_alone.specs.Log.{RecordView}
 use Rattle.node_alone.specs.View.{view_alone}
@@ -16,3 +16,6 @@ returns g c =
         shown = c.self.invariant.last c.args.self.now.run (let e : c.self.inside.run ≡ suc c.args.self.now.run = omega (arith, one_more) in e) ∙ ap (λ (s : RecordView g.row.N). outcome_of (view_alone s c.args.self.now.run)) same;
       },
     )
+
+pub advance-requires : goal.advance-requires
+advance-requires g c = (elim g.bound-1.eight_or_sixteen [ inl e ↦ rw e (lit< tt) | inr e ↦ rw e (lit< tt) ], c.requires.more)
