@@ -1,5 +1,21 @@
-use Rattle.heard_links.proofs.Sets.{none_first}
+use Rattle.std.proofs.Common.{ℕ, ◌≡◌, true, sym, ◌∙◌, inl, inr, arith, lit<}
+use Rattle.node_grid.specs.NodeSet.{has_id}
+use Rattle.heard_links.specs.Talks.{members_at}
+use Rattle.heard_links.proofs.Runs.{same_list}
+use Rattle.heard_links.proofs.Sets.{none_first, node_low}
 use Rattle.heard_links.proofs.phase.Phase.has_one_membership.Goals as goal
 
 pub returns-in_default : goal.returns-in_default
 returns-in_default g c = λ _ i j on_i on_j. absurd (none_first c.args.self.now.awake i c.in_default.ensures.first on_i)
+
+pub has_same_members-requires : goal.has_same_members-requires
+has_same_members-requires g c = (elim c.requires.capacity [ inl e ↦ rw e (lit< tt) | inr e ↦ rw e (lit< tt) ], (c.in-Some.ensures.within, node_low c.args.self.now c.requires c.loop-i.i c.loop-i-test.true))
+
+pub returns-then-not-has_same_members : goal.returns-then-not-has_same_members
+returns-then-not-has_same_members g c = λ e. cc
+
+pub returns : goal.returns
+returns g c = λ _ i j on_i on_j.
+    let x = c.args.self.now in
+    let same = λ (k : ℕ) (on : has_id x.awake k ≡ true). same_list (members_at x c.in-Some.first) (members_at x k) (c.loop-i.invariant k (omega (arith, c.requires.awake k on, c.loop-i-test.false)) on) in
+    sym (same i on_i) ∙ same j on_j
