@@ -1,4 +1,4 @@
-use Rattle.std.proofs.Common.{ℕ, ◌+◌, ◌-◌, length, refl, ◌∙◌, arith}
+use Rattle.std.proofs.Common.{ℕ, ◌+◌, ◌-◌, length, refl, ◌∙◌, arith, lit<}
 use Rattle.omh_paths.specs.Paths.{index_in}
 use Rattle.omh_paths.specs.MemberLaws.{Distinct-ids}
 use Rattle.omh.proofs.Folding.{settled_moved_to, root_settled}
@@ -48,3 +48,8 @@ returns-clause-settled g c = λ full h own longest.
     let last : ℕ = s.rounds - 1 in
     root_settled g.V.PartialEq.eq (ear_in s.rounds s.members c.args.i full h) (index_in s.members s.commander) s.commander (last - c.loop-done.done) c.loop-done.work c.value_at.result (Distinct-ids g.row.N s.members x.members_ok)
     x.member_ok c.requires.other refl (omega (arith, c.loop-done-test.false)) (c.loop-done.invariant.settled full h own longest) c.value_at.ensures
+
+pub settle_shorter-requires : goal.settle_shorter-requires
+settle_shorter-requires g c =
+    let room = c.requires.room in
+    (lit< tt, (c.requires.exchange, (omega (arith, c.loop-done-test.true), (room.laid_ok, omega (arith, c.loop-done.invariant.work, c.copy_front.auto.work, room.work_ok)))))

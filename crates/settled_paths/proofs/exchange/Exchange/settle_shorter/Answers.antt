@@ -1,4 +1,4 @@
-use Rattle.std.proofs.Common.{ℕ, suc, ◌≡◌, ◌<◌, ◌≤◌, ◌+◌, ◌-◌, ◌*◌, length, refl, ap, ◌∙◌, arith}
+use Rattle.std.proofs.Common.{ℕ, suc, ◌≡◌, ◌<◌, ◌≤◌, ◌+◌, ◌-◌, ◌*◌, length, refl, ap, ◌∙◌, arith, lit<}
 use Rattle.omh_paths.specs.Paths.{outside, path_count, index_in}
 use Rattle.omh_paths.specs.PathLists.{index_in-lt}
 use Rattle.omh_paths.specs.MemberLaws.{Distinct-ids, member-lt}
@@ -23,7 +23,7 @@ own_term-own-requires g c =
     let t = term_place g.row.N s.rounds s.members s.commander c.args.relays c.loop-k.k c.len.result c.saturating_sub-width.result c.level-level.result c.path-path.result x x.members_ok (omega (arith, c.requires.shorter)) c.level-level.ensures c.loop-k-test.true
     c.len.ensures.count c.saturating_sub-width.ensures c.path-path.ensures.path in
     let up = level_at-le (length s.members - 1) (suc (suc c.args.relays)) (s.rounds + 1) (omega (arith, c.requires.shorter)) in
-    (omega arith, ((λ q on. member-lt g.row.N s.members q x.members_ok (c.path-path.ensures.within q on)), omega (arith, t.terms, t.many, up, c.requires.laid)))
+    (lit< tt, ((λ q on. member-lt g.row.N s.members q x.members_ok (c.path-path.ensures.within q on)), omega (arith, t.terms, t.many, up, c.requires.laid)))
 
 pub settle_path-requires : goal.settle_path-requires
 settle_path-requires g c =
@@ -37,7 +37,7 @@ settle_path-requires g c =
     let low = level_within (length s.members - 1) c.args.relays c.loop-k.k s.rounds t.inside (omega (arith, c.requires.shorter)) in
     let here : c.loop-k.k < length c.loop-k.work = omega (arith, low, c.requires.work, c.loop-k.invariant.work) in
     let same = ap (λ (n : ℕ). c.loop-k.k * n) t.many in (
-      omega arith,
+      lit< tt,
       (
         (λ q on. member-lt g.row.N s.members q x.members_ok (c.path-path.ensures.within q on)),
         (omega (arith, t.terms_few, t.many, same, room), here),
@@ -63,3 +63,12 @@ loop-k-preserved g c =
           c.args.laid.now c.loop-k.work c.settle_path.new.work c.own_term-own.result (Distinct-ids g.row.N s.members x.members_ok) (index_in-lt s.members s.commander x.member_ok) (omega (arith, c.requires.shorter)) own (i.half full h own longer)
           t.inside room here t.width_is t.next_is t.path_is c.own_term-own.ensures c.settle_path.ensures;
     }
+
+pub level-level-requires : goal.level-level-requires
+level-level-requires g c = (lit< tt, (c.requires.exchange, omega (arith, c.requires.shorter)))
+
+pub path-path-requires : goal.path-path-requires
+path-path-requires g c = (lit< tt, (c.requires.exchange, (omega (arith, c.requires.shorter), (c.level-level.ensures, c.loop-k-test.true))))
+
+pub overflow_add-next : goal.overflow_add-next
+overflow_add-next g c = omega (arith, c.level-level.ensures.small, c.level-level.ensures.few)
