@@ -1,4 +1,4 @@
-use Rattle.std.proofs.Common.{rules, ◌≡◌, ◌≢◌, ◌<◌, ◌≤◌, ◌+◌, ◌-◌, ◌*◌, suc, ◌==◌, ◌&&◌, Bool, true, false, not, length, take, drop, map, List, [], ◌∷◌, ◌++◌, ℕ, slice_index_or, sym, ap, ◌∙◌, inl, inr, arith, eq-eqb, ne_eqb}
+use Rattle.std.proofs.Common.{rules, ◌≡◌, ◌≢◌, ◌<◌, ◌≤◌, ◌+◌, ◌-◌, ◌*◌, suc, ◌==◌, ◌&&◌, Bool, true, false, not, length, take, drop, map, List, [], ◌∷◌, ◌++◌, ℕ, slice_index_or, sym, ap, ◌∙◌, inl, inr, arith, lit<, eq-eqb, ne_eqb}
 use Rattle.std.proofs.lemmas.Bool.{or_from, cases_eq}
 use Rattle.std.proofs.lemmas.List.{length_push}
 use Rattle.node_grid.specs.NodeSet.{has_id, without_id, IsIdSet}
@@ -67,12 +67,12 @@ returns-then-lay_alike-clause-settled g k c = λ i on.
 pub passed-own-requires : goal.passed-own-requires
 passed-own-requires g k c =
     let low = next_low g.row.N c.outside.result c.args.self.now.phase.members c.args.path.now c.loop-q.yielded c.next.new.self c.loop-q.q-iterator c.in-Some.q c.iter-q-items.ensures.ids c.outside.ensures c.loop-q.invariant.split c.in-Some.ensures.steps in
-    (omega arith, low)
+    (lit< tt, low)
 
 pub without-others-requires : goal.without-others-requires
 without-others-requires g k c =
     let low = next_low g.row.N c.outside.result c.args.self.now.phase.members c.args.path.now c.loop-q.yielded c.next.new.self c.loop-q.q-iterator c.in-Some.q c.iter-q-items.ensures.ids c.outside.ensures c.loop-q.invariant.split c.in-Some.ensures.steps in
-    (omega arith, low)
+    (lit< tt, low)
 
 pub then-requires-clause-off : goal.then-requires-clause-off
 then-requires-clause-off g k c = (next_outside c.args.self.now.phase.members c.args.path.now c.loop-q.yielded c.next.new.self c.loop-q.q-iterator c.in-Some.q c.loop-q.invariant.split c.in-Some.ensures.steps).1
@@ -96,9 +96,9 @@ settle_chain-requires g k c κs within =
           (
             search rules,
             (
-              omega arith,
+              lit< tt,
               (
-                omega arith,
+                lit< tt,
                 (omega (arith, l, deep, long, c.loop-q.invariant.long, c.requires.room), (c.requires.few, (chain, off))),
               ),
             ),
@@ -110,10 +110,10 @@ settle_chain-requires g k c κs within =
 pub lay_alike-requires : goal.lay_alike-requires
 lay_alike-requires g k c =
     let low = chain_low (telling g.S.Relays.says c.args.self.now) c.args.path.now g.row.N c.len-2.ensures.ids c.requires.chain in
-    (omega arith, (omega arith, (low, omega (arith, c.requires.room))))
+    (lit< tt, (lit< tt, (low, omega (arith, c.requires.room))))
 
 pub outside-requires : goal.outside-requires
-outside-requires g k c = (omega arith, chain_low (telling g.S.Relays.says c.args.self.now) c.args.path.now g.row.N c.len-2.ensures.ids c.requires.chain)
+outside-requires g k c = (lit< tt, chain_low (telling g.S.Relays.says c.args.self.now) c.args.path.now g.row.N c.len-2.ensures.ids c.requires.chain)
 
 pub loop-q-preserved : goal.loop-q-preserved
 loop-q-preserved g k c =
@@ -204,3 +204,6 @@ returns-clause-settled g k c =
     ∙ ap (λ ts. unwrapped (majority_of eq ts)) (row_is (Fault 0) (chain_term eq w t.odd r i p) ys c.loop-q.work s room (inv.terms i on) ∙ ap (map (chain_term eq w t.odd r i p)) (sym all))
     ∙ sym (chain_later eq w t.odd r i p)
     ∙ ap (λ (n : ℕ). chain_within eq w t.odd i n p) e
+
+pub lay_heard-requires : goal.lay_heard-requires
+lay_heard-requires g k c = (lit< tt, (lit< tt, omega (arith, c.requires.room)))
