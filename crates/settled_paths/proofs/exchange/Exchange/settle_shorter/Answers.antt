@@ -1,8 +1,8 @@
-use Rattle.std.proofs.Common.{ℕ, suc, ◌≡◌, ◌<◌, ◌≤◌, ◌+◌, ◌-◌, ◌*◌, length, refl, ap, ◌∙◌, arith, lit<}
+use Rattle.std.proofs.Common.{ℕ, suc, ◌≡◌, ◌<◌, ◌≤◌, ◌+◌, ◌-◌, ◌*◌, length, refl, ap, ◌∙◌, arith, lit<, mul-le-mul}
 use Rattle.omh_paths.specs.Paths.{outside, path_count, index_in}
 use Rattle.omh_paths.specs.PathLists.{index_in-lt}
 use Rattle.omh_paths.specs.MemberLaws.{Distinct-ids, member-lt}
-use Rattle.omh.proofs.Folding.{halfway_start}
+use Rattle.omh.proofs.Folding.{halfway_start, halfway_end}
 use Rattle.settled_paths.specs.Levels.{level_at, ear_in}
 use Rattle.settled_paths.proofs.Places.{level_within, level_at-le, term_place}
 use Rattle.settled_paths.proofs.Folds.{shorter_more, length-settled}
@@ -72,3 +72,16 @@ path-path-requires g c = (lit< tt, (c.requires.exchange, (omega (arith, c.requir
 
 pub overflow_add-next : goal.overflow_add-next
 overflow_add-next g c = omega (arith, c.level-level.ensures.small, c.level-level.ensures.few)
+
+pub overflow_mul-k : goal.overflow_mul-k
+overflow_mul-k g c =
+    let few : c.loop-k.k ≤ 65536 = omega (arith, c.loop-k-test.true, c.level-level.ensures.few) in
+    let short : c.saturating_sub-width.result ≤ 256 = omega (arith, c.saturating_sub-width.type_inv) in
+    let m : c.loop-k.k * c.saturating_sub-width.result ≤ 65536 * 256 = mul-le-mul few short in
+    omega (arith, m)
+
+pub returns-clause-settled : goal.returns-clause-settled
+returns-clause-settled g c = λ full h own longer.
+    let s = c.args.self.now in
+    halfway_end g.V.PartialEq.eq (ear_in s.rounds s.members c.args.i full h) (index_in s.members s.commander) c.args.relays c.loop-k.k c.loop-k.work
+    (omega (arith, c.level-level.ensures.paths_are, c.loop-k-test.false)) (c.loop-k.invariant.half full h own longer)
