@@ -1,4 +1,4 @@
-use Rattle.std.proofs.Common.{sym}
+use Rattle.std.proofs.Common.{sym, inl, inr, lit<}
 use Rattle.run_print.proofs.Joining.{then}
 use Rattle.run_print.proofs.printer.Printer.beliefs_at.Goals as goal
 
@@ -7,3 +7,15 @@ returns-in-Some g c = rw (sym c.in-Some.ensures) (then (then (rw c.mode.ensures 
 
 pub returns-in-None : goal.returns-in-None
 returns-in-None g c = rw (sym c.in-None.ensures) c.text.ensures
+
+pub agreed-requires : goal.agreed-requires
+agreed-requires g c = (elim g.bound-2.eight_or_sixteen [ inl e ↦ rw e (lit< tt) | inr e ↦ rw e (lit< tt) ], elim g.bound-2.eight_or_sixteen [ inl e ↦ rw e (lit< tt) | inr e ↦ rw e (lit< tt) ])
+
+pub mode-requires : goal.mode-requires
+mode-requires g c = (elim g.bound-2.eight_or_sixteen [ inl e ↦ rw e (lit< tt) | inr e ↦ rw e (lit< tt) ], c.requires.node)
+
+pub whole_state-requires : goal.whole_state-requires
+whole_state-requires g c = (assumption, (elim g.bound-2.eight_or_sixteen [ inl e ↦ rw e (lit< tt) | inr e ↦ rw e (lit< tt) ], (elim g.bound-2.eight_or_sixteen [ inl e ↦ rw e (lit< tt) | inr e ↦ rw e (lit< tt) ], (c.requires.printable.nodes, (c.requires.printable.tasks, c.requires.printable.idle c.args.i _ (sym c.in-Some.ensures))))))
+
+pub settled_at-requires : goal.settled_at-requires
+settled_at-requires g c = (assumption, (elim g.bound-2.eight_or_sixteen [ inl e ↦ rw e (lit< tt) | inr e ↦ rw e (lit< tt) ], (c.requires.printable, c.requires.node)))

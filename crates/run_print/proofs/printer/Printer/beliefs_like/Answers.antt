@@ -1,4 +1,4 @@
-use Rattle.std.proofs.Common.{List, ℕ, subst, ◌∙◌}
+use Rattle.std.proofs.Common.{List, ℕ, subst, ◌∙◌, inl, inr, lit<}
 use Rattle.run_print.specs.Printing.{Prints}
 use Rattle.run_print.proofs.printer.Printer.beliefs_like.Goals as goal
 
@@ -8,3 +8,9 @@ returns-then-is_like g c =
 
 pub returns-else-is_like : goal.returns-else-is_like
 returns-else-is_like g c = c.beliefs_at.ensures
+
+pub is_like-requires : goal.is_like-requires
+is_like-requires g c = (lit< tt, (c.requires.node, c.requires.example))
+
+pub beliefs_at-requires : goal.beliefs_at-requires
+beliefs_at-requires g c = (assumption, (elim g.bound-2.eight_or_sixteen [ inl e ↦ rw e (lit< tt) | inr e ↦ rw e (lit< tt) ], (c.requires.example.printable, c.requires.node)))

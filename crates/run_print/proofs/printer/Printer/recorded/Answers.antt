@@ -19,3 +19,6 @@ front-requires g c = assumption
 
 pub node-requires : goal.node-requires
 node-requires g c = (assumption, (elim g.bound-2.eight_or_sixteen [ inl e ↦ rw e (lit< tt) | inr e ↦ rw e (lit< tt) ], c.requires.node))
+
+pub beliefs-requires : goal.beliefs-requires
+beliefs-requires g c = (assumption, elim g.bound-2.eight_or_sixteen [ inl e ↦ rw e (lit< tt, lit< tt) | inr e ↦ rw e (lit< tt, lit< tt) ])
