@@ -26,3 +26,9 @@ shown_period-requires g c = (
   lit< tt,
   (elim g.bound-2.eight_or_sixteen [ inl e ↦ rw e (lit< tt) | inr e ↦ rw e (lit< tt) ], fits_print c.args.run.now.scenario c.period-shown.result.now c.period-shown.ensures.fits),
 )
+
+pub shown_head-requires : goal.shown_head-requires
+shown_head-requires g c = (lit< tt, elim g.bound-2.eight_or_sixteen [ inl e ↦ rw e (lit< tt) | inr e ↦ rw e (lit< tt) ])
+
+pub period-shown-requires : goal.period-shown-requires
+period-shown-requires g c = (elim g.bound-2.eight_or_sixteen [ inl e ↦ rw e (lit< tt) | inr e ↦ rw e (lit< tt) ], (elim g.bound-2.eight_or_sixteen [ inl e ↦ rw e (lit< tt) | inr e ↦ rw e (lit< tt) ], c.requires.more))
