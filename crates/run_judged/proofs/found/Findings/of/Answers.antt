@@ -1,4 +1,4 @@
-use Rattle.std.proofs.Common.{ℕ, Option, ◌≡◌, ◌<◌, ◌≤◌, List, not, refl, ap, ◌∙◌, inl, inr, arith, lit<}
+use Rattle.std.proofs.Common.{ℕ, Option, ◌≡◌, ◌<◌, ◌≤◌, List, not, refl, ap, ◌∙◌, inl, inr, arith, lit<, lit≤}
 use Rattle.node_grid.specs.NodeSet.{ids_where}
 use Rattle.fault_classes.specs.Plan.{Plan, is_clean}
 use Rattle.run_judged.specs.Signs.{is_left, is_joined}
@@ -7,25 +7,20 @@ use Rattle.run_judged.proofs.found.Findings.of.Goals as goal
 
 pub sound_nodes-requires : goal.sound_nodes-requires
 sound_nodes-requires g c =
-    let fits = c.requires.fits.scenario.system.config.few_nodes in
-    let nodes = c.requires.fits.shape.nodes in
-    let few : c.args.seen.now.shown.now.head.nodes ≤ g.row.N = omega arith in
+    let few : c.args.seen.now.shown.now.head.nodes ≤ g.row.N = rw c.requires.fits.shape.nodes c.requires.fits.scenario.system.config.few_nodes in
     (elim g.bound-1.eight_or_sixteen [ inl e ↦ rw e (lit< tt) | inr e ↦ rw e (lit< tt) ], (lit< tt, few))
 
 pub faulty_nodes-requires : goal.faulty_nodes-requires
 faulty_nodes-requires g c =
-    let fits = c.requires.fits.scenario.system.config.few_nodes in
-    let nodes = c.requires.fits.shape.nodes in
-    let few : c.args.seen.now.shown.now.head.nodes ≤ g.row.N = omega arith in
+    let few : c.args.seen.now.shown.now.head.nodes ≤ g.row.N = rw c.requires.fits.shape.nodes c.requires.fits.scenario.system.config.few_nodes in
     (elim g.bound-1.eight_or_sixteen [ inl e ↦ rw e (lit< tt) | inr e ↦ rw e (lit< tt) ], (lit< tt, few))
 
 pub touched_nodes-requires : goal.touched_nodes-requires
 touched_nodes-requires g c =
     let sc = c.args.scenario.now in
     let is = c.requires.fits.scenario in
-    let fits = is.system.config.few_nodes in
     let nodes = c.requires.fits.shape.nodes in
-    let few : c.args.seen.now.shown.now.head.nodes ≤ g.row.N = omega arith in
+    let few : c.args.seen.now.shown.now.head.nodes ≤ g.row.N = rw nodes is.system.config.few_nodes in
     let planned : c.plan.result.now.nodes ≡ sc.plan.nodes = ap (λ (p : Plan). p.nodes) c.plan.ensures.plan in
     let of_plan : sc.plan.nodes ≡ sc.config.nodes = is.system.plan_nodes in
     let in_use : c.args.seen.now.shown.now.head.nodes ≤ c.plan.result.now.nodes = omega arith in
@@ -56,3 +51,16 @@ returns g c =
 
 pub plan-requires : goal.plan-requires
 plan-requires g c = (elim g.bound-1.eight_or_sixteen [ inl e ↦ rw e (lit< tt) | inr e ↦ rw e (lit< tt) ], lit< tt)
+
+pub left_nodes-requires : goal.left_nodes-requires
+left_nodes-requires g c = (lit< tt, elim g.bound-1.eight_or_sixteen [ inl e ↦ rw e (lit≤ tt) | inr e ↦ rw e (lit≤ tt) ])
+
+pub joined_nodes-requires : goal.joined_nodes-requires
+joined_nodes-requires g c = (lit< tt, elim g.bound-1.eight_or_sixteen [ inl e ↦ rw e (lit≤ tt) | inr e ↦ rw e (lit≤ tt) ])
+
+pub invariant_of-result : goal.invariant_of-result
+invariant_of-result g c = record {
+  early = omega (arith, c.requires.in_run, c.requires.fits.scenario.few_periods);
+  few = rw c.requires.fits.shape.nodes c.requires.fits.scenario.system.config.few_nodes;
+  small = elim g.bound-1.eight_or_sixteen [ inl e ↦ rw e (lit≤ tt) | inr e ↦ rw e (lit≤ tt) ];
+}
