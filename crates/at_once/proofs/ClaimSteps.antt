@@ -1,9 +1,10 @@
 -- From the rounds of claims to what nodes settle, what is due and what they note.
-use Rattle.std.proofs.Common.{ℕ, ◌≡◌, ◌<◌, ◌≤◌, ◌==◌, Bool, true, false, if◌then◌else◌, List, [], ◌∷◌, map, length, None, Some, refl, sym, ap, ap₂, subst, ◌∙◌, arith, ◌&&◌, lt-ltb}
+use Rattle.std.proofs.Common.{ℕ, ◌≡◌, ◌<◌, ◌≤◌, ◌==◌, Bool, true, false, if◌then◌else◌, List, map, length, None, Some, refl, sym, ap, ap₂, subst, ◌∙◌, arith, ◌&&◌, lt-ltb}
 use Rattle.std.specs.Prelude.{nat_eq}
 use Rattle.std.proofs.lemmas.Bool.{cond-true}
 use Rattle.node_grid.specs.NodeSet.{ids_below, has_id, ids_where}
 use Rattle.node_grid.specs.Kinds.{equivocate}
+use Rattle.node_grid.specs.ListFacts.{map_map}
 use Rattle.omh_paths.specs.declared.wrapped.Wrapped.{Wrapped}
 use Rattle.omh_paths.specs.declared.wrapped.Wrapped.TheVariants.{Plain}
 use Rattle.omh.specs.Omh.{settled_from}
@@ -34,10 +35,6 @@ use Rattle.at_once.specs.Phases.{IsDone, node_item, node_claims, SettleAlike, bl
 use Rattle.at_once.proofs.Making.{claimed_is, judged_is, convicted_is}
 use Rattle.at_once.proofs.Talks.{claim_is}
 use Rattle.at_once.proofs.Phasing.{item_same, bad_same, convicts_same, alike_item}
-
-map_map : {A B C : Type 0} (f : A → B) (g : B → C) (xs : List A) → map g (map f xs) ≡ map (λ x. g (f x)) xs
-map_map f g [] = refl
-map_map f g (x ∷ xs) = ap (λ ys. g (f x) ∷ ys) (map_map f g xs)
 
 -- the notes of all nodes keep whose they are, where some note more
 pub shaped_more : {N : ℕ} (config : Config N) → config.nodes ≤ N → (nodes : List ℕ) (more : ℕ → ℕ → ℕ → Bool) (old new : List Notes) → AreShaped {N = N} config old → length new ≡ N

@@ -5,6 +5,7 @@ use Rattle.std.proofs.lemmas.Bool.{cases_Bool, cond-true, false≢true}
 use Rattle.node_grid.specs.NodeSet.{has_id}
 use Rattle.node_grid.specs.NodeSetLaws.{passes_where}
 use Rattle.slot_plan.specs.Slots.{slot_count}
+use Rattle.node_grid.specs.NumberFacts.{kinds-few}
 use Rattle.omh_paths.specs.declared.wrapped.Wrapped.{Wrapped}
 use Rattle.list_scheduler.specs.OneNode.{verdicts}
 use Rattle.error_reports.specs.Notes.{Notes, also_noted}
@@ -36,7 +37,6 @@ use Rattle.at_once.specs.Kept.{notes_at, AreShaped, AreNotedAs}
 use Rattle.at_once.specs.Course.{awake_in, IsGoing, IsNothing, AreClaimed, AreSettled}
 use Rattle.at_once.specs.Phases.{IsPhaseAt, AreTold, IsDone, AreClaimsSettled, node_claims, SettleAlike, blames}
 use Rattle.at_once.specs.Values.{no_belief}
-use Rattle.at_once.proofs.NodeNotes.{few_kinds}
 use Rattle.at_once.proofs.Telling.{of_some}
 use Rattle.at_once.proofs.Phasing.{awake_low, phase_set, phase_run, phase_done}
 use Rattle.at_once.proofs.Making.{due_is}
@@ -122,7 +122,7 @@ module _ {N : ℕ} (sc : ScenarioView N) (p : ℕ) (full : List ℕ) (made : Mad
   state_awake i a low is = ap (λ (s : List ℕ). has_id s i) at.awake ∙ in_where (λ k. is_some (state_at made.states k)) N i low (ap is_some is)
 
   pub few_noted : (notes : List Notes) → AreShaped {N = N} sc.config notes → (i : ℕ) → has_id x.awake i ≡ true → (notes_at notes i).kinds ≤ 16
-  few_noted notes shaped i on = let e = shaped.kinds i (awake_state i on).0 in let f = few_kinds sc.config.version in omega arith
+  few_noted notes shaped i on = let e = shaped.kinds i (awake_state i on).0 in let f = kinds-few sc.config.version in omega arith
 
   -- their notes say nothing that a row has no place for: after the sync slot, and where more is noted
   pub synced_within : (notes : List Notes) → AreShaped {N = N} sc.config notes → AreNotedAs sc p (notes_synced sc p) notes → (i : ℕ) → i < N → has_id x.awake i ≡ true → IsWithin N (notes_at notes i)

@@ -10,6 +10,7 @@ use Rattle.node_grid.specs.NodeSetLaws.{has-filter}
 use Rattle.agreed_state.specs.declared.config.Config.{Config}
 use Rattle.error_reports.specs.Notes.{Notes}
 use Rattle.agreed_state.specs.Agreed.{AgreedView, agreed_after}
+use Rattle.agreed_state.specs.Facts.{none_unless}
 use Rattle.protocol.specs.View.{View, cold_view}
 use Rattle.protocol.specs.View.Mode.{Full as ViewFull, Joining as ViewJoining}
 use Rattle.protocol.specs.Cluster.{view}
@@ -240,10 +241,6 @@ module _ {N : ℕ} (sc : ScenarioView N) (p : ℕ) (full : List ℕ) (made : Mad
             ]
 
 -- ---- the states are stepped
-
-none_unless : (o : Option AgreedView) → (is_some o ≡ true → ⊥) → o ≡ None
-none_unless None h = refl
-none_unless (Some a) h = absurd (h refl)
 
 module _ {N : ℕ} (sc : ScenarioView N) (p : ℕ) (full : List ℕ) (made : Made N) (k : Keeping N) (groups : List ℕ)
     (r : AreReported sc p full made k groups) (room : sc.config.nodes ≤ N) (firsts : AreFirsts N groups) (grouped : made.group ≡ groups)

@@ -1,15 +1,10 @@
 -- Beliefs that are filled in at the firsts of groups of awake nodes.
-use Rattle.std.proofs.Common.{ℕ, zero, suc, ◌≡◌, ◌≢◌, ◌<◌, ◌≤◌, ◌+◌, true, false, List, [], ◌∷◌, length, length-set, set, get_or, get_or-set_other, get_or-set_same, refl, sym, ap, ◌∙◌, inl, inr, arith}
+use Rattle.std.proofs.Common.{ℕ, ◌≡◌, ◌≢◌, ◌<◌, ◌≤◌, ◌+◌, true, false, List, length, length-set, set, get_or, get_or-set_other, get_or-set_same, refl, sym, ap, ◌∙◌, inl, inr, arith}
 use Rattle.std.proofs.lemmas.Bool.{cases_eq}
 use Rattle.node_grid.specs.NodeSet.{has_id}
+use Rattle.node_grid.specs.ListFacts.{same_at}
 use Rattle.shared_states.specs.declared.belief.Belief.{Belief}
 use Rattle.grouped_nodes.specs.Grouping.{first_of}
-
--- what stands at a place of a list, whatever stands for nothing
-pub same_at : {X : Type 0} (xs : List X) (k : ℕ) (d e : X) → k < length xs → get_or xs k d ≡ get_or xs k e
-same_at [] k d e low = absurd (omega arith)
-same_at (x ∷ xs) zero d e low = refl
-same_at (x ∷ xs) (suc k) d e low = same_at xs k d e (omega arith)
 
 -- of the nodes below f this was put at the firsts
 pub record AreFilled {N : ℕ} (nodes groups : List ℕ) (value : ℕ → Belief N → Belief N) (old : List (Belief N)) (f : ℕ) (xs : List (Belief N)) : Type 0 where

@@ -3,7 +3,7 @@ use Rattle.std.proofs.Common.{ℕ, ◌≡◌, ◌≢◌, ◌<◌, ◌≤◌, ◌
 use Rattle.std.proofs.lemmas.Bool.{cases_eq, cond-true, cond-false, cases_Bool}
 use Rattle.node_grid.specs.NodeSet.{has_id}
 use Rattle.node_grid.specs.Kinds.{equivocate}
-use Rattle.node_grid.specs.Version.{kind_count}
+use Rattle.node_grid.specs.TruthFacts.{and_no_right}
 use Rattle.error_reports.specs.Notes.{Notes, of_each, also_noted, also_carried}
 use Rattle.error_reports.specs.NoteLaws.{noted_alike, carried_alike}
 use Rattle.omh.specs.Omh.{Ear}
@@ -52,12 +52,6 @@ module _ (n : ℕ) (nodes : List ℕ) (step : ℕ → Notes → Notes) (old : Li
 
 -- ---- kinds
 
-pub few_kinds : (version : ℕ) → kind_count version ≤ 16
-few_kinds version = elim (cases_Bool (version == 1)) [
-  | inl one ↦ let e : kind_count version ≡ 8 = cond-true (version == 1) 8 16 one in omega arith
-  | inr other ↦ let e : kind_count version ≡ 16 = cond-false (version == 1) 8 16 other in omega arith
-]
-
 pub noter : {N : ℕ} (config : Config N) (notes : List Notes) (i : ℕ) → i < config.nodes → AreShaped {N = N} config notes → IsWithin N (notes_at notes i) → IsNoter config i (notes_at notes i)
 noter config notes i low shaped within = record {
   nodes = shaped.nodes i low;
@@ -68,13 +62,9 @@ noter config notes i low shaped within = record {
 
 -- ---- convictions
 
-false_and : (a b : Bool) → b ≡ false → (a && b) ≡ false
-false_and true b e = e
-false_and false b e = refl
-
 -- a row of version 1 has no room for them
 pub no_room : {V : Type 0} (eq : V → V → Bool) (ear : Ear V) (j e : ℕ) → e < 8 → blames eq ear j e ≡ false
-no_room eq ear j e low = false_and (convicts_member eq ear j) (e == equivocate) (ne_eqb e equivocate (λ h. omega arith))
+no_room eq ear j e low = and_no_right (convicts_member eq ear j) (e == equivocate) (ne_eqb e equivocate (λ h. omega arith))
 
 and_same : (a b c : Bool) → a ≡ b → (a && c) ≡ (b && c)
 and_same a b c e = ap (λ (x : Bool). x && c) e

@@ -1,12 +1,14 @@
 -- The rounds of one kind of item, and what the run makes of them.
-use Rattle.std.proofs.Common.{ℕ, ◌≡◌, ◌≢◌, ◌<◌, ◌≤◌, ◌+◌, ◌==◌, ◌&&◌, Bool, true, false, if◌then◌else◌, List, [], ◌∷◌, get_or, Option, None, Some, refl, sym, ap, ap₂, subst, ◌∙◌, inl, inr, arith, ltb-true, lt-ltb, nat_lt}
+use Rattle.std.proofs.Common.{ℕ, ◌≡◌, ◌≢◌, ◌<◌, ◌≤◌, ◌+◌, ◌==◌, ◌&&◌, Bool, true, if◌then◌else◌, List, [], ◌∷◌, get_or, Option, None, Some, refl, sym, ap, ap₂, subst, ◌∙◌, inl, inr, arith, ltb-true, lt-ltb, nat_lt}
 use Rattle.std.specs.Prelude.{is_some}
 use Rattle.std.proofs.lemmas.Bool.{cases_lt, and_parts}
 use Rattle.std.proofs.lemmas.List.{get_or_past}
 use Rattle.std.proofs.lemmas.List.FromFn.{length-map-range_with_len}
 use Rattle.node_grid.specs.NodeSet.{has_id, IsIdSet}
-use Rattle.node_grid.specs.NodeSetLaws.{passes_where, filter_none}
+use Rattle.node_grid.specs.NodeSetLaws.{passes_where}
 use Rattle.slot_plan.specs.Slots.{slot_count}
+use Rattle.node_grid.specs.SetFacts.{empty_set}
+use Rattle.node_grid.specs.TruthFacts.{if_full}
 use Rattle.omh_paths.specs.declared.wrapped.Wrapped.{Wrapped}
 use Rattle.omh_paths.specs.declared.wrapped.Wrapped.TheVariants.{Plain, Fault}
 use Rattle.omh.specs.Omh.{Ear, settled_at, settled_from}
@@ -43,9 +45,6 @@ use Rattle.at_once.proofs.Talks.{members_are}
 goes_some : (s : Setting) (i : ℕ) (x : Received) (o : Option AgreedView) → is_some o ≡ true → is_some (goes_with s i x o) ≡ true
 goes_some s i x (Some a) is = refl
 goes_some s i x None is = cc
-
-pub empty_set : (n : ℕ) → IsIdSet n []
-empty_set n = sym (filter_none (λ k. has_id [] k) 0 n (λ k l u. refl))
 
 pub set_in : {N : ℕ} (config : Config N) (o : Option AgreedView) → ((a : AgreedView) → o ≡ Some a → IsAgreed N config a) → IsIdSet config.nodes (members_in o)
 set_in config None h = empty_set config.nodes
@@ -136,10 +135,6 @@ module _ {N : ℕ} (sc : ScenarioView N) (p : ℕ) (full : List ℕ) (made : Mad
           }
 
 -- ---- what is settled is what the run has of it
-
-if_full : {X : Type 0} (b : Bool) (u v w : X) → (b ≡ true → u ≡ v) → (if b then u else w) ≡ (if b then v else w)
-if_full true u v w h = h refl
-if_full false u v w h = refl
 
 -- the item of a node that isn't Full makes no difference to it
 pub own_unused : {V : Type 0} (eq : V → V → Bool) (x : Ear V) (own other : Wrapped V) (c : ℕ) → (x.full ≡ true → own ≡ other) → settled_from eq x own c ≡ settled_from eq x other c

@@ -1,10 +1,7 @@
 -- From the rounds of rows to what nodes settle and what they carry over.
-use Rattle.std.proofs.Common.{ℕ, ℤ, ◌≡◌, ◌<◌, ◌≤◌, ◌+◌, ◌==◌, ◌&&◌, Bool, true, false, if◌then◌else◌, List, [], ◌∷◌, map, length, Option, None, Some, refl, sym, ap, ap₂, subst, ◌∙◌, arith, lt-ltb}
-use Rattle.std.specs.Option.{option_eq}
-use Rattle.std.specs.Ordering.{int_eq}
+use Rattle.std.proofs.Common.{ℕ, ◌≡◌, ◌<◌, ◌≤◌, ◌+◌, ◌==◌, ◌&&◌, Bool, true, false, if◌then◌else◌, List, map, length, None, Some, refl, sym, ap, subst, ◌∙◌, arith, lt-ltb}
 use Rattle.std.specs.Cmp.Lexicographic.{pointwise}
-use Rattle.std.proofs.lemmas.Bool.{and_parts, cond-true, false≢true}
-use Rattle.std.proofs.lemmas.Bool.Decides.{Decides-int_eq}
+use Rattle.std.proofs.lemmas.Bool.{cond-true}
 use Rattle.node_grid.specs.NodeSet.{ids_below, has_id, ids_where}
 use Rattle.node_grid.specs.Kinds.{equivocate}
 use Rattle.omh_paths.specs.declared.wrapped.Wrapped.TheVariants.{Plain}
@@ -34,21 +31,6 @@ use Rattle.at_once.specs.Kept.{notes_at, AreShaped, AreNotedAs}
 use Rattle.at_once.specs.Phases.{IsDone, node_item, node_rows, SettleAlike, blames}
 use Rattle.at_once.proofs.Making.{reported_is, late_is}
 use Rattle.at_once.proofs.Phasing.{item_same, bad_same, convicts_same, alike_item}
-
--- votes that a test finds the same
-option_same : (x y : Option ℤ) → option_eq int_eq x y ≡ true → x ≡ y
-option_same None None h = refl
-option_same None (Some y) h = absurd (false≢true h)
-option_same (Some x) None h = absurd (false≢true h)
-option_same (Some x) (Some y) h = ap Some ((Decides-int_eq x y).0 h)
-
-pub votes_same : (xs ys : List (Option ℤ)) → pointwise (option_eq int_eq) xs ys ≡ true → xs ≡ ys
-votes_same [] [] h = refl
-votes_same [] (y ∷ ys) h = absurd (false≢true h)
-votes_same (x ∷ xs) [] h = absurd (false≢true h)
-votes_same (x ∷ xs) (y ∷ ys) h =
-    let t = and_parts (option_eq int_eq x y) (pointwise (option_eq int_eq) xs ys) h in
-    ap₂ (λ (z : Option ℤ) (zs : List (Option ℤ)). z ∷ zs) (option_same x y t.0) (votes_same xs ys t.1)
 
 -- notes with more carried over, where it is so, are of whom they were
 abbrev carried_where : ℕ → Bool → Notes → (ℕ → ℕ → Bool) → (ℕ → ℕ → Bool) → Notes

@@ -1,12 +1,12 @@
 -- The data slot of a period of a run: what all go into it with, and what each votes and notes.
 use Rattle.std.proofs.Common.{ℕ, ℤ, ◌≡◌, ◌<◌, ◌≤◌, ◌+◌, ◌==◌, ◌&&◌, ◌||◌, Bool, true, false, not, List, [], length, Option, None, Some, refl, sym, ap, ap₂, subst, ◌∙◌, inl, inr, arith}
-use Rattle.std.specs.Prelude.{is_some, nat_lt, slice_index_or}
+use Rattle.std.specs.Prelude.{is_some, slice_index_or}
 use Rattle.std.proofs.lemmas.Bool.{cases_Bool}
-use Rattle.std.proofs.lemmas.Bool.Decides.{nat_tests}
 use Rattle.node_grid.specs.NodeSet.{has_id, ids_where, IsIdSet}
 use Rattle.node_grid.specs.NodeSetLaws.{has-filter, passes_where, filter_none, IsIdSet-filter}
 use Rattle.node_grid.specs.Kinds.{deviate, equivocate}
 use Rattle.node_grid.specs.Version.{kind_count}
+use Rattle.node_grid.specs.NumberFacts.{lt_yes, kinds-few}
 use Rattle.omh_paths.specs.declared.wrapped.Wrapped.{Wrapped}
 use Rattle.fault_classes.specs.Change.{is_untouched}
 use Rattle.fault_classes.specs.Plan.{Plan, each_in_slot}
@@ -15,7 +15,6 @@ use Rattle.agreed_state.specs.declared.config.Config.{Config}
 use Rattle.agreed_state.specs.Agreed.{AgreedView}
 use Rattle.protocol.specs.Arrival.{is_bad}
 use Rattle.protocol.specs.Configured.{setting_of}
-use Rattle.protocol.specs.RowLaws.{kinds-few}
 use Rattle.protocol.specs.View.{View, own_values, votes_on, deviates, is_due, channel}
 use Rattle.protocol.specs.Run.{due_of, goes_in}
 use Rattle.scenario.specs.Scenario.{ScenarioView, IsScenario, system_of, inputs_of}
@@ -34,9 +33,6 @@ use Rattle.at_once.specs.Values.{no_belief, due_at, done_at, IsVoteOf, HearEach,
 use Rattle.at_once.proofs.Making as making
 use Rattle.at_once.proofs.Talks as talks
 use Rattle.at_once.proofs.Voting.{AreOwn, as_itself}
-
-tells_low : (a b : ℕ) → a < b → nat_lt a b ≡ true
-tells_low a b h = grind (arith, nat_tests)
 
 there : {X : Type 0} (o : Option X) → is_some o ≡ true → (x : X) × (o ≡ Some x)
 there None on = cc
@@ -110,7 +106,7 @@ module _ (hears_law : HearsLaw) (view_law : ViewLaw) (cold_law : ColdLaw) {N : �
   AreOwns owns = (i : ℕ) → i < sc.config.nodes → of_node owns i ≡ own_values (setting sc p i) i p (given sc p i) (goes sc p i)
 
   full_is : (i : ℕ) → i < sc.config.nodes → has_id full i ≡ is_full sc p i
-  full_is i low = settled.going.full_are i ∙ ap (λ (b : Bool). b && is_full sc p i) (tells_low i sc.config.nodes low)
+  full_is i low = settled.going.full_are i ∙ ap (λ (b : Bool). b && is_full sc p i) (lt_yes i sc.config.nodes low)
 
   of_run : (touched : List ℕ) (owns : List (List (Option ℤ))) → AreOwns owns → IsSlotOf (system_of sc) p (slot_with touched owns)
   of_run touched owns are = record {

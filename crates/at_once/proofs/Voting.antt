@@ -1,5 +1,5 @@
 -- The data slot node by node: own values, votes and who is off, and what is noted.
-use Rattle.std.proofs.Common.{ℕ, zero, suc, ℤ, ◌≡◌, ◌≢◌, ◌<◌, ◌≤◌, ◌+◌, true, false, List, [], ◌∷◌, length, length-set, set, replicate, get_or, get_or-set_other, get_or-set_same, Option, None, Some, refl, sym, ap, subst, ◌∙◌, ◌⊎◌, inl, inr, arith}
+use Rattle.std.proofs.Common.{ℕ, ℤ, ◌≡◌, ◌≢◌, ◌<◌, ◌≤◌, ◌+◌, true, false, List, [], length, length-set, set, replicate, get_or, get_or-set_other, get_or-set_same, Option, None, Some, refl, sym, ap, subst, ◌∙◌, ◌⊎◌, inl, inr, arith}
 use Rattle.std.proofs.lemmas.Bool.{cases_eq}
 use Rattle.std.proofs.lemmas.List.{set-get_or, length-replicate, get_or-replicate}
 use Rattle.node_grid.specs.NodeSet.{has_id}
@@ -15,12 +15,6 @@ use Rattle.grouped_nodes.specs.Shared.{AreShared}
 use Rattle.told_values.specs.Slot.{DataView, Hears, HearAlike}
 use Rattle.at_once.specs.Kept.{notes_at, of_node}
 use Rattle.at_once.specs.Values.{no_belief, done_at, HearsAs, IsVoteOf, HearEach, IsNotedOf}
-
--- what stands at a place of a list, whatever stands for nothing
-pub same_at : {X : Type 0} (xs : List X) (k : ℕ) (d e : X) → k < length xs → get_or xs k d ≡ get_or xs k e
-same_at [] k d e low = absurd (omega arith)
-same_at (x ∷ xs) zero d e low = refl
-same_at (x ∷ xs) (suc k) d e low = same_at xs k d e (omega arith)
 
 -- ---- own values
 

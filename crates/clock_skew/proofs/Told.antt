@@ -1,11 +1,11 @@
 -- What a node is told by lies, by sender, where they are gone through from the last to the first.
-use Rattle.std.proofs.Common.{ℕ, ◌≡◌, ◌≢◌, ◌<◌, ◌^◌, ◌&&◌, Bool, true, false, List, [], ◌∷◌, map, length, set, get_or, ℤ, pos, sym, ap, subst, ◌∙◌, inl, inr, arith, ne_eqb, length-set, get_or-set_other, get_or-set_same}
+use Rattle.std.proofs.Common.{ℕ, ◌≡◌, ◌≢◌, ◌<◌, ◌^◌, ◌&&◌, Bool, true, false, List, ◌∷◌, map, length, set, get_or, ℤ, pos, sym, ap, subst, ◌∙◌, inl, inr, arith, ne_eqb, length-set, get_or-set_other, get_or-set_same}
 use Rattle.std.specs.Prelude.{All, nat_le}
-use Rattle.std.proofs.lemmas.Int.{ints}
-use Rattle.std.proofs.lemmas.Bool.{cases_Bool, cases_eq, cond-true, cond-false}
+use Rattle.std.proofs.lemmas.Bool.{cases_eq, cond-true, cond-false}
 use Rattle.std.proofs.lemmas.List.FromFn.{fill_by_all}
-use Rattle.std.proofs.lemmas.List.Elements.{All-head, All-tail, All-from_get_or}
+use Rattle.std.proofs.lemmas.List.Elements.{All-from_get_or}
 use Rattle.node_grid.specs.NodeSet.{ids_below, has_id}
+use Rattle.clock_skew.specs.Facts.{told_near}
 use Rattle.clock_skew.specs.Clock.{LieView, is_told, first_told, IsUpTo, IsLie}
 
 -- the lies behind a place were gone through: by sender, the first of them that is told
@@ -41,14 +41,6 @@ module _ (n i p : ℕ) (l : LieView) (ls : List LieView) (told : List ℤ) (h : 
 
 pub all_told : (n i p : ℕ) (ls : List LieView) (told : List ℤ) → AreTold n i p ls told → told ≡ map (λ j. first_told j i p ls) (ids_below n)
 all_told n i p ls told h = fill_by_all (λ j. first_told j i p ls) told n (pos 0) h.wide h.each
-
--- how far from 0 what is told is
-pub told_near : (nodes j i p : ℕ) (ls : List LieView) → All (IsLie nodes) ls → IsUpTo (pos (2 ^ 40)) (first_told j i p ls)
-told_near nodes j i p [] all = (omega (arith, ints), omega (arith, ints))
-told_near nodes j i p (l ∷ ls) all = elim (cases_Bool (is_told j i p l)) [
-  | inl on ↦ subst (λ (z : ℤ). IsUpTo (pos (2 ^ 40)) z) (sym (cond-true (is_told j i p l) l.by (first_told j i p ls) on)) (All-head (IsLie nodes) l ls all).by
-  | inr off ↦ subst (λ (z : ℤ). IsUpTo (pos (2 ^ 40)) z) (sym (cond-false (is_told j i p l) l.by (first_told j i p ls) off)) (told_near nodes j i p ls (All-tail (IsLie nodes) l ls all))
-]
 
 pub all_near : (n nodes i p : ℕ) (ls : List LieView) (told : List ℤ) → AreTold n i p ls told → All (IsLie nodes) ls → All (IsUpTo (pos (2 ^ 40))) told
 all_near n nodes i p ls told h all = All-from_get_or (IsUpTo (pos (2 ^ 40))) told (pos 0) (λ k low.

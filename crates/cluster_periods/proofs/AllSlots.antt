@@ -5,6 +5,7 @@ use Rattle.std.specs.List.{range_with_len}
 use Rattle.std.proofs.lemmas.List.FromFn.{get_or-map-range_with_len}
 use Rattle.std.proofs.lemmas.List.Elements.{All-nil, All-cons}
 use Rattle.node_grid.specs.NodeSet.{ids_below}
+use Rattle.node_grid.specs.ListFacts.{map_map}
 use Rattle.protocol.specs.Cluster.{view}
 use Rattle.protocol.specs.Run.{System, sent, run}
 use Rattle.node_steps.specs.Parts.{NodeView}
@@ -16,7 +17,6 @@ use Rattle.scenario.specs.Scenario.{ScenarioView, system_of}
 use Rattle.cluster_periods.specs.Slots.{handed_all, slot_all, arrivals, IsReady, frame_by}
 use Rattle.cluster_periods.specs.Periods.{slots_from, IsAfter, GoesOver}
 use Rattle.cluster_periods.proofs.Arriving.{arrivals_alike}
-use Rattle.cluster_periods.proofs.Handing.{map_map}
 use Rattle.protocol.specs.Cluster.{kept}
 
 pub map_ids : {X : Type 0} (f g : ℕ → X) (n a : ℕ) → ((i : ℕ) → i < a + n → f i ≡ g i) → map f (range_with_len a n) ≡ map g (range_with_len a n)

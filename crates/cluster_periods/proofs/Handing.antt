@@ -1,9 +1,7 @@
 -- Deliveries one after another.
-use Rattle.std.proofs.Common.{ℕ, zero, suc, ◌≡◌, ◌<◌, ◌≤◌, ◌+◌, ◌-◌, List, [], ◌∷◌, ◌++◌, map, replicate, length, take, drop, get_or, set, refl, sym, ap, ap₂, subst, ◌∙◌, arith}
-use Rattle.std.specs.Prelude.{All}
-use Rattle.std.proofs.lemmas.List.{get_or-append_right, length-map, length-take-le, get_or-drop, append-nil, take_all}
+use Rattle.std.proofs.Common.{ℕ, zero, suc, ◌≡◌, ◌<◌, ◌≤◌, ◌+◌, List, ◌++◌, map, replicate, length, take, drop, get_or, set, refl, sym, ap, ap₂, subst, ◌∙◌, arith}
+use Rattle.std.proofs.lemmas.List.{append-nil, take_all}
 use Rattle.std.proofs.Math.ListN.{drop_of_length-le}
-use Rattle.std.proofs.lemmas.List.Elements.{All-get_or}
 use Rattle.std.proofs.lemmas.List.Edits.{map_over_more}
 use Rattle.error_detect.specs.Finding.{Delivery}
 use Rattle.error_detect.specs.Watching.{Watch, delivered}
@@ -27,20 +25,6 @@ pub ready_takes : {N : ℕ} (plan : Plan) (j : ℕ) (v : NodeView N) → j < pla
 ready_takes plan j v low ready = record { is_open = ready.is_open; in_use = subst (λ (n : ℕ). j < n) (sym ready.nodes) low }
 
 -- ---- over all nodes
-
--- the element at which a loop over xs stands is the one of the start
-pub here : {X : Type 0} (f : X → X) (xs ys : List X) (i : ℕ) (x : X) → i < length xs → ys ≡ map f (take i xs) ++ drop i xs → x ≡ get_or ys i x → x ≡ get_or xs i x
-here {X} f xs ys i x low e is =
-    is ∙ ap (λ (zs : List X). get_or zs i x) e
-    ∙ get_or-append_right (map f (take i xs)) (drop i xs) i i x (length-map (take i xs) f ∙ length-take-le i xs (omega arith)) (omega arith)
-    ∙ get_or-drop i xs (i - i) x ∙ ap (λ (k : ℕ). get_or xs k x) (let q : i + (i - i) ≡ i = omega arith in q)
-
-pub holds_here : {X : Type 0} (P : X → Type 0) (f : X → X) (xs ys : List X) (i : ℕ) (x : X) → i < length xs → ys ≡ map f (take i xs) ++ drop i xs → x ≡ get_or ys i x → All P xs → P x
-holds_here P f xs ys i x low e is all = subst P (sym (here f xs ys i x low e is)) (All-get_or P xs i x low all)
-
-pub map_map : {X Y Z : Type 0} (f : X → Y) (g : Y → Z) (xs : List X) → map g (map f xs) ≡ map (λ x. g (f x)) xs
-map_map f g [] = refl
-map_map f g (x ∷ xs) = ap (λ ys. g (f x) ∷ ys) (map_map f g xs)
 
 -- the step of a loop that replaces each element
 pub put_over : {X : Type 0} (f : X → X) (xs ys : List X) (i : ℕ) (x new : X) → i < length xs → ys ≡ map f (take i xs) ++ drop i xs → x ≡ get_or ys i x → new ≡ f (get_or ys i x) → set ys i new ≡ map f (take (i + 1) xs) ++ drop (i + 1) xs

@@ -4,6 +4,7 @@ use Rattle.std.specs.Prelude.{All}
 use Rattle.std.proofs.lemmas.List.FromFn.{length-map-range_with_len}
 use Rattle.node_grid.specs.NodeSet.{ids_below}
 use Rattle.slot_plan.specs.Slots.{slot_count}
+use Rattle.node_grid.specs.ListFacts.{map_map}
 use Rattle.frames.specs.Bound.{IsGreatest}
 use Rattle.error_detect.specs.Multiset.{Arriving}
 use Rattle.fault_classes.specs.Plan.{restarts_at}
@@ -20,7 +21,6 @@ use Rattle.scenario.specs.Scenario.{ScenarioView, inputs_of, system_of, IsScenar
 use Rattle.cluster_periods.specs.Slots.{arrivals}
 use Rattle.cluster_periods.specs.Periods.{begun_by, begun_all, IsResting, IsBefore, AreBefore, IsPeriod, PeriodsLaw}
 use Rattle.cluster_periods.proofs.AllSlots.{map_ids, all_ids, EachGoes, goes_over}
-use Rattle.cluster_periods.proofs.Handing.{map_map}
 use Rattle.cluster_periods.proofs.Nodes.{ds, woken_is, frames_there, through_there}
 
 module _ {N : ℕ} (sc : ScenarioView N) (is : IsScenario sc) (room : ℕ) (greatest : IsGreatest sc.config.nodes sc.config.m (state_len sc.config) 8 room) (delivery : DeliveryLaw) (saying : SayingLaw) (p : ℕ) where

@@ -6,6 +6,7 @@ use Rattle.std.proofs.lemmas.List.{get_or-map, get_or-set_same, get_or-set_other
 use Rattle.std.proofs.lemmas.Bool.{cases_eq}
 use Rattle.std.proofs.lemmas.List.Edits.{fill_by_more}
 use Rattle.std.proofs.lemmas.List.Elements.{All-get_or}
+use Rattle.node_grid.specs.ListFacts.{map_map}
 use Rattle.node_steps.specs.Outcome.{Outcome}
 use Rattle.node_steps.specs.Parts.{NodeView}
 use Rattle.node_steps.specs.Steps.{frame_of}
@@ -16,7 +17,6 @@ use Rattle.node_steps.specs.Stages.{outcome_of}
 use Rattle.scenario.specs.Scenario.{ScenarioView, system_of}
 use Rattle.cluster_record.specs.Buffers.{IsBuffer, IsSlot}
 use Rattle.cluster_periods.specs.Periods.{AreNodes}
-use Rattle.cluster_periods.proofs.Handing.{map_map}
 use Rattle.cluster_periods.proofs.AllSlots.{map_ids}
 use Rattle.cluster_periods.proofs.Listed.{many_nodes}
 

@@ -1,12 +1,12 @@
 -- What the bytes of an input decide.
 use Rattle.std.proofs.Common.{◌≡◌, ℕ, ◌-◌, ◌^◌, ◌<◌, ◌≤◌, List, length, arith, inl, inr, sym, ◌∙◌, ap, subst, Option, Some, None, refl}
 use Rattle.std.specs.Prelude.{IfSome, ◌⊎◌}
-use Rattle.serde_json.specs.Data.{Data}
-use Rattle.json_parts.specs.Reading.{Reads}
-use Rattle.scenario.specs.Parts.{ScenarioParts}
+use Rattle.node_grid.specs.NumberFacts.{nothing_told}
 use Rattle.scenario.specs.Scenario.{ScenarioView}
 use Rattle.scenario.specs.Given.{scenario_of}
+use Rattle.scenario.specs.Facts.{same_parts}
 use Rattle.scenario_reading.specs.Verdict.{IsAcceptedValue, value_refusal, refusal_on}
+use Rattle.scenario_reading.specs.Facts.{same_value}
 use Rattle.live_node.specs.Live.{LiveView}
 use Rattle.input_lines.specs.FirstLine.{first_line, behind_first}
 use Rattle.controller.specs.Input.{scenario_limit}
@@ -15,16 +15,6 @@ use Rattle.controller.specs.Outcome.{capacity, first_event, IsAcceptedText, IsUn
 use Rattle.controller.specs.Answers.{AllEnd, Decides}
 use Rattle.program_words.specs.declared.status.Status.{Status}
 use Rattle.program_words.specs.declared.status.Status.TheVariants.{Done, Usage, Unreadable, Refused, ReadFault, WriteFault, NoMemory, TooLong}
-
--- a text is that of one value alone
-same_value : (line : List ℕ) (d e : Data) → Reads line d → Reads line e → d ≡ e
-same_value line d e h k = let s : ◌≡◌ {A = Option Data} (Some d) (Some e) = sym h.1 ∙ k.1 in cc
-
-same_parts : (p q : ScenarioParts) (o : Option ScenarioParts) → o ≡ Some p → o ≡ Some q → p ≡ q
-same_parts p q o h k = let s : ◌≡◌ {A = Option ScenarioParts} (Some p) (Some q) = sym h ∙ k in cc
-
-nothing : (rule place : ℕ) → ◌≡◌ {A = Option (ℕ × ℕ)} None (Some (rule, place)) → ⊥
-nothing rule place e = cc
 
 -- and of one scenario
 same_scenario : (line : List ℕ) (a b : ScenarioView capacity) → IsAcceptedText line a → IsAcceptedText line b → a ≡ b
@@ -37,7 +27,7 @@ not_both : (line : List ℕ) (sc : ScenarioView capacity) (rule place : ℕ) →
 not_both line sc rule place a r =
     let same : a.value ≡ r.value = same_value line a.value r.value a.reads r.reads in
     let unrefused : value_refusal capacity a.value ≡ None = ap (refusal_on capacity) a.accepted.reads ∙ a.accepted.unrefused in
-    nothing rule place (sym unrefused ∙ ap (value_refusal capacity) same ∙ r.refused)
+    nothing_told rule place (sym unrefused ∙ ap (value_refusal capacity) same ∙ r.refused)
 
 not_foreign : (line : List ℕ) (id : ℕ) (a b : ScenarioView capacity) → IsAcceptedText line a → id < a.config.nodes → IsAcceptedText line b → b.config.nodes ≤ id → ⊥
 not_foreign line id a b x below y none = let same = ap (λ (s : ScenarioView capacity). s.config.nodes) (same_scenario line a b x y) in omega (arith, same, below, none)

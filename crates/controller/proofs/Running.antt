@@ -1,9 +1,10 @@
 -- A session that reads more and more.
 use Rattle.std.proofs.Common.{◌≡◌, ℕ, List, [], ◌++◌, append_assoc, append-nil, refl, sym, ap, ◌∙◌, subst, inl, inr}
 use Rattle.std.specs.Io.KnownBytes.{IsAtEnd}
+use Rattle.node_grid.specs.ListFacts.{consumes_kept}
 use Rattle.span_io.specs.Causes.{Rose}
 use Rattle.input_lines.specs.Reading.{SourceView, GivesBytes}
-use Rattle.input_lines.specs.Devices.{told_left, SinkView, WritesAll, all_all, all_front, all_some, nothing_left, gave_both, consumes_kept}
+use Rattle.input_lines.specs.Devices.{told_left, SinkView, WritesAll, all_all, all_front, all_some, nothing_left, gave_both}
 use Rattle.controller.specs.Course.{Ending, ending_behind, behind, course, closing, ending_of}
 use Rattle.controller.specs.Session.{Stand, Took, CaughtUp, Stops, StopsRound, Concludes, Runs, with_more}
 use Rattle.program_words.specs.declared.status.Status.{Status}

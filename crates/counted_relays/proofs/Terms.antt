@@ -1,14 +1,15 @@
 -- The majority of terms that are one value or the error.
-use Rattle.std.proofs.Common.{ℕ, ◌≡◌, ◌≢◌, ◌<◌, ◌≤◌, ◌+◌, ◌*◌, Bool, true, false, not, List, [], ◌∷◌, map, refl, sym, ap, subst, ◌∙◌, inl, inr, arith, ne_eqb}
+use Rattle.std.proofs.Common.{ℕ, ◌≡◌, ◌<◌, ◌≤◌, ◌+◌, ◌*◌, Bool, true, false, not, List, [], ◌∷◌, map, refl, sym, ap, subst, ◌∙◌, inl, inr, arith}
 use Rattle.std.specs.Prelude.{if◌then◌else◌}
 use Rattle.std.specs.List.{AllByRecursion}
 use Rattle.std.proofs.lemmas.Bool.{cases_Bool, not_from_false}
 use Rattle.node_grid.specs.Count.{bit, count}
 use Rattle.omh_paths.specs.declared.wrapped.Wrapped.{Wrapped}
-use Rattle.omh_paths.specs.declared.wrapped.Wrapped.TheVariants.{Plain, Fault}
+use Rattle.omh_paths.specs.declared.wrapped.Wrapped.TheVariants.{Fault}
 use Rattle.omh_paths.specs.Wrapped.{same, is_error, IsExact}
 use Rattle.omh_paths.specs.Majority.{majority}
-use Rattle.omh_paths.specs.MajorityLaws.{same_itself, same_tells, majority_is, majority_law}
+use Rattle.omh_paths.specs.MajorityLaws.{same_itself, same_tells, majority_is, majority_law, not_error}
+use Rattle.omh_paths.specs.Facts.{other_error}
 
 pub count_le : (f g : ℕ → Bool) (xs : List ℕ) → AllByRecursion (λ q. f q ≡ true → g q ≡ true) xs → count f xs ≤ count g xs
 count_le f g [] h = omega arith
@@ -22,14 +23,6 @@ count_le f g (x ∷ xs) h =
 pub count_none : (f : ℕ → Bool) (xs : List ℕ) → AllByRecursion (λ q. f q ≡ false) xs → count f xs ≡ 0
 count_none f [] h = refl
 count_none f (x ∷ xs) h = let a = ap bit h.0 in let rest = count_none f xs h.1 in omega arith
-
-other_error : {V : Type 0} (eq : V → V → Bool) (w : Wrapped V) → is_error w ≡ false → same eq w (Fault 0) ≡ false
-other_error eq (Plain v) ok = refl
-other_error eq (Fault k) ok = ok
-
-not_error : {V : Type 0} (x : Wrapped V) → x ≢ Fault 0 → is_error x ≡ false
-not_error (Plain v) h = refl
-not_error (Fault k) h = ne_eqb k 0 (λ e. h (ap Fault e))
 
 -- the value where the test passes, and else the error
 abbrev pub where_passes : {V : Type 0} → (ℕ → Bool) → Wrapped V → ℕ → Wrapped V

@@ -1,11 +1,10 @@
 -- Votes and deviations by the values that were told are those of the protocol.
-use Rattle.std.proofs.Common.{not, ◌&&◌, ℕ, ◌≡◌, ◌≢◌, ◌<◌, ◌==◌, Bool, true, if◌then◌else◌, List, [], ◌∷◌, refl, sym, ap, ap₂, ◌∙◌, inl, inr, arith, eq-eqb, ne_eqb, Option, None, Some, ℤ}
-use Rattle.std.specs.List.{filter_map, cons_option}
+use Rattle.std.proofs.Common.{not, ◌&&◌, ℕ, ◌≡◌, ◌≢◌, ◌<◌, ◌==◌, Bool, true, if◌then◌else◌, List, sym, ap, ◌∙◌, inl, inr, arith, eq-eqb, ne_eqb, Option, None, Some, ℤ}
 use Rattle.std.specs.Prelude.{slice_index_or}
-use Rattle.std.proofs.lemmas.Bool.{both_ways, cases_eq, cases_lt, cond-false, or_left, or_right}
+use Rattle.std.proofs.lemmas.Bool.{both_ways, cases_eq, cases_lt, cond-false}
 use Rattle.node_grid.specs.NodeSet.{has_id, ids_where, IsIdSet}
 use Rattle.node_grid.specs.NodeSetLaws.{filter_range, hasnt-filter}
-use Rattle.omh_paths.specs.MemberLaws.{member-lt}
+use Rattle.node_grid.specs.SetFacts.{filter_map_members, member-lt}
 use Rattle.omh_paths.specs.declared.wrapped.Wrapped.{Wrapped}
 use Rattle.mme_vote.specs.Channel.{delta_of, is_judged}
 use Rattle.mme_vote.specs.Vote.{vote_of}
@@ -16,20 +15,17 @@ use Rattle.error_detect.specs.Watching.{Watch}
 use Rattle.protocol.specs.Arrival.{values_in}
 use Rattle.protocol.specs.Configured.{setting_of}
 use Rattle.protocol.specs.View.{Setting, channel, deviates, is_far, own_in, lies_tolerated, value_at, value_from, value_in, vote_on, voters, votes_on}
+use Rattle.protocol.specs.Facts.{voter_member}
 use Rattle.noting.specs.Findings.{has_of}
 use Rattle.data_slot.specs.Values.{only_values}
 use Rattle.data_slot.specs.Told.{value_told}
 use Rattle.data_slot.specs.Votes.{is_off, vote_among, vote_due}
 use Rattle.data_slot.specs.Values.{by_channel}
-use Rattle.data_slot.specs.VoteLaws.{by_alike, list_any_alike, voter_member}
+use Rattle.data_slot.specs.VoteLaws.{by_alike, list_any_alike}
 
 -- what a node has of the values of the due channels
 pub record TellsValues (nodes me : ℕ) (full : Bool) (due : List ℕ) (own : List (Option ℤ)) (w : Watch) (told : List (Option (List ℤ))) : Type 0 where
   pub each : (q c : ℕ) → q < nodes → has_id due c ≡ true → value_told told q c ≡ value_from me full due own (only_values w) c q
-
-filter_map_members : (f g : ℕ → Option ℤ) (ms : List ℕ) → ((q : ℕ) → has_id ms q ≡ true → f q ≡ g q) → filter_map f ms ≡ filter_map g ms
-filter_map_members f g [] h = refl
-filter_map_members f g (q ∷ ms) h = ap₂ cons_option (h q (or_left (q == q) (has_id ms q) (eq-eqb q q refl))) (filter_map_members f g ms (λ x on. h x (or_right (q == x) (has_id ms x) on)))
 
 -- the vote of a group over a list of the values of a channel that nodes told
 pub grouped : (values : List (Option ℤ)) (told : List (Option (List ℤ))) (f : ℕ → Bool) (n lies c : ℕ) → ((q : ℕ) → q < n → slice_index_or values q None ≡ value_told told q c)

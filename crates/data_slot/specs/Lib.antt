@@ -1,6 +1,5 @@
 pub mod Due
 pub mod DueLaws
-pub mod DueSets
 pub mod Own
 pub mod TaskMasks
 pub mod Told

@@ -1,33 +1,21 @@
 -- Lemmas for callers: what votes and tests of the due channels depend on, and both where each node told a value of each channel.
 use Rattle.std.proofs.Common.{◌&&◌, ◌||◌, ℕ, ◌≡◌, ◌<◌, ◌==◌, Bool, true, false, if◌then◌else◌, List, [], ◌∷◌, map, refl, ap, ap₂, ◌∙◌, arith, eq-eqb, Option, None, Some, ℤ}
 use Rattle.std.specs.List.{filter_map, list_any, cons_option}
-use Rattle.std.proofs.lemmas.Bool.{or_left, or_right, and_parts}
+use Rattle.std.proofs.lemmas.Bool.{or_left, or_right}
 use Rattle.std.proofs.lemmas.List.FromFn.{fill_by_all, get_or-map-range_with_len, length-map-range_with_len}
 use Rattle.node_grid.specs.NodeSet.{has_id, ids_below, IsIdSet}
-use Rattle.node_grid.specs.NodeSetLaws.{passes_where}
-use Rattle.omh_paths.specs.MemberLaws.{member-lt}
+use Rattle.node_grid.specs.SetFacts.{member-lt}
 use Rattle.omh_paths.specs.declared.wrapped.Wrapped.{Wrapped}
-use Rattle.mme_vote.specs.declared.channel.Channel.{Channel}
-use Rattle.mme_vote.specs.declared.channel.Channel.TheVariants.{State, Sensor, Copy}
 use Rattle.mme_vote.specs.Channel.{delta_of, is_judged}
 use Rattle.mme_vote.specs.Vote.{vote_of}
-use Rattle.list_scheduler.specs.Copies.{copy_at, is_passed}
-use Rattle.list_scheduler.specs.Schedule.{copies_completed}
 use Rattle.agreed_state.specs.declared.config.Config.{Config}
 use Rattle.agreed_state.specs.Agreed.{AgreedView}
 use Rattle.protocol.specs.Configured.{setting_of}
 use Rattle.protocol.specs.View.{Setting, channel, channel_room, is_far, lies_tolerated, value_at, voters}
+use Rattle.protocol.specs.Facts.{voter_member}
 use Rattle.data_slot.specs.Told.{value_told}
 use Rattle.data_slot.specs.Values.{by_channel}
 use Rattle.data_slot.specs.Votes.{is_off, vote_due}
-
--- who votes on a channel is a member
-pub voter_member : (s : Setting) (a : AgreedView) (done : List (Wrapped ℕ)) (x : Channel s.capacity) (q : ℕ) → has_id (voters s a done x) q ≡ true → has_id a.standing.members q ≡ true
-voter_member s a done (State delta start step) q on = on
-voter_member s a done (Sensor delta task) q on = on
-voter_member s a done (Copy delta t lies) q on =
-    let after = copies_completed s.capacity s.config.graph a.standing.members a.copies done in
-    (and_parts _ _ (passes_where (λ r. has_id a.standing.members r && is_passed (copy_at after t r)) s.capacity q on)).0
 
 -- functions that agree on the due channels
 pub by_alike : (due : List ℕ) (f g : ℕ → Option ℤ) → ((c : ℕ) → c < channel_room → has_id due c ≡ true → f c ≡ g c) → by_channel due f ≡ by_channel due g

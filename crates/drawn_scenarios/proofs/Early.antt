@@ -4,6 +4,7 @@ use Rattle.std.specs.Prelude.{nat_lt, is_some, unwrap_or, if◌then◌else◌}
 use Rattle.std.specs.Option.{option_or}
 use Rattle.std.proofs.lemmas.Bool.{cases_Bool, and_from, or_parts, ltb-false, lt-ltb}
 use Rattle.node_grid.specs.NodeSet.{ids_below}
+use Rattle.node_grid.specs.TruthFacts.{not_some}
 use Rattle.scenario.specs.Parts.{TaskParts, LieParts}
 use Rattle.scenario.specs.Numbers.{is_between, are_all_below, listed, has_number}
 use Rattle.scenario.specs.Rules.{first_bad, at_place, has_nodes, has_rounds, is_policy, is_plain, is_of_version, fits_channel, closes, fits_task, is_clock, is_drift, sizes_refusal, lengths_refusal, numbers_refusal, channels_refusal, tasks_refusal, cycles_refusal, early_refusal}
@@ -38,10 +39,6 @@ versions c = elim (cases_Bool (nat_lt 8 c.nodes || (nat_lt 2 c.m || (c.copies ||
       inl (record { version = rw first refl; nodes = ltb-false _ _ a.0; rounds = ltb-false _ _ b.0; copies = d.0; clock = d.1 })
 ]
 
-none_given : {X : Type 0} (o : Option X) → is_some o ≡ false → o ≡ None
-none_given None h = refl
-none_given (Some x) h = absurd (let e : true ≡ false = h in cc)
-
 -- ---- one channel, or two
 
 one_stands : {X : Type 0} (t : ℕ → X → Bool) (x : X) → t 0 x ≡ true → first_bad t 0 (x ∷ []) ≡ None
@@ -69,7 +66,7 @@ task_stands n (suc (suc (suc (suc (suc (suc k)))))) l h few = absurd (omega arit
 
 module _ (c : Choices) (bs : List Bout) (a : AreChoices c) where
   plain : IsFirst c → is_plain (parts_of c bs) ≡ true
-  plain f = let none = none_given c.clock f.clock in rw (f.copies, none) refl
+  plain f = let none = not_some c.clock f.clock in rw (f.copies, none) refl
 
   of_version : is_of_version (parts_of c bs) ≡ true
   of_version = elim (versions c) [

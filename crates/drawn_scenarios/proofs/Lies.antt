@@ -12,6 +12,7 @@ use Rattle.node_grid.specs.Class.{is_sound, is_symmetric}
 use Rattle.node_grid.specs.NodeSet.{ids_below, has_id}
 use Rattle.node_grid.specs.NodeSetLaws.{has-filter, has-without_id, not_all_ids}
 use Rattle.slot_plan.specs.Slots.{slot_count}
+use Rattle.node_grid.specs.ListFacts.{same_list, every_append, every_weaker}
 use Rattle.fault_classes.specs.declared.line.Restart.{Restart}
 use Rattle.fault_classes.specs.Change.{Change, is_untouched, same_change, same_effect}
 use Rattle.fault_classes.specs.Line.{Line, touches, effect_at}
@@ -23,6 +24,7 @@ use Rattle.scenario.specs.Numbers.{means, meant}
 use Rattle.scenario.specs.Line.{others_of, lie_in, restart_of}
 use Rattle.scenario.specs.Given as given
 use Rattle.scenario.specs.Rules.{first_bad, hears, is_to_all, may_tell, may_tell_in, is_lie, fits_lie, at_place, clock_refused, clock_refusal}
+use Rattle.scenario.specs.Facts.{span_is}
 use Rattle.drawn_scenarios.specs.declared.choices.ClockChoices.{ClockChoices}
 use Rattle.drawn_scenarios.specs.declared.choices.Choices.{Choices}
 use Rattle.drawn_scenarios.specs.declared.bout.Fault.{Fault}
@@ -34,9 +36,9 @@ use Rattle.drawn_scenarios.specs.Choices.{AreChoices}
 use Rattle.drawn_scenarios.specs.Cluster.{clock_of}
 use Rattle.drawn_scenarios.specs.Lines.{word_of, slots_of, picked, others, group, rest, some_of, rest_of, lie, lies_by, lies_of, restarts_of}
 use Rattle.drawn_scenarios.specs.Drawn.{parts_of}
-use Rattle.drawn_scenarios.proofs.Every.{every_append, every_weaker, every_both}
+use Rattle.drawn_scenarios.proofs.Every.{every_both}
 use Rattle.drawn_scenarios.proofs.Picked.{at_member, every_picked, others_below, others_other, length_others, number_of, some_picked}
-use Rattle.drawn_scenarios.proofs.Made.{change_of, AreReceivers, to_all, to_some, to_rest, made, made_by, made_of, span_is}
+use Rattle.drawn_scenarios.proofs.Made.{change_of, AreReceivers, to_all, to_some, to_rest, made, made_by, made_of}
 use Rattle.drawn_scenarios.proofs.Overlaps.{IsLineOf, of_bout, not_both}
 use Rattle.drawn_scenarios.proofs.Shape.{IsLie, IsSplit, AreSome, IsConduct, IsBout, Comes, Ordered, AreBouts}
 use Rattle.drawn_scenarios.proofs.Early.{clock_stands}
@@ -157,12 +159,6 @@ has_slot c (fault.Accusation accused kinds) = record { low = omega arith; there 
 has_slot c fault.Silent = record { low = omega arith; there = has-filter (means all) (slot_count c.m) 0 (omega arith) }
 has_slot c fault.Late = record { low = omega arith; there = has-filter (means all) (slot_count c.m) 0 (omega arith) }
 has_slot c fault.Twice = record { low = omega arith; there = has-filter (means all) (slot_count c.m) 0 (omega arith) }
-
-same_list : (xs ys : List ℕ) → pointwise ◌==◌ xs ys ≡ true → xs ≡ ys
-same_list [] [] h = refl
-same_list (x ∷ xs) (y ∷ ys) h = let p = and_parts (x == y) _ h in let e = eqb-true x y p.0 in let r = same_list xs ys p.1 in cc
-same_list [] (y ∷ ys) h = absurd (let e : false ≡ true = h in cc)
-same_list (x ∷ xs) [] h = absurd (let e : false ≡ true = h in cc)
 
 word_fits : (v : ℕ) → word_of v < 2 ^ 64
 word_fits v = omega arith

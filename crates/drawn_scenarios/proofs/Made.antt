@@ -1,11 +1,13 @@
 -- The fault lines that the parts of bouts are.
-use Rattle.std.proofs.Common.{◌≡◌, ◌≢◌, ℕ, zero, suc, ◌+◌, ◌-◌, ◌*◌, ◌^◌, ◌<◌, ◌≤◌, true, false, not, ◌&&◌, List, [], ◌∷◌, ◌++◌, length, Option, None, Some, Result, pos, refl, sym, ap, ◌∙◌, arith, subst, length-append}
-use Rattle.std.specs.Prelude.{nat_lt, nat_le, is_some, option_map, if◌then◌else◌}
+use Rattle.std.proofs.Common.{◌≡◌, ◌≢◌, ℕ, ◌+◌, ◌-◌, ◌*◌, ◌^◌, ◌<◌, ◌≤◌, true, false, ◌&&◌, List, [], ◌∷◌, ◌++◌, length, Option, None, Some, Result, pos, refl, sym, ap, ◌∙◌, arith, subst, length-append}
+use Rattle.std.specs.Prelude.{nat_le, is_some, option_map, if◌then◌else◌}
 use Rattle.std.specs.Int.{w64, to_be_bytes}
 use Rattle.std.specs.List.{filter_map, flat_map, AllByRecursion}
 use Rattle.std.specs.Result.{result_ok}
 use Rattle.std.proofs.lemmas.Bool.{and_from, lt-ltb, not_from_false}
-use Rattle.hex.specs.Hex.{encode_lower, IsBytes}
+use Rattle.node_grid.specs.NumberFacts.{not_above}
+use Rattle.scenario.specs.Facts.{span_is, bytes_at}
+use Rattle.hex.specs.Hex.{encode_lower}
 use Rattle.hex.specs.declared.error.FromHexError.{FromHexError}
 use Rattle.hex.proofs.HexLemmas.{decode_of-encode_lower}
 use Rattle.slot_plan.specs.Slots.{slot_count}
@@ -15,7 +17,7 @@ use Rattle.fault_classes.specs.Line.{Line}
 use Rattle.scenario.specs.Parts.{Numbers, FaultParts}
 use Rattle.scenario.specs.Parts.Numbers.{all, these}
 use Rattle.scenario.specs.Numbers.{is_between, are_some_below, lists}
-use Rattle.scenario.specs.Line.{bytes_of, decoded, change_of_effect, is_span, is_placed, line_with, line_at}
+use Rattle.scenario.specs.Line.{bytes_of, decoded, change_of_effect, is_placed, line_with, line_at}
 use Rattle.scenario.specs.Rules.{first_bad, is_fault_part}
 use Rattle.drawn_scenarios.specs.declared.choices.Choices.{Choices}
 use Rattle.drawn_scenarios.specs.declared.bout.Fault.{Fault}
@@ -36,18 +38,8 @@ change_of fault.Twice = Twice
 change_of (fault.Value channel v) = Set (14 + 8 * channel) (to_be_bytes w64 (word_of v))
 change_of (fault.Accusation accused kinds) = Set (14 + 2 * accused) (0 ∷ kinds ∷ [])
 
-bytes_at : (bs : List ℕ) → AllByRecursion (λ b. b < 256) bs → IsBytes bs
-bytes_at [] h i = omega arith
-bytes_at (b ∷ bs) h zero = h.0
-bytes_at (b ∷ bs) h (suc i) = bytes_at bs h.1 i
-
 decoded_back : (bs : List ℕ) → AllByRecursion (λ b. b < 256) bs → (nat_le 1 (length bs) && nat_le (length bs) 4096) ≡ true → decoded 1 (encode_lower bs) ≡ Some bs
 decoded_back bs h size = ap (λ (r : Result (List ℕ) FromHexError). bytes_of 1 (result_ok r)) (decode_of-encode_lower bs (bytes_at bs h)) ∙ rw size refl
-
-not_above : (a b : ℕ) → a ≤ b → not (nat_lt b a) ≡ true
-not_above a b h = not_from_false _ (not_less b a h) where
-  not_less : (a b : ℕ) → b ≤ a → nat_lt a b ≡ false
-  not_less a b h = grind arith
 
 set_back : (at : ℕ) (bytes : List ℕ) → at ≤ 4095 → AllByRecursion (λ b. b < 256) bytes → (nat_le 1 (length bytes) && nat_le (length bytes) 4096) ≡ true
     → (if is_between (pos 0) (pos 4095) (pos at) then option_map (Set at) (decoded 1 (encode_lower bytes)) else None) ≡ Some (Set at bytes)
@@ -117,9 +109,6 @@ made_by c b (Apart some f (Some g) lies) = made c b (some_of c b some) f ∷ mad
 
 abbrev pub made_of : Choices → Bout → List Line
 made_of c b = made_by c b b.conduct
-
-pub span_is : (periods first last : ℕ) → first ≤ last → last < periods → is_span periods (pos first ∷ pos last ∷ []) ≡ true
-span_is periods first last ordered low = and_from _ _ (and_from _ _ (not_above 0 first (omega arith)) (not_above first last ordered)) (lt-ltb last periods low)
 
 pub is_made : (c : Choices) (b : Bout) (to : Numbers) (f : Fault) → c.nodes ≤ 16 → IsBout c b → AreReceivers c b.node to → IsFault c f
     → line_at c.nodes (slot_count c.m) c.periods (line c b to f) ≡ Some (made c b to f)

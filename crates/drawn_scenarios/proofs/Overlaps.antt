@@ -2,11 +2,13 @@
 use Rattle.std.proofs.Common.{◌≡◌, ℕ, ◌+◌, ◌-◌, ◌^◌, ◌<◌, ◌≤◌, Bool, true, false, not, ◌&&◌, ◌==◌, List, [], ◌∷◌, ◌++◌, inl, inr, None, Some, pos, refl, sym, ap, ◌∙◌, arith}
 use Rattle.std.specs.Prelude.{nat_le}
 use Rattle.std.specs.List.{list_any, list_all, flat_map, AllByRecursion}
-use Rattle.std.proofs.lemmas.Bool.{and_from, and_parts, or_from, or_parts, or_cases, or_left, or_right, false_from_ne_true, not_from_false, not-true, leb-true, eqb-true, eq-eqb}
+use Rattle.std.proofs.lemmas.Bool.{and_from, and_parts, or_cases, or_left, or_right, false_from_ne_true, not_from_false, not-true, leb-true, eqb-true, eq-eqb}
 use Rattle.node_grid.specs.NodeSet.{has_id}
 use Rattle.node_grid.specs.NodeSetLaws.{has-without_id, passes_where}
+use Rattle.node_grid.specs.ListFacts.{any_push, all_append, every_append, every_weaker}
 use Rattle.fault_classes.specs.Line.{Line, shares}
 use Rattle.fault_classes.specs.Rules.{first_overlap}
+use Rattle.fault_classes.specs.Facts.{none_before}
 use Rattle.scenario.specs.Numbers.{means, meant}
 use Rattle.scenario.specs.Line.{others_of}
 use Rattle.drawn_scenarios.specs.declared.choices.Choices.{Choices}
@@ -15,20 +17,11 @@ use Rattle.drawn_scenarios.specs.declared.bout.Conduct.{Conduct}
 use Rattle.drawn_scenarios.specs.declared.bout.Conduct.TheVariants.{Alike, Apart}
 use Rattle.drawn_scenarios.specs.declared.bout.Bout.{Bout}
 use Rattle.drawn_scenarios.specs.Lines.{picked, others, group, rest, some_of, rest_of}
-use Rattle.drawn_scenarios.proofs.Every.{every_append, every_weaker}
 use Rattle.drawn_scenarios.proofs.Picked.{others_up, length_others, number_in, picked_apart}
 use Rattle.drawn_scenarios.proofs.Made.{made, made_by, made_of}
 use Rattle.drawn_scenarios.proofs.Shape.{AreSome, IsConduct, IsBout, Comes, Ordered}
 
 -- ---- lists of lines
-
-all_append : {X : Type 0} (f : X → Bool) (xs ys : List X) → list_all f xs ≡ true → list_all f ys ≡ true → list_all f (xs ++ ys) ≡ true
-all_append f [] ys a b = b
-all_append f (x ∷ xs) ys a b = let p = and_parts _ _ a in and_from _ _ p.0 (all_append f xs ys p.1 b)
-
-any_push : {X : Type 0} (f : X → Bool) (xs : List X) (x : X) → list_any f xs ≡ false → f x ≡ false → list_any f (xs ++ x ∷ []) ≡ false
-any_push f [] x a b = or_from _ _ b refl
-any_push f (y ∷ ys) x a b = let p = or_parts _ _ a in or_from _ _ p.0 (any_push f ys x p.1 b)
 
 -- no line shares with a later one
 abbrev pub apart : List Line → Bool
@@ -44,10 +37,6 @@ no_overlap before (l ∷ ls) h a =
     pushed : (ms : List Line) → AllByRecursion (λ m. list_any (shares m) before ≡ false) ms → list_all (λ m. not (shares m l)) ms ≡ true → AllByRecursion (λ m. list_any (shares m) (before ++ l ∷ []) ≡ false) ms
     pushed [] h e = tt
     pushed (m ∷ ms) h e = let p = and_parts (not (shares m l)) _ e in (any_push (shares m) before l h.0 (not-true _ p.0), pushed ms h.1 p.1)
-
-none_before : (ls : List Line) → AllByRecursion (λ m. list_any (shares m) [] ≡ false) ls
-none_before [] = tt
-none_before (l ∷ ls) = (refl, none_before ls)
 
 apart_append : (xs ys : List Line) → AllByRecursion (λ l. AllByRecursion (λ m. shares m l ≡ false) ys) xs → apart xs ≡ true → apart ys ≡ true → apart (xs ++ ys) ≡ true
 apart_append [] ys cross a b = b

@@ -1,13 +1,12 @@
 -- Some of the other nodes, and the rest of them.
-use Rattle.std.proofs.Common.{◌≡◌, ◌≢◌, ℕ, zero, suc, ◌+◌, ◌-◌, ◌*◌, ◌/◌, ◌%◌, ◌^◌, ◌<◌, ◌≤◌, Bool, true, false, not, ◌||◌, cond, ◌==◌, List, [], ◌∷◌, map, length, filter, pos, refl, sym, ap, ap₂, ◌∙◌, inl, inr, arith, eqb-true, eq-eqb, subst, pow-suc}
+use Rattle.std.proofs.Common.{◌≡◌, ◌≢◌, ℕ, zero, suc, ◌+◌, ◌-◌, ◌*◌, ◌/◌, ◌%◌, ◌^◌, ◌<◌, ◌≤◌, Bool, true, false, not, cond, ◌==◌, List, [], ◌∷◌, map, length, filter, pos, refl, sym, ap, ◌∙◌, inl, inr, arith, eqb-true, eq-eqb, subst, pow-suc}
 use Rattle.std.specs.List.{range_with_len, list_all, AllByRecursion}
-use Rattle.std.specs.Ordering.{int_eq}
 use Rattle.std.proofs.lemmas.Bool.{and_from, or_cases, cases_eq, ne_eqb, not_from_false, false_from_ne_true, lt-ltb}
-use Rattle.std.proofs.lemmas.Int.{ints}
 use Rattle.std.proofs.lemmas.List.FromFn.{length-range_with_len}
 use Rattle.node_grid.specs.NodeSet.{ids_below, has_id}
 use Rattle.node_grid.specs.NodeSetLaws.{filter_every}
 use Rattle.scenario.specs.Numbers.{is_below, is_rising, is_empty, has_number}
+use Rattle.scenario.specs.Facts.{has_number_same}
 use Rattle.drawn_scenarios.specs.Lines.{picked, others}
 
 -- ---- ascending numbers
@@ -92,23 +91,14 @@ length_others n j low = let e = length_without j 0 n (omega arith) (omega arith)
 
 -- ---- as numbers of a scenario
 
-pub has_same : (xs : List ℕ) (k : ℕ) → has_number (map pos xs) k ≡ has_id xs k
-has_same [] k = refl
-has_same (x ∷ xs) k = ap₂ (λ (a b : Bool). a || b) (same_number x k) (has_same xs k) where
-  same_number : (x k : ℕ) → int_eq (pos x) (pos k) ≡ (x == k)
-  same_number x k = elim (cases_eq x k) [
-    | inl e ↦ let a : int_eq (pos x) (pos k) ≡ true = grind (arith, ints) in a ∙ sym (eq-eqb x k e)
-    | inr ne ↦ let a : int_eq (pos x) (pos k) ≡ false = grind (arith, ints) in a ∙ sym (ne_eqb x k ne)
-  ]
-
 pub number_in : (xs : List ℕ) (k : ℕ) → has_number (map pos xs) k ≡ true → has_id xs k ≡ true
-number_in xs k h = sym (has_same xs k) ∙ h
+number_in xs k h = sym (has_number_same xs k) ∙ h
 
 pub number_of : (xs : List ℕ) (k : ℕ) → has_id xs k ≡ true → has_number (map pos xs) k ≡ true
-number_of xs k h = has_same xs k ∙ h
+number_of xs k h = has_number_same xs k ∙ h
 
 pub not_number : (xs : List ℕ) (k : ℕ) → AllByRecursion (λ y. y ≢ k) xs → has_number (map pos xs) k ≡ false
-not_number xs k a = has_same xs k ∙ false_from_ne_true _ (λ h. at_member (λ y. y ≢ k) xs k a h refl)
+not_number xs k a = has_number_same xs k ∙ false_from_ne_true _ (λ h. at_member (λ y. y ≢ k) xs k a h refl)
 
 pub rising : (xs : List ℕ) → Up xs → is_rising (map pos xs) ≡ true
 rising [] u = refl

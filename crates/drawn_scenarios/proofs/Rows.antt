@@ -1,11 +1,12 @@
 -- The rows of a drawn scenario are in range, and close.
-use Rattle.std.proofs.Common.{◌≡◌, ℕ, zero, suc, ◌+◌, ◌*◌, ◌/◌, ◌%◌, ◌^◌, ◌<◌, ◌≤◌, Bool, true, false, not, ◌==◌, List, [], ◌∷◌, map, length, ℤ, pos, refl, ap, ◌∙◌, arith, eq-eqb}
-use Rattle.std.specs.Prelude.{nat_lt, int_lt, neg_ℤ, ◌-ℤ◌}
+use Rattle.std.proofs.Common.{◌≡◌, ℕ, zero, suc, ◌+◌, ◌*◌, ◌/◌, ◌%◌, ◌^◌, ◌<◌, ◌≤◌, Bool, true, false, ◌==◌, List, [], ◌∷◌, map, length, ℤ, pos, refl, ap, ◌∙◌, arith, eq-eqb}
+use Rattle.std.specs.Prelude.{int_lt, neg_ℤ, ◌-ℤ◌}
 use Rattle.std.specs.List.{range_with_len, list_all, AllByRecursion}
 use Rattle.std.proofs.lemmas.Bool.{and_from, not_from_false, le-ltb}
 use Rattle.std.proofs.lemmas.Int.{ints}
 use Rattle.std.proofs.lemmas.List.FromFn.{length-map-range_with_len, get_or-map-range_with_len}
 use Rattle.std.proofs.lemmas.Nat.{mul-le}
+use Rattle.node_grid.specs.NumberFacts.{not_above}
 use Rattle.mme_vote.specs.Vote.{distance}
 use Rattle.mme_vote.specs.VoteLaws.{distance_le}
 use Rattle.node_grid.specs.NodeSet.{ids_below}
@@ -30,21 +31,18 @@ row_long f n = eq-eqb _ _ (length-map-range_with_len f 0 n)
 
 -- ---- ranges
 
-not_below : (a b : ℕ) → a ≤ b → not (nat_lt b a) ≡ true
-not_below a b h = not_from_false _ (le-ltb b a h)
-
 pub between : (low high x : ℕ) → low ≤ x → x ≤ high → is_between (pos low) (pos high) (pos x) ≡ true
-between low high x a b = and_from _ _ (not_below low x a) (not_below x high b)
+between low high x a b = and_from _ _ (not_above low x a) (not_above x high b)
 
 -- a number that isn't negative
 up_to : (most x : ℕ) → x ≤ most → is_between (neg_ℤ (pos most)) (pos most) (pos x) ≡ true
-up_to most x h = and_from _ _ (not_from_false _ (never_below x most)) (not_below x most h) where
+up_to most x h = and_from _ _ (not_from_false _ (never_below x most)) (not_above x most h) where
   never_below : (x most : ℕ) → int_lt (pos x) (neg_ℤ (pos most)) ≡ false
   never_below x zero = le-ltb x 0 (omega arith)
   never_below x (suc m) = refl
 
 near : (delta low x y : ℕ) → low ≤ x → x ≤ low + delta → low ≤ y → y ≤ low + delta → is_near (pos delta) (pos x) (pos y) ≡ true
-near delta low x y a b d e = not_below (distance (pos x) (pos y)) delta (distance_le (pos x) (pos y) delta (omega (arith, ints)) (omega (arith, ints)))
+near delta low x y a b d e = not_above (distance (pos x) (pos y)) delta (distance_le (pos x) (pos y) delta (omega (arith, ints)) (omega (arith, ints)))
 
 pub are_near : (delta low : ℕ) (f : ℕ → ℕ) (ks js : List ℕ) → ((k : ℕ) → low ≤ f k) → ((k : ℕ) → f k ≤ low + delta) → list_all (λ v. list_all (is_near (pos delta) v) (map (λ k. pos (f k)) js)) (map (λ k. pos (f k)) ks) ≡ true
 are_near delta low f ks js a b =

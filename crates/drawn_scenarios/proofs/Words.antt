@@ -4,6 +4,7 @@ use Rattle.std.specs.Prelude.{nat_lt, int_lt, neg_ℤ, ◌-ℤ◌, slice_index_o
 use Rattle.std.specs.List.{AllByRecursion}
 use Rattle.std.proofs.lemmas.Bool.{and_from, not_from_false, ltb-true, cases_eq, ne_eqb}
 use Rattle.std.proofs.lemmas.Int.{ints}
+use Rattle.node_grid.specs.ListFacts.{every_append, every_weaker}
 use Rattle.rand_pcg.specs.Lcg.{Lcg}
 use Rattle.draws.specs.Draws.{Drawing, draw, draw_wide, generator_of}
 use Rattle.drawn_scenarios.specs.declared.choices.FaultClass.{FaultClass}
@@ -17,7 +18,7 @@ use Rattle.drawn_scenarios.specs.Choices.{AreClockChoices, AreChoices}
 use Rattle.drawn_scenarios.specs.Classes.{classes_of}
 use Rattle.drawn_scenarios.specs.Bouts.{channel_count, value_drawn, accusation_drawn, two_values, accusation_to_some, lie_drawn, maybe_lie, maybe_lies, conduct_drawn, bout_of, well_after, bouts, most_bouts, story, stories, drawn_bouts}
 use Rattle.drawn_scenarios.proofs.Sets.{sets}
-use Rattle.drawn_scenarios.proofs.Every.{every_append, every_weaker, either}
+use Rattle.drawn_scenarios.proofs.Every.{either}
 use Rattle.drawn_scenarios.proofs.Shape.{IsFault, IsLie, IsMaybeLie, AreMaybeLies, IsSplit, AreSome, IsConduct, IsBout, Comes, Ordered, AreBouts}
 
 draw_below : (k : ℕ) (g : Lcg) → 0 < k → (draw k g).0 < k

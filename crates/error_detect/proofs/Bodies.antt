@@ -3,28 +3,18 @@ use Rattle.std.proofs.Common.{◌≡◌, ℕ, ◌+◌, ◌*◌, ◌<◌, ◌≤�
 use Rattle.std.specs.Prelude.{IfSome}
 use Rattle.std.proofs.lemmas.Bool.{cases_Bool, cond-true, cond-false}
 use Rattle.std.proofs.lemmas.List.{drop-take}
-use Rattle.frames.specs.Content.{Expectation, Content, State, Done0, DoneRelay, Data, Report0, ReportRelay, Cold}
+use Rattle.frames.specs.Content.{Expectation, Content}
 use Rattle.frames.specs.Spelling.{head_of, body_spelling}
 use Rattle.frames.specs.Reading.{reading}
 use Rattle.frames.specs.ReadingLaws.{reads_only, is_frame, body_length}
 use Rattle.slot_plan.specs.Ticks.{is_in_window}
+use Rattle.error_detect.specs.Facts.{told_read}
 use Rattle.error_detect.specs.Finding.{told_of}
 use Rattle.error_detect.specs.Watching.{Held, held_none, held_bytes, held_long, held_many, Boxes, held_at, Watch, watch_of, arrival_of, of_sender, told_by, told_at}
 use Rattle.error_detect.specs.Inside.{IsKept, StandsAt}
 use Rattle.error_detect.specs.Putting.{HasAt}
 use Rattle.error_detect.specs.Entries.{HoldsBodies, body_begin}
 use Rattle.error_detect.proofs.Boxes.{told_from}
-
--- what is told was read
-told_read : (r : Option Content) (c : Content) → told_of r ≡ Some c → r ≡ Some c
-told_read None c h = absurd (cc)
-told_read (Some (State b)) c h = h
-told_read (Some (Done0 t)) c h = h
-told_read (Some (DoneRelay es)) c h = h
-told_read (Some (Data ns)) c h = h
-told_read (Some (Report0 ms)) c h = h
-told_read (Some (ReportRelay es)) c h = h
-told_read (Some Cold) c h = absurd (cc)
 
 -- a frame that stands in a room has its body behind its header
 body_of : (e : Expectation) (c : Content) (bytes room : List ℕ) (at : ℕ) → reading e bytes ≡ Some c → HasAt room at bytes → HasAt room (at + 14) (body_spelling e.nodes c)

@@ -1,5 +1,5 @@
 -- Rows of masks that are filled from their front, and masks that are joined.
-use Rattle.std.proofs.Common.{ℕ, ◌≡◌, ◌≢◌, ◌<◌, ◌≤◌, ◌+◌, ◌*◌, ◌%◌, ◌==◌, ◌||◌, ◌&&◌, Bool, true, false, not, if◌then◌else◌, List, length, map, get_or, set, refl, sym, ap, subst, ◌∙◌, inl, inr, arith, eq-eqb, ne_eqb, below_more, get_or-set_other, get_or-set_same, length-set, ◌-◌, ◌^◌, max, min, bit_and, bit_or}
+use Rattle.std.proofs.Common.{ℕ, ◌≡◌, ◌≢◌, ◌<◌, ◌≤◌, ◌+◌, ◌*◌, ◌%◌, ◌==◌, ◌||◌, ◌&&◌, Bool, true, false, not, if◌then◌else◌, List, length, map, get_or, set, refl, sym, ap, subst, ◌∙◌, inl, inr, arith, eq-eqb, ne_eqb, below_more, get_or-set_other, get_or-set_same, length-set, ◌-◌, ◌^◌, min, bit_and, bit_or}
 use Rattle.std.specs.Prelude.{nat_lt}
 use Rattle.std.specs.Int.{bit_at}
 use Rattle.std.specs.Int.Bits.{mask_lt}
@@ -10,11 +10,9 @@ use Rattle.std.proofs.lemmas.Nat.Bits.{bit_at_or, bit_at_and, bit_at_ones, bit_a
 use Rattle.std.proofs.Math.Pow.{pow-lt}
 use Rattle.node_grid.specs.NodeSet.{ids_where, mask_of, ids_below}
 use Rattle.node_grid.specs.MaskLaws.{mask_from_bits}
+use Rattle.node_grid.specs.NodeSetLaws.{either_bit}
 
 -- ---- masks
-
-greater : (x y : ℕ) → x < 2 → y < 2 → (max x y == 1) ≡ ((x == 1) || (y == 1))
-greater x y h l = grind arith
 
 lesser : (x : ℕ) → x < 2 → min x 1 ≡ x
 lesser x h = grind arith
@@ -36,7 +34,7 @@ joined mask more kinds p few is =
     mask_from_bits (bit_and (bit_or mask more) (2 ^ kinds - 1)) (λ k. (bit_at mask k == 1) || p k) kinds few (mask_lt (bit_or mask more) kinds)
     (λ k low.
     ap (λ x. x == 1) (bit_at_and (bit_or mask more) (2 ^ kinds - 1) k ∙ ap (min (bit_at (bit_or mask more) k)) (bit_at_ones kinds k low) ∙ lesser (bit_at (bit_or mask more) k) (bit_at-lt (bit_or mask more) k))
-    ∙ ap (λ x. x == 1) (bit_at_or mask more k) ∙ greater (bit_at mask k) (bit_at more k) (bit_at-lt mask k) (bit_at-lt more k)
+    ∙ ap (λ x. x == 1) (bit_at_or mask more k) ∙ either_bit (bit_at mask k) (bit_at more k) (bit_at-lt mask k) (bit_at-lt more k)
     ∙ ap (λ b. (bit_at mask k == 1) || b) (is k low))
 
 -- ---- a list of numbers that is filled from its front, with 0 behind

@@ -1,8 +1,8 @@
 -- How many rows count on a node, and what a row without its node's own mask adds.
-use Rattle.node_grid.specs.ListLaws.{count-more, bit_le}
+use Rattle.node_grid.specs.ListLaws.{count-more, bit_le, half_less}
 use Rattle.std.proofs.lemmas.Bool.{le-ltb}
 use Rattle.std.proofs.Common.{◌≡◌, ◌≢◌, ℕ, zero, suc, ◌+◌, ◌<◌, ◌≤◌, Bool, true, false, cond, not, ◌&&◌, ◌||◌, List, [], ◌∷◌, ◌++◌, length, get_or, set, refl, sym, ap, ap₂, subst, ◌∙◌, arith, eq-eqb, get_or-set_other, Option, Some, None, ne_eqb, eqb-true}
-use Rattle.std.specs.Prelude.{◌==◌, ◌/◌, ◌*◌, nat_lt, is_some}
+use Rattle.std.specs.Prelude.{◌==◌, ◌/◌, nat_lt, is_some}
 use Rattle.std.specs.Option.{option_copied}
 use Rattle.std.proofs.Common.{Bor}
 use Rattle.std.specs.List.{filter, range_with_len}
@@ -114,13 +114,6 @@ pub voters_without : (n : ℕ) (rows : List (Option (List ℕ))) (members : List
     → (has_id members j && is_sender rows j) ≡ false → senders ≡ count (is_voter rows j) members
 voters_without n rows members j senders ids are none = omega (arith, voters_but n rows members j ids, ap bit none, are)
 
-pub and_no_left : (a b : Bool) → a ≡ false → (a && b) ≡ false
-and_no_left a b e = rw e refl
-
-pub and_no_right : (a b : Bool) → b ≡ false → (a && b) ≡ false
-and_no_right true b e = e
-and_no_right false b e = refl
-
 pub voters_few : (rows : List (Option (List ℕ))) (members : List ℕ) (j : ℕ) → count (is_voter rows j) members ≤ count (is_sender rows) members
 voters_few rows [] j = omega arith
 voters_few rows (q ∷ members) j = omega (arith, voters_few rows members j, one (q == j) (is_sender rows q))
@@ -128,10 +121,6 @@ voters_few rows (q ∷ members) j = omega (arith, voters_few rows members j, one
     one : (b s : Bool) → bit (not b && s) ≤ bit s
     one true s = omega arith
     one false s = omega arith
-
--- more than half
-half_less : (v a : ℕ) → nat_lt (v / 2) a ≡ nat_lt v (2 * a)
-half_less v a = grind arith
 
 accusers_sent : (rows : List (Option (List ℕ))) (members : List ℕ) (j k : ℕ) → count (is_accuser rows j k) members ≤ count (is_sender rows) members
 accusers_sent rows [] j k = omega arith

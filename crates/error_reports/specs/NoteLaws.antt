@@ -1,24 +1,20 @@
 -- What a row of notes says, and that notes add up.
-use Rattle.std.proofs.Common.{ℕ, ◌≡◌, ◌≢◌, ◌<◌, ◌≤◌, ◌==◌, ◌||◌, ◌&&◌, Bool, true, false, not, if◌then◌else◌, List, map, refl, sym, ap, ap₂, ◌∙◌, inl, inr, arith, eq-eqb, ne_eqb, Some, None}
+use Rattle.std.proofs.Common.{ℕ, ◌≡◌, ◌≢◌, ◌<◌, ◌≤◌, ◌==◌, ◌||◌, ◌&&◌, Bool, true, false, not, if◌then◌else◌, List, map, refl, sym, ap, ap₂, ◌∙◌, inl, inr, arith, ne_eqb, Some, None}
 use Rattle.std.specs.Prelude.{nat_lt}
 use Rattle.std.specs.Int.{bit_at}
-use Rattle.std.proofs.lemmas.Bool.{cases_Bool, cases_eq, cond-true, cond-false, and_parts, not-true, eqb-false}
-use Rattle.std.proofs.lemmas.Bool.Decides.{nat_tests}
+use Rattle.std.proofs.lemmas.Bool.{cases_Bool, cond-true, cond-false, and_parts, not-true, eqb-false}
 use Rattle.std.proofs.lemmas.List.FromFn.{fill_by_all, get_or-map-range_with_len, length-map-range_with_len}
 use Rattle.node_grid.specs.NodeSet.{has_id, ids_below, ids_where, mask_of}
 use Rattle.node_grid.specs.MaskLaws.{mask-has, same_masks}
+use Rattle.node_grid.specs.ListLaws.{eqb_sym}
+use Rattle.node_grid.specs.NumberFacts.{lt_yes, lt_from}
+use Rattle.node_grid.specs.TruthFacts.{or_assoc}
 use Rattle.error_reports.specs.Charge.{accuses}
 use Rattle.error_reports.specs.Notes.{Notes, noted_row, noted_besides, is_kind, of_each, also_noted, also_carried}
 
 -- two notes say the same of each other node in use
 abbrev pub SayTheSame : ℕ → Notes → (ℕ → ℕ → Bool) → (ℕ → ℕ → Bool) → Type 0
 SayTheSame capacity n p q = (j k : ℕ) → j < capacity → j < n.nodes → j ≢ n.me → k < n.kinds → p j k ≡ q j k
-
-told_low : (a b : ℕ) → nat_lt a b ≡ true → a < b
-told_low a b h = grind (arith, nat_tests)
-
-tells_low : (a b : ℕ) → a < b → nat_lt a b ≡ true
-tells_low a b h = grind (arith, nat_tests)
 
 -- the mask of a node in a row of notes
 abbrev mask_at : Notes → (ℕ → ℕ → Bool) → ℕ → ℕ
@@ -34,7 +30,7 @@ row_alike capacity n p q same =
       | inl t ↦
           let is = and_parts (nat_lt j n.nodes) (not (j == n.me)) t in
           cond-true _ (mask_of (ids_where (p j) n.kinds)) 0 t
-          ∙ same_masks (p j) (q j) n.kinds (λ k within. same j k low (told_low j n.nodes is.0) (eqb-false j n.me (not-true (j == n.me) is.1)) within)
+          ∙ same_masks (p j) (q j) n.kinds (λ k within. same j k low (lt_from j n.nodes is.0) (eqb-false j n.me (not-true (j == n.me) is.1)) within)
           ∙ sym (cond-true _ (mask_of (ids_where (q j) n.kinds)) 0 t)
       | inr f ↦ cond-false _ (mask_of (ids_where (p j) n.kinds)) 0 f ∙ sym (cond-false _ (mask_of (ids_where (q j) n.kinds)) 0 f)
     ]
@@ -43,7 +39,7 @@ row_alike capacity n p q same =
 row_tells : (capacity : ℕ) (n : Notes) (p : ℕ → ℕ → Bool) (j k : ℕ) → n.kinds ≤ 16 → j < capacity → j < n.nodes → j ≢ n.me → k < n.kinds
     → accuses (noted_row capacity n.kinds n.nodes n.me p) j k ≡ p j k
 row_tells capacity n p j k few low used other within =
-    let t : (nat_lt j n.nodes && not (j == n.me)) ≡ true = ap₂ (λ (a b : Bool). a && not b) (tells_low j n.nodes used) (ne_eqb j n.me other) in
+    let t : (nat_lt j n.nodes && not (j == n.me)) ≡ true = ap₂ (λ (a b : Bool). a && not b) (lt_yes j n.nodes used) (ne_eqb j n.me other) in
     ap (λ (mask : ℕ). bit_at mask k == 1)
     (get_or-map-range_with_len (mask_at n p) 0 capacity j j 0 low (omega arith) ∙ cond-true _ (mask_of (ids_where (p j) n.kinds)) 0 t)
     ∙ mask-has (p j) n.kinds k few within
@@ -60,10 +56,6 @@ noted_alike capacity n p q same = ap (λ (row : List ℕ). record n { row = row 
 pub carried_alike : (capacity : ℕ) (n : Notes) (p q : ℕ → ℕ → Bool) → SayTheSame capacity n p q → also_carried capacity n p ≡ also_carried capacity n q
 carried_alike capacity n p q same = ap (λ (row : List ℕ). record n { carried = row }) (besides_alike capacity n n.carried p q same)
 
-to_right : (a b c : Bool) → ((a || b) || c) ≡ (a || (b || c))
-to_right true b c = refl
-to_right false b c = refl
-
 -- notes besides other ones are both
 pub noted_twice : (capacity : ℕ) (n : Notes) (p q : ℕ → ℕ → Bool) → n.kinds ≤ 16
     → also_noted capacity (also_noted capacity n p) q ≡ also_noted capacity n (λ j k. p j k || q j k)
@@ -71,17 +63,11 @@ noted_twice capacity n p q few =
     ap (λ (row : List ℕ). record n { row = row })
     (row_alike capacity n (λ j k. accuses (noted_besides capacity n.kinds n.nodes n.me n.row p) j k || q j k) (λ j k. accuses n.row j k || (p j k || q j k))
     (λ j k low used other within.
-    ap (λ (b : Bool). b || q j k) (row_tells capacity n (λ i x. accuses n.row i x || p i x) j k few low used other within) ∙ to_right (accuses n.row j k) (p j k) (q j k)))
-
-same_test : (x k : ℕ) → (x == k) ≡ (k == x)
-same_test x k = elim (cases_eq x k) [
-  | inl e ↦ eq-eqb x k e ∙ sym (eq-eqb k x (sym e))
-  | inr ne ↦ ne_eqb x k ne ∙ sym (ne_eqb k x (λ e. ne (sym e)))
-]
+    ap (λ (b : Bool). b || q j k) (row_tells capacity n (λ i x. accuses n.row i x || p i x) j k few low used other within) ∙ or_assoc (accuses n.row j k) (p j k) (q j k)))
 
 -- a kind of each node where it is so
 pub kind_where : (is_so : Bool) (kind k : ℕ) → is_kind (if is_so then Some kind else None) k ≡ (is_so && k == kind)
-kind_where true kind k = same_test kind k
+kind_where true kind k = eqb_sym kind k
 kind_where false kind k = refl
 
 pub each_kind : (accused : List ℕ) (kind j k : ℕ) → is_kind (if has_id accused j then Some kind else None) k ≡ of_each accused kind j k

@@ -4,12 +4,13 @@ use Rattle.std.specs.Prelude.{◌==◌}
 use Rattle.std.proofs.lemmas.Bool.{cases_Bool, or_left, or_right, eqb-false}
 use Rattle.node_grid.specs.NodeSetLaws.{not_all_ids}
 use Rattle.slot_plan.specs.Slots.{slot_count}
+use Rattle.node_grid.specs.NumberFacts.{other_fails}
+use Rattle.node_grid.specs.SetFacts.{all_ids}
 use Rattle.fault_classes.specs.Change.{is_untouched, is_manifest, same_effect}
 use Rattle.fault_classes.specs.ChangeLaws.{untouched_is}
 use Rattle.fault_classes.specs.Line.{effect_at}
 use Rattle.fault_classes.specs.Plan.{Plan, is_clean, each_in_slot, each_frame, is_symmetric_at, is_symmetric_in}
 use Rattle.fault_classes.proofs.Facts.{frame_at}
-use Rattle.fault_classes.proofs.Loops.{all_ids, other_fails}
 
 module _ (plan : Plan) (p j : ℕ) (clean : is_clean plan p j ≡ true) where
   nothing : (s i : ℕ) → s < slot_count plan.rounds → i < plan.nodes → i ≢ j → effect_at plan.lines p s j i ≡ None

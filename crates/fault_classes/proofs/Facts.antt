@@ -8,6 +8,7 @@ use Rattle.node_grid.specs.declared.class.Class.TheVariants.{N, J, B, S, A}
 use Rattle.node_grid.specs.Class.{is_nonfaulty, is_sound}
 use Rattle.node_grid.specs.Count.{count}
 use Rattle.node_grid.specs.NodeSet.{ids_below}
+use Rattle.node_grid.specs.SetFacts.{count_ids}
 use Rattle.fault_classes.specs.Change.{is_untouched, is_manifest, same_effect}
 use Rattle.fault_classes.specs.ChangeLaws.{untouched_is, same_effect_is}
 use Rattle.fault_classes.specs.Line.{effect_at}
@@ -16,7 +17,6 @@ use Rattle.fault_classes.specs.Plan.{Plan, nodes_of, restarts_at, each_in_slot, 
 use Rattle.fault_classes.specs.ClassLaws.{nonfaulty_is, sound_is, steady_if, joins_if, benign_if, symmetric_if, four_parts}
 use Rattle.fault_classes.specs.Laws.{CleanLaw, BenignLaw, SymmetricLaw, RecoveryLaw, SoundnessLaw, is_stray}
 use Rattle.node_grid.specs.NodeSetLaws.{not_all_ids}
-use Rattle.fault_classes.proofs.Sets.{count_same}
 
 -- what passes for all numbers passes for each
 each_id : (f : ℕ → Bool) (n k : ℕ) → k < n → list_all f (ids_below n) ≡ true → f k ≡ true
@@ -65,9 +65,9 @@ recovery_law plan p i h =
     let by : (ℕ → Bool) → ℕ → Bool = λ n j. not (j == i) && (not (n j) && not (is_manifest (effect_at plan.lines p 0 j i))) in
     let less : count (by good) (nodes_of plan) < count good (nodes_of plan) = ltb-true _ _ (four_parts (nat_lt i plan.nodes) (restarts_at plan i p) (is_clean plan p i) (recovers_in plan p good i) (joins_if plan p i h).1).fourth in
     let a : count (is_stray plan p i) (nodes_of plan) ≡ count (by good) (nodes_of plan) =
-    count_same (is_stray plan p i) (by good) plan.nodes (λ k low. ap (λ b. not (k == i) && (not b && not (is_manifest (effect_at plan.lines p 0 k i)))) (nonfaulty_is plan p k low))
+    count_ids (is_stray plan p i) (by good) plan.nodes (λ k low. ap (λ b. not (k == i) && (not b && not (is_manifest (effect_at plan.lines p 0 k i)))) (nonfaulty_is plan p k low))
     in
-    let b : count (λ j. is_nonfaulty (class_of plan p j)) (nodes_of plan) ≡ count good (nodes_of plan) = count_same _ good plan.nodes (λ k low. nonfaulty_is plan p k low) in
+    let b : count (λ j. is_nonfaulty (class_of plan p j)) (nodes_of plan) ≡ count good (nodes_of plan) = count_ids _ good plan.nodes (λ k low. nonfaulty_is plan p k low) in
     omega (arith, less, a, b)
 
 was_sound : (plan : Plan) (p j : ℕ) → class_of plan (suc p) j ≡ N → is_sound (class_of plan p j) ≡ true

@@ -1,6 +1,6 @@
 -- What it says of a line that it is in range, and where the cells of its frames lie.
 use Rattle.node_grid.specs.ListLaws.{all_at}
-use Rattle.std.proofs.Common.{◌≡◌, ℕ, ◌+◌, ◌-◌, ◌*◌, ◌^◌, ◌<◌, ◌≤◌, true, false, List, length, min, Fits, w16, w32, w64, subst, sym, arith, ltb-true, leb-true}
+use Rattle.std.proofs.Common.{◌≡◌, ℕ, ◌+◌, ◌*◌, ◌^◌, ◌<◌, ◌≤◌, true, false, List, length, min, Fits, w16, w32, w64, subst, sym, arith, ltb-true, leb-true}
 use Rattle.std.specs.Prelude.{nat_lt}
 use Rattle.std.proofs.lemmas.Bool.{and_parts, not-true}
 use Rattle.std.proofs.lemmas.Nat.{mul-add-lt}
@@ -96,9 +96,6 @@ place_fits k n low few = omega arith
 
 pub mark_fits : (k m : ℕ) → m ≡ min k 4096 → Fits w16 m × Fits w16 (m + 1)
 mark_fits k m e = (omega arith, omega arith)
-
-pub falls : (n k : ℕ) → k < n → n - (k + 1) < n - k
-falls n k h = omega arith
 
 pub few_items : {X : Type 0} (xs ys : List X) (n : ℕ) → xs ≡ ys → length ys < n → length xs < n
 few_items xs ys n e h = subst (λ zs. length zs < n) (sym e) h

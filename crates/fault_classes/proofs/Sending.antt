@@ -3,12 +3,14 @@ use Rattle.std.proofs.Common.{◌≡◌, ◌≢◌, ℕ, ◌+◌, ◌<◌, ◌�
 use Rattle.std.specs.Prelude.{◌==◌}
 use Rattle.std.specs.List.{list_all, list_any, find}
 use Rattle.std.specs.Option.{option_map}
-use Rattle.std.proofs.lemmas.Bool.{cases_Bool, cases_eq, and_parts, and_from, or_left, or_right, both_ways, false_from_ne_true, le-leb}
+use Rattle.std.proofs.lemmas.Bool.{cases_Bool, cases_eq, and_parts, and_from, or_right, both_ways, false_from_ne_true, le-leb}
 use Rattle.std.proofs.lemmas.List.Folds.{list_any-append}
 use Rattle.node_grid.specs.NodeSet.{has_id, with_id, ids_where}
 use Rattle.node_grid.specs.NodeSetLaws.{filter_range, has-filter, not_all_ids}
 use Rattle.node_grid.specs.ListLaws.{eqb_sym}
 use Rattle.slot_plan.specs.Slots.{slot_count}
+use Rattle.node_grid.specs.NumberFacts.{other_fails}
+use Rattle.node_grid.specs.SetFacts.{first_has, all_ids}
 use Rattle.fault_classes.specs.Change.{is_untouched}
 use Rattle.fault_classes.specs.Line.{Line, touches, effect_at}
 use Rattle.fault_classes.specs.Plan.{Plan, is_clean}
@@ -16,7 +18,6 @@ use Rattle.fault_classes.specs.Rules.{is_line}
 use Rattle.fault_classes.specs.Cells.{touches_sender}
 use Rattle.fault_classes.specs.Touches.{IsSent, IsTouched}
 use Rattle.fault_classes.proofs.Entries.{touch_parts, touch_from, any_more, find_none, witness}
-use Rattle.fault_classes.proofs.Loops.{all_ids, other_fails}
 use Rattle.fault_classes.proofs.Ranges.{line_facts}
 
 -- ---- one period more of one line
@@ -79,10 +80,6 @@ touched_push n periods xs l old new h s = record {
 }
 
 -- ---- what the sets tell
-
-first_has : (xs : List ℕ) → 0 < length xs → (k : ℕ) × (has_id xs k ≡ true)
-first_has [] h = absurd (omega arith)
-first_has (x ∷ xs) h = (x, or_left (x == x) (has_id xs x) (eq-eqb x x refl))
 
 touched_at : (test : Line → Bool) (xs : List Line) → list_any test xs ≡ true → is_untouched (option_map (λ l. l.change) (find test xs)) ≡ false
 touched_at test [] h = cc

@@ -1,10 +1,11 @@
 -- Sets of the nodes that pass a test, and how many and which pass it.
-use Rattle.std.proofs.Common.{◌≡◌, ℕ, zero, suc, ◌+◌, ◌<◌, ◌≤◌, Bool, true, false, List, [], ◌∷◌, length, slice_get, refl, sym, ap, ap₂, ◌∙◌, inl, inr, arith}
+use Rattle.std.proofs.Common.{◌≡◌, ℕ, zero, suc, ◌+◌, ◌<◌, ◌≤◌, Bool, true, false, List, [], ◌∷◌, length, slice_get, refl, sym, ap, ◌∙◌, inl, inr, arith}
 use Rattle.std.specs.List.{filter, find, range_with_len}
 use Rattle.std.proofs.lemmas.Bool.{cases_Bool}
 use Rattle.node_grid.specs.NodeSet.{has_id, with_id, ids_where, ids_where_below, ids_below}
 use Rattle.node_grid.specs.NodeSetLaws.{filter_every, has-filter, ids_where_more_yes, ids_where_more_no, ids_where-within}
-use Rattle.node_grid.specs.Count.{bit, count}
+use Rattle.node_grid.specs.Count.{count}
+use Rattle.node_grid.specs.SetFacts.{length_filter}
 
 -- a loop that builds such a set
 pub where_yes : (f : ℕ → Bool) (cap k : ℕ) (found new : List ℕ) → found ≡ ids_where_below f cap k → f k ≡ true → new ≡ with_id cap found k → new ≡ ids_where_below f cap (k + 1)
@@ -25,23 +26,8 @@ has_in s f n k e h = ap (λ t. has_id t k) e ∙ has-filter f n k h
 pub every_where : (f : ℕ → Bool) (n : ℕ) → ((k : ℕ) → k < n → f k ≡ true) → ids_below n ≡ ids_where f n
 every_where f n h = sym (filter_every f 0 n (λ k l u. h k (omega arith)))
 
--- how many pass
-length_filter : (f : ℕ → Bool) (xs : List ℕ) → length (filter f xs) ≡ count f xs
-length_filter f [] = refl
-length_filter f (x ∷ xs) = elim (cases_Bool (f x)) [
-  | inl e ↦ rw e (omega (arith, length_filter f xs))
-  | inr e ↦ rw e (omega (arith, length_filter f xs))
-]
-
 pub length_where : (f : ℕ → Bool) (n : ℕ) → length (ids_where f n) ≡ count f (ids_below n)
 length_where f n = length_filter f (ids_below n)
-
-count_range : (f g : ℕ → Bool) (a n : ℕ) → ((k : ℕ) → a ≤ k → k < a + n → f k ≡ g k) → count f (range_with_len a n) ≡ count g (range_with_len a n)
-count_range f g a zero h = refl
-count_range f g a (suc n) h = ap₂ (λ b c. bit b + c) (h a (omega arith) (omega arith)) (count_range f g (a + 1) n (λ k l u. h k (omega arith) (omega arith)))
-
-pub count_same : (f g : ℕ → Bool) (n : ℕ) → ((k : ℕ) → k < n → f k ≡ g k) → count f (ids_below n) ≡ count g (ids_below n)
-count_same f g n h = count_range f g 0 n (λ k l u. h k (omega arith))
 
 -- the least that passes
 pub first_filter : (f : ℕ → Bool) (xs : List ℕ) → slice_get (filter f xs) 0 ≡ find f xs

@@ -18,3 +18,4 @@ pub use Rattle.node_grid.specs.Capacity
 pub use Rattle.node_grid.specs.NodeSet
 pub use Rattle.node_grid.specs.Count
 pub use Rattle.node_grid.specs.Class
+pub mod Facts

@@ -3,10 +3,11 @@ use Rattle.std.proofs.Common.{◌≡◌, ℕ, ◌+◌, ◌*◌, ◌/◌, ◌%◌
 use Rattle.std.proofs.lemmas.Bool.{and_parts, and_from, eqb-true}
 use Rattle.std.specs.Prelude.{◌==◌, Option, Some, None, IsSome, IfSome, IfNone, option_map}
 use Rattle.std.specs.Bool.{Decides}
-use Rattle.std.proofs.Math.Nat.{add-mul-div_left, div-eq_of_lt, mul-mod_right}
+use Rattle.std.proofs.Math.Nat.{mul-mod_right}
 use Rattle.std.specs.List.{list_all, All, flat_map}
 use Rattle.std.proofs.lemmas.List.{length-map, take-append-drop, length-drop, length-take, nil_from_length}
 use Rattle.std.proofs.lemmas.Bool.Decides.{Decides-eqb, not_from_Decides}
+use Rattle.node_grid.specs.NumberFacts.{times_over}
 use Rattle.frames.specs.declared.kind.Kind.{Kind}
 use Rattle.frames.specs.declared.kind.Kind.TheVariants as kinds
 use Rattle.frames.specs.Seen.{number_of}
@@ -18,11 +19,6 @@ use Rattle.frames.specs.Checks.{are_written, is_claim_entry, is_row_entry, is_va
 use Rattle.frames.specs.PieceLaws.{AreBytes, length-cut, length_spelt, test_spelt, restored, IsFormat, IsTest}
 use Rattle.frames.specs.EntryLaws.{claim_fits, claim_valid, claim_format, claim_test, value_format, value_test, row_valid, row_restored, row_long, row_passes, relayed_row_format, relayed_row_test, claims_written, rows_written}
 use Rattle.frames.specs.ReadingLaws.{said_spelt, spelt_once, header_told, reads_exactly, none_if, round_within}
-
-times_over : (width n : ℕ) → 0 < width → (width * n) / width ≡ n
-times_over width n h =
-    let z : 0 / width ≡ 0 = div-eq_of_lt h in
-    ap (λ x. x / width) (omega arith) ∙ add-mul-div_left 0 n h ∙ omega arith
 
 -- a body of n entries of one format
 entries_said : {V : Type 0} (width : ℕ) (spell : V → List ℕ) (read : List ℕ → V) (P : V → Type 0) (test : List ℕ → Bool) → 0 < width → IsTest width spell read P test

@@ -13,6 +13,7 @@ use Rattle.node_grid.specs.Version.{mask_bound}
 use Rattle.node_grid.specs.NodeSetLaws.{length-ids, filter_every, IsIdSet-filter}
 use Rattle.omh_paths.specs.declared.wrapped.Wrapped.TheVariants.{Fault}
 use Rattle.omh_paths.specs.Paths.{path_count}
+use Rattle.omh_paths.specs.Facts.{more_paths}
 use Rattle.frames.specs.Content.{Expectation, Content, State, Done0, DoneRelay, Data, Report0, ReportRelay, Cold, kind, kind_in, round_in, entries_due, IsClaim, IsRow, IsValue, IsEntry, IsSized}
 use Rattle.frames.specs.Spelling.{claim_spelling, relayed_row_spelling, value_spelling, body_spelling, spelling, head_of, IsInRange}
 use Rattle.frames.specs.Reading.{content_claim, relayed_row_in, content_value}
@@ -35,10 +36,6 @@ longer_paths : (k r s : ℕ) → r ≤ s → s ≤ k → path_count k r ≤ path
 longer_paths k zero s h l = omega (arith, some_paths k s l)
 longer_paths k (suc r) zero h l = absurd (omega arith)
 longer_paths k (suc r) (suc s) h l = mul-le k (path_count (k - 1) r) k (path_count (k - 1) s) (omega arith) (longer_paths (k - 1) r s (omega arith) (omega arith))
-
-more_paths : (j k r : ℕ) → j ≤ k → path_count j r ≤ path_count k r
-more_paths j k zero h = omega arith
-more_paths j k (suc r) h = mul-le j (path_count (j - 1) r) k (path_count (k - 1) r) h (more_paths (j - 1) (k - 1) r (omega arith))
 
 -- ---- relay slots
 

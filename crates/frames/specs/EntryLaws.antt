@@ -14,6 +14,7 @@ use mir.Val.{SFits}
 use Rattle.std.proofs.lemmas.Nat.{from_be_bytes-to_be_bytes_2, from_be_bytes-to_be_bytes_8, be_bytes_2, be_bytes_8}
 use Rattle.std.proofs.lemmas.Int.{ints, to_z-of_z, of_z-to_z}
 use Rattle.node_grid.specs.Version.{mask_bound}
+use Rattle.node_grid.specs.NumberFacts.{zero_mask, above_zero}
 use Rattle.omh_paths.specs.declared.wrapped.Wrapped.{Wrapped}
 use Rattle.omh_paths.specs.declared.wrapped.Wrapped.TheVariants.{Plain, Fault}
 use Rattle.frames.specs.Content.{IsClaim, IsRow, IsValue, IsEntry}
@@ -21,9 +22,6 @@ use Rattle.frames.specs.Spelling.{claim_spelling, row_spelling, relayed_row_spel
 use Rattle.frames.specs.Reading.{piece, pieces_of_width, content_claim, content_claims, content_rows, content_values, content_row, relayed_row_in, content_value, fits_claim, fits_value}
 use Rattle.frames.specs.Checks.{is_written, are_written, is_claim_entry, is_mask, are_masks, are_zero, is_row_entry, is_value}
 use Rattle.frames.specs.PieceLaws.{get_or-piece, each_passes, one_fails, AreBytes, AreBytes-drop, IsFormat, IsTest, read_spelt, length_spelt, test_spelt, restored}
-
-above_zero : (k : ℕ) → (suc k == 0) ≡ false
-above_zero k = grind arith
 
 -- ---- claims
 
@@ -89,13 +87,6 @@ mask_within version x h = within (version == 1) x h
     within true x h = omega arith
     within false x h = omega arith
 
-pub zero_mask : (version : ℕ) → 0 < mask_bound version
-zero_mask version = some (version == 1)
-  where
-    some : (b : Bool) → 0 < (if b then 256 else 65536)
-    some true = lit< tt
-    some false = lit< tt
-
 mask_back : (version x : ℕ) → x < mask_bound version → from_be_bytes w16 (to_be_bytes w16 x) ≡ x
 mask_back version x h = from_be_bytes-to_be_bytes_2 x (mask_within version x h)
 
@@ -159,7 +150,7 @@ value_valid number h =
     let high : int_le number (pos (2 ^ 42)) ≡ true = (and_parts (int_le (neg_ℤ (pos (2 ^ 42))) number) (int_le number (pos (2 ^ 42))) h).1 in
     record { low = grind (arith, ints); high = grind (arith, ints) }
 
-value_in_64 : (x : ℤ) → IsValue x → SFits w64 x
+pub value_in_64 : (x : ℤ) → IsValue x → SFits w64 x
 value_in_64 (pos n) h = let high : pos n ≤ℤ pos (2 ^ 42) = h.high in record { sfits = omega (arith, ints) }
 value_in_64 (negsuc n) h = let low : neg_ℤ (pos (2 ^ 42)) ≤ℤ negsuc n = h.low in record { sfits = omega (arith, ints) }
 

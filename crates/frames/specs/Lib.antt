@@ -16,3 +16,4 @@ pub use Rattle.node_grid.specs.Version
 pub use Rattle.node_grid.specs.Kinds
 pub use Rattle.node_grid.specs.NodeSet
 pub use Rattle.omh_paths.specs.Paths
+pub mod Facts

@@ -1,5 +1,5 @@
 -- Reading gives exactly what the relation between bytes and contents says, and both are told by the spelling.
-use Rattle.std.proofs.Common.{◌≡◌, ℕ, zero, suc, ◌+◌, ◌-◌, ◌*◌, ◌^◌, ◌<◌, ◌≤◌, Bool, true, false, ◌&&◌, ◌||◌, List, [], ◌∷◌, ◌++◌, length, take, drop, replicate, refl, sym, ap, ◌∙◌, arith, subst, inl, inr, Option, Some, None, ◌⊎◌, lit<, lit≤}
+use Rattle.std.proofs.Common.{◌≡◌, ℕ, ◌+◌, ◌-◌, ◌*◌, ◌^◌, ◌<◌, ◌≤◌, Bool, true, false, ◌&&◌, ◌||◌, List, [], ◌∷◌, ◌++◌, length, take, drop, replicate, refl, sym, ap, ◌∙◌, arith, subst, inl, inr, Option, Some, None, ◌⊎◌, lit<}
 use Rattle.std.specs.Prelude.{◌==◌, nat_lt, nat_le, ℤ, slice_index, if◌then◌else◌}
 use Rattle.std.specs.Bool.{Decides}
 use Rattle.std.specs.Int.{w32, to_be_bytes, from_be_bytes}
@@ -12,10 +12,11 @@ use Rattle.node_grid.specs.Version.{mask_bound}
 use Rattle.std.proofs.lemmas.Slice.Eq.{bytes_eq-Decides}
 use Rattle.std.proofs.lemmas.List.{length-take, length-drop, take-append-drop, take-take, drop-take}
 use Rattle.std.proofs.lemmas.Nat.{mul-le, from_be_bytes-to_be_bytes_4}
-use Rattle.std.proofs.Math.Nat.{pow-suc}
+use Rattle.node_grid.specs.NumberFacts.{small_power}
 use Rattle.omh_paths.specs.Paths.{path_count}
 use Rattle.omh_paths.specs.declared.wrapped.Wrapped.{Wrapped}
 use Rattle.omh_paths.specs.declared.wrapped.Wrapped.TheVariants.{Plain, Fault}
+use Rattle.omh_paths.specs.MemberLaws.{path_count-le}
 use Rattle.frames.specs.declared.frame.Head.{Head}
 use Rattle.frames.specs.Content.{Expectation, Content, State, Done0, DoneRelay, Data, Report0, ReportRelay, Cold, kind, kind_in, round_in, entries_due, IsClaim, IsRow, IsValue, IsEntry, IsSized}
 use Rattle.frames.specs.Spelling.{claim_spelling, relayed_row_spelling, value_spelling, body_spelling, header_spelling, spelling, head_of, IsInRange, IsFrame}
@@ -222,20 +223,6 @@ reads_cold e d h = ap (λ head. reading e (spelling d.nodes head Cold)) (sym h) 
 
 -- ---- lengths
 
-pub few_paths : (k r : ℕ) → k ≤ 16 → path_count k r ≤ 16 ^ r
-few_paths k zero h = omega arith
-few_paths k (suc r) h =
-    let less : path_count (k - 1) r ≤ 16 ^ r = few_paths (k - 1) r (omega arith) in
-    let p : k * path_count (k - 1) r ≤ 16 * 16 ^ r = mul-le k (path_count (k - 1) r) 16 (16 ^ r) h less in
-    omega (arith, pow-suc 16 r)
-
-pub small_power : (r : ℕ) → r ≤ 3 → 16 ^ r ≤ 4096
-small_power zero h = lit≤ tt
-small_power (suc zero) h = lit≤ tt
-small_power (suc (suc zero)) h = lit≤ tt
-small_power (suc (suc (suc zero))) h = lit≤ tt
-small_power (suc (suc (suc (suc r)))) h = absurd (omega arith)
-
 pub round_within : (m slot k : ℕ) → k ≡ kind_in m slot → k < 7 → round_in m slot ≤ m
 round_within m slot k h l = elim (cases_lt (2 * m + 3) slot) [
   | inl late ↦ absurd (let e : kind_in m slot ≡ 7 = no_slot m slot late in omega arith)
@@ -259,7 +246,7 @@ few_entries e c h k l = chosen (has_id e.members e.sender) (path_count (length e
     bound : path_count (length e.members - 1) (round_in e.m e.slot) ≤ 4096
     bound =
         let r : round_in e.m e.slot ≤ e.m = round_within e.m e.slot (kind c) k l in
-        omega (arith, few_paths (length e.members - 1) (round_in e.m e.slot) (omega (arith, h.members)), small_power (round_in e.m e.slot) (omega (arith, h.rounds)))
+        omega (arith, path_count-le (length e.members - 1) (round_in e.m e.slot) (omega (arith, h.members)), small_power (round_in e.m e.slot) (omega (arith, h.rounds)))
 
 pub is_short : IsShort
 is_short e c h k z = record { placed = inl k; sized = z; short = short c k z }

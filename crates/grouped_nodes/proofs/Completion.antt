@@ -1,9 +1,10 @@
 -- What follows from settled claims, group by group.
-use Rattle.std.proofs.Common.{ℕ, zero, suc, ◌≡◌, ◌≢◌, ◌<◌, ◌≤◌, ◌+◌, ◌==◌, ◌||◌, ◌&&◌, Bool, true, false, if◌then◌else◌, List, [], ◌∷◌, length, length-set, set, get_or, get_or-set_other, get_or-set_same, Option, None, Some, refl, sym, ap, ap₂, ◌∙◌, inl, inr, arith, eq-eqb, ne_eqb}
+use Rattle.std.proofs.Common.{ℕ, ◌≡◌, ◌≢◌, ◌<◌, ◌≤◌, ◌+◌, ◌==◌, ◌||◌, ◌&&◌, Bool, true, false, if◌then◌else◌, List, length, length-set, set, get_or, get_or-set_other, get_or-set_same, Option, None, Some, refl, sym, ap, ap₂, ◌∙◌, inl, inr, arith, eq-eqb, ne_eqb}
 use Rattle.std.proofs.lemmas.Bool.{cases_eq, cases_lt, cond-true, cond-false}
 use Rattle.node_grid.specs.NodeSet.{has_id, ids_where}
 use Rattle.node_grid.specs.NodeSetLaws.{has-filter}
 use Rattle.node_grid.specs.Kinds.{claim, overrun}
+use Rattle.node_grid.specs.ListFacts.{same_at}
 use Rattle.omh_paths.specs.declared.wrapped.Wrapped.{Wrapped}
 use Rattle.list_scheduler.specs.declared.schedule.Verdict.{Verdict}
 use Rattle.list_scheduler.specs.OneNode.{verdicts}
@@ -18,12 +19,6 @@ use Rattle.shared_states.specs.Sharing.{state_at}
 use Rattle.view_law.specs.Made.{by_verdicts}
 use Rattle.grouped_nodes.specs.Grouping.{first_of, AreFirsts}
 use Rattle.grouped_nodes.specs.Shared.{AreShared, belief_of, notes_at}
-
--- what stands at a place of a list, whatever stands for nothing
-pub same_at : {X : Type 0} (xs : List X) (k : ℕ) (d e : X) → k < length xs → get_or xs k d ≡ get_or xs k e
-same_at [] k d e low = absurd (omega arith)
-same_at (x ∷ xs) zero d e low = refl
-same_at (x ∷ xs) (suc k) d e low = same_at xs k d e (omega arith)
 
 -- ---- notes of some nodes
 

@@ -6,13 +6,13 @@ use Rattle.std.proofs.lemmas.List.FromFn.{get_or-map-range_with_len, length-map-
 use Rattle.std.proofs.lemmas.Option.{same_Some}
 use Rattle.node_grid.specs.NodeSet.{has_id, ids_where}
 use Rattle.node_grid.specs.NodeSetLaws.{has-filter}
+use Rattle.node_grid.specs.ListFacts.{same_at}
 use Rattle.agreed_state.specs.declared.config.Config.{Config}
 use Rattle.agreed_state.specs.Agreed.{AgreedView, IsAgreed, agreed_after}
 use Rattle.shared_states.specs.declared.belief.Belief.{Belief}
 use Rattle.shared_states.specs.Sharing.{state_at, with_state, AreAgreed}
 use Rattle.grouped_nodes.specs.Grouping.{first_of, AreFirsts}
 use Rattle.grouped_nodes.specs.Shared.{AreShared, belief_of}
-use Rattle.grouped_nodes.proofs.Completion.{same_at}
 
 -- the state after the period, where there is one
 abbrev pub after_by : {N : ℕ} → Config N → ℕ → Option AgreedView → Belief N → Option AgreedView

@@ -1,10 +1,10 @@
 -- Beliefs of groups that are parted.
 use Rattle.std.proofs.Common.{ℕ, ◌≡◌, ◌≢◌, ◌<◌, ◌≤◌, ◌+◌, List, length, length-set, set, get_or, get_or-set_other, get_or-set_same, refl, sym, ap, ◌∙◌, inl, inr, arith}
 use Rattle.std.proofs.lemmas.Bool.{cases_eq}
+use Rattle.node_grid.specs.ListFacts.{same_at}
 use Rattle.shared_states.specs.declared.belief.Belief.{Belief}
 use Rattle.grouped_nodes.specs.Grouping.{first_of, AreFirsts}
 use Rattle.grouped_nodes.specs.Shared.{belief_of}
-use Rattle.grouped_nodes.proofs.Completion.{same_at}
 
 -- the firsts below i have what stood at the firsts before
 pub record AreParted {N : ℕ} (before groups : List ℕ) (old : List (Belief N)) (i : ℕ) (bs : List (Belief N)) : Type 0 where

@@ -4,12 +4,13 @@ use Rattle.std.specs.Prelude.{if◌then◌else◌, is_none, nat_le}
 use Rattle.std.specs.List.{list_all}
 use Rattle.std.specs.Cmp.Lexicographic.{pointwise}
 use Rattle.std.proofs.lemmas.Bool.{cond-true, cond-false, and_parts, and_from, or_left, or_right, or_cases, both_ways}
-use Rattle.std.proofs.lemmas.Bool.Decides.{nat_tests}
 use Rattle.std.proofs.lemmas.List.{length_push}
 use Rattle.node_grid.specs.NodeSet.{has_id}
+use Rattle.node_grid.specs.NumberFacts.{le_from, le_yes}
 use Rattle.omh_paths.specs.declared.wrapped.Wrapped.{Wrapped}
 use Rattle.omh.specs.Written.{last_node}
 use Rattle.fault_classes.specs.Change.{Change}
+use Rattle.omh.specs.Facts.{last_push}
 use Rattle.protocol.specs.Arrival.{Arrival, said}
 use Rattle.protocol.specs.Heard.{paths_of, with_entries, entry, heard}
 use Rattle.protocol.specs.Talk.{Talk, arrives, item_said, relay_said, rounds_upto}
@@ -19,9 +20,6 @@ use Rattle.heard_links.specs.Hearing.{is_even, is_asked, says_in}
 at_push : (path : List ℕ) (q : ℕ) → slice_index_or (path ++ q ∷ []) (length path) 0 ≡ q
 at_push [] q = refl
 at_push (x ∷ xs) q = at_push xs q
-
-pub last_push : (path : List ℕ) (q : ℕ) → last_node (path ++ q ∷ []) ≡ q
-last_push path q = ap (λ (n : ℕ). slice_index_or (path ++ q ∷ []) n 0) (omega (arith, length_push path q)) ∙ at_push path q
 
 pub all_within : (members path : List ℕ) → ((q : ℕ) → has_id path q ≡ true → has_id members q ≡ true) → list_all (has_id members) path ≡ true
 all_within members [] h = refl
@@ -35,12 +33,6 @@ within_all members (x ∷ xs) h q on =
       | inl here ↦ ap (has_id members) (sym (eqb-true x q here)) ∙ p.0
       | inr later ↦ within_all members xs p.1 q later
     ]
-
-le_true : (a b : ℕ) → a ≤ b → nat_le a b ≡ true
-le_true a b h = grind (arith, nat_tests)
-
-true_le : (a b : ℕ) → nat_le a b ≡ true → a ≤ b
-true_le a b h = grind (arith, nat_tests)
 
 module _ {V : Type 0} (t : Talk V) (m : ℕ) (awake : List ℕ) where
   -- nothing is said of an even link
@@ -64,7 +56,7 @@ module _ {V : Type 0} (t : Talk V) (m : ℕ) (awake : List ℕ) where
       → is_asked t m awake i (path ++ q ∷ []) ≡ true
   asked_if i q path on within short other =
       and_from _ _ on (and_from _ _ (all_within (t.members i) (path ++ q ∷ []) within)
-      (and_from _ _ (le_true (length (path ++ q ∷ [])) (m + 1) (omega (arith, length_push path q)))
+      (and_from _ _ (le_yes (length (path ++ q ∷ [])) (m + 1) (omega (arith, length_push path q)))
       (ap not (ap (λ (l : ℕ). i == l) (last_push path q) ∙ ne_eqb i q other))))
 
   -- what is asked for
@@ -79,7 +71,7 @@ module _ {V : Type 0} (t : Talk V) (m : ℕ) (awake : List ℕ) where
       let a = and_parts (has_id awake i) _ h in
       let b = and_parts (list_all (has_id (t.members i)) path) _ a.1 in
       let c = and_parts (nat_le (length path) (m + 1)) _ b.1 in
-      record { on = a.0; within = within_all (t.members i) path b.0; short = true_le (length path) (m + 1) c.0; other = λ e. both_ways _ (not_is (i == last_node path) c.1) (eq-eqb i (last_node path) e) } where
+      record { on = a.0; within = within_all (t.members i) path b.0; short = le_from (length path) (m + 1) c.0; other = λ e. both_ways _ (not_is (i == last_node path) c.1) (eq-eqb i (last_node path) e) } where
         not_is : (b : Bool) → not b ≡ true → b ≡ false
         not_is true h = cc
         not_is false h = refl

@@ -1,11 +1,8 @@
 -- What untouched frames say, by the members of sender and receiver.
-use Rattle.std.proofs.Common.{ℕ, suc, ◌≡◌, ◌≤◌, true, false, List, [], ◌∷◌, map, reverse, None, refl, ap, subst, ◌∙◌, arith}
-use Rattle.std.specs.Prelude.{All}
+use Rattle.std.proofs.Common.{ℕ, suc, ◌≡◌, ◌≤◌, true, false, List, reverse, None, refl, ap, subst, ◌∙◌, arith}
 use Rattle.std.proofs.lemmas.Bool.{cond-true, cond-false}
 use Rattle.std.proofs.lemmas.List.{length-map}
-use Rattle.std.proofs.lemmas.List.Elements.{All-nil, All-cons}
-use Rattle.omh_paths.specs.declared.wrapped.Wrapped.{Wrapped}
-use Rattle.omh_paths.specs.declared.wrapped.Wrapped.TheVariants.{Plain, Fault}
+use Rattle.node_grid.specs.ListFacts.{all_map}
 use Rattle.omh_paths.specs.Wrapped.{wrapped}
 use Rattle.frames.specs.Content.{IsEntry}
 use Rattle.frames.specs.Spelling.{IsInRange}
@@ -16,18 +13,9 @@ use Rattle.protocol.specs.Talk.{Talk, arrives, rounds_upto}
 use Rattle.protocol.specs.TalkLaws.{first_at, relay_at}
 use Rattle.protocol.specs.Run.{System}
 use Rattle.safety.proofs.Arrivals.{Grammar, arrives_clean, arrives_cold}
-use Rattle.safety.proofs.Talks.{FormFits, HeardIn, entries_of, heard_in}
+use Rattle.safety.proofs.Talks.{FormFits, HeardIn, entries_of, heard_in, wrap_heard}
 use Rattle.touched_items.specs.Items.{talk_of}
 use Rattle.protocol.specs.Arrival.{ItemForm}
-
--- what was heard is an entry once it is wrapped
-entry_in : {V : Type 0} (P : V → Type 0) (r : ℕ) (w : Wrapped V) → HeardIn P r w → IsEntry P (suc r) (wrapped w)
-entry_in P r (Plain v) h = h
-entry_in P r (Fault n) h = (omega arith, omega arith)
-
-all_map : {X Y : Type 0} (P : Y → Type 0) (f : X → Y) (xs : List X) → ((x : X) → P (f x)) → All P (map f xs)
-all_map P f [] h = All-nil P
-all_map P f (x ∷ xs) h = All-cons P (f x) (map f xs) (h x) (all_map P f xs h)
 
 module _ (g : Grammar) {V : Type 0} (P : V → Type 0) (form : ItemForm V) (first : ℕ → ℕ) (tells : System → ℕ → ℕ → V) (sys : System) (p m : ℕ)
     (fits : FormFits P (talk_of form first tells sys p) m) where
@@ -40,7 +28,7 @@ module _ (g : Grammar) {V : Type 0} (P : V → Type 0) (form : ItemForm V) (firs
       fits.relay_sent (suc k) j j (entries_of t (t.members j) k j) (omega arith) low
       (length-map (paths_of (t.members j) (suc k) j) (λ path. wrapped (heard (rounds_upto t k j) path)))
       (all_map (IsEntry P (suc k)) (λ path. wrapped (heard (rounds_upto t k j) path)) (paths_of (t.members j) (suc k) j)
-      (λ path. entry_in P k (heard (rounds_upto t k j) path) (heard_in t g P m fits k j (reverse path) (omega arith))))
+      (λ path. wrap_heard P k (heard (rounds_upto t k j) path) (heard_in t g P m fits k j (reverse path) (omega arith))))
 
   -- entries for the paths by which a node reads it are in range of what that node expects
   pub read_in_range : (k j i : ℕ) → suc k ≤ m → IsInRange (t.expect (suc k) j (t.members i)) (form.relay (entries_of t (t.members i) k j))
@@ -48,7 +36,7 @@ module _ (g : Grammar) {V : Type 0} (P : V → Type 0) (form : ItemForm V) (firs
       fits.relay_sent (suc k) j i (entries_of t (t.members i) k j) (omega arith) low
       (length-map (paths_of (t.members i) (suc k) j) (λ path. wrapped (heard (rounds_upto t k j) path)))
       (all_map (IsEntry P (suc k)) (λ path. wrapped (heard (rounds_upto t k j) path)) (paths_of (t.members i) (suc k) j)
-      (λ path. entry_in P k (heard (rounds_upto t k j) path) (heard_in t g P m fits k j (reverse path) (omega arith))))
+      (λ path. wrap_heard P k (heard (rounds_upto t k j) path) (heard_in t g P m fits k j (reverse path) (omega arith))))
 
   -- what was heard
   pub heard_small : (i : ℕ) (path : List ℕ) → HeardIn P m (heard (rounds_upto t m i) path)

@@ -1,9 +1,9 @@
 -- Where the entry for a path stands, and of which path it was meant.
-use Rattle.std.proofs.Common.{ℕ, zero, suc, ◌≡◌, ◌≢◌, ◌<◌, ◌≤◌, ◌+◌, ◌-◌, ◌^◌, Bool, true, false, List, [], ◌∷◌, ◌++◌, length, None, Some, refl, sym, ap, subst, ◌∙◌, inl, inr, arith, eq-eqb, ne_eqb, ◌==◌, take, slice_index_or, slice_get, lit≤}
-use Rattle.std.proofs.lemmas.Bool.{cases_Bool, cases_eq, cond-true, cond-false, or_right, or_from}
+use Rattle.std.proofs.Common.{ℕ, zero, suc, ◌≡◌, ◌≢◌, ◌<◌, ◌≤◌, ◌+◌, ◌-◌, Bool, true, false, List, [], ◌∷◌, length, None, Some, refl, sym, ap, ◌∙◌, inl, inr, arith, eq-eqb, take, slice_get}
+use Rattle.std.proofs.lemmas.Bool.{cases_Bool, cond-true, cond-false, or_right}
 use Rattle.std.proofs.lemmas.Option.{same_Some}
 use Rattle.node_grid.specs.ListLaws.{has_push}
-use Rattle.omh_paths.specs.PathLaws.{off_longer}
+use Rattle.node_grid.specs.NumberFacts.{small_power}
 use Rattle.omh.specs.Written.{last_node}
 use Rattle.node_grid.specs.NodeSet.{has_id, without_id, IsIdSet}
 use Rattle.node_grid.specs.NodeSetLaws.{length-ids}
@@ -11,21 +11,10 @@ use Rattle.node_grid.specs.Count.{Distinct}
 use Rattle.omh_paths.specs.Paths.{same_nodes, paths_of_length, path_count, place_in, path_at}
 use Rattle.omh_paths.specs.PathLists.{same_nodes-tells, Distinct-without, length-without, length-paths, place-lt, IsListed-at, has-without-left}
 use Rattle.omh_paths.specs.MemberLaws.{Distinct-ids, path_count-le}
+use Rattle.omh.specs.Facts.{front_last}
 use Rattle.protocol.specs.Heard.{paths_of}
 use Rattle.protocol.specs.TalkLaws.{paths_of_member}
 use Rattle.heard_links.specs.Hearing.{source}
-
-few_16 : (r : ℕ) → r ≤ 3 → 16 ^ r ≤ 4096
-few_16 r h = elim (cases_eq r 0) [
-  | inl e ↦ subst (λ (n : ℕ). 16 ^ n ≤ 4096) (sym e) (lit≤ tt)
-  | inr a ↦ elim (cases_eq r 1) [
-    | inl e ↦ subst (λ (n : ℕ). 16 ^ n ≤ 4096) (sym e) (lit≤ tt)
-    | inr b ↦ elim (cases_eq r 2) [
-      | inl e ↦ subst (λ (n : ℕ). 16 ^ n ≤ 4096) (sym e) (lit≤ tt)
-      | inr c ↦ let e : r ≡ 3 = omega arith in subst (λ (n : ℕ). 16 ^ n ≤ 4096) (sym e) (lit≤ tt)
-    ]
-  ]
-]
 
 -- of a set of nodes below n, at most 16
 module _ (n : ℕ) (few : n ≤ 16) (s : List ℕ) (ids : IsIdSet n s) (q : ℕ) (on : has_id s q ≡ true) where
@@ -39,7 +28,7 @@ module _ (n : ℕ) (few : n ≤ 16) (s : List ℕ) (ids : IsIdSet n s) (q : ℕ)
   place_few front k short low =
       let l = length-ids n s ids in
       let w = length-without s q (Distinct-ids n s ids) on in
-      omega (arith, path_count-le (length (without_id s q)) (length front) (omega arith), few_16 (length front) short)
+      omega (arith, path_count-le (length (without_id s q)) (length front) (omega arith), small_power (length front) short)
 
   pub placed_in : (front : List ℕ) → Distinct front → ((x : ℕ) → has_id front x ≡ true → has_id (without_id s q) x ≡ true) → place_in (paths_of s (length front) q) front < length (paths_of s (length front) q)
   placed_in front d within =
@@ -117,27 +106,10 @@ pub meant : (full : Bool) (its mine : List ℕ) (n q : ℕ) (front p : List ℕ)
 meant true its mine n q front p ids h = meant_at its mine n q front p ids h
 meant false its mine n q front p ids h = cc
 
--- a path and its last node
-pub front_last : (path : List ℕ) → 0 < length path → path ≡ take (length path - 1) path ++ last_node path ∷ []
-front_last [] some = absurd (omega arith)
-front_last (x ∷ []) some = refl
-front_last (x ∷ y ∷ ys) some =
-    let e : length (x ∷ y ∷ ys) - 1 ≡ suc (length (y ∷ ys) - 1) = omega arith in
-    ap (λ (zs : List ℕ). x ∷ zs) (front_last (y ∷ ys) (omega arith))
-    ∙ sym (ap (λ (n : ℕ). take n (x ∷ y ∷ ys) ++ slice_index_or (x ∷ y ∷ ys) n 0 ∷ []) e)
-
 pub last_has : (path : List ℕ) → 0 < length path → has_id path (last_node path) ≡ true
 last_has path some =
     ap (λ (p : List ℕ). has_id p (last_node path)) (front_last path some)
     ∙ has_push (take (length path - 1) path) (last_node path) (last_node path) ∙ or_right (has_id (take (length path - 1) path) (last_node path)) _ (eq-eqb (last_node path) (last_node path) refl)
-
-pub split_off : (front : List ℕ) (q : ℕ) → Distinct (front ++ q ∷ []) → has_id front q ≡ false
-split_off [] q d = refl
-split_off (y ∷ ys) q d = or_from (y == q) (has_id ys q) (ne_eqb y q (λ e. (off_longer ys q y d.0).1 (sym e))) (split_off ys q d.1)
-
-pub split_distinct : (front : List ℕ) (q : ℕ) → Distinct (front ++ q ∷ []) → Distinct front
-split_distinct [] q d = tt
-split_distinct (x ∷ xs) q d = ((off_longer xs q x d.0).0, split_distinct xs q d.1)
 
 -- the last node of a path that another node meant is another one
 pub meant_other : (full : Bool) (its : List ℕ) (q : ℕ) (front p : List ℕ) → IsMeant full its q front p → 0 < length front → q ≢ last_node p

@@ -1,9 +1,10 @@
 -- The rounds of a phase of a run, by what the code has of it.
-use Rattle.std.proofs.Common.{ℕ, zero, suc, ◌≡◌, ◌≢◌, ◌<◌, ◌≤◌, ◌+◌, ◌==◌, Bool, true, false, not, List, [], ◌∷◌, ◌++◌, map, length, Option, None, Some, ◌⊎◌, refl, sym, ap, ap₂, subst, ◌∙◌, inl, inr, arith, eqb-true, ne_eqb}
+use Rattle.std.proofs.Common.{ℕ, zero, suc, ◌≡◌, ◌≢◌, ◌<◌, ◌≤◌, ◌+◌, ◌==◌, Bool, true, false, not, List, [], ◌∷◌, ◌++◌, map, length, None, Some, ◌⊎◌, refl, sym, ap, ap₂, subst, ◌∙◌, inl, inr, arith, eqb-true, ne_eqb}
 use Rattle.std.specs.Prelude.{if◌then◌else◌, is_none, slice_index_or, slice_get}
-use Rattle.std.specs.Cmp.Lexicographic.{pointwise}
 use Rattle.std.proofs.lemmas.Bool.{cases_Bool, cond-true, cond-false, and_parts, or_cases, both_ways}
-use Rattle.omh_paths.specs.MemberLaws.{member-lt}
+use Rattle.node_grid.specs.ListFacts.{same_list}
+use Rattle.node_grid.specs.SetFacts.{member-lt}
+use Rattle.node_grid.specs.TruthFacts.{not_so, none_is}
 use Rattle.omh_paths.specs.declared.wrapped.Wrapped.{Wrapped}
 use Rattle.omh_paths.specs.declared.wrapped.Wrapped.TheVariants.{Plain, Fault}
 use Rattle.omh_paths.specs.Wrapped.{wrapped}
@@ -25,6 +26,7 @@ use Rattle.protocol.specs.TalkLaws.{first_at, relay_at, heard_push, entries_stab
 use Rattle.protocol.specs.Run.{System}
 use Rattle.protocol.specs.Accepted.{IsAccepted}
 use Rattle.protocol.specs.Configured.{setting_of}
+use Rattle.protocol.specs.Facts.{looked_up_place}
 use Rattle.safety.proofs.Talks.{FormFits, HeardIn, entries_of}
 use Rattle.safety.proofs.Runs.{grammar}
 use Rattle.touched_items.specs.Items.{talk_of, EntryForm, AreEntries, Sizes, sizes_in, IsSent, HasOwn, with_members, first_content, bad_kind}
@@ -34,21 +36,7 @@ use Rattle.heard_links.specs.Hearing.{frame_kind, is_even, source, passed_on}
 use Rattle.heard_links.proofs.Agreeing.{Agree, AreLow, map_low, low_paths, first_rounds, relays_same, heard_same}
 use Rattle.heard_links.proofs.Frames.{sent_in_range, heard_small, first_full, first_idle, relay_full, relay_idle}
 use Rattle.heard_links.proofs.Lengths.{good_long}
-use Rattle.heard_links.proofs.Looking.{looked_at, passed_at}
-
-none_is : {X : Type 0} (o : Option X) → is_none o ≡ true → o ≡ None
-none_is None h = refl
-none_is (Some x) h = cc
-
-pub same_list : (xs ys : List ℕ) → pointwise ◌==◌ xs ys ≡ true → xs ≡ ys
-same_list [] [] h = refl
-same_list [] (y ∷ ys) h = cc
-same_list (x ∷ xs) [] h = cc
-same_list (x ∷ xs) (y ∷ ys) h = let p = and_parts (x == y) (pointwise ◌==◌ xs ys) h in ap₂ ◌∷◌ (eqb-true x y p.0) (same_list xs ys p.1)
-
-not_true : (b : Bool) → not b ≡ true → b ≡ false
-not_true true h = cc
-not_true false h = refl
+use Rattle.heard_links.proofs.Looking.{passed_at}
 
 pub bad_with : {V : Type 0} (paths : List (List ℕ)) (a : Arrival (List (Wrapped V))) → bad_kind (with_entries paths a) ≡ bad_kind a
 bad_with paths (Bad k) = refl
@@ -77,7 +65,7 @@ even_parts t r j i h =
       read = elim (or_cases (r == 0) _ p.1) [
         | inl here ↦ inl (eqb-true r 0 here)
         | inr later ↦ elim (or_cases (not (t.full j)) _ later) [
-          | inl idle ↦ inr (inl (not_true (t.full j) idle))
+          | inl idle ↦ inr (inl (not_so (t.full j) idle))
           | inr same ↦ inr (inr (same_list (t.members j) (t.members i) same))
         ]
       ];
@@ -299,7 +287,7 @@ module _ {V : Type 0} {N : ℕ} (form : ItemForm V) (first : ℕ → ℕ) (tells
       ∙ elim (cases_Bool (t.full q)) [
         | inl f ↦
             ap (λ a. entry a front) (cond-true (t.full q) _ _ f)
-            ∙ looked_at (paths_of (t.members i) (suc k) q) (entries (suc k) q) front placed
+            ∙ looked_up_place (paths_of (t.members i) (suc k) q) (entries (suc k) q) front placed
             ∙ sym (own_is i q k front long f)
         | inr n ↦ ap (λ a. entry a front) (cond-false (t.full q) _ _ n) ∙ sym (own_idle i q front n)
       ]
@@ -319,7 +307,7 @@ module _ {V : Type 0} {N : ℕ} (form : ItemForm V) (first : ℕ → ℕ) (tells
       → ((xs : List (Wrapped V)) → a ≡ Good xs → place_in paths front < length xs → result ≡ slice_index_or xs (place_in paths front) (Fault 0))
       → entry (with_entries paths a) front ≡ result
   good_entry paths front (Bad k) result placed none long is = cc
-  good_entry paths front (Good xs) result placed none long is = looked_at paths xs front placed ∙ sym (is xs refl (omega (arith, long xs refl)))
+  good_entry paths front (Good xs) result placed none long is = looked_up_place paths xs front placed ∙ sym (is xs refl (omega (arith, long xs refl)))
 
   pub heard_relay_good : (i q k : ℕ) (front : List ℕ) → length front ≡ suc k → suc k ≤ m → q < nodes → i < nodes → frame_kind (rounds_upto t m i) (suc k) q ≡ None
       → place_in (paths_of (t.members i) (suc k) q) front < length (paths_of (t.members i) (suc k) q) → (result : Wrapped V)

@@ -5,6 +5,7 @@ use Rattle.std.proofs.lemmas.Bool.{cases_Bool, cases_eq, cond-true, cond-false, 
 use Rattle.std.proofs.lemmas.List.{length_push}
 use Rattle.node_grid.specs.NodeSet.{has_id}
 use Rattle.node_grid.specs.ListLaws.{has_push}
+use Rattle.node_grid.specs.SetFacts.{split_off, front_distinct}
 use Rattle.omh_paths.specs.PathLaws.{off_longer}
 use Rattle.omh_paths.specs.Paths.{place_in, IsPath}
 use Rattle.omh_paths.specs.Wrapped.{wrapped}
@@ -12,6 +13,7 @@ use Rattle.omh_paths.specs.declared.wrapped.Wrapped.{Wrapped}
 use Rattle.omh_paths.specs.declared.wrapped.Wrapped.TheVariants.{Plain, Fault}
 use Rattle.omh.specs.Omh.{World, ear, own_term}
 use Rattle.omh.specs.Written.{IsSmall, last_node}
+use Rattle.omh.specs.Facts.{last_push, front_last}
 use Rattle.settled_paths.specs.Passing.{or_passed, instead, HearAlike}
 use Rattle.settled_paths.specs.Laws.{IsPassedOn}
 use Rattle.protocol.specs.Arrival.{ItemForm, said}
@@ -30,8 +32,8 @@ use Rattle.heard_links.specs.Talks.{members_at}
 use Rattle.heard_links.specs.Coming.{is_untouched}
 use Rattle.heard_links.specs.Hearing.{frame_kind, is_even, is_asked, says_in, IsCame, IsAsked, IsAlikeFrom, IsHeard, item_of, came_at, talk_in, source, passed_on}
 use Rattle.heard_links.specs.Passing.{own_in, world_in, says_of, ArePassedOn}
-use Rattle.heard_links.proofs.Ears.{last_push, says_even, says_heard, asked_if, AskedParts, asked_parts, says_alike}
-use Rattle.heard_links.proofs.Places.{placed_in, source_same, split_off, split_distinct, front_last, last_has}
+use Rattle.heard_links.proofs.Ears.{says_even, says_heard, asked_if, AskedParts, asked_parts, says_alike}
+use Rattle.heard_links.proofs.Places.{placed_in, source_same, last_has}
 use Rattle.heard_links.proofs.Runs.{heard_few, heard_even, heard_relay_even, heard_first_bad, heard_relay_bad, known}
 use Rattle.heard_links.proofs.Sets.{few_nodes, few_m, in_use, front_on}
 
@@ -265,7 +267,7 @@ module _ {V : Type 0} {N : ℕ} (form : ItemForm V) (first : ℕ → ℕ) (tells
         let on_q : has_id (members_at x i) q ≡ true = within q (has_push front q q ∙ or_right (has_id front q) _ (eq-eqb q q refl)) in
         let asked : IsAsked t m x.awake i (front ++ q ∷ []) = record { awake_is = on; within = within; short = path.short; other = λ e. ne (sym (e ∙ last_push front q)) } in
         let off_q = split_off front q path.distinct in
-        let placed = placed_in x.config.now.nodes (few_nodes x h.set) (members_at x i) (h.set.members i) q on_q front (split_distinct front q path.distinct) (front_on t m x.awake i q front asked off_q) in
+        let placed = placed_in x.config.now.nodes (few_nodes x h.set) (members_at x i) (h.set.members i) q on_q front (front_distinct front q path.distinct) (front_on t m x.awake i q front asked off_q) in
         passes_on i q front (own_term (ear w q) front) on within short (λ e. ne (sym e))
         (λ even.
         heard_relay_even form first tells cells in_range made fits x (item_of links) h.set h.sys h.run i q (length back) front refl short (in_use x h.set i q on_q) (h.set.awake i on) even placed

@@ -5,6 +5,7 @@ use Rattle.std.specs.Cmp.Lexicographic.{pointwise}
 use Rattle.std.proofs.lemmas.Bool.{cases_Bool, cond-true, cond-false}
 use Rattle.std.proofs.lemmas.List.{length-map}
 use Rattle.node_grid.specs.NodeSet.{has_id, without_id}
+use Rattle.node_grid.specs.TruthFacts.{and_false}
 use Rattle.omh_paths.specs.declared.wrapped.Wrapped.TheVariants.{Fault}
 use Rattle.omh_paths.specs.Wrapped.{wrapped}
 use Rattle.omh_paths.specs.Paths.{paths_of_length, path_at, paths_avoiding}
@@ -79,10 +80,6 @@ module _ {V : Type 0} {N : ℕ} (form : ItemForm V) (first : ℕ → ℕ) (tells
 pub mapped_some : {X Y : Type 0} (f : X → Y) (o : Option X) → is_some o ≡ true → is_none (option_map f o) ≡ false
 mapped_some f None h = cc
 mapped_some f (Some x) h = refl
-
-and_false : (b : Bool) → (b && false) ≡ false
-and_false true = refl
-and_false false = refl
 
 pub uneven_read : {V : Type 0} (t : Talk V) (r j i : ℕ) → ((r == 0) || (not (t.full j) || pointwise ◌==◌ (t.members j) (t.members i))) ≡ false → is_even t r j i ≡ false
 uneven_read t r j i off = ap (λ (b : Bool). is_none (t.change r j i) && b) off ∙ and_false (is_none (t.change r j i))

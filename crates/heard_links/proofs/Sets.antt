@@ -5,8 +5,8 @@ use Rattle.std.proofs.lemmas.List.{length_push}
 use Rattle.node_grid.specs.NodeSet.{has_id, without_id}
 use Rattle.node_grid.specs.CapacityLaws.{capacity-le}
 use Rattle.node_grid.specs.ListLaws.{has_push}
-use Rattle.omh_paths.specs.MemberLaws.{member-lt}
-use Rattle.omh_paths.specs.PathLists.{has-without}
+use Rattle.node_grid.specs.SetFacts.{member-lt, has-without}
+use Rattle.omh.specs.Facts.{last_push}
 use Rattle.agreed_state.specs.ConfigLaws.{few_rounds}
 use Rattle.fault_classes.specs.Change.{Change}
 use Rattle.frames.specs.Content.{Content, Expectation}
@@ -15,7 +15,6 @@ use Rattle.protocol.specs.Talk.{Talk, frame_by, arrives}
 use Rattle.heard_links.specs.declared.phase.Phase.{Phase}
 use Rattle.heard_links.specs.Talks.{members_at, IsSet}
 use Rattle.heard_links.specs.Hearing.{ActsAs, IsAsked}
-use Rattle.heard_links.proofs.Ears.{last_push}
 
 pub none_first : (xs : List ℕ) (i : ℕ) → None ≡ slice_get xs 0 → has_id xs i ≡ true → ⊥
 none_first [] i h on = cc

@@ -4,13 +4,15 @@ use Rattle.std.specs.List.{range_with_len}
 use Rattle.std.proofs.Math.Path.{fun_ext}
 use Rattle.node_grid.specs.NodeSet.{ids_below, ids_where, mask_of}
 use Rattle.node_grid.specs.Version.{kind_count}
+use Rattle.node_grid.specs.NumberFacts.{kinds-few}
+use Rattle.node_grid.specs.TruthFacts.{or_false}
 use Rattle.error_reports.specs.Charge.{accuses}
 use Rattle.error_reports.specs.Notes.{Notes, noted_besides}
 use Rattle.error_reports.specs.NoteLaws.{noted_twice, noted_alike}
 use Rattle.fault_classes.specs.Plan.{restarts_at}
 use Rattle.agreed_state.specs.declared.config.Inputs.{Inputs}
 use Rattle.agreed_state.specs.Agreed.{AgreedView}
-use Rattle.protocol.specs.RowLaws.{mask-zero, kinds-few}
+use Rattle.protocol.specs.RowLaws.{mask-zero}
 use Rattle.protocol.specs.View.{Setting, Kept, Received, row_by, through, adopted_by, joined, view_from, opened}
 use Rattle.protocol.specs.Run.{System, all_kept, goes_in, delivered}
 use Rattle.safety.proofs.Induction.{accuses_none}
@@ -28,10 +30,6 @@ all_zero : (n a : ℕ) → ◌≡◌ {A = List ℕ} (map {B = ℕ} (λ j. 0) (ra
 all_zero zero a = refl
 all_zero (suc n) a = ap (λ (xs : List ℕ). 0 ∷ xs) (all_zero n (a + 1))
 
-or_none : (b : Bool) → (b || false) ≡ b
-or_none true = refl
-or_none false = refl
-
 same_row : (s : Setting) (i : ℕ) (f g : ℕ → ℕ → Bool) → ((j k : ℕ) → f j k ≡ g j k) → row_by s i f ≡ row_by s i g
 same_row s i f g h = ap (row_by s i) (fun_ext (λ j. fun_ext (λ k. h j k)))
 
@@ -47,7 +45,7 @@ none_row s i f none = ap (λ (g : ℕ → ℕ). map g (ids_below s.capacity)) (f
 pub plain_empty : (s : Setting) (i : ℕ) → IsPlain s i (replicate s.capacity 0)
 plain_empty s i =
     besides_by s i (replicate s.capacity 0) (λ j k. false)
-    ∙ none_row s i (λ j k. accuses (replicate s.capacity 0) j k || false) (λ j k. or_none (accuses (replicate s.capacity 0) j k) ∙ accuses_none s.capacity j k)
+    ∙ none_row s i (λ j k. accuses (replicate s.capacity 0) j k || false) (λ j k. or_false (accuses (replicate s.capacity 0) j k) ∙ accuses_none s.capacity j k)
 
 -- a node's row
 pub plain_row : (s : Setting) (i : ℕ) (f : ℕ → ℕ → Bool) → IsPlain s i (row_by s i f)
@@ -65,7 +63,7 @@ plain_row s i f = subst (λ (row : List ℕ). IsPlain s i row) again twice
     twice : IsPlain s i (noted_besides s.capacity (kind_count s.config.version) s.config.nodes i zero_row f)
     twice = ap (λ (n : Notes). n.row)
         (noted_twice s.capacity blank f (λ j k. false) (kinds-few s.config.version)
-        ∙ noted_alike s.capacity blank (λ j k. f j k || false) f (λ j k low used other within. or_none (f j k)))
+        ∙ noted_alike s.capacity blank (λ j k. f j k || false) f (λ j k low used other within. or_false (f j k)))
 
 carried_kept : (s : Setting) (i p : ℕ) (g : Inputs) (k : Kept) (x : Received) (o : Option AgreedView) → IsPlain s i (view_from s i p g k x o).kept.carried
 unfolding through

@@ -1,17 +1,20 @@
 -- A node without a state adopts that of a leader.
-use Rattle.std.proofs.Common.{ℕ, zero, suc, ◌≡◌, ◌≢◌, ◌<◌, ◌≤◌, ◌+◌, ◌-◌, Bool, true, false, cond, not, ◌&&◌, ◌||◌, ◌==◌, List, [], ◌∷◌, length, map, Option, None, Some, refl, sym, ap, ap₂, ◌∙◌, inl, inr, arith, nat_lt, lt-ltb, le-ltb, eq-eqb, ne_eqb}
+use Rattle.std.proofs.Common.{ℕ, zero, suc, ◌≡◌, ◌≢◌, ◌<◌, ◌≤◌, ◌+◌, ◌-◌, Bool, true, false, not, ◌&&◌, ◌||◌, ◌==◌, List, [], ◌∷◌, length, map, Option, None, Some, refl, sym, ap, ap₂, ◌∙◌, inl, inr, arith, nat_lt, lt-ltb, le-ltb, eq-eqb, ne_eqb}
 use Rattle.std.specs.Prelude.{if◌then◌else◌, is_some}
-use Rattle.std.specs.List.{filter, range_with_len}
-use Rattle.std.proofs.lemmas.Bool.{cases_lt, cond-true, and_parts, not-true, eqb-true}
-use Rattle.std.proofs.lemmas.Map.Views.{any-filter_same}
+use Rattle.std.specs.List.{range_with_len}
+use Rattle.std.proofs.lemmas.Bool.{cases_lt, cond-true, and_parts, not-true}
 use Rattle.node_grid.specs.Count.{bit, count}
 use Rattle.node_grid.specs.CapacityLaws.{capacity-le}
 use Rattle.node_grid.specs.NodeSet.{ids_below, has_id, minus_of, common_of}
+use Rattle.node_grid.specs.ListLaws.{bit_le}
+use Rattle.node_grid.specs.NodeSetLaws.{has_filtered}
+use Rattle.node_grid.specs.SetFacts.{length_filter, has_minus}
 use Rattle.omh_paths.specs.declared.wrapped.Wrapped.{Wrapped}
 use Rattle.omh_paths.specs.declared.wrapped.Wrapped.TheVariants.{Plain}
 use Rattle.omh_paths.specs.Wrapped.{same, is_error}
 use Rattle.omh_paths.specs.Paths.{same_nodes}
 use Rattle.omh_paths.specs.MajorityLaws.{majority_is}
+use Rattle.omh_paths.specs.Facts.{paths_exact}
 use Rattle.agreed_state.specs.Agreed.{AgreedView}
 use Rattle.agreed_state.specs.Body.{body}
 use Rattle.agreed_state.specs.ReadLaws.{read_back}
@@ -20,7 +23,6 @@ use Rattle.protocol.specs.Arrival.{Arrival}
 use Rattle.protocol.specs.Arrival.Arrival.{Good}
 use Rattle.protocol.specs.View.{content, adopted_by}
 use Rattle.protocol.specs.Configured.{setting_of}
-use Rattle.safety.proofs.Talks.{paths_exact}
 use Rattle.shared_states.specs.Sharing.{state_at, IsShared}
 use Rattle.heard_states.specs.Slot.{told_state}
 use Rattle.heard_states.specs.Hearing.{IsSending, told_by}
@@ -30,12 +32,6 @@ use Rattle.heard_states.proofs.Alike.{some_at}
 use Rattle.heard_states.proofs.Frames.{told_clean}
 
 -- ---- sets
-
-has_filtered : (p : ℕ → Bool) (xs : List ℕ) (x : ℕ) → has_id (filter p xs) x ≡ (p x && has_id xs x)
-has_filtered p xs x = any-filter_same (λ y. y == x) p (p x) (λ k e. ap p (eqb-true k x e)) xs
-
-has_minus : (xs ys : List ℕ) (x : ℕ) → has_id (minus_of xs ys) x ≡ (not (has_id ys x) && has_id xs x)
-has_minus xs ys x = has_filtered (λ k. not (has_id ys k)) xs x
 
 -- what is in what two sets share is in both
 in_both : (xs ys : List ℕ) (x : ℕ) → has_id (common_of xs ys) x ≡ true → (has_id xs x ≡ true) × (has_id ys x ≡ true)
@@ -49,15 +45,6 @@ teller_is s leader j sharers shared on =
     let both = in_both (minus_of s.senders.full s.senders.touched) sharers j on in
     let p = and_parts (not (has_id s.senders.touched j)) (has_id s.senders.full j) (sym (has_minus s.senders.full s.senders.touched j) ∙ both.0) in
     record { full = p.1; untouched = not-true (has_id s.senders.touched j) p.0; shared = shared j both.1 }
-
-length_count : (p : ℕ → Bool) (xs : List ℕ) → length (filter p xs) ≡ count p xs
-length_count p [] = refl
-length_count p (x ∷ xs) =
-    let rest = length_count p xs in
-    elim (p x) as (λ b. length (cond b (x ∷ filter p xs) (filter p xs)) ≡ bit b + count p xs) [
-      | true ↦ omega arith
-      | false ↦ omega arith
-    ]
 
 low_few : (n a r : ℕ) → count (λ q. nat_lt q n) (range_with_len a r) ≤ n - a
 low_few n a zero = omega arith
@@ -79,10 +66,6 @@ record Term (low teller error is : Bool) : Type 0 where
   few : bit (not error) ≤ bit low
   more : bit teller ≤ bit is
 
-bit_few : (b : Bool) → bit b ≤ 1
-bit_few true = omega arith
-bit_few false = omega arith
-
 term_one : (own : List ℕ) (low other teller : Bool) (b : Arrival (List ℕ)) → (teller ≡ true → (low ≡ true) × ((other ≡ true) × (b ≡ Good own)))
     → Term low teller (is_error (offered (if low && other then content b else None))) (same same_nodes (Plain own) (offered (if low && other then content b else None)))
 term_one own low other true b tells =
@@ -96,7 +79,7 @@ term_one own low other true b tells =
     record { few = omega arith; more = omega arith }
 term_one own false other false b tells = record { few = omega arith; more = omega arith }
 term_one own true other false b tells =
-    let k = bit_few (not (is_error (offered (if true && other then content b else None)))) in
+    let k = bit_le (not (is_error (offered (if true && other then content b else None)))) in
     record { few = k; more = omega arith }
 
 record Terms (low teller : ℕ → Bool) (bodies : ℕ → Option (List ℕ)) (v : Wrapped (List ℕ)) (qs : List ℕ) : Type 0 where
@@ -142,7 +125,7 @@ module _ {N : ℕ} {s : Sending N} (ok : IsSending s) (i j : ℕ) (used : i < s.
       let many = l.many in
       let t_few = t.few in
       let t_more = t.more in
-      let ids : length l.tellers ≡ count (λ q. has_id l.tellers q) (ids_below N) = ap length l.ids ∙ length_count (λ q. has_id l.tellers q) (ids_below N) in
+      let ids : length l.tellers ≡ count (λ q. has_id l.tellers q) (ids_below N) = ap length l.ids ∙ length_filter (λ q. has_id l.tellers q) (ids_below N) in
       ap (state_read N config) (majority_is paths_exact (map offered (map bodies (ids_below N))) (Plain own) refl (omega arith))
       ∙ read_back N config h.0 (capacity-le N ok.slot_is.capacity) ok.slot_is.config (ok.agreed j h.0 h.1)
       ∙ sym h.1

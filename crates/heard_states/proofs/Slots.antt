@@ -15,6 +15,7 @@ use Rattle.error_reports.specs.Notes.{Notes, noted_besides, also_noted}
 use Rattle.error_reports.specs.NoteLaws.{noted_alike}
 use Rattle.agreed_state.specs.Agreed.{AgreedView}
 use Rattle.agreed_state.specs.Body.{body, state_len}
+use Rattle.agreed_state.specs.Facts.{none_unless}
 use Rattle.protocol.specs.Arrival.{Arrival, is_good, body_said}
 use Rattle.protocol.specs.Arrival.Arrival.{Good}
 use Rattle.protocol.specs.Talk.{arrives}
@@ -62,10 +63,6 @@ pub senders_kept : {n : ℕ} (slot : SyncSlot n) → IsSyncSlot slot → (full t
     → AreUntouched slot touched → length now ≡ n → AreAgreed slot.config.now now → ((j : ℕ) → has_id full j ≡ true → state_at now j ≡ state_at old j) → AreSenders slot (record { full = full; touched = touched }) now
 senders_kept slot ok full touched old now there used untouched long agreed kept = record { slot_is = ok; long = long; agreed = agreed; used = used; there = λ j on. ap is_some (kept j on) ∙ there j on; untouched = untouched }
 
-pub none_at : (o : Option AgreedView) → (is_some o ≡ true → ⊥) → o ≡ None
-none_at None h = refl
-none_at (Some a) h = absurd (h refl)
-
 -- the nodes that are awake when the slot begins
 module _ {n : ℕ} (slot : SyncSlot n) (states : List (Option AgreedView)) (notes : List Notes) (ok : IsSyncSlot slot) (ready : AreReady slot states notes) (full : List ℕ) (is : full ≡ ids_where (λ i. is_some (state_at states i)) n) where
   pub full_there : (j : ℕ) → has_id full j ≡ true → is_some (state_at states j) ≡ true
@@ -81,7 +78,7 @@ module _ {n : ℕ} (slot : SyncSlot n) (states : List (Option AgreedView)) (note
   full_used j on = ready.used j (full_there j on)
 
   pub none_off : (j : ℕ) → has_id full j ≡ false → state_at states j ≡ None
-  none_off j off = none_at (state_at states j) (λ t. let z : false ≡ true = sym off ∙ there_full j t in cc)
+  none_off j off = none_unless (state_at states j) (λ t. let z : false ≡ true = sym off ∙ there_full j t in cc)
 
 -- node i has taken what it adopts, if it had no state
 pub record IsTaken {n : ℕ} (slot : SyncSlot n) (full : List ℕ) (i : ℕ) (states now : List (Option AgreedView)) : Type 0 where

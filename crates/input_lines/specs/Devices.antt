@@ -1,5 +1,5 @@
 -- What is seen of the devices of a program that reads lines, and what reads and writes one after another come to.
-use Rattle.std.proofs.Common.{◌≡◌, ℕ, List, [], ◌++◌, length-append, arith, append-nil, refl, sym, ap, ◌∙◌, subst, inl, inr, Option, None, Some}
+use Rattle.std.proofs.Common.{◌≡◌, ℕ, List, [], ◌++◌, length-append, arith, append-nil, refl, sym, ◌∙◌, subst, inl, inr, Option, None, Some}
 use Rattle.std.specs.Prelude.{◌⊎◌, IfSome}
 use Rattle.std.specs.Io.KnownBytes.{Appends, Consumes, Keeps, IsAtEnd}
 use Rattle.std.proofs.KnownBytes.{Appends-trans, Appends-nil, Consumes-nil, Consumes-trans}
@@ -66,12 +66,6 @@ gave_both a b c first second x y = record {
 
 pub gave_no_more : (a b c : SourceView) (first : List ℕ) → GivesBytes a b first → GivesBytes b c [] → GivesBytes a c first
 gave_no_more a b c first x y = subst (GivesBytes a c) (append-nil first) (gave_both a b c first [] x y)
-
-pub consumes_kept : (a b c : Option (List ℕ)) (bytes : List ℕ) → Consumes a b bytes → Keeps b c → Consumes a c bytes
-consumes_kept None b c bytes p q = tt
-consumes_kept (Some x) None c bytes p q = absurd p
-consumes_kept (Some x) (Some y) None bytes p q = absurd q
-consumes_kept (Some x) (Some y) (Some z) bytes p q = p ∙ ap (λ w. bytes ++ w) (sym q)
 
 -- ---- what is written
 

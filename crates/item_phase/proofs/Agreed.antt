@@ -2,7 +2,7 @@
 use Rattle.std.proofs.Common.{ℕ, ◌≡◌, ◌≢◌, ◌<◌, ◌≤◌, ◌+◌, Bool, true, false, None, List, [], sym, ap, subst, ◌∙◌}
 use Rattle.std.proofs.lemmas.Bool.{both_ways}
 use Rattle.node_grid.specs.NodeSet.{has_id, minus_of}
-use Rattle.omh_paths.specs.MemberLaws.{member-lt}
+use Rattle.node_grid.specs.SetFacts.{member-lt, all_within}
 use Rattle.protocol.specs.Arrival.{ItemForm}
 use Rattle.protocol.specs.Run.{System}
 use Rattle.heard_links.specs.declared.links.Links.{Links}
@@ -14,7 +14,6 @@ use Rattle.item_phase.specs.declared.item_phase.ItemPhase.{ItemPhase}
 use Rattle.item_phase.specs.declared.item_phase.Seen.{Seen}
 use Rattle.item_phase.specs.Noted.{rounds_of}
 use Rattle.item_phase.specs.Settled.{IsOfAll, IsPlain, IsLaid, IsSeen, IsSettled}
-use Rattle.item_phase.proofs.Marking.{all_in}
 
 pub still_heard : {V : Type 0} {N : ℕ} (form : ItemForm V) (first : ℕ → ℕ) (tells : System → ℕ → ℕ → V) (x : Phase N) (upto : ℕ) (a b : Links V N) → a ≡ b → IsHeard form first tells x b upto → IsHeard form first tells x a upto
 still_heard {V} {N} form first tells x upto a b same heard = subst (λ (l : Links V N). IsHeard form first tells x l upto) (sym same) heard
@@ -26,7 +25,7 @@ pub seen_of_all : {V : Type 0} {N : ℕ} (form : ItemForm V) (x : Phase N) (link
     → IsSeen form x links seen
 seen_of_all form x links members all seen none used well = record {
   same = λ is i j on_i on_j. all.same i on_i ∙ sym (all.same j on_j);
-  plain = λ is i c on member. all_in members seen.plain c (none is) (ap (λ (ids : List ℕ). has_id ids c) (sym (all.same i on)) ∙ member);
+  plain = λ is i c on member. all_within members seen.plain c (none is) (ap (λ (ids : List ℕ). has_id ids c) (sym (all.same i on)) ∙ member);
   used = used;
   well = well;
 }

@@ -1,9 +1,9 @@
 -- What one node settles by what it hears for the paths that are asked for.
-use Rattle.std.proofs.Common.{ℕ, ◌≡◌, ◌≢◌, ◌≤◌, ◌+◌, arith, Bool, true, List, [], ◌∷◌, not, ap, ap₂, ◌∙◌, ne_eqb}
+use Rattle.std.proofs.Common.{ℕ, ◌≡◌, ◌≢◌, ◌+◌, Bool, true, List, [], ◌∷◌, not, ap, ap₂, ◌∙◌, ne_eqb}
 use Rattle.std.proofs.lemmas.Bool.{cond-true, and_from}
-use Rattle.std.specs.Prelude.{length, nat_le}
-use Rattle.std.proofs.lemmas.Bool.Decides.{nat_tests}
+use Rattle.std.specs.Prelude.{length}
 use Rattle.node_grid.specs.NodeSet.{has_id}
+use Rattle.node_grid.specs.NumberFacts.{le_yes}
 use Rattle.omh_paths.specs.declared.wrapped.Wrapped.{Wrapped}
 use Rattle.omh_paths.specs.declared.wrapped.Wrapped.TheVariants.{Fault}
 use Rattle.omh.specs.Omh.{Ear, settled_at}
@@ -21,9 +21,6 @@ use Rattle.item_phase.specs.Settled.{listener}
 use Rattle.item_phase.specs.Listening.{hears_in}
 use Rattle.item_phase.proofs.Accounts.{IsAskedFor, settled_same, convicted_same}
 
-le_true : (a b : ℕ) → a ≤ b → nat_le a b ≡ true
-le_true a b h = grind (arith, nat_tests)
-
 module _ {V : Type 0} {N : ℕ} (eq : V → V → Bool) (form : ItemForm V) (x : Phase N) (links : Links V N) (i : ℕ) (on : has_id x.awake i ≡ true) where
   abbrev m : ℕ
   m = x.config.now.m
@@ -40,7 +37,7 @@ module _ {V : Type 0} {N : ℕ} (eq : V → V → Bool) (form : ItemForm V) (x :
 
   asked : (path : List ℕ) → IsAskedFor mine i m path → is_asked (talk_in form x links) m x.awake i path ≡ true
   asked path is =
-      and_from _ _ on (and_from _ _ (all_within mine path is.within) (and_from _ _ (le_true (length path) (m + 1) is.short) (ap not (ne_eqb i (last_node path) is.other))))
+      and_from _ _ on (and_from _ _ (all_within mine path is.within) (and_from _ _ (le_yes (length path) (m + 1) is.short) (ap not (ne_eqb i (last_node path) is.other))))
 
   hears_same : (path : List ℕ) → IsAskedFor mine i m path → hears path ≡ heard (rounds_upto (talk_in form x links) m i) path
   hears_same path is = cond-true (is_asked (talk_in form x links) m x.awake i path) (heard (rounds_upto (talk_in form x links) m i) path) (Fault 0) (asked path is)

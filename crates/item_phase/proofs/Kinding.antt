@@ -1,34 +1,18 @@
 -- One kind of error of one node, noted besides.
-use Rattle.std.proofs.Common.{ℕ, ◌≡◌, ◌≢◌, ◌<◌, ◌≤◌, ◌*◌, ◌%◌, ◌^◌, ◌==◌, ◌||◌, ◌&&◌, Bool, true, false, not, if◌then◌else◌, List, length, bit_or, get_or, get_or-set_same, get_or-set_other, refl, sym, ap, ap₂, ◌∙◌, inl, inr, arith, eq-eqb, eqb-true, ne_eqb}
+use Rattle.std.proofs.Common.{ℕ, ◌≡◌, ◌≢◌, ◌<◌, ◌≤◌, ◌*◌, ◌%◌, ◌^◌, ◌==◌, ◌||◌, ◌&&◌, Bool, true, false, not, if◌then◌else◌, List, length, bit_or, get_or, get_or-set_same, get_or-set_other, refl, sym, ap, ap₂, ◌∙◌, inl, inr, arith, eq-eqb, ne_eqb}
 use Rattle.std.specs.Prelude.{nat_lt, slice_index}
 use Rattle.std.specs.Int.{bit_at, w16}
-use Rattle.std.proofs.lemmas.Bool.{cases_Bool, cases_eq, cond-true, eqb-false}
-use Rattle.std.proofs.lemmas.Bool.Decides.{nat_tests}
+use Rattle.std.proofs.lemmas.Bool.{cases_eq, cond-true}
 use Rattle.std.proofs.lemmas.List.{length-set}
 use Rattle.std.proofs.lemmas.List.FromFn.{fill_by_all, get_or-map-range_with_len, length-map-range_with_len}
 use Rattle.std.proofs.lemmas.Nat.Bits.{bit_at-lt, bit_at_set_same, bit_at_set_other, same_from_bits_below}
 use Rattle.node_grid.specs.NodeSet.{ids_where, mask_of}
 use Rattle.node_grid.specs.NodeSetLaws.{put_fits, shifted_short}
-use Rattle.node_grid.specs.MaskLaws.{mask-fits, mask-has, same_masks}
+use Rattle.node_grid.specs.MaskLaws.{mask-fits, mask-has, same_masks, same_bit}
+use Rattle.node_grid.specs.NumberFacts.{lt_yes}
+use Rattle.node_grid.specs.TruthFacts.{or_false, or_yes}
 use Rattle.error_reports.specs.Charge.{accuses}
 use Rattle.error_reports.specs.Notes.{Notes, with_kind, noted_row, also_noted, also_carried}
-
-same_bit : (a b : ℕ) → a < 2 → b < 2 → (a == 1) ≡ (b == 1) → a ≡ b
-same_bit a b low_a low_b same = elim (cases_Bool (a == 1)) [
-  | inl one ↦ eqb-true a 1 one ∙ sym (eqb-true b 1 (sym same ∙ one))
-  | inr none ↦
-      let off_a = eqb-false a 1 none in
-      let off_b = eqb-false b 1 (sym same ∙ none) in
-      omega (arith, low_a, low_b, off_a, off_b)
-]
-
-or_yes : (b : Bool) → (b || true) ≡ true
-or_yes true = refl
-or_yes false = refl
-
-or_no : (b : Bool) → (b || false) ≡ b
-or_no true = refl
-or_no false = refl
 
 -- a mask with one kind besides
 with_bit : (p : ℕ → Bool) (kinds kind : ℕ) → kinds ≤ 16 → kind < kinds → bit_or (mask_of (ids_where p kinds)) (2 ^ kind) ≡ mask_of (ids_where (λ e. p e || e == kind) kinds)
@@ -45,11 +29,8 @@ with_bit p kinds kind few low =
           ∙ sym (mask-has both kinds e few there ∙ ap (λ (b : Bool). p e || b) (eq-eqb e kind here) ∙ or_yes (p e))
       | inr ne ↦
           ap (λ (b : ℕ). b == 1) (bit_at_set_other w16 m kind (omega (arith, few, low)) e ne) ∙ mask-has p kinds e few there
-          ∙ sym (mask-has both kinds e few there ∙ ap (λ (b : Bool). p e || b) (ne_eqb e kind ne) ∙ or_no (p e))
+          ∙ sym (mask-has both kinds e few there ∙ ap (λ (b : Bool). p e || b) (ne_eqb e kind ne) ∙ or_false (p e))
     ]))
-
-tells_low : (a b : ℕ) → a < b → nat_lt a b ≡ true
-tells_low a b h = grind (arith, nat_tests)
 
 -- the mask of a node in a row of notes
 abbrev mask_at : Notes → (ℕ → ℕ → Bool) → ℕ → ℕ
@@ -76,13 +57,13 @@ module _ (capacity : ℕ) (n : Notes) (j kind : ℕ) (within : also_noted capaci
   others k ne = ap (λ (b : Bool). mask_at n (λ i e. accuses n.row i e || (b && e == kind)) k) (sym (ne_eqb k j ne))
 
   said : (nat_lt j n.nodes && not (j == n.me)) ≡ true
-  said = ap₂ (λ (a b : Bool). a && not b) (tells_low j n.nodes used) (ne_eqb j n.me other)
+  said = ap₂ (λ (a b : Bool). a && not b) (lt_yes j n.nodes used) (ne_eqb j n.me other)
 
   here : bit_or (slice_index n.row j) (2 ^ kind) ≡ mask_at n both j
   here =
       ap (λ (mask : ℕ). bit_or mask (2 ^ kind)) (mask_is j low ∙ cond-true _ (mask_of (ids_where (was j) n.kinds)) 0 said)
       ∙ with_bit (was j) n.kinds kind few there
-      ∙ same_masks (λ e. was j e || e == kind) (both j) n.kinds (λ e within. ap₂ (λ (a b : Bool). a || b) (or_no (accuses n.row j e)) (ap (λ (b : Bool). b && e == kind) (sym (eq-eqb j j refl))))
+      ∙ same_masks (λ e. was j e || e == kind) (both j) n.kinds (λ e within. ap₂ (λ (a b : Bool). a || b) (or_false (accuses n.row j e)) (ap (λ (b : Bool). b && e == kind) (sym (eq-eqb j j refl))))
       ∙ sym (cond-true _ (mask_of (ids_where (both j) n.kinds)) 0 said)
 
   each : (k : ℕ) → k < capacity → get_or (with_kind n.row j kind) k 0 ≡ mask_at n both k

@@ -1,9 +1,9 @@
 -- What is laid down for one node of one member's item.
-use Rattle.std.proofs.Common.{ℕ, ◌≡◌, ◌≢◌, ◌<◌, ◌+◌, ◌*◌, ◌==◌, ◌&&◌, ◌||◌, ◌⊎◌, Bool, true, false, not, List, [], length, refl, sym, ap, ◌∙◌, inl, inr, arith, eq-eqb, eqb-true, ne_eqb, get_or, set, get_or-set_same, get_or-set_other}
-use Rattle.std.proofs.lemmas.Bool.{cases_eq, cases_lt, or_left, and_parts, not-true, both_ways}
-use Rattle.std.proofs.lemmas.Map.Views.{any-filter_same}
-use Rattle.node_grid.specs.NodeSet.{has_id, with_id, without_id, minus_of, ids_below}
-use Rattle.node_grid.specs.NodeSetLaws.{has-with_id, has-without_id, has-range, hasnt-above, filter_every}
+use Rattle.std.proofs.Common.{ℕ, ◌≡◌, ◌≢◌, ◌<◌, ◌+◌, ◌*◌, ◌==◌, ◌&&◌, ◌||◌, ◌⊎◌, Bool, true, false, not, List, [], length, refl, sym, ap, ◌∙◌, inl, inr, arith, eq-eqb, ne_eqb, get_or, set, get_or-set_same, get_or-set_other}
+use Rattle.std.proofs.lemmas.Bool.{cases_eq, or_left, and_parts, not-true}
+use Rattle.node_grid.specs.NodeSet.{has_id, with_id, without_id, minus_of}
+use Rattle.node_grid.specs.NodeSetLaws.{has-with_id, has-without_id}
+use Rattle.node_grid.specs.SetFacts.{has_minus}
 use Rattle.item_phase.proofs.Placing.{rows_apart}
 
 -- places by member and node
@@ -23,9 +23,6 @@ places_apart n c k i j low_i low_j apart = elim (cases_eq k c) [
 pub marked_in : (n : ℕ) (s : List ℕ) (i : ℕ) → i < n → has_id (with_id n (without_id s i) i) i ≡ true
 marked_in n s i low = has-with_id n (without_id s i) i i low ∙ or_left (i == i) _ (eq-eqb i i refl)
 
-pub marked_out : (s : List ℕ) (i : ℕ) → has_id (without_id s i) i ≡ false
-marked_out s i = has-without_id s i i ∙ ap (λ (b : Bool). not b && has_id s i) (eq-eqb i i refl)
-
 pub kept_out : (s : List ℕ) (i k : ℕ) → k ≢ i → has_id (without_id s i) k ≡ has_id s k
 kept_out s i k ne = has-without_id s i k ∙ ap (λ (b : Bool). not b && has_id s k) (ne_eqb k i ne)
 
@@ -40,10 +37,6 @@ set_kept sets now c more is i k ne = ap (λ (those : List (List ℕ)). has_id (g
 pub set_here : (sets now : List (List ℕ)) (c : ℕ) (more : List ℕ) → now ≡ set sets c more → c < length sets → get_or now c [] ≡ more
 set_here sets now c more is room = ap (λ (those : List (List ℕ)). get_or those c []) is ∙ get_or-set_same sets c more [] room
 
--- a node that is in one set and not in another
-pub has_minus : (these those : List ℕ) (q : ℕ) → has_id (minus_of these those) q ≡ (not (has_id those q) && has_id these q)
-has_minus these those q = any-filter_same (λ y. y == q) (λ j. not (has_id those j)) (not (has_id those q)) (λ j e. ap (λ (n : ℕ). not (has_id those n)) (eqb-true j q e)) these
-
 pub in_minus : (these those : List ℕ) (q : ℕ) → has_id (minus_of these those) q ≡ true → (has_id these q ≡ true) × (has_id those q ≡ false)
 in_minus these those q on =
     let parts = and_parts (not (has_id those q)) (has_id these q) (sym (has_minus these those q) ∙ on) in
@@ -56,17 +49,3 @@ taken_out these those q out = left_out (has_id those q) (has_id these q) (sym (h
     left_out : (a b : Bool) → (not a && b) ≡ false → b ≡ true → a ≡ true
     left_out true b off on = refl
     left_out false b off on = cc
-
--- all nodes of one set are in another
-pub all_in : (these those : List ℕ) (q : ℕ) → minus_of these those ≡ [] → has_id these q ≡ true → has_id those q ≡ true
-all_in these those q none = taken_out these those q (ap (λ (s : List ℕ). has_id s q) none)
-
--- a node below a number is one of all below it, and no other is
-pub has_below : (n k : ℕ) → k < n → has_id (ids_below n) k ≡ true
-has_below n k low = has-range 0 n k (omega arith) (omega (arith, low))
-
-pub low_below : (n k : ℕ) → has_id (ids_below n) k ≡ true → k < n
-low_below n k on = elim (cases_lt k n) [
-  | inl low ↦ low
-  | inr high ↦ absurd (both_ways _ (hasnt-above n (ids_below n) k (sym (filter_every (has_id (ids_below n)) 0 n (λ i from to. has-range 0 n i from to))) high) on)
-]

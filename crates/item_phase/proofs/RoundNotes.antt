@@ -1,10 +1,13 @@
 -- What is noted round by round.
-use Rattle.std.proofs.Common.{ℕ, zero, suc, ◌≡◌, ◌≢◌, ◌<◌, ◌≤◌, ◌+◌, ◌==◌, ◌||◌, ◌&&◌, Bool, true, false, Option, None, Some, List, [], ◌∷◌, ◌++◌, refl, sym, ap, ◌∙◌, inl, inr, arith, eq-eqb, ne_eqb}
+use Rattle.std.proofs.Common.{ℕ, zero, suc, ◌≡◌, ◌≢◌, ◌<◌, ◌≤◌, ◌+◌, ◌==◌, ◌||◌, ◌&&◌, Bool, true, false, Option, None, Some, List, [], ◌∷◌, ◌++◌, refl, sym, ap, ◌∙◌, inl, inr, arith, ne_eqb}
 use Rattle.std.specs.List.{list_any, range_with_len}
 use Rattle.std.proofs.lemmas.Bool.{cases_Bool, cases_eq, cond-true, cond-false}
 use Rattle.node_grid.specs.NodeSet.{has_id}
-use Rattle.node_grid.specs.ListLaws.{has_push}
+use Rattle.node_grid.specs.ListLaws.{has_push, eqb_sym}
 use Rattle.node_grid.specs.Version.{kind_count}
+use Rattle.node_grid.specs.ListFacts.{any_more}
+use Rattle.node_grid.specs.NumberFacts.{kinds-few}
+use Rattle.node_grid.specs.TruthFacts.{and_false, or_assoc, or_false}
 use Rattle.error_reports.specs.Notes.{Notes, is_kind, also_noted, also_carried}
 use Rattle.error_reports.specs.NoteLaws.{noted_alike, noted_twice, carried_alike}
 use Rattle.protocol.specs.Arrival.{Arrival, is_bad}
@@ -14,20 +17,6 @@ use Rattle.touched_items.specs.Items.{bad_kind}
 use Rattle.heard_links.specs.Hearing.{frame_kind}
 use Rattle.agreed_state.specs.declared.config.Config.{Config}
 use Rattle.item_phase.specs.Noted.{found_below, of_node, IsNoter, IsCarrier}
-
-or_false : (b : Bool) → (b || false) ≡ b
-or_false true = refl
-or_false false = refl
-
-or_assoc : (a b c : Bool) → ((a || b) || c) ≡ (a || (b || c))
-or_assoc true b c = refl
-or_assoc false b c = refl
-
-any_more : (f : ℕ → Bool) (a n : ℕ) → list_any f (range_with_len a (suc n)) ≡ (list_any f (range_with_len a n) || f (a + n))
-any_more f a zero = or_false (f a) ∙ ap f (let e : a ≡ a + 0 = omega arith in e)
-any_more f a (suc n) =
-    ap (λ (b : Bool). f a || b) (any_more f (a + 1) n ∙ ap (λ (m : ℕ). list_any f (range_with_len (a + 1) n) || f m) (let e : a + 1 + n ≡ a + suc n = omega arith in e))
-    ∙ sym (or_assoc (f a) (list_any f (range_with_len (a + 1) n)) (f (a + suc n)))
 
 -- a frame's kind of error is the one that it has
 kind_is : {C : Type 0} (a : Arrival C) (e : ℕ) → is_kind (bad_kind a) e ≡ is_bad a e
@@ -49,13 +38,6 @@ found_more x (suc r) j e =
     ∙ or_assoc (is_bad (x.first j) e) (list_any (λ n. is_bad (x.relay n j) e) (range_with_len 1 r)) (is_bad (x.relay (suc r) j) e)
     ∙ ap (λ (c : Bool). is_bad (x.first j) e || c) (sym (any_more (λ n. is_bad (x.relay n j) e) 1 r ∙ ap (λ (n : ℕ). list_any (λ n. is_bad (x.relay n j) e) (range_with_len 1 r) || is_bad (x.relay n j) e) (let h : 1 + r ≡ suc r = omega arith in h)))
 
--- a version has this many kinds
-pub few_kinds : (version : ℕ) → kind_count version ≤ 16
-few_kinds version = elim (cases_Bool (version == 1)) [
-  | inl one ↦ let e : kind_count version ≡ 8 = cond-true (version == 1) 8 16 one in omega arith
-  | inr other ↦ let e : kind_count version ≡ 16 = cond-false (version == 1) 8 16 other in omega arith
-]
-
 pub some_kinds : (version : ℕ) → 8 ≤ kind_count version
 some_kinds version = elim (cases_Bool (version == 1)) [
   | inl one ↦ let e : kind_count version ≡ 8 = cond-true (version == 1) 8 16 one in omega arith
@@ -64,26 +46,16 @@ some_kinds version = elim (cases_Bool (version == 1)) [
 
 -- ---- what is found of one node, round by round
 
-and_none : (b : Bool) → (b && false) ≡ false
-and_none true = refl
-and_none false = refl
-
 and_either : (b p q : Bool) → ((b && p) || (b && q)) ≡ (b && (p || q))
 and_either true p q = refl
 and_either false p q = refl
-
-same_test : (a b : ℕ) → (a == b) ≡ (b == a)
-same_test a b = elim (cases_eq a b) [
-  | inl e ↦ eq-eqb a b e ∙ sym (eq-eqb b a (sym e))
-  | inr ne ↦ ne_eqb a b ne ∙ sym (ne_eqb b a (λ e. ne (sym e)))
-]
 
 -- what the frames of one node say so far, and what the next one says
 one_more : {V : Type 0} (x : Rounds V) (r j kind : ℕ) → frame_kind x r j ≡ Some kind → (k e : ℕ) → (of_node j (found_below r x) k e || (k == j && e == kind)) ≡ of_node j (found_below (suc r) x) k e
 one_more x r j kind is k e =
     and_either (k == j) (found_below r x j e) (e == kind)
     ∙ ap (λ (b : Bool). k == j && b)
-    (ap (λ (b : Bool). found_below r x j e || b) (same_test e kind ∙ ap (λ (o : Option ℕ). is_kind o e) (sym is)) ∙ found_more x r j e)
+    (ap (λ (b : Bool). found_below r x j e || b) (eqb_sym e kind ∙ ap (λ (o : Option ℕ). is_kind o e) (sym is)) ∙ found_more x r j e)
 
 none_more : {V : Type 0} (x : Rounds V) (r j : ℕ) → frame_kind x r j ≡ None → (k e : ℕ) → of_node j (found_below r x) k e ≡ of_node j (found_below (suc r) x) k e
 none_more x r j is k e =
@@ -118,11 +90,11 @@ carried_same capacity n x r j is = carried_alike capacity n (of_node j (found_be
 -- before the first round, and behind the last one
 pub noted_none : {V : Type 0} (capacity : ℕ) (n : Notes) (x : Rounds V) (j : ℕ) → also_noted capacity n (λ j e. false) ≡ n → n ≡ also_noted capacity n (of_node j (found_below 0 x))
 noted_none capacity n x j within =
-    sym within ∙ noted_alike capacity n (λ k e. false) (of_node j (found_below 0 x)) (λ k e low used other there. sym (and_none (k == j)))
+    sym within ∙ noted_alike capacity n (λ k e. false) (of_node j (found_below 0 x)) (λ k e low used other there. sym (and_false (k == j)))
 
 pub carried_none : {V : Type 0} (capacity : ℕ) (n : Notes) (x : Rounds V) (j : ℕ) → also_carried capacity n (λ j e. false) ≡ n → n ≡ also_carried capacity n (of_node j (found_below 0 x))
 carried_none capacity n x j within =
-    sym within ∙ carried_alike capacity n (λ k e. false) (of_node j (found_below 0 x)) (λ k e low used other there. sym (and_none (k == j)))
+    sym within ∙ carried_alike capacity n (λ k e. false) (of_node j (found_below 0 x)) (λ k e low used other there. sym (and_false (k == j)))
 
 pub noted_all : {V : Type 0} (capacity : ℕ) (n : Notes) (x : Rounds V) (m r j : ℕ) → r ≡ m + 1 → also_noted capacity n (of_node j (found_below r x)) ≡ also_noted capacity n (of_node j (rounds_bad m x))
 noted_all capacity n x m r j e = let s : r ≡ suc m = omega arith in ap (λ (k : ℕ). also_noted capacity n (of_node j (found_below k x))) s
@@ -139,7 +111,7 @@ of_nodes nodes says k e = has_id nodes k && says k e
 node_more : (nodes : List ℕ) (says : ℕ → ℕ → Bool) (q k e : ℕ) → (of_nodes nodes says k e || of_node q says k e) ≡ of_nodes (nodes ++ q ∷ []) says k e
 node_more nodes says q k e =
     ap (λ (b : Bool). of_nodes nodes says k e || b) (same_node (k == q) refl) ∙ either_and (has_id nodes k) (k == q) (says k e)
-    ∙ ap (λ (b : Bool). b && says k e) (ap (λ (b : Bool). has_id nodes k || b) (same_test k q) ∙ sym (has_push nodes q k))
+    ∙ ap (λ (b : Bool). b && says k e) (ap (λ (b : Bool). has_id nodes k || b) (eqb_sym k q) ∙ sym (has_push nodes q k))
   where
     same_node : (b : Bool) → (k == q) ≡ b → ((k == q) && says q e) ≡ ((k == q) && says k e)
     same_node b is = elim (cases_eq k q) [
@@ -209,7 +181,7 @@ noter_more {N} config i n p is = record {
   me = is.me;
   kinds = is.kinds;
   within =
-      noted_twice N n p (λ j e. false) (let few = few_kinds config.version in let e = is.kinds in omega arith)
+      noted_twice N n p (λ j e. false) (let few = kinds-few config.version in let e = is.kinds in omega arith)
       ∙ noted_alike N n (λ j e. p j e || false) p (λ j e low used other within. or_false (p j e));
 }
 
@@ -219,6 +191,6 @@ carrier_more {N} config i n p is = record {
   me = is.me;
   kinds = is.kinds;
   within =
-      carried_twice N n p (λ j e. false) (let few = few_kinds config.version in let e = is.kinds in omega arith)
+      carried_twice N n p (λ j e. false) (let few = kinds-few config.version in let e = is.kinds in omega arith)
       ∙ carried_alike N n (λ j e. p j e || false) p (λ j e low used other within. or_false (p j e));
 }

@@ -6,11 +6,12 @@ use Rattle.std.proofs.lemmas.List.{length_push}
 use Rattle.node_grid.specs.Capacity.{IsCapacity}
 use Rattle.node_grid.specs.NodeSet.{has_id}
 use Rattle.node_grid.specs.ListLaws.{has_push}
+use Rattle.node_grid.specs.SetFacts.{member-lt}
 use Rattle.omh_paths.specs.declared.wrapped.Wrapped.{Wrapped}
 use Rattle.omh_paths.specs.declared.wrapped.Wrapped.TheVariants.{Plain, Fault}
 use Rattle.omh_paths.specs.Wrapped.{IsExact}
 use Rattle.omh_paths.specs.PathLaws.{off_longer}
-use Rattle.omh_paths.specs.MemberLaws.{Distinct-ids, member-lt}
+use Rattle.omh_paths.specs.MemberLaws.{Distinct-ids}
 use Rattle.omh.specs.Omh.{World, Ear, ear, settled, settled_at}
 use Rattle.omh.specs.Written.{IsSmall}
 use Rattle.equivocation.specs.Conviction.{convicts}

@@ -1,5 +1,5 @@
 -- The words of a call.
-use Rattle.std.proofs.Common.{◌≡◌, ℕ, List, [], ◌∷◌, length, get_or, ap, ap₂, arith, refl, sym, ◌∙◌, Bool, true, false}
+use Rattle.std.proofs.Common.{◌≡◌, ℕ, List, [], ◌∷◌, length, get_or, ap, ap₂, arith, refl, sym, ◌∙◌}
 use Rattle.std.specs.Prelude.{String, string_bytes}
 use Rattle.std.specs.declared.alloc.Global.{Global}
 use Rattle.judge.specs.Words.{texts, words_of}
@@ -40,9 +40,6 @@ third_of (a ∷ ws) x y z xs v e h = second_of ws y z xs v e (let s : ◌≡◌ 
 pub fourth_of : (ws : List (String Global)) (w x y z : List ℕ) (xs : List (List ℕ)) (v : String Global) → v ≡ get_or ws 3 v → texts ws ≡ w ∷ x ∷ y ∷ z ∷ xs → string_bytes v ≡ z
 fourth_of [] w x y z xs v e h = absurd (let s : ◌≡◌ {A = List (List ℕ)} [] (w ∷ x ∷ y ∷ z ∷ xs) = h in cc)
 fourth_of (a ∷ ws) w x y z xs v e h = third_of ws x y z xs v e (let s : ◌≡◌ {A = List (List ℕ)} (string_bytes a ∷ texts ws) (w ∷ x ∷ y ∷ z ∷ xs) = h in cc)
-
-pub never : (b : Bool) → b ≡ false → b ≡ true → ⊥
-never b h k = let s : ◌≡◌ {A = Bool} false true = sym h ∙ k in cc
 
 -- as many words as texts
 pub as_many : (ws : List (String Global)) → length (texts ws) ≡ length ws

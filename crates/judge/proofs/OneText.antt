@@ -1,8 +1,9 @@
 -- That the bytes of a line decide its rows.
 use Rattle.std.proofs.Common.{◌≡◌, ℕ, List, [], ◌∷◌, ◌++◌, sym, ap, ◌∙◌, subst, Option, Some, None}
+use Rattle.node_grid.specs.NumberFacts.{nothing_told}
+use Rattle.scenario.specs.Facts.{same_parts}
+use Rattle.scenario_reading.specs.Facts.{same_value}
 use Rattle.serde_json.specs.Data.{Data}
-use Rattle.json_parts.specs.Reading.{Reads}
-use Rattle.scenario.specs.Parts.{ScenarioParts}
 use Rattle.scenario.specs.Scenario.{ScenarioView}
 use Rattle.scenario.specs.Given.{scenario_of}
 use Rattle.scenario_reading.specs.Verdict.{IsAcceptedValue, value_refusal, refusal_on}
@@ -13,20 +14,11 @@ use Rattle.judge.specs.Rows.HasRows.{Accepted, Refused}
 use Rattle.judge.specs.Rows.IsRowsOf.{Unread, Read}
 use Rattle.judge.specs.Laws.{OneTextLaw}
 
-same_value : (line : List ℕ) (d e : Data) → Reads line d → Reads line e → d ≡ e
-same_value line d e h k = let s : ◌≡◌ {A = Option Data} (Some d) (Some e) = sym h.1 ∙ k.1 in cc
-
-same_parts : (p q : ScenarioParts) (o : Option ScenarioParts) → o ≡ Some p → o ≡ Some q → p ≡ q
-same_parts p q o h k = let s : ◌≡◌ {A = Option ScenarioParts} (Some p) (Some q) = sym h ∙ k in cc
-
 same_scenario : {N : ℕ} (d : Data) (a b : ScenarioView N) → IsAcceptedValue d a → IsAcceptedValue d b → a ≡ b
 same_scenario {N} d a b x y = x.says ∙ ap (scenario_of N) (same_parts x.parts y.parts _ x.reads y.reads) ∙ sym y.says
 
 same_refusal : (o : Option (ℕ × ℕ)) (r p s q : ℕ) → o ≡ Some (r, p) → o ≡ Some (s, q) → (r ≡ s) × (p ≡ q)
 same_refusal o r p s q h k = let e : ◌≡◌ {A = Option (ℕ × ℕ)} (Some (r, p)) (Some (s, q)) = sym h ∙ k in let pair : ◌≡◌ {A = ℕ × ℕ} (r, p) (s, q) = cc in (ap (λ (x : ℕ × ℕ). x.0) pair, ap (λ (x : ℕ × ℕ). x.1) pair)
-
-nothing : (rule place : ℕ) → ◌≡◌ {A = Option (ℕ × ℕ)} None (Some (rule, place)) → ⊥
-nothing rule place e = cc
 
 unrefused : {N : ℕ} (d : Data) (a : ScenarioView N) → IsAcceptedValue d a → value_refusal N d ≡ None
 unrefused {N} d a x = ap (refusal_on N) x.reads ∙ x.unrefused
@@ -35,8 +27,8 @@ same_rows : (N n : ℕ) (d : Data) (s t : List ℕ) → HasRows N n d s → HasR
 same_rows N n d s t (Accepted a x is) (Accepted b y also) = is ∙ ap (scenario_rows n) (same_scenario d a b x y) ∙ sym also
 same_rows N n d s t (Refused r p x is) (Refused q o y also) =
     let e = same_refusal (value_refusal N d) r p q o x y in is ∙ ap (λ k. refused_row n k p) e.0 ∙ ap (refused_row n q) e.1 ∙ sym also
-same_rows N n d s t (Accepted a x is) (Refused r p y also) = absurd (nothing r p (sym (unrefused d a x) ∙ y))
-same_rows N n d s t (Refused r p x is) (Accepted b y also) = absurd (nothing r p (sym (unrefused d b y) ∙ x))
+same_rows N n d s t (Accepted a x is) (Refused r p y also) = absurd (nothing_told r p (sym (unrefused d a x) ∙ y))
+same_rows N n d s t (Refused r p x is) (Accepted b y also) = absurd (nothing_told r p (sym (unrefused d b y) ∙ x))
 
 of_line : (n : ℕ) (line s t : List ℕ) → IsRowsOf n line s → IsRowsOf n line t → s ≡ t
 of_line n line s t (Unread none is) (Unread none_too also) = is ∙ sym also

@@ -1,12 +1,13 @@
 -- A session that reads more and more.
 use Rattle.std.proofs.Common.{◌≡◌, ℕ, ◌-◌, ◌^◌, ◌≤◌, List, [], ◌++◌, length, append-nil, sym, ap, ◌∙◌, subst, inl, inr}
 use Rattle.std.specs.Io.KnownBytes.{IsAtEnd}
+use Rattle.node_grid.specs.ListFacts.{consumes_kept}
 use Rattle.span_io.specs.Causes.{Rose}
 use Rattle.input_lines.specs.Lines.{lines_of}
 use Rattle.input_lines.specs.Reading.{IsLong, SourceView, GivesBytes}
 use Rattle.input_lines.specs.Splits.{all_begun}
 use Rattle.input_lines.specs.FirstLine.{first_line, long_first}
-use Rattle.input_lines.specs.Devices.{SinkView, WritesAll, told_left, nothing_left, gave_both, consumes_kept, all_all, all_front}
+use Rattle.input_lines.specs.Devices.{SinkView, WritesAll, told_left, nothing_left, gave_both, all_all, all_front}
 use Rattle.judge.specs.Rows.{limit, AreRows, AreFrontRows, AreCutShort, last_line, all_lines}
 use Rattle.judge.specs.Session.{Stand, Took, CaughtUp, EndsAt, Stops, StopsRound, Concludes, Runs, with_more, lines_from}
 use Rattle.program_words.specs.declared.status.Status.{Status}

@@ -1,5 +1,5 @@
 -- Loops over the members of a set: what was yielded, and that the next member is a new one.
-use Rattle.std.proofs.Common.{cond, ◌≡◌, ℕ, zero, suc, ◌+◌, ◌<◌, ◌≤◌, Bool, true, false, List, [], ◌∷◌, ◌++◌, length, refl, ap, sym, ◌∙◌, arith, eq-eqb, ne_eqb, append_assoc}
+use Rattle.std.proofs.Common.{cond, ◌≡◌, ℕ, zero, suc, ◌+◌, ◌<◌, ◌≤◌, Bool, true, false, List, [], ◌∷◌, ◌++◌, refl, ap, sym, ◌∙◌, arith, eq-eqb, ne_eqb, append_assoc}
 use Rattle.std.specs.Prelude.{◌==◌}
 use Rattle.std.specs.List.{filter, range_with_len}
 use Rattle.node_grid.specs.NodeSet.{has_id, IsIdSet}
@@ -54,6 +54,3 @@ one_more members ys x zs split = split ∙ sym (append_assoc ys (x ∷ []) zs)
 -- what the loops' calls ask: the next member is a node, and fewer members are left
 pub next_within : (n : ℕ) (members ys : List ℕ) {rest : List ℕ} {x : ℕ} {zs : List ℕ} → IsIdSet n members → members ≡ ys ++ rest → rest ≡ x ∷ zs → x < n
 next_within n members ys {rest} {x} {zs} set split step = let next = next_member n members ys x zs set (split ∙ ap (λ (xs : List ℕ). ys ++ xs) step) in next.within
-
-pub one_less : {rest : List ℕ} {x : ℕ} {zs : List ℕ} → rest ≡ x ∷ zs → length zs < length rest
-one_less e = rw e (omega arith)

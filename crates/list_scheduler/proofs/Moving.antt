@@ -6,7 +6,7 @@ use Rattle.std.proofs.lemmas.Bool.{cases_Bool, cases_eq, cases_lt, cond-true, co
 use Rattle.node_grid.specs.NodeSet.{has_id, ids_below}
 use Rattle.omh_paths.specs.declared.wrapped.Wrapped.{Wrapped}
 use Rattle.task_graph.specs.Graph.{GraphView, task_at}
-use Rattle.task_graph.specs.GraphLaws.{allowed_within}
+use Rattle.task_graph.specs.Facts.{allowed_past}
 use Rattle.list_scheduler.specs.declared.copies.CopyState.{CopyState}
 use Rattle.list_scheduler.specs.declared.copies.CopyState.TheVariants.{Idle, Running, Passed, Failed}
 use Rattle.list_scheduler.specs.Copies.{CopyTable, copy_at, table, IsTable, with_copy, running, at_work, works_among, works, IsCopies}
@@ -44,13 +44,6 @@ among_more n task node ys f old c new s is says step = step ∙ put_copy n c (am
           ap (λ (b : Bool). if (t == task) && b then f t q else copy_at old t q) (has_other ys node q other)
       | inr off ↦ rw off refl
     ])
-
--- no node is allowed for what isn't a task
-pub past : (graph : GraphView) (t q : ℕ) → length graph.tasks ≤ t → has_id (task_at graph.tasks t).nodes q ≡ false
-past graph t q high = elim (cases_Bool (has_id (task_at graph.tasks t).nodes q)) [
-  | inl on ↦ let l = allowed_within graph.tasks t q on in absurd (omega arith)
-  | inr off ↦ off
-]
 
 -- ---- one copy
 
@@ -196,7 +189,7 @@ pub moved_below-all : (n i : ℕ) (graph : GraphView) (before after : List ℕ) 
 moved_below-all n i graph before after old c settled copies end is = is ∙ table_same n _ _ (λ t q ht hq. elim (cases_lt t i) [
   | inl low ↦ cond-true (nat_lt t i) _ _ (lt-ltb t i low)
   | inr high ↦
-      let idle : copy_at old t q ≡ Idle = copies.allowed t q (past graph t q (omega arith)) in
+      let idle : copy_at old t q ≡ Idle = copies.allowed t q (allowed_past graph t q (omega arith)) in
       cond-false (nat_lt t i) _ _ (le-ltb t i high) ∙ idle ∙ sym (moved_idle graph before after old settled t q idle)
 ])
 
@@ -229,4 +222,4 @@ works_front c q a (suc i) (suc m) l none = ap (at_work a (running (copy_at c a q
 -- behind the tasks nothing works
 pub works_tasks : (graph : GraphView) (c : CopyTable) (q i : ℕ) → IsCopies graph c → length graph.tasks ≤ i → i ≤ 32 → works_among c q (ids_below i) ≡ works c q
 unfolding works
-works_tasks graph c q i is end few = sym (works_front c q 0 i 32 few (λ u h. ap running (is.allowed u q (past graph u q (omega arith)))))
+works_tasks graph c q i is end few = sym (works_front c q 0 i 32 few (λ u h. ap running (is.allowed u q (allowed_past graph u q (omega arith)))))

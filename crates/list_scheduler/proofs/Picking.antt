@@ -1,11 +1,11 @@
 -- The pick goes task by task: who starts a task, and that this changes nobody's other picks.
-use Rattle.std.proofs.Common.{◌≡◌, ℕ, zero, suc, ◌+◌, ◌<◌, ◌≤◌, Bool, true, false, not, ◌&&◌, List, [], ◌∷◌, length, get_or, take, Option, None, Some, refl, sym, ap, ap₂, ◌∙◌, inl, inr, arith, eq-eqb, ne_eqb}
+use Rattle.std.proofs.Common.{◌≡◌, ℕ, zero, suc, ◌+◌, ◌<◌, ◌≤◌, Bool, true, false, not, ◌&&◌, List, [], ◌∷◌, length, get_or, take, None, Some, refl, sym, ap, ap₂, ◌∙◌, inl, inr, arith, eq-eqb, ne_eqb}
 use Rattle.std.specs.Prelude.{◌==◌, nat_lt, nat_le, is_none, if◌then◌else◌}
 use Rattle.std.specs.List.{find, list_all, range_with_len}
 use Rattle.std.proofs.lemmas.Bool.{cases_Bool, cases_eq, cases_lt, cond-true, cond-false, and_parts, or_left, or_right, lt-ltb, le-ltb}
 use Rattle.std.proofs.lemmas.List.Folds.{list_all_more}
 use Rattle.node_grid.specs.NodeSet.{ids_below, ids_where, has_id, minus_of, IsIdSet}
-use Rattle.node_grid.specs.Count.{bit, count}
+use Rattle.node_grid.specs.SetFacts.{count_members}
 use Rattle.task_graph.specs.Graph.{GraphView, task_at, IsGraph}
 use Rattle.task_graph.specs.GraphLaws.{task_ranged, few_tasks}
 use Rattle.list_scheduler.specs.declared.copies.CopyState.{CopyState}
@@ -16,14 +16,10 @@ use Rattle.list_scheduler.specs.Schedule.{finished, is_eligible, pick_of, is_it,
 use Rattle.list_scheduler.specs.ScheduleLaws.{picks_is}
 use Rattle.list_scheduler.specs.ByTask.{is_open, started}
 use Rattle.list_scheduler.proofs.Found.{found, found_all}
-use Rattle.node_grid.specs.ListLaws.{bit_le, has_at}
-use Rattle.node_grid.specs.NodeSetLaws.{count-below, filter_range, filter_none, filter_filter, has-filter}
+use Rattle.node_grid.specs.ListLaws.{has_at}
+use Rattle.node_grid.specs.NodeSetLaws.{filter_range, filter_none, filter_filter, has-filter}
 
 -- ---- lists with the same answers
-
-count_same : (f g : ℕ → Bool) (xs : List ℕ) → ((x : ℕ) → has_id xs x ≡ true → f x ≡ g x) → count f xs ≡ count g xs
-count_same f g [] h = refl
-count_same f g (x ∷ xs) h = ap₂ ◌+◌ (ap bit (h x (or_left _ _ (eq-eqb x x refl)))) (count_same f g xs (λ y on. h y (or_right _ _ on)))
 
 list_all_same : (f g : ℕ → Bool) (xs : List ℕ) → ((x : ℕ) → has_id xs x ≡ true → f x ≡ g x) → list_all f xs ≡ list_all g xs
 list_all_same f g [] h = refl
@@ -79,7 +75,7 @@ passed_below i graph nodes old t q = by (nat_lt t i) refl
 
 finished_same : (n i : ℕ) (graph : GraphView) (nodes : List ℕ) (old c : CopyTable) → IsGraph n graph → c ≡ table n (picked_below i graph nodes old) → (t : ℕ) → t < 32 → finished graph c t ≡ finished graph old t
 finished_same n i graph nodes old c is_graph is t ht =
-    ap (nat_le (task_at graph.tasks t).need) (count_same (λ q. is_passed (copy_at c t q)) (λ q. is_passed (copy_at old t q)) (ids_below graph.nodes) (λ q on.
+    ap (nat_le (task_at graph.tasks t).need) (count_members (λ q. is_passed (copy_at c t q)) (λ q. is_passed (copy_at old t q)) (ids_below graph.nodes) (λ q on.
     let l = range_below 0 graph.nodes q on in
     let few = is_graph.few_nodes in
     ap is_passed (ap (λ (x : CopyTable). copy_at x t q) is ∙ at_table n (picked_below i graph nodes old) t q ht (omega arith)) ∙ passed_below i graph nodes old t q))
@@ -210,10 +206,6 @@ picked_below-all n i graph nodes old c end is = is ∙ table_same n _ _ (λ t q 
 
 -- ---- nodes at work have no pick
 
-pub none_is : {X : Type 0} (o : Option X) → is_none o ≡ true → o ≡ None
-none_is None h = refl
-none_is (Some x) h = cc
-
 -- the pick of nodes of which those at work are taken out
 pub picked_resting : (n : ℕ) (graph : GraphView) (members free : List ℕ) (old : CopyTable) → ((q : ℕ) → q < n → has_id free q ≡ (has_id members q && is_none (works old q)))
     → table n (picked graph free old) ≡ table n (picked graph members old)
@@ -267,10 +259,6 @@ open_found n t graph free old = found_all n (λ q. has_id free q && is_idle (cop
     swap false false c = refl
 
 -- ---- counting passed copies node by node
-
-pub count_few : (f : ℕ → Bool) (n : ℕ) → count f (ids_below n) ≤ n
-count_few f zero = omega arith
-count_few f (suc n) = let e : n + 1 ≡ suc n = omega arith in let m = rw e at (count-below f n) in omega (arith, count_few f n, bit_le (f n))
 
 -- ---- predecessors
 

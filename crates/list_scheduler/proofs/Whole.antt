@@ -4,6 +4,7 @@ use Rattle.std.specs.Prelude.{◌==◌, is_none, is_some}
 use Rattle.std.proofs.lemmas.Bool.{cases_lt, cond-true, cond-false}
 use Rattle.node_grid.specs.NodeSet.{has_id, ids_below, ids_where, minus_of, IsIdSet}
 use Rattle.node_grid.specs.NodeSetLaws.{filter_filter, has-filter, hasnt-above, passes_where}
+use Rattle.node_grid.specs.TruthFacts.{none_is}
 use Rattle.omh_paths.specs.declared.wrapped.Wrapped.{Wrapped}
 use Rattle.task_graph.specs.Graph.{GraphView}
 use Rattle.list_scheduler.specs.Copies.{CopyTable, copy_at, table, running, works, IsCopies}
@@ -12,7 +13,7 @@ use Rattle.list_scheduler.specs.Schedule.{completed, left, all_idle, frame_ended
 use Rattle.list_scheduler.specs.ScheduleLaws.{IsOrdered, completed_kept, left_kept}
 use Rattle.list_scheduler.specs.ByTask.{moved}
 use Rattle.list_scheduler.proofs.Moving.{moved_gone}
-use Rattle.list_scheduler.proofs.Picking.{none_is, picked_resting}
+use Rattle.list_scheduler.proofs.Picking.{picked_resting}
 
 -- moved copies are copies as an agreed state may have them
 pub moved_kept : (n : ℕ) (graph : GraphView) (before after : List ℕ) (old : CopyTable) (settled : List (Wrapped ℕ)) → IsOrdered graph → IsCopies graph old → IsCopies graph (table n (moved graph before after old settled))

@@ -5,3 +5,4 @@ pub use Rattle.task_graph.specs.Graph
 pub mod CopyLaws
 pub mod ScheduleLaws
 pub mod ByTask
+pub mod Facts

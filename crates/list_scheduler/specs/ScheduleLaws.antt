@@ -1,10 +1,11 @@
 -- What each part of the schedule keeps of any copies, and that a member that claims as it runs has no verdict.
-use Rattle.std.proofs.Common.{◌≡◌, ℕ, ◌+◌, ◌<◌, ◌≤◌, Bool, true, false, not, List, [], ◌∷◌, length, Option, None, Some, refl, sym, ap, ap₂, ◌∙◌, inl, inr, arith, eqb-true, eq-eqb, ne_eqb, ltb-true, le-ltb}
-use Rattle.std.specs.Prelude.{◌==◌, ◌%◌, nat_lt, nat_le, is_none, if◌then◌else◌}
-use Rattle.std.specs.List.{find}
+use Rattle.std.proofs.Common.{◌≡◌, ℕ, ◌+◌, ◌<◌, ◌≤◌, Bool, true, false, not, List, length, Option, None, Some, refl, sym, ap, ap₂, ◌∙◌, inl, inr, arith, eqb-true, eq-eqb, ne_eqb, ltb-true, le-ltb}
+use Rattle.std.specs.Prelude.{◌==◌, ◌%◌, nat_lt, nat_le, if◌then◌else◌}
 use Rattle.std.proofs.lemmas.Bool.{cases_Bool, cond-true, cond-false, and_parts, both_ways, leb-true, leb-false, lt-leb}
 use Rattle.node_grid.specs.Kinds.{no_claim}
 use Rattle.node_grid.specs.NodeSet.{ids_below, has_id}
+use Rattle.node_grid.specs.ListFacts.{find_passes}
+use Rattle.node_grid.specs.TruthFacts.{none_is}
 use Rattle.omh_paths.specs.declared.wrapped.Wrapped.{Wrapped}
 use Rattle.omh_paths.specs.declared.wrapped.Wrapped.TheVariants.{Plain}
 use Rattle.task_graph.specs.Graph.{GraphView, task_at, IsGraph}
@@ -187,20 +188,6 @@ ended_members n frame p members copies run = table_members n members (frame_ende
 is_it_is : (o : Option ℕ) (t : ℕ) → is_it o t ≡ true → o ≡ Some t
 is_it_is None t h = cc
 is_it_is (Some x) t h = ap Some (eqb-true x t h)
-
-find_passes : (f : ℕ → Bool) (xs : List ℕ) (r : ℕ) → find f xs ≡ Some r → f r ≡ true
-find_passes f [] r h = cc
-find_passes f (x ∷ xs) r h = elim (cases_Bool (f x)) [
-  | inl passes ↦
-      let e : Some x ≡ Some r = sym (cond-true (f x) (Some x) (find f xs) passes) ∙ h in
-      let d : x ≡ r = cc in
-      ap f (sym d) ∙ passes
-  | inr fails ↦ find_passes f xs r (sym (cond-false (f x) (Some x) (find f xs) fails) ∙ h)
-]
-
-none_is : {X : Type 0} (o : Option X) → is_none o ≡ true → o ≡ None
-none_is None h = refl
-none_is (Some x) h = cc
 
 -- what is known of a node's pick
 pub record Picks (graph : GraphView) (members : List ℕ) (copies : CopyTable) (t q : ℕ) : Type 0 where

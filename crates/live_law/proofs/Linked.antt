@@ -2,8 +2,8 @@
 use Rattle.std.proofs.Common.{ℕ, zero, suc, ◌≡◌, ◌≢◌, ◌<◌, ◌+◌, ◌*◌, Bool, true, if◌then◌else◌, List, refl, sym, ap, ap₂, subst, ◌∙◌, inl, inr, arith}
 use Rattle.std.specs.Prelude.{nat_lt}
 use Rattle.std.proofs.lemmas.Bool.{cases_Bool, cases_lt, cond-true, cond-false}
-use Rattle.std.proofs.lemmas.Bool.Decides.{nat_tests}
 use Rattle.node_grid.specs.Capacity.{IsCapacity}
+use Rattle.node_grid.specs.NumberFacts.{lt_yes, lt_from}
 use Rattle.error_detect.specs.Multiset.{Arriving, from_sender}
 use Rattle.fault_classes.specs.Line.{effect_at}
 use Rattle.fault_classes.specs.Plan.{restarts_at}
@@ -28,12 +28,6 @@ use Rattle.live_law.specs.Run.{system_given, IsDelivered}
 use Rattle.live_law.proofs.Controllers.{Controllers, said, Hears, AreLinked, IsOfRun}
 use Rattle.live_law.proofs.Lives.{between_restarted}
 use Rattle.live_law.proofs.OfRun.{through_run, says_sent, between_runs}
-
-is_less : (a b : ℕ) → nat_lt a b ≡ true → a < b
-is_less a b h = grind (arith, nat_tests)
-
-less : (a b : ℕ) → a < b → nat_lt a b ≡ true
-less a b h = grind (arith, nat_tests)
 
 -- so many slots depend on what is delivered in them alone
 slots_alike : {N : ℕ} (ds es : ℕ → List Arriving) (t : ℕ) (v : NodeView N) → ((s : ℕ) → s < t → ds s ≡ es s) → slots_run ds t v ≡ slots_run es t v
@@ -81,7 +75,7 @@ module _ {N : ℕ} (sc : ScenarioView N) (c : Controllers N) (capacity : IsCapac
       mixed_comes = record {
         each = λ s j ls lj ne. elim (cases_Bool (nat_lt s t)) [
           | inl y ↦
-              let l : s < t = is_less s t y in
+              let l : s < t = lt_from s t y in
               ap (from_sender j) (cond-true (nat_lt s t) (c.delivered i p s) (arrivals sc.plan 0 config.nodes p s (sent sys p s) i) y)
               ∙ comes i j s li lj ne ls (omega arith) (λ up. earlier s j l lj up)
           | inr n ↦
@@ -91,7 +85,7 @@ module _ {N : ℕ} (sc : ScenarioView N) (c : Controllers N) (capacity : IsCapac
       }
 
       so_far : slots_run (c.delivered i p) t (begun (woken i p) p (c.inputs i p)) ≡ slots_run mixed t (begun (woken i p) p (c.inputs i p))
-      so_far = slots_alike (c.delivered i p) mixed t (begun (woken i p) p (c.inputs i p)) (λ s l. sym (cond-true (nat_lt s t) (c.delivered i p s) (arrivals sc.plan 0 config.nodes p s (sent sys p s) i) (less s t l)))
+      so_far = slots_alike (c.delivered i p) mixed t (begun (woken i p) p (c.inputs i p)) (λ s l. sym (cond-true (nat_lt s t) (c.delivered i p s) (arrivals sc.plan 0 config.nodes p s (sent sys p s) i) (lt_yes s t l)))
 
       says_then : Says t i
       says_then = ap frame_of so_far ∙ says_sent sc c.inputs capacity is law delivery saying i p mixed mixed_comes (woken i p) (before i li (omega arith)) t slot

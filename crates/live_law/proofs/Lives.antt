@@ -8,14 +8,11 @@ use Rattle.protocol.specs.ViewLaws.{opened_valid, kept_valid}
 use Rattle.protocol.specs.Configured.{setting_of}
 use Rattle.node_steps.specs.Parts.{NodeView}
 use Rattle.node_steps.specs.Living.{restarted_if}
-use Rattle.node_steps.specs.Sending.{Fixed, fixed, GoesThrough, PeriodLaw}
+use Rattle.node_steps.specs.Sending.{Fixed, GoesThrough, PeriodLaw}
+use Rattle.node_steps.specs.Facts.{same_fixed}
 use Rattle.live_law.specs.Received.{received}
 use Rattle.live_law.specs.Periods.{IsBetween, Next, begins_next, view_next, after_next, GoesThroughAll, AnyPeriodsLaw}
 use Rattle.live_law.proofs.Told.{told, served_by}
-
-same_fixed : {N : ℕ} (b : Bool) (v : NodeView N) → fixed (restarted_if b v) ≡ fixed v
-same_fixed true v = refl
-same_fixed false v = refl
 
 opens_with : {N : ℕ} (config : Config N) (b : Bool) (v : NodeView N) (k : Kept) → v.config ≡ config → v.kept ≡ k → (restarted_if b v).kept ≡ opened (setting_of config) b k
 opens_with {N} config true v k c e = ap (λ (z : Config N). nothing (setting_of z)) c

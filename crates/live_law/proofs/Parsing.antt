@@ -3,11 +3,11 @@ use Rattle.std.proofs.Common.{ℕ, zero, suc, ◌≡◌, ◌≢◌, ◌<◌, ◌
 use Rattle.std.specs.Prelude.{All, nat_lt, is_some}
 use Rattle.std.specs.List.{fold, flat_map, range_with_len}
 use Rattle.std.proofs.lemmas.Bool.{cases_Bool, cases_lt, cond-true, cond-false, and_parts, or_cases, not-true, eqb-false}
-use Rattle.std.proofs.lemmas.Bool.Decides.{nat_tests}
 use Rattle.std.proofs.lemmas.List.{append_assoc, append-nil}
 use Rattle.std.proofs.lemmas.List.Elements.{All-nil, All-cons}
 use Rattle.std.proofs.lemmas.List.Sums.{fold-append}
 use Rattle.slot_plan.specs.Slots.{slot_count}
+use Rattle.node_grid.specs.NumberFacts.{lt_from}
 use Rattle.node_steps.specs.Living.{restarted_if}
 use Rattle.node_steps.specs.Sending.{PeriodLaw}
 use Rattle.scenario.specs.Scenario.{ScenarioView, IsScenario}
@@ -22,9 +22,6 @@ use Rattle.live_law.proofs.Lives.{between_restarted}
 use Rattle.live_law.proofs.LiveLife.{live_life}
 use Rattle.live_law.proofs.Spans.{live_at, after_all, lines, in_slot, through, to_begin, one_slot, last_slot, rests_after}
 use Rattle.live_law.proofs.Steps.{goes, rested, rests}
-
-is_less : (a b : ℕ) → nat_lt a b ≡ true → a < b
-is_less a b h = grind (arith, nat_tests)
 
 -- events are those of periods, and behind them restarts and readings
 record ArePeriodsOf {N : ℕ} (sc : ScenarioView N) (id : ℕ) (r : Rest) (es : List Event) : Type 0 where
@@ -107,7 +104,7 @@ module _ {N : ℕ} (w : LiveView N) (t : List ℕ) where
       All-cons (ComesBefore v.scenario v.id) Restart (front es) tt (front_comes (told v Restart) (text ++ []) es shut (taken v text Restart es w t h).then)
   front_comes v text (Reading c x ∷ es) shut h =
       let k = taken v text (Reading c x) es w t h in
-      All-cons (ComesBefore v.scenario v.id) (Reading c x) (front es) (is_less c (length v.scenario.config.channels.items) k.known) (front_comes (told v (Reading c x)) (text ++ []) es shut k.then)
+      All-cons (ComesBefore v.scenario v.id) (Reading c x) (front es) (lt_from c (length v.scenario.config.channels.items) k.known) (front_comes (told v (Reading c x)) (text ++ []) es shut k.then)
   front_comes v text (Begin o ∷ es) shut h = All-nil (ComesBefore v.scenario v.id)
   front_comes v text (Deliver from tick bytes ∷ es) shut h = All-nil (ComesBefore v.scenario v.id)
   front_comes v text (End ∷ es) shut h = All-nil (ComesBefore v.scenario v.id)
@@ -162,7 +159,7 @@ slot_in : List Event → ℕ → List Event
 slot_in es t = in_front (behind_ends es t)
 
 other_told : (nodes id j : ℕ) → (nat_lt j nodes && not (j == id)) ≡ true → (j < nodes) × (j ≢ id)
-other_told nodes id j h = let k = and_parts (nat_lt j nodes) (not (j == id)) h in (is_less j nodes k.0, eqb-false j id (not-true (j == id) k.1))
+other_told nodes id j h = let k = and_parts (nat_lt j nodes) (not (j == id)) h in (lt_from j nodes k.0, eqb-false j id (not-true (j == id) k.1))
 
 -- an open slot that is shut in the end has an end
 record Ends {N : ℕ} (u : LiveView N) (es : List Event) : Type 0 where
@@ -238,12 +235,12 @@ module _ (law : PeriodLaw) {N : ℕ} (w : LiveView N) (t : List ℕ) (shut : w.n
       begin_on = ap (fold step_on (Goes u text)) (sym begins) ∙ behind_on
 
       may_then : (o : Option ℕ) → may_begin u o ≡ true → MayBegin v.scenario v.id r q o
-      may_then None e = let l = is_less v.next (2 ^ 32) e in let k = at.next in omega (arith, l, k)
+      may_then None e = let l = lt_from v.next (2 ^ 32) e in let k = at.next in omega (arith, l, k)
       may_then (Some n) e = elim (or_cases (n == v.next) _ e) [
         | inl here ↦ inl (eqb-true n v.next here ∙ at.next)
         | inr later ↦
             let k = and_parts (restarts_in before || v.forgot) (nat_lt v.next n) later in
-            inr (elim (or_cases (restarts_in before) v.forgot k.0) [ inl y ↦ y | inr f ↦ absurd (both v.forgot f at.forgot) ], let l = is_less v.next n k.1 in let e = at.next in omega (arith, l, e))
+            inr (elim (or_cases (restarts_in before) v.forgot k.0) [ inl y ↦ y | inr f ↦ absurd (both v.forgot f at.forgot) ], let l = lt_from v.next n k.1 in let e = at.next in omega (arith, l, e))
       ]
 
       number : MayBegin v.scenario v.id r q o

@@ -1,11 +1,11 @@
 -- A period of a live node, event by event.
 use Rattle.std.proofs.Common.{ℕ, zero, suc, ◌≡◌, ◌<◌, ◌+◌, ◌*◌, ◌^◌, ◌==◌, ◌&&◌, ◌||◌, Bool, true, false, not, if◌then◌else◌, List, [], ◌∷◌, ◌++◌, map, replicate, refl, sym, ap, ap₂, subst, ◌∙◌, inl, inr, arith, eq-eqb, Option, None, Some, ℤ, pos}
-use Rattle.std.specs.Prelude.{All, nat_lt, is_some, unwrap_or, slice_index_or}
+use Rattle.std.specs.Prelude.{All, is_some, unwrap_or, slice_index_or}
 use Rattle.std.specs.List.{fold, filter, flat_map, range_with_len}
 use Rattle.std.proofs.lemmas.Bool.{cond-true, cond-false, or_left, or_right}
-use Rattle.std.proofs.lemmas.Bool.Decides.{nat_tests}
 use Rattle.std.proofs.lemmas.List.{append_assoc, append-nil}
 use Rattle.std.proofs.lemmas.List.Sums.{fold-append}
+use Rattle.node_grid.specs.NumberFacts.{lt_yes}
 use Rattle.error_detect.specs.Multiset.{Arriving, all_delivered}
 use Rattle.agreed_state.specs.declared.config.Config.{Config}
 use Rattle.agreed_state.specs.declared.config.Inputs.{Inputs}
@@ -34,9 +34,6 @@ use Rattle.live_law.specs.Living.{Rest, Rests, IsAllowed, SaysSlots, MayBegin, C
 use Rattle.live_law.proofs.Lists.{flat_push}
 use Rattle.live_law.proofs.Lives.{goes_next, between_after}
 use Rattle.live_law.proofs.Steps.{goes, rested, rests, readings_are, heard, hears, put_ahead, put_reading, aheads_are}
-
-less : (a b : ℕ) → a < b → nat_lt a b ≡ true
-less a b h = grind (arith, nat_tests)
 
 -- ---- the number of the open slot
 
@@ -128,10 +125,10 @@ module _ {N : ℕ} (v : LiveView N) (r : Rest) (q : PeriodEvents) where
     begins = ap₂ start number_is (ap (λ (xs : List (Option ℤ)). fold put_reading xs q.before) at.given ∙ readings_are q.before)
 
     may_now : (o : Option ℕ) → MayBegin v.scenario v.id r q o → may_begin (rested v q.before) o ≡ true
-    may_now None low = less v.next (2 ^ 32) (let e = at.next in omega (arith, e, low))
+    may_now None low = lt_yes v.next (2 ^ 32) (let e = at.next in omega (arith, e, low))
     may_now (Some n) h = elim h [
       | inl e ↦ or_left (n == v.next) _ (eq-eqb n v.next (e ∙ sym at.next))
-      | inr f ↦ or_right (n == v.next) _ (ap₂ (λ (a b : Bool). (a || v.forgot) && b) f.0 (less v.next n (let e = at.next in let l = f.1 in omega (arith, e, l))))
+      | inr f ↦ or_right (n == v.next) _ (ap₂ (λ (a b : Bool). (a || v.forgot) && b) f.0 (lt_yes v.next n (let e = at.next in let l = f.1 in omega (arith, e, l))))
     ]
 
     pub still_shut : (b : Bool) → (restarted_if b v.node).phase.is_open ≡ false

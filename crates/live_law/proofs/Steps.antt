@@ -1,13 +1,13 @@
 -- What events make of a live node between periods and in a slot.
 use Rattle.std.proofs.Common.{ℕ, ◌≡◌, ◌≢◌, ◌<◌, ◌+◌, ◌==◌, ◌&&◌, ◌||◌, Bool, true, false, not, if◌then◌else◌, List, [], ◌∷◌, ◌++◌, map, length, set, replicate, refl, ap, ap₂, ◌∙◌, arith, ne_eqb, Option, None, Some, ℤ}
-use Rattle.std.specs.Prelude.{All, nat_lt}
+use Rattle.std.specs.Prelude.{All}
 use Rattle.std.specs.List.{fold}
 use Rattle.std.specs.Option.{option_or}
 use Rattle.std.proofs.lemmas.Bool.{cond-true}
-use Rattle.std.proofs.lemmas.Bool.Decides.{nat_tests}
 use Rattle.std.proofs.lemmas.List.{append-nil}
 use Rattle.std.proofs.lemmas.List.Elements.{All-head, All-tail}
 use Rattle.node_grid.specs.NodeSet.{ids_below}
+use Rattle.node_grid.specs.NumberFacts.{lt_yes}
 use Rattle.error_detect.specs.Multiset.{all_delivered}
 use Rattle.protocol.specs.View.{channel_room}
 use Rattle.node_steps.specs.Living.{restarted_if}
@@ -18,9 +18,6 @@ use Rattle.live_node.specs.Live.Step.{Goes}
 use Rattle.live_law.specs.Events.{behind, step_on, restarts_in, arrivals_in, reading_of, ahead_of, readings_told, aheads_told}
 use Rattle.live_law.specs.Living.{ComesBefore, ComesWithin}
 use Rattle.live_law.proofs.Lists.{map_from, set_table, last_of_each}
-
-less : (a b : ℕ) → a < b → nat_lt a b ≡ true
-less a b h = grind (arith, nat_tests)
 
 -- an event that is taken
 pub goes : {N : ℕ} (v : LiveView N) (text : List ℕ) (e : Event) → is_of_cluster v e ≡ true → allowed v e ≡ true → step_on (Goes v text) e ≡ Goes (told v e) (text ++ answer (told v e) e)
@@ -52,7 +49,7 @@ rests v text (Restart ∷ es) shut all =
     silent v (told v Restart) text es (step_on (Goes v text) Restart) (goes v text Restart refl (ap not shut))
     ∙ rests (told v Restart) text es shut (All-tail (ComesBefore v.scenario v.id) Restart es all) ∙ ap (λ w. Goes w text) (forgets v es)
 rests v text (Reading c x ∷ es) shut all =
-    silent v (told v (Reading c x)) text es (step_on (Goes v text) (Reading c x)) (goes v text (Reading c x) (less c (length v.scenario.config.channels.items) (All-head (ComesBefore v.scenario v.id) (Reading c x) es all)) (ap not shut))
+    silent v (told v (Reading c x)) text es (step_on (Goes v text) (Reading c x)) (goes v text (Reading c x) (lt_yes c (length v.scenario.config.channels.items) (All-head (ComesBefore v.scenario v.id) (Reading c x) es all)) (ap not shut))
     ∙ rests (told v (Reading c x)) text es shut (All-tail (ComesBefore v.scenario v.id) (Reading c x) es all)
 rests v text (Begin o ∷ es) shut all = absurd (All-head (ComesBefore v.scenario v.id) (Begin o) es all)
 rests v text (Deliver from tick bytes ∷ es) shut all = absurd (All-head (ComesBefore v.scenario v.id) (Deliver from tick bytes) es all)
@@ -87,7 +84,7 @@ abbrev pub heard : {N : ℕ} → LiveView N → List Event → LiveView N
 heard u es = record u { node = record u.node { arrived = all_delivered u.node.arrived (arrivals_in es) }; ahead = fold put_ahead u.ahead es }
 
 other : {N : ℕ} (u : LiveView N) (j : ℕ) → j < u.scenario.config.nodes → j ≢ u.id → is_other u j ≡ true
-other u j low ne = ap₂ (λ (a b : Bool). a && not b) (less j u.scenario.config.nodes low) (ne_eqb j u.id ne)
+other u j low ne = ap₂ (λ (a b : Bool). a && not b) (lt_yes j u.scenario.config.nodes low) (ne_eqb j u.id ne)
 
 pub hears : {N : ℕ} (u : LiveView N) (text : List ℕ) (es : List Event) → u.node.phase.is_open ≡ true → All (ComesWithin u.scenario u.id) es → fold step_on (Goes u text) es ≡ Goes (heard u es) text
 hears u text [] still all = refl

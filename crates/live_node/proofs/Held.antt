@@ -1,12 +1,15 @@
 -- A node with its slot and its rooms, after each event: it is held, and it is what the event makes of it.
-use Rattle.std.proofs.Common.{ℕ, ◌≡◌, ◌≢◌, ◌<◌, ◌≤◌, ◌+◌, ◌*◌, ◌^◌, ◌==◌, ◌&&◌, ◌||◌, Bool, true, false, not, nat_lt, if◌then◌else◌, ℤ, pos, negsuc, List, replicate, refl, sym, ap, ap₂, subst, ◌∙◌, arith, w64, to_z, of_z, inl, inr}
+use Rattle.std.proofs.Common.{ℕ, ◌≡◌, ◌≢◌, ◌<◌, ◌≤◌, ◌+◌, ◌*◌, ◌^◌, ◌==◌, ◌&&◌, ◌||◌, Bool, true, false, not, nat_lt, if◌then◌else◌, ℤ, List, replicate, refl, sym, ap, ap₂, subst, ◌∙◌, arith, w64, to_z, of_z, inl, inr}
 use Rattle.std.specs.Prelude.{Option, None, Some, unwrap_or, set}
-use mir.Val.{SFits}
 use Rattle.std.proofs.lemmas.Bool.{false≢true}
 use Rattle.std.proofs.lemmas.Bool.Decides.{nat_tests}
-use Rattle.std.proofs.lemmas.Int.{to_z-of_z, ints}
+use Rattle.std.proofs.lemmas.Int.{to_z-of_z}
+use Rattle.node_grid.specs.NumberFacts.{differ_true, lt_from}
+use Rattle.node_grid.specs.TruthFacts.{and_both}
 use Rattle.frames.specs.Bound.{IsGreatest}
 use Rattle.frames.specs.Content.{IsValue}
+use Rattle.frames.specs.EntryLaws.{value_in_64}
+use Rattle.frames.specs.Facts.{one_greatest}
 use Rattle.agreed_state.specs.declared.config.Config.{Config}
 use Rattle.agreed_state.specs.declared.config.Inputs.{Inputs}
 use Rattle.agreed_state.specs.Config.{IsConfig}
@@ -26,29 +29,15 @@ use Rattle.live_node.specs.Seen.{event_in, IsAnswered}
 use Rattle.live_node.specs.declared.event.Event.{Event}
 use Rattle.live_node.specs.declared.event.Event.TheVariants as coded
 use Rattle.live_node.specs.Standing.{IsLive, IsHeld, AreTold, open_slot}
-use Rattle.live_node.proofs.Keeping.{live_begun, live_given, live_restarted, live_reading, live_ahead, live_last, live_next, closes, goes_on, next_slot, after_room, given_room, open_is, shut_is, none_told, if_true, if_false, same_place, same_greatest}
+use Rattle.live_node.proofs.Keeping.{live_begun, live_given, live_restarted, live_reading, live_ahead, live_last, live_next, closes, goes_on, next_slot, after_room, given_room, open_is, shut_is, none_told, if_true, if_false, same_place}
 
 -- ---- truth values
-
-pub both : (a b : Bool) → (a && b) ≡ true → (a ≡ true) × (b ≡ true)
-both true b h = (refl, h)
-both false b h = absurd (false≢true h)
-
-pub not_so : (a : Bool) → not a ≡ true → a ≡ false
-not_so true h = absurd (false≢true h)
-not_so false h = refl
 
 pub and_true : (a b : Bool) → a ≡ true → b ≡ (a && b)
 and_true a b e = ap (λ x. x && b) (sym e)
 
 pub and_false : (a b : Bool) → a ≡ false → a ≡ (a && b)
 and_false a b e = e ∙ ap (λ x. x && b) (sym e)
-
-below_true : (a b : ℕ) → nat_lt a b ≡ true → a < b
-below_true a b h = grind (arith, nat_tests)
-
-differ_true : (a b : ℕ) → not (a == b) ≡ true → a ≢ b
-differ_true a b h = grind (arith, nat_tests)
 
 -- ---- which period may begin
 
@@ -61,23 +50,19 @@ module _ {N : ℕ} (v : LiveView N) (o : Option ℕ) (may : may_begin v o ≡ tr
   begins_later p e = later_of p v.next v.forgot (ap (may_begin v) (sym e) ∙ may)
 
   pub begins_next : o ≡ None → v.next < 2 ^ 32
-  begins_next e = below_true v.next (2 ^ 32) (ap (may_begin v) (sym e) ∙ may)
+  begins_next e = lt_from v.next (2 ^ 32) (ap (may_begin v) (sym e) ∙ may)
 
 -- ---- another node
 
 pub other_is : {N : ℕ} (v : LiveView N) (is : IsLive v) (j : ℕ) → is_other v j ≡ true → (j < v.node.config.nodes) × (j ≢ v.node.phase.me)
 other_is {N} v is j h =
-    let parts = both (nat_lt j v.scenario.config.nodes) (not (j == v.id)) h in
+    let parts = and_both (nat_lt j v.scenario.config.nodes) (not (j == v.id)) h in
     let nodes : v.node.config.nodes ≡ v.scenario.config.nodes = ap (λ (y : Config N). y.nodes) is.config in
-    let low = below_true j v.scenario.config.nodes parts.0 in
+    let low = lt_from j v.scenario.config.nodes parts.0 in
     let differs = differ_true j v.id parts.1 in
     (omega (arith, low, nodes), λ e. differs (e ∙ is.me))
 
 -- ---- values
-
-pub fits_value : (z : ℤ) → IsValue z → SFits w64 z
-fits_value (pos n) h = record { sfits = omega (arith, ints, h.high) }
-fits_value (negsuc n) h = record { sfits = omega (arith, ints, h.low) }
 
 -- ---- the slot that is open
 
@@ -187,7 +172,7 @@ module _ {N : ℕ} (v : LiveView N) (slot : Option ℕ) (frame text : ℕ) (is :
 
 -- what the code stores of a value is that value
 pub stored : (z : ℤ) → IsValue z → to_z w64 (of_z w64 z) ≡ z
-stored z h = to_z-of_z w64 z (fits_value z h)
+stored z h = to_z-of_z w64 z (value_in_64 z h)
 
 -- ---- before the first event
 
@@ -200,7 +185,7 @@ module _ {N : ℕ} (sc : ScenarioView N) (id room frame text longest : ℕ) (v :
 
   pub held_new : IsScenario sc → id < sc.config.nodes → IsGreatest sc.config.nodes sc.config.m (state_len sc.config) 8 room → room ≤ frame → 2 * room + 32 ≤ text → IsHeld newly None frame text
   held_new is low greatest front back =
-      let same : v.arrived.frame_max ≡ room = same_greatest sc.config.nodes sc.config.m (state_len sc.config) 8 v.arrived.frame_max room fresh.greatest greatest in
+      let same : v.arrived.frame_max ≡ room = one_greatest sc.config.nodes sc.config.m (state_len sc.config) 8 v.arrived.frame_max room fresh.greatest greatest in
       record {
         live = record {
           scenario = is;

@@ -6,7 +6,6 @@ use Rattle.std.specs.Prelude.{All, IfSome, Option, None, Some, is_some, unwrap_o
 use Rattle.std.proofs.lemmas.Bool.{false≢true, eq-eqb, eqb-true}
 use Rattle.std.proofs.lemmas.List.{length-replicate}
 use Rattle.std.proofs.lemmas.List.Elements.{All-cons, All-head, All-tail, All-set, All-replicate}
-use Rattle.frames.specs.Bound.{IsGreatest}
 use Rattle.frames.specs.Content.{IsValue}
 use Rattle.agreed_state.specs.declared.config.Config.{Config}
 use Rattle.agreed_state.specs.declared.config.Inputs.{Inputs}
@@ -204,13 +203,6 @@ module _ {N : ℕ} (v : LiveView N) (is : IsLive v) where
   }
 
 -- ---- the greatest length of a frame
-
-pub same_greatest : (nodes m state_len due a b : ℕ) → IsGreatest nodes m state_len due a → IsGreatest nodes m state_len due b → a ≡ b
-same_greatest nodes m state_len due a b g h = omega (arith, at_most nodes m state_len due a b g h, at_most nodes m state_len due b a h g) where
-  at_most : (nodes m state_len due a b : ℕ) → IsGreatest nodes m state_len due a → IsGreatest nodes m state_len due b → a ≤ b
-  at_most nodes m state_len due a b g h =
-      let r = g.reached in
-      omega (arith, r.5, h.within r.0 r.1 r.2 r.4)
 
 -- ---- readings in their places
 

@@ -1,9 +1,9 @@
 -- The words of a line, by its first space.
-use Rattle.std.proofs.Common.{◌≡◌, ℕ, zero, suc, ◌+◌, ◌-◌, ◌<◌, ◌==◌, Bool, true, false, List, [], ◌∷◌, length, take, drop, slice_index, ap, sym, ◌∙◌, arith, refl, length-drop}
+use Rattle.std.proofs.Common.{◌≡◌, ℕ, zero, suc, ◌+◌, ◌-◌, ◌<◌, ◌==◌, Bool, true, false, List, [], ◌∷◌, length, take, drop, slice_index, ap, ◌∙◌, arith, refl, length-drop}
 use Rattle.std.proofs.Math.Seq.{take_all}
 use Rattle.std.specs.List.{onto_first}
 use Rattle.std.proofs.lemmas.Bool.{false≢true}
-use Rattle.std.specs.Prelude.{Option, None, Some, is_some, option_map}
+use Rattle.std.specs.Prelude.{Option, None, Some, is_some}
 use Rattle.std.proofs.lemmas.List.Splits.{slice_split-cons_yes, slice_split-cons_no, length-slice_split}
 use Rattle.live_node.specs.Event.{words, of_words, event_of, of_one_word, of_two_words, of_three_words, of_four_words}
 use Rattle.live_node.specs.Seen.{words_behind}
@@ -69,11 +69,3 @@ behind_is line w o p h e = h ∙ ap (λ r. w ∷ words_behind r) e
 pub given : (o : Option (List ℕ)) → is_some o ≡ true → (line : List ℕ) × (o ≡ Some line)
 given None h = absurd (false≢true h)
 given (Some line) h = (line, refl)
-
-pub is_some_map : {A B : Type 0} (f : A → B) (o : Option A) → is_some (option_map f o) ≡ is_some o
-is_some_map f None = refl
-is_some_map f (Some x) = refl
-
-pub not_some : {A : Type 0} (o : Option A) → is_some o ≡ false → o ≡ None
-not_some None h = refl
-not_some (Some x) h = absurd (false≢true (sym h))

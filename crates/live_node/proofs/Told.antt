@@ -8,6 +8,8 @@ use Rattle.std.proofs.lemmas.Int.{to_z-of_z, ints}
 use Rattle.std.proofs.lemmas.List.{take_more_set, map_more}
 use Rattle.std.proofs.lemmas.Bool.{false≢true, eqb-true, eq-eqb, cases_Bool}
 use Rattle.std.proofs.lemmas.List.Elements.{All-map, All-weaker, All-head, All-tail, filter_passes}
+use Rattle.node_grid.specs.ListLaws.{has_push}
+use Rattle.node_grid.specs.TruthFacts.{and_false}
 use Rattle.clock_skew.specs.Correction.{IsReading}
 use Rattle.frames.specs.Content.{IsValue}
 use Rattle.node_grid.specs.NodeSet.{ids_below, ids_where, has_id, with_id, IsIdSet}
@@ -53,14 +55,6 @@ or_false : (a : Bool) → (a || false) ≡ (false || a)
 or_false true = refl
 or_false false = refl
 
-or_of_three : (a b c : Bool) → (a || (b || c)) ≡ ((a || b) || c)
-or_of_three true b c = refl
-or_of_three false b c = refl
-
-and_no : (x : Bool) → (x && false) ≡ false
-and_no true = refl
-and_no false = refl
-
 same_or_not : (j k : ℕ) → (j ≡ k) ⊎ (((j == k) ≡ false) × ((k == j) ≡ false))
 same_or_not j k = elim (cases_Bool (j == k)) [
   | inl t ↦ inl (eqb-true j k t)
@@ -83,7 +77,7 @@ added a p j k holds = elim (same_or_not j k) [
 
 passed_at : (a x b : Bool) → b ≡ false → (a && b) ≡ ((a || x) && b)
 passed_at true x b h = rw h refl
-passed_at false x b h = rw h (sym (and_no x))
+passed_at false x b h = rw h (sym (and_false x))
 
 passed_beside : (a y b : Bool) → y ≡ false → (a && b) ≡ ((a || y) && b)
 passed_beside true y b h = refl
@@ -99,20 +93,16 @@ passed a p j k fails = elim (same_or_not j k) [
 abbrev pub read_among : ℕ → List ℕ → (ℕ → Bool) → List ℕ
 read_among n xs p = ids_where (λ j. has_id xs j && p j) n
 
-has-append : (xs : List ℕ) (k j : ℕ) → has_id (xs ++ k ∷ []) j ≡ (has_id xs j || (k == j))
-has-append [] k j = or_false (k == j)
-has-append (x ∷ xs) k j = ap (λ (b : Bool). (x == j) || b) (has-append xs k j) ∙ or_of_three (x == j) (has_id xs j) (k == j)
-
 -- one more passes, or doesn't
 pub one_read : (n : ℕ) (xs : List ℕ) (p : ℕ → Bool) (k : ℕ) → p k ≡ true → with_id n (read_among n xs p) k ≡ read_among n (xs ++ k ∷ []) p
 one_read n xs p k holds =
     filter_range (λ j. (j == k) || has_id (read_among n xs p) j) (λ j. has_id (xs ++ k ∷ []) j && p j) 0 n
-    (λ j low high. ap (λ (b : Bool). (j == k) || b) (has-filter (λ i. has_id xs i && p i) n j (omega (arith, high))) ∙ added (has_id xs j) p j k holds ∙ ap (λ (b : Bool). b && p j) (sym (has-append xs k j)))
+    (λ j low high. ap (λ (b : Bool). (j == k) || b) (has-filter (λ i. has_id xs i && p i) n j (omega (arith, high))) ∙ added (has_id xs j) p j k holds ∙ ap (λ (b : Bool). b && p j) (sym (has_push xs k j)))
 
 pub none_read : (n : ℕ) (xs : List ℕ) (p : ℕ → Bool) (k : ℕ) → p k ≡ false → read_among n xs p ≡ read_among n (xs ++ k ∷ []) p
 none_read n xs p k fails =
     filter_range (λ j. has_id xs j && p j) (λ j. has_id (xs ++ k ∷ []) j && p j) 0 n
-    (λ j low high. passed (has_id xs j) p j k fails ∙ ap (λ (b : Bool). b && p j) (sym (has-append xs k j)))
+    (λ j low high. passed (has_id xs j) p j k fails ∙ ap (λ (b : Bool). b && p j) (sym (has_push xs k j)))
 
 -- all of them, where the list is a set of nodes
 pub all_read : (n : ℕ) (sync : List ℕ) (p : ℕ → Bool) → IsIdSet n sync → read_among n sync p ≡ filter p sync

@@ -9,6 +9,7 @@ use Rattle.node_grid.specs.declared.class.Class.TheVariants.{N, J, B, S, A}
 use Rattle.node_grid.specs.Class.{is_nonfaulty, is_silent, is_symmetric, is_asymmetric, IsWithin}
 use Rattle.node_grid.specs.NodeSet.{has_id}
 use Rattle.node_grid.specs.Count.{bit, count}
+use Rattle.node_grid.specs.TruthFacts.{is_n}
 use Rattle.mme_vote.specs.Members.{if_test}
 
 pub has_first : (k : ℕ) (ks : List ℕ) → has_id (k ∷ ks) k ≡ true
@@ -37,13 +38,6 @@ some_passes f (q ∷ qs) h = elim (cases_Bool (f q)) [
       let r = some_passes f qs (omega arith) in
       (r.0, has_later r.0 q qs r.1, r.2)
 ]
-
-is_n : (c : Class) → is_nonfaulty c ≡ true → c ≡ N
-is_n N h = refl
-is_n J h = cc
-is_n B h = cc
-is_n S h = cc
-is_n A h = cc
 
 -- within the budget there is a nonfaulty member
 pub some_nonfaulty : (class_of : ℕ → Class) (ks : List ℕ) (m : ℕ) → IsWithin class_of ks m → (k : ℕ) × (has_id ks k ≡ true) × (class_of k ≡ N)

@@ -3,6 +3,8 @@ use Rattle.std.proofs.Common.{ℕ, ◌≡◌, ◌<◌, ◌≤◌, ◌+◌, ◌*�
 use Rattle.std.specs.Prelude.{All, nat_lt}
 use Rattle.std.specs.Option.{option_or}
 use Rattle.std.proofs.lemmas.Bool.{lt-ltb, le-ltb, ltb-true}
+use Rattle.node_grid.specs.TruthFacts.{first_none, second_none}
+use Rattle.scenario.specs.Facts.{unless_holds, no_place}
 use Rattle.serde_json.specs.Data.{Data}
 use Rattle.node_grid.specs.Capacity.{IsCapacity}
 use Rattle.slot_plan.specs.Slots.{slot_count}
@@ -14,7 +16,6 @@ use Rattle.scenario.specs.Scenario.{ScenarioView, IsScenario}
 use Rattle.scenario.specs.Given.{scenario_of}
 use Rattle.scenario.specs.Verdict.{Tells}
 use Rattle.scenario.specs.Laws.{AcceptedLaw}
-use Rattle.scenario.proofs.Places.{first_none, second_none, holds, nowhere}
 use Rattle.scenario_reading.specs.Verdict.{IsAcceptedValue, value_refusal}
 use Rattle.scenario_reading.specs.Verdict as scenario
 use Rattle.scenario.specs.declared.error.ScenarioError.{ScenarioError}
@@ -99,10 +100,10 @@ record_is scenarios N id d r room h =
     let later = second_none (refusal N h.scenario) (log_refusal sc id frames) rules in
     let no_node = unless (nat_lt id sc.config.nodes) 16 0 in
     let bad_entry = at_place 17 (first_bad_entry (limits_of sc id) 0 0 0 frames) in
-    let good : first_bad_entry (limits_of sc id) 0 0 0 frames ≡ None = nowhere 17 _ (second_none no_node bad_entry later) in
+    let good : first_bad_entry (limits_of sc id) 0 0 0 frames ≡ None = no_place 17 _ (second_none no_node bad_entry later) in
     subst (λ (x : RecordView N). IsRecord x) (sym h.says) (record {
       scenario = scenarios N h.scenario room (first_none (refusal N h.scenario) (log_refusal sc id frames) rules);
-      id = ltb-true id sc.config.nodes (holds (nat_lt id sc.config.nodes) 16 0 (first_none no_node bad_entry later));
+      id = ltb-true id sc.config.nodes (unless_holds (nat_lt id sc.config.nodes) 16 0 (first_none no_node bad_entry later));
       placed = all_placed (limits_of sc id) 0 0 0 frames good;
       ascends = all_ascend (limits_of sc id) 0 0 0 frames good;
     })

@@ -1,9 +1,10 @@
 -- Entries that no rule refuses: their numbers, and their order.
-use Rattle.std.proofs.Common.{ℕ, ◌≡◌, ◌≢◌, ◌<◌, ◌+◌, ◌==◌, ◌∙◌, ℤ, pos, negsuc, Bool, true, false, if◌then◌else◌, List, [], ◌∷◌, ◌++◌, map, length, get_or, take, drop, refl, sym, ap, ap₂, subst, arith, Option, None, Some, eq-eqb}
+use Rattle.std.proofs.Common.{ℕ, ◌≡◌, ◌<◌, ◌+◌, ◌∙◌, ℤ, pos, negsuc, Bool, true, false, if◌then◌else◌, List, [], ◌∷◌, ◌++◌, map, length, get_or, take, drop, refl, sym, ap, ap₂, subst, arith, Option, None, Some}
 use Rattle.std.specs.Prelude.{All, not, ◌&&◌, option_map}
 use Rattle.std.proofs.lemmas.Bool.{true≢false, ltb-true, and_parts, not-true}
 use Rattle.std.proofs.lemmas.List.{map_push, map_more, get_or_default}
 use Rattle.std.proofs.lemmas.List.Elements.{All-nil, All-cons, All-weaker}
+use Rattle.node_grid.specs.NumberFacts.{differ_true}
 use Rattle.scenario.specs.declared.error.ScenarioError.{ScenarioError}
 use Rattle.scenario.specs.Rules.{at_place}
 use Rattle.scenario.specs.Verdict.{Tells}
@@ -21,16 +22,13 @@ pub below : (n : ℕ) (z : ℤ) → is_below n z ≡ true → natural z < n
 below n (pos k) h = ltb-true k n h
 below n (negsuc k) h = absurd (true≢false (sym h))
 
-pub apart : (a b : ℕ) → not (a == b) ≡ true → a ≢ b
-apart a b h e = true≢false (sym (eq-eqb a b e) ∙ not-true (a == b) h)
-
 pub placed : (l : Limits) (e : EntryParts) → is_entry_placed l e ≡ true → IsPlaced l.nodes l.slots l.periods l.id (entry_of e)
 placed l e h =
     let a = and_parts _ _ h in
     let b = and_parts _ _ a.1 in
     let c = and_parts _ _ b.1 in
     let d = and_parts _ _ c.1 in
-    record { period = below l.periods e.period a.0; slot = below l.slots e.slot b.0; from = below l.nodes e.from c.0; other = apart (natural e.from) l.id d.0 }
+    record { period = below l.periods e.period a.0; slot = below l.slots e.slot b.0; from = below l.nodes e.from c.0; other = differ_true (natural e.from) l.id d.0 }
 
 -- the test of one entry, and the rest
 first_good : (l : Limits) (p t k : ℕ) (e : EntryParts) (es : List EntryParts) → first_bad_entry l p t k (e ∷ es) ≡ None

@@ -33,10 +33,6 @@ woken_keeps : {N : ℕ} (config : Config N) (b : Bool) (v : NodeView N) (y : Kep
 woken_keeps config true v y c e = ap (λ (z : Config _). nothing (setting_of z)) c
 woken_keeps config false v y c e = e
 
-pub woken_shut : {N : ℕ} (b : Bool) (v : NodeView N) → (if b then restarted v else v).phase.is_open ≡ v.phase.is_open
-woken_shut true v = refl
-woken_shut false v = refl
-
 -- where a restart is asked for
 pub restart_places : {N : ℕ} (log : RecordView N) → IsRecord log → (sc : ScenarioView N) → sc ≡ log.scenario → (plan : Plan) → plan ≡ sc.plan → (id p : ℕ) → id ≡ log.id → p < log.scenario.periods
     → (id < plan.nodes) × (p < plan.periods)

@@ -1,7 +1,8 @@
 -- A slot of claims or rows that was closed, as it is heard.
-use Rattle.std.proofs.Common.{ℕ, zero, suc, ◌<◌, ◌≡◌, ◌≢◌, ◌≤◌, ◌+◌, ◌-◌, ◌==◌, true, Some, sym, ap, ap₂, subst, ◌∙◌, arith, eq-eqb, ne_eqb}
+use Rattle.std.proofs.Common.{ℕ, ◌≡◌, ◌≢◌, ◌≤◌, ◌+◌, ◌-◌, ◌==◌, true, Some, sym, ap, ap₂, subst, ◌∙◌, arith, eq-eqb, ne_eqb}
 use Rattle.std.specs.Prelude.{IsSome, nat_le, if◌then◌else◌}
 use Rattle.std.proofs.lemmas.Bool.{cond-true, cond-false}
+use Rattle.node_grid.specs.NumberFacts.{le_yes, le_no}
 use Rattle.omh.specs.Heard.{Hearing}
 use Rattle.frames.specs.Content.{Expectation, IsClaim, IsRow}
 use Rattle.frames.specs.FrameKinds.{claim_relay_kind, row_relay_kind}
@@ -9,26 +10,19 @@ use Rattle.error_detect.specs.Watching.{Watch, closed, findings, IsHeardBy}
 use Rattle.error_reports.specs.Notes.{Notes, also_noted, also_carried}
 use Rattle.agreed_state.specs.Agreed.{AgreedView}
 use Rattle.protocol.specs.Arrival.{claim_form, row_form}
-use Rattle.relay_table.specs.Tabled.{kept_nodes}
 use Rattle.relaying.specs.Hearing.{after_round}
 use Rattle.relaying.specs.Round.{IsRoundOf}
 use Rattle.relaying.specs.Told.{IsSlotOf, IsRoundHeard}
 use Rattle.noting.specs.Findings.{found_bad, bad_in}
 use Rattle.noting.specs.FoundLaws.{claims_found, rows_found}
 use Rattle.node_steps.specs.Parts.{NodeView}
-use Rattle.node_steps.specs.PremiseLaws.{done_hears, rows_hears, le_is, gt_is}
+use Rattle.node_steps.specs.PremiseLaws.{done_hears, rows_hears}
 use Rattle.node_steps.specs.Sound.{Hears, IsInSlot, IsSound}
 use Rattle.node_steps.specs.Steps.{expected_in, shut, taken, done_noted, done_heard, report_noted, report_heard, after_done, after_data, after_report, claims_known, noting}
 use Rattle.node_core.specs.declared.controller.Controller.TheInside.{Inside}
 use Rattle.node_core.specs.Inside.{seen, IsController}
 use Rattle.node_core.proofs.NotedRows.{noted_by, carried_by}
 use Rattle.node_core.proofs.Rounds.{claims_round, rows_round}
-
--- what was heard in a round before the last is kept
-pub kept_early : (m r : ℕ) → r < m → r < kept_nodes m
-kept_early zero r low = absurd (omega arith)
-kept_early (suc zero) r low = omega arith
-kept_early (suc (suc m)) r low = low
 
 -- a slot as the writers of relay frames know it is one as their readers do
 slot_of : {V : Type 0} {P : Expectation → V → Type 0} {capacity kind r : ℕ} {h : Hearing V} {e : Expectation} → IsRoundOf capacity kind P r h e → IsSlotOf capacity kind r h e
@@ -117,11 +111,11 @@ module _ {N : ℕ} (n : Inside N) (inv : IsController n) (sound : IsSound (seen 
 
 pub claims_taken : {N : ℕ} (v : NodeView N) (a : AgreedView) (r : ℕ) → v.phase.slot ≡ 1 + r → r ≤ v.config.m → taken (shut v) (Some a) ≡ after_done (shut v) a
 claims_taken v a r at low =
-    cond-true (nat_le v.phase.slot (v.config.m + 1)) (after_done (shut v) a) (if v.phase.slot == v.config.m + 2 then after_data (shut v) a else after_report (shut v)) (le_is v.phase.slot (v.config.m + 1) (omega (arith, at, low)))
+    cond-true (nat_le v.phase.slot (v.config.m + 1)) (after_done (shut v) a) (if v.phase.slot == v.config.m + 2 then after_data (shut v) a else after_report (shut v)) (le_yes v.phase.slot (v.config.m + 1) (omega (arith, at, low)))
 
 pub rows_taken : {N : ℕ} (v : NodeView N) (a : AgreedView) (r : ℕ) → v.phase.slot ≡ v.config.m + 3 + r → taken (shut v) (Some a) ≡ after_report (shut v)
 rows_taken v a r at =
-    cond-false (nat_le v.phase.slot (v.config.m + 1)) (after_done (shut v) a) (if v.phase.slot == v.config.m + 2 then after_data (shut v) a else after_report (shut v)) (gt_is v.phase.slot (v.config.m + 1) (omega (arith, at)))
+    cond-false (nat_le v.phase.slot (v.config.m + 1)) (after_done (shut v) a) (if v.phase.slot == v.config.m + 2 then after_data (shut v) a else after_report (shut v)) (le_no v.phase.slot (v.config.m + 1) (omega (arith, at)))
     ∙ cond-false (v.phase.slot == v.config.m + 2) (after_data (shut v) a) (after_report (shut v)) (ne_eqb v.phase.slot (v.config.m + 2) (λ e. absurd (omega (arith, at, e))))
 
 -- after the last round of claims they are settled

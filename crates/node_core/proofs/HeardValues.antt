@@ -5,6 +5,7 @@ use Rattle.std.proofs.lemmas.Bool.{cond-true, cond-false}
 use Rattle.node_grid.specs.Kinds.{deviate}
 use Rattle.node_grid.specs.NodeSet.{has_id, ids_where}
 use Rattle.slot_plan.specs.Slots.{slot_number}
+use Rattle.node_grid.specs.NumberFacts.{le_no}
 use Rattle.omh_paths.specs.declared.wrapped.Wrapped.TheVariants.{Plain}
 use Rattle.omh.specs.Heard.{Hearing}
 use Rattle.error_detect.specs.Watching.{Watch, closed, findings, IsHeardBy}
@@ -18,7 +19,6 @@ use Rattle.noting.specs.Findings.{found_bad, has_of}
 use Rattle.noting.specs.FoundLaws.{has_others, values_found}
 use Rattle.data_slot.specs.Values.{only_values}
 use Rattle.node_steps.specs.Parts.{NodeView}
-use Rattle.node_steps.specs.PremiseLaws.{gt_is}
 use Rattle.node_steps.specs.Sound.{IsInSlot, IsSound}
 use Rattle.node_steps.specs.Steps.{expected_in, shut, taken, after_data, after_done, after_report, noting, started}
 use Rattle.node_core.specs.declared.controller.Controller.TheInside.{Inside}
@@ -110,5 +110,5 @@ still_notes config me false x r own = record { nodes = own.nodes; me_is = own.me
 -- what the data slot's end takes
 pub values_taken : {N : ℕ} (v : NodeView N) (a : AgreedView) → v.phase.slot ≡ v.config.m + 2 → taken (shut v) (Some a) ≡ after_data (shut v) a
 values_taken v a at =
-    cond-false (nat_le v.phase.slot (v.config.m + 1)) (after_done (shut v) a) (if v.phase.slot == v.config.m + 2 then after_data (shut v) a else after_report (shut v)) (gt_is v.phase.slot (v.config.m + 1) (omega (arith, at)))
+    cond-false (nat_le v.phase.slot (v.config.m + 1)) (after_done (shut v) a) (if v.phase.slot == v.config.m + 2 then after_data (shut v) a else after_report (shut v)) (le_no v.phase.slot (v.config.m + 1) (omega (arith, at)))
     ∙ cond-true (v.phase.slot == v.config.m + 2) (after_data (shut v) a) (after_report (shut v)) (eq-eqb v.phase.slot (v.config.m + 2) at)

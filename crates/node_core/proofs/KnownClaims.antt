@@ -4,6 +4,7 @@ use Rattle.std.specs.Prelude.{nat_eq, slice_index_or}
 use Rattle.std.proofs.lemmas.List.FromFn.{get_or-map-range_with_len}
 use Rattle.node_grid.specs.Kinds.{claim, overrun, equivocate}
 use Rattle.node_grid.specs.NodeSet.{ids_where}
+use Rattle.node_grid.specs.ListFacts.{map_map}
 use Rattle.omh_paths.specs.declared.wrapped.Wrapped.{Wrapped}
 use Rattle.omh.specs.Heard.{Hearing, ear_of, forgotten}
 use Rattle.list_scheduler.specs.declared.schedule.Verdict.{Verdict}
@@ -18,7 +19,6 @@ use Rattle.protocol.specs.View.{as_claim, due_channels, own_values}
 use Rattle.protocol.specs.Settled.{plain}
 use Rattle.relay_terms.specs.declared.term.Term.{Term}
 use Rattle.relay_terms.specs.Terms.{said}
-use Rattle.relaying.specs.HearingLaws.{map_map}
 use Rattle.relaying.specs.Settling.{settled_in}
 use Rattle.noting.specs.FoundLaws.{noted_of_each}
 use Rattle.node_steps.specs.Parts.{NodeView}

@@ -4,9 +4,11 @@ use Rattle.std.specs.Prelude.{if◌then◌else◌}
 use Rattle.std.proofs.lemmas.Bool.{cond-false}
 use Rattle.std.proofs.lemmas.Bool.Decides.{nat_tests}
 use Rattle.node_grid.specs.NodeSet.{IsIdSet}
+use Rattle.node_grid.specs.SetFacts.{empty_set}
 use Rattle.frames.specs.Bound.{IsGreatest}
-use Rattle.frames.specs.Content.{kind_in, round_in, IsClaim, IsRow}
+use Rattle.frames.specs.Content.{kind_in, IsClaim, IsRow}
 use Rattle.frames.specs.FrameKinds.{claim_relay_kind, row_relay_kind}
+use Rattle.frames.specs.Facts.{rows_round_in, claims_round_in}
 use Rattle.error_detect.specs.Watching.{HasRoom}
 use Rattle.agreed_state.specs.declared.config.Config.{Config}
 use Rattle.agreed_state.specs.Config.{IsConfig}
@@ -16,7 +18,7 @@ use Rattle.agreed_state.specs.Body.{state_len}
 use Rattle.protocol.specs.Run.{members_in}
 use Rattle.relaying.specs.Round.{IsRoundOf}
 use Rattle.node_steps.specs.Parts.{NodeView}
-use Rattle.node_steps.specs.PremiseLaws.{few_due, members_asked, no_ids}
+use Rattle.node_steps.specs.PremiseLaws.{few_due, members_asked}
 use Rattle.node_steps.specs.Sound.{HasSizes, Hears}
 use Rattle.node_steps.specs.Steps.{expected_in}
 
@@ -32,7 +34,7 @@ fits_room config period t me members due room set few greatest j c r = greatest.
   m_is = refl;
   state_len_is = refl;
   few_due = either (λ (n : ℕ). n ≤ 8) (t == config.m + 2) due 0 few (omega arith);
-  members = either (IsIdSet config.nodes) (t == 0) [] members (no_ids config.nodes) set;
+  members = either (IsIdSet config.nodes) (t == 0) [] members (empty_set config.nodes) set;
 }) r
 
 pub expected_fits : {N : ℕ} (v : NodeView N) (t room : ℕ) → IsConfig N v.config → HasSizes v → IsGreatest v.config.nodes v.config.m (state_len v.config) 8 room → HasRoom room (expected_in v t)
@@ -46,14 +48,8 @@ asked v a t h later goes same =
 claims_kind : (m r : ℕ) → 0 < r → r ≤ m → claim_relay_kind ≡ kind_in m (1 + r)
 claims_kind m r some low = grind (arith, nat_tests)
 
-claims_round_in : (m r : ℕ) → r ≤ m → round_in m (1 + r) ≡ r
-claims_round_in m r low = grind (arith, nat_tests)
-
 rows_kind : (m r : ℕ) → 0 < r → r ≤ m → row_relay_kind ≡ kind_in m (m + 3 + r)
 rows_kind m r some low = grind (arith, nat_tests)
-
-rows_round_in : (m r : ℕ) → round_in m (m + 3 + r) ≡ r
-rows_round_in m r = grind (arith, nat_tests)
 
 -- a relay slot of claims, and one of rows
 pub claims_round : {N : ℕ} (v : NodeView N) (a : AgreedView) (r : ℕ) → HasSizes v → v.phase.before ≡ Some a → Hears v.done v.phase.me a → 0 < r → r ≤ v.config.m

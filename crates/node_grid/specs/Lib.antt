@@ -10,3 +10,7 @@ pub mod ListLaws
 pub mod MaskLaws
 pub mod Planes
 pub mod Class
+pub mod NumberFacts
+pub mod TruthFacts
+pub mod ListFacts
+pub mod SetFacts

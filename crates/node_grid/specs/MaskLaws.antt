@@ -112,7 +112,7 @@ mask-none p (suc n) =
     let next : suc n ≡ n + 1 = omega arith in
     ap (λ i. mask_of (ids_where p i) == 0) next ∙ none_more p n (mask-none p n) (p n) refl ∙ ap (λ i. not (list_any p (ids_below i))) (sym next)
 
-same_bit : (x y : ℕ) → x < 2 → y < 2 → (x == 1) ≡ (y == 1) → x ≡ y
+pub same_bit : (x y : ℕ) → x < 2 → y < 2 → (x == 1) ≡ (y == 1) → x ≡ y
 same_bit x y h l e = grind arith
 
 -- a mask is known by its bits

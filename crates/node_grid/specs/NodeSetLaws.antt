@@ -83,7 +83,7 @@ hasnt-range : (a n x : ℕ) → a + n ≤ x → has_id (range_with_len a n) x �
 hasnt-range a zero x l = refl
 hasnt-range a (suc n) x l = rw (ne_eqb a x (λ s. omega arith)) (hasnt-range (a + 1) n x (omega arith))
 
-has_filtered : (p : ℕ → Bool) (xs : List ℕ) (x : ℕ) → has_id (filter p xs) x ≡ (p x && has_id xs x)
+pub has_filtered : (p : ℕ → Bool) (xs : List ℕ) (x : ℕ) → has_id (filter p xs) x ≡ (p x && has_id xs x)
 has_filtered p xs x = any-filter_same (λ y. y == x) p (p x) (λ k e. ap p (eqb-true k x e)) xs
 
 pub has-filter : (p : ℕ → Bool) (n x : ℕ) → x < n → has_id (filter p (ids_below n)) x ≡ p x
@@ -453,7 +453,7 @@ pub not_all_ids : (p : ℕ → Bool) (n k : ℕ) → k < n → p k ≡ false →
 not_all_ids p n k u fails = not_all_range p 0 n k (omega arith) (omega arith) fails
 
 -- how many numbers below a bound pass
-count-range : (p : ℕ → Bool) (a n : ℕ) → count p (range_with_len a (suc n)) ≡ count p (range_with_len a n) + bit (p (a + n))
+pub count-range : (p : ℕ → Bool) (a n : ℕ) → count p (range_with_len a (suc n)) ≡ count p (range_with_len a n) + bit (p (a + n))
 count-range p a zero = let e : a + 0 ≡ a = omega arith in rw e (omega arith)
 count-range p a (suc n) =
     let e : (a + 1) + n ≡ a + suc n = omega arith in

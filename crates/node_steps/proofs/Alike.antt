@@ -1,28 +1,25 @@
 -- What a node believes depends on the frames of other nodes alone, and notes add up.
-use Rattle.std.proofs.Common.{ℕ, zero, suc, ◌≡◌, ◌≢◌, ◌<◌, ◌≤◌, ◌+◌, ◌==◌, ◌||◌, ◌&&◌, Bool, true, false, not, if◌then◌else◌, List, [], ◌∷◌, map, refl, sym, ap, ap₂, subst, ◌∙◌, inl, inr, arith, eq-eqb, ne_eqb, Option, None, ℤ}
+use Rattle.std.proofs.Common.{ℕ, zero, suc, ◌≡◌, ◌≢◌, ◌<◌, ◌≤◌, ◌+◌, ◌==◌, ◌||◌, ◌&&◌, Bool, true, false, not, if◌then◌else◌, List, ◌∷◌, map, refl, sym, ap, ap₂, subst, ◌∙◌, inl, inr, arith, eq-eqb, ne_eqb, Option, None, ℤ}
 use Rattle.std.specs.Prelude.{nat_lt}
-use Rattle.std.specs.List.{range_with_len, filter_map, cons_option}
+use Rattle.std.specs.List.{range_with_len}
 use Rattle.std.specs.Int.{bit_at}
-use Rattle.std.proofs.lemmas.Bool.{cases_Bool, cases_eq, cond-true, cond-false, and_parts, or_left, or_right, not-true, eqb-false}
+use Rattle.std.proofs.lemmas.Bool.{cases_Bool, cases_eq, cond-true, cond-false, and_parts, not-true, eqb-false}
 use Rattle.std.proofs.lemmas.Bool.Decides.{nat_tests}
 use Rattle.std.proofs.lemmas.List.FromFn.{get_or-map-range_with_len}
 use Rattle.node_grid.specs.NodeSet.{has_id, ids_below, ids_where, mask_of, IsIdSet}
-use Rattle.node_grid.specs.NodeSetLaws.{filter_range, passes_where}
-use Rattle.omh_paths.specs.MemberLaws.{member-lt}
+use Rattle.node_grid.specs.NodeSetLaws.{filter_range}
+use Rattle.node_grid.specs.NumberFacts.{lt_from, kinds-few}
+use Rattle.node_grid.specs.SetFacts.{filter_map_members, member-lt}
 use Rattle.error_reports.specs.Charge.{accuses}
 use Rattle.node_grid.specs.MaskLaws.{mask-has}
-use Rattle.protocol.specs.RowLaws.{kinds-few}
 use Rattle.agreed_state.specs.Agreed.{AgreedView}
 use Rattle.agreed_state.specs.Adoption.{adopted}
 use Rattle.mme_vote.specs.Vote.{vote_of}
 use Rattle.protocol.specs.Arrival.{Arrival, is_good}
 use Rattle.node_grid.specs.Version.{kind_count}
-use Rattle.mme_vote.specs.declared.channel.Channel.{Channel}
-use Rattle.mme_vote.specs.declared.channel.Channel.TheVariants.{State, Sensor, Copy}
 use Rattle.omh_paths.specs.declared.wrapped.Wrapped.{Wrapped}
-use Rattle.list_scheduler.specs.Copies.{copy_at, is_passed}
-use Rattle.list_scheduler.specs.Schedule.{copies_completed}
 use Rattle.protocol.specs.View.{Setting, Received, content, adopted_by, value_from, value_in, vote_on, votes_on, row_by, channel_room, channel, voters, lies_tolerated, synced_by}
+use Rattle.protocol.specs.Facts.{voter_member}
 use Rattle.noting.specs.Findings.{good_in}
 
 pub map_below : {X : Type 0} (f g : ℕ → X) (a n : ℕ) → ((c : ℕ) → c < a + n → f c ≡ g c) → map f (range_with_len a n) ≡ map g (range_with_len a n)
@@ -33,15 +30,12 @@ map_below f g a (suc n) h = ap₂ ◌∷◌ (h a (omega arith)) (map_below f g (
 pub record Others (nodes i : ℕ) (P : ℕ → Type 0) : Type 0 where
   pub each : (j : ℕ) → j < nodes → j ≢ i → P j
 
-low_told : (a b : ℕ) → nat_lt a b ≡ true → a < b
-low_told a b h = grind (arith, nat_tests)
-
 -- a choice by whether a node is another one
 pub other_if : {X : Type 0} (nodes i j : ℕ) (x y z : X) → Others nodes i (λ q. q ≡ j → x ≡ y) → (if nat_lt j nodes && not (j == i) then x else z) ≡ (if nat_lt j nodes && not (j == i) then y else z)
 other_if nodes i j x y z h = elim (cases_Bool (nat_lt j nodes && not (j == i))) [
   | inl t ↦
       let p = and_parts (nat_lt j nodes) (not (j == i)) t in
-      cond-true _ x z t ∙ h.each j (low_told j nodes p.0) (eqb-false j i (not-true (j == i) p.1)) refl ∙ sym (cond-true _ y z t)
+      cond-true _ x z t ∙ h.each j (lt_from j nodes p.0) (eqb-false j i (not-true (j == i) p.1)) refl ∙ sym (cond-true _ y z t)
   | inr f ↦ cond-false _ x z f ∙ sym (cond-false _ y z f)
 ]
 
@@ -64,24 +58,12 @@ synced_alike s i f x h =
 
 -- ---- votes
 
--- who votes on a channel is a member
-pub voter_member : (s : Setting) (a : AgreedView) (done : List (Wrapped ℕ)) (x : Channel s.capacity) (q : ℕ) → has_id (voters s a done x) q ≡ true → has_id a.standing.members q ≡ true
-voter_member s a done (State delta start step) q on = on
-voter_member s a done (Sensor delta task) q on = on
-voter_member s a done (Copy delta t lies) q on =
-    let after = copies_completed s.capacity s.config.graph a.standing.members a.copies done in
-    (and_parts _ _ (passes_where (λ r. has_id a.standing.members r && is_passed (copy_at after t r)) s.capacity q on)).0
-
-filter_map_alike : (f g : ℕ → Option ℤ) (ms : List ℕ) → ((q : ℕ) → has_id ms q ≡ true → f q ≡ g q) → filter_map f ms ≡ filter_map g ms
-filter_map_alike f g [] h = refl
-filter_map_alike f g (q ∷ ms) h = ap₂ cons_option (h q (or_left (q == q) (has_id ms q) (eq-eqb q q refl))) (filter_map_alike f g ms (λ x on. h x (or_right (q == x) (has_id ms x) on)))
-
 pub votes_alike : (s : Setting) (i : ℕ) (full : Bool) (a : AgreedView) (done : List (Wrapped ℕ)) (due : List ℕ) (own : List (Option ℤ)) (x y : Received) → IsIdSet s.config.nodes a.standing.members → Others s.config.nodes i (λ j. x.values j ≡ y.values j)
     → votes_on s i full a done due own x ≡ votes_on s i full a done due own y
 unfolding votes_on
 votes_alike s i full a done due own x y ids h =
     map_below (λ c. if has_id due c then vote_on s i full a done due own x c else None) (λ c. if has_id due c then vote_on s i full a done due own y c else None) 0 channel_room
-    (λ c l. ap (λ vs. if has_id due c then vote_of vs (lies_tolerated s (channel s c)) else None) (filter_map_alike (value_from i full due own x c) (value_from i full due own y c) (voters s a done (channel s c)) (λ q on. one c q (voter_member s a done (channel s c) q on))))
+    (λ c l. ap (λ vs. if has_id due c then vote_of vs (lies_tolerated s (channel s c)) else None) (filter_map_members (value_from i full due own x c) (value_from i full due own y c) (voters s a done (channel s c)) (λ q on. one c q (voter_member s a done (channel s c) q on))))
   where
     one : (c q : ℕ) → has_id a.standing.members q ≡ true → value_from i full due own x c q ≡ value_from i full due own y c q
     one c q on = elim (cases_eq q i) [

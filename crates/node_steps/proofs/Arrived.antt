@@ -1,5 +1,5 @@
 -- What a node has of frames by their deliveries, and what it passes on.
-use Rattle.std.proofs.Common.{ℕ, suc, ◌≡◌, ◌≢◌, ◌<◌, ◌≤◌, ◌+◌, ◌==◌, ◌||◌, Bool, true, false, if◌then◌else◌, List, [], ◌∷◌, length, map, refl, sym, ap, ap₂, ◌∙◌, inl, inr, arith, ne_eqb, Option, None, Some}
+use Rattle.std.proofs.Common.{ℕ, ◌≡◌, ◌≢◌, ◌<◌, ◌≤◌, ◌+◌, ◌==◌, ◌||◌, Bool, true, false, if◌then◌else◌, List, [], ◌∷◌, length, map, refl, sym, ap, ap₂, ◌∙◌, inl, inr, arith, ne_eqb, Option, None, Some}
 use Rattle.std.specs.Prelude.{nat_le, slice_index_or}
 use Rattle.std.specs.List.{AllByRecursion}
 use Rattle.std.proofs.lemmas.Bool.{cases_Bool, cond-true, cond-false, or_from}
@@ -11,6 +11,7 @@ use Rattle.omh_paths.specs.Paths.{paths_of_length, path_at, IsListed}
 use Rattle.omh_paths.specs.PathLaws.{map_alike}
 use Rattle.omh_paths.specs.PathLists.{paths-avoiding_one, length-paths, IsListed-at, Distinct-without, has-of-without}
 use Rattle.omh_paths.specs.MemberLaws.{Distinct-ids}
+use Rattle.omh_paths.specs.Facts.{all_at}
 use Rattle.omh.specs.Heard.{entry as tabled, heard_in, heard_paths}
 use Rattle.omh.specs.HeardLaws.{IsHeardPath, heard_in-at, has-without-me}
 use Rattle.frames.specs.Content.{Content, Expectation}
@@ -77,10 +78,6 @@ has_by_deliveries part law w e ds j room low ne keeps =
     gt m n h = grind (arith, nat_tests)
 
 -- ---- what a node passes on
-
-all_at : (P : List ℕ → Type 0) (ps : List (List ℕ)) → ((k : ℕ) → k < length ps → P (path_at ps k)) → AllByRecursion P ps
-all_at P [] h = tt
-all_at P (p ∷ ps) h = (h 0 (omega arith), all_at P ps (λ k l. h (suc k) (omega arith)))
 
 all_map : (P : List ℕ → Type 0) (Q : List ℕ → Type 0) (ps : List (List ℕ)) → AllByRecursion P ps → ((p : List ℕ) → P p → Q p) → AllByRecursion Q ps
 all_map P Q [] a h = tt

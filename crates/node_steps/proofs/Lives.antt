@@ -4,6 +4,7 @@ use Rattle.error_detect.specs.Multiset.{Arriving}
 use Rattle.agreed_state.specs.declared.config.Config.{Config}
 use Rattle.protocol.specs.View.{Setting, Kept, first_kept, opened, nothing, view_from}
 use Rattle.protocol.specs.Cluster.{Cluster, kept, begins, view}
+use Rattle.node_steps.specs.Facts.{same_fixed}
 use Rattle.node_steps.specs.Parts.{NodeView}
 use Rattle.protocol.specs.Configured.{setting_of}
 use Rattle.node_steps.specs.Stages.{outcome_of}
@@ -14,10 +15,6 @@ use Rattle.node_steps.specs.Living.{restarted_if, periods_run, Lives, LifeLaw}
 goes_in : {N : ℕ} (s : Setting) (b : Bool) (w : NodeView N) (k : Kept) → setting_of w.config ≡ s → w.kept ≡ k → (restarted_if b w).kept ≡ opened s b k
 goes_in s true w k here keeps = ap nothing here
 goes_in s false w k here keeps = keeps
-
-pub same_fixed : {N : ℕ} (b : Bool) (w : NodeView N) → fixed (restarted_if b w) ≡ fixed w
-same_fixed true w = refl
-same_fixed false w = refl
 
 module _ (law : PeriodLaw) where
   lives : (N : ℕ) (config : Config N) (i room : ℕ) (cl : Cluster) (ds : ℕ → ℕ → List Arriving) (n : ℕ) (v : NodeView N) → cl.setting ≡ setting_of config → fixed v ≡ fixed_of config room i → v.kept ≡ first_kept (setting_of config)

@@ -7,6 +7,7 @@ use Rattle.error_detect.specs.Watching.{Watch, opened}
 use Rattle.error_detect.specs.Multiset.{Arriving, all_delivered, OrderIsFree as WatchOrderIsFree}
 use Rattle.agreed_state.specs.declared.config.Config.{Config}
 use Rattle.agreed_state.specs.declared.config.Inputs.{Inputs}
+use Rattle.node_steps.specs.Facts.{same_fixed}
 use Rattle.node_steps.specs.Parts.{NodeView}
 use Rattle.node_steps.specs.Steps.{given_frame, after_slot, slot_taken, shut, begun}
 use Rattle.node_steps.specs.Period.{slot_run, slots_run}
@@ -14,7 +15,6 @@ use Rattle.node_steps.specs.Sending.{Fixed, fixed}
 use Rattle.node_steps.specs.Living.{restarted_if, periods_run}
 use Rattle.node_steps.specs.Order.{all_given, OrderIsFree}
 use Rattle.node_steps.specs.FixedLaws.{Place, slot_place, slots_fixed}
-use Rattle.node_steps.proofs.Lives.{same_fixed}
 use Rattle.node_steps.proofs.Turns.{IsAt, turned}
 
 -- only what arrived changes

@@ -3,6 +3,7 @@ use Rattle.std.proofs.Common.{ℕ, zero, suc, ◌≡◌, ◌<◌, ◌≤◌, ◌
 use Rattle.std.proofs.lemmas.Bool.{cond-true, cond-false}
 use Rattle.std.specs.Prelude.{nat_le, is_some, replicate}
 use Rattle.node_grid.specs.NodeSet.{IsIdSet}
+use Rattle.node_grid.specs.NumberFacts.{le_yes, le_no}
 use Rattle.omh_paths.specs.Wrapped.{wrapped}
 use Rattle.omh_paths.specs.declared.wrapped.Wrapped.TheVariants.{Fault}
 use Rattle.omh.specs.Heard.{Hearing}
@@ -30,7 +31,7 @@ use Rattle.protocol.specs.ViewLaws.{goes_before, goes_through as view_through}
 use Rattle.node_steps.specs.FixedLaws.{slots_fixed}
 use Rattle.node_steps.proofs.SlotSteps.{opens_next}
 use Rattle.node_steps.proofs.PeriodStages.{fold_is_view, starts, slots_stand, StandsCold, cold_stands, few_dues, empty_is, first_has, stays_cold}
-use Rattle.node_steps.proofs.FramesOwed.{frames_are_owed, is_le, not_le}
+use Rattle.node_steps.proofs.FramesOwed.{frames_are_owed}
 
 -- ---- what is said in a slot
 
@@ -40,22 +41,22 @@ module _ (m t : ℕ) (s c d v r e : Content) where
   pick = if t == 0 then s else (if t == 1 then c else (if nat_le t (m + 1) then d else (if t == m + 2 then v else (if t == m + 3 then r else e))))
 
   at_claims : 1 < t → t ≤ m + 1 → pick ≡ d
-  at_claims l h = cond-false (t == 0) s _ (ne_eqb t 0 (λ z. absurd (omega arith))) ∙ cond-false (t == 1) c _ (ne_eqb t 1 (λ z. absurd (omega arith))) ∙ cond-true (nat_le t (m + 1)) d _ (is_le t (m + 1) h)
+  at_claims l h = cond-false (t == 0) s _ (ne_eqb t 0 (λ z. absurd (omega arith))) ∙ cond-false (t == 1) c _ (ne_eqb t 1 (λ z. absurd (omega arith))) ∙ cond-true (nat_le t (m + 1)) d _ (le_yes t (m + 1) h)
 
   at_values : t ≡ m + 2 → pick ≡ v
   at_values h =
       cond-false (t == 0) s _ (ne_eqb t 0 (λ z. absurd (omega arith))) ∙ cond-false (t == 1) c _ (ne_eqb t 1 (λ z. absurd (omega arith)))
-      ∙ cond-false (nat_le t (m + 1)) d _ (not_le t (m + 1) (omega arith)) ∙ cond-true (t == m + 2) v _ (eq-eqb t (m + 2) h)
+      ∙ cond-false (nat_le t (m + 1)) d _ (le_no t (m + 1) (omega arith)) ∙ cond-true (t == m + 2) v _ (eq-eqb t (m + 2) h)
 
   at_row : t ≡ m + 3 → pick ≡ r
   at_row h =
       cond-false (t == 0) s _ (ne_eqb t 0 (λ z. absurd (omega arith))) ∙ cond-false (t == 1) c _ (ne_eqb t 1 (λ z. absurd (omega arith)))
-      ∙ cond-false (nat_le t (m + 1)) d _ (not_le t (m + 1) (omega arith)) ∙ cond-false (t == m + 2) v _ (ne_eqb t (m + 2) (λ z. absurd (omega arith))) ∙ cond-true (t == m + 3) r e (eq-eqb t (m + 3) h)
+      ∙ cond-false (nat_le t (m + 1)) d _ (le_no t (m + 1) (omega arith)) ∙ cond-false (t == m + 2) v _ (ne_eqb t (m + 2) (λ z. absurd (omega arith))) ∙ cond-true (t == m + 3) r e (eq-eqb t (m + 3) h)
 
   at_rows : m + 3 < t → pick ≡ e
   at_rows h =
       cond-false (t == 0) s _ (ne_eqb t 0 (λ z. absurd (omega arith))) ∙ cond-false (t == 1) c _ (ne_eqb t 1 (λ z. absurd (omega arith)))
-      ∙ cond-false (nat_le t (m + 1)) d _ (not_le t (m + 1) (omega arith)) ∙ cond-false (t == m + 2) v _ (ne_eqb t (m + 2) (λ z. absurd (omega arith))) ∙ cond-false (t == m + 3) r e (ne_eqb t (m + 3) (λ z. absurd (omega arith)))
+      ∙ cond-false (nat_le t (m + 1)) d _ (le_no t (m + 1) (omega arith)) ∙ cond-false (t == m + 2) v _ (ne_eqb t (m + 2) (λ z. absurd (omega arith))) ∙ cond-false (t == m + 3) r e (ne_eqb t (m + 3) (λ z. absurd (omega arith)))
 
 either : {C : Type 0} (b : Bool) (x y z : C) → x ≡ z → y ≡ z → (if b then x else y) ≡ z
 either true x y z h k = h

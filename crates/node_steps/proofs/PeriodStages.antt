@@ -14,10 +14,11 @@ use Rattle.agreed_state.specs.Agreed.{AgreedView}
 use Rattle.protocol.specs.Arrival.{Arrival, arrival, claim_form, row_form, body_said, claim_in, claims_in, row_in, rows_in, values_in}
 use Rattle.protocol.specs.Heard.{paths_of, with_entries}
 use Rattle.node_grid.specs.Version.{kind_count}
-use Rattle.protocol.specs.View.{Kept, Received, Setting, row_by, through, view_from, cold_view, joined, adopted_by, empty_row, channel_room, due_channels, is_due, channel, goes_with}
+use Rattle.protocol.specs.View.{Kept, Received, Setting, row_by, through, view_from, cold_view, adopted_by, empty_row, channel_room, due_channels, is_due, channel, goes_with}
 use Rattle.std.specs.List.{range_with_len}
 use Rattle.omh_paths.specs.declared.wrapped.Wrapped.{Wrapped}
 use Rattle.omh_paths.specs.declared.wrapped.Wrapped.TheVariants.{Fault}
+use Rattle.protocol.specs.Facts.{goes_none}
 use Rattle.node_steps.specs.Outcome.{Outcome}
 use Rattle.node_steps.specs.Parts.{Found, NodeView}
 use Rattle.protocol.specs.Configured.{setting_of}
@@ -252,10 +253,6 @@ first_has config i p g k x room law ds rooms w j h low ne =
     has_by_deliveries body_said law w (expect_at config i p g k x 0 [] 0) (ds 0) j
     (subst (λ (n : ℕ). HasRoom n (expect_at config i p g k x 0 [] 0)) (sym h.room_is) (rooms 0 [] 0 (sym (filter_none (λ q. false) 0 config.nodes (λ q a b. refl))) (omega arith)))
     (let e = h.nodes in omega arith) (λ e. ne (e ∙ h.me)) (λ es. delivered_keeps (opened w (expect_at config i p g k x 0 [] 0)) es)
-
-pub goes_none : (s : Setting) (i p : ℕ) (g : Inputs) (k : Kept) (x : Received) (y : Option AgreedView) → goes_with s i x y ≡ None → view_from s i p g k x y ≡ cold_view s i x
-goes_none s i p g k x (Some b) e = cc
-goes_none s i p g k x None e = ap (joined s i p g k x) e
 
 pub goes_by : (s : Setting) (i : ℕ) (f : ℕ → Arrival (List ℕ)) (x : Received) (y : Option AgreedView) → Others s.config.nodes i (λ j. x.sync j ≡ f j) → (if is_some y then y else adopted_by s i f) ≡ goes_with s i x y
 goes_by s i f x None h = adopted_alike s i f x.sync (record { each = λ j low ne. sym (h.each j low ne) })

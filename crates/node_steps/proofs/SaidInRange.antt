@@ -7,6 +7,7 @@ use Rattle.std.proofs.lemmas.List.{length-map}
 use Rattle.node_grid.specs.NodeSet.{has_id}
 use Rattle.node_grid.specs.NodeSetLaws.{length-ids}
 use Rattle.node_grid.specs.Count.{Distinct}
+use Rattle.node_grid.specs.NumberFacts.{le_from}
 use Rattle.omh_paths.specs.Wrapped.{wrapped}
 use Rattle.omh_paths.specs.Paths.{path_count}
 use Rattle.omh.specs.Heard.{Hearing, heard_in}
@@ -15,6 +16,7 @@ use Rattle.frames.specs.Content.Content.{State, Done0, DoneRelay, Data, Report0,
 use Rattle.frames.specs.Spelling.{IsInRange}
 use Rattle.frames.specs.Laws.{IsLaidOut}
 use Rattle.frames.specs.ReadingLaws.{is_short, cold_in_range}
+use Rattle.frames.specs.Facts.{value_kind}
 use Rattle.agreed_state.specs.ConfigLaws.{few_rounds}
 use Rattle.agreed_state.specs.Config.{IsConfig}
 use Rattle.agreed_state.specs.Agreed.{AgreedView, IsAgreed}
@@ -32,7 +34,7 @@ use Rattle.protocol.specs.ClaimLaws.{own_claim_fits}
 use Rattle.protocol.specs.TalkLaws.{entries_number}
 use Rattle.protocol.specs.Configured.{setting_of}
 use Rattle.node_steps.specs.NoValueLaws.{all_sent}
-use Rattle.node_steps.specs.SoundSteps.{le_told, gt_told}
+use Rattle.node_steps.specs.SoundSteps.{gt_told}
 
 pick : {X : Type 0} (P : X → Type 0) (b : Bool) (x y : X) → (b ≡ true → P x) → (b ≡ false → P y) → P (if b then x else y)
 pick P true x y f g = f refl
@@ -40,9 +42,6 @@ pick P false x y f g = g refl
 
 kind_3 : (m t : ℕ) → 1 < t → t ≤ m + 1 → kind_in m t ≡ 3
 kind_3 m t a b = grind (arith, nat_tests)
-
-kind_4 : (m : ℕ) → kind_in m (m + 2) ≡ 4
-kind_4 m = grind (arith, nat_tests)
 
 kind_5 : (m : ℕ) → kind_in m (m + 3) ≡ 5
 kind_5 m = grind (arith, nat_tests)
@@ -88,7 +87,7 @@ module _ {N : ℕ} (v : NodeView N) (small : N ≤ 16) (ok : IsConfig N v.config
   own_fits a goes values =
       pick (IsInRange (expected_in v v.phase.slot)) (v.phase.slot == 0) _ _ (λ y. state (eqb-true v.phase.slot 0 y))
       (λ n0. pick (IsInRange (expected_in v v.phase.slot)) (v.phase.slot == 1) _ _ (λ y. claim (eqb-true v.phase.slot 1 y))
-      (λ n1. pick (IsInRange (expected_in v v.phase.slot)) (nat_le v.phase.slot (v.config.m + 1)) _ _ (λ y. claims (eqb-false v.phase.slot 0 n0) (eqb-false v.phase.slot 1 n1) (le_told v.phase.slot (v.config.m + 1) y))
+      (λ n1. pick (IsInRange (expected_in v v.phase.slot)) (nat_le v.phase.slot (v.config.m + 1)) _ _ (λ y. claims (eqb-false v.phase.slot 0 n0) (eqb-false v.phase.slot 1 n1) (le_from v.phase.slot (v.config.m + 1) y))
       (λ n2. pick (IsInRange (expected_in v v.phase.slot)) (v.phase.slot == v.config.m + 2) _ _ (λ y. data' (eqb-true v.phase.slot (v.config.m + 2) y))
       (λ n3. pick (IsInRange (expected_in v v.phase.slot)) (v.phase.slot == v.config.m + 3) _ _ (λ y. row (eqb-true v.phase.slot (v.config.m + 3) y))
       (λ n4. rows (gt_told v.phase.slot (v.config.m + 1) n2) (eqb-false v.phase.slot (v.config.m + 2) n3) (eqb-false v.phase.slot (v.config.m + 3) n4))))))
@@ -121,7 +120,7 @@ module _ {N : ℕ} (v : NodeView N) (small : N ≤ 16) (ok : IsConfig N v.config
           )
 
       data' : v.phase.slot ≡ v.config.m + 2 → IsInRange ex (Data (map (own_in v.found.own) v.found.due))
-      data' z = is_short ex (Data (map (own_in v.found.own) v.found.due)) laid_out (sym (ap (kind_in v.config.m) z ∙ kind_4 v.config.m)) (
+      data' z = is_short ex (Data (map (own_in v.found.own) v.found.due)) laid_out (sym (ap (kind_in v.config.m) z ∙ value_kind v.config.m)) (
         length-map v.found.due (own_in v.found.own) ∙ sym (cond-true (v.phase.slot == v.config.m + 2) (length v.found.due) 0 (eq-eqb v.phase.slot (v.config.m + 2) z)),
         values z,
       )

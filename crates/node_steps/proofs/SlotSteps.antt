@@ -3,10 +3,12 @@ use Rattle.std.proofs.Common.{ℕ, zero, suc, ◌≡◌, ◌≢◌, ◌<◌, ◌
 use Rattle.std.specs.Prelude.{nat_eq, nat_le, is_some}
 use Rattle.std.specs.List.{range_with_len, list_any}
 use Rattle.std.specs.Cmp.Lexicographic.{pointwise}
-use Rattle.std.proofs.lemmas.Bool.{cases_Bool, cases_eq, cond-true, cond-false}
+use Rattle.std.proofs.lemmas.Bool.{cases_Bool, cond-true, cond-false}
 use Rattle.std.proofs.lemmas.Bool.Decides.{nat_tests}
 use Rattle.node_grid.specs.Kinds.{state, claim, overrun, deviate, equivocate}
 use Rattle.node_grid.specs.NodeSet.{IsIdSet}
+use Rattle.node_grid.specs.ListFacts.{any_more}
+use Rattle.node_grid.specs.TruthFacts.{or_assoc, or_false}
 use Rattle.omh_paths.specs.declared.wrapped.Wrapped.{Wrapped}
 use Rattle.omh_paths.specs.declared.wrapped.Wrapped.TheVariants.{Plain, Fault}
 use Rattle.omh_paths.specs.MemberLaws.{Distinct-ids}
@@ -28,6 +30,7 @@ use Rattle.protocol.specs.Settled.{settled_items, ear_of}
 use Rattle.protocol.specs.FurtherKinds.{convicts_member}
 use Rattle.mme_vote.specs.Channel.{delta_of, is_judged}
 use Rattle.list_scheduler.specs.Schedule.{verdict}
+use Rattle.protocol.specs.Facts.{further_is}
 use Rattle.node_steps.specs.Outcome.{Outcome}
 use Rattle.node_steps.specs.Parts.{Found, NodeView}
 use Rattle.protocol.specs.Configured.{setting_of}
@@ -40,35 +43,6 @@ use Rattle.node_steps.specs.At.{heard_upto, table_at, IsRound}
 use Rattle.node_steps.specs.Stages.{rounds_closed, by_verdict, stage, notes_sync, notes_done, claims_of, due_of, own_of, votes_of, notes_verdicts, convicts_over_claims, notes_claims, row_of, done_table, row_table, found_done, found_data, found_report, in_done, in_data, in_report, outcome_of}
 use Rattle.node_steps.proofs.TablesTold.{Agrees, round_more, settled_tabled, convicts_tabled}
 use Rattle.node_steps.proofs.Alike.{Others, notes_more, row_alike, votes_alike, adopted_alike, synced_alike}
-
--- as a further kind it is noted so
-further_is : (x : Bool) (b : ℕ) → ((b == equivocate && x) && is_further b) ≡ (x && b == equivocate)
-further_is x b = elim (cases_eq b equivocate) [
-  | inl e ↦ ap₂ (λ (s t : Bool). (s && x) && t) (eq-eqb b equivocate e) (ap is_further e) ∙ here x ∙ ap (λ (s : Bool). x && s) (sym (eq-eqb b equivocate e))
-  | inr ne ↦ ap (λ (s : Bool). (s && x) && is_further b) (ne_eqb b equivocate ne) ∙ away x ∙ ap (λ (s : Bool). x && s) (sym (ne_eqb b equivocate ne))
-]
-  where
-    here : (x : Bool) → ((true && x) && true) ≡ (x && true)
-    here true = refl
-    here false = refl
-
-    away : (x : Bool) → false ≡ (x && false)
-    away true = refl
-    away false = refl
-
-or_false : (b : Bool) → (b || false) ≡ b
-or_false true = refl
-or_false false = refl
-
-or_assoc : (a b c : Bool) → ((a || b) || c) ≡ (a || (b || c))
-or_assoc true b c = refl
-or_assoc false b c = refl
-
-any_more : (f : ℕ → Bool) (a n : ℕ) → list_any f (range_with_len a (suc n)) ≡ (list_any f (range_with_len a n) || f (a + n))
-any_more f a zero = or_false (f a) ∙ ap f (let e : a ≡ a + 0 = omega arith in e)
-any_more f a (suc n) =
-    ap (λ (b : Bool). f a || b) (any_more f (a + 1) n ∙ ap (λ (m : ℕ). list_any f (range_with_len (a + 1) n) || f m) (let e : a + 1 + n ≡ a + suc n = omega arith in e))
-    ∙ sym (or_assoc (f a) (list_any f (range_with_len (a + 1) n)) (f (a + suc n)))
 
 bad_entries : {V : Type 0} (ps : List (List ℕ)) (y : Arrival (List (Wrapped V))) (b : ℕ) → is_bad (with_entries ps y) b ≡ is_bad y b
 bad_entries ps (Bad k) b = refl

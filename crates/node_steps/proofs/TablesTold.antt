@@ -6,9 +6,10 @@ use Rattle.std.proofs.lemmas.Bool.{cases_Bool, cases_lt, cond-true, cond-false, 
 use Rattle.std.proofs.lemmas.Bool.Decides.{nat_tests}
 use Rattle.std.proofs.lemmas.List.{length_push}
 use Rattle.node_grid.specs.NodeSet.{has_id, IsIdSet}
+use Rattle.node_grid.specs.SetFacts.{member-lt}
 use Rattle.omh_paths.specs.declared.wrapped.Wrapped.{Wrapped}
 use Rattle.omh_paths.specs.declared.wrapped.Wrapped.TheVariants.{Plain, Fault}
-use Rattle.omh_paths.specs.MemberLaws.{Distinct-ids, member-lt}
+use Rattle.omh_paths.specs.MemberLaws.{Distinct-ids}
 use Rattle.node_grid.specs.ListLaws.{has_push}
 use Rattle.omh.specs.Omh.{settled_from}
 use Rattle.omh.specs.Heard.{Entry, entry as tabled, heard_in, heard_paths, ear_of}

@@ -2,19 +2,19 @@
 use Rattle.std.proofs.Common.{ℕ, zero, suc, [], length, replicate, refl, arith, pos}
 use Rattle.std.specs.Prelude.{All}
 use Rattle.std.proofs.lemmas.List.Elements.{All-nil, All-cons}
+use Rattle.node_grid.specs.SetFacts.{empty_set}
 use Rattle.frames.specs.Bound.{IsGreatest}
 use Rattle.frames.specs.Content.{IsClaim, IsRow, IsValue}
+use Rattle.frames.specs.Facts.{zero_value}
 use Rattle.agreed_state.specs.declared.config.Config.{Config}
 use Rattle.agreed_state.specs.Config.{IsConfig}
 use Rattle.agreed_state.specs.AgreedLaws.{first-agreed}
 use Rattle.agreed_state.specs.Body.{state_len}
 use Rattle.protocol.specs.View.{channel_room}
 use Rattle.protocol.specs.RowLaws.{empty_is_row}
-use Rattle.protocol.specs.ValueLaws.{zero_value}
 use Rattle.node_steps.specs.Fresh.{newly_open, IsFresh}
 use Rattle.node_steps.specs.Sound.{IsSound}
 use Rattle.protocol.specs.Configured.{setting_of}
-use Rattle.node_steps.specs.PremiseLaws.{no_ids}
 use Rattle.node_steps.specs.HeardInRange.{nothing_ranged}
 use Rattle.node_steps.specs.NoValueLaws.{no_values_fit}
 
@@ -30,7 +30,7 @@ sound_new {N} config me room ok = record {
     done = record { nodes_are = refl; rounds_are = refl; own_range = omega arith; range = nothing_ranged (IsClaim (length config.graph.tasks)) [] 0 config.m };
     rows = record { nodes_are = refl; rounds_are = refl; own_range = omega arith; range = nothing_ranged (IsRow config.version N config.nodes) [] 0 config.m };
     found = record {
-      due = no_ids (length config.channels.items);
+      due = empty_set (length config.channels.items);
       notes = empty_is_row (setting_of config) ok.few_nodes;
       late = empty_is_row (setting_of config) ok.few_nodes;
       values = no_values_fit channel_room;

@@ -20,3 +20,4 @@ pub mod TableRanges
 pub mod ToldInRange
 pub mod HeardInRange
 pub mod NoValueLaws
+pub mod Facts

@@ -3,8 +3,8 @@ use Rattle.std.proofs.Common.{ℕ, zero, suc, ◌≡◌, List, [], ◌∷◌, ma
 use Rattle.std.specs.Prelude.{All, slice_index_or}
 use Rattle.std.proofs.lemmas.List.Elements.{All-nil, All-cons}
 use Rattle.frames.specs.Content.{IsValue}
+use Rattle.frames.specs.Facts.{zero_value}
 use Rattle.protocol.specs.View.{first_there, own_in}
-use Rattle.protocol.specs.ValueLaws.{zero_value}
 
 none_there : (n c : ℕ) → slice_index_or (replicate {A = Option ℤ} n None) c None ≡ None
 none_there zero zero = refl

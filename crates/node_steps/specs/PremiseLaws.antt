@@ -1,12 +1,12 @@
 -- What the steps of a node ask of it holds of a sound one.
-use Rattle.std.proofs.Common.{ℕ, ◌≡◌, ◌<◌, ◌≤◌, ◌+◌, ◌-◌, ◌==◌, true, false, List, [], length, Option, None, Some, refl, sym, ap, subst, ◌∙◌, inl, inr, arith, ne_eqb}
+use Rattle.std.proofs.Common.{ℕ, ◌≡◌, ◌<◌, ◌≤◌, ◌+◌, ◌-◌, ◌==◌, true, List, [], length, Option, None, Some, ap, subst, ◌∙◌, arith, ne_eqb}
 use Rattle.std.specs.Prelude.{All, IfSome, nat_le}
 use Rattle.std.proofs.lemmas.Bool.{cond-true, cond-false}
-use Rattle.std.proofs.lemmas.Bool.Decides.{nat_tests}
-use Rattle.node_grid.specs.Capacity.{IsCapacity}
 use Rattle.node_grid.specs.Count.{Distinct}
 use Rattle.node_grid.specs.NodeSet.{has_id, IsIdSet}
-use Rattle.node_grid.specs.NodeSetLaws.{filter_none, length-ids}
+use Rattle.node_grid.specs.NodeSetLaws.{length-ids}
+use Rattle.node_grid.specs.NumberFacts.{le_no, le_yes}
+use Rattle.node_grid.specs.SetFacts.{empty_set}
 use Rattle.omh_paths.specs.Paths.{path_count}
 use Rattle.omh_paths.specs.MemberLaws.{Distinct-ids}
 use Rattle.frames.specs.Content.{round_in, IsEntry, IsClaim, IsRow}
@@ -25,15 +25,6 @@ use Rattle.node_steps.specs.Sound.{HasSizes, Hears, IsInSlot, IsTaken}
 use Rattle.relay_rules.specs.Relaying.{relays}
 use Rattle.node_steps.specs.TableRanges.{relays_in}
 use Rattle.node_steps.specs.ToldInRange.{claims_brought, rows_brought, states_sized}
-
-pub le_is : (a b : ℕ) → a ≤ b → nat_le a b ≡ true
-le_is a b h = grind (arith, nat_tests)
-
-pub gt_is : (a b : ℕ) → b < a → nat_le a b ≡ false
-gt_is a b h = grind (arith, nat_tests)
-
-pub few_capacity : (n : ℕ) → IsCapacity n → n ≤ 16
-few_capacity n c = elim c [ inl e ↦ omega arith | inr e ↦ omega arith ]
 
 pub goes_agreed : {N : ℕ} (v : NodeView N) (a : AgreedView) → HasSizes v → v.phase.before ≡ Some a → IsAgreed N v.config a
 goes_agreed {N} v a h goes = subst (λ (o : Option AgreedView). IfSome o (λ b. IsAgreed N v.config b)) goes h.before
@@ -55,7 +46,7 @@ asks_of v a later goes = cond-false (v.phase.slot == 0) [] (members_in v.phase.b
 pub claims_asked : {N : ℕ} (v : NodeView N) (a : AgreedView) → IsConfig N v.config → IsInSlot v → 0 < v.phase.slot → v.phase.slot ≤ v.config.m + 1 → v.phase.before ≡ Some a
     → (j : ℕ) → has_id a.standing.members j ≡ true → Brings (path_count (length a.standing.members - 1) (v.phase.slot - 1)) (arrived claims_in None (told_at (closed v.arrived) j))
 claims_asked {N} v a ok s later done goes j on =
-    let round : round_in v.config.m v.phase.slot ≡ v.phase.slot - 1 = cond-true (nat_le v.phase.slot (v.config.m + 1)) (v.phase.slot - 1) (v.phase.slot - (v.config.m + 3)) (le_is v.phase.slot (v.config.m + 1) done) in
+    let round : round_in v.config.m v.phase.slot ≡ v.phase.slot - 1 = cond-true (nat_le v.phase.slot (v.config.m + 1)) (v.phase.slot - 1) (v.phase.slot - (v.config.m + 3)) (le_yes v.phase.slot (v.config.m + 1) done) in
     let ms = asks_of v a later goes in
     subst (λ (r : ℕ). Brings (path_count (length a.standing.members - 1) r) (arrived claims_in None (told_at (closed v.arrived) j))) round
     (subst (λ (xs : List ℕ). Brings (path_count (length xs - 1) (round_in v.config.m v.phase.slot)) (arrived claims_in None (told_at (closed v.arrived) j))) ms
@@ -64,7 +55,7 @@ claims_asked {N} v a ok s later done goes j on =
 pub rows_asked : {N : ℕ} (v : NodeView N) (a : AgreedView) → IsConfig N v.config → IsInSlot v → v.config.m + 3 ≤ v.phase.slot → v.phase.before ≡ Some a
     → (j : ℕ) → has_id a.standing.members j ≡ true → Brings (path_count (length a.standing.members - 1) (v.phase.slot - (v.config.m + 3))) (arrived rows_in None (told_at (closed v.arrived) j))
 rows_asked {N} v a ok s late goes j on =
-    let round : round_in v.config.m v.phase.slot ≡ v.phase.slot - (v.config.m + 3) = cond-false (nat_le v.phase.slot (v.config.m + 1)) (v.phase.slot - 1) (v.phase.slot - (v.config.m + 3)) (gt_is v.phase.slot (v.config.m + 1) (omega arith)) in
+    let round : round_in v.config.m v.phase.slot ≡ v.phase.slot - (v.config.m + 3) = cond-false (nat_le v.phase.slot (v.config.m + 1)) (v.phase.slot - 1) (v.phase.slot - (v.config.m + 3)) (le_no v.phase.slot (v.config.m + 1) (omega arith)) in
     let ms = asks_of v a (omega arith) goes in
     subst (λ (r : ℕ). Brings (path_count (length a.standing.members - 1) r) (arrived rows_in None (told_at (closed v.arrived) j))) round
     (subst (λ (xs : List ℕ). Brings (path_count (length xs - 1) (round_in v.config.m v.phase.slot)) (arrived rows_in None (told_at (closed v.arrived) j))) ms
@@ -77,13 +68,10 @@ few_members v a h goes = length-ids v.config.nodes a.standing.members (goes_agre
 pub states_asked : {N : ℕ} (v : NodeView N) → N ≤ 16 → IsConfig N v.config → IsInSlot v → (j : ℕ) → IfSome (content (arrived body_said None (told_at (closed v.arrived) j))) (λ b. length b ≤ 1152)
 states_asked {N} v small ok s = states_sized (closed v.arrived) (expected_in v v.phase.slot) 1152 s.expects (let l = state_len-short N v.config small ok in omega arith)
 
-pub no_ids : (n : ℕ) → IsIdSet n []
-no_ids n = sym (filter_none (λ k. false) 0 n (λ k a b. refl))
-
 pub members_asked : {N : ℕ} (v : NodeView N) → HasSizes v → IsIdSet v.config.nodes (members_in v.phase.before)
 members_asked {N} v h = go v.phase.before h.before where
   go : (o : Option AgreedView) → IfSome o (λ b. IsAgreed N v.config b) → IsIdSet v.config.nodes (members_in o)
-  go None x = no_ids v.config.nodes
+  go None x = empty_set v.config.nodes
   go (Some a) x = x.standing.set
 
 pub few_due : {N : ℕ} (v : NodeView N) → IsConfig N v.config → HasSizes v → length v.found.due ≤ 8

@@ -6,6 +6,8 @@ use Rattle.std.proofs.lemmas.Bool.Decides.{nat_tests}
 use Rattle.node_grid.specs.Kinds.{deviate}
 use Rattle.node_grid.specs.NodeSetLaws.{IsIdSet-filter}
 use Rattle.node_grid.specs.Count.{Distinct}
+use Rattle.node_grid.specs.NumberFacts.{le_from, le_yes, le_no}
+use Rattle.node_grid.specs.SetFacts.{empty_set}
 use Rattle.omh_paths.specs.MemberLaws.{Distinct-ids}
 use Rattle.frames.specs.Content.{Expectation, IsClaim, IsRow, IsValue}
 use Rattle.error_detect.specs.Watching.{closed, of_sender}
@@ -29,8 +31,6 @@ use Rattle.node_steps.specs.Steps.{expected_in, with_notes, shut, synced, with_s
 use Rattle.data_slot.specs.Values.{only_values}
 use Rattle.noting.specs.Findings.{has_of}
 use Rattle.relay_rules.specs.Ranged.{IsRanged}
-use Rattle.node_steps.specs.PremiseLaws.{no_ids}
-pub use Rattle.node_steps.specs.PremiseLaws.{le_is, gt_is}
 use Rattle.protocol.specs.ClaimLaws.{own_claim_fits}
 use Rattle.protocol.specs.RowLaws.{row_by_is_row, empty_is_row}
 use Rattle.protocol.specs.ValueLaws.{own_values_fit}
@@ -139,7 +139,7 @@ done_taken {N} v a ok h s some low goes = elim (cases_Bool (v.phase.slot == v.co
 
     ranged : IsRanged (IsClaim (length v.config.graph.tasks)) (done_heard (shut v)).heard
     ranged = round_ranged claim_form (IsClaim (length v.config.graph.tasks)) (closed v.arrived) e v.config.nodes (v.phase.slot - 1) v.done s.expects (λ j. claims_speak (of_sender j e))
-        (cond-true (nat_le v.phase.slot (v.config.m + 1)) (v.phase.slot - 1) (v.phase.slot - (v.config.m + 3)) (le_is v.phase.slot (v.config.m + 1) low))
+        (cond-true (nat_le v.phase.slot (v.config.m + 1)) (v.phase.slot - 1) (v.phase.slot - (v.config.m + 3)) (le_yes v.phase.slot (v.config.m + 1) low))
         (hears_distinct v v.done.members a h goes (subst (λ (o : Option AgreedView). IfSome o (λ b. Hears v.done v.phase.me b)) goes (s.done some)).members) h.done.range
 
     hears : (d : Hearing ℕ) → d.members ≡ v.done.members → d.me ≡ v.done.me → (o : Option AgreedView) → IfSome o (λ b. Hears v.done v.phase.me b) → IfSome o (λ b. Hears d v.phase.me b)
@@ -189,15 +189,12 @@ report_taken {N} v a ok h s late goes = record {
 
     ranged : IsRanged (IsRow v.config.version N v.config.nodes) (after_report (shut v)).rows.heard
     ranged = round_ranged row_form (IsRow v.config.version N v.config.nodes) (closed v.arrived) e v.config.nodes (v.phase.slot - (v.config.m + 3)) v.rows s.expects (λ j. rows_speak (of_sender j e))
-        (cond-false (nat_le v.phase.slot (v.config.m + 1)) (v.phase.slot - 1) (v.phase.slot - (v.config.m + 3)) (gt_is v.phase.slot (v.config.m + 1) (omega arith)))
+        (cond-false (nat_le v.phase.slot (v.config.m + 1)) (v.phase.slot - 1) (v.phase.slot - (v.config.m + 3)) (le_no v.phase.slot (v.config.m + 1) (omega arith)))
         (hears_distinct v v.rows.members a h goes (subst (λ (o : Option AgreedView). IfSome o (λ b. Hears v.rows v.phase.me b)) goes (s.rows late)).members) h.rows.range
 
     hears : (o : Option AgreedView) → IfSome o (λ b. Hears v.rows v.phase.me b) → IfSome o (λ b. Hears (after_report (shut v)).rows v.phase.me b)
     hears None x = tt
     hears (Some b) x = record { members = x.members; me_is = x.me_is }
-
-pub le_told : (a b : ℕ) → nat_le a b ≡ true → a ≤ b
-le_told a b h = grind (arith, nat_tests)
 
 pub gt_told : (a b : ℕ) → nat_le a b ≡ false → b < a
 gt_told a b h = grind (arith, nat_tests)
@@ -211,7 +208,7 @@ later_taken v None ok h s some goes = record {
   rows = λ l. subst (λ (o : Option AgreedView). IfSome o (λ b. Hears v.rows v.phase.me b)) (sym goes) tt;
 }
 later_taken {N} v (Some a) ok h s some goes = elim (cases_Bool (nat_le v.phase.slot (v.config.m + 1))) [
-  | inl y ↦ subst (IsTaken {N = N}) (sym (cond-true (nat_le v.phase.slot (v.config.m + 1)) (after_done (shut v) a) rest y)) (done_taken v a ok h s some (le_told v.phase.slot (v.config.m + 1) y) goes)
+  | inl y ↦ subst (IsTaken {N = N}) (sym (cond-true (nat_le v.phase.slot (v.config.m + 1)) (after_done (shut v) a) rest y)) (done_taken v a ok h s some (le_from v.phase.slot (v.config.m + 1) y) goes)
   | inr n ↦ subst (IsTaken {N = N}) (sym (cond-false (nat_le v.phase.slot (v.config.m + 1)) (after_done (shut v) a) rest n)) (elim (cases_eq v.phase.slot (v.config.m + 2)) [
     | inl e ↦ subst (IsTaken {N = N}) (sym (cond-true (v.phase.slot == v.config.m + 2) (after_data (shut v) a) (after_report (shut v)) (eq-eqb _ _ e))) (data_taken v a ok h s e goes)
     | inr ne ↦ subst (IsTaken {N = N}) (sym (cond-false (v.phase.slot == v.config.m + 2) (after_data (shut v) a) (after_report (shut v)) (ne_eqb _ _ ne))) (report_taken v a ok h s (let l = gt_told v.phase.slot (v.config.m + 1) n in omega arith) goes)
@@ -300,7 +297,7 @@ sound_begun v period inputs ok given h = record {
     before = h.sizes.kept.state;
     done = h.sizes.done;
     rows = h.sizes.rows;
-    found = record { due = no_ids (length v.config.channels.items); notes = h.sizes.kept.carried; late = empty_is_row (setting_of v.config) ok.few_nodes; values = no_values_fit channel_room };
+    found = record { due = empty_set (length v.config.channels.items); notes = h.sizes.kept.carried; late = empty_is_row (setting_of v.config) ok.few_nodes; values = no_values_fit channel_room };
     readings = given;
   };
   in_slot = λ e. record { watching = refl; expects = refl; within = omega arith; done = λ l. absurd (omega arith); rows = λ l. absurd (omega arith) };

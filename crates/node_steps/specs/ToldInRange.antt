@@ -15,24 +15,15 @@ use Rattle.frames.specs.ReadingLaws.{reads_only}
 use Rattle.slot_plan.specs.Ticks.{is_in_window}
 use Rattle.error_detect.specs.Finding.{told_of}
 use Rattle.error_detect.specs.Watching.{Arrival, Watch, of_sender, told_at, told_by, told_in, nothing, one, too_long, several}
+use Rattle.error_detect.specs.Facts.{told_read}
 use Rattle.protocol.specs.Arrival.{arrived, body_said, claims_in, rows_in}
 use Rattle.protocol.specs.View.{content}
 use Rattle.relay_rules.specs.Hearing.{AreEntries, Brings}
 
-was_read : (o : Option Content) (c : Content) → told_of o ≡ Some c → o ≡ Some c
-was_read None c h = absurd (cc)
-was_read (Some (State b)) c h = h
-was_read (Some (Done0 t)) c h = h
-was_read (Some (DoneRelay xs)) c h = h
-was_read (Some (Data xs)) c h = h
-was_read (Some (Report0 xs)) c h = h
-was_read (Some (ReportRelay xs)) c h = h
-was_read (Some Cold) c h = absurd (cc)
-
 in_range : (e : Expectation) (a : Arrival) (c : Content) → told_by e a ≡ Some c → IsInRange e c
 in_range e nothing c h = absurd (cc)
 in_range e (one tick bytes) c h = elim (cases_Bool (is_in_window tick)) [
-  | inl y ↦ (reads_only e c bytes (was_read (reading e bytes) c (sym (cond-true (is_in_window tick) (told_of (reading e bytes)) None y) ∙ h))).0
+  | inl y ↦ (reads_only e c bytes (told_read (reading e bytes) c (sym (cond-true (is_in_window tick) (told_of (reading e bytes)) None y) ∙ h))).0
   | inr n ↦ absurd (let none = sym (cond-false (is_in_window tick) (told_of (reading e bytes)) None n) ∙ h in cc)
 ]
 in_range e (too_long tick) c h = absurd (cc)

@@ -20,9 +20,10 @@ use Rattle.error_detect.specs.GoodLaws.{good_fits}
 use Rattle.error_reports.specs.Charge.{accuses}
 use Rattle.error_reports.specs.Notes.{Notes, noted_besides, is_kind, of_each, also_noted, also_carried}
 use Rattle.error_reports.specs.NoteLaws.{SayTheSame, noted_alike, carried_alike}
-use Rattle.protocol.specs.Arrival.{Arrival, ItemForm, arrived, read_as, is_bad, is_good, body_said, claim_in, claims_in, values_in, row_in, rows_in, claim_form, row_form}
-use Rattle.protocol.specs.Arrival.Arrival.{Bad, Good}
+use Rattle.protocol.specs.Arrival.{ItemForm, arrived, read_as, is_bad, is_good, body_said, claim_in, claims_in, values_in, row_in, rows_in, claim_form, row_form}
+use Rattle.protocol.specs.Arrival.Arrival.{Good}
 use Rattle.protocol.specs.View.{Setting, other_body, row_by}
+use Rattle.protocol.specs.Facts.{none_bad}
 use Rattle.noting.specs.Findings.{has_of, bad_in, good_in, found_bad}
 
 -- ---- what a frame of the slot's kind says
@@ -42,10 +43,6 @@ parts (Data x) = (refl, refl, refl, refl, refl, refl)
 parts (Report0 x) = (refl, refl, refl, refl, refl, refl)
 parts (ReportRelay x) = (refl, refl, refl, refl, refl, refl)
 parts Cold = (refl, refl, refl, refl, refl, refl)
-
-none_bad : {C : Type 0} (a : Arrival C) (k : ℕ) → is_good a ≡ true → is_bad a k ≡ false
-none_bad (Bad x) k h = absurd cc
-none_bad (Good c) k h = refl
 
 -- where that has its place in the slot, it is good exactly where the finding is, and bad as the finding is
 by_finding : {C : Type 0} (part : Content → Option C) (e : Expectation) → IsPartOf part (kind_in e.m e.slot) → (error : Option ℕ) (o : Option Content) → IsToldWith e error o

@@ -1,15 +1,15 @@
 -- Where few members' relays are odd, a relayed path whose last node isn't odd settles as it was heard.
-use Rattle.std.proofs.Common.{ℕ, zero, suc, ◌≡◌, ◌≢◌, ◌≤◌, ◌+◌, ◌-◌, ◌*◌, ◌==◌, ◌&&◌, ◌||◌, Bool, true, false, not, List, [], ◌∷◌, ◌++◌, map, length, refl, sym, ap, subst, ◌∙◌, inl, inr, arith, eqb-true, eq-eqb, ne_eqb}
+use Rattle.std.proofs.Common.{ℕ, zero, suc, ◌≡◌, ◌≢◌, ◌≤◌, ◌+◌, ◌-◌, ◌*◌, ◌==◌, ◌&&◌, ◌||◌, Bool, true, false, not, List, [], ◌∷◌, ◌++◌, map, length, refl, sym, ap, ◌∙◌, inl, inr, arith, eqb-true, eq-eqb, ne_eqb}
 use Rattle.std.specs.Prelude.{filter, if◌then◌else◌}
-use Rattle.std.proofs.lemmas.Bool.{cases_Bool, cases_eq, cond-true, cond-false, or_cases, or_from, or_right}
+use Rattle.std.proofs.lemmas.Bool.{cases_Bool, cases_eq, cond-true, cond-false, or_from, or_right}
 use Rattle.std.proofs.lemmas.List.{length_push}
 use Rattle.node_grid.specs.NodeSet.{has_id}
 use Rattle.node_grid.specs.Count.{bit, count, Distinct}
 use Rattle.node_grid.specs.declared.class.Class.{Class}
 use Rattle.node_grid.specs.declared.class.Class.TheVariants.{N, J, A}
 use Rattle.node_grid.specs.Class.{is_silent, is_symmetric, is_asymmetric, IsEnough}
+use Rattle.node_grid.specs.NumberFacts.{not_itself}
 use Rattle.omh_paths.specs.declared.wrapped.Wrapped.{Wrapped}
-use Rattle.omh_paths.specs.declared.wrapped.Wrapped.TheVariants.{Fault}
 use Rattle.omh_paths.specs.Wrapped.{wrapped, unwrapped, IsExact}
 use Rattle.omh_paths.specs.Majority.{majority}
 use Rattle.omh_paths.specs.MajorityLaws.{unwrapped-wrapped, is_error-wrapped}
@@ -17,8 +17,10 @@ use Rattle.omh_paths.specs.Paths.{outside, IsPath}
 use Rattle.omh_paths.specs.PathLaws.{off_from, off_longer, IsPath-push, all_outside, map_alike}
 use Rattle.omh_paths.specs.PathLists.{length-outside}
 use Rattle.node_grid.specs.ListLaws.{has_push}
+use Rattle.omh_paths.specs.Facts.{root}
 use Rattle.omh.specs.Omh.{World, ear, own_term, settled_within, counted_nodes}
 use Rattle.omh.specs.Counting.{TermFits, majority_of_terms, more_outside, enough_longer}
+use Rattle.omh.specs.Settling.{own_joining, own_nonfaulty, term_of}
 use Rattle.odd_relays.specs.Chains.{IsPassedOn, relays_nothing, AreFew, chain_within}
 use Rattle.odd_relays.specs.Laws.{ChainLaw, RegularLaw, ToldLaw}
 
@@ -100,20 +102,7 @@ enough_at w odd i front last r distinct few path long =
     let left = length-outside w.members p distinct path.distinct path.within in
     omega (arith, few)
 
-pub root : {members : List ℕ} {rounds : ℕ} (c : ℕ) → has_id members c ≡ true → IsPath members rounds (c ∷ [])
-root {members} c member = record {
-  distinct = (refl, tt);
-  within = λ q h. elim (or_cases _ _ h) [
-    | inl here ↦ subst (λ (y : ℕ). has_id members y ≡ true) (eqb-true c q here) member
-    | inr none ↦ cc
-  ];
-  short = omega arith;
-}
-
 -- ---- the terms of a majority
-
-term_of : {V : Type 0} → (V → V → Bool) → World V → ℕ → ℕ → List ℕ → ℕ → Wrapped V
-term_of eq w r i path q = if q == i then own_term (ear w i) path else settled_within eq (ear w i) r (path ++ q ∷ [])
 
 settled_now : {V : Type 0} (eq : V → V → Bool) (w : World V) (i : ℕ) (path : List ℕ) → settled_within eq (ear w i) 0 path ≡ w.heard i path
 unfolding settled_within
@@ -152,12 +141,6 @@ pub chain_odd : {V : Type 0} (eq : V → V → Bool) (w : World V) (odd : List �
 unfolding chain_term
 chain_odd eq w odd r i path q e = cond-true _ _ _ e
 
-own_full : {V : Type 0} (w : World V) (q : ℕ) (path : List ℕ) → w.is_full q ≡ true → own_term (ear w q) path ≡ wrapped (w.heard q path)
-own_full w q path e = cond-true _ _ _ e
-
-own_idle : {V : Type 0} (w : World V) (q : ℕ) (path : List ℕ) → w.is_full q ≡ false → own_term (ear w q) path ≡ Fault 0
-own_idle w q path e = cond-false _ _ _ e
-
 -- of another member than the receiver the class says whether it is odd
 regular_other : (o : Bool) (q i : ℕ) → q ≢ i → (o && not (q == i)) ≡ false → o ≡ false
 regular_other o q i ne h = by_not o (not (q == i)) (ap not (ne_eqb q i ne)) h where
@@ -168,12 +151,6 @@ regular_other o q i ne h = by_not o (not (q == i)) (ap not (ne_eqb q i ne)) h wh
 
 odd_other : (o : Bool) (q i : ℕ) → q ≢ i → o ≡ true → (o && not (q == i)) ≡ true
 odd_other o q i ne h = ap (λ (b : Bool). b && not (q == i)) h ∙ ap not (ne_eqb q i ne)
-
-never_self : (o : Bool) (q i : ℕ) → q ≡ i → (o && not (q == i)) ≡ false
-never_self o q i e = ap (λ (b : Bool). o && not b) (eq-eqb q i e) ∙ last o where
-  last : (o : Bool) → (o && false) ≡ false
-  last true = refl
-  last false = refl
 
 pub no_more : (o : Bool) (q i : ℕ) → o ≡ false → (o && not (q == i)) ≡ false
 no_more o q i e = ap (λ (b : Bool). b && not (q == i)) e
@@ -210,8 +187,8 @@ module _ {V : Type 0} (eq : V → V → Bool) (exact : IsExact eq) (w : World V)
       let at : (q : ℕ) → has_id w.members q ≡ true → has_id p q ≡ false → TermFits (seat w odd i) (term_of eq w r i p) (wrapped (w.heard i p)) q =
       λ q member offp. record {
         says = λ n. let b = by_nonfaulty (has_id odd q && not (q == i)) (w.is_full q) n in
-            base q member offp b.0 ∙ own_full w q p b.1 ∙ ap wrapped (alike q (passed.full q member b.1) offp);
-        silent = λ s. let b = by_silent (has_id odd q && not (q == i)) (w.is_full q) s in base q member offp b.0 ∙ own_idle w q p b.1;
+            base q member offp b.0 ∙ own_nonfaulty w q p b.1 ∙ ap wrapped (alike q (passed.full q member b.1) offp);
+        silent = λ s. let b = by_silent (has_id odd q && not (q == i)) (w.is_full q) s in base q member offp b.0 ∙ own_joining w q p b.1;
       }
       in
       settled_later eq w r i p
@@ -231,7 +208,7 @@ module _ {V : Type 0} (eq : V → V → Bool) (exact : IsExact eq) (w : World V)
       let longer : r + length (c ∷ (back ++ q ∷ [])) ≡ w.rounds + 1 = omega (arith, length_push back q) in
       let enough_for_it = enough_longer (seat w odd i) w.members p last q r passed.distinct member offp enough in
       elim (cases_eq q i) [
-        | inl e ↦ term_own eq w r i p q e ∙ sym (chain_base eq w odd r i p q (never_self (has_id odd q) q i e))
+        | inl e ↦ term_own eq w r i p q e ∙ sym (chain_base eq w odd r i p q (not_itself (has_id odd q) q i e))
         | inr ne ↦
             let away = off_from p q i off ne in
             elim (cases_Bool (has_id odd q)) [

@@ -3,18 +3,19 @@ use Rattle.std.proofs.Common.{ℕ, ◌≡◌, ◌<◌, ◌≤◌, ◌+◌, ◌-�
 use Rattle.std.proofs.lemmas.Bool.{and_from, and_parts, or_cases, or_left, or_right}
 use Rattle.std.proofs.lemmas.List.{take_all, take_more}
 use Rattle.node_grid.specs.NodeSet.{has_id, IsIdSet}
-use Rattle.omh_paths.specs.MemberLaws.{member-lt}
 use Rattle.node_grid.specs.Count.{Distinct}
+use Rattle.node_grid.specs.SetFacts.{member-lt}
 use Rattle.omh_paths.specs.Wrapped.{IsExact}
 use Rattle.omh_paths.specs.Paths.{outside, IsPath}
 use Rattle.omh_paths.specs.PathLaws.{IsPath-push}
 use Rattle.node_grid.specs.Class.{IsEnough}
+use Rattle.omh_paths.specs.Facts.{root}
 use Rattle.omh.specs.Omh.{World}
 use Rattle.odd_relays.specs.Chains.{IsPassedOn, chain_within}
 use Rattle.odd_relays.specs.Telling.{Telling, telling_world, HasFewOdd}
 use Rattle.odd_relays.specs.Direct.{direct_heard, direct_world}
 use Rattle.odd_relays.specs.Work.{IsChain, AreHeardAlike}
-use Rattle.odd_relays.proofs.ChainLaws.{seat, enough_at, as_heard, by_chains, root}
+use Rattle.odd_relays.proofs.ChainLaws.{seat, enough_at, as_heard, by_chains}
 use Rattle.odd_relays.proofs.Direct.{same_chain, same_push}
 use Rattle.odd_relays.proofs.Tellings.{each_telling_passes}
 

@@ -1,10 +1,10 @@
 -- The world in which paths of odd members alone are heard settles them as the item's does.
-use Rattle.std.proofs.Common.{ℕ, zero, suc, ◌≡◌, ◌≢◌, ◌<◌, ◌+◌, ◌==◌, ◌&&◌, Bool, true, false, not, List, [], ◌∷◌, ◌++◌, length, reverse, refl, sym, ap, ◌∙◌, inl, inr, arith, ne_eqb, ◌||◌, ◌-◌, eqb-true, eq-eqb, map, ap₂}
+use Rattle.std.proofs.Common.{ℕ, zero, suc, ◌≡◌, ◌≢◌, ◌<◌, ◌==◌, ◌&&◌, Bool, true, false, not, List, [], ◌∷◌, ◌++◌, length, reverse, refl, sym, ap, ◌∙◌, inl, inr, arith, ne_eqb, ◌||◌, ◌-◌, eqb-true, eq-eqb, map, ap₂}
 use Rattle.std.specs.Prelude.{slice_index_or, if◌then◌else◌}
 use Rattle.std.proofs.lemmas.Bool.{cases_Bool, cond-true, cond-false, and_parts, cases_eq, or_left, or_right, or_cases, both_ways}
 use Rattle.std.proofs.lemmas.List.{length_push, reverse-append, length-reverse, reverse-reverse}
-use Rattle.node_grid.specs.NodeSet.{has_id, minus_of}
-use Rattle.node_grid.specs.Count.{bit, count, Distinct}
+use Rattle.node_grid.specs.NodeSet.{has_id}
+use Rattle.node_grid.specs.Count.{Distinct}
 use Rattle.omh_paths.specs.declared.wrapped.Wrapped.{Wrapped}
 use Rattle.omh_paths.specs.declared.wrapped.Wrapped.TheVariants.{Fault}
 use Rattle.omh_paths.specs.Wrapped.{wrapped, unwrapped, IsExact}
@@ -116,34 +116,6 @@ module _ {V : Type 0} (t : Telling V) where
       ∙ sym (chain_law eq exact whole c t.odd (λ k. true) (passed distinct) few member i refl ni)
 
 -- ---- how many are odd
-
-pub count_odd : (members odd : List ℕ) → count (λ q. has_id odd q) members + length (minus_of members odd) ≡ length members
-count_odd [] odd = refl
-count_odd (x ∷ xs) odd =
-    let rest = count_odd xs odd in
-    elim (cases_Bool (has_id odd x)) [
-      | inl on ↦ let a : bit (has_id odd x) ≡ 1 = ap bit on in let e = ap length (cond-false (not (has_id odd x)) (x ∷ minus_of xs odd) (minus_of xs odd) (ap not on)) in omega arith
-      | inr off ↦ let a : bit (has_id odd x) ≡ 0 = ap bit off in let e = ap length (cond-true (not (has_id odd x)) (x ∷ minus_of xs odd) (minus_of xs odd) (ap not off)) in omega arith
-    ]
-
-pub count_idle : (members full odd : List ℕ) → count (λ q. not (has_id odd q) && not (has_id full q)) members ≡ length (minus_of (minus_of members odd) full)
-count_idle [] full odd = refl
-count_idle (x ∷ xs) full odd =
-    let rest = count_idle xs full odd in
-    let n : List ℕ = minus_of xs odd in
-    elim (cases_Bool (has_id odd x)) [
-      | inl on ↦
-          let a : bit (not (has_id odd x) && not (has_id full x)) ≡ 0 = ap (λ (b : Bool). bit (not b && not (has_id full x))) on in
-          let e = ap (λ (ys : List ℕ). length (minus_of ys full)) (cond-false (not (has_id odd x)) (x ∷ n) n (ap not on)) in
-          omega arith
-      | inr off ↦
-          let a : bit (not (has_id odd x) && not (has_id full x)) ≡ bit (not (has_id full x)) = ap (λ (b : Bool). bit (not b && not (has_id full x))) off in
-          let e = ap (λ (ys : List ℕ). length (minus_of ys full)) (cond-true (not (has_id odd x)) (x ∷ n) n (ap not off)) in
-          elim (cases_Bool (has_id full x)) [
-            | inl f ↦ let b : bit (not (has_id full x)) ≡ 0 = ap (λ (t : Bool). bit (not t)) f in let g = ap length (cond-false (not (has_id full x)) (x ∷ minus_of n full) (minus_of n full) (ap not f)) in omega arith
-            | inr u ↦ let b : bit (not (has_id full x)) ≡ 1 = ap (λ (t : Bool). bit (not t)) u in let g = ap length (cond-true (not (has_id full x)) (x ∷ minus_of n full) (minus_of n full) (ap not u)) in omega arith
-          ]
-    ]
 
 -- ---- what is relayed of the commander directly
 

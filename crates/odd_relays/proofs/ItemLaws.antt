@@ -1,17 +1,19 @@
 -- The item laws, and the views law.
 use Rattle.std.proofs.Common.{ℕ, zero, suc, ◌≡◌, ◌+◌, ◌==◌, ◌&&◌, Bool, true, false, not, List, [], ◌∷◌, ◌++◌, length, refl, sym, ap, subst, ◌∙◌, inl, inr, arith, eqb-true, eq-eqb, ne_eqb, ap₂, ◌<◌, ◌≢◌}
 use Rattle.std.specs.Prelude.{slice_index_or, if◌then◌else◌}
-use Rattle.std.proofs.lemmas.Bool.{both_ways, cases_Bool, cond-true, cond-false, and_parts, or_cases, or_left, or_right, or_from, or_parts, eqb-false, cases_lt}
+use Rattle.std.proofs.lemmas.Bool.{both_ways, cases_Bool, cond-true, cond-false, and_parts, or_cases, or_from, or_parts, eqb-false, cases_lt}
 use Rattle.std.proofs.lemmas.List.{length_push}
 use Rattle.node_grid.specs.NodeSet.{has_id}
-use Rattle.node_grid.specs.Count.{bit, count, Distinct}
+use Rattle.node_grid.specs.Count.{Distinct}
 use Rattle.node_grid.specs.ListLaws.{has_push}
+use Rattle.node_grid.specs.SetFacts.{count_members}
 use Rattle.omh_paths.specs.declared.wrapped.Wrapped.{Wrapped}
 use Rattle.omh_paths.specs.declared.wrapped.Wrapped.TheVariants.{Fault}
 use Rattle.omh_paths.specs.Wrapped.{wrapped, unwrapped, IsExact}
 use Rattle.omh_paths.specs.Majority.{majority}
 use Rattle.omh_paths.specs.Paths.{outside, IsPath}
 use Rattle.omh_paths.specs.PathLaws.{map_alike, all_outside, IsPath-push, off_from, off_longer}
+use Rattle.omh_paths.specs.Facts.{root}
 use Rattle.omh.specs.Omh.{World, ear, own_term, settled}
 use Rattle.odd_relays.specs.Laws.{ViewsLaw}
 use Rattle.odd_relays.specs.Chains.{IsPassedOn, relays_nothing, AreFew, chain_within, AreOdd}
@@ -20,16 +22,8 @@ use Rattle.odd_relays.specs.Direct.{direct_world}
 use Rattle.odd_relays.specs.ItemLaws.{IsTellingOf, ItemLaw, ItemConvictsLaw}
 use Rattle.equivocation.specs.Conviction.{is_convicted, relays_of, convicts}
 use Rattle.equivocation.specs.ConvictionLaws.{unrelayed}
-use Rattle.odd_relays.proofs.ChainLaws.{chain_term, chain_now, chain_later, chain_base, chain_odd, chain_law, no_more, root}
+use Rattle.odd_relays.proofs.ChainLaws.{chain_term, chain_now, chain_later, chain_base, chain_odd, chain_law, no_more}
 use Rattle.odd_relays.proofs.Direct.{direct_settles}
-
--- counts by tests that agree on the members
-count_members : (f g : ℕ → Bool) (s : List ℕ) → ((q : ℕ) → has_id s q ≡ true → f q ≡ g q) → count f s ≡ count g s
-count_members f g [] same = refl
-count_members f g (x ∷ xs) same =
-    let here : bit (f x) ≡ bit (g x) = ap bit (same x (or_left (x == x) (has_id xs x) (eq-eqb x x refl))) in
-    let rest = count_members f g xs (λ q on. same q (or_right (x == q) (has_id xs q) on)) in
-    omega arith
 
 -- odd nodes and one more
 odd_push : (odd back : List ℕ) (q : ℕ) → AreOdd odd back → has_id odd q ≡ true → AreOdd odd (back ++ q ∷ [])

@@ -6,6 +6,7 @@ use Rattle.std.proofs.lemmas.Bool.{cases_Bool, cases_lt, cond-true, cond-false, 
 use Rattle.node_grid.specs.NodeSet.{has_id}
 use Rattle.node_grid.specs.Count.{bit, count, Distinct}
 use Rattle.node_grid.specs.ListLaws.{bit_le}
+use Rattle.node_grid.specs.SetFacts.{disagrees-present}
 use Rattle.omh_paths.specs.declared.wrapped.Wrapped.{Wrapped}
 use Rattle.omh_paths.specs.declared.wrapped.Wrapped.TheVariants.{Fault}
 use Rattle.omh_paths.specs.Wrapped.{wrapped, same, IsExact}
@@ -13,25 +14,21 @@ use Rattle.omh_paths.specs.MajorityLaws.{is_error-wrapped}
 use Rattle.omh_paths.specs.Paths.{outside}
 use Rattle.omh_paths.specs.PathLaws.{count-outside, all_outside, IsPath-push}
 use Rattle.omh_paths.specs.PathLists.{outside_nothing}
+use Rattle.omh_paths.specs.Facts.{count_but_two, root}
 use Rattle.omh.specs.Omh.{World, ear, own_term}
 use Rattle.equivocation.specs.Conviction.{is_present, disagrees, tolerated, convicts}
 use Rattle.equivocation.specs.ConvictionLaws.{agrees-wrapped, unrelayed}
 use Rattle.odd_relays.specs.Chains.{IsPassedOn, relays_nothing, AreFew, IsToldAlike}
 use Rattle.odd_relays.specs.Laws.{ToldSparedLaw}
-use Rattle.odd_relays.proofs.ChainLaws.{root}
 
 -- whether q is Full and not odd
 passes_on : {V : Type 0} → World V → List ℕ → ℕ → Bool
 passes_on w odd q = not (has_id odd q) && w.is_full q
 
-present-and : (p d : Bool) → bit (p && d) ≤ bit p
-present-and true d = bit_le d
-present-and false d = omega arith
-
 -- what one relay counts
 one_relay : {V : Type 0} {eq : V → V → Bool} → IsExact eq → (own t : Wrapped V) (o f : Bool) → (o ≡ false → t ≡ (if f then wrapped own else Fault 0))
     → (bit (disagrees eq own t) ≤ bit o) × (bit (disagrees eq own t) + bit (not o && f) ≤ bit (is_present t))
-one_relay {V} {eq} exact own t true f is = let a = bit_le (disagrees eq own t) in let b = present-and (is_present t) (not (same eq t (wrapped own))) in (omega arith, omega arith)
+one_relay {V} {eq} exact own t true f is = let a = bit_le (disagrees eq own t) in let b = disagrees-present (is_present t) (not (same eq t (wrapped own))) in (omega arith, omega arith)
 one_relay {V} {eq} exact own t false true is =
     let e = is refl in
     let d : bit (disagrees eq own t) ≡ 0 = ap bit (ap (disagrees eq own) e ∙ agrees-wrapped exact own) in
@@ -67,10 +64,6 @@ all_kinds w odd (q ∷ qs) = let here = kinds (has_id odd q) (w.is_full q) in le
 -- the members but c, and those but c and i
 but_one : (test : ℕ → Bool) (members : List ℕ) (c : ℕ) → Distinct members → count test (outside members (c ∷ [])) + bit (has_id members c && test c) ≡ count test members
 but_one test members c d = let e = count-outside test members [] c d refl in let g = ap (count test) (outside_nothing members) in omega arith
-
-but_two : (test : ℕ → Bool) (members : List ℕ) (c i : ℕ) → Distinct members → c ≢ i
-    → count test (outside members (c ∷ i ∷ [])) + bit (has_id members i && test i) ≡ count test (outside members (c ∷ []))
-but_two test members c i d ne = count-outside test members (c ∷ []) i d (or_from _ _ (ne_eqb c i ne) refl)
 
 voice : (on o f : Bool) → bit (on && (not o && f)) ≤ bit (f && on)
 voice true true f = omega arith
@@ -119,9 +112,9 @@ module _ {V : Type 0} (eq : V → V → Bool) (exact : IsExact eq) (w : World V)
       let a = r.0 in let b = r.1 in
       let k = all_kinds w odd w.members in
       let o1 = but_one (λ q. has_id odd q) w.members c passed.distinct in
-      let o2 = but_two (λ q. has_id odd q) w.members c i passed.distinct ne in
+      let o2 = count_but_two (λ q. has_id odd q) w.members c i passed.distinct ne in
       let e1 = but_one (passes_on w odd) w.members c passed.distinct in
-      let e2 = but_two (passes_on w odd) w.members c i passed.distinct ne in
+      let e2 = count_but_two (passes_on w odd) w.members c i passed.distinct ne in
       let s = voice (has_id w.members i) (has_id odd i) (w.is_full i) in
       let t = at_most (has_id w.members c) (passes_on w odd c) in
       let l : count (disagrees eq own) (map relay voices) ≤ tolerated (count is_present (map relay voices) + bit (w.is_full i && has_id w.members i)) w.rounds = omega (arith, few) in

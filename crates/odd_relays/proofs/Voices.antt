@@ -6,6 +6,7 @@ use Rattle.std.proofs.lemmas.Bool.{cases_Bool, cases_eq, cond-true, cond-false, 
 use Rattle.node_grid.specs.NodeSet.{has_id, without_id, minus_of, common_of}
 use Rattle.node_grid.specs.Count.{bit, count, Distinct}
 use Rattle.node_grid.specs.ListLaws.{bit_le}
+use Rattle.node_grid.specs.SetFacts.{count_members}
 use Rattle.omh_paths.specs.declared.wrapped.Wrapped.{Wrapped}
 use Rattle.omh_paths.specs.declared.wrapped.Wrapped.TheVariants.{Fault}
 use Rattle.omh_paths.specs.Wrapped.{wrapped, IsExact}
@@ -36,13 +37,6 @@ count_both a b d [] h = refl
 count_both a b d (x ∷ xs) h =
     let here = h x (or_left (x == x) (has_id xs x) (eq-eqb x x refl)) in
     let rest = count_both a b d xs (λ q on. h q (or_right (x == q) (has_id xs q) on)) in
-    omega arith
-
-count_same : (a b : ℕ → Bool) (xs : List ℕ) → ((q : ℕ) → has_id xs q ≡ true → a q ≡ b q) → count a xs ≡ count b xs
-count_same a b [] h = refl
-count_same a b (x ∷ xs) h =
-    let here = ap bit (h x (or_left (x == x) (has_id xs x) (eq-eqb x x refl))) in
-    let rest = count_same a b xs (λ q on. h q (or_right (x == q) (has_id xs q) on)) in
     omega arith
 
 count_map : {X : Type 0} (f : X → Bool) (g : ℕ → X) (xs : List ℕ) → count f (map g xs) ≡ count (λ q. f (g q)) xs
@@ -218,10 +212,10 @@ module _ {V : Type 0} (t : Telling V) where
   odd_relay i q = t.says i (t.commander ∷ q ∷ [])
 
   of_regular : (f : Wrapped V → Bool) (i : ℕ) → count (λ q. f (relay_of t i q)) (regular_members t) ≡ count (λ q. f (regular_relay t q)) (regular_members t)
-  of_regular f i = count_same _ _ (regular_members t) (λ q on. ap f (relay_regular t i q (regular_off q on)))
+  of_regular f i = count_members _ _ (regular_members t) (λ q on. ap f (relay_regular t i q (regular_off q on)))
 
   of_odd : (f : Wrapped V → Bool) (i : ℕ) → count (λ q. f (relay_of t i q)) (without_id (odd_members t) i) ≡ count (λ q. f (odd_relay i q)) (without_id (odd_members t) i)
-  of_odd f i = count_same _ _ (without_id (odd_members t) i) (λ q on. ap f (relay_odd t i q
+  of_odd f i = count_members _ _ (without_id (odd_members t) i) (λ q on. ap f (relay_odd t i q
       (odd_on q (and_parts (has_id (odd_members t) q) (not (q == i)) (sym (has_kept (λ k. not (k == i)) (odd_members t) q) ∙ on)).0)))
 
   pub counted_convicts : (eq : V → V → Bool) → IsExact eq → (i : ℕ) → Distinct t.members → t.commander ≢ i → (regular all : Voices)

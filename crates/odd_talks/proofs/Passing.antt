@@ -1,38 +1,30 @@
 -- What a member that isn't odd passes on of an item in its slots.
 use Rattle.std.proofs.Common.{ℕ, suc, ◌≡◌, ◌≢◌, ◌<◌, ◌≤◌, ◌+◌, Bool, true, false, List, [], ◌∷◌, ◌++◌, ◌==◌, map, length, reverse, None, ◌⊎◌, refl, sym, ap, ◌∙◌, inl, inr, arith, eq-eqb, eqb-true}
-use Rattle.std.specs.Prelude.{All}
 use Rattle.std.proofs.lemmas.Bool.{cases_Bool, cond-true, cond-false, or_left, or_right, or_cases}
 use Rattle.std.proofs.lemmas.List.{length-reverse, length_push, length-map}
-use Rattle.std.proofs.lemmas.List.Elements.{All-nil, All-cons}
 use Rattle.node_grid.specs.NodeSet.{has_id, without_id}
 use Rattle.node_grid.specs.Count.{Distinct}
 use Rattle.node_grid.specs.ListLaws.{has_push}
+use Rattle.node_grid.specs.ListFacts.{all_map}
+use Rattle.node_grid.specs.SetFacts.{front_distinct, has-without}
 use Rattle.omh_paths.specs.declared.wrapped.Wrapped.{Wrapped}
-use Rattle.omh_paths.specs.declared.wrapped.Wrapped.TheVariants.{Plain, Fault}
 use Rattle.omh_paths.specs.Wrapped.{wrapped}
 use Rattle.omh_paths.specs.Paths.{same_nodes, place_in, IsPath}
-use Rattle.omh_paths.specs.PathLists.{same_nodes-tells, place-lt, length-paths, Distinct-without, has-without}
+use Rattle.omh_paths.specs.PathLists.{same_nodes-tells, place-lt, length-paths, Distinct-without}
 use Rattle.omh_paths.specs.PathLaws.{off_longer}
 use Rattle.omh.specs.Omh.{World, ear, own_term}
 use Rattle.frames.specs.Content.{IsEntry}
 use Rattle.frames.specs.Spelling.{IsInRange}
-use Rattle.protocol.specs.Arrival.{Arrival, is_good}
-use Rattle.protocol.specs.Arrival.Arrival.{Bad, Good}
+use Rattle.protocol.specs.Arrival.{is_good}
+use Rattle.protocol.specs.Arrival.Arrival.{Good}
 use Rattle.protocol.specs.Heard.{paths_of, looked_up, with_entries, entry, heard}
 use Rattle.protocol.specs.Talk.{Talk, arrives, relay_said, rounds_upto}
 use Rattle.protocol.specs.TalkLaws.{paths_of_member, relay_at, heard_stable, heard_push}
+use Rattle.protocol.specs.Facts.{good_entries, no_entry}
 use Rattle.safety.proofs.Arrivals.{Grammar, arrives_clean, arrives_cold}
-use Rattle.safety.proofs.Talks.{FormFits, HeardIn, entries_of, heard_in}
+use Rattle.safety.proofs.Talks.{FormFits, entries_of, heard_in, wrap_heard}
 use Rattle.odd_relays.specs.Chains.{IsPassedOn}
 use Rattle.odd_talks.specs.Law.{SaysOwnTerms}
-
-no_entry : {V : Type 0} (f : Arrival (List ℕ → Wrapped V)) (path : List ℕ) → is_good f ≡ false → entry f path ≡ Fault 0
-no_entry (Bad k) path h = refl
-no_entry (Good f) path h = absurd (cc)
-
-good_as : {V : Type 0} (paths : List (List ℕ)) (a : Arrival (List (Wrapped V))) → is_good (with_entries paths a) ≡ is_good a
-good_as paths (Bad k) = refl
-good_as paths (Good xs) = refl
 
 -- an entry for a path that has its place
 looked_up_map : {V : Type 0} (f : List ℕ → Wrapped V) (paths : List (List ℕ)) (path : List ℕ) → place_in paths path < length paths → looked_up paths (map f paths) path ≡ f path
@@ -41,20 +33,6 @@ looked_up_map f (q ∷ qs) path h = elim (cases_Bool (same_nodes q path)) [
   | inl is ↦ cond-true (same_nodes q path) _ _ is ∙ ap f (same_nodes-tells q path is)
   | inr isnt ↦ cond-false (same_nodes q path) _ _ isnt ∙ looked_up_map f qs path (omega (arith, cond-false (same_nodes q path) 0 (1 + place_in qs path) isnt))
 ]
-
--- what was heard is an entry once it is wrapped
-entry_of : {V : Type 0} (P : V → Type 0) (r : ℕ) (w : Wrapped V) → HeardIn P r w → IsEntry P (suc r) (wrapped w)
-entry_of P r (Plain v) h = h
-entry_of P r (Fault n) h = (omega arith, omega arith)
-
-each_entry : {X Y : Type 0} (P : Y → Type 0) (f : X → Y) (xs : List X) → ((x : X) → P (f x)) → All P (map f xs)
-each_entry P f [] h = All-nil P
-each_entry P f (x ∷ xs) h = All-cons P (f x) (map f xs) (h x) (each_entry P f xs h)
-
--- the nodes before a path's last one
-front_distinct : (path : List ℕ) (q : ℕ) → Distinct (path ++ q ∷ []) → Distinct path
-front_distinct [] q d = tt
-front_distinct (x ∷ xs) q d = ((off_longer xs q x d.0).0, front_distinct xs q d.1)
 
 front_apart : (path : List ℕ) (q x : ℕ) → Distinct (path ++ q ∷ []) → has_id path x ≡ true → x ≢ q
 front_apart [] q x d on e = cc
@@ -72,8 +50,8 @@ module _ (g : Grammar) {V : Type 0} (P : V → Type 0) (t : Talk V) (rounds : �
   entries_fit k j i low =
       form.relay_sent (suc k) j i (entries_of t (t.members i) k j) (omega arith) low
       (length-map (paths_of (t.members i) (suc k) j) (λ path. wrapped (heard (rounds_upto t k j) path)))
-      (each_entry (IsEntry P (suc k)) (λ path. wrapped (heard (rounds_upto t k j) path)) (paths_of (t.members i) (suc k) j)
-      (λ path. entry_of P k (heard (rounds_upto t k j) path) (heard_in t g P rounds form k j (reverse path) (omega arith))))
+      (all_map (IsEntry P (suc k)) (λ path. wrapped (heard (rounds_upto t k j) path)) (paths_of (t.members i) (suc k) j)
+      (λ path. wrap_heard P k (heard (rounds_upto t k j) path) (heard_in t g P rounds form k j (reverse path) (omega arith))))
 
   -- an untouched relay frame of a Full member
   relay_full : (k j i : ℕ) → suc k ≤ rounds → has_id members j ≡ true → t.full j ≡ true → is_awake i ≡ true → t.change (suc k) j i ≡ None
@@ -94,7 +72,7 @@ module _ (g : Grammar) {V : Type 0} (P : V → Type 0) (t : Talk V) (rounds : �
   -- that of another one
   relay_idle : (k j i : ℕ) → suc k ≤ rounds → t.full j ≡ false → t.change (suc k) j i ≡ None → is_good ((rounds_upto t rounds i).relay (suc k) j) ≡ false
   relay_idle k j i low f clean =
-      ap is_good (relay_at t rounds k i j (omega arith)) ∙ good_as (paths_of (t.members i) (suc k) j) _
+      ap is_good (relay_at t rounds k i j (omega arith)) ∙ good_entries (paths_of (t.members i) (suc k) j) _
       ∙ ap is_good (arrives_cold g t.form.relay_in (t.change (suc k) j i) (t.expect (suc k) j (t.members j)) (t.expect (suc k) j (t.members i)) _
       clean (form.heads (suc k) j (t.members i) (t.members j)) (cond-false (t.full j) _ _ f))
 

@@ -1,34 +1,22 @@
 -- The sections of a flat list of all paths, and the places in them.
-use Rattle.std.proofs.Common.{ℕ, map, zero, suc, ◌≡◌, ◌≢◌, ◌<◌, ◌≤◌, ◌+◌, ◌-◌, ◌==◌, ◌||◌, ◌&&◌, Bool, true, false, not, List, [], ◌∷◌, ◌++◌, length, get_or, set, take, drop, replicate, refl, sym, ap, ap₂, subst, ◌∙◌, inl, inr, arith, eq-eqb, eqb-true, append-nil}
-use Rattle.std.specs.Prelude.{filter, if◌then◌else◌}
+use Rattle.std.proofs.Common.{ℕ, map, zero, suc, ◌≡◌, ◌≢◌, ◌<◌, ◌≤◌, ◌+◌, ◌-◌, ◌==◌, true, false, List, [], ◌∷◌, ◌++◌, length, get_or, set, take, drop, replicate, refl, sym, ap, ap₂, subst, ◌∙◌, inl, inr, arith, eq-eqb, eqb-true, append-nil}
+use Rattle.std.specs.Prelude.{if◌then◌else◌}
 use Rattle.std.proofs.lemmas.Bool.{cases_Bool, cases_lt, cond-true, cond-false, both_ways, or_left}
 use Rattle.std.proofs.lemmas.List.{get_or-set_same, get_or-set_other, take_more, get_or-replicate, get_or_past, length-replicate, take_all, drop_all}
 use Rattle.std.proofs.lemmas.List.Edits.{map_over_more}
 use Rattle.node_grid.specs.NodeSet.{has_id, without_id}
-use Rattle.node_grid.specs.NodeSetLaws.{filter_filter}
 use Rattle.node_grid.specs.Count.{Distinct}
 use Rattle.omh_paths.specs.declared.wrapped.Wrapped.{Wrapped}
 use Rattle.omh_paths.specs.declared.wrapped.Wrapped.TheVariants.{Fault}
 use Rattle.omh_paths.specs.Paths.{same_nodes, outside, paths_of_length, path_count, place_in, path_at, index_in}
 use Rattle.omh_paths.specs.PathLists.{same_nodes-tells, same_nodes-finds, length-paths, place-lt, path_at-place, place-cons, index_in-lt, length-without, Distinct-without, has-without-left}
+use Rattle.omh_paths.specs.Facts.{outside-push, more_paths}
 use Rattle.omh.specs.Heard.{entry, heard_paths, nothing_heard, with_heard}
 use Rattle.omh.specs.HeardLaws.{IsHeardPath, entries_with}
-use Rattle.omh.specs.FlatLaws.{path_count-mono, section_at-le, section_at-next}
+use Rattle.omh.specs.FlatLaws.{section_at-le, section_at-next}
 use Rattle.omh.specs.Flat.{section_at, flat_place, flat_heard, heard_flat, laid_own, forgotten}
-use Rattle.node_grid.specs.ListLaws.{eqb_sym, has_push}
 
 -- ---- the members outside a path that grows
-
-not_either : (a b : Bool) → not (a || b) ≡ (not a && not b)
-not_either true b = refl
-not_either false b = refl
-
-pub outside-push : (s path : List ℕ) (q : ℕ) → outside s (path ++ q ∷ []) ≡ without_id (outside s path) q
-outside-push s path q =
-    ap (λ (t : ℕ → Bool). filter t s) (λ i x. same x i) ∙ sym (filter_filter (λ x. not (has_id path x)) (λ x. not (x == q)) s)
-  where
-    same : (x : ℕ) → not (has_id (path ++ q ∷ []) x) ≡ (not (has_id path x) && not (x == q))
-    same x = ap not (has_push path q x) ∙ not_either (has_id path x) (q == x) ∙ ap (λ (b : Bool). not (has_id path x) && not b) (eqb_sym q x)
 
 pub outside_more : (s path left new : List ℕ) (k q : ℕ) → k < length path → q ≡ get_or path k 0 → left ≡ outside s (take k path) → new ≡ without_id left q → new ≡ outside s (take (k + 1) path)
 outside_more s path left new k q here at was cuts =
@@ -44,7 +32,7 @@ single_place s q d on = place-cons s 0 q [] d on (omega arith) ∙ omega arith
 -- a place in the section of the paths of r + 1 nodes
 pub place_within : (nodes k r rounds i : ℕ) → k ≤ nodes → r ≤ rounds → i < path_count k (r + 1) → section_at nodes r + i < section_at nodes (rounds + 1)
 place_within nodes k r rounds i few low h =
-    omega (arith, section_at-le nodes (r + 1) (rounds + 1) (omega arith), section_at-next nodes r, path_count-mono k nodes (r + 1) few)
+    omega (arith, section_at-le nodes (r + 1) (rounds + 1) (omega arith), section_at-next nodes r, more_paths k nodes (r + 1) few)
 
 pub place_within_len : (nodes k len rounds i : ℕ) → k ≤ nodes → 0 < len → len ≤ rounds + 1 → i < path_count k len → section_at nodes (len - 1) + i < section_at nodes (rounds + 1)
 place_within_len nodes k len rounds i few some short h =
@@ -55,7 +43,7 @@ place_within_len nodes k len rounds i few some short h =
 pub room_enough : (nodes k r rounds : ℕ) → k ≤ nodes → r ≤ rounds → path_count (k - 1) r ≤ 1 + section_at (nodes - 1) rounds
 room_enough nodes k zero rounds few low = omega arith
 room_enough nodes k (suc r) rounds few low =
-    omega (arith, path_count-mono (k - 1) (nodes - 1) (suc r) (omega arith), section_at-le (nodes - 1) (suc r) rounds low)
+    omega (arith, more_paths (k - 1) (nodes - 1) (suc r) (omega arith), section_at-le (nodes - 1) (suc r) rounds low)
 
 -- ---- what stands at the places
 
@@ -78,7 +66,7 @@ module _ (nodes : ℕ) (members : List ℕ) (me rounds : ℕ) (d : Distinct memb
       let low = place-lt members path d h.distinct h.within in
       let some = h.some in
       let e : length path ≡ suc (length path - 1) = omega arith in
-      omega (arith, low, path_count-mono (length members) nodes (length path) few, ap (section_at nodes) e, ap (path_count nodes) e)
+      omega (arith, low, more_paths (length members) nodes (length path) few, ap (section_at nodes) e, ap (path_count nodes) e)
 
   pub flat_place-lt : (path : List ℕ) → IsHeardPath members me rounds path → flat_place nodes members path < section_at nodes (rounds + 1)
   flat_place-lt path h = omega (arith, place-in_section path h, section_at-le nodes (length path) (rounds + 1) h.short)

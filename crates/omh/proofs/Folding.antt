@@ -2,10 +2,11 @@
 use Rattle.std.proofs.Common.{ℕ, ◌||◌, zero, suc, ◌≡◌, ◌≢◌, ◌<◌, ◌≤◌, ◌+◌, ◌-◌, ◌*◌, ◌==◌, ◌⊎◌, Bool, true, false, List, [], ◌∷◌, ◌++◌, map, length, get_or, set, take, drop, refl, sym, ap, ap₂, subst, ◌∙◌, inl, inr, arith, eq-eqb, ne_eqb}
 use Rattle.std.specs.Prelude.{if◌then◌else◌}
 use Rattle.std.proofs.lemmas.Bool.{cases_Bool, cases_eq, cond-true, cond-false}
-use Rattle.std.proofs.lemmas.List.{get_or-set_same, get_or-set_other, length-set, length-drop, length-take-le, get_or-take, get_or-drop, get_or-map, ext_get_or, get_or_default, get_or_append_left, length-take, length-append}
-use Rattle.std.proofs.Math.Nat.{mul-le-mul}
+use Rattle.std.proofs.lemmas.List.{get_or-set_same, get_or-set_other, length-drop, length-take-le, get_or-take, get_or-drop, get_or-map, ext_get_or, get_or_default, get_or_append_left, length-take, length-append}
 use Rattle.node_grid.specs.NodeSet.{has_id}
 use Rattle.node_grid.specs.Count.{Distinct}
+use Rattle.node_grid.specs.ListFacts.{length_mapped}
+use Rattle.node_grid.specs.NumberFacts.{product_few, terms_fit, some_width, digits_fit, same_rest}
 use Rattle.omh_paths.specs.declared.wrapped.Wrapped.{Wrapped}
 use Rattle.omh_paths.specs.declared.wrapped.Wrapped.TheVariants.{Fault}
 use Rattle.omh_paths.specs.Wrapped.{wrapped, unwrapped}
@@ -14,25 +15,17 @@ use Rattle.omh_paths.specs.Paths.{outside, paths_of_length, path_count, place_in
 use Rattle.omh_paths.specs.PathLaws.{off_from}
 use Rattle.node_grid.specs.CapacityLaws.{capacity-le}
 use Rattle.omh_paths.specs.MemberLaws.{path_count-few, Distinct-ids}
-use Rattle.omh_paths.specs.PathLists.{index_in-lt, path_at-push, path_count-last, IsListed-at, length-outside, index_in-at, at-index_in, has-at, Distinct-filter, place-path_at, path_at-place, length-paths}
+use Rattle.omh_paths.specs.PathLists.{index_in-lt, path_count-last, IsListed-at, length-outside, index_in-at, at-index_in, has-at, Distinct-filter, place-path_at, path_at-place, length-paths}
+use Rattle.omh_paths.specs.Facts.{paths_is, longer_count, more_paths}
+use Rattle.omh.specs.Facts.{length-settled, relay_path-push, relay_place-lt, length-laid}
 use Rattle.omh.specs.declared.station.Branch.{Branch}
 use Rattle.omh.specs.Omh.{Ear, own_term, settled_at, term_at}
 use Rattle.omh.specs.SettledLaws.{settled_at_end, settled_at_later}
 use Rattle.omh.specs.Flat.{relay_path, SettledAt, AreSettled, laid_own, section_at, IsStation, IsRoom, IsBranch, flat_place, flat_heard, path_settled, flat_ear}
-use Rattle.omh.specs.FlatLaws.{path_count-mono, section_at-le, section_at-next}
+use Rattle.omh.specs.FlatLaws.{section_at-le, section_at-next}
 use Rattle.omh.proofs.Flats.{room_enough, single_place}
 
-length-map : {X Y : Type 0} (f : X → Y) (xs : List X) → length (map f xs) ≡ length xs
-length-map f [] = refl
-length-map f (x ∷ xs) = ap suc (length-map f xs)
-
 -- ---- a list of terms with the node's own
-
-length-laid : {V : Type 0} (nodes : List ℕ) (me from : ℕ) (own : Wrapped V) (work : List (Wrapped V)) → length (laid_own nodes me from own work) ≡ length work
-length-laid nodes me from own work = elim (cases_Bool (has_id nodes me)) [
-  | inl y ↦ ap length (cond-true (has_id nodes me) (set work (from + index_in nodes me) own) work y) ∙ length-set work (from + index_in nodes me) own
-  | inr n ↦ ap length (cond-false (has_id nodes me) (set work (from + index_in nodes me) own) work n)
-]
 
 laid_me : {V : Type 0} (nodes : List ℕ) (me from j : ℕ) (own : Wrapped V) (work : List (Wrapped V)) → Distinct nodes → j < length nodes → from + j < length work → get_or nodes j 0 ≡ me
     → get_or (laid_own nodes me from own work) (from + j) (Fault 0) ≡ own
@@ -66,36 +59,9 @@ laid_outside nodes me from i own work out = elim (cases_Bool (has_id nodes me)) 
 
 -- ---- one path
 
-spread : (i p w k j : ℕ) → (i * p + k) * w + j ≡ i * (p * w) + (k * w + j)
-spread i p w k j = omega arith
-
-same_rest : (n r : ℕ) → n - 1 - r ≡ n - suc r
-same_rest n r = omega arith
-
-digits_fit : (a b n w : ℕ) → a < n → b < w → a * w + b < n * w
-digits_fit a b zero w h l = absurd (omega arith)
-digits_fit zero b (suc n) w h l = omega arith
-digits_fit (suc a) b (suc n) w h l = omega (arith, digits_fit a b n w (omega arith) l)
-
--- the place of a relay path among all paths of its length
-pub relay_place-lt : (members : List ℕ) (place r k : ℕ) → place < length members → k < path_count (length members - 1) r → place * path_count (length members - 1) r + k < path_count (length members) (suc r)
-relay_place-lt members place r k low within = digits_fit place k (length members) (path_count (length members - 1) r) low within
-
 pub relay_listed : (members : List ℕ) (place r k : ℕ) → Distinct members → place < length members → k < path_count (length members - 1) r → IsListed members (suc r) (relay_path members place r k)
 relay_listed members place r k d low within =
     IsListed-at members (suc r) (place * path_count (length members - 1) r + k) d (relay_place-lt members place r k low within)
-
--- a path with one relay more
-relay_path-push : (members : List ℕ) (place r k j : ℕ) → Distinct members → place < length members → k < path_count (length members - 1) r → j < length members - suc r
-    → relay_path members place (suc r) (k * (length members - suc r) + j) ≡ relay_path members place r k ++ get_or (outside members (relay_path members place r k)) j 0 ∷ []
-relay_path-push members place r k j d low within inside =
-    let n : ℕ = length members in
-    let w : ℕ = n - suc r in
-    let p : ℕ = path_count (n - 1) r in
-    let last : path_count (n - 1) (suc r) ≡ p * w = path_count-last (n - 1) r ∙ ap (λ (x : ℕ). p * x) (same_rest n r) in
-    let at : place * path_count (n - 1) (suc r) + (k * w + j) ≡ (place * p + k) * w + j = ap (λ (x : ℕ). place * x + (k * w + j)) last ∙ sym (spread place p w k j) in
-    ap (path_at (paths_of_length members (suc (suc r)))) at
-    ∙ path_at-push members (suc r) (place * p + k) j d (relay_place-lt members place r k low within) inside
 
 longer-lt : (members : List ℕ) (r k j : ℕ) → k < path_count (length members - 1) r → j < length members - suc r → k * (length members - suc r) + j < path_count (length members - 1) (suc r)
 longer-lt members r k j within inside =
@@ -147,7 +113,7 @@ module _ {V : Type 0} (eq : V → V → Bool) (x : Ear V) (distinct : Distinct x
       let terms : List (Wrapped V) = take w (drop from laid) in
       let whole : length terms ≡ w = length-take-le w (drop from laid) (omega (arith, length-drop from laid)) in
       let same : terms ≡ map (term_at eq x p) others =
-      ext_get_or (Fault 0) terms (map (term_at eq x p) others) (omega (arith, whole, many, length-map (term_at eq x p) others))
+      ext_get_or (Fault 0) terms (map (term_at eq x p) others) (omega (arith, whole, many, length_mapped (term_at eq x p) others))
       (λ j l.
       let inside : j < w = omega (arith, whole) in
       get_or-take w (drop from laid) j (Fault 0) inside ∙ get_or-drop from laid j (Fault 0)
@@ -173,24 +139,12 @@ before_terms i k (suc w) h = inl (omega (arith, at_most k w))
     at_most : (k w : ℕ) → k ≤ k * suc w
     at_most k w = omega arith
 
-some_width : (i p w : ℕ) → i < p * w → 0 < w
-some_width i p zero h = absurd (omega arith)
-some_width i p (suc w) h = omega arith
-
 past_place : (i k w : ℕ) → 0 < w → (k + 1) * w ≤ i → k < i
 past_place i k zero some h = absurd (omega arith)
 past_place i k (suc w) some h = omega arith
 
 next_terms : (k w : ℕ) → (k + 1) * w ≡ k * w + w
 next_terms k w = omega arith
-
-pub longer_count : (n r : ℕ) → path_count (n - 1) (suc r) ≡ path_count (n - 1) r * (n - suc r)
-longer_count n r = path_count-last (n - 1) r ∙ ap (λ (x : ℕ). path_count (n - 1) r * x) (same_rest n r)
-
-terms_fit : (k p w : ℕ) → k < p → k * w + w ≤ p * w
-terms_fit k zero w h = absurd (omega arith)
-terms_fit zero (suc p) w h = omega arith
-terms_fit (suc k) (suc p) w h = omega (arith, terms_fit k p w (omega arith))
 
 -- the terms of each path are among the paths of one relay more
 pub terms_within : (n r k : ℕ) → k < path_count (n - 1) r → k * (n - suc r) + (n - suc r) ≤ path_count (n - 1) (suc r)
@@ -239,13 +193,6 @@ halfway_end eq x place r k work past h = λ i l. h.done i (omega arith)
 
 -- ---- the numbers that the code works with
 
--- the count that the code finds
-paths_is : (paths count n r : ℕ) → paths ≡ path_count (count - 1) r → count ≡ n → paths ≡ path_count (n - 1) r
-paths_is paths count n r e c = e ∙ ap (λ (m : ℕ). path_count (m - 1) r) c
-
-product_few : (i p : ℕ) → i ≤ 16 → p ≤ 65536 → i * p ≤ 16 * 65536
-product_few i p h l = mul-le-mul h l
-
 pub first_few : (capacity nodes rounds : ℕ) (members : List ℕ) (count place r paths : ℕ) → IsStation capacity nodes rounds members count → place < length members → r ≤ rounds → paths ≡ path_count (count - 1) r
     → (paths ≤ 65536) × (place * paths ≤ 1048576)
 first_few capacity nodes rounds members count place r paths s low short e =
@@ -269,7 +216,7 @@ branch_is capacity nodes rounds members count place r b s low short small p f e 
       first_is = f ∙ ap (λ (n : ℕ). place * n) are;
       begins_is = e;
       listed = last;
-      within = omega (arith, e, last, section_at-le nodes (r + 1) (rounds + 1) (omega arith), section_at-next nodes r, path_count-mono (length members) nodes (r + 1) (omega (arith, s.count_ok, s.few_ok)));
+      within = omega (arith, e, last, section_at-le nodes (r + 1) (rounds + 1) (omega arith), section_at-next nodes r, more_paths (length members) nodes (r + 1) (omega (arith, s.count_ok, s.few_ok)));
       room = omega (arith, are, room_enough nodes (length members) r rounds (omega (arith, s.count_ok, s.few_ok)) short);
       few = few.0;
       small = omega (arith, small, e, f, few.0, few.1);
@@ -354,11 +301,6 @@ loop_more {V} eq x place r k path width work new item own d low short h within r
     let new_is : new ≡ set (laid_own (outside x.members real) x.me (k * v) own work) k value =
     n ∙ ap₂ (λ (ns : List ℕ) (m : ℕ). path_settled eq (outside x.members ns) x.me k m own work) p w in
     subst (λ (ts : List (Wrapped V)). IsHalfway eq x place r ts (k + 1)) (sym new_is) (halfway_more eq x place r k work own value d low short h within room here own_is refl)
-
-length-settled : {V : Type 0} (eq : V → V → Bool) (nodes : List ℕ) (me k width : ℕ) (own : Wrapped V) (work : List (Wrapped V)) → length (path_settled eq nodes me k width own work) ≡ length work
-length-settled eq nodes me k width own work =
-    length-set (laid_own nodes me (k * width) own work) k (unwrapped (majority eq (take width (drop (k * width) (laid_own nodes me (k * width) own work)))))
-    ∙ length-laid nodes me (k * width) own work
 
 pub room_more : {V : Type 0} (eq : V → V → Bool) (nodes rounds : ℕ) (flat work new : List (Wrapped V)) (outside : List ℕ) (me k width : ℕ) (own : Wrapped V) → IsRoom nodes rounds flat work → new ≡ path_settled eq outside me k width own work → IsRoom nodes rounds flat new
 room_more eq nodes rounds flat work new outside me k width own room n =

@@ -1,24 +1,15 @@
 -- What was heard for a path is what was put for it last.
 use Rattle.std.proofs.Common.{ℕ, ◌≡◌, Bool, List, [], ◌∷◌, ◌++◌, map, reverse, refl, sym, ap, ◌∙◌, inl, inr}
 use Rattle.std.specs.Prelude.{if◌then◌else◌}
-use Rattle.std.proofs.lemmas.Bool.{cases_Bool, cond-true, cond-false, both_ways}
+use Rattle.std.proofs.lemmas.Bool.{cases_Bool, cond-true, cond-false}
 use Rattle.std.proofs.lemmas.List.{reverse-append}
 use Rattle.omh_paths.specs.declared.wrapped.Wrapped.{Wrapped}
 use Rattle.omh_paths.specs.declared.wrapped.Wrapped.TheVariants.{Fault}
 use Rattle.omh_paths.specs.Paths.{same_nodes}
-use Rattle.omh_paths.specs.PathLists.{same_nodes-tells, same_nodes-finds}
+use Rattle.omh_paths.specs.Facts.{same_nodes-sym}
 use Rattle.omh.specs.Heard.{Entry, entry, heard_in, heard_paths, with_heard}
 use Rattle.omh.specs.HeardLaws.{heard_in-at}
 use Rattle.omh.specs.Laws.{all_heard, LastPutLaw}
-
-same_nodes-sym : (a b : List ℕ) → same_nodes a b ≡ same_nodes b a
-same_nodes-sym a b = elim (cases_Bool (same_nodes a b)) [
-  | inl y ↦ y ∙ sym (ap (λ (c : List ℕ). same_nodes b c) (same_nodes-tells a b y) ∙ same_nodes-finds b)
-  | inr n ↦ elim (cases_Bool (same_nodes b a)) [
-    | inr m ↦ n ∙ sym m
-    | inl y ↦ absurd (both_ways _ n (ap (λ (c : List ℕ). same_nodes a c) (same_nodes-tells b a y) ∙ same_nodes-finds a))
-  ]
-]
 
 module _ {V : Type 0} where
   -- what was heard, after one value

@@ -1,12 +1,7 @@
 -- How many paths there are of more nodes, and where the sections of the flat list begin.
 use Rattle.std.proofs.Common.{ℕ, zero, suc, ◌≡◌, ◌≤◌, ◌+◌, ◌-◌, sym, ap, ◌∙◌, arith}
-use Rattle.std.proofs.Math.Nat.{mul-le-mul}
 use Rattle.omh_paths.specs.Paths.{path_count}
 use Rattle.omh.specs.Flat.{section_at}
-
-pub path_count-mono : (k n r : ℕ) → k ≤ n → path_count k r ≤ path_count n r
-path_count-mono k n zero h = omega arith
-path_count-mono k n (suc r) h = mul-le-mul h (path_count-mono (k - 1) (n - 1) r (omega arith))
 
 section_at-more : (n a d : ℕ) → section_at n a ≤ section_at n (a + d)
 section_at-more n a zero = let e : a + 0 ≡ a = omega arith in omega (arith, ap (section_at n) e)

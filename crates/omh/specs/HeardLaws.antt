@@ -1,11 +1,12 @@
 -- What was heard as a list over all paths, and that what is settled depends on what was heard for real paths alone.
-use Rattle.std.proofs.Common.{ℕ, zero, suc, ◌≡◌, ◌≢◌, ◌<◌, ◌≤◌, ◌+◌, ◌-◌, ◌==◌, ◌||◌, ◌&&◌, Bool, true, false, not, if◌then◌else◌, List, [], ◌∷◌, ◌++◌, length, map, refl, sym, ap, subst, ◌∙◌, inl, inr, arith, eq-eqb, eqb-true, ne_eqb}
+use Rattle.std.proofs.Common.{ℕ, zero, suc, ◌≡◌, ◌≢◌, ◌<◌, ◌≤◌, ◌+◌, ◌-◌, ◌==◌, ◌||◌, Bool, true, false, if◌then◌else◌, List, [], ◌∷◌, ◌++◌, length, map, refl, sym, ap, subst, ◌∙◌, inl, inr, arith, eq-eqb, eqb-true, ne_eqb}
 use Rattle.std.specs.List.{AllByRecursion}
 use Rattle.std.proofs.lemmas.Bool.{cases_Bool, cases_eq, cond-true, cond-false, both_ways, or_cases}
 use Rattle.std.proofs.lemmas.List.{length_push}
 use Rattle.node_grid.specs.NodeSet.{has_id, without_id}
-use Rattle.node_grid.specs.NodeSetLaws.{has-without_id}
 use Rattle.node_grid.specs.Count.{Distinct}
+use Rattle.node_grid.specs.ListFacts.{map_map}
+use Rattle.node_grid.specs.SetFacts.{not_rest, has-without}
 use Rattle.omh_paths.specs.declared.wrapped.Wrapped.{Wrapped}
 use Rattle.omh_paths.specs.declared.wrapped.Wrapped.TheVariants.{Fault}
 use Rattle.omh_paths.specs.Wrapped.{wrapped, unwrapped}
@@ -13,7 +14,8 @@ use Rattle.omh_paths.specs.Majority.{majority}
 use Rattle.omh_paths.specs.Paths.{same_nodes, outside, paths_of_length, path_count, place_in, path_at, IsListed}
 use Rattle.node_grid.specs.ListLaws.{has_push}
 use Rattle.omh_paths.specs.PathLaws.{map_alike, all_outside, Distinct-push, off_from}
-use Rattle.omh_paths.specs.PathLists.{same_nodes-tells, has-without, has-of-without, length-paths, place-lt, IsListed-at, Distinct-without}
+use Rattle.omh_paths.specs.PathLists.{same_nodes-tells, has-of-without, length-paths, place-lt, IsListed-at, Distinct-without}
+use Rattle.omh_paths.specs.Facts.{all_at}
 use Rattle.omh.specs.Omh.{Ear, own_term, settled_within, settled_at}
 use Rattle.omh.specs.Heard.{heard_in, paths_up_to, heard_paths, entry, with_heard}
 
@@ -62,7 +64,7 @@ heard-entries f (p ∷ ps) q h = elim (cases_Bool (same_nodes p q)) [
       cond-false (same_nodes p q) (f p) (heard_in (map (entry f) ps) q) n ∙ heard-entries f ps q (omega arith)
 ]
 
-within_others : {members : List ℕ} {me rounds : ℕ} {path : List ℕ} → IsHeardPath members me rounds path → (q : ℕ) → has_id path q ≡ true → has_id (without_id members me) q ≡ true
+pub within_others : {members : List ℕ} {me rounds : ℕ} {path : List ℕ} → IsHeardPath members me rounds path → (q : ℕ) → has_id path q ≡ true → has_id (without_id members me) q ≡ true
 within_others {members} {me} {rounds} {path} h q on = has-without members me q (λ e. both_ways _ h.other (ap (has_id path) (sym e) ∙ on)) (h.within q on)
 
 -- what was heard for such a path is what stands in the list for it
@@ -74,21 +76,14 @@ heard_in-at f members me rounds path d h =
 
 -- ---- the list has no other path
 
-all_at : (P : List ℕ → Type 0) (ps : List (List ℕ)) → ((k : ℕ) → k < length ps → P (path_at ps k)) → AllByRecursion P ps
-all_at P [] h = tt
-all_at P (p ∷ ps) h = (h 0 (omega arith), all_at P ps (λ k l. h (suc k) (omega arith)))
-
 all_append : (P : List ℕ → Type 0) (xs ys : List (List ℕ)) → AllByRecursion P xs → AllByRecursion P ys → AllByRecursion P (xs ++ ys)
 all_append P [] ys a b = b
 all_append P (x ∷ xs) ys a b = (a.0, all_append P xs ys a.1 b)
 
-not_without : (members : List ℕ) (me : ℕ) → has_id (without_id members me) me ≡ false
-not_without members me = has-without_id members me me ∙ ap (λ (b : Bool). not b && has_id members me) (eq-eqb me me refl)
-
 pub has-without-me : (members : List ℕ) (me : ℕ) (path : List ℕ) → ((q : ℕ) → has_id path q ≡ true → has_id (without_id members me) q ≡ true) → has_id path me ≡ false
 has-without-me members me path within = elim (cases_Bool (has_id path me)) [
   | inr n ↦ n
-  | inl y ↦ absurd (both_ways _ (not_without members me) (within me y))
+  | inl y ↦ absurd (both_ways _ (not_rest members me) (within me y))
 ]
 
 listed_up_to : (members : List ℕ) (me rounds n : ℕ) → Distinct members → n ≤ rounds + 1 → AllByRecursion (IsHeardPath members me rounds) (paths_up_to (without_id members me) n)
@@ -114,10 +109,6 @@ all_heard_paths members me rounds d = listed_up_to members me rounds (rounds + 1
 map_where : {X Y : Type 0} (P : X → Type 0) (f g : X → Y) (xs : List X) → AllByRecursion P xs → ((x : X) → P x → f x ≡ g x) → AllByRecursion (λ x. f x ≡ g x) xs
 map_where P f g [] a h = tt
 map_where P f g (x ∷ xs) a h = (h x a.0, map_where P f g xs a.1 h)
-
-map_map : {X Y Z : Type 0} (f : X → Y) (g : Y → Z) (xs : List X) → map g (map f xs) ≡ map (λ x. g (f x)) xs
-map_map f g [] = refl
-map_map f g (x ∷ xs) = ap (λ ys. g (f x) ∷ ys) (map_map f g xs)
 
 -- two accounts of what was heard that agree on these paths are one list
 pub entries_alike : {V : Type 0} (f g : List ℕ → Wrapped V) (members : List ℕ) (me rounds : ℕ) → Distinct members → ((path : List ℕ) → IsHeardPath members me rounds path → f path ≡ g path)

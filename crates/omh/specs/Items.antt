@@ -1,11 +1,11 @@
 -- What the laws say of the members' items.
-use Rattle.std.proofs.Common.{ℕ, ◌≡◌, ◌≢◌, ◌≤◌, Bool, true, false, ◌&&◌, ◌||◌, if◌then◌else◌, List, [], ◌∷◌, refl, sym, ap, subst, ◌∙◌, inl, inr, arith, eqb-true, eq-eqb, ne_eqb}
-use Rattle.std.proofs.lemmas.Bool.{cases_eq, cond-true, cond-false, or_cases}
+use Rattle.std.proofs.Common.{ℕ, ◌≡◌, ◌≢◌, ◌≤◌, Bool, true, false, ◌&&◌, ◌||◌, if◌then◌else◌, List, [], ◌∷◌, refl, sym, ap, ◌∙◌, inl, inr, arith, eq-eqb, ne_eqb}
+use Rattle.std.proofs.lemmas.Bool.{cases_eq, cond-true, cond-false}
 use Rattle.omh_paths.specs.declared.wrapped.Wrapped.TheVariants.{Plain, Fault}
 use Rattle.omh_paths.specs.Wrapped.{IsExact}
 use Rattle.node_grid.specs.Count.{bit, count, Distinct}
 use Rattle.node_grid.specs.NodeSet.{has_id}
-use Rattle.omh_paths.specs.Paths.{IsPath}
+use Rattle.omh_paths.specs.Facts.{root}
 use Rattle.omh.specs.Omh.{World, settled, settled_item, Hears, counted_nodes}
 use Rattle.node_grid.specs.declared.class.Class.{Class}
 use Rattle.node_grid.specs.Class.{is_nonfaulty, is_silent, is_symmetric, is_asymmetric, is_sound, IsEnough}
@@ -35,17 +35,7 @@ enough_root class_of members c r d member enough =
 few_root : (class_of : ℕ → Class) (members : List ℕ) (c r : ℕ) → Distinct members → has_id members c ≡ true → count (λ q. is_asymmetric (class_of q)) members ≤ r → count (λ q. is_asymmetric (class_of q)) (counted_nodes members [] c) ≤ r
 few_root class_of members c r d member few = let a = count_all (λ q. is_asymmetric (class_of q)) members c d member in omega arith
 
-root : {members : List ℕ} {rounds : ℕ} (c : ℕ) → has_id members c ≡ true → IsPath members rounds (c ∷ [])
-root {members} c member = record {
-  distinct = (refl, tt);
-  within = λ q h. elim (or_cases _ _ h) [
-    | inl here ↦ subst (λ (y : ℕ). has_id members y ≡ true) (eqb-true c q here) member
-    | inr none ↦ cc
-  ];
-  short = omega arith;
-}
-
-hears : {class_of : ℕ → Class} (c i : ℕ) → is_sound (class_of i) ≡ true → c ≢ i → Hears class_of (c ∷ []) i
+pub hears : {class_of : ℕ → Class} (c i : ℕ) → is_sound (class_of i) ≡ true → c ≢ i → Hears class_of (c ∷ []) i
 hears c i s ne = record { sound = s; off = ap (λ b. b || false) (ne_eqb c i ne) }
 
 item_own : {V : Type 0} (eq : V → V → Bool) (w : World V) (item : ℕ → V) (c i : ℕ) → c ≡ i → settled_item eq w item i c ≡ (if w.is_full c then Plain (item c) else Fault 0)

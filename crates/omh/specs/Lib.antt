@@ -15,3 +15,4 @@ pub use Rattle.node_grid.specs.Count
 pub use Rattle.omh_paths.specs.Wrapped
 pub use Rattle.omh_paths.specs.Majority
 pub use Rattle.omh_paths.specs.Paths
+pub mod Facts

@@ -29,7 +29,7 @@ abbrev settled_by : {V : Type 0} → (V → V → Bool) → World V → ℕ → 
 settled_by eq w r i path = settled_within eq (ear w i) r path
 
 -- what node i puts into the majority of a path for the member q
-term_of : {V : Type 0} → (V → V → Bool) → World V → ℕ → ℕ → List ℕ → ℕ → Wrapped V
+unfoldable pub term_of : {V : Type 0} → (V → V → Bool) → World V → ℕ → ℕ → List ℕ → ℕ → Wrapped V
 term_of eq w r i path q = if q == i then own_term (ear w i) path else settled_by eq w r i (path ++ q ∷ [])
 
 settled_now : {V : Type 0} (eq : V → V → Bool) (w : World V) (i : ℕ) (path : List ℕ) → settled_by eq w 0 i path ≡ w.heard i path
@@ -75,10 +75,10 @@ asymmetric_or_not S = inr (λ e. cc)
 asymmetric_or_not A = inl refl
 
 -- the own term of a member, by its class
-own_nonfaulty : {V : Type 0} (w : World V) (i : ℕ) (path : List ℕ) → w.is_full i ≡ true → own_term (ear w i) path ≡ wrapped (w.heard i path)
+pub own_nonfaulty : {V : Type 0} (w : World V) (i : ℕ) (path : List ℕ) → w.is_full i ≡ true → own_term (ear w i) path ≡ wrapped (w.heard i path)
 own_nonfaulty w i path e = cond-true _ _ _ e
 
-own_joining : {V : Type 0} (w : World V) (i : ℕ) (path : List ℕ) → w.is_full i ≡ false → own_term (ear w i) path ≡ Fault 0
+pub own_joining : {V : Type 0} (w : World V) (i : ℕ) (path : List ℕ) → w.is_full i ≡ false → own_term (ear w i) path ≡ Fault 0
 own_joining w i path e = cond-false _ _ _ e
 
 -- the path front, last

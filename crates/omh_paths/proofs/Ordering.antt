@@ -6,8 +6,9 @@ use Rattle.std.proofs.lemmas.Bool.{cases_lt, cases_eq, cases_Bool, cond-true, co
 use Rattle.std.proofs.Math.Nat.{mod-add-div', mod-lt, div-lt_iff_lt-mul, mul-le-mul_right}
 use Rattle.node_grid.specs.NodeSet.{has_id, ids_below, without_id, IsIdSet}
 use Rattle.node_grid.specs.NodeSetLaws.{filter_filter, IsIdSet-filter}
+use Rattle.node_grid.specs.NumberFacts.{some_width}
 use Rattle.omh_paths.specs.Paths.{paths_of_length, path_count, place_in, path_at, comes_before, PathsLaw, RanksLaw}
-use Rattle.omh_paths.specs.PathLists.{length-without, length-paths, has-at, digits, path_at-step, path_at-place, place-lt, place-path_at, IsListed-at}
+use Rattle.omh_paths.specs.PathLists.{length-without, length-paths, has-at, path_at-step, path_at-place, place-lt, place-path_at, IsListed-at}
 use Rattle.omh_paths.specs.MemberLaws.{Distinct-ids}
 
 -- ---- sets ascend
@@ -78,7 +79,7 @@ ordered n s ids (suc r) j k l h =
     let w : ℕ = path_count (length s - 1) r in
     let d = Distinct-ids n s ids in
     let low : j < path_count (length s) (suc r) = omega arith in
-    let some : 0 < w = digits k (length s) w h in
+    let some : 0 < w = some_width k (length s) w h in
     let p = path_at-step s r j 0 d low in
     let q = path_at-step s r k 0 d h in
     let x : ℕ = get_or s (j / w) 0 in

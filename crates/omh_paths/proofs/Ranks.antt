@@ -8,9 +8,11 @@ use Rattle.std.proofs.Math.Seq.{drop-cons}
 use Rattle.node_grid.specs.NodeSet.{has_id, without_id, IsIdSet}
 use Rattle.node_grid.specs.NodeSetLaws.{length-ids}
 use Rattle.node_grid.specs.Count.{Distinct}
+use Rattle.node_grid.specs.NumberFacts.{some_width}
+use Rattle.node_grid.specs.SetFacts.{member-lt}
 use Rattle.omh_paths.specs.Paths.{paths_of_length, path_count, place_in, path_at, index_in}
-use Rattle.omh_paths.specs.MemberLaws.{path_count-few, Distinct-ids, member-lt}
-use Rattle.omh_paths.specs.PathLists.{Distinct-without, length-without, place-cons, place-lt, path_at-step, rest_within, digits, has-at, has-of-without, IsListed-at}
+use Rattle.omh_paths.specs.MemberLaws.{path_count-few, Distinct-ids}
+use Rattle.omh_paths.specs.PathLists.{Distinct-without, length-without, place-cons, place-lt, path_at-step, rest_within, has-at, has-of-without, IsListed-at}
 
 -- ---- ranking
 
@@ -96,7 +98,7 @@ unranked_start n s len index h ids low =
     })
 
 pub some_behind : {n : ℕ} {s : List ℕ} {len index : ℕ} {front left : List ℕ} {rest : ℕ} (r : ℕ) → IsUnranked n s len index front left (suc r) rest → 0 < path_count (length left - 1) r
-some_behind {n} {s} {len} {index} {front} {left} {rest} r h = digits rest (length left) (path_count (length left - 1) r) h.in_range
+some_behind {n} {s} {len} {index} {front} {left} {rest} r h = some_width rest (length left) (path_count (length left - 1) r) h.in_range
 
 pub first_place : {n : ℕ} {s : List ℕ} {len index : ℕ} {front left : List ℕ} {rest : ℕ} (r : ℕ) → IsUnranked n s len index front left (suc r) rest → rest / path_count (length left - 1) r < length left
 first_place {n} {s} {len} {index} {front} {left} {rest} r h = (div-lt_iff_lt-mul (some_behind r h)).1 h.in_range
@@ -165,7 +167,3 @@ pub place_passed : (seen : List ℕ) (x index behind rest : ℕ) → index ≡ l
 place_passed seen x index behind rest is l =
     let more : length (seen ++ x ∷ []) ≡ length seen + 1 = length-append seen (x ∷ []) in
     is ∙ share (length seen) behind rest l ∙ ap (λ (n : ℕ). n * behind + (rest - behind)) (sym more)
-
--- the number that the code counts
-pub behind_is : (behind choices m r : ℕ) → behind ≡ path_count (choices - 1) r → choices ≡ m → behind ≡ path_count (m - 1) r
-behind_is behind choices m r h e = h ∙ ap (λ (k : ℕ). path_count (k - 1) r) e

@@ -10,3 +10,4 @@ pub mod MemberLaws
 pub use Rattle.node_grid.specs.Count
 pub mod VoteLaws
 pub mod Exact
+pub mod Facts

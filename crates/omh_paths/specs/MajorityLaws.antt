@@ -76,7 +76,7 @@ pub majority_is : {V : Type 0} {eq : V → V → Bool} → IsExact eq → (all :
 unfolding majority
 majority_is t all v ok most = first_is t all all v ok most (omega arith)
 
-not_error : {V : Type 0} (x : Wrapped V) → x ≢ Fault 0 → is_error x ≡ false
+pub not_error : {V : Type 0} (x : Wrapped V) → x ≢ Fault 0 → is_error x ≡ false
 not_error (Plain v) h = refl
 not_error (Fault k) h = ne_eqb k 0 (λ e. h (ap Fault e))
 

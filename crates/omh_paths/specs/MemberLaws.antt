@@ -2,12 +2,13 @@
 use Rattle.std.proofs.Common.{ℕ, zero, suc, ◌≡◌, ◌<◌, ◌≤◌, ◌+◌, ◌-◌, ◌*◌, ◌^◌, ap, ◌∙◌, Bool, true, false, ◌||◌, List, ◌∷◌, length, refl, sym, ap₂, subst, inl, inr, arith, ne_eqb, eq-eqb}
 use Rattle.std.specs.Prelude.{◌==◌, ◌&&◌, nat_lt, filter}
 use Rattle.std.specs.List.{range_with_len}
-use Rattle.std.proofs.lemmas.Bool.{cases_Bool, cases_eq, cases_lt, both_ways, cond-true, cond-false, lt-ltb, le-ltb}
+use Rattle.std.proofs.lemmas.Bool.{cases_Bool, cases_eq, cond-true, cond-false, lt-ltb, le-ltb}
 use Rattle.node_grid.specs.Capacity.{IsCapacity}
 use Rattle.node_grid.specs.NodeSet.{has_id, ids_below, IsIdSet, place_of}
-use Rattle.node_grid.specs.NodeSetLaws.{hasnt-above, length-ids, filter_none, filter_filter}
+use Rattle.node_grid.specs.NodeSetLaws.{length-ids, filter_none, filter_filter}
 use Rattle.node_grid.specs.Count.{Distinct}
 use Rattle.std.proofs.Math.Nat.{mul-le-mul, pow-suc}
+use Rattle.node_grid.specs.SetFacts.{member-lt}
 use Rattle.omh_paths.specs.Paths.{path_count, index_in}
 use Rattle.omh_paths.specs.PathLists.{Distinct-filter}
 use Rattle.std.proofs.Math.Bool.{and-false}
@@ -26,12 +27,6 @@ Distinct-ids_below n = Distinct-range 0 n
 
 pub Distinct-ids : (n : ℕ) (s : List ℕ) → IsIdSet n s → Distinct s
 Distinct-ids n s h = subst Distinct (sym h) (Distinct-filter (λ k. has_id s k) (ids_below n) (Distinct-range 0 n))
-
-pub member-lt : (n : ℕ) (s : List ℕ) (q : ℕ) → IsIdSet n s → has_id s q ≡ true → q < n
-member-lt n s q h on = elim (cases_lt q n) [
-  | inl l ↦ l
-  | inr m ↦ absurd (both_ways _ (hasnt-above n s q h m) on)
-]
 
 pub few_ids : (n : ℕ) (s : List ℕ) → IsCapacity n → IsIdSet n s → length s ≤ 16
 few_ids n s h ids = omega (arith, capacity-le n h, length-ids n s ids)

@@ -8,6 +8,9 @@ use Rattle.std.proofs.Math.Nat.{mod-add-div', mul_assoc}
 use Rattle.node_grid.specs.NodeSet.{has_id, without_id}
 use Rattle.node_grid.specs.NodeSetLaws.{filter_filter, has-without_id}
 use Rattle.node_grid.specs.Count.{Distinct}
+use Rattle.node_grid.specs.ListFacts.{length_mapped}
+use Rattle.node_grid.specs.NumberFacts.{same_rest, first_only, digits_fit, some_width}
+use Rattle.node_grid.specs.SetFacts.{has-without, without_other}
 use Rattle.omh_paths.specs.Paths.{same_nodes, outside, paths_avoiding, paths_of_length, path_count, place_in, path_at, index_in, IsListed}
 use Rattle.std.proofs.lemmas.Nat.{mod_below, div_below}
 use Rattle.node_grid.specs.ListLaws.{eqb_sym, has_some}
@@ -85,12 +88,6 @@ Distinct-filter p (x ∷ xs) d =
 pub Distinct-without : (s : List ℕ) (q : ℕ) → Distinct s → Distinct (without_id s q)
 Distinct-without s q d = Distinct-filter (λ k. not (k == q)) s d
 
-without_other : (s : List ℕ) (q : ℕ) → has_id s q ≡ false → without_id s q ≡ s
-without_other [] q h = refl
-without_other (x ∷ xs) q h =
-    let off = or_parts (x == q) (has_id xs q) h in
-    cond-true (not (x == q)) (x ∷ without_id xs q) (without_id xs q) (ap not off.0) ∙ ap (λ (ys : List ℕ). x ∷ ys) (without_other xs q off.1)
-
 -- a set without a member has one member less
 pub length-without : (s : List ℕ) (q : ℕ) → Distinct s → has_id s q ≡ true → length (without_id s q) ≡ length s - 1
 length-without [] q d h = absurd (cc)
@@ -106,9 +103,6 @@ length-without (x ∷ xs) q d h =
           let k : length (without_id (x ∷ xs) q) ≡ suc (length (without_id xs q)) = ap length (cond-true (not (x == q)) (x ∷ without_id xs q) (without_id xs q) (ap not n)) in
           omega (arith, length-without xs q d.1 on)
     ]
-
-pub has-without : (s : List ℕ) (q x : ℕ) → x ≢ q → has_id s x ≡ true → has_id (without_id s q) x ≡ true
-has-without s q x ne on = has-without_id s q x ∙ ap₂ (λ (a b : Bool). not a && b) (ne_eqb x q ne) on
 
 -- ---- places in a list of numbers
 
@@ -182,21 +176,17 @@ pub paths-cons : (s : List ℕ) (r : ℕ) → paths_of_length s (suc r) ≡ flat
 paths-cons s r =
     ap₂ (λ (f : ℕ → List (List ℕ)) (xs : List ℕ). flat_map f xs) (λ i q. map (λ path. q ∷ path) (paths-avoiding_one s q r i)) (outside_nothing s)
 
-length-map : {X Y : Type 0} (f : X → Y) (xs : List X) → length (map f xs) ≡ length xs
-length-map f [] = refl
-length-map f (x ∷ xs) = ap suc (length-map f xs)
-
 pub length-paths : (s : List ℕ) (r : ℕ) → Distinct s → length (paths_of_length s r) ≡ path_count (length s) r
 length-paths s zero d = refl
 length-paths s (suc r) d =
     let here : (q : ℕ) → has_id s q ≡ true → length (map (λ path. q ∷ path) (paths_of_length (without_id s q) r)) ≡ path_count (length s - 1) r =
-    λ q on. length-map (λ path. q ∷ path) (paths_of_length (without_id s q) r) ∙ length-paths (without_id s q) r (Distinct-without s q d) ∙ ap (λ (n : ℕ). path_count n r) (length-without s q d on) in
+    λ q on. length_mapped (λ path. q ∷ path) (paths_of_length (without_id s q) r) ∙ length-paths (without_id s q) r (Distinct-without s q d) ∙ ap (λ (n : ℕ). path_count n r) (length-without s q d on) in
     ap length (paths-cons s r) ∙ length-pieces (λ q. map (λ path. q ∷ path) (paths_of_length (without_id s q) r)) (path_count (length s - 1) r) s here
 
 -- how many stand behind each first node
 length-piece : (s : List ℕ) (r q : ℕ) → Distinct s → has_id s q ≡ true → length (map (λ path. q ∷ path) (paths_of_length (without_id s q) r)) ≡ path_count (length s - 1) r
 length-piece s r q d on =
-    length-map (λ path. q ∷ path) (paths_of_length (without_id s q) r) ∙ length-paths (without_id s q) r (Distinct-without s q d) ∙ ap (λ (n : ℕ). path_count n r) (length-without s q d on)
+    length_mapped (λ path. q ∷ path) (paths_of_length (without_id s q) r) ∙ length-paths (without_id s q) r (Distinct-without s q d) ∙ ap (λ (n : ℕ). path_count n r) (length-without s q d on)
 
 at-map_cons : (q : ℕ) (ps : List (List ℕ)) (j : ℕ) → j < length ps → path_at (map (λ path. q ∷ path) ps) j ≡ q ∷ path_at ps j
 at-map_cons q [] j h = absurd (omega arith)
@@ -217,16 +207,11 @@ path_at-cons s r a b d distinct low within =
 div-mod : (i w : ℕ) → 0 < w → i ≡ i / w * w + i % w
 div-mod i w some = omega (arith, mod-add-div' i w)
 
--- a product's digits
-pub digits : (i n w : ℕ) → i < n * w → 0 < w
-digits i n zero h = absurd (omega arith)
-digits i n (suc w) h = omega arith
-
 pub path_at-step : (s : List ℕ) (r i d : ℕ) → Distinct s → i < path_count (length s) (suc r)
     → path_at (paths_of_length s (suc r)) i ≡ get_or s (i / path_count (length s - 1) r) d ∷ path_at (paths_of_length (without_id s (get_or s (i / path_count (length s - 1) r) d)) r) (i % path_count (length s - 1) r)
 path_at-step s r i d distinct low =
     let w : ℕ = path_count (length s - 1) r in
-    let some : 0 < w = digits i (length s) w low in
+    let some : 0 < w = some_width i (length s) w low in
     let split : i ≡ i / w * w + i % w = omega (arith, div-mod i w some) in
     ap (path_at (paths_of_length s (suc r))) split ∙ path_at-cons s r (i / w) (i % w) d distinct (div_below i w (length s) some low) (mod_below i w some)
 
@@ -272,11 +257,6 @@ place-cons s r c cs d on low =
     ap (λ (ps : List (List ℕ)). place_in ps (c ∷ cs)) (paths-cons s r)
     ∙ place-pieces (λ q. paths_of_length (without_id s q) r) (path_count (length s - 1) r) s c cs
     (λ q h. length-paths (without_id s q) r (Distinct-without s q d) ∙ ap (λ (n : ℕ). path_count n r) (length-without s q d h)) on low
-
-digits_fit : (a b n w : ℕ) → a < n → b < w → a * w + b < n * w
-digits_fit a b zero w h l = absurd (omega arith)
-digits_fit zero b (suc n) w h l = omega arith
-digits_fit (suc a) b (suc n) w h l = omega (arith, digits_fit a b n w (omega arith) l)
 
 -- what is left of a path after its first node is a path of the other members
 pub rest_within : (s : List ℕ) (c : ℕ) (cs : List ℕ) → has_id cs c ≡ false → ((q : ℕ) → has_id (c ∷ cs) q ≡ true → has_id s q ≡ true) → (q : ℕ) → has_id cs q ≡ true → has_id (without_id s c) q ≡ true
@@ -334,7 +314,7 @@ IsListed-at s zero zero d low = record { distinct = tt; within = λ q h. absurd 
 IsListed-at s zero (suc i) d low = absurd (omega arith)
 IsListed-at s (suc r) i d low =
     let w : ℕ = path_count (length s - 1) r in
-    let some : 0 < w = digits i (length s) w low in
+    let some : 0 < w = some_width i (length s) w low in
     let q : ℕ = get_or s (i / w) 0 in
     let on : has_id s q ≡ true = has-at s (i / w) 0 (div_below i w (length s) some low) in
     subst (IsListed s (suc r)) (sym (path_at-step s r i 0 d low))
@@ -347,7 +327,7 @@ place-path_at s zero zero d low = refl
 place-path_at s zero (suc i) d low = absurd (omega arith)
 place-path_at s (suc r) i d low =
     let w : ℕ = path_count (length s - 1) r in
-    let some : 0 < w = digits i (length s) w low in
+    let some : 0 < w = some_width i (length s) w low in
     let a-low : i / w < length s = div_below i w (length s) some low in
     let q : ℕ = get_or s (i / w) 0 in
     let on : has_id s q ≡ true = has-at s (i / w) 0 a-low in
@@ -369,12 +349,6 @@ path_count-last n (suc r) =
     let e : n - 1 - r ≡ n - suc r = omega arith in
     ap (λ (k : ℕ). n * k) (path_count-last (n - 1) r ∙ ap (λ (k : ℕ). path_count (n - 1) r * k) e) ∙ regroup n (path_count (n - 1) r) (n - suc r)
 
-first_only : (k : ℕ) → k < 1 → k ≡ 0
-first_only k h = omega arith
-
-same_rest : (n r : ℕ) → n - 1 - r ≡ n - suc r
-same_rest n r = omega arith
-
 spread : (a b w v j : ℕ) → (a * w + b) * v + j ≡ a * (w * v) + (b * v + j)
 spread a b w v j = omega arith
 
@@ -394,7 +368,7 @@ path_at-push s (suc r) i j d low within =
     let n : ℕ = length s in
     let w : ℕ = path_count (n - 1) r in
     let v : ℕ = n - suc r in
-    let some : 0 < w = digits i n w low in
+    let some : 0 < w = some_width i n w low in
     let a : ℕ = i / w in
     let b : ℕ = i % w in
     let a-low : a < n = div_below i w n some low in

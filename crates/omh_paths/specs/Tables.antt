@@ -1,5 +1,5 @@
 -- The paths without one member, among all paths.
-use Rattle.std.proofs.Common.{ℕ, zero, suc, ◌≡◌, ◌==◌, ◌&&◌, ◌||◌, Bool, true, false, not, List, [], ◌∷◌, ◌++◌, map, refl, sym, ap, ap₂, ◌∙◌, inl, inr}
+use Rattle.std.proofs.Common.{ℕ, zero, suc, ◌≡◌, ◌==◌, ◌||◌, Bool, true, false, not, List, [], ◌∷◌, ◌++◌, map, refl, sym, ap, ap₂, ◌∙◌, inl, inr}
 use Rattle.std.specs.Prelude.{filter}
 use Rattle.std.specs.List.{flat_map}
 use Rattle.std.proofs.lemmas.Bool.{cases_Bool, cond-true, cond-false}
@@ -7,18 +7,13 @@ use Rattle.std.proofs.lemmas.List.Elements.{filter-append}
 use Rattle.std.proofs.lemmas.List.Concat.{flat_map-cons}
 use Rattle.node_grid.specs.NodeSet.{has_id, without_id}
 use Rattle.node_grid.specs.NodeSetLaws.{filter_filter}
+use Rattle.node_grid.specs.TruthFacts.{and_swap}
 use Rattle.omh_paths.specs.Paths.{paths_of_length}
 use Rattle.omh_paths.specs.PathLists.{paths-cons}
 
 -- Law of tables: the paths of r members other than q, in lexicographic order, are those of all paths of r members that q isn't on
 abbrev pub TablesLaw : Type 0
 TablesLaw = (s : List ℕ) (q r : ℕ) → paths_of_length (without_id s q) r ≡ filter (λ path. not (has_id path q)) (paths_of_length s r)
-
-and_swap : (a b : Bool) → (a && b) ≡ (b && a)
-and_swap true true = refl
-and_swap true false = refl
-and_swap false true = refl
-and_swap false false = refl
 
 without_swap : (s : List ℕ) (x q : ℕ) → without_id (without_id s x) q ≡ without_id (without_id s q) x
 without_swap s x q =

@@ -1,19 +1,19 @@
 -- The paths one node longer, and places in a list of what passes a test.
-use Rattle.std.proofs.Common.{ℕ, zero, suc, ◌≡◌, ◌<◌, ◌≤◌, ◌+◌, ◌-◌, ◌==◌, ◌&&◌, ◌||◌, Bool, true, false, not, List, [], ◌∷◌, ◌++◌, map, length, take, get_or, refl, sym, ap, ap₂, subst, ◌∙◌, inl, inr, arith}
+use Rattle.std.proofs.Common.{ℕ, zero, suc, ◌≡◌, ◌<◌, ◌≤◌, ◌+◌, ◌-◌, Bool, true, not, List, [], ◌∷◌, ◌++◌, map, length, take, get_or, refl, sym, ap, ap₂, subst, ◌∙◌, inl, inr, arith}
 use Rattle.std.specs.Prelude.{filter}
 use Rattle.std.specs.List.{flat_map}
 use Rattle.std.proofs.lemmas.Bool.{cases_Bool, cond-true, cond-false}
-use Rattle.std.proofs.lemmas.List.{map-append, append-nil, take_more}
+use Rattle.std.proofs.lemmas.List.{map-append, append-nil}
 use Rattle.std.proofs.lemmas.Simd.{map-map}
 use Rattle.std.proofs.lemmas.List.Concat.{flat_map_single, flat_map-append}
 use Rattle.node_grid.specs.NodeSet.{has_id, without_id, IsIdSet}
-use Rattle.node_grid.specs.NodeSetLaws.{filter_filter}
-use Rattle.node_grid.specs.ListLaws.{has_push, eqb_sym, count-more}
 use Rattle.node_grid.specs.Count.{bit, count}
+use Rattle.node_grid.specs.SetFacts.{count_take}
 use Rattle.omh_paths.specs.Paths.{outside, paths_of_length, path_count, path_at, place_in}
 use Rattle.omh_paths.specs.PathLists.{paths-cons, outside-without, length-paths, length-without, Distinct-without, place-path_at}
 use Rattle.omh_paths.specs.MemberLaws.{Distinct-ids}
 use Rattle.omh_paths.specs.Tables.{tables_law}
+use Rattle.omh_paths.specs.Facts.{outside-push}
 use Rattle.path_order.specs.Order.{pushed, LongerPathsLaw, each_left_out, FreeMembersLaw, passed, CursorsLaw}
 
 -- ---- the paths one node longer
@@ -54,18 +54,9 @@ longer_paths_law members r = longer_paths r members
 
 -- ---- the members outside them
 
-not_either : (a b : Bool) → not (a || b) ≡ (not a && not b)
-not_either true b = refl
-not_either false b = refl
-
-pub outside_push : (members path : List ℕ) (q : ℕ) → outside members (path ++ q ∷ []) ≡ without_id (outside members path) q
-outside_push members path q =
-    ap (λ (t : ℕ → Bool). filter t members) (λ i x. (ap not (has_push path q x) ∙ not_either (has_id path x) (q == x) ∙ ap (λ b. not (has_id path x) && not b) (eqb_sym q x)) i)
-    ∙ sym (filter_filter (λ x. not (has_id path x)) (λ x. not (x == q)) members)
-
 free_behind : (members path : List ℕ) (qs : List ℕ) → map (outside members) (map (λ q. path ++ q ∷ []) qs) ≡ map (without_id (outside members path)) qs
 free_behind members path [] = refl
-free_behind members path (q ∷ qs) = ap₂ (λ x xs. x ∷ xs) (outside_push members path q) (free_behind members path qs)
+free_behind members path (q ∷ qs) = ap₂ (λ x xs. x ∷ xs) (outside-push members path q) (free_behind members path qs)
 
 free_all : (members : List ℕ) (ps : List (List ℕ)) → map (outside members) (flat_map (pushed members) ps) ≡ flat_map each_left_out (map (outside members) ps)
 free_all members [] = refl
@@ -104,12 +95,8 @@ kept_within test (x ∷ xs) (suc k) d low on =
       | inr drops ↦ let e = ap length (cond-false (test x) (x ∷ filter test xs) (filter test xs) drops) in let b = ap bit drops in omega arith
     ]
 
--- one path more
-count_at : {X : Type 0} (test : X → Bool) (xs : List X) (k : ℕ) (d : X) → k < length xs → count test (take (k + 1) xs) ≡ count test (take k xs) + bit (test (get_or xs k d))
-count_at test xs k d low = ap (count test) (take_more xs k d low) ∙ count-more test (take k xs) (get_or xs k d)
-
 pub passed_more : (ps : List (List ℕ)) (q k : ℕ) → k < length ps → passed ps q (k + 1) ≡ passed ps q k + bit (not (has_id (path_at ps k) q))
-passed_more ps q k low = count_at (λ path. not (has_id path q)) ps k [] low
+passed_more ps q k low = count_take (λ path. not (has_id path q)) ps k [] low
 
 -- no more pass a test in front than in all
 count_most : {X : Type 0} (test : X → Bool) (xs : List X) (k : ℕ) → count test (take k xs) ≤ count test xs

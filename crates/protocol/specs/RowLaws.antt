@@ -11,8 +11,8 @@ use Rattle.node_grid.specs.NodeSet.{ids_below, ids_where, has_id, mask_of}
 use Rattle.node_grid.specs.NodeSetLaws.{filter_none}
 use Rattle.node_grid.specs.MaskLaws.{mask-fits, mask-has}
 use Rattle.node_grid.specs.Version.{kind_count, mask_bound}
+use Rattle.node_grid.specs.NumberFacts.{zero_mask}
 use Rattle.frames.specs.Content.{IsRow}
-use Rattle.frames.specs.EntryLaws.{zero_mask}
 use Rattle.protocol.specs.View.{Setting, row_by, empty_row}
 
 -- what holds at each number of a list holds of all that is made of them
@@ -32,10 +32,6 @@ mask-lacks p n k few fails = elim (cases_lt k n) [
 -- where no kind passes, the mask is 0
 pub mask-zero : (p : ℕ → Bool) (n : ℕ) → ((k : ℕ) → p k ≡ false) → mask_of (ids_where p n) ≡ 0
 mask-zero p n fails = ap mask_of (filter_none p 0 n (λ k l u. fails k))
-
--- the kinds of a version
-pub kinds-few : (version : ℕ) → kind_count version ≤ 16
-kinds-few version = elim (version == 1) as (λ b. (if b then 8 else 16) ≤ 16) [ true ↦ omega arith | false ↦ omega arith ]
 
 pub mask-of_version : (version : ℕ) (p : ℕ → Bool) → mask_of (ids_where p (kind_count version)) < mask_bound version
 mask-of_version version p = elim (version == 1) as (λ b. mask_of (ids_where p (if b then 8 else 16)) < (if b then 256 else 65536)) [ true ↦ mask-fits p 8 | false ↦ mask-fits p 16 ]

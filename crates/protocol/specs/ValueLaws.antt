@@ -9,6 +9,7 @@ use Rattle.std.proofs.lemmas.List.FromFn.{get_or-map-range_with_len, length-map-
 use Rattle.frames.specs.Content.{IsValue}
 use Rattle.mme_vote.specs.declared.channel.Channel.{Channel}
 use Rattle.mme_vote.specs.declared.channel.Channel.TheVariants as channel_kind
+use Rattle.frames.specs.Facts.{zero_value}
 use Rattle.agreed_state.specs.declared.config.Inputs.{Inputs}
 use Rattle.agreed_state.specs.Config.{IsConfig, IsChannel}
 use Rattle.protocol.specs.View.{Setting, Kept, cut, value_limit, channel, no_channel, value_at, first_there, own_from, own_value, own_values, own_in, channel_room}
@@ -18,9 +19,6 @@ cut_low v = grind (arith, ints)
 
 pub cut_high : (v : ℤ) → cut v ≤ℤ value_limit
 cut_high v = grind (arith, ints)
-
-pub zero_value : IsValue (pos 0)
-zero_value = record { low = omega (arith, ints); high = omega (arith, ints) }
 
 -- what stands in a list of values, and 0 behind it
 value_there : (xs : List ℤ) (k : ℕ) → All IsValue xs → IsValue (slice_index_or xs k (pos 0))

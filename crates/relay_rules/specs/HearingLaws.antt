@@ -1,28 +1,28 @@
 -- What a slot leaves of a table that holds what was heard before it.
-use Rattle.std.proofs.Common.{ℕ, zero, suc, ◌≡◌, ◌≢◌, ◌<◌, ◌+◌, ◌==◌, ◌||◌, ◌&&◌, Bool, true, false, not, if◌then◌else◌, List, [], ◌∷◌, ◌++◌, length, map, filter, refl, sym, ap, ap₂, subst, ◌∙◌, inl, inr, arith, eq-eqb, eqb-true, ne_eqb}
+use Rattle.std.proofs.Common.{ℕ, zero, suc, ◌≡◌, ◌≢◌, ◌<◌, ◌+◌, ◌==◌, ◌||◌, ◌&&◌, Bool, true, false, not, if◌then◌else◌, List, [], ◌∷◌, ◌++◌, length, map, filter, refl, sym, ap, subst, ◌∙◌, inl, inr, arith, eq-eqb, ne_eqb}
 use Rattle.std.specs.List.{AllByRecursion}
 use Rattle.std.proofs.lemmas.Bool.{cases_Bool, cases_eq, cond-true, cond-false, both_ways, or_cases, or_left, or_right, and_from}
 use Rattle.std.proofs.lemmas.List.{length_push}
 use Rattle.node_grid.specs.NodeSet.{has_id, without_id, IsIdSet}
 use Rattle.node_grid.specs.Count.{Distinct}
+use Rattle.node_grid.specs.ListFacts.{map_map}
+use Rattle.node_grid.specs.SetFacts.{split_off, front_distinct, has-without, member-lt}
+use Rattle.node_grid.specs.TruthFacts.{or_of_three}
 use Rattle.omh_paths.specs.declared.wrapped.Wrapped.{Wrapped}
-use Rattle.omh_paths.specs.Paths.{same_nodes, paths_of_length, place_in, path_at}
+use Rattle.omh_paths.specs.Paths.{same_nodes, paths_of_length, place_in}
 use Rattle.node_grid.specs.ListLaws.{has_push}
-use Rattle.omh_paths.specs.PathLists.{same_nodes-tells, same_nodes-finds, length-paths, IsListed-at, Distinct-without, place-lt, has-without}
-use Rattle.omh_paths.specs.MemberLaws.{Distinct-ids, member-lt}
+use Rattle.omh_paths.specs.PathLists.{same_nodes-tells, same_nodes-finds, length-paths, IsListed-at, Distinct-without, place-lt}
+use Rattle.omh_paths.specs.MemberLaws.{Distinct-ids}
+use Rattle.omh_paths.specs.Facts.{all_at}
 use Rattle.omh.specs.Heard.{entry, heard_paths}
 use Rattle.omh.specs.HeardLaws.{IsHeardPath, entries_alike}
 use Rattle.relay_rules.specs.Hearing.{has_path, told_to, pushed, paths_from, paths_told, all_told}
 
 -- ---- paths of two lists
 
-or_assoc : (a b c : Bool) → (a || (b || c)) ≡ ((a || b) || c)
-or_assoc true b c = refl
-or_assoc false b c = refl
-
 pub has_path-append : (ps qs : List (List ℕ)) (p : List ℕ) → has_path (ps ++ qs) p ≡ (has_path ps p || has_path qs p)
 has_path-append [] qs p = refl
-has_path-append (x ∷ ps) qs p = ap (λ (c : Bool). same_nodes x p || c) (has_path-append ps qs p) ∙ or_assoc (same_nodes x p) (has_path ps p) (has_path qs p)
+has_path-append (x ∷ ps) qs p = ap (λ (c : Bool). same_nodes x p || c) (has_path-append ps qs p) ∙ or_of_three (same_nodes x p) (has_path ps p) (has_path qs p)
 
 -- ---- paths end in a node
 
@@ -35,20 +35,6 @@ pub split : (path : List ℕ) → 0 < length path → Split path
 split [] h = absurd (omega arith)
 split (x ∷ []) h = record { front = []; last = x; is = refl }
 split (x ∷ y ∷ ys) h = let r = split (y ∷ ys) (omega arith) in record { front = x ∷ r.front; last = r.last; is = ap (λ (zs : List ℕ). x ∷ zs) r.is }
-
-pub front_distinct : (path : List ℕ) (q : ℕ) → Distinct (path ++ q ∷ []) → Distinct path
-front_distinct [] q d = tt
-front_distinct (x ∷ xs) q d = (left (has_id xs x) (q == x) (sym (has_push xs q x) ∙ d.0), front_distinct xs q d.1) where
-  left : (a b : Bool) → (a || b) ≡ false → a ≡ false
-  left true b h = cc
-  left false b h = refl
-
-pub last_off : (path : List ℕ) (q : ℕ) → Distinct (path ++ q ∷ []) → has_id path q ≡ false
-last_off [] q d = refl
-last_off (x ∷ xs) q d = elim (cases_Bool (x == q)) [
-  | inl y ↦ absurd (both_ways _ d.0 (has_push xs q x ∙ or_right (has_id xs x) (q == x) (eq-eqb q x (sym (eqb-true x q y)))))
-  | inr n ↦ ap₂ (λ (a b : Bool). a || b) n (last_off xs q d.1)
-]
 
 -- ---- which paths are told of
 
@@ -88,10 +74,6 @@ kept_listed f (x ∷ ps) p h = elim (cases_Bool (f x)) [
   ]
   | inr drops ↦ or_right (same_nodes x p) _ (kept_listed f ps p (ap (λ (ys : List (List ℕ)). has_path ys p) (sym (cond-false (f x) (x ∷ filter f ps) (filter f ps) drops)) ∙ h))
 ]
-
-pub all_at : (P : List ℕ → Type 0) (ps : List (List ℕ)) → ((k : ℕ) → k < length ps → P (path_at ps k)) → AllByRecursion P ps
-all_at P [] h = tt
-all_at P (p ∷ ps) h = (h 0 (omega arith), all_at P ps (λ k l. h (suc k) (omega arith)))
 
 length_pushed : (r q : ℕ) (ps : List (List ℕ)) (p : List ℕ) → AllByRecursion (λ x. length x ≡ r) ps → has_path (map (λ x. x ++ q ∷ []) ps) p ≡ true → length p ≡ suc r
 length_pushed r q [] p a h = cc
@@ -136,7 +118,7 @@ tells_of members me rounds n r p c ids real long =
     let dp : Distinct (c.front ++ q ∷ []) = subst Distinct c.is real.distinct in
     let len : length c.front ≡ r = (let e = length_push c.front q in let f = ap length c.is in omega arith) in
     let s : List ℕ = without_id members q in
-    let off-q : has_id c.front q ≡ false = last_off c.front q dp in
+    let off-q : has_id c.front q ≡ false = split_off c.front q dp in
     let inside : (x : ℕ) → has_id c.front x ≡ true → has_id s x ≡ true = λ x x-on.
     has-without members q x (λ e. both_ways _ off-q (ap (has_id c.front) (sym e) ∙ x-on))
     (real.within x (ap (λ (y : List ℕ). has_id y x) c.is ∙ has_push c.front q x ∙ or_left (has_id c.front x) (q == x) x-on)) in
@@ -158,10 +140,6 @@ told_is members me rounds n r p ids real = elim (cases_eq (length p) (suc r)) [
     | inr none ↦ none ∙ sym (ne_eqb (length p) (suc r) ne)
   ]
 ]
-
-pub map_map : {X Y Z : Type 0} (f : X → Y) (g : Y → Z) (xs : List X) → map g (map f xs) ≡ map (λ x. g (f x)) xs
-map_map f g [] = refl
-map_map f g (x ∷ xs) = ap (λ ys. g (f x) ∷ ys) (map_map f g xs)
 
 -- what was heard after a slot, where what was heard before it is tabulated, and both are told by h
 pub slot_tabled : {V : Type 0} (f g h : List ℕ → Wrapped V) (members : List ℕ) (me rounds n r : ℕ) → IsIdSet n members

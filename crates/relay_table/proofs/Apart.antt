@@ -4,15 +4,16 @@ use Rattle.std.specs.Prelude.{if◌then◌else◌}
 use Rattle.std.proofs.lemmas.Bool.{cases_Bool, cond-true, cond-false}
 use Rattle.node_grid.specs.NodeSet.{has_id, without_id}
 use Rattle.node_grid.specs.Count.{bit, count, Distinct}
+use Rattle.node_grid.specs.NodeSetLaws.{has_filtered}
 use Rattle.omh_paths.specs.declared.wrapped.Wrapped.{Wrapped}
-use Rattle.omh_paths.specs.declared.wrapped.Wrapped.TheVariants.{Plain, Fault}
+use Rattle.omh_paths.specs.declared.wrapped.Wrapped.TheVariants.{Fault}
 use Rattle.omh_paths.specs.Wrapped.{IsExact, same, is_error, wrapped, unwrapped}
 use Rattle.omh_paths.specs.Majority.{majority}
 use Rattle.omh_paths.specs.Paths.{outside}
 use Rattle.omh_paths.specs.PathLists.{Distinct-filter}
+use Rattle.omh_paths.specs.Facts.{other_error}
 use Rattle.omh.specs.Omh.{Ear, own_term, settled_within}
 use Rattle.relay_terms.specs.TallyLaws.{majority_by_counts}
-use Rattle.relay_walk.specs.WalkLaws.{has_kept}
 use Rattle.relay_table.specs.Settling.{own_said}
 use Rattle.relay_table.proofs.Walks.{without_outside}
 
@@ -49,16 +50,12 @@ count_apart {V} test own t me (x ∷ xs) d none =
           omega arith
     ]
 
-no_error_same : {V : Type 0} (eq : V → V → Bool) (y : Wrapped V) → is_error y ≡ false → same eq y (Fault 0) ≡ false
-no_error_same eq (Plain v) ok = refl
-no_error_same eq (Fault k) ok = ok
-
 apart : {V : Type 0} {eq : V → V → Bool} → IsExact eq → (own : Wrapped V) (t : ℕ → Wrapped V) (me : ℕ) (xs : List ℕ) → Distinct xs
     → majority eq (map (among own t me) xs) ≡ majority eq (own_in own me xs ∷ map t (without_id xs me))
 apart {V} {eq} exact own t me xs d =
     majority_by_counts exact (map (among own t me) xs) (own_in own me xs ∷ map t (without_id xs me))
     (count_apart (λ y. not (is_error y)) own t me xs d refl)
-    (λ y ok. count_apart (same eq y) own t me xs d (no_error_same eq y ok))
+    (λ y ok. count_apart (same eq y) own t me xs d (other_error eq y ok))
 
 -- ---- what a node settles for a path that it isn't on
 
@@ -69,7 +66,7 @@ own_either false true w = refl
 own_either false false w = refl
 
 still_there : (members path : List ℕ) (me : ℕ) → has_id path me ≡ false → has_id (outside members path) me ≡ has_id members me
-still_there members path me off = has_kept (λ x. not (has_id path x)) members me ∙ ap (λ (b : Bool). not b && has_id members me) off
+still_there members path me off = has_filtered (λ x. not (has_id path x)) members me ∙ ap (λ (b : Bool). not b && has_id members me) off
 
 pub settles : {V : Type 0} {eq : V → V → Bool} → IsExact eq → (x : Ear V) (others path : List ℕ) (r : ℕ) → Distinct x.members → others ≡ without_id x.members x.me → has_id path x.me ≡ false
     → settled_within eq x (suc r) path ≡ unwrapped (majority eq (own_said x.full x.members x.me (x.heard path) ∷ map (λ q. settled_within eq x r (path ++ q ∷ [])) (outside others path)))

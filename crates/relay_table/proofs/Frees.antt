@@ -8,8 +8,8 @@ use Rattle.node_grid.specs.NodeSet.{without_id, IsIdSet}
 use Rattle.omh_paths.specs.Paths.{outside, paths_of_length, path_count, path_at}
 use Rattle.omh_paths.specs.PathLists.{outside_nothing, length-paths}
 use Rattle.omh_paths.specs.MemberLaws.{Distinct-ids}
+use Rattle.omh_paths.specs.Facts.{more_paths}
 use Rattle.omh.specs.Flat.{section_at}
-use Rattle.omh.specs.FlatLaws.{path_count-mono}
 use Rattle.path_order.specs.Order.{each_left_out, free_members}
 use Rattle.path_order.specs.OrderLaws.{free_members_law}
 use Rattle.relay_walk.specs.Laid.{laid}
@@ -162,4 +162,4 @@ none_free m sets is (suc s) k low few = absurd (omega arith)
 -- for more members there are more sets
 pub begins-few : (n m r : ℕ) → n ≤ m → free_begins n r ≤ free_begins m r
 begins-few n m zero h = omega arith
-begins-few n m (suc r) h = omega (arith, begins-few n m r h, path_count-mono n m r h)
+begins-few n m (suc r) h = omega (arith, begins-few n m r h, more_paths n m r h)

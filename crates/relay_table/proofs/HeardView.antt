@@ -1,17 +1,17 @@
 -- What was heard by path, as it lies flat over the other members.
 use Rattle.std.proofs.Common.{ℕ, zero, suc, ◌≡◌, ◌≢◌, ◌<◌, ◌≤◌, ◌+◌, ◌-◌, ◌*◌, ◌==◌, Bool, true, List, [], ◌∷◌, ◌++◌, length, map, get_or, refl, sym, ap, ap₂, subst, ◌∙◌, inl, inr, arith, eq-eqb, ne_eqb}
 use Rattle.std.specs.Prelude.{nat_le, if◌then◌else◌, Option}
-use Rattle.std.proofs.lemmas.Bool.{cases_Bool, cases_lt, cases_eq, le-leb, lt-leb, cond-true, cond-false, both_ways}
+use Rattle.std.proofs.lemmas.Bool.{cases_Bool, cases_lt, cases_eq, le-leb, lt-leb, cond-true, cond-false}
 use Rattle.std.proofs.lemmas.List.{get_or-map, length-map, length_push}
 use Rattle.node_grid.specs.NodeSet.{has_id, without_id, IsIdSet}
 use Rattle.node_grid.specs.Count.{Distinct}
 use Rattle.omh_paths.specs.declared.wrapped.Wrapped.{Wrapped}
 use Rattle.omh_paths.specs.declared.wrapped.Wrapped.TheVariants.{Fault}
 use Rattle.omh_paths.specs.Paths.{outside, paths_of_length, path_count, place_in, index_in, IsListed}
-use Rattle.omh_paths.specs.PathLists.{length-paths, place-lt, path_at-place, place-path_at, IsListed-at, Distinct-without, has-of-without, has-without, index_in-lt, at-index_in, length-outside, path_count-last, path_at-push}
+use Rattle.omh_paths.specs.PathLists.{length-paths, place-lt, path_at-place, place-path_at, IsListed-at, Distinct-without, has-of-without, index_in-lt, at-index_in, length-outside, path_count-last, path_at-push}
 use Rattle.omh_paths.specs.MemberLaws.{Distinct-ids}
 use Rattle.omh.specs.Heard.{Entry, Hearing, entry, heard_in, heard_paths, nothing_heard, ear_of}
-use Rattle.omh.specs.HeardLaws.{IsHeardPath, heard_in-at, entries_alike, has-without-me}
+use Rattle.omh.specs.HeardLaws.{IsHeardPath, heard_in-at, entries_alike, has-without-me, within_others}
 use Rattle.omh.specs.Flat.{section_at, flat_heard}
 use Rattle.omh.specs.FlatLaws.{section_at-le}
 use Rattle.relay_walk.specs.Laid.{laid}
@@ -27,10 +27,6 @@ kept_where most others flat path low = cond-true (nat_le (length path) most) (fl
 
 pub not_kept : {V : Type 0} (most : ℕ) (others : List ℕ) (flat : List (Wrapped V)) (path : List ℕ) → most < length path → kept_heard most others flat path ≡ Fault 0
 not_kept most others flat path high = cond-false (nat_le (length path) most) (flat_heard (length others) others flat path) (Fault 0) (lt-leb (length path) most high)
-
--- paths of other members
-pub others_of : {members : List ℕ} {me rounds : ℕ} {path : List ℕ} → IsHeardPath members me rounds path → (q : ℕ) → has_id path q ≡ true → has_id (without_id members me) q ≡ true
-others_of {members} {me} {rounds} {path} h q on = has-without members me q (λ e. both_ways _ h.other (ap (has_id path) (sym e) ∙ on)) (h.within q on)
 
 real_path : (n : ℕ) (members others : List ℕ) (me rounds len k : ℕ) → IsIdSet n members → others ≡ without_id members me → 0 < len → len ≤ rounds + 1 → k < path_count (length others) len → IsHeardPath members me rounds (other_path others len k)
 real_path n members others me rounds len k ids is some short low =
@@ -73,7 +69,7 @@ module _ {V : Type 0} (n : ℕ) (members : List ℕ) (me rounds most r : ℕ) (i
   place path = place_in (paths_of_length others (length path)) path
 
   in_section : (path : List ℕ) → IsHeardPath members me rounds path → place path < path_count (length others) (length path)
-  in_section path real = place-lt others path dist real.distinct (others_of real)
+  in_section path real = place-lt others path dist real.distinct (within_others real)
 
   heard_here : r + 1 ≤ most → section_at (length others) (suc r) ≤ length flat → (path : List ℕ) → IsHeardPath members me rounds path → length path ≡ r + 1 → kept_heard most others after path ≡ says path
   heard_here kept room path real e =

@@ -8,6 +8,7 @@ use Rattle.std.proofs.lemmas.List.{get_or-drop, get_or-take, get_or-map, ext_get
 use Rattle.node_grid.specs.Capacity.{IsCapacity}
 use Rattle.node_grid.specs.NodeSet.{has_id, without_id, IsIdSet}
 use Rattle.node_grid.specs.Count.{bit, count, Distinct}
+use Rattle.node_grid.specs.NumberFacts.{next_is}
 use Rattle.omh_paths.specs.declared.wrapped.Wrapped.{Wrapped}
 use Rattle.omh_paths.specs.declared.wrapped.Wrapped.TheVariants.{Fault}
 use Rattle.omh_paths.specs.Wrapped.{IsExact, unwrapped}
@@ -160,15 +161,12 @@ passed_all n members others me r k ids is past =
 
 -- ---- shorter paths
 
-next_len : (len : ℕ) → len + 1 ≡ suc len
-next_len len = omega arith
-
 -- the terms of the paths behind the k-th one are there
 pub terms_fit : (n len k room : ℕ) → k < path_count n len → path_count n (len + 1) ≤ room → k * (n - len) + (n - len) ≤ room
 terms_fit n len k room low fits =
     let m : (k + 1) * (n - len) ≤ path_count n len * (n - len) = mul-le-mul (omega arith) (le-refl (n - len)) in
     let e : (k + 1) * (n - len) ≡ k * (n - len) + (n - len) = omega arith in
-    let all : path_count n (len + 1) ≡ path_count n len * (n - len) = ap (path_count n) (next_len len) ∙ path_count-last n len in
+    let all : path_count n (len + 1) ≡ path_count n len * (n - len) = ap (path_count n) (next_is len) ∙ path_count-last n len in
     omega (arith, m, e, all, fits)
   where
     le-refl : (n : ℕ) → n ≤ n
@@ -205,14 +203,14 @@ module _ {V : Type 0} {eq : V → V → Bool} (exact : IsExact eq) (n : ℕ) (me
   wide = let l = length-outside others here dist listed.distinct listed.within in omega (arith, l, listed.long)
 
   all_children : path_count (length others) (len + 1) ≡ path_count (length others) len * w
-  all_children = ap (path_count (length others)) (next_len len) ∙ path_count-last (length others) len
+  all_children = ap (path_count (length others)) (next_is len) ∙ path_count-last (length others) len
 
   child : (i : ℕ) → i < w → get_or now (k * w + i) (Fault 0) ≡ settled_within eq x (rounds - len) (here ++ get_or (outside others here) i 0 ∷ [])
   child i within =
       let c = child_low k (path_count (length others) len) w i low within in
       let below : k * w + i < path_count (length others) (len + 1) = omega (arith, c, all_children) in
       let path : other_path others (len + 1) (k * w + i) ≡ here ++ get_or (outside others here) i 0 ∷ [] =
-      ap (λ (l : ℕ). path_at (paths_of_length others l) (k * w + i)) (next_len len) ∙ path_at-push others len k i dist low within in
+      ap (λ (l : ℕ). path_at (paths_of_length others l) (k * w + i)) (next_is len) ∙ path_at-push others len k i dist low within in
       let times : x.rounds + 1 - length (here ++ get_or (outside others here) i 0 ∷ []) ≡ rounds - len =
       omega (arith, kept.rounds_are, length_push here (get_or (outside others here) i 0), listed.long) in
       rest (k * w + i) (ahead k w i within) ∙ longer (k * w + i) below

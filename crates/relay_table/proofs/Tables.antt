@@ -6,10 +6,11 @@ use Rattle.std.proofs.lemmas.List.{take_all, drop_all, length-map, length-take, 
 use Rattle.node_grid.specs.Capacity.{IsCapacity}
 use Rattle.node_grid.specs.NodeSetLaws.{filter_none}
 use Rattle.node_grid.specs.NodeSet.{has_id, without_id, ids_below, IsIdSet}
+use Rattle.node_grid.specs.SetFacts.{has-without}
 use Rattle.omh_paths.specs.declared.wrapped.Wrapped.{Wrapped}
 use Rattle.omh_paths.specs.declared.wrapped.Wrapped.TheVariants.{Plain, Fault}
 use Rattle.omh_paths.specs.Paths.{paths_of_length, path_count, index_in}
-use Rattle.omh_paths.specs.PathLists.{has-without, index_in-lt, IsListed-at, length-paths}
+use Rattle.omh_paths.specs.PathLists.{index_in-lt, IsListed-at, length-paths}
 use Rattle.omh.specs.Omh.{Ear, settled_from, settled_at, settled_within}
 use Rattle.omh.specs.Heard.{Entry, Hearing, ear_of, heard_in, nothing_heard, forgotten}
 use Rattle.omh.specs.Flat.{section_at}

@@ -1,28 +1,29 @@
 -- Going through all paths of a length, with the frames of their round side by side.
-use Rattle.std.proofs.Common.{ℕ, zero, suc, ◌≡◌, ◌<◌, ◌≤◌, ◌+◌, ◌-◌, ◌==◌, ◌&&◌, Bool, true, false, not, List, [], ◌∷◌, ◌++◌, length, map, take, drop, refl, sym, ap, ap₂, subst, ◌∙◌, inl, inr, arith, append-nil}
+use Rattle.std.proofs.Common.{ℕ, zero, suc, ◌≡◌, ◌<◌, ◌≤◌, ◌+◌, ◌==◌, ◌&&◌, Bool, true, false, not, List, [], ◌∷◌, ◌++◌, length, map, take, drop, refl, sym, ap, ap₂, subst, ◌∙◌, inl, inr, arith, append-nil}
 use Rattle.std.specs.Prelude.{filter, if◌then◌else◌, slice_index, Option, Some, None}
 use Rattle.std.specs.List.{flat_map}
 use Rattle.std.proofs.lemmas.Bool.{cases_Bool, cond-true, cond-false, and_parts, not-true}
-use Rattle.std.proofs.lemmas.List.{take_all, flat_map_more, length_push, get_or_push, length-map, map-append, length-append}
+use Rattle.std.proofs.lemmas.List.{take_all, flat_map_more, length-map, map-append, length-append}
 use Rattle.std.proofs.lemmas.List.Elements.{filter_more}
 use Rattle.node_grid.specs.Capacity.{IsCapacity}
 use Rattle.node_grid.specs.NodeSet.{has_id, without_id, IsIdSet}
-use Rattle.node_grid.specs.NodeSetLaws.{has-without_id}
+use Rattle.node_grid.specs.NodeSetLaws.{has-without_id, has_filtered}
+use Rattle.node_grid.specs.SetFacts.{member-lt}
 use Rattle.omh_paths.specs.declared.wrapped.Wrapped.{Wrapped}
 use Rattle.omh_paths.specs.Paths.{outside, paths_of_length, path_count, path_at, IsListed}
 use Rattle.omh_paths.specs.PathLists.{outside-cons, outside-without, length-paths, IsListed-at}
-use Rattle.omh_paths.specs.MemberLaws.{Distinct-ids, member-lt}
+use Rattle.omh_paths.specs.MemberLaws.{Distinct-ids}
 use Rattle.omh_paths.specs.Tables.{tables_law}
-use Rattle.omh.specs.Written.{last_node}
 use Rattle.frames.specs.Reading.{pieces_of_width}
 use Rattle.path_order.specs.Order.{pushed}
 use Rattle.frames.specs.Reading.{pieces_of_width}
 use Rattle.path_order.specs.OrderLaws.{longer_paths_law, cursors_law}
+use Rattle.omh.specs.Facts.{last_push}
 use Rattle.relay_walk.specs.declared.round.Round.{Round}
 use Rattle.relay_walk.specs.Laid.{laid}
 use Rattle.relay_walk.specs.LaidLaws.{laid_none, laid_twice}
 use Rattle.relay_walk.specs.Walking.{says, entries_of, next_in, HaveNext, IsMoved, IsWalk}
-use Rattle.relay_walk.specs.WalkLaws.{walk_step, has_next, next_is, free_tells, has_kept}
+use Rattle.relay_walk.specs.WalkLaws.{walk_step, has_next, next_is, free_tells}
 use Rattle.relay_walk.proofs.Loops.{map_on}
 use Rattle.relay_table.specs.Tabled.{told_in}
 use Rattle.relay_table.specs.Settling.{is_on_path, told_behind}
@@ -38,9 +39,6 @@ off_before members me r k = filter (off me) (take k (paths_of_length members r))
 -- the members outside the path but for the node itself are the others outside it
 pub without_outside : (members path : List ℕ) (me : ℕ) → without_id (outside members path) me ≡ outside (without_id members me) path
 without_outside members path me = sym (outside-cons members me path) ∙ sym (outside-without members me path)
-
-last_push : (path : List ℕ) (q : ℕ) → last_node (path ++ q ∷ []) ≡ q
-last_push path q = get_or_push path q 0 (length (path ++ q ∷ []) - 1) (let e = length_push path q in omega arith)
 
 -- ---- frames that moved say the same
 
@@ -100,12 +98,12 @@ module _ (n : ℕ) (members others : List ℕ) (me r k : ℕ) (ids : IsIdSet n m
 
   outside_tells : (q : ℕ) → has_id (outside members path) q ≡ true → (has_id members q ≡ true) × (has_id path q ≡ false)
   outside_tells q on =
-      let both = and_parts (not (has_id path q)) (has_id members q) (sym (has_kept (λ x. not (has_id path x)) members q) ∙ on) in
+      let both = and_parts (not (has_id path q)) (has_id members q) (sym (has_filtered (λ x. not (has_id path x)) members q) ∙ on) in
       (both.1, not-true _ both.0)
 
   -- whether the node is on the path, as the code tells it
   pub on_path : is_on_path members me (outside members path) ≡ has_id path me
-  on_path = ap (λ (b : Bool). has_id members me && not b) (has_kept (λ x. not (has_id path x)) members me) ∙ either_way (has_id members me) (has_id path me) (listed.within me)
+  on_path = ap (λ (b : Bool). has_id members me && not b) (has_filtered (λ x. not (has_id path x)) members me) ∙ either_way (has_id members me) (has_id path me) (listed.within me)
 
   -- each frame that is read for the path has its entry
   pub have_next : IsCapacity n → (round : Round n) → IsWalk members others r k round → HaveNext (without_id (outside members path) me) round

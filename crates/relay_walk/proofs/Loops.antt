@@ -1,14 +1,15 @@
 -- A loop over members that reads an entry of the frame of each.
-use Rattle.std.proofs.Common.{ℕ, ◌≡◌, ◌<◌, ◌+◌, ◌*◌, ◌-◌, ◌==◌, ◌||◌, Bool, true, false, List, [], ◌∷◌, ◌++◌, length, map, take, drop, refl, sym, ap, ap₂, subst, ◌∙◌, inl, inr, arith, eq-eqb, eqb-true, append_assoc, append-nil}
+use Rattle.std.proofs.Common.{ℕ, ◌≡◌, ◌<◌, ◌+◌, ◌*◌, ◌-◌, ◌==◌, ◌||◌, Bool, true, false, List, [], ◌∷◌, ◌++◌, length, map, take, drop, refl, sym, ap, ap₂, subst, ◌∙◌, inl, inr, arith, eq-eqb, eqb-true, append-nil}
 use Rattle.std.specs.Prelude.{slice_index}
 use Rattle.std.proofs.lemmas.Bool.{cases_Bool, cond-false, both_ways, or_cases, or_left, or_right}
 use Rattle.std.proofs.lemmas.List.{map-append, length-append}
 use Rattle.node_grid.specs.NodeSet.{has_id, IsIdSet}
 use Rattle.node_grid.specs.Count.{bit, Distinct}
 use Rattle.node_grid.specs.ListLaws.{has_push}
+use Rattle.node_grid.specs.SetFacts.{has_middle, member-lt}
 use Rattle.omh_paths.specs.declared.wrapped.Wrapped.{Wrapped}
 use Rattle.omh_paths.specs.declared.wrapped.Wrapped.TheVariants.{Fault}
-use Rattle.omh_paths.specs.MemberLaws.{Distinct-ids, member-lt}
+use Rattle.omh_paths.specs.MemberLaws.{Distinct-ids}
 use Rattle.relay_walk.specs.declared.round.Round.{Round}
 use Rattle.relay_walk.specs.Walking.{says_at, next_in, last_in, IsEntryAt, HaveNext, HaveLast, IsMoved}
 
@@ -19,10 +20,6 @@ pub record IsTurn (n : ℕ) (members ys : List ℕ) (q : ℕ) : Type 0 where
   pub on : has_id members q ≡ true
   pub fresh : has_id ys q ≡ false
   pub short : length ys < length members
-
-has_middle : (ys : List ℕ) (q : ℕ) (rest : List ℕ) → has_id (ys ++ q ∷ rest) q ≡ true
-has_middle [] q rest = or_left (q == q) (has_id rest q) (eq-eqb q q refl)
-has_middle (y ∷ ys) q rest = or_right (y == q) (has_id (ys ++ q ∷ rest) q) (has_middle ys q rest)
 
 new_there : (ys : List ℕ) (q : ℕ) (rest : List ℕ) → Distinct (ys ++ q ∷ rest) → has_id ys q ≡ false
 new_there [] q rest d = refl
@@ -41,9 +38,6 @@ turn n members ys rest left q ids split steps =
       fresh = new_there ys q rest (subst Distinct all (Distinct-ids n members ids));
       short = let e = ap length all in let l = length-append ys (q ∷ rest) in omega arith;
     }
-
-pub split_more : (members ys rest left : List ℕ) (q : ℕ) → members ≡ ys ++ left → left ≡ q ∷ rest → members ≡ (ys ++ q ∷ []) ++ rest
-split_more members ys rest left q split steps = split ∙ ap (λ (xs : List ℕ). ys ++ xs) steps ∙ sym (append_assoc ys (q ∷ []) rest)
 
 pub split_all : (members ys left : List ℕ) → members ≡ ys ++ left → left ≡ [] → ys ≡ members
 split_all members ys left split none = sym (split ∙ ap (λ (xs : List ℕ). ys ++ xs) none ∙ append-nil ys)

@@ -1,13 +1,12 @@
 -- The next entry of a frame is what it says of the next path.
-use Rattle.std.proofs.Common.{ℕ, ◌≡◌, ◌<◌, ◌≤◌, ◌+◌, ◌*◌, ◌-◌, ◌/◌, ◌==◌, ◌&&◌, Bool, true, not, List, [], ◌∷◌, ◌++◌, length, map, take, drop, sym, ap, ap₂, subst, ◌∙◌, inl, inr, arith, eqb-true}
-use Rattle.std.specs.Prelude.{slice_index, slice_index_or, filter, Option, Some, None}
+use Rattle.std.proofs.Common.{ℕ, ◌≡◌, ◌<◌, ◌≤◌, ◌+◌, ◌*◌, ◌-◌, ◌/◌, ◌==◌, ◌&&◌, Bool, true, not, List, [], ◌∷◌, ◌++◌, length, map, take, drop, sym, ap, ap₂, subst, ◌∙◌, inl, inr, arith}
+use Rattle.std.specs.Prelude.{slice_index, slice_index_or, Option, Some, None}
 use Rattle.std.proofs.Math.Nat.{mul-add, mul-le-mul, mul-div_cancel_left}
 use Rattle.std.proofs.Math.Bool.{and-true}
 use Rattle.std.proofs.lemmas.Bool.{cases_Bool, cond-true, cond-false, and_parts}
-use Rattle.std.proofs.lemmas.Map.Views.{any-filter_same}
 use Rattle.std.proofs.lemmas.List.{take_at, drop-drop, take-take, drop-take, length-take, length-drop}
 use Rattle.node_grid.specs.NodeSet.{has_id, without_id, IsIdSet}
-use Rattle.node_grid.specs.NodeSetLaws.{has-without_id}
+use Rattle.node_grid.specs.NodeSetLaws.{has-without_id, has_filtered}
 use Rattle.node_grid.specs.Count.{bit}
 use Rattle.omh_paths.specs.declared.wrapped.Wrapped.{Wrapped}
 use Rattle.omh_paths.specs.declared.wrapped.Wrapped.TheVariants.{Fault}
@@ -136,12 +135,9 @@ next_is {V} {N} read n members others r k q round ids walk on next long = elim (
     below_quotient : (w m p : ℕ) → 0 < w → p < m → p < (w * m) / w
     below_quotient w m p wide low = let e : w * m / w ≡ m = mul-div_cancel_left m wide in omega (arith, e)
 
-pub has_kept : (p : ℕ → Bool) (xs : List ℕ) (x : ℕ) → has_id (filter p xs) x ≡ (p x && has_id xs x)
-has_kept p xs x = any-filter_same (λ y. y == x) p (p x) (λ k e. ap p (eqb-true k x e)) xs
-
 -- of the others, those outside a path are read for it
 pub free_tells : (members path : List ℕ) (me q : ℕ) → has_id (without_id members me) q ≡ true → has_id (without_id (outside members path) me) q ≡ not (has_id path q)
 free_tells members path me q on =
     let both = and_parts (not (q == me)) (has_id members q) (sym (has-without_id members me q) ∙ on) in
     has-without_id (outside members path) me q
-    ∙ ap₂ (λ (a b : Bool). a && b) both.0 (has_kept (λ x. not (has_id path x)) members q ∙ ap (λ (b : Bool). not (has_id path q) && b) both.1 ∙ and-true (not (has_id path q)))
+    ∙ ap₂ (λ (a b : Bool). a && b) both.0 (has_filtered (λ x. not (has_id path x)) members q ∙ ap (λ (b : Bool). not (has_id path q) && b) both.1 ∙ and-true (not (has_id path q)))

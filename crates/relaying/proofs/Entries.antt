@@ -1,36 +1,33 @@
 -- What a relay frame says of a path that ends in its sender.
-use Rattle.std.proofs.Common.{ℕ, ◌≡◌, ◌<◌, ◌+◌, ◌-◌, ◌==◌, true, false, List, [], ◌∷◌, ◌++◌, length, map, take, get_or, refl, sym, ap, subst, ◌∙◌, arith, None}
+use Rattle.std.proofs.Common.{ℕ, ◌≡◌, ◌<◌, ◌+◌, ◌==◌, true, false, List, [], ◌∷◌, ◌++◌, length, map, take, get_or, refl, sym, ap, subst, ◌∙◌, arith, None}
 use Rattle.std.specs.Prelude.{slice_index_or}
 use Rattle.std.specs.List.{AllByRecursion}
 use Rattle.std.proofs.lemmas.Bool.{both_ways, or_left}
 use Rattle.std.proofs.lemmas.List.{length_push}
 use Rattle.node_grid.specs.NodeSet.{has_id, without_id}
 use Rattle.node_grid.specs.Count.{Distinct}
+use Rattle.node_grid.specs.SetFacts.{has-without, front_distinct, split_off}
 use Rattle.omh_paths.specs.declared.wrapped.Wrapped.{Wrapped}
 use Rattle.omh_paths.specs.declared.wrapped.Wrapped.TheVariants.{Fault}
 use Rattle.omh_paths.specs.Paths.{paths_of_length, place_in}
 use Rattle.node_grid.specs.ListLaws.{has_push}
-use Rattle.omh_paths.specs.PathLists.{length-paths, Distinct-without, place-lt, has-without}
+use Rattle.omh_paths.specs.PathLists.{length-paths, Distinct-without, place-lt}
 use Rattle.omh.specs.Heard.{Entry}
 use Rattle.omh.specs.HeardLaws.{IsHeardPath}
 use Rattle.omh.specs.Written.{last_node}
+use Rattle.omh.specs.Facts.{last_push}
 use Rattle.error_detect.specs.Watching.{Watch, told_at}
 use Rattle.protocol.specs.Arrival.{Arrival, ItemForm, arrived}
 use Rattle.protocol.specs.Arrival.Arrival.{Bad, Good}
 use Rattle.protocol.specs.Heard.{with_entries, entry, heard, paths_of}
+use Rattle.protocol.specs.Facts.{looked_up_place}
 use Rattle.relay_rules.specs.Hearing.{slot_rounds, frame_says}
 use Rattle.protocol.specs.TalkLaws.{heard_push, paths_of_member}
-use Rattle.relaying.proofs.Putting.{looked_up-place}
-use Rattle.relay_rules.specs.HearingLaws.{Split, split, front_distinct, last_off}
+use Rattle.relay_rules.specs.HearingLaws.{Split, split}
 
 at_push : (p : List ℕ) (q : ℕ) → get_or (p ++ q ∷ []) (length p) 0 ≡ q
 at_push [] q = refl
 at_push (x ∷ p) q = at_push p q
-
-last-push : (p : List ℕ) (q : ℕ) → last_node (p ++ q ∷ []) ≡ q
-last-push p q =
-    let e : length (p ++ q ∷ []) - 1 ≡ length p = (let l = length_push p q in omega arith) in
-    ap (λ (n : ℕ). get_or (p ++ q ∷ []) n 0) e ∙ at_push p q
 
 -- a path that ends in a node, without it
 pub record Behind (members : List ℕ) (r q : ℕ) (p : List ℕ) : Type 0 where
@@ -42,12 +39,12 @@ pub record Behind (members : List ℕ) (r q : ℕ) (p : List ℕ) : Type 0 where
 pub behind : (members : List ℕ) (me rounds r q : ℕ) (p : List ℕ) → Distinct members → IsHeardPath members me rounds p → length p ≡ r + 1 → last_node p ≡ q → Behind members r q p
 behind members me rounds r q p d real long end =
     let c : Split p = split p real.some in
-    let last : c.last ≡ q = sym (last-push c.front c.last) ∙ ap last_node (sym c.is) ∙ end in
+    let last : c.last ≡ q = sym (last_push c.front c.last) ∙ ap last_node (sym c.is) ∙ end in
     let is : p ≡ c.front ++ q ∷ [] = c.is ∙ ap (λ (x : ℕ). c.front ++ x ∷ []) last in
     let len : length c.front ≡ r = (let e = length_push c.front q in let f = ap length is in omega arith) in
     let dp : Distinct (c.front ++ q ∷ []) = subst Distinct is real.distinct in
     let s : List ℕ = without_id members q in
-    let off-q : has_id c.front q ≡ false = last_off c.front q dp in
+    let off-q : has_id c.front q ≡ false = split_off c.front q dp in
     let inside : (x : ℕ) → has_id c.front x ≡ true → has_id s x ≡ true = λ x x-on.
     has-without members q x (λ e. both_ways _ off-q (ap (has_id c.front) (sym e) ∙ x-on))
     (real.within x (ap (λ (y : List ℕ). has_id y x) is ∙ has_push c.front q x ∙ or_left (has_id c.front x) (q == x) x-on)) in
@@ -72,7 +69,7 @@ entry_says (Bad x) members r q front long low = refl
 entry_says (Good xs) members r q front long low =
     let ps : List (List ℕ) = paths_of_length (without_id members q) r in
     let t : take r (front ++ q ∷ []) ≡ front = ap (λ (n : ℕ). take n (front ++ q ∷ [])) (sym long) ∙ take-front front (q ∷ []) in
-    ap (λ (p : List ℕ). slice_index_or xs (place_in ps p) (Fault 0)) t ∙ sym (looked_up-place ps xs front low)
+    ap (λ (p : List ℕ). slice_index_or xs (place_in ps p) (Fault 0)) t ∙ sym (looked_up_place ps xs front low)
 
 pub says_heard : {V : Type 0} (form : ItemForm V) (members : List ℕ) (w : Watch) (me rounds r q : ℕ) (p : List ℕ) → Distinct members → IsHeardPath members me rounds p → has_id members q ≡ true → 0 < r → length p ≡ r + 1 → last_node p ≡ q
     → frame_says members q r (arrived form.relay_in None (told_at w q)) p ≡ heard (slot_rounds form members w) p

@@ -8,6 +8,7 @@ use Rattle.std.proofs.lemmas.List.{append-nil, drop_all, get_or-map, get_or_past
 use Rattle.std.proofs.lemmas.Nat.{mul-le}
 use Rattle.node_grid.specs.NodeSet.{has_id, without_id}
 use Rattle.node_grid.specs.Count.{Distinct}
+use Rattle.node_grid.specs.ListFacts.{map_map}
 use Rattle.omh_paths.specs.declared.wrapped.Wrapped.{Wrapped}
 use Rattle.omh_paths.specs.declared.wrapped.Wrapped.TheVariants.{Plain, Fault}
 use Rattle.omh_paths.specs.Wrapped.{wrapped}
@@ -21,7 +22,6 @@ use Rattle.frames.specs.Spelling.{spelling, header_spelling, body_spelling}
 use Rattle.frames.specs.Writing.{pasted}
 use Rattle.protocol.specs.Arrival.{ItemForm}
 use Rattle.protocol.specs.TalkLaws.{paths_of_member}
-use Rattle.relay_rules.specs.HearingLaws.{map_map}
 use Rattle.relay_rules.specs.Relaying.{relays}
 use Rattle.relay_rules.specs.Ranged.{HeardIn}
 use Rattle.relaying.specs.Items.{IsRelayed}

@@ -7,9 +7,9 @@ use Rattle.node_grid.specs.NodeSet.{has_id, without_id, IsIdSet}
 use Rattle.node_grid.specs.NodeSetLaws.{filter_range, ids_where-within}
 use Rattle.node_grid.specs.Count.{Distinct}
 use Rattle.node_grid.specs.ListLaws.{has_push}
+use Rattle.node_grid.specs.SetFacts.{has-without}
 use Rattle.omh_paths.specs.declared.wrapped.Wrapped.{Wrapped}
 use Rattle.omh_paths.specs.MemberLaws.{Distinct-ids}
-use Rattle.omh_paths.specs.PathLists.{has-without}
 use Rattle.omh_paths.specs.PathLaws.{map_alike}
 use Rattle.omh.specs.Heard.{Entry, Hearing}
 use Rattle.omh.specs.HeardLaws.{IsHeardPath, all_heard_paths}

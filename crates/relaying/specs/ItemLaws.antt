@@ -1,13 +1,15 @@
 -- What holds of claims and of rows as items.
-use Rattle.std.proofs.Common.{ℕ, zero, suc, List, ◌==◌, ◌≡◌, ◌≤◌, ◌+◌, ◌*◌, ◌/◌, false, length, drop, get_or, min, refl, ap, subst, ◌∙◌, arith, length-drop, if◌then◌else◌}
+use Rattle.std.proofs.Common.{ℕ, zero, suc, List, ◌==◌, ◌≡◌, ◌≤◌, ◌+◌, ◌*◌, ◌/◌, length, drop, get_or, min, refl, ap, subst, ◌∙◌, arith, length-drop, if◌then◌else◌}
 use Rattle.std.specs.Prelude.{All, slice_index, Some, None}
 use Rattle.std.proofs.Math.Nat.{min-eq_left}
+use Rattle.node_grid.specs.NumberFacts.{above_zero}
 use Rattle.omh_paths.specs.declared.wrapped.Wrapped.{Wrapped}
 use Rattle.omh_paths.specs.declared.wrapped.Wrapped.TheVariants.{Plain, Fault}
-use Rattle.frames.specs.Content.{Expectation, Content, State, Done0, DoneRelay, Data, Report0, ReportRelay, Cold, IsEntry, IsClaim, IsRow, IsSized, kind, round_in, entries_due}
+use Rattle.frames.specs.Content.{Expectation, ReportRelay, IsEntry, IsClaim, IsRow, IsSized, kind, round_in, entries_due}
 use Rattle.frames.specs.declared.frame.Body.{Body}
 use Rattle.frames.specs.declared.frame.Body.TheVariants as body
 use Rattle.frames.specs.Seen.{content}
+use Rattle.frames.specs.Facts.{rows_kinded, claims_kinded}
 use Rattle.protocol.specs.Arrival.{claim_form, row_form}
 use Rattle.frames.specs.EntryLaws.{claim_format, relayed_row_format}
 use Rattle.frames.specs.PieceLaws.{IsFormat}
@@ -23,9 +25,6 @@ claim_bytes bytes = slice_index bytes 0
 
 abbrev pub row_bytes : ℕ → List ℕ → List ℕ
 row_bytes capacity bytes = content_row capacity (min (length bytes / 2) capacity) bytes
-
-above_zero : (k : ℕ) → (suc k == 0) ≡ false
-above_zero k = grind arith
 
 -- ---- entries are read from their bytes
 
@@ -65,24 +64,6 @@ rows_tagged version capacity nodes r (Plain masks) h = omega arith
 rows_tagged version capacity nodes r (Fault k) h = h.1
 
 -- ---- what the kind tells
-
-claims_kinded : (c : Content) → kind c ≡ claim_relay_kind → (es : List (Wrapped ℕ)) × (c ≡ DoneRelay es)
-claims_kinded (State bytes) h = absurd (cc)
-claims_kinded (Done0 task) h = absurd (cc)
-claims_kinded (DoneRelay es) h = (es, refl)
-claims_kinded (Data numbers) h = absurd (cc)
-claims_kinded (Report0 masks) h = absurd (cc)
-claims_kinded (ReportRelay es) h = absurd (cc)
-claims_kinded Cold h = absurd (cc)
-
-rows_kinded : (c : Content) → kind c ≡ row_relay_kind → (es : List (Wrapped (List ℕ))) × (c ≡ ReportRelay es)
-rows_kinded (State bytes) h = absurd (cc)
-rows_kinded (Done0 task) h = absurd (cc)
-rows_kinded (DoneRelay es) h = absurd (cc)
-rows_kinded (Data numbers) h = absurd (cc)
-rows_kinded (Report0 masks) h = absurd (cc)
-rows_kinded (ReportRelay es) h = (es, refl)
-rows_kinded Cold h = absurd (cc)
 
 -- ---- sizes
 

@@ -3,9 +3,9 @@ use Rattle.std.proofs.Common.{◌≡◌, ℕ, suc, ◌+◌, ◌*◌, ◌<◌, �
 use Rattle.std.specs.Prelude.{is_some, if◌then◌else◌}
 use Rattle.node_grid.specs.NodeSet.{ids_below, has_id, union_of}
 use Rattle.std.proofs.lemmas.Nat.{mul-le}
-use Rattle.std.proofs.lemmas.List.FromFn.{length-range_with_len}
 use Rattle.node_grid.specs.Count.{bit, count}
 use Rattle.node_grid.specs.ListLaws.{bit_le}
+use Rattle.node_grid.specs.SetFacts.{count_few}
 use Rattle.scenario.specs.Scenario.{ScenarioView}
 use Rattle.cluster_periods.specs.Record.{PeriodView}
 use Rattle.shown_period.specs.declared.shown.Shown.{Shown}
@@ -23,7 +23,6 @@ use Rattle.run_judged.specs.Rows.{is_spotless, charges_in, false_charges_in, fal
 use Rattle.run_judged.specs.Sums.{AreSums}
 use Rattle.run_judged.proofs.Agreeing.{charges_found, spotless_found, false_charges_found, false_exclusions_found}
 use Rattle.run_judged.proofs.Totals.{total_le}
-use Rattle.run_judged.proofs.Grown.{count_le}
 use Rattle.run_judged.proofs.Summed.{Adds, sums_more}
 
 module _ {capacity : ℕ} (sc : ScenarioView capacity) (s : Shown capacity) (p : ℕ) (shown : ShowsPeriod sc p s) where
@@ -107,9 +106,6 @@ module _ {capacity : ℕ} (sc : ScenarioView capacity) (s : Shown capacity) (f :
       subst (λ (x : Tally capacity). AreSums sc (f.period + 1) x) (sym all) (sums_more sc f.period t (claimed spread skew (charged (budgeted t))) was (adds t spread skew a b was))
 
 -- ---- no sum is too large
-
-count_few : (f : ℕ → Bool) (nodes : ℕ) → count f (ids_below nodes) ≤ nodes
-count_few f nodes = omega (arith, count_le f (ids_below nodes), length-range_with_len 0 nodes)
 
 few_total : (f : ℕ → ℕ) (nodes n k : ℕ) → ((p : ℕ) → f p ≤ nodes) → nodes ≤ 16 → n < 1024 → k ≡ total f n → k ≤ 16384
 few_total f nodes n k each few early e =

@@ -1,12 +1,14 @@
 -- What is found of the nodes in use, and what is seen of them: counts, and the illnesses after one more period.
 use Rattle.std.proofs.Common.{◌≡◌, ℕ, zero, suc, ◌+◌, ◌<◌, ◌≤◌, Bool, true, false, not, ◌&&◌, ◌||◌, List, [], ◌∷◌, ◌++◌, map, refl, sym, ap, ap₂, ◌∙◌, arith}
 use Rattle.std.specs.Prelude.{All}
-use Rattle.std.specs.List.{list_all, range_with_len}
+use Rattle.std.specs.List.{list_all}
 use Rattle.std.proofs.lemmas.List.Elements.{All-head, All-tail}
 use Rattle.node_grid.specs.NodeSet.{ids_below, ids_where, has_id, union_of}
 use Rattle.node_grid.specs.NodeSetLaws.{filter_range, has-filter, IsIdSet-filter, All-ids}
-use Rattle.node_grid.specs.Count.{bit, count}
+use Rattle.node_grid.specs.Count.{count}
 use Rattle.node_grid.specs.Class.{is_sound, is_nonfaulty}
+use Rattle.node_grid.specs.ListFacts.{range_next}
+use Rattle.node_grid.specs.SetFacts.{count_ids}
 use Rattle.run_judged.specs.declared.illness.Illness.{Illness}
 use Rattle.run_judged.specs.declared.illness.Sign.{Sign}
 use Rattle.run_judged.specs.declared.found.Findings.{Findings}
@@ -14,17 +16,9 @@ use Rattle.run_judged.specs.Illnesses.{is_ill, falls_ill, sound_after, illnesses
 use Rattle.run_judged.specs.Growing.{begun, grown, IsOf}
 use Rattle.run_judged.specs.Found.{sign_by, AreFound}
 use Rattle.run_judged.specs.Rows.{is_spotless, charges_in, false_charges_in, false_exclusions_in}
-use Rattle.run_judged.proofs.Spans.{range_more}
 use Rattle.run_judged.proofs.Listed.{grown_in, illnesses_next, all_of}
 
 -- ---- counts over the same numbers
-
-count_range : (f g : ℕ → Bool) (a n : ℕ) → ((k : ℕ) → a ≤ k → k < a + n → f k ≡ g k) → count f (range_with_len a n) ≡ count g (range_with_len a n)
-count_range f g a zero h = refl
-count_range f g a (suc n) h = ap₂ (λ (x y : ℕ). x + y) (ap bit (h a (omega arith) (omega arith))) (count_range f g (a + 1) n (λ k l u. h k (omega arith) (omega arith)))
-
-pub count_same : (f g : ℕ → Bool) (n : ℕ) → ((k : ℕ) → k < n → f k ≡ g k) → count f (ids_below n) ≡ count g (ids_below n)
-count_same f g n h = count_range f g 0 n (λ k l u. h k (omega arith))
 
 where_same : (f g : ℕ → Bool) (n : ℕ) → ((k : ℕ) → k < n → f k ≡ g k) → ids_where f n ≡ ids_where g n
 where_same f g n h = filter_range f g 0 n (λ k l u. h k (omega arith))
@@ -54,7 +48,7 @@ module _ {capacity : ℕ} (seen : ℕ → ℕ → Sign) (nodes n : ℕ) (f : Fin
 
   pub charges_found : count (λ j. has_id f.charged j && not (has_id f.sound j)) (ids_below nodes) ≡ charges_in seen nodes n
   charges_found =
-      count_same (λ j. has_id f.charged j && not (has_id f.sound j)) (λ j. (seen j n).charged && is_ill (seen j) n) nodes
+      count_ids (λ j. has_id f.charged j && not (has_id f.sound j)) (λ j. (seen j n).charged && is_ill (seen j) n) nodes
       (λ j low. ap₂ (λ (a b : Bool). a && not b) (ap (λ (s : Sign). s.charged) (found.each j low)) (found.sound j low))
 
   -- the nodes that weren't nonfaulty in some period
@@ -62,7 +56,7 @@ module _ {capacity : ℕ} (seen : ℕ → ℕ → Sign) (nodes n : ℕ) (f : Fin
       → (j : ℕ) → j < nodes → has_id (union_of capacity faulty f.faulty) j ≡ not (is_spotless seen (suc n) j)
   spotless_found faulty fits before j low =
       let more : is_spotless seen (suc n) j ≡ (is_spotless seen n j && is_nonfaulty (seen j n).class) =
-      ap (list_all (λ p. is_nonfaulty (seen j p).class)) (range_more 0 n) ∙ all_append (λ p. is_nonfaulty (seen j p).class) (ids_below n) (0 + n)
+      ap (list_all (λ p. is_nonfaulty (seen j p).class)) (range_next 0 n) ∙ all_append (λ p. is_nonfaulty (seen j p).class) (ids_below n) (0 + n)
       ∙ ap (λ (p : ℕ). is_spotless seen n j && is_nonfaulty (seen j p).class) (let z : 0 + n ≡ n = omega arith in z) in
       has-filter (λ k. has_id faulty k || has_id f.faulty k) capacity j (omega arith)
       ∙ ap₂ (λ (a b : Bool). a || b) (before j low) (found.faulty j low)
@@ -76,13 +70,13 @@ module _ {capacity : ℕ} (seen : ℕ → ℕ → Sign) (nodes n : ℕ) (f : Fin
   pub false_charges_found : (faulty : List ℕ) → ((j : ℕ) → j < nodes → has_id faulty j ≡ not (is_spotless seen (suc n) j))
       → count (λ j. has_id f.charged j && not (has_id faulty j)) (ids_below nodes) ≡ false_charges_in seen nodes n
   false_charges_found faulty spotless =
-      count_same (λ j. has_id f.charged j && not (has_id faulty j)) (λ j. (seen j n).charged && is_spotless seen (suc n) j) nodes
+      count_ids (λ j. has_id f.charged j && not (has_id faulty j)) (λ j. (seen j n).charged && is_spotless seen (suc n) j) nodes
       (λ j low. ap₂ (λ (a b : Bool). a && b) (ap (λ (s : Sign). s.charged) (found.each j low)) (ap not (spotless j low) ∙ not_not (is_spotless seen (suc n) j)))
 
   pub false_exclusions_found : (faulty : List ℕ) → ((j : ℕ) → j < nodes → has_id faulty j ≡ not (is_spotless seen (suc n) j))
       → count (λ j. has_id f.left j && not (has_id faulty j)) (ids_below nodes) ≡ false_exclusions_in seen nodes n
   false_exclusions_found faulty spotless =
-      count_same (λ j. has_id f.left j && not (has_id faulty j)) (λ j. (seen j n).left && is_spotless seen (suc n) j) nodes
+      count_ids (λ j. has_id f.left j && not (has_id faulty j)) (λ j. (seen j n).left && is_spotless seen (suc n) j) nodes
       (λ j low. ap₂ (λ (a b : Bool). a && b) (ap (λ (s : Sign). s.left) (found.each j low)) (ap not (spotless j low) ∙ not_not (is_spotless seen (suc n) j)))
 
   -- ---- illnesses

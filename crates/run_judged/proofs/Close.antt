@@ -9,6 +9,7 @@ use Rattle.std.proofs.lemmas.List.{get_or_past}
 use Rattle.std.proofs.lemmas.List.FromFn.{get_or-map-range_with_len, length-map-range_with_len}
 use Rattle.node_grid.specs.NodeSet.{ids_below, has_id}
 use Rattle.node_grid.specs.Class.{is_sound, is_nonfaulty}
+use Rattle.node_grid.specs.TruthFacts.{is_n}
 use Rattle.mme_vote.specs.Channel.{is_judged}
 use Rattle.mme_vote.specs.Vote.{distance}
 use Rattle.clock_skew.specs.Clock.{ClockView}
@@ -28,7 +29,7 @@ use Rattle.cluster_periods.specs.Laws.{run_of, classes_of, IsClaimed, SafeLaw, C
 use Rattle.run_judged.specs.Apart.{widened, range_with, width, apart, is_sound_in, vote_on as vote_by, vote_in, votes_apart, offset_of, offset_in, clocks_apart}
 use Rattle.run_judged.specs.Rows.{period_of}
 use Rattle.run_judged.specs.Laws.{MembersWithin, SpreadLaw, SkewLaw}
-use Rattle.run_judged.proofs.Shown.{class_is, outcome_is, is_n, found_below}
+use Rattle.run_judged.proofs.Shown.{class_is, outcome_is, found_below}
 
 -- ---- the ends of a range are two of its numbers
 

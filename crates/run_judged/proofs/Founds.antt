@@ -1,12 +1,11 @@
 -- What is found of a shown period, and what is seen of each node in the run.
-use Rattle.std.proofs.Common.{◌≡◌, ◌≢◌, ℕ, ◌<◌, Bool, true, false, not, ◌&&◌, List, [], ◌∷◌, Option, None, Some, refl, sym, ap, ap₂, subst, ◌∙◌, arith, eqb-true}
+use Rattle.std.proofs.Common.{◌≡◌, ◌≢◌, ℕ, ◌<◌, Bool, false, not, ◌&&◌, List, [], ◌∷◌, Option, None, Some, refl, sym, ap, ap₂, subst, ◌∙◌, arith}
 use Rattle.std.specs.Prelude.{◌==◌, slice_index, IsTrue, ◌↔◌}
-use Rattle.std.specs.List.{filter}
-use Rattle.std.proofs.lemmas.Map.Views.{any-filter_same}
 use Rattle.node_grid.specs.declared.class.Class.{Class}
 use Rattle.node_grid.specs.NodeSet.{ids_where, has_id, minus_of}
-use Rattle.node_grid.specs.NodeSetLaws.{has-filter}
+use Rattle.node_grid.specs.NodeSetLaws.{has-filter, has_filtered}
 use Rattle.node_grid.specs.Class.{is_sound, is_nonfaulty}
+use Rattle.node_grid.specs.TruthFacts.{and_swap}
 use Rattle.error_reports.specs.Charge.{charged_mask}
 use Rattle.fault_classes.specs.Plan.{is_clean}
 use Rattle.agreed_state.specs.Agreed.{AgreedView}
@@ -29,17 +28,8 @@ use Rattle.run_judged.proofs.Shown.{found_below}
 
 -- ---- sets
 
-has_filtered : (p : ℕ → Bool) (xs : List ℕ) (x : ℕ) → has_id (filter p xs) x ≡ (p x && has_id xs x)
-has_filtered p xs x = any-filter_same (λ y. y == x) p (p x) (λ k e. ap p (eqb-true k x e)) xs
-
-swapped : (a b : Bool) → (a && b) ≡ (b && a)
-swapped true true = refl
-swapped true false = refl
-swapped false true = refl
-swapped false false = refl
-
 pub has_minus : (s t : List ℕ) (j : ℕ) → has_id (minus_of s t) j ≡ (has_id s j && not (has_id t j))
-has_minus s t j = has_filtered (λ k. not (has_id t k)) s j ∙ swapped (not (has_id t j)) (has_id s j)
+has_minus s t j = has_filtered (λ k. not (has_id t k)) s j ∙ and_swap (not (has_id t j)) (has_id s j)
 
 pub joined_some : (before after : List ℕ) (j : ℕ) → before ≢ [] → is_joined before (Some after) j ≡ (has_id after j && not (has_id before j))
 joined_some [] after j h = absurd (h refl)

@@ -8,11 +8,11 @@ use Rattle.std.proofs.lemmas.List.Elements.{All-nil, All-append, All-map, All-we
 use Rattle.node_grid.specs.NodeSet.{ids_below, ids_where}
 use Rattle.node_grid.specs.NodeSetLaws.{IsIdSet-filter, All-ids, length-ids}
 use Rattle.node_grid.specs.Class.{is_sound}
+use Rattle.node_grid.specs.ListFacts.{range_next}
 use Rattle.run_judged.specs.declared.illness.Illness.{Illness}
 use Rattle.run_judged.specs.declared.illness.Sign.{Sign}
 use Rattle.run_judged.specs.Illnesses.{is_ill, falls_ill, illness, illnesses_from, illnesses}
 use Rattle.run_judged.specs.Growing.{begun, grown, IsOf}
-use Rattle.run_judged.proofs.Spans.{range_more}
 use Rattle.run_judged.proofs.Grown.{grown_next, begun_next, few_members}
 
 map_where : {X : Type 0} (f g : ℕ → X) (test : ℕ → Bool) → ((x : ℕ) → test x ≡ true → f x ≡ g x) → (xs : List ℕ) → map f (filter test xs) ≡ map g (filter test xs)
@@ -53,7 +53,7 @@ module _ (seen : ℕ → ℕ → Sign) where
       let e : n + 1 ≡ suc n = omega arith in
       let z : 0 + n ≡ n = omega arith in
       ap (λ (k : ℕ). flat_map (illnesses_from seen nodes (n + 1)) (ids_below k)) e
-      ∙ ap (flat_map (illnesses_from seen nodes (n + 1))) (range_more 0 n)
+      ∙ ap (flat_map (illnesses_from seen nodes (n + 1))) (range_next 0 n)
       ∙ ap (λ (k : ℕ). flat_map (illnesses_from seen nodes (n + 1)) (ids_below n ++ k ∷ [])) z
       ∙ sym (flat_map_more (illnesses_from seen nodes (n + 1)) [] (ids_below n) n)
       ∙ ap (λ (xs : List Illness). xs ++ illnesses_from seen nodes (n + 1) n) (grown_flat nodes n 0 n (omega arith))

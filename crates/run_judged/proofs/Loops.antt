@@ -1,26 +1,16 @@
 -- A loop that replaces each element of a list.
-use Rattle.std.proofs.Common.{ℕ, ◌≡◌, ◌<◌, ◌+◌, ◌-◌, Bool, true, false, cond, List, [], ◌∷◌, ◌++◌, set, map, length, take, drop, get_or, sym, ap, subst, ◌∙◌, arith}
+use Rattle.std.proofs.Common.{ℕ, ◌≡◌, ◌<◌, ◌+◌, Bool, true, false, cond, List, [], ◌∷◌, ◌++◌, set, map, length, take, drop, get_or, sym, ap, ◌∙◌, arith}
 use Rattle.std.specs.Prelude.{All}
-use Rattle.std.proofs.lemmas.List.{get_or-append_right, length-map, length-take-le, get_or-drop, get_or_default, append_assoc, append-nil, map-append}
+use Rattle.std.proofs.lemmas.List.{get_or_default, append_assoc, append-nil, map-append}
 use Rattle.std.proofs.lemmas.List.Edits.{map_over_more}
-use Rattle.std.proofs.lemmas.List.Elements.{All-get_or}
 use Rattle.node_grid.specs.NodeSet.{ids_where}
 use Rattle.node_grid.specs.MaskLaws.{ids_where-more}
+use Rattle.node_grid.specs.ListFacts.{holds_here}
 use Rattle.run_judged.specs.declared.illness.Illness.{Illness}
 use Rattle.run_judged.specs.declared.illness.Sign.{Sign}
 use Rattle.run_judged.specs.declared.found.Findings.{Findings}
 use Rattle.run_judged.specs.Found.{sign_by}
 use Rattle.run_judged.specs.Growing.{begun, grown}
-
--- the element at which the loop stands is the one of the start
-here : {X : Type 0} (f : X → X) (xs ys : List X) (i : ℕ) (x : X) → i < length xs → ys ≡ map f (take i xs) ++ drop i xs → x ≡ get_or ys i x → x ≡ get_or xs i x
-here {X} f xs ys i x low e is =
-    is ∙ ap (λ (zs : List X). get_or zs i x) e
-    ∙ get_or-append_right (map f (take i xs)) (drop i xs) i i x (length-map (take i xs) f ∙ length-take-le i xs (omega arith)) (omega arith)
-    ∙ get_or-drop i xs (i - i) x ∙ ap (λ (k : ℕ). get_or xs k x) (let q : i + (i - i) ≡ i = omega arith in q)
-
-pub holds_here : {X : Type 0} (P : X → Type 0) (f : X → X) (xs ys : List X) (i : ℕ) (x : X) → i < length xs → ys ≡ map f (take i xs) ++ drop i xs → x ≡ get_or ys i x → All P xs → P x
-holds_here P f xs ys i x low e is all = subst P (sym (here f xs ys i x low e is)) (All-get_or P xs i x low all)
 
 -- the step at an illness
 pub goes_on : {capacity : ℕ} (f : Findings capacity) (xs ys : List Illness) (i : ℕ) (d new : Illness) (s : Sign) → i < length xs → length ys ≡ length xs

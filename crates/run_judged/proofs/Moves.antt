@@ -4,6 +4,7 @@ use Rattle.std.specs.List.{find, range_with_len}
 use Rattle.std.proofs.lemmas.Bool.{cases_Bool, cases_lt}
 use Rattle.node_grid.specs.Class.{is_nonfaulty, is_sound, IsWithin}
 use Rattle.node_grid.specs.NodeSet.{has_id}
+use Rattle.node_grid.specs.TruthFacts.{is_n}
 use Rattle.membership.specs.Members.{Standing}
 use Rattle.agreed_state.specs.declared.config.Inputs.{Inputs}
 use Rattle.agreed_state.specs.Agreed.{AgreedView}
@@ -19,7 +20,7 @@ use Rattle.run_judged.specs.Numbers.{first_in}
 use Rattle.run_judged.specs.Deadlines.{IsBy}
 use Rattle.run_judged.specs.Rows.{period_of, seen_of}
 use Rattle.run_judged.proofs.Founds.{joined_some}
-use Rattle.run_judged.proofs.Shown.{outcome_is, is_n, found_below}
+use Rattle.run_judged.proofs.Shown.{outcome_is, found_below}
 
 -- ---- the first number that passes
 

@@ -1,11 +1,12 @@
 -- The numbers that the nodes in use give, one node after another.
-use Rattle.std.proofs.Common.{◌≡◌, ℕ, suc, ◌+◌, ◌<◌, true, false, ℤ, List, [], ◌∷◌, ◌++◌, Option, None, Some, refl, sym, ap, ◌∙◌, arith}
+use Rattle.std.proofs.Common.{◌≡◌, ℕ, ◌+◌, ◌<◌, true, false, ℤ, List, [], ◌∷◌, ◌++◌, Option, None, Some, refl, sym, ap, ◌∙◌}
 use Rattle.std.specs.Prelude.{slice_get, slice_index_or}
 use Rattle.std.specs.List.{filter_map, cons_option}
 use Rattle.std.proofs.lemmas.Bool.{cond-true, cond-false}
 use Rattle.std.proofs.lemmas.List.Elements.{filter_map-append}
 use Rattle.node_grid.specs.NodeSet.{ids_below}
 use Rattle.node_grid.specs.Class.{is_sound}
+use Rattle.node_grid.specs.SetFacts.{ids_next}
 use Rattle.node_steps.specs.Outcome.{Outcome}
 use Rattle.cluster_periods.specs.Record.{ClockShown}
 use Rattle.shown_period.specs.declared.shown.Shown.{Shown}
@@ -15,18 +16,13 @@ use Rattle.shown_period.specs.Whole.{record_of}
 use Rattle.shown_period.specs.WholeLaws.{shown_at}
 use Rattle.run_judged.specs.Found.{class_at}
 use Rattle.run_judged.specs.Apart.{widened, with_number, range_with, vote_on, vote_in, offset_of, offset_in}
-use Rattle.run_judged.proofs.Spans.{range_more}
 
 range_push : (r : Option (ℤ × ℤ)) (xs : List ℤ) (v : ℤ) → range_with r (xs ++ v ∷ []) ≡ Some (widened (range_with r xs) v)
 range_push r [] v = refl
 range_push r (x ∷ xs) v = range_push (Some (widened r x)) xs v
 
-ids_more : (n : ℕ) → ids_below (n + 1) ≡ ids_below n ++ n ∷ []
-ids_more n =
-    ap ids_below (let e : n + 1 ≡ suc n = omega arith in e) ∙ range_more 0 n ∙ ap (λ (k : ℕ). ids_below n ++ k ∷ []) (let z : 0 + n ≡ n = omega arith in z)
-
 pub given_more : {X : Type 0} (f : ℕ → Option X) (n : ℕ) → filter_map f (ids_below (n + 1)) ≡ filter_map f (ids_below n) ++ cons_option (f n) []
-given_more f n = ap (filter_map f) (ids_more n) ∙ filter_map-append f (ids_below n) (n ∷ [])
+given_more f n = ap (filter_map f) (ids_next n) ∙ filter_map-append f (ids_below n) (n ∷ [])
 
 -- a loop's range with a node's number, and past a node without one
 pub ranged : (f : ℕ → Option ℤ) (n : ℕ) (r : Option (ℤ × ℤ)) (v : ℤ) → r ≡ range_with None (filter_map f (ids_below n)) → f n ≡ Some v

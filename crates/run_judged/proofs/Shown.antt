@@ -1,13 +1,11 @@
 -- What the record of a period has of a node in use.
-use Rattle.std.proofs.Common.{◌≡◌, ℕ, zero, suc, ◌+◌, ◌<◌, ◌≤◌, Bool, true, Some, refl, sym, ap, ◌∙◌, inl, inr, arith, lt-ltb}
+use Rattle.std.proofs.Common.{◌≡◌, ℕ, zero, suc, ◌+◌, ◌<◌, ◌≤◌, Bool, true, Some, sym, ap, ◌∙◌, inl, inr, arith, lt-ltb}
 use Rattle.std.specs.Prelude.{nat_lt, slice_get, slice_index_or}
 use Rattle.std.specs.List.{find, range_with_len}
 use Rattle.std.proofs.lemmas.Bool.{cases_Bool, cond-true, cond-false}
 use Rattle.std.proofs.lemmas.List.FromFn.{get_or-map-range_with_len}
-use Rattle.node_grid.specs.declared.class.Class.{Class}
-use Rattle.node_grid.specs.declared.class.Class.TheVariants.{N, J, B, S, A}
+use Rattle.node_grid.specs.declared.class.Class.TheVariants.{N}
 use Rattle.node_grid.specs.NodeSet.{ids_below}
-use Rattle.node_grid.specs.Class.{is_nonfaulty}
 use Rattle.protocol.specs.Run.{run, classes}
 use Rattle.protocol.specs.Cluster.{view}
 use Rattle.node_steps.specs.Stages.{outcome_of}
@@ -25,13 +23,6 @@ class_is {capacity} sc p j fits low =
 pub outcome_is : {capacity : ℕ} (sc : ScenarioView capacity) (p j : ℕ) → j < sc.config.nodes
     → slice_get (period_of sc p).records j ≡ Some (outcome_of (view (run (system_of sc)) j p))
 outcome_is sc p j low = recorded (λ i. outcome_of (view (run (system_of sc)) i p)) sc.config.nodes j low
-
-pub is_n : (c : Class) → is_nonfaulty c ≡ true → c ≡ N
-is_n N e = refl
-is_n J e = cc
-is_n B e = cc
-is_n S e = cc
-is_n A e = cc
 
 found_in : (f : ℕ → Bool) (a n r : ℕ) → find f (range_with_len a n) ≡ Some r → (f r ≡ true) × (r < a + n)
 found_in f a zero r e = cc

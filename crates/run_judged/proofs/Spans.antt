@@ -1,22 +1,17 @@
 -- Spans of numbers, and the first number that passes a test, one number further.
-use Rattle.std.proofs.Common.{◌≡◌, ℕ, zero, suc, ◌+◌, ◌-◌, ◌<◌, ◌≤◌, Bool, cond, List, [], ◌∷◌, ◌++◌, None, Some, sym, ap, ◌∙◌, inl, inr, arith}
+use Rattle.std.proofs.Common.{◌≡◌, ℕ, zero, suc, ◌+◌, ◌-◌, ◌<◌, ◌≤◌, Bool, cond, [], ◌∷◌, ◌++◌, None, Some, sym, ap, ◌∙◌, inl, inr, arith}
 use Rattle.std.specs.List.{find, range_with_len}
 use Rattle.std.proofs.lemmas.Bool.{cases_Bool}
 use Rattle.std.proofs.lemmas.List.Folds.{find-append}
+use Rattle.node_grid.specs.ListFacts.{range_next}
 use Rattle.run_judged.specs.Numbers.{span, first_in}
 use Rattle.run_judged.specs.Growing.{or_now}
-
-pub range_more : (a n : ℕ) → range_with_len a (suc n) ≡ range_with_len a n ++ (a + n) ∷ []
-range_more a zero = let e : a ≡ a + 0 = omega arith in ap (λ (k : ℕ). k ∷ []) e
-range_more a (suc n) =
-    let e : (a + 1) + n ≡ a + suc n = omega arith in
-    ap (λ (xs : List ℕ). a ∷ xs) (range_more (a + 1) n ∙ ap (λ (k : ℕ). range_with_len (a + 1) n ++ k ∷ []) e)
 
 pub span_more : (low high : ℕ) → low ≤ high → span low (high + 1) ≡ span low high ++ high ∷ []
 span_more low high h =
     let e : (high + 1) - low ≡ suc (high - low) = omega arith in
     let f : low + (high - low) ≡ high = omega arith in
-    ap (range_with_len low) e ∙ range_more low (high - low) ∙ ap (λ (k : ℕ). span low high ++ k ∷ []) f
+    ap (range_with_len low) e ∙ range_next low (high - low) ∙ ap (λ (k : ℕ). span low high ++ k ∷ []) f
 
 pub span_empty : (n : ℕ) → span n n ≡ []
 span_empty n = let e : n - n ≡ 0 = omega arith in ap (range_with_len n) e

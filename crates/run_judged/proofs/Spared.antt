@@ -9,6 +9,7 @@ use Rattle.node_grid.specs.NodeSetLaws.{has-range}
 use Rattle.node_grid.specs.ListLaws.{all_at}
 use Rattle.node_grid.specs.MaskLaws.{mask-none}
 use Rattle.node_grid.specs.Count.{bit, count}
+use Rattle.node_grid.specs.TruthFacts.{is_n}
 use Rattle.error_reports.specs.Charge.{charged, charged_mask, kind_room}
 use Rattle.agreed_state.specs.Agreed.{AgreedView}
 use Rattle.protocol.specs.Run.{members_in}
@@ -21,7 +22,7 @@ use Rattle.cluster_periods.specs.Laws.{run_of, classes_of, SafeLaw}
 use Rattle.run_judged.specs.Signs.{outcome_among, is_charged_by, members_of, members_by, is_left}
 use Rattle.run_judged.specs.Rows.{period_of, seen_of, is_spotless}
 use Rattle.run_judged.specs.Laws.{SparesAll, SparedLaw}
-use Rattle.run_judged.proofs.Shown.{class_is, outcome_is, is_n, found_below}
+use Rattle.run_judged.proofs.Shown.{class_is, outcome_is, found_below}
 
 none_any : (f : ℕ → Bool) (xs : List ℕ) → ((k : ℕ) → f k ≡ false) → list_any f xs ≡ false
 none_any f [] h = refl

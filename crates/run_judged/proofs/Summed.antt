@@ -3,6 +3,7 @@ use Rattle.std.proofs.Common.{◌≡◌, ℕ, suc, ◌+◌, ◌<◌, Bool, true,
 use Rattle.std.specs.Prelude.{is_some, option_map, if◌then◌else◌}
 use Rattle.node_grid.specs.NodeSet.{has_id}
 use Rattle.node_grid.specs.Count.{bit}
+use Rattle.node_grid.specs.TruthFacts.{is_some_map}
 use Rattle.scenario.specs.Scenario.{ScenarioView}
 use Rattle.run_judged.specs.declared.tally.Loss.{Loss}
 use Rattle.run_judged.specs.declared.tally.Tally.{Tally}
@@ -25,10 +26,6 @@ pub record Adds {N : ℕ} (sc : ScenarioView N) (n : ℕ) (t u : Tally N) : Type
   pub skew : u.skew ≡ greater t.skew (skew_at sc n)
   pub faulty : (j : ℕ) → j < sc.config.nodes → has_id u.faulty j ≡ not (is_spotless (seen_of sc) (suc n) j)
 
-some_mapped : {X Y : Type 0} (f : X → Y) (o : Option X) → is_some (option_map f o) ≡ is_some o
-some_mapped f None = refl
-some_mapped f (Some x) = refl
-
 lost_by : {N : ℕ} (sc : ScenarioView N) (n : ℕ) (o : Option ℕ)
     → (if is_some (option_map (loss_at sc) o) then option_map (loss_at sc) o else (if is_within sc n then None else Some (loss_at sc n))) ≡ option_map (loss_at sc) (or_now o (not (is_within sc n)) n)
 lost_by sc n (Some q) = refl
@@ -38,7 +35,7 @@ pub sums_more : {N : ℕ} (sc : ScenarioView N) (n : ℕ) (t u : Tally N) → Ar
 sums_more sc n t u was adds =
     let seen = seen_of sc in
     let nodes = sc.config.nodes in
-    let some : is_some t.lost ≡ is_some (lost_in sc n) = ap (λ (o : Option Loss). is_some o) was.lost ∙ some_mapped (loss_at sc) (lost_in sc n) in
+    let some : is_some t.lost ≡ is_some (lost_in sc n) = ap (λ (o : Option Loss). is_some o) was.lost ∙ is_some_map (loss_at sc) (lost_in sc n) in
     record {
       claimed = adds.claimed ∙ ap (λ (k : ℕ). k + bit (is_claimed sc n)) was.claimed ∙ sym (total_more (λ p. bit (is_claimed sc p)) n);
       lost = adds.lost ∙ ap (λ (o : Option Loss). if is_some o then o else (if is_within sc n then None else Some (loss_at sc n))) was.lost ∙ lost_by sc n (lost_in sc n)

@@ -1,21 +1,19 @@
 -- Sums and extremes over one number more.
 use Rattle.std.proofs.Common.{◌≡◌, ℕ, zero, suc, ◌+◌, ◌*◌, ◌≤◌, ℤ, Option, None, refl, sym, ap, ap₂, ◌∙◌, arith}
+use Rattle.node_grid.specs.NumberFacts.{next_is}
 use Rattle.run_judged.specs.Numbers.{total, greater, greatest, lesser, least}
-
-next : (n : ℕ) → n + 1 ≡ suc n
-next n = omega arith
 
 pub total_more : (f : ℕ → ℕ) (n : ℕ) → total f (n + 1) ≡ total f n + f n
 unfolding total
-total_more f n = ap (total f) (next n)
+total_more f n = ap (total f) (next_is n)
 
 pub greatest_more : (f : ℕ → Option ℕ) (n : ℕ) → greatest f (n + 1) ≡ greater (greatest f n) (f n)
 unfolding greatest
-greatest_more f n = ap (greatest f) (next n)
+greatest_more f n = ap (greatest f) (next_is n)
 
 pub least_more : (f : ℕ → Option ℤ) (n : ℕ) → least f (n + 1) ≡ lesser (least f n) (f n)
 unfolding least
-least_more f n = ap (least f) (next n)
+least_more f n = ap (least f) (next_is n)
 
 pub greatest_none : (f : ℕ → Option ℕ) → None ≡ greatest f 0
 unfolding greatest

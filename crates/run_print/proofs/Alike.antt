@@ -86,9 +86,6 @@ settled_by nodes o b members h same =
     ∙ ap (λ (x : List ℕ). text_of nodes o.members o.rows o.done x b.votes) (sym h.due)
     ∙ ap (λ (x : List (Option ℤ)). text_of nodes o.members o.rows o.done o.due x) (sym h.votes)
 
-pub votes_same : (xs ys : List (Option ℤ)) → pointwise (option_eq int_eq) xs ys ≡ true → xs ≡ ys
-votes_same = lists_same (option_eq int_eq) (options_same int_eq int_exact)
-
 pub rows_same : (E : List ℕ → List ℕ → Bool) → ((x y : List ℕ) → E x y ≡ pointwise nat_eq x y) → (xs ys : List (Option (List ℕ))) → pointwise (option_eq E) xs ys ≡ true → xs ≡ ys
 rows_same E is = lists_same (option_eq E) (options_same E (λ x y h. same_text x y (sym h ∙ is x y)))
 

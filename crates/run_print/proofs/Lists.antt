@@ -24,14 +24,6 @@ range_next : (a n k : ℕ) → a + n ≡ k → range_with_len a (n + 1) ≡ rang
 range_next a zero k e = let same : a ≡ k = omega arith in rw same refl
 range_next a (suc n) k e = let more : suc n + 1 ≡ suc (n + 1) = omega arith in rw more (ap (λ xs. a ∷ xs) (range_next (a + 1) n k (omega arith)))
 
--- the numbers below one more
-pub below_next : (n : ℕ) → ids_below (n + 1) ≡ ids_below n ++ n ∷ []
-below_next n = range_next 0 n n (omega arith)
-
--- the text of one more number
-pub flat_next : (f : ℕ → List ℕ) (n : ℕ) → flat_map f (ids_below (n + 1)) ≡ flat_map f (ids_below n) ++ f n
-flat_next f n = ap (flat_map f) (below_next n) ∙ flat_map-append f (ids_below n) (n ∷ []) ∙ ap (λ xs. flat_map f (ids_below n) ++ xs) (append-nil (f n))
-
 -- the joined text of one more number
 pub joined_next : (separator : List ℕ) (f : ℕ → List ℕ) (n : ℕ) → separated separator (map f (ids_below (n + 1))) ≡ separated separator (map f (ids_below n)) ++ (separator_at separator n ++ f n)
 joined_next separator f n =

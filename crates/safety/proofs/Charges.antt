@@ -7,10 +7,12 @@ use Rattle.node_grid.specs.Class.{is_nonfaulty, is_silent, is_symmetric, is_asym
 use Rattle.node_grid.specs.NodeSet.{has_id}
 use Rattle.node_grid.specs.Count.{bit, count}
 use Rattle.node_grid.specs.Matrix.{row_at}
+use Rattle.node_grid.specs.SetFacts.{none_counted}
+use Rattle.node_grid.specs.TruthFacts.{is_n}
 use Rattle.error_reports.specs.Charge.{is_row, row_accuses, accuses, is_voter, is_accuser, charged}
 use Rattle.safety.specs.Rows.{NoCharge, FullCharge}
-use Rattle.safety.proofs.Classes.{is_n, more_nonfaulty}
-use Rattle.safety.proofs.Lists.{once, fewer, nowhere, and_false}
+use Rattle.safety.proofs.Classes.{more_nonfaulty}
+use Rattle.safety.proofs.Lists.{once, fewer, and_false}
 
 -- of one member: its class, whether it is the accused node, whether it has a plain row, and whether that accuses
 record Quiet (c : Class) (same plain accusing : Bool) : Type 0 where
@@ -115,7 +117,7 @@ full_charge_law class_of members rounds row rows within fit j k can says =
     (λ s. ap is_row (fit.fail q on s))) in
     let most = more_nonfaulty class_of members rounds within in
     let room : count (λ q. q == j && is_nonfaulty (class_of q)) members ≤ rounds = elim can [
-      | inl not_n ↦ let e = nowhere (λ q. q == j && is_nonfaulty (class_of q)) members (λ q on. and_false _ _ (λ s n.
+      | inl not_n ↦ let e = none_counted (λ q. q == j && is_nonfaulty (class_of q)) members (λ q on. and_false _ _ (λ s n.
           let e = eqb-true q j s in
           not_n (subst (λ (x : ℕ). has_id members x ≡ true) e on) (subst (λ (x : ℕ). class_of x ≡ N) e (is_n _ n)))) in omega arith
       | inr some ↦ let f = fewer (λ q. q == j && is_nonfaulty (class_of q)) (λ q. q == j) members (λ q on h. (and_parts _ _ h).0) in let one = once members j fit.distinct in omega arith

@@ -21,6 +21,7 @@ use Rattle.protocol.specs.Run.{members_in}
 use Rattle.protocol.specs.Cluster.{Cluster}
 use Rattle.protocol.specs.Safe.{Classing}
 use Rattle.protocol.specs.Clocks.{readings_at, corrects, correction_at, corrected, offsets, AreClocks, ClocksNear}
+use Rattle.safety.specs.Facts.{given_of}
 use Rattle.safety.specs.Given.{Started, IsHere}
 use Rattle.safety.specs.Views.{StartLaw, StepLaw}
 use Rattle.safety.specs.Runs.{ReceptionLaw}
@@ -30,7 +31,6 @@ use Rattle.safety.proofs.Classes.{silent_not_full}
 use Rattle.safety.proofs.ClockLies.{no_lie, same_lie}
 use Rattle.safety.proofs.Period.{Here, has_reference, members_are, goes, within, below}
 use Rattle.safety.proofs.Induction.{here, all_started}
-use Rattle.safety.proofs.Runs.{given_of}
 
 -- a number that is not negative is its absolute value
 size_of : (z : ℤ) → pos 0 ≤ℤ z → z ≡ pos (unsigned_abs z)

@@ -8,6 +8,7 @@ use Rattle.node_grid.specs.declared.class.Class.{Class}
 use Rattle.node_grid.specs.declared.class.Class.TheVariants.{N}
 use Rattle.node_grid.specs.Class.{is_nonfaulty, is_sound, IsWithin}
 use Rattle.node_grid.specs.NodeSet.{has_id}
+use Rattle.node_grid.specs.TruthFacts.{is_n}
 use Rattle.mme_vote.specs.declared.channel.Channel.TheVariants.{State}
 use Rattle.mme_vote.specs.Channel.{is_judged}
 use Rattle.mme_vote.specs.Vote.{distance}
@@ -19,17 +20,17 @@ use Rattle.protocol.specs.Cluster.{Cluster, begins, view}
 use Rattle.protocol.specs.Run.{run, classes}
 use Rattle.protocol.specs.Safe.{Classing, Claim}
 use Rattle.protocol.specs.Clocks.{AreClocks, offsets}
+use Rattle.safety.specs.Facts.{given_of}
 use Rattle.safety.specs.Given.{IsGiven, Started, IsHere}
 use Rattle.safety.specs.Views.{StartLaw, StepLaw}
 use Rattle.safety.specs.Runs.{ReceptionLaw}
 use Rattle.safety.specs.ClockLaws.{ClockLaw}
 use Rattle.safety.specs.Convergence.{halved, OwnsNear, VotesNear, ValuesConvergeLaw, StartsConvergeLaw, settled_skew, OffsetsNear, SkewAfter, ClocksSettleLaw, StartedClocksLaw}
-use Rattle.safety.proofs.Classes.{is_n, more_nonfaulty}
+use Rattle.safety.proofs.Classes.{more_nonfaulty}
 use Rattle.safety.proofs.Distances.{cut_close}
 use Rattle.safety.proofs.Period.{Here, within}
 use Rattle.safety.proofs.Data.{best, le_total, le_trans, listed, own_at, state_due, next_own, votes_close}
 use Rattle.safety.proofs.Induction.{here, all_started}
-use Rattle.safety.proofs.Runs.{given_of}
 use Rattle.safety.proofs.Convictions.{spared_law}
 
 -- ---- halves

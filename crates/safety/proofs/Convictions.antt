@@ -27,6 +27,7 @@ use Rattle.protocol.specs.Run.{members_in, run, classes}
 use Rattle.node_grid.specs.Kinds.{equivocate}
 use Rattle.protocol.specs.FurtherKinds.{convicts_member, convictions}
 use Rattle.protocol.specs.Safe.{Classing, Claim, CopiesClose, Safe}
+use Rattle.safety.specs.Facts.{given_of}
 use Rattle.safety.specs.Talk.{Told}
 use Rattle.safety.specs.Given.{IsGiven, Started, IsHere, AllSparing}
 use Rattle.safety.specs.Views.{StartLaw, StepLaw}
@@ -38,7 +39,6 @@ use Rattle.safety.proofs.Worlds.{world, fits}
 use Rattle.safety.proofs.Sync.{bytes_exact}
 use Rattle.safety.proofs.Period.{Here, before_is, within, reference_is, members_are, claim_item, row_item, told_done, told_rows, by_kind_named, row_without, carried_without}
 use Rattle.safety.proofs.Induction.{numbers_exact, here, begins_first, accuses_none, all_started}
-use Rattle.safety.proofs.Runs.{given_of}
 
 -- ---- one item
 

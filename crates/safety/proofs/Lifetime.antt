@@ -12,6 +12,7 @@ use Rattle.node_grid.specs.declared.class.Class.TheVariants.{N}
 use Rattle.node_grid.specs.Class.{is_sound}
 use Rattle.node_grid.specs.NodeSet.{ids_below, has_id}
 use Rattle.node_grid.specs.MaskLaws.{mask-has}
+use Rattle.node_grid.specs.NumberFacts.{kinds-few}
 use Rattle.mme_vote.specs.Members.{MembersLaw}
 use Rattle.list_scheduler.specs.declared.schedule.Verdict.{Verdict}
 use Rattle.error_reports.specs.Charge.{accuses, charged, charged_mask}
@@ -20,12 +21,13 @@ use Rattle.penalty.specs.Step.{penalty, count_after, streak_after}
 use Rattle.penalty.specs.StepLaws.{for_nodes-at}
 use Rattle.membership.specs.Members.{Standing, remains, joins, all_would_leave, stays, leaves, times_after, standing_after}
 use Rattle.agreed_state.specs.Agreed.{standing_by}
-use Rattle.protocol.specs.RowLaws.{mask-zero, kinds-few}
+use Rattle.protocol.specs.RowLaws.{mask-zero}
 use Rattle.protocol.specs.View.{Setting}
 use Rattle.protocol.specs.FurtherKinds.{convictions}
 use Rattle.protocol.specs.Cluster.{Cluster, view}
 use Rattle.protocol.specs.Run.{run, classes}
 use Rattle.protocol.specs.Safe.{Classing, Claim, members_at, rows_from, rows_at, IsContinuous, IsInnocent}
+use Rattle.safety.specs.Facts.{given_of}
 use Rattle.safety.specs.Rows.{CanCharge}
 use Rattle.safety.specs.Given.{IsGiven, Started}
 use Rattle.safety.specs.Views.{StartLaw, StepLaw}
@@ -37,7 +39,6 @@ use Rattle.safety.proofs.Period.{Here, members_are, before_is, reference_is, wit
 use Rattle.safety.proofs.Sync.{no_other_body}
 use Rattle.safety.proofs.Data.{no_deviations}
 use Rattle.safety.proofs.Induction.{here, no_verdicts}
-use Rattle.safety.proofs.Runs.{given_of}
 use Rattle.safety.proofs.Convictions.{unsaid}
 use Rattle.safety.proofs.Convergence.{started_at, is_here, claim_below}
 

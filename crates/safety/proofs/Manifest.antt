@@ -20,6 +20,7 @@ use Rattle.protocol.specs.Cluster.{begins}
 use Rattle.protocol.specs.Run.{System, run, classes, change_at, expectation, state_said, state_content, values_said, members_of, due_of, done_talk, row_talk, goes_in}
 use Rattle.protocol.specs.Accepted.{IsAccepted}
 use Rattle.protocol.specs.Safe.{Claim}
+use Rattle.safety.specs.Facts.{given_of}
 use Rattle.safety.specs.Given.{IsGiven}
 use Rattle.safety.specs.Views.{StartLaw, StepLaw}
 use Rattle.safety.specs.Runs.{ReceptionLaw}
@@ -32,7 +33,7 @@ use Rattle.safety.proofs.StateLaws.{StateLaws}
 use Rattle.safety.proofs.Period.{Here, row_with, carried_with}
 use Rattle.safety.proofs.Induction.{here, state_laws}
 use Rattle.safety.proofs.FaultPlans.{effect_fits, untouched_at}
-use Rattle.safety.proofs.Runs.{grammar, state_range, values_range, done_form, reports_form, given_of}
+use Rattle.safety.proofs.Runs.{grammar, state_range, values_range, done_form, reports_form}
 use Rattle.safety.proofs.Convergence.{is_here}
 
 -- ---- kinds

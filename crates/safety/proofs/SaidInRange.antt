@@ -1,8 +1,7 @@
 -- What the nodes of a run say is in the ranges of the grammar.
-use Rattle.std.proofs.Common.{ℕ, ◌≡◌, ◌<◌, ◌≤◌, ◌+◌, ◌-◌, ◌^◌, Bool, true, false, List, [], map, length, Option, None, Some, ℤ, refl, sym, ap, subst, ◌∙◌, inl, inr, arith}
-use Rattle.std.specs.Prelude.{nat_le, if◌then◌else◌, All, is_some}
+use Rattle.std.proofs.Common.{ℕ, ◌≡◌, ◌<◌, ◌≤◌, ◌+◌, ◌-◌, ◌^◌, Bool, true, List, [], map, length, Option, None, Some, ℤ, refl, sym, ap, subst, ◌∙◌, inl, inr, arith}
+use Rattle.std.specs.Prelude.{if◌then◌else◌, All, is_some}
 use Rattle.std.proofs.lemmas.Option.{same_Some}
-use Rattle.std.proofs.lemmas.Bool.{cond-true, cond-false}
 use Rattle.std.proofs.lemmas.Bool.Decides.{nat_tests}
 use Rattle.node_grid.specs.NodeSet.{has_id}
 use Rattle.node_grid.specs.NodeSetLaws.{IsIdSet-filter, length-ids}
@@ -15,6 +14,7 @@ use Rattle.frames.specs.Spelling.{IsInRange}
 use Rattle.frames.specs.Laws.{IsLaidOut}
 use Rattle.frames.specs.ReadingLaws.{is_short, cold_in_range}
 use Rattle.fault_classes.specs.Change.{Change}
+use Rattle.frames.specs.Facts.{value_kind, rows_round_in, claims_round_in}
 use Rattle.agreed_state.specs.declared.config.Inputs.{Inputs}
 use Rattle.agreed_state.specs.ConfigLaws as config_laws
 use Rattle.agreed_state.specs.ReadLaws.{state_len-short}
@@ -37,21 +37,8 @@ use Rattle.safety.proofs.StateLaws.{StateLaws}
 
 -- ---- where slots lie
 
-done_round : (m r : ℕ) → r ≤ m → round_in m (1 + r) ≡ r
-done_round m r h = cond-true (nat_le (1 + r) (m + 1)) _ _ (early m r h) ∙ omega arith where
-  early : (m r : ℕ) → r ≤ m → nat_le (1 + r) (m + 1) ≡ true
-  early m r h = grind (arith, nat_tests)
-
-row_round : (m r : ℕ) → round_in m (m + 3 + r) ≡ r
-row_round m r = cond-false (nat_le (m + 3 + r) (m + 1)) _ _ (late m r) ∙ omega arith where
-  late : (m r : ℕ) → nat_le (m + 3 + r) (m + 1) ≡ false
-  late m r = grind (arith, nat_tests)
-
 done_kind : (m r : ℕ) → 0 < r → r ≤ m → kind_in m (1 + r) ≡ 3
 done_kind m r some low = grind (arith, nat_tests)
-
-value_kind : (m : ℕ) → kind_in m (m + 2) ≡ 4
-value_kind m = grind (arith, nat_tests)
 
 row_kind : (m : ℕ) → kind_in m (m + 3 + 0) ≡ 5
 row_kind m = grind (arith, nat_tests)
@@ -102,7 +89,7 @@ module _ (sys : System) (given : IsAccepted sys) (states : StateLaws sys.setting
       → All (IsEntry (IsClaim (length sys.setting.config.graph.tasks)) r) xs
   claims_fit p r j ms (DoneRelay ys) xs low fit e =
       subst (All (IsEntry (IsClaim (length sys.setting.config.graph.tasks)) r)) (same_Some ys xs e)
-      (subst (λ (k : ℕ). All (IsEntry (IsClaim (length sys.setting.config.graph.tasks)) k) ys) (done_round sys.setting.config.m r low) fit.sized.1)
+      (subst (λ (k : ℕ). All (IsEntry (IsClaim (length sys.setting.config.graph.tasks)) k) ys) (claims_round_in sys.setting.config.m r low) fit.sized.1)
   claims_fit p r j ms (State b) xs low fit e = cc
   claims_fit p r j ms (Done0 b) xs low fit e = cc
   claims_fit p r j ms (Data b) xs low fit e = cc
@@ -114,7 +101,7 @@ module _ (sys : System) (given : IsAccepted sys) (states : StateLaws sys.setting
       → All (IsEntry (IsRow sys.setting.config.version sys.setting.capacity sys.setting.config.nodes) r) xs
   rows_fit_in p r j ms (ReportRelay ys) xs fit e =
       subst (All (IsEntry (IsRow sys.setting.config.version sys.setting.capacity sys.setting.config.nodes) r)) (same_Some ys xs e)
-      (subst (λ (k : ℕ). All (IsEntry (IsRow sys.setting.config.version sys.setting.capacity sys.setting.config.nodes) k) ys) (row_round sys.setting.config.m r) fit.sized.1)
+      (subst (λ (k : ℕ). All (IsEntry (IsRow sys.setting.config.version sys.setting.capacity sys.setting.config.nodes) k) ys) (rows_round_in sys.setting.config.m r) fit.sized.1)
   rows_fit_in p r j ms (State b) xs fit e = cc
   rows_fit_in p r j ms (Done0 b) xs fit e = cc
   rows_fit_in p r j ms (DoneRelay b) xs fit e = cc
@@ -164,8 +151,8 @@ module _ (sys : System) (given : IsAccepted sys) (states : StateLaws sys.setting
       item_sent = λ j i. is_short (expectation sys p (1 + 0) j (members_in (state i)) 0) (Done0 (item j)) (laid_out p (1 + 0) j (state i) 0 (valid i) (omega arith)) refl (fit j);
       relay_sent = λ r j i xs some low long all. is_short (expectation sys p (1 + r) j (members_in (state i)) 0) (DoneRelay xs) (laid_out p (1 + r) j (state i) 0 (valid i) (omega arith))
           (sym (done_kind sys.setting.config.m r some low)) (
-            entries_long (1 + r) r j i xs (done_round sys.setting.config.m r low) long,
-            subst (λ (k : ℕ). All (IsEntry (IsClaim (length sys.setting.config.graph.tasks)) k) xs) (sym (done_round sys.setting.config.m r low)) all,
+            entries_long (1 + r) r j i xs (claims_round_in sys.setting.config.m r low) long,
+            subst (λ (k : ℕ). All (IsEntry (IsClaim (length sys.setting.config.graph.tasks)) k) xs) (sym (claims_round_in sys.setting.config.m r low)) all,
           );
       cold_sent = λ r j i. cold_in_range (expectation sys p (1 + r) j (members_in (state i)) 0);
       heads = λ r j ms ns. refl;
@@ -182,8 +169,8 @@ module _ (sys : System) (given : IsAccepted sys) (states : StateLaws sys.setting
           (sym (row_kind sys.setting.config.m)) (fit j);
       relay_sent = λ r j i xs some low long all. is_short (expectation sys p (sys.setting.config.m + 3 + r) j (members_in (state i)) 0) (ReportRelay xs) (laid_out p (sys.setting.config.m + 3 + r) j (state i) 0 (valid i) (omega arith))
           (sym (rows_kind sys.setting.config.m r some low)) (
-            entries_long (sys.setting.config.m + 3 + r) r j i xs (row_round sys.setting.config.m r) long,
-            subst (λ (k : ℕ). All (IsEntry (IsRow sys.setting.config.version sys.setting.capacity sys.setting.config.nodes) k) xs) (sym (row_round sys.setting.config.m r)) all,
+            entries_long (sys.setting.config.m + 3 + r) r j i xs (rows_round_in sys.setting.config.m r) long,
+            subst (λ (k : ℕ). All (IsEntry (IsRow sys.setting.config.version sys.setting.capacity sys.setting.config.nodes) k) xs) (sym (rows_round_in sys.setting.config.m r)) all,
           );
       cold_sent = λ r j i. cold_in_range (expectation sys p (sys.setting.config.m + 3 + r) j (members_in (state i)) 0);
       heads = λ r j ms ns. refl;

@@ -5,6 +5,7 @@ use Rattle.std.proofs.lemmas.Bool.{cond-true, cond-false, or_left, and_from}
 use Rattle.std.proofs.lemmas.List.{get_or-replicate}
 use Rattle.node_grid.specs.NodeSet.{ids_below, ids_where, has_id, mask_of}
 use Rattle.node_grid.specs.MaskLaws.{mask-none}
+use Rattle.node_grid.specs.SetFacts.{has_below}
 use Rattle.protocol.specs.RowLaws.{mask-zero}
 use Rattle.error_reports.specs.Charge.{charged, charged_mask}
 use Rattle.penalty.specs.declared.Policy.{Policy}
@@ -14,7 +15,7 @@ use Rattle.membership.specs.Members.{stays, Standing, first_standing, standing_a
 use Rattle.agreed_state.specs.Agreed.{standing_by}
 use Rattle.protocol.specs.View.{Setting}
 use Rattle.protocol.specs.Safe.{IsInnocent}
-use Rattle.safety.proofs.Lists.{has_where, has_below, any_one}
+use Rattle.safety.proofs.Lists.{has_where, any_one}
 
 mask_some : (f : ℕ → Bool) (n k : ℕ) → k < n → f k ≡ true → (mask_of (ids_where f n) == 0) ≡ false
 mask_some f n k low h = mask-none f n ∙ ap not (any_one f (ids_below n) k (has_below n k low) h)

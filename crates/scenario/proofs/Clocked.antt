@@ -9,10 +9,13 @@ use Rattle.std.proofs.lemmas.Nat.{mod_below}
 use Rattle.node_grid.specs.declared.class.Class.{Class}
 use Rattle.node_grid.specs.declared.class.Class.TheVariants.{S}
 use Rattle.node_grid.specs.NodeSet.{has_id}
+use Rattle.node_grid.specs.ListFacts.{range_at}
+use Rattle.node_grid.specs.TruthFacts.{first_none, second_none}
 use Rattle.clock_skew.specs.Clock.{ClockView, LieView, clock_of, number_at, row_in_turn, AreUpTo, AreNear, IsLie, IsClock}
 use Rattle.fault_classes.specs.Plan.{Plan, class_of}
 use Rattle.protocol.specs.Run.{run, classes}
 use Rattle.protocol.specs.Clocks.{IsFair, AreClocks}
+use Rattle.scenario.specs.Facts.{unless_holds, no_place}
 use Rattle.scenario.specs.Parts.{LieParts, ClockParts, ScenarioParts}
 use Rattle.scenario.specs.Parts.Numbers.{all}
 use Rattle.scenario.specs.Numbers.{is_between, natural}
@@ -21,10 +24,9 @@ use Rattle.scenario.specs.Given.{padded, clock_given, plan_in, scenario_of}
 use Rattle.scenario.specs.Rules.{unless, at_place, first_bad, are_rows, are_up_to, is_drift, is_clock, hears, is_to_all, may_tell, may_tell_in, is_fair, is_lie, fits_lie, clock_refused, clock_refusal, HasRanges}
 use Rattle.scenario.specs.Scenario.{system_of}
 use Rattle.scenario.proofs.Ranges.{within, passes, all_are}
-use Rattle.scenario.proofs.Places.{first_none, second_none, holds, nowhere, holds_at, all_hold}
+use Rattle.scenario.proofs.Places.{holds_at, all_hold}
 use Rattle.scenario.proofs.Rows.{close_row, padded_number, padded_row}
 use Rattle.scenario.proofs.Plans.{addressed}
-use Rattle.scenario.proofs.Lying.{range_at}
 
 -- ---- rows
 
@@ -180,7 +182,7 @@ pub unrefused : (nodes : ℕ) (plan : Plan) (c : ClockParts) → clock_refused n
 unrefused nodes plan c h =
     let first = unless (is_clock nodes c) 18 0 in
     let rest = at_place 19 (first_bad (fits_lie plan) 0 c.lies) in
-    record { clock = holds _ 18 0 (first_none first rest h); lies = nowhere 19 _ (second_none first rest h) }
+    record { clock = unless_holds _ 18 0 (first_none first rest h); lies = no_place 19 _ (second_none first rest h) }
 
 module _ (capacity : ℕ) (p : ScenarioParts) (r : HasRanges capacity p) where
   these_are : (c : ClockParts) → clock_refused (natural p.nodes) (plan_in p) (Some c) ≡ None

@@ -1,8 +1,8 @@
 -- Tests of all numbers of a range, and lies that are read part by part.
-use Rattle.std.proofs.Common.{◌≡◌, ℕ, zero, suc, ◌+◌, ◌-◌, ◌<◌, ◌≤◌, Bool, true, false, ◌&&◌, List, [], ◌∷◌, ◌++◌, map, length, take, drop, get_or, Some, refl, sym, ap, ◌∙◌, arith, inl, inr}
+use Rattle.std.proofs.Common.{◌≡◌, ℕ, suc, ◌+◌, ◌-◌, ◌<◌, ◌≤◌, Bool, true, false, ◌&&◌, List, [], ◌∷◌, ◌++◌, map, length, take, drop, get_or, Some, refl, sym, ap, ◌∙◌, arith}
 use Rattle.std.specs.Prelude.{nat_lt}
 use Rattle.std.specs.List.{list_all, range_with_len}
-use Rattle.std.proofs.lemmas.Bool.{and_parts, cases_eq, lt-ltb, le-ltb}
+use Rattle.std.proofs.lemmas.Bool.{lt-ltb, le-ltb}
 use Rattle.std.proofs.lemmas.List.{take_more, map-append}
 use Rattle.clock_skew.specs.declared.plan.Lie.{Lie}
 use Rattle.clock_skew.specs.Clock.{LieView, lie_of}
@@ -14,13 +14,6 @@ use Rattle.scenario.specs.Seen.{lie_view}
 use Rattle.scenario.specs.declared.parts.LiePart.{LiePart}
 use Rattle.scenario.proofs.Turns.{drop-here}
 use Rattle.scenario.proofs.Places.{none_before, bad_here}
-
-pub range_at : (f : ℕ → Bool) (a n k : ℕ) → list_all f (range_with_len a n) ≡ true → a ≤ k → k < a + n → f k ≡ true
-range_at f a zero k h low high = absurd (omega arith)
-range_at f a (suc n) k h low high = elim (cases_eq k a) [
-  | inl e ↦ ap f e ∙ (and_parts _ _ h).0
-  | inr more ↦ range_at f (a + 1) n k (and_parts _ _ h).1 (omega arith) (omega arith)
-]
 
 -- what is left of a range from a on
 abbrev left : (f : ℕ → Bool) (a n : ℕ) → Bool

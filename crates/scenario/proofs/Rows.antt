@@ -6,12 +6,13 @@ use Rattle.std.proofs.lemmas.Bool.{cases_lt, not-true, eqb-true}
 use Rattle.std.proofs.lemmas.List.{length-map, get_or_append_left, get_or_past}
 use Rattle.std.proofs.lemmas.List as list
 use Rattle.std.proofs.lemmas.Nat.{mod_below}
+use Rattle.node_grid.specs.NumberFacts.{int_not_less}
 use Rattle.mme_vote.specs.Vote.{distance}
 use Rattle.clock_skew.specs.Clock.{number_at, row_in_turn}
 use Rattle.scenario.specs.Given.{padded}
 use Rattle.scenario.specs.Scenario.{reading_given}
 use Rattle.scenario.specs.Rules.{is_near, are_close}
-use Rattle.scenario.proofs.Ranges.{not_less, passes}
+use Rattle.scenario.proofs.Ranges.{passes}
 
 pub zeros_behind : (xs : List ℤ) (n k : ℕ) → length xs ≤ k → slice_index_or (xs ++ replicate n (pos 0)) k (pos 0) ≡ pos 0
 zeros_behind [] zero k h = refl
@@ -21,7 +22,7 @@ zeros_behind (x ∷ xs) n zero h = absurd (omega arith)
 zeros_behind (x ∷ xs) n (suc k) h = zeros_behind xs n k (omega arith)
 
 pub near_is : (delta v w : ℤ) → is_near delta v w ≡ true → pos (distance v w) ≤ℤ delta
-near_is delta v w h = not_less delta (pos (distance v w)) (not-true _ h)
+near_is delta v w h = int_not_less delta (pos (distance v w)) (not-true _ h)
 
 pub close_row : (delta : ℤ) (row : List ℤ) (i j : ℕ) → are_close delta row ≡ true → i < length row → j < length row
     → pos (distance (slice_index_or row i (pos 0)) (slice_index_or row j (pos 0))) ≤ℤ delta

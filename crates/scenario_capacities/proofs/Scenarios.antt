@@ -8,6 +8,7 @@ use Rattle.std.proofs.lemmas.Bool.{and_parts}
 use Rattle.std.proofs.lemmas.List.{append_assoc, length-map, replicate-append-replicate}
 use Rattle.node_grid.specs.Capacity.{IsCapacity}
 use Rattle.node_grid.specs.Version.{most_nodes}
+use Rattle.node_grid.specs.TruthFacts.{second_none, first_none}
 use Rattle.mme_vote.specs.declared.channel.Channel.{Channel}
 use Rattle.mme_vote.specs.declared.channel.Channel.TheVariants.{State}
 use Rattle.clock_skew.specs.Clock.{ClockView}
@@ -26,28 +27,9 @@ use Rattle.scenario.specs.Rules.{unless, at_place, first_bad, version_of, is_of_
 use Rattle.two_capacities.specs.Wider.{wide_channel, wide_config, system_over, longer, wide_clock}
 use Rattle.two_capacities.proofs.Lists.{get_padded, get_mapped, tab_padded}
 use Rattle.two_capacities.proofs.Accepted.{accepted_wide, clocks_wide}
+use Rattle.scenario.specs.Facts.{good_first, no_place, unless_holds}
 
 -- ---- rules that don't refuse
-
-first_none : {X : Type 0} (a b : Option X) → option_or a b ≡ None → a ≡ None
-first_none None b h = refl
-first_none (Some x) b h = h
-
-second_none : {X : Type 0} (a b : Option X) → option_or a b ≡ None → b ≡ None
-second_none None b h = h
-second_none (Some x) b h = cc
-
-holds : (test : Bool) (rule place : ℕ) → unless test rule place ≡ None → test ≡ true
-holds true rule place h = refl
-holds false rule place h = cc
-
-nowhere : (rule : ℕ) (place : Option ℕ) → at_place rule place ≡ None → place ≡ None
-nowhere rule None h = refl
-nowhere rule (Some k) h = cc
-
-good : {X : Type 0} (test : ℕ → X → Bool) (k : ℕ) (x : X) (xs : List X) (b : Bool) → test k x ≡ b → first_bad test k (x ∷ xs) ≡ None → (test k x ≡ true) × (first_bad test (k + 1) xs ≡ None)
-good test k x xs true e h = (e, sym (ap (λ t. if t then first_bad test (k + 1) xs else Some k) e) ∙ h)
-good test k x xs false e h = let bad : Some k ≡ None = sym (ap (λ t. if t then first_bad test (k + 1) xs else Some k) e) ∙ h in cc
 
 module _ (c : ℕ) (p : ScenarioParts) (h : refusal c p ≡ None) where
   early : early_refusal c p ≡ None
@@ -64,15 +46,15 @@ module _ (c : ℕ) (p : ScenarioParts) (h : refusal c p ≡ None) where
       let version = unless (is_between (pos 1) (pos 2) p.version) 2 1 in
       let nodes = unless (has_nodes c p) 2 0 in
       let rounds = unless (has_rounds p) 3 0 in
-      holds (has_nodes c p) 2 0 (first_none nodes rounds (second_none version (option_or nodes rounds) (second_none (unless (is_of_version p) 1 0) (option_or version (option_or nodes rounds)) sizes)))
+      unless_holds (has_nodes c p) 2 0 (first_none nodes rounds (second_none version (option_or nodes rounds) (second_none (unless (is_of_version p) 1 0) (option_or version (option_or nodes rounds)) sizes)))
 
   pub channels_fit : first_bad (fits_channel (natural p.nodes) (length p.tasks)) 0 p.channels ≡ None
   channels_fit =
       let ranges = at_place 6 (first_bad (fits_channel (natural p.nodes) (length p.tasks)) 0 p.channels) in
-      nowhere 6 _ (first_none ranges (at_place 7 (first_bad (closes (natural p.nodes) p.tasks) 0 p.channels)) (first_none (channels_refusal p) (tasks_refusal p) lists))
+      no_place 6 _ (first_none ranges (at_place 7 (first_bad (closes (natural p.nodes) p.tasks) 0 p.channels)) (first_none (channels_refusal p) (tasks_refusal p) lists))
 
   pub tasks_fit : first_bad (fits_task (natural p.nodes) (length p.tasks)) 0 p.tasks ≡ None
-  tasks_fit = nowhere 8 _ (second_none (channels_refusal p) (tasks_refusal p) lists)
+  tasks_fit = no_place 8 _ (second_none (channels_refusal p) (tasks_refusal p) lists)
 
   pub clock_fits : clock_refusal p ≡ None
   clock_fits = second_none (plan_refusal p) (clock_refusal p) (second_none (cycles_refusal p) (option_or (plan_refusal p) (clock_refusal p)) (second_none (early_refusal c p) (option_or (cycles_refusal p) (option_or (plan_refusal p) (clock_refusal p))) h))
@@ -124,7 +106,7 @@ channel_longer c k nodes tasks (copy delta task lies rows) few h = refl
 channels_longer : (c k nodes tasks i : ℕ) (cs : List ChannelParts) → nodes ≤ c → first_bad (fits_channel nodes tasks) i cs ≡ None → map (channel_of (c + k)) cs ≡ map (wide_channel k) (map (channel_of c) cs)
 channels_longer c k nodes tasks i [] few h = refl
 channels_longer c k nodes tasks i (ch ∷ cs) few h =
-    let g = good (fits_channel nodes tasks) i ch cs (fits_channel nodes tasks i ch) refl h in
+    let g = good_first (fits_channel nodes tasks) i ch cs (fits_channel nodes tasks i ch) refl h in
     ap (λ x. x ∷ map (channel_of (c + k)) cs) (channel_longer c k nodes tasks ch few (and_parts (nat_lt i 8) (is_channel nodes tasks ch) g.0).1)
     ∙ ap (λ xs. wide_channel k (channel_of c ch) ∷ xs) (channels_longer c k nodes tasks (i + 1) cs few g.1)
 
@@ -157,7 +139,7 @@ times_same : (c k nodes tasks n : ℕ) (ts : List TaskParts) (i : ℕ) → nodes
     → map (λ row. get_or row i 0) (map (times_of (c + k)) ts) ≡ map (λ row. get_or row i 0) (map (times_of c) ts)
 times_same c k nodes tasks n [] i few h = refl
 times_same c k nodes tasks n (t ∷ ts) i few h =
-    let g = good (fits_task nodes tasks) n t ts (fits_task nodes tasks n t) refl h in
+    let g = good_first (fits_task nodes tasks) n t ts (fits_task nodes tasks n t) refl h in
     ap (λ x. x ∷ map (λ row. get_or row i 0) (map (times_of (c + k)) ts)) (time_same c k nodes tasks t i few (and_parts (nat_lt n 32) (is_task nodes tasks t) g.0).1)
     ∙ ap (λ xs. get_or (times_of c t) i 0 ∷ xs) (times_same c k nodes tasks (n + 1) ts i few g.1)
 
@@ -180,7 +162,7 @@ module _ (c k nodes : ℕ) (few : nodes ≤ c) where
   clock_longer : (o : Option ClockParts) (plan : Plan) → clock_refused nodes plan o ≡ None → option_map (clock_given (c + k) nodes) o ≡ option_map (wide_clock k) (option_map (clock_given c nodes) o)
   clock_longer None plan h = refl
   clock_longer (Some o) plan h =
-      let a : is_clock nodes o ≡ true = holds (is_clock nodes o) 18 0 (first_none (unless (is_clock nodes o) 18 0) _ h) in
+      let a : is_clock nodes o ≡ true = unless_holds (is_clock nodes o) 18 0 (first_none (unless (is_clock nodes o) 18 0) _ h) in
       let errors = and_parts _ (are_rows (are_up_to nodes o.epsilon) o.errors) a in
       let drifts = and_parts _ (are_rows (is_drift nodes o.drift) o.drifts) errors.0 in
       let start = and_parts _ (are_up_to nodes (pos (2 ^ 40)) o.start) drifts.0 in

@@ -5,3 +5,4 @@ pub mod Pieces
 pub mod Sizes
 pub mod Verdict
 pub mod Laws
+pub mod Facts

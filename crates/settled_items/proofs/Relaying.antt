@@ -2,7 +2,7 @@
 use Rattle.std.proofs.Common.{ℕ, ◌≡◌, ◌≢◌, ◌<◌, ◌≤◌, ◌+◌, ◌-◌, ◌==◌, Bool, true, false, List, [], ◌∷◌, ◌++◌, length, take, refl, sym, ap, ◌∙◌, arith, eq-eqb, ne_eqb}
 use Rattle.std.specs.Prelude.{Option, None, Some, IfSome, slice_index_or, if◌then◌else◌}
 use Rattle.std.proofs.lemmas.Bool.{cond-true, cond-false}
-use Rattle.std.proofs.lemmas.List.{length_push, get_or_push, take_more, take_all, length-take-le}
+use Rattle.std.proofs.lemmas.List.{length-take-le}
 use Rattle.node_grid.specs.NodeSet.{has_id}
 use Rattle.node_grid.specs.Count.{Distinct}
 use Rattle.omh_paths.specs.declared.wrapped.Wrapped.{Wrapped}
@@ -12,6 +12,7 @@ use Rattle.omh_paths.specs.PathLaws.{off_longer}
 use Rattle.omh_paths.specs.Paths.{IsPath}
 use Rattle.omh.specs.Omh.{World, ear, settled}
 use Rattle.omh.specs.Written.{IsSmall, last_node}
+use Rattle.omh.specs.Facts.{front_last, last_push}
 use Rattle.equivocation.specs.Conviction.{convicts}
 use Rattle.settled_paths.specs.Passing.{or_passed, passed, passing_world, HearAlike}
 use Rattle.settled_paths.proofs.Layers.{small_more}
@@ -23,16 +24,6 @@ use Rattle.odd_relays.proofs.ItemLaws.{item_law, convicts_law}
 use Rattle.odd_relays.proofs.Sparing.{spared_law}
 use Rattle.settled_items.specs.Relaying.{clipped, said_instead, relay_heard, AreOddHeard, AreFewOdd}
 use Rattle.settled_items.proofs.Clipping.{clipped_small, heard_small}
-
--- the last node of a path
-pub last_push : (path : List ℕ) (q : ℕ) → last_node (path ++ q ∷ []) ≡ q
-last_push path q = get_or_push path q 0 (length (path ++ q ∷ []) - 1) (omega (arith, length_push path q))
-
--- a path is what stands before its last node, and that
-pub split_last : (path : List ℕ) → 0 < length path → path ≡ take (length path - 1) path ++ last_node path ∷ []
-split_last path some =
-    let e : length path ≡ (length path - 1) + 1 = omega arith in
-    sym (take_all (length path) path (omega arith)) ∙ ap (λ (k : ℕ). take k path) e ∙ take_more path (length path - 1) 0 (omega arith)
 
 module _ {V : Type 0} (full : List ℕ) (own : Wrapped V) (says : ℕ → List ℕ → Option (Wrapped V)) where
   -- what a path's last node hears itself
@@ -57,7 +48,7 @@ module _ {V : Type 0} (full : List ℕ) (own : Wrapped V) (says : ℕ → List �
   relays_alike i j len some alike path long =
       let front : List ℕ = take (length path - 1) path in
       let q : ℕ = last_node path in
-      let split : path ≡ front ++ q ∷ [] = split_last path (omega (arith, long)) in
+      let split : path ≡ front ++ q ∷ [] = front_last path (omega (arith, long)) in
       let short : length front + 1 ≡ len = omega (arith, length-take-le (length path - 1) path (omega arith), long) in
       let same = alike front q short in
       let at : (k : ℕ) → said_instead says k path ≡ (if q == k then None else says k (front ++ q ∷ [])) =

@@ -1,21 +1,22 @@
 -- Convictions in a world in which an item is passed on, and an item that all hear as its commander says it.
-use Rattle.std.proofs.Common.{ℕ, ◌≡◌, ◌≢◌, ◌<◌, ◌==◌, ◌&&◌, Bool, true, false, not, List, [], ◌∷◌, refl, sym, ap, ap₂, ◌∙◌, inl, inr, arith, eq-eqb, ne_eqb}
+use Rattle.std.proofs.Common.{ℕ, ◌≡◌, ◌≢◌, ◌<◌, ◌&&◌, Bool, true, false, not, List, [], ◌∷◌, refl, sym, ap, ap₂, ◌∙◌, inl, inr, arith, ne_eqb}
 use Rattle.std.specs.Prelude.{Option}
-use Rattle.std.proofs.lemmas.Bool.{cases_Bool, cases_lt, cond-true, cond-false, or_left, or_right, or_from, or_parts, eqb-false}
+use Rattle.std.proofs.lemmas.Bool.{cases_Bool, cases_lt, cond-true, cond-false, or_from, or_parts, eqb-false}
 use Rattle.node_grid.specs.NodeSet.{has_id}
-use Rattle.node_grid.specs.Count.{bit, count}
+use Rattle.node_grid.specs.SetFacts.{count_members}
 use Rattle.omh_paths.specs.declared.wrapped.Wrapped.{Wrapped}
 use Rattle.omh_paths.specs.declared.wrapped.Wrapped.TheVariants.{Fault}
 use Rattle.omh_paths.specs.Wrapped.{wrapped, IsExact}
 use Rattle.omh_paths.specs.Paths.{outside, IsPath}
 use Rattle.omh_paths.specs.PathLaws.{map_alike, all_outside, IsPath-push}
+use Rattle.omh_paths.specs.Facts.{root}
 use Rattle.omh.specs.Omh.{World, ear, own_term, settled}
 use Rattle.equivocation.specs.Conviction.{is_convicted, relays_of, convicts}
 use Rattle.equivocation.specs.ConvictionLaws.{unrelayed}
 use Rattle.settled_paths.specs.Passing.{or_passed, passed, passing_world}
 use Rattle.settled_paths.specs.Laws.{IsPassedOn}
 use Rattle.odd_relays.specs.Chains.{IsPassedOn as IsPassedByOthers, relays_nothing, AreFew, IsToldAlike}
-use Rattle.odd_relays.proofs.ChainLaws.{root, told_law}
+use Rattle.odd_relays.proofs.ChainLaws.{told_law}
 use Rattle.odd_relays.proofs.Sparing.{spared_law}
 use Rattle.settled_items.specs.Laws.{ConvictingLaw, IsToldAsIs, PlainLaw, PlainSparedLaw}
 
@@ -63,14 +64,6 @@ module _ {V : Type 0} (eq : V → V → Bool) (w : World V) (is_awake : ℕ → 
 
 pub convicting_law : {V : Type 0} (eq : V → V → Bool) → ConvictingLaw eq
 convicting_law eq w is_awake c full own says passes_on member i awake ne = convicts_same eq w is_awake c full own says passes_on member i awake ne
-
--- counts by tests that agree on the members
-count_members : (f g : ℕ → Bool) (s : List ℕ) → ((q : ℕ) → has_id s q ≡ true → f q ≡ g q) → count f s ≡ count g s
-count_members f g [] same = refl
-count_members f g (x ∷ xs) same =
-    let here : bit (f x) ≡ bit (g x) = ap bit (same x (or_left (x == x) (has_id xs x) (eq-eqb x x refl))) in
-    let rest = count_members f g xs (λ q on. same q (or_right (x == q) (has_id xs q) on)) in
-    omega arith
 
 module _ {V : Type 0} (w : World V) (is_awake : ℕ → Bool) (c : ℕ) (full odd : List ℕ) (own : Wrapped V) (says : ℕ → List ℕ → Option (Wrapped V)) (as_is : IsToldAsIs w is_awake c full odd own says) where
   by_others : IsPassedByOthers w c odd is_awake

@@ -1,10 +1,11 @@
 -- What is settled for paths from their terms, length by length.
-use Rattle.std.proofs.Common.{ℕ, suc, ◌≡◌, ◌<◌, ◌≤◌, ◌+◌, ◌-◌, ◌*◌, Bool, true, false, List, [], ◌∷◌, ◌++◌, map, length, get_or, set, take, drop, refl, sym, ap, subst, ◌∙◌, inl, inr, arith}
+use Rattle.std.proofs.Common.{ℕ, suc, ◌≡◌, ◌<◌, ◌≤◌, ◌+◌, ◌-◌, ◌*◌, Bool, true, false, List, ◌++◌, map, length, get_or, set, take, drop, refl, sym, ap, subst, ◌∙◌, inl, inr, arith}
 use Rattle.std.specs.Prelude.{Option}
 use Rattle.std.proofs.lemmas.Bool.{cases_Bool, cases_eq, cond-true, cond-false}
-use Rattle.std.proofs.lemmas.List.{get_or-set_same, get_or-set_other, length-set, length-take-le, get_or-take, get_or-drop, get_or-map, ext_get_or, get_or_append_left}
+use Rattle.std.proofs.lemmas.List.{get_or-set_same, get_or-set_other, length-take-le, get_or-take, get_or-drop, get_or-map, ext_get_or, get_or_append_left}
 use Rattle.node_grid.specs.NodeSet.{has_id, IsIdSet, place_of}
 use Rattle.node_grid.specs.Count.{Distinct}
+use Rattle.node_grid.specs.ListFacts.{length_mapped}
 use Rattle.omh_paths.specs.declared.wrapped.Wrapped.{Wrapped}
 use Rattle.omh_paths.specs.declared.wrapped.Wrapped.TheVariants.{Fault}
 use Rattle.omh_paths.specs.Wrapped.{unwrapped}
@@ -20,10 +21,6 @@ use Rattle.settled_paths.specs.Passing.{or_passed, instead}
 use Rattle.settled_paths.specs.Levels.{level_at, AreOwnTerms, AreLastTerms}
 use Rattle.settled_paths.proofs.Places.{width_of}
 
-length-map : {X Y : Type 0} (f : X → Y) (xs : List X) → length (map f xs) ≡ length xs
-length-map f [] = refl
-length-map f (x ∷ xs) = ap suc (length-map f xs)
-
 -- a path from its terms
 settled_terms : {V : Type 0} (eq : V → V → Bool) (x : Ear V) (p : List ℕ) (w : ℕ) (terms : List (Wrapped V)) → length p ≤ x.rounds → length (outside x.members p) ≡ w → w ≤ length terms
     → ((j : ℕ) → j < w → get_or terms j (Fault 0) ≡ term_at eq x p (get_or (outside x.members p) j 0))
@@ -33,7 +30,7 @@ settled_terms {V} eq x p w terms short many room each =
     let front : List (Wrapped V) = take w (drop 0 terms) in
     let long : length front ≡ w = length-take-le w (drop 0 terms) room in
     let same : front ≡ map (term_at eq x p) others =
-    ext_get_or (Fault 0) front (map (term_at eq x p) others) (omega (arith, long, many, length-map (term_at eq x p) others))
+    ext_get_or (Fault 0) front (map (term_at eq x p) others) (omega (arith, long, many, length_mapped (term_at eq x p) others))
     (λ j l.
     let inside : j < w = omega (arith, long) in
     get_or-take w (drop 0 terms) j (Fault 0) inside ∙ each j inside ∙ sym (get_or-map (term_at eq x p) others j 0 (Fault 0) (omega (arith, many))))
@@ -159,14 +156,3 @@ copied {V} eq x place last len longest work new is room copies settled k within 
     ap (λ (ts : List (Wrapped V)). get_or ts k (Fault 0)) copies
     ∙ get_or_append_left (take len longest) (drop len work) (Fault 0) k (omega (arith, length-take-le len longest room))
     ∙ get_or-take len longest k (Fault 0) inside ∙ settled k within off
-
-length-laid : {V : Type 0} (nodes : List ℕ) (me from : ℕ) (own : Wrapped V) (work : List (Wrapped V)) → length (laid_own nodes me from own work) ≡ length work
-length-laid nodes me from own work = elim (cases_Bool (has_id nodes me)) [
-  | inl y ↦ ap length (cond-true (has_id nodes me) (set work (from + index_in nodes me) own) work y) ∙ length-set work (from + index_in nodes me) own
-  | inr n ↦ ap length (cond-false (has_id nodes me) (set work (from + index_in nodes me) own) work n)
-]
-
-pub length-settled : {V : Type 0} (eq : V → V → Bool) (nodes : List ℕ) (me k width : ℕ) (own : Wrapped V) (work : List (Wrapped V)) → length (path_settled eq nodes me k width own work) ≡ length work
-length-settled eq nodes me k width own work =
-    length-set (laid_own nodes me (k * width) own work) k (unwrapped (majority eq (take width (drop (k * width) (laid_own nodes me (k * width) own work)))))
-    ∙ length-laid nodes me (k * width) own work

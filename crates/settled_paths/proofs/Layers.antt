@@ -12,9 +12,10 @@ use Rattle.omh_paths.specs.Paths.{outside, path_count, index_in}
 use Rattle.omh.specs.Flat.{relay_path}
 use Rattle.omh.specs.Written.{IsSmall}
 use Rattle.omh.proofs.Folding.{relay_listed, relay_root}
+use Rattle.omh.specs.Facts.{relay_path-push}
 use Rattle.settled_paths.specs.Passing.{or_passed, passed}
 use Rattle.settled_paths.specs.Levels.{level_at, level_value, AreLaid, AreSmall}
-use Rattle.settled_paths.proofs.Places.{level_within, relay_path-push}
+use Rattle.settled_paths.proofs.Places.{level_within}
 use Rattle.settled_paths.proofs.Passes.{passed_push}
 
 -- ---- errors that were wrapped a few times

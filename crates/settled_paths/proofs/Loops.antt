@@ -1,81 +1,23 @@
 -- A loop over the members of a set, and values laid one after another by it.
-use Rattle.std.proofs.Common.{ℕ, ◌≡◌, ◌≢◌, ◌<◌, ◌+◌, ◌==◌, ◌||◌, Bool, true, false, not, List, [], ◌∷◌, ◌++◌, set, get_or, length, refl, sym, ap, subst, ◌∙◌, inl, inr, arith, append_assoc, append-nil, eq-eqb, eqb-true}
+use Rattle.std.proofs.Common.{ℕ, ◌≡◌, ◌≢◌, ◌<◌, ◌+◌, ◌==◌, ◌||◌, true, false, List, [], ◌∷◌, ◌++◌, set, get_or, length, refl, sym, ap, subst, ◌∙◌, inl, inr, arith, eq-eqb, eqb-true}
 use Rattle.std.specs.Prelude.{◌⊎◌}
-use Rattle.std.proofs.lemmas.Bool.{cases_Bool, cond-true, cond-false, cases_eq, not-true, or_cases, or_left, or_right, both_ways}
+use Rattle.std.proofs.lemmas.Bool.{cases_Bool, cases_eq, or_cases, or_left, or_right, both_ways}
 use Rattle.std.proofs.lemmas.List.{get_or-set_same, get_or-set_other, length-append}
-use Rattle.node_grid.specs.NodeSet.{has_id, with_id, without_id, union_of, IsIdSet}
+use Rattle.node_grid.specs.NodeSet.{has_id, with_id, without_id, union_of}
 use Rattle.node_grid.specs.NodeSetLaws.{passes_where, has-filter, has-with_id}
 use Rattle.node_grid.specs.ListLaws.{has_push}
-use Rattle.omh_paths.specs.Paths.{outside}
-use Rattle.omh_paths.specs.PathLists.{has-without, has-without-left}
-use Rattle.omh_paths.specs.MemberLaws.{member-lt}
-
-has_middle : (ys : List ℕ) (q : ℕ) (rest : List ℕ) → has_id (ys ++ q ∷ rest) q ≡ true
-has_middle [] q rest = or_left (q == q) (has_id rest q) (eq-eqb q q refl)
-has_middle (y ∷ ys) q rest = or_right (y == q) (has_id (ys ++ q ∷ rest) q) (has_middle ys q rest)
+use Rattle.node_grid.specs.ListFacts.{split_all}
+use Rattle.omh_paths.specs.PathLists.{has-without-left}
 
 at_middle : (ys : List ℕ) (q : ℕ) (rest : List ℕ) → get_or (ys ++ q ∷ rest) (length ys) 0 ≡ q
 at_middle [] q rest = refl
 at_middle (y ∷ ys) q rest = at_middle ys q rest
 
-pub outside_parts : (s path : List ℕ) (q : ℕ) → has_id (outside s path) q ≡ true → (has_id s q ≡ true) × (has_id path q ≡ false)
-outside_parts [] path q h = absurd (cc)
-outside_parts (x ∷ s) path q h = elim (cases_Bool (not (has_id path x))) [
-  | inr drops ↦
-      let p = outside_parts s path q (ap (λ (ys : List ℕ). has_id ys q) (sym (cond-false (not (has_id path x)) (x ∷ outside s path) (outside s path) drops)) ∙ h) in
-      (or_right (x == q) (has_id s q) p.0, p.1)
-  | inl keeps ↦
-      let k = ap (λ (ys : List ℕ). has_id ys q) (sym (cond-true (not (has_id path x)) (x ∷ outside s path) (outside s path) keeps)) ∙ h in
-      elim (cases_Bool (x == q)) [
-        | inl here ↦ (or_left (x == q) (has_id s q) here, ap (has_id path) (sym (eqb-true x q here)) ∙ not-true _ keeps)
-        | inr there ↦
-            let p = outside_parts s path q (ap (λ (b : Bool). b || has_id (outside s path) q) (sym there) ∙ k) in
-            (or_right (x == q) (has_id s q) p.0, p.1)
-      ]
-]
-
--- the one that comes next
-pub next_on : (all ys rest left : List ℕ) (q : ℕ) → all ≡ ys ++ left → left ≡ q ∷ rest → has_id all q ≡ true
-next_on all ys rest left q split steps = ap (λ (xs : List ℕ). has_id xs q) (split ∙ ap (λ (xs : List ℕ). ys ++ xs) steps) ∙ has_middle ys q rest
-
 pub next_at : (all ys rest left : List ℕ) (q : ℕ) → all ≡ ys ++ left → left ≡ q ∷ rest → get_or all (length ys) 0 ≡ q
 next_at all ys rest left q split steps = ap (λ (xs : List ℕ). get_or xs (length ys) 0) (split ∙ ap (λ (xs : List ℕ). ys ++ xs) steps) ∙ at_middle ys q rest
 
-pub next_outside : (s path ys rest left : List ℕ) (q : ℕ) → outside s path ≡ ys ++ left → left ≡ q ∷ rest → (has_id s q ≡ true) × (has_id path q ≡ false)
-next_outside s path ys rest left q split steps = outside_parts s path q (next_on (outside s path) ys rest left q split steps)
-
 pub next_short : (all ys rest left : List ℕ) (q : ℕ) → all ≡ ys ++ left → left ≡ q ∷ rest → length ys < length all
 next_short all ys rest left q split steps = omega (arith, ap length split, ap length steps, length-append ys left)
-
-pub split_more : (all ys rest left : List ℕ) (q : ℕ) → all ≡ ys ++ left → left ≡ q ∷ rest → all ≡ (ys ++ q ∷ []) ++ rest
-split_more all ys rest left q split steps = split ∙ ap (λ (xs : List ℕ). ys ++ xs) steps ∙ sym (append_assoc ys (q ∷ []) rest)
-
-pub split_all : (all ys left : List ℕ) → all ≡ ys ++ left → left ≡ [] → all ≡ ys
-split_all all ys left split none = split ∙ ap (λ (xs : List ℕ). ys ++ xs) none ∙ append-nil ys
-
-pub low_of : (n : ℕ) (nodes ys rest left : List ℕ) (q : ℕ) → IsIdSet n nodes → nodes ≡ ys ++ left → left ≡ q ∷ rest → q < n
-low_of n nodes ys rest left q ids split steps = member-lt n nodes q ids (next_on nodes ys rest left q split steps)
-
--- what holds of those before holds of the next one too
-pub each_more : (P : ℕ → Type 0) (ys : List ℕ) (q : ℕ) → ((i : ℕ) → has_id ys i ≡ true → P i) → P q → (i : ℕ) → has_id (ys ++ q ∷ []) i ≡ true → P i
-each_more P ys q before here i on = elim (or_cases (has_id ys i) (q == i) (sym (has_push ys q i) ∙ on)) [
-  | inl was ↦ before i was
-  | inr is ↦ subst P (eqb-true q i is) here
-]
-
--- a node and one that a set hasn't
-pub apart : (nodes : List ℕ) (c i : ℕ) → has_id nodes c ≡ false → has_id nodes i ≡ true → c ≢ i
-apart nodes c i off on e = both_ways _ off (ap (has_id nodes) e ∙ on)
-
--- all nodes but one
-pub has_rest : (s : List ℕ) (c q : ℕ) → has_id s q ≡ true → c ≢ q → has_id (without_id s c) q ≡ true
-has_rest s c q on ne = has-without s c q (λ e. ne (sym e)) on
-
-pub not_rest : (s : List ℕ) (c : ℕ) → has_id (without_id s c) c ≡ false
-not_rest s c = elim (cases_Bool (has_id (without_id s c) c)) [
-  | inr n ↦ n
-  | inl y ↦ absurd ((has-without-left s c c y).0 refl)
-]
 
 pub left_out : (s nodes : List ℕ) (c i : ℕ) → nodes ≡ without_id s c → (has_id s i ≡ false) ⊎ (c ≡ i) → has_id nodes i ≡ false
 left_out s nodes c i is out = elim (cases_Bool (has_id nodes i)) [
@@ -130,13 +72,6 @@ laid_each {W} P ys q was now v d before low puts here i on = elim (cases_eq i q)
         | inl earlier ↦ before i earlier
         | inr is ↦ absurd (ne (sym (eqb-true q i is)))
       ])
-]
-
-pub has_front : (ys zs : List ℕ) (k : ℕ) → has_id ys k ≡ true → has_id (ys ++ zs) k ≡ true
-has_front [] zs k h = absurd (cc)
-has_front (y ∷ ys) zs k h = elim (or_cases (y == k) (has_id ys k) h) [
-  | inl here ↦ or_left (y == k) (has_id (ys ++ zs) k) here
-  | inr later ↦ or_right (y == k) (has_id (ys ++ zs) k) (has_front ys zs k later)
 ]
 
 pub each_of : (P : ℕ → Type 0) (all ys left : List ℕ) → all ≡ ys ++ left → left ≡ [] → ((i : ℕ) → has_id ys i ≡ true → P i) → (i : ℕ) → has_id all i ≡ true → P i

@@ -13,9 +13,10 @@ use Rattle.omh.specs.Omh.{ear, own_term, settled_at, term_at}
 use Rattle.omh.specs.Flat.{relay_path}
 use Rattle.omh.specs.SettledLaws.{settled_at_end}
 use Rattle.omh.proofs.Folding.{relay_listed}
+use Rattle.omh.specs.Facts.{relay_path-push}
 use Rattle.settled_paths.specs.Passing.{or_passed, passed_back, passed_from, passed, passing_world, instead, HearAlike}
 use Rattle.settled_paths.specs.Levels.{level_value, AreLaid, AreOwnTerms, AreLastTerms}
-use Rattle.settled_paths.proofs.Places.{relay_path-push, longer-lt}
+use Rattle.settled_paths.proofs.Places.{longer-lt}
 
 module _ {V : Type 0} (full : List ℕ) (own : Wrapped V) (says : ℕ → List ℕ → Option (Wrapped V)) where
   -- what q passes on of a path

@@ -1,16 +1,16 @@
 -- The places of the paths behind one commander.
-use Rattle.std.proofs.Common.{ℕ, zero, suc, ◌≡◌, ◌<◌, ◌≤◌, ◌+◌, ◌-◌, ◌*◌, List, [], ◌∷◌, ◌++◌, length, get_or, refl, sym, ap, ◌∙◌, arith}
-use Rattle.std.proofs.Math.Nat.{mul-le-mul}
+use Rattle.std.proofs.Common.{ℕ, zero, suc, ◌≡◌, ◌<◌, ◌≤◌, ◌+◌, ◌-◌, ◌*◌, List, length, refl, sym, ap, ◌∙◌, arith}
 use Rattle.node_grid.specs.NodeSet.{IsIdSet, place_of}
 use Rattle.node_grid.specs.CapacityLaws.{capacity-le}
 use Rattle.node_grid.specs.NodeSetLaws.{length-ids}
 use Rattle.node_grid.specs.Count.{Distinct}
-use Rattle.omh_paths.specs.Paths.{outside, paths_of_length, path_count, path_at, index_in}
-use Rattle.omh_paths.specs.PathLists.{path_at-push, path_count-last, length-outside, index_in-lt}
+use Rattle.node_grid.specs.NumberFacts.{product_few, terms_fit}
+use Rattle.omh_paths.specs.Paths.{outside, path_count, index_in}
+use Rattle.omh_paths.specs.PathLists.{length-outside, index_in-lt}
 use Rattle.omh_paths.specs.MemberLaws.{path_count-few, place-index, Distinct-ids}
+use Rattle.omh_paths.specs.Facts.{more_paths}
 use Rattle.omh.specs.Flat.{relay_path}
-use Rattle.omh.specs.FlatLaws.{path_count-mono}
-use Rattle.omh.proofs.Folding.{relay_place-lt, relay_listed, terms_within}
+use Rattle.omh.proofs.Folding.{relay_listed, terms_within}
 use Rattle.settled_paths.specs.declared.exchange.Level.{Level}
 use Rattle.settled_paths.specs.Levels.{level_at, IsExchange, IsLevel}
 
@@ -26,23 +26,11 @@ level_at-le others a b h = let e : a + (b - a) ≡ b = omega arith in omega (ari
 
 pub level_at-mono : (k n r : ℕ) → k ≤ n → level_at k r ≤ level_at n r
 level_at-mono k n zero h = omega arith
-level_at-mono k n (suc r) h = omega (arith, level_at-mono k n r h, path_count-mono k n r h)
+level_at-mono k n (suc r) h = omega (arith, level_at-mono k n r h, more_paths k n r h)
 
 -- a path's place lies before where those of more relays begin
 pub level_within : (others r k rounds : ℕ) → k < path_count others r → r < rounds → level_at others r + k < level_at others rounds
 level_within others r k rounds within short = omega (arith, level_at-le others (r + 1) rounds (omega arith), level_at-next others r)
-
-place_fits : (place n p : ℕ) → place < n → place * p + p ≤ n * p
-place_fits place n p h = let m : (place + 1) * p ≤ n * p = mul-le-mul next same in omega arith
-  where
-    next : place + 1 ≤ n
-    next = omega arith
-
-    same : p ≤ p
-    same = omega arith
-
-product_few : (i p : ℕ) → i ≤ 16 → p ≤ 65536 → i * p ≤ 16 * 65536
-product_few i p h l = mul-le-mul h l
 
 pub first_few : (capacity rounds : ℕ) (members : List ℕ) (c place others r paths : ℕ) → IsExchange capacity rounds members c → IsIdSet capacity members → place ≡ place_of members c → others ≡ length members - 1 → r ≤ rounds → paths ≡ path_count others r
     → (paths ≤ 65536) × (place * paths ≤ 1048576) × (others ≤ 16) × (0 < length members) × (place < length members)
@@ -63,7 +51,7 @@ level_is capacity rounds members c place others r l x ids at o short p f b small
     let here : place ≡ index_in members c = at ∙ place-index capacity members c ids x.member_ok in
     let are : l.paths ≡ path_count (length members - 1) r = p ∙ ap (λ (n : ℕ). path_count n r) o in
     let e : r + 1 ≡ suc r = omega arith in
-    let fits : place * l.paths + l.paths ≤ length members * l.paths = place_fits place (length members) l.paths few.4 in
+    let fits : place * l.paths + l.paths ≤ length members * l.paths = terms_fit place (length members) l.paths few.4 in
     let all : length members * l.paths ≡ path_count (length members) (r + 1) = ap (λ (n : ℕ). length members * n) are ∙ sym (ap (path_count (length members)) e) in
     record {
       paths_are = are;
@@ -75,25 +63,6 @@ level_is capacity rounds members c place others r l x ids at o short p f b small
     }
 
 -- ---- a path with one relay more
-
-same_rest : (n r : ℕ) → n - 1 - r ≡ n - suc r
-same_rest n r = omega arith
-
-spread : (i p w k j : ℕ) → (i * p + k) * w + j ≡ i * (p * w) + (k * w + j)
-spread i p w k j = omega arith
-
-pub longer_count : (n r : ℕ) → path_count (n - 1) (suc r) ≡ path_count (n - 1) r * (n - suc r)
-longer_count n r = path_count-last (n - 1) r ∙ ap (λ (x : ℕ). path_count (n - 1) r * x) (same_rest n r)
-
-pub relay_path-push : (members : List ℕ) (place r k j : ℕ) → Distinct members → place < length members → k < path_count (length members - 1) r → j < length members - suc r
-    → relay_path members place (suc r) (k * (length members - suc r) + j) ≡ relay_path members place r k ++ get_or (outside members (relay_path members place r k)) j 0 ∷ []
-relay_path-push members place r k j d low within inside =
-    let n : ℕ = length members in
-    let w : ℕ = n - suc r in
-    let p : ℕ = path_count (n - 1) r in
-    let at : place * path_count (n - 1) (suc r) + (k * w + j) ≡ (place * p + k) * w + j = ap (λ (x : ℕ). place * x + (k * w + j)) (longer_count n r) ∙ sym (spread place p w k j) in
-    ap (path_at (paths_of_length members (suc (suc r)))) at
-    ∙ path_at-push members (suc r) (place * p + k) j d (relay_place-lt members place r k low within) inside
 
 pub width_of : (members : List ℕ) (place r k : ℕ) → Distinct members → place < length members → k < path_count (length members - 1) r → length (outside members (relay_path members place r k)) ≡ length members - suc r
 width_of members place r k d low within =

@@ -2,26 +2,18 @@
 use Rattle.std.proofs.Common.{ℕ, zero, suc, ◌≡◌, ◌<◌, ◌≤◌, ◌+◌, Bool, true, false, not, ◌&&◌, ◌||◌, List, [], ◌∷◌, length, get_or, refl, sym, ap, ◌∙◌, inl, inr, arith, eqb-true}
 use Rattle.std.specs.Prelude.{◌==◌}
 use Rattle.std.specs.List.{filter, range_with_len}
-use Rattle.std.proofs.Math.Bool.{and-false}
 use Rattle.std.proofs.lemmas.Bool.{cases_eq, cases_lt}
 use Rattle.std.proofs.lemmas.List.FromFn.{length-range_with_len}
 use Rattle.node_grid.specs.NodeSet.{ids_below, has_id, with_id, minus_of, IsIdSet}
-use Rattle.node_grid.specs.NodeSetLaws.{filter_every, has-filter, hasnt-above, IsIdSet-filter, filter_filter, has-range}
+use Rattle.node_grid.specs.NodeSetLaws.{filter_every, has-filter, hasnt-above, IsIdSet-filter, filter_filter, has-range, has_filtered}
 use Rattle.node_grid.specs.ListLaws.{has_at}
 use Rattle.node_grid.specs.Count.{bit, count}
-use Rattle.agreed_state.specs.Ranges.{count_one, IsIdSet-wider}
-
-length_passed : (p : ℕ → Bool) (xs : List ℕ) → length (filter p xs) ≡ count p xs
-length_passed p [] = refl
-length_passed p (x ∷ xs) = by (p x) refl (length_passed p xs)
-  where
-    by : (b : Bool) → p x ≡ b → length (filter p xs) ≡ count p xs → length (filter p (x ∷ xs)) ≡ count p (x ∷ xs)
-    by true e rest = rw e (omega arith)
-    by false e rest = rw e (omega arith)
+use Rattle.node_grid.specs.SetFacts.{member-lt, length_filter, IsIdSet-wider}
+use Rattle.agreed_state.specs.Ranges.{count_one}
 
 -- how many a set of numbers has
 pub length_set : (n : ℕ) (s : List ℕ) → IsIdSet n s → length s ≡ count (has_id s) (ids_below n)
-length_set n s ids = ap length ids ∙ length_passed (has_id s) (ids_below n)
+length_set n s ids = ap length ids ∙ length_filter (has_id s) (ids_below n)
 
 count_most : (p : ℕ → Bool) (a n : ℕ) → count p (range_with_len a n) ≤ n
 count_most p a zero = omega arith
@@ -59,7 +51,7 @@ itself : (n x : ℕ) → count (λ k. k == x) (ids_below n) ≤ 1
 itself n x = count_one (λ k. k == x) 0 n (λ k l p q. eqb-true k x p ∙ sym (eqb-true l x q))
 
 pub grown : (n : ℕ) (s : List ℕ) (x : ℕ) → IsIdSet n s → length (with_id n s x) ≤ length s + 1
-grown n s x ids = omega (arith, length_passed (λ k. (k == x) || has_id s k) (ids_below n), either_count (λ k. k == x) (has_id s) (ids_below n), itself n x, length_set n s ids)
+grown n s x ids = omega (arith, length_filter (λ k. (k == x) || has_id s k) (ids_below n), either_count (λ k. k == x) (has_id s) (ids_below n), itself n x, length_set n s ids)
 
 -- what isn't in a set is, where the set is small
 all_there : (n : ℕ) (s : List ℕ) → IsIdSet n s → minus_of (ids_below n) s ≡ [] → length s ≡ n
@@ -99,16 +91,6 @@ left_out n s ids few = elim (cases_lt first n) [
     off low false e = e
     off low true e = let up : has_id left first ≡ true = on in let none : has_id left first ≡ false = has-filter (λ j. not (has_id s j)) n first low ∙ ap not e in absurd (cc)
 
-pub has_filtered : (p : ℕ → Bool) (xs : List ℕ) (k : ℕ) → has_id (filter p xs) k ≡ (p k && has_id xs k)
-has_filtered p [] k = sym (and-false (p k))
-has_filtered p (x ∷ xs) k = by (p x) refl (x == k) refl (has_filtered p xs k)
-  where
-    by : (a : Bool) → p x ≡ a → (b : Bool) → (x == k) ≡ b → has_id (filter p xs) k ≡ (p k && has_id xs k) → has_id (filter p (x ∷ xs)) k ≡ (p k && has_id (x ∷ xs) k)
-    by true e true here rest = let q : p k ≡ true = ap p (sym (eqb-true x k here)) ∙ e in rw (e, here, q) refl
-    by true e false away rest = rw (e, away) rest
-    by false e true here rest = let q : p k ≡ false = ap p (sym (eqb-true x k here)) ∙ e in rw (e, q) (rest ∙ ap (λ b. b && has_id xs k) q)
-    by false e false away rest = rw (e, away) rest
-
 -- some of a set are a set
 pub filtered_ids : (p : ℕ → Bool) (n : ℕ) (s : List ℕ) → IsIdSet n s → IsIdSet n (filter p s)
 filtered_ids p n s ids =
@@ -118,18 +100,12 @@ filtered_ids p n s ids =
     both : ℕ → Bool
     both k = has_id s k && p k
 
-pub below : (n : ℕ) (s : List ℕ) (i : ℕ) → IsIdSet n s → has_id s i ≡ true → i < n
-below n s i ids on = elim (cases_lt i n) [
-  | inl low ↦ low
-  | inr high ↦ absurd (let off : has_id s i ≡ false = hasnt-above n s i ids high in cc)
-]
-
 -- a set that isn't empty has a number that it lacks where that was taken out
 pub fewer_others : (n : ℕ) (s t : List ℕ) → IsIdSet n s → IsIdSet n t → (length t ≡ 0 → ⊥) → length (minus_of s t) < n
 fewer_others n s [] ids tids some = absurd (some refl)
 fewer_others n s (x ∷ rest) ids tids some =
     let on : has_id (x ∷ rest) x ≡ true = has_at (x ∷ rest) 0 (omega arith) in
-    fewer n (minus_of s (x ∷ rest)) x (filtered_ids (λ k. not (has_id (x ∷ rest) k)) n s ids) (below n (x ∷ rest) x tids on) (off on)
+    fewer n (minus_of s (x ∷ rest)) x (filtered_ids (λ k. not (has_id (x ∷ rest) k)) n s ids) (member-lt n (x ∷ rest) x tids on) (off on)
   where
     off : has_id (x ∷ rest) x ≡ true → has_id (minus_of s (x ∷ rest)) x ≡ false
     off on = has_filtered (λ k. not (has_id (x ∷ rest) k)) s x ∙ ap (λ b. not b && has_id s x) on

@@ -1,21 +1,18 @@
 -- Agreed states of which the test says that they are equal are the same.
 use Rattle.std.proofs.Common.{ℕ, ◌≡◌, ◌==◌, ◌&&◌, Bool, true, false, List, [], ◌∷◌, refl, sym, ap, ap₂, subst, ◌∙◌, eqb-true, eq-eqb}
 use Rattle.std.specs.Cmp.Lexicographic.{pointwise}
+use Rattle.node_grid.specs.TruthFacts.{and_both}
 use Rattle.list_scheduler.specs.declared.copies.CopyState.{CopyState}
 use Rattle.list_scheduler.specs.declared.copies.CopyState.TheVariants.{Idle, Running, Passed, Failed}
 use Rattle.list_scheduler.specs.Copies.{CopyTable}
 use Rattle.agreed_state.specs.Agreed.{AgreedView}
-
-both : (a b : Bool) → (a && b) ≡ true → (a ≡ true) × (b ≡ true)
-both true b h = (refl, h)
-both false b h = absurd (cc)
 
 lists_told : {A : Type 0} (eq : A → A → Bool) → ((x y : A) → eq x y ≡ true → x ≡ y) → (xs ys : List A) → pointwise eq xs ys ≡ true → xs ≡ ys
 lists_told eq told [] [] h = refl
 lists_told eq told [] (y ∷ ys) h = absurd (cc)
 lists_told eq told (x ∷ xs) [] h = absurd (cc)
 lists_told eq told (x ∷ xs) (y ∷ ys) h =
-    let b = both (eq x y) (pointwise eq xs ys) h in
+    let b = and_both (eq x y) (pointwise eq xs ys) h in
     ap₂ (λ u us. u ∷ us) (told x y b.0) (lists_told eq told xs ys b.1)
 
 -- a test of copies tells one variant from another, and one number from another
@@ -64,10 +61,10 @@ pub same_states : (a b : AgreedView) {eq : CopyState → CopyState → Bool}
     → (pointwise {A = ℕ} ◌==◌ a.standing.members b.standing.members && ((pointwise {A = ℕ} ◌==◌ a.standing.counts b.standing.counts && pointwise {A = ℕ} ◌==◌ a.standing.streaks b.standing.streaks) && (pointwise {A = ℕ} ◌==◌ a.standing.left b.standing.left && pointwise (pointwise eq) a.copies b.copies))) ≡ true
     → TellsCopies eq → a ≡ b
 same_states a b {eq} h t =
-    let members = both _ _ h in
-    let counts = both _ _ members.1 in
-    let counted = both _ _ counts.0 in
-    let left = both _ _ counts.1 in
+    let members = and_both _ _ h in
+    let counts = and_both _ _ members.1 in
+    let counted = and_both _ _ counts.0 in
+    let left = and_both _ _ counts.1 in
     ap₂ (λ (ms cs : List ℕ). record a { standing = record a.standing { members = ms; counts = cs } }) (numbers_told _ _ members.0) (numbers_told _ _ counted.0)
     ∙ ap₂ (λ (ss ls : List ℕ). record a { standing = record a.standing { members = b.standing.members; counts = b.standing.counts; streaks = ss; left = ls } }) (numbers_told _ _ counted.1) (numbers_told _ _ left.0)
     ∙ ap (λ (cs : CopyTable). record b { copies = cs }) (lists_told (pointwise eq) (lists_told eq (copy_told eq t)) _ _ left.1)

@@ -7,15 +7,14 @@ use Rattle.std.proofs.lemmas.Bool.{cases_eq, cases_lt, cond-true, cond-false}
 use Rattle.std.proofs.lemmas.List.{get_or_past}
 use Rattle.std.proofs.lemmas.List.FromFn.{get_or-map-range_with_len, length-map-range_with_len, fill_by_all}
 use Rattle.node_grid.specs.NodeSet.{ids_below, has_id, ids_where, with_id, without_id, minus_of, union_of, IsIdSet}
-use Rattle.node_grid.specs.NodeSetLaws.{filter_range, hasnt-above, hasnt-filter, has-filter, has-range, has-with_id, has-without_id}
+use Rattle.node_grid.specs.NodeSetLaws.{filter_range, hasnt-above, hasnt-filter, has-filter, has-range, has-with_id, has-without_id, has_filtered}
+use Rattle.node_grid.specs.ListFacts.{got_other, got_set}
+use Rattle.node_grid.specs.NumberFacts.{get_or-zeros}
+use Rattle.node_grid.specs.TruthFacts.{or_yes}
 use Rattle.agreed_state.specs.Agreed.{AgreedView}
 use Rattle.shared_states.specs.Sharing.{state_at, without_state, with_state, shared_with, IsShared, IsOne}
 use Rattle.shared_states.specs.Places.{state_by, states_by, ArePlaced, AreAtOne, IsAlike, LeadAlike}
-use Rattle.shared_states.proofs.Free.{has_filtered, ids_ids}
-
-or-true : (b : Bool) → (b || true) ≡ true
-or-true true = refl
-or-true false = refl
+use Rattle.shared_states.proofs.Free.{ids_ids}
 
 -- lists of n entries that are made entry by entry
 pub same_map : {X : Type 0} (n : ℕ) (f g : ℕ → X) → ((i : ℕ) → i < n → f i ≡ g i) → map f (ids_below n) ≡ map g (ids_below n)
@@ -45,18 +44,6 @@ there (x ∷ xs) (suc i) h = there xs i (omega arith)
 
 pub got_same : {X : Type 0} (xs ys : List X) (i : ℕ) → i < length xs → xs ≡ ys → slice_get xs i ≡ slice_get ys i
 got_same xs ys i h e = ap (λ zs. slice_get zs i) e
-
-pub got_set : {X : Type 0} (xs : List X) (i : ℕ) (x : X) → i < length xs → slice_get (set xs i x) i ≡ Some x
-got_set [] i x h = absurd (omega arith)
-got_set (y ∷ xs) zero x h = refl
-got_set (y ∷ xs) (suc i) x h = got_set xs i x (omega arith)
-
-pub got_other : {X : Type 0} (xs : List X) (i j : ℕ) (x : X) → j ≢ i → slice_get (set xs i x) j ≡ slice_get xs j
-got_other [] i j x h = refl
-got_other (y ∷ xs) zero zero x h = absurd (h refl)
-got_other (y ∷ xs) zero (suc j) x h = refl
-got_other (y ∷ xs) (suc i) zero x h = refl
-got_other (y ∷ xs) (suc i) (suc j) x h = got_other xs i j x (λ e. h (ap (λ k. suc k) e))
 
 module _ (n : ℕ) (awake places : List ℕ) (states : List AgreedView) (ids : IsIdSet n awake) (room : length states ≡ n) (placed : ArePlaced n awake places) where
   -- who has one
@@ -152,7 +139,7 @@ replaced n awake places places' nodes states view place a ids e room put free =
 
     by : (j : ℕ) → j < n → (b : Bool) → has_id nodes j ≡ b → state_by joined places' (set states place a) j ≡ (if has_id nodes j then Some a else state_at view j)
     by j low true on =
-        cond-true (has_id joined j) _ None (in_union j low ∙ ap (λ b. has_id (minus_of awake nodes) j || b) on ∙ or-true (has_id (minus_of awake nodes) j))
+        cond-true (has_id joined j) _ None (in_union j low ∙ ap (λ b. has_id (minus_of awake nodes) j || b) on ∙ or_yes (has_id (minus_of awake nodes) j))
         ∙ ap (slice_get (set states place a)) (put j low ∙ cond-true (has_id nodes j) place (get_or places j 0) on)
         ∙ got_set states place a room
         ∙ sym (cond-true (has_id nodes j) (Some a) (state_at view j) on)
@@ -202,11 +189,6 @@ shared_after n awake places states view i j ids long low there e =
         ∙ ap (λ p. if has_id awake k then slice_get states p else None) (get_or-set_other places i k (get_or places j 0) 0 other)
         ∙ sym (cond-false (k == i) (state_at view j) (state_at view k) (ne_eqb k i other) ∙ was k)
 
-pub zero_at : (n i : ℕ) → ◌≡◌ {A = ℕ} (get_or (replicate n 0) i 0) 0
-zero_at zero i = refl
-zero_at (suc n) zero = refl
-zero_at (suc n) (suc i) = zero_at n i
-
 -- at the beginning
 pub begun : (n nodes : ℕ) (a : AgreedView) → 0 < n → nodes ≤ n → states_by n (ids_below nodes) (replicate n 0) (replicate n a) ≡ map (λ i. if nat_lt i nodes then Some a else None) (ids_below n)
 begun n nodes a some few = same_map n (state_by (ids_below nodes) (replicate n 0) (replicate n a)) (λ i. if nat_lt i nodes then Some a else None) (λ i low. by i low (cases_lt i nodes))
@@ -218,7 +200,7 @@ begun n nodes a some few = same_map n (state_by (ids_below nodes) (replicate n 0
     by : (i : ℕ) → i < n → (i < nodes) ⊎ (nodes ≤ i) → state_by (ids_below nodes) (replicate n 0) (replicate n a) i ≡ (if nat_lt i nodes then Some a else None)
     by i low (inl used) =
         cond-true (has_id (ids_below nodes) i) _ None (has-range 0 nodes i (omega arith) (omega arith))
-        ∙ ap (slice_get (replicate n a)) (zero_at n i) ∙ first n some
+        ∙ ap (slice_get (replicate n a)) (get_or-zeros n i) ∙ first n some
         ∙ sym (cond-true (nat_lt i nodes) (Some a) None (lt-ltb i nodes used))
     by i low (inr unused) =
         cond-false (has_id (ids_below nodes) i) _ None (hasnt-above nodes (ids_below nodes) i (ids_ids nodes nodes (omega arith)) unused)

@@ -1,4 +1,3 @@
 pub mod Finding
 pub mod Correcting
 pub mod Ending
-pub mod Placing

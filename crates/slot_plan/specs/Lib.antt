@@ -1,3 +1,4 @@
 pub mod Slots
 pub mod SlotLaws
 pub mod Ticks
+pub mod Facts

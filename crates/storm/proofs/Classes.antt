@@ -1,11 +1,11 @@
 -- Each node that isn't off is of class N.
-use Rattle.std.proofs.Common.{◌≡◌, ◌≢◌, ℕ, zero, suc, ◌+◌, ◌<◌, ◌≤◌, Bool, true, false, not, ◌&&◌, ◌||◌, ◌==◌, List, [], ◌∷◌, None, refl, ap, ◌∙◌, inl, inr, arith}
+use Rattle.std.proofs.Common.{◌≡◌, ◌≢◌, ℕ, zero, suc, ◌<◌, Bool, true, false, not, ◌&&◌, ◌||◌, ◌==◌, List, [], ◌∷◌, None, refl, ap, ◌∙◌, inl, inr, arith}
 use Rattle.std.specs.List.{list_all, range_with_len}
 use Rattle.std.proofs.lemmas.Bool.{cases_Bool, and_from, or_left, or_right, not_from_false, both_ways, false_from_ne_true, lt-ltb, and_parts, not-true, eqb-false}
 use Rattle.node_grid.specs.Count.{bit, count}
-use Rattle.node_grid.specs.Class.{is_nonfaulty}
-use Rattle.node_grid.specs.declared.class.Class.{Class}
-use Rattle.node_grid.specs.declared.class.Class.TheVariants.{N, J, B, S, A}
+use Rattle.node_grid.specs.declared.class.Class.TheVariants.{N}
+use Rattle.node_grid.specs.SetFacts.{count_none}
+use Rattle.node_grid.specs.TruthFacts.{is_n}
 use Rattle.fault_classes.specs.Change.{is_untouched, is_manifest}
 use Rattle.fault_classes.specs.Line.{effect_at}
 use Rattle.fault_classes.specs.Plan.{Plan, nodes_of, slots_of, is_clean, each_in_slot, steady, joins_in, recovers_in, sound_before, class_of}
@@ -15,13 +15,6 @@ use Rattle.storm.proofs.Off.{plan_by, is_off}
 use Rattle.storm.proofs.Shape.{AreBlocks}
 use Rattle.storm.proofs.Offs.{untouched, no_restart, restarts_last, off_high, one_off}
 
-is_n : (c : Class) → is_nonfaulty c ≡ true → c ≡ N
-is_n N h = refl
-is_n J h = cc
-is_n B h = cc
-is_n S h = cc
-is_n A h = cc
-
 all_pass : {X : Type 0} (f : X → Bool) (xs : List X) → ((x : X) → f x ≡ true) → list_all f xs ≡ true
 all_pass f [] h = refl
 all_pass f (x ∷ xs) h = and_from _ _ (h x) (all_pass f xs h)
@@ -30,13 +23,6 @@ clean_if : (plan : Plan) (p j : ℕ) → ((s i : ℕ) → effect_at plan.lines p
 clean_if plan p j h = all_pass (each_in_slot plan is_untouched p j) (slots_of plan)
     (λ s. all_pass (λ i. i == j || is_untouched (effect_at plan.lines p s j i)) (nodes_of plan) (λ i. or_right (i == j) _ (ap is_untouched (h s i))))
 
-none_counted : (f : ℕ → Bool) (a n : ℕ) → ((k : ℕ) → a ≤ k → k < a + n → f k ≡ false) → count f (range_with_len a n) ≡ 0
-none_counted f a zero h = refl
-none_counted f a (suc n) h =
-    let here : bit (f a) ≡ 0 = ap bit (h a (omega arith) (omega arith)) in
-    let rest = none_counted f (a + 1) n (λ k l u. h k (omega arith) (omega arith)) in
-    omega arith
-
 first_counted : (f : ℕ → Bool) (a n : ℕ) → 0 < n → f a ≡ true → 0 < count f (range_with_len a n)
 first_counted f a zero some h = absurd (omega arith)
 first_counted f a (suc n) some h = let here : bit (f a) ≡ 1 = ap bit h in omega arith
@@ -44,7 +30,7 @@ first_counted f a (suc n) some h = let here : bit (f a) ≡ 1 = ap bit h in omeg
 -- a node recovers where all others are good
 recovers_if : (plan : Plan) (p j : ℕ) (good : ℕ → Bool) → 0 < plan.nodes → good 0 ≡ true → ((i : ℕ) → i < plan.nodes → i ≢ j → good i ≡ true) → recovers_in plan p good j ≡ true
 recovers_if plan p j good some first h =
-    let stray = none_counted (λ i. not (i == j) && (not (good i) && not (is_manifest (effect_at plan.lines p 0 i j)))) 0 plan.nodes (λ i l u. false_from_ne_true _ (no i (omega arith))) in
+    let stray = count_none (λ i. not (i == j) && (not (good i) && not (is_manifest (effect_at plan.lines p 0 i j)))) 0 plan.nodes (λ i l u. false_from_ne_true _ (no i (omega arith))) in
     let goods = first_counted good 0 plan.nodes some first in
     lt-ltb _ _ (omega arith)
   where

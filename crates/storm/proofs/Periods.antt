@@ -4,15 +4,16 @@ use Rattle.std.proofs.lemmas.Bool.{cases_Bool, cases_lt, both_ways, false_from_n
 use Rattle.std.proofs.lemmas.List.{length-map}
 use Rattle.node_grid.specs.declared.class.Class.TheVariants.{N}
 use Rattle.node_grid.specs.Class.{is_nonfaulty, is_sound, IsWithin}
-use Rattle.omh_paths.specs.MemberLaws.{Distinct-ids, member-lt}
-use Rattle.protocol.specs.Run.{System, members_in, run, classes}
-use Rattle.protocol.specs.Accepted.{IsAccepted}
+use Rattle.node_grid.specs.SetFacts.{member-lt}
+use Rattle.omh_paths.specs.MemberLaws.{Distinct-ids}
+use Rattle.protocol.specs.Run.{members_in, run, classes}
 use Rattle.protocol.specs.Safe.{reference, members_from, members_at, KeepsBound, Safe}
 use Rattle.safety.specs.Given.{IsGiven, IsSparing, Started}
 use Rattle.safety.specs.Views.{StartLaw, StepLaw}
 use Rattle.safety.specs.Runs.{ReceptionLaw}
 use Rattle.safety.specs.Convictions.{SparedLaw}
 use Rattle.draws.specs.Draws.{generator_of}
+use Rattle.safety.specs.Facts.{given_of}
 use Rattle.storm.specs.Storm.{Block, blocks, storm, restart_drawn}
 use Rattle.storm.specs.Laws.{HasOneFaulty, IsWeathered, Weathers, StormLaw}
 use Rattle.storm.proofs.Off.{is_off}
@@ -107,16 +108,6 @@ module _ (bs : List Block) (are : AreBlocks 0 bs) where
           spared_after = λ j low. ((safe p).no_false 0 j sound (λ r l. low_nodes r j low)).is;
         }
 
-what_is_given : ReceptionLaw → (sys : System) → IsAccepted sys → IsGiven (run sys) (classes sys)
-what_is_given reception sys given = record {
-  capacity = given.capacity;
-  config = given.config;
-  inputs = λ i p low. given.inputs i p low;
-  close = given.close;
-  classing = (reception sys given).0;
-  reception = (reception sys given).1;
-}
-
 storm_by : ReceptionLaw → StartLaw → StepLaw → SparedLaw → (bs : List Block) → length bs ≡ 64 → AreBlocks 0 bs → Weathers (system_by bs)
 storm_by reception start step spared bs long are =
     let given = accepted_by bs long are in
@@ -124,7 +115,7 @@ storm_by reception start step spared bs long are =
       accepted = given;
       few_lines = (let few = few_lines 0 bs are in omega arith);
       restarts = length-map bs restart_drawn ∙ long;
-      periods = weathered bs are (what_is_given reception (system_by bs) given) start step spared;
+      periods = weathered bs are (given_of reception (system_by bs) given) start step spared;
     }
 
 pub storm_law : ReceptionLaw → StartLaw → StepLaw → SparedLaw → StormLaw

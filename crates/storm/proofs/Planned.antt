@@ -1,36 +1,22 @@
 -- No rule refuses the plan of a storm.
-use Rattle.std.proofs.Common.{◌≡◌, ℕ, ◌+◌, ◌*◌, ◌<◌, ◌≤◌, Bool, true, false, not, ◌==◌, List, [], ◌∷◌, ◌++◌, length, Option, None, Some, refl, sym, ap, subst, ◌∙◌, arith, length-append}
+use Rattle.std.proofs.Common.{◌≡◌, ℕ, ◌+◌, ◌*◌, ◌<◌, ◌≤◌, true, false, not, ◌==◌, List, [], ◌∷◌, ◌++◌, length, Option, None, Some, refl, sym, ap, subst, ◌∙◌, arith, length-append}
 use Rattle.std.specs.Prelude.{nat_le}
 use Rattle.std.specs.List.{list_any, list_all, AllByRecursion}
-use Rattle.std.proofs.lemmas.Bool.{and_from, and_parts, or_from, or_parts, or_left, false_from_ne_true, not_from_false, not-true, leb-true, le-leb, lt-ltb, le-ltb}
+use Rattle.std.proofs.lemmas.Bool.{and_from, and_parts, or_left, false_from_ne_true, not_from_false, not-true, leb-true, le-leb, lt-ltb, le-ltb}
 use Rattle.node_grid.specs.NodeSet.{has_id}
+use Rattle.node_grid.specs.ListFacts.{any_push, all_append, every_weaker, every_append}
 use Rattle.fault_classes.specs.declared.line.Restart.{Restart}
 use Rattle.fault_classes.specs.Line.{Line, shares}
 use Rattle.slot_plan.specs.Slots.{slot_count}
 use Rattle.fault_classes.specs.Plan.{Plan}
 use Rattle.fault_classes.specs.Rules.{is_line, first_bad_line, first_overlap, is_restart, comes_after, first_bad_restart, refusal_of}
+use Rattle.fault_classes.specs.Facts.{none_before}
 use Rattle.storm.specs.declared.spell.Spell.{Spell}
 use Rattle.storm.specs.Storm.{Block, lines_of, restart_drawn, restarts_of}
 use Rattle.storm.proofs.Off.{plan_by}
 use Rattle.storm.proofs.Shape.{IsSpell, IsLineOf, apart, AreBlocks}
 
 -- ---- lists
-
-pub every_append : {X : Type 0} (P : X → Type 0) (xs ys : List X) → AllByRecursion P xs → AllByRecursion P ys → AllByRecursion P (xs ++ ys)
-every_append P [] ys a b = b
-every_append P (x ∷ xs) ys a b = (a.0, every_append P xs ys a.1 b)
-
-pub every_weaker : {X : Type 0} (P Q : X → Type 0) → ((x : X) → P x → Q x) → (xs : List X) → AllByRecursion P xs → AllByRecursion Q xs
-every_weaker P Q h [] a = tt
-every_weaker P Q h (x ∷ xs) a = (h x a.0, every_weaker P Q h xs a.1)
-
-all_append : {X : Type 0} (f : X → Bool) (xs ys : List X) → list_all f xs ≡ true → list_all f ys ≡ true → list_all f (xs ++ ys) ≡ true
-all_append f [] ys a b = b
-all_append f (x ∷ xs) ys a b = let p = and_parts _ _ a in and_from _ _ p.0 (all_append f xs ys p.1 b)
-
-any_push : {X : Type 0} (f : X → Bool) (xs : List X) (x : X) → list_any f xs ≡ false → f x ≡ false → list_any f (xs ++ x ∷ []) ≡ false
-any_push f [] x a b = or_from _ _ b refl
-any_push f (y ∷ ys) x a b = let p = or_parts _ _ a in or_from _ _ p.0 (any_push f ys x p.1 b)
 
 -- ---- each line is in range
 
@@ -63,10 +49,6 @@ no_overlap before (l ∷ ls) h a =
     pushed : (ms : List Line) → AllByRecursion (λ m. list_any (shares m) before ≡ false) ms → list_all (λ m. not (shares m l)) ms ≡ true → AllByRecursion (λ m. list_any (shares m) (before ++ l ∷ []) ≡ false) ms
     pushed [] h e = tt
     pushed (m ∷ ms) h e = let p = and_parts (not (shares m l)) _ e in (any_push (shares m) before l h.0 (not-true _ p.0), pushed ms h.1 p.1)
-
-pub none_before : (ls : List Line) → AllByRecursion (λ m. list_any (shares m) [] ≡ false) ls
-none_before [] = tt
-none_before (l ∷ ls) = (refl, none_before ls)
 
 apart_append : (xs ys : List Line) → AllByRecursion (λ l. list_all (λ m. not (shares m l)) ys ≡ true) xs → apart xs ≡ true → apart ys ≡ true → apart (xs ++ ys) ≡ true
 apart_append [] ys cross a b = b

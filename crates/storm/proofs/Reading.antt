@@ -1,44 +1,38 @@
 -- A line of a storm is read back from its parts.
-use Rattle.std.proofs.Common.{◌≡◌, ℕ, zero, suc, ◌+◌, ◌<◌, ◌≤◌, Bool, true, false, not, ◌&&◌, ◌||◌, ◌==◌, pos, List, [], ◌∷◌, map, length, Option, Some, Result, refl, sym, ap, ap₂, ◌∙◌, inl, inr, arith, eq-eqb}
+use Rattle.std.proofs.Common.{◌≡◌, ℕ, ◌+◌, ◌<◌, ◌≤◌, true, false, not, ◌&&◌, ◌==◌, pos, List, [], ◌∷◌, map, length, Option, Some, Result, refl, sym, ap, ap₂, ◌∙◌, inl, inr, arith, eq-eqb}
 use Rattle.std.specs.Prelude.{nat_lt, nat_le, option_map}
 use Rattle.std.specs.List.{list_all, filter_map, AllByRecursion}
 use Rattle.std.specs.Ordering.{int_eq}
 use Rattle.std.specs.Result.{result_ok}
-use Rattle.std.proofs.lemmas.Bool.{and_parts, and_from, or_parts, cases_eq, ne_eqb, not-true, not_from_false, leb-true, ltb-true}
+use Rattle.std.proofs.lemmas.Bool.{and_parts, and_from, cases_eq, ne_eqb, not-true, not_from_false, leb-true, ltb-true}
 use Rattle.std.proofs.lemmas.Int.{ints}
 use Rattle.node_grid.specs.NodeSet.{has_id, without_id, IsIdSet}
 use Rattle.node_grid.specs.NodeSetLaws.{filter_range}
+use Rattle.node_grid.specs.ListFacts.{every_append, every_weaker}
+use Rattle.node_grid.specs.NumberFacts.{not_above}
+use Rattle.node_grid.specs.SetFacts.{without_other}
 use Rattle.fault_classes.specs.Change.{Change}
 use Rattle.fault_classes.specs.Change.Change.{Drop, Cut, Twice, Time, Set, Raw}
 use Rattle.fault_classes.specs.Line.{Line}
 use Rattle.fault_classes.specs.Rules as plan
-use Rattle.hex.specs.Hex.{encode_lower, IsBytes}
+use Rattle.scenario.specs.Facts.{bytes_at, span_is, has_number_same}
+use Rattle.hex.specs.Hex.{encode_lower}
 use Rattle.hex.specs.declared.error.FromHexError.{FromHexError}
 use Rattle.hex.proofs.HexLemmas.{decode_of-encode_lower}
-use Rattle.scenario.specs.Numbers.{is_between, is_below, is_rising, is_empty, are_some_below, has_number, means, meant}
-use Rattle.scenario.specs.Line.{bytes_of, decoded, change_of_effect, is_span, others_of, is_placed, line_with, line_at}
+use Rattle.scenario.specs.Numbers.{is_between, is_below, is_rising, is_empty, are_some_below, means, meant}
+use Rattle.scenario.specs.Line.{bytes_of, decoded, change_of_effect, others_of, is_placed, line_with, line_at}
 use Rattle.storm.specs.Storm.{Block, lines_of}
 use Rattle.storm.specs.Parts.{numbers_of, effect_of, fault_of}
 use Rattle.storm.proofs.Shape.{IsLineOf, ascends, WritesBytes, AreBlocks}
-use Rattle.storm.proofs.Planned.{every_append, every_weaker, line_in_range}
+use Rattle.storm.proofs.Planned.{line_in_range}
 
 -- ---- lists of numbers
-
-not_less : (a b : ℕ) → b ≤ a → nat_lt a b ≡ false
-not_less a b h = grind arith
-
-not_above : (a b : ℕ) → a ≤ b → not (nat_lt b a) ≡ true
-not_above a b h = not_from_false _ (not_less b a h)
 
 same_number : (x k : ℕ) → int_eq (pos x) (pos k) ≡ (x == k)
 same_number x k = elim (cases_eq x k) [
   | inl e ↦ let a : int_eq (pos x) (pos k) ≡ true = grind (arith, ints) in a ∙ sym (eq-eqb x k e)
   | inr ne ↦ let a : int_eq (pos x) (pos k) ≡ false = grind (arith, ints) in a ∙ sym (ne_eqb x k ne)
 ]
-
-has_same : (xs : List ℕ) (k : ℕ) → has_number (map pos xs) k ≡ has_id xs k
-has_same [] k = refl
-has_same (x ∷ xs) k = ap₂ (λ (a b : Bool). a || b) (same_number x k) (has_same xs k)
 
 ascends_same : (xs : List ℕ) → ascends xs ≡ true → is_rising (map pos xs) ≡ true
 ascends_same [] h = refl
@@ -59,25 +53,11 @@ numbers_are n xs below up =
     and_from _ _ (some_same xs p.0) (and_from _ _ (ascends_same xs up) (below_same n xs p.1))
 
 meant_back : (n : ℕ) (xs : List ℕ) → IsIdSet n xs → meant n (numbers_of xs) ≡ xs
-meant_back n xs set = filter_range (means (numbers_of xs)) (has_id xs) 0 n (λ k l u. has_same xs k) ∙ sym set
-
-without_none : (xs : List ℕ) (x : ℕ) → has_id xs x ≡ false → without_id xs x ≡ xs
-without_none [] x h = refl
-without_none (y ∷ ys) x h = let p = or_parts (y == x) _ h in let rest = without_none ys x p.1 in rw p.0 (ap (λ (zs : List ℕ). y ∷ zs) rest)
+meant_back n xs set = filter_range (means (numbers_of xs)) (has_id xs) 0 n (λ k l u. has_number_same xs k) ∙ sym set
 
 -- ---- periods
 
-span_is : (periods first last : ℕ) → first ≤ last → last < periods → is_span periods (pos first ∷ pos last ∷ []) ≡ true
-span_is periods first last ordered low = and_from _ _ (and_from _ _ (not_above 0 first (omega arith)) (not_above first last ordered)) (below last periods low) where
-  below : (a b : ℕ) → a < b → nat_lt a b ≡ true
-  below a b h = grind arith
-
 -- ---- what is changed
-
-bytes_at : (bs : List ℕ) → AllByRecursion (λ b. b < 256) bs → IsBytes bs
-bytes_at [] h i = omega arith
-bytes_at (b ∷ bs) h zero = h.0
-bytes_at (b ∷ bs) h (suc i) = bytes_at bs h.1 i
 
 decoded_back : (least : ℕ) (bs : List ℕ) → AllByRecursion (λ b. b < 256) bs → (nat_le least (length bs) && nat_le (length bs) 4096) ≡ true → decoded least (encode_lower bs) ≡ Some bs
 decoded_back least bs h size = ap (λ (r : Result (List ℕ) FromHexError). bytes_of least (result_ok r)) (decode_of-encode_lower bs (bytes_at bs h)) ∙ rw size refl
@@ -118,9 +98,9 @@ line_back l h =
     let f = and_parts (plan.are_below 8 l.slots) _ e.1 in
     let apart : has_id l.to l.from ≡ false = not-true _ c.0 in
     let placed : is_placed 8 8 1024 (fault_of l) ≡ true =
-    and_from _ _ (and_from _ _ (and_from _ _ (and_from _ _ a.0 (numbers_are 8 l.to b.0 h.ascending)) (not_from_false _ (has_same l.to l.from ∙ apart)))
+    and_from _ _ (and_from _ _ (and_from _ _ (and_from _ _ a.0 (numbers_are 8 l.to b.0 h.ascending)) (not_from_false _ (has_number_same l.to l.from ∙ apart)))
     (span_is 1024 l.first l.last (leb-true _ _ d.0) (ltb-true _ _ e.0))) (numbers_are 8 l.slots f.0 h.slots_ascend) in
-    let to : others_of 8 (pos l.from) (numbers_of l.to) ≡ l.to = ap (λ (xs : List ℕ). without_id xs l.from) (meant_back 8 l.to h.set) ∙ without_none l.to l.from apart in
+    let to : others_of 8 (pos l.from) (numbers_of l.to) ≡ l.to = ap (λ (xs : List ℕ). without_id xs l.from) (meant_back 8 l.to h.set) ∙ without_other l.to l.from apart in
     let slots : meant 8 (numbers_of l.slots) ≡ l.slots = meant_back 8 l.slots h.slots_set in
     rw placed (ap (option_map (line_with 8 8 (fault_of l))) (change_back l.change f.1 h.bytes) ∙ ap₂ (line_to l) to slots)
 

@@ -8,6 +8,7 @@ use Rattle.fault_classes.specs.declared.line.Restart.{Restart}
 use Rattle.fault_classes.specs.Line.{Line}
 use Rattle.fault_classes.specs.Rules as plan
 use Rattle.fault_classes.specs.Rules.{first_overlap}
+use Rattle.fault_classes.specs.Facts.{none_before}
 use Rattle.scenario.specs.Line.{line_at, restart_of}
 use Rattle.scenario.specs.Given as given
 use Rattle.scenario.specs.Rules.{first_bad, is_fault_part, is_restart_part, first_refused_restart, early_refusal, cycles_refusal, plan_refusal, clock_refusal, refusal}
@@ -17,7 +18,7 @@ use Rattle.storm.specs.Parts.{fault_of, restart_parts, parts_of}
 use Rattle.storm.specs.Laws.{UnrefusedLaw}
 use Rattle.storm.proofs.Shape.{AreBlocks}
 use Rattle.storm.proofs.Drawn.{blocks_are, length-blocks}
-use Rattle.storm.proofs.Planned.{IsEarlier, no_overlap, none_before, all_apart, restarts_in_order, few_lines}
+use Rattle.storm.proofs.Planned.{IsEarlier, no_overlap, all_apart, restarts_in_order, few_lines}
 use Rattle.storm.proofs.Reading.{IsSpelt, line_back, lines_back, all_spelt}
 
 no_bad_fault : (k : ℕ) (ls : List Line) → AllByRecursion IsSpelt ls → first_bad (is_fault_part 8 8 1024) k (map fault_of ls) ≡ None

@@ -3,22 +3,15 @@ use Rattle.std.proofs.Common.{◌≡◌, ℕ, zero, suc, ◌+◌, Bool, not, ◌
 use Rattle.std.specs.List.{range_with_len, sum_by, fold}
 use Rattle.node_grid.specs.NodeSet.{ids_below, has_id}
 use Rattle.node_grid.specs.Count.{bit, count}
+use Rattle.node_grid.specs.NodeSetLaws.{count-range}
 use Rattle.storm_sum.specs.Summary.{lost, how_many, total}
-
-count_range : (f : ℕ → Bool) (a n : ℕ) → count f (range_with_len a (suc n)) ≡ count f (range_with_len a n) + bit (f (a + n))
-count_range f a zero = let e : a + 0 ≡ a = omega arith in let h : bit (f (a + 0)) ≡ bit (f a) = ap (λ (k : ℕ). bit (f k)) e in omega arith
-count_range f a (suc n) =
-    let rest = count_range f (a + 1) n in
-    let e : (a + 1) + n ≡ a + suc n = omega arith in
-    let h : bit (f ((a + 1) + n)) ≡ bit (f (a + suc n)) = ap (λ (k : ℕ). bit (f k)) e in
-    omega arith
 
 pub how_many_more : (f : ℕ → Bool) (n : ℕ) → how_many f (n + 1) ≡ how_many f n + bit (f n)
 unfolding how_many
 how_many_more f n =
     let e : n + 1 ≡ suc n = omega arith in
     let z : 0 + n ≡ n = omega arith in
-    ap (λ (k : ℕ). count f (ids_below k)) e ∙ count_range f 0 n ∙ ap (λ (k : ℕ). count f (ids_below n) + bit (f k)) z
+    ap (λ (k : ℕ). count f (ids_below k)) e ∙ count-range f 0 n ∙ ap (λ (k : ℕ). count f (ids_below n) + bit (f k)) z
 
 fold_from : (f : ℕ → ℕ) (b : ℕ) (xs : List ℕ) → fold (λ (a x : ℕ). a + f x) b xs ≡ b + sum_by f xs
 fold_from f b [] = omega arith
@@ -49,7 +42,7 @@ unfolding lost
 lost_more n xs ys =
     let e : n + 1 ≡ suc n = omega arith in
     let z : 0 + n ≡ n = omega arith in
-    ap (λ (k : ℕ). count (λ j. has_id xs j && not (has_id ys j)) (ids_below k)) e ∙ count_range (λ j. has_id xs j && not (has_id ys j)) 0 n
+    ap (λ (k : ℕ). count (λ j. has_id xs j && not (has_id ys j)) (ids_below k)) e ∙ count-range (λ j. has_id xs j && not (has_id ys j)) 0 n
     ∙ ap (λ (k : ℕ). count (λ j. has_id xs j && not (has_id ys j)) (ids_below n) + bit (has_id xs k && not (has_id ys k))) z
 
 pub lost_none : (xs ys : List ℕ) → lost 0 xs ys ≡ 0

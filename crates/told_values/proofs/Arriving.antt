@@ -19,11 +19,11 @@ use Rattle.protocol.specs.Arrival.Arrival.{Bad, Good}
 use Rattle.protocol.specs.Configured.{setting_of}
 use Rattle.protocol.specs.Talk.{arrives, frame_by}
 use Rattle.protocol.specs.View.{Received, own_in, value_of, value_in, value_from}
+use Rattle.protocol.specs.Facts.{value_there}
 use Rattle.touched_frames.specs.Arrived.{part_of}
 use Rattle.touched_frames.proofs.Effects.{parts_law}
 use Rattle.told_values.specs.Slot.{DataView, IsDataSlot, own_of, own_told, said, expects, change_to, values_at, Hears, HearAlike}
 use Rattle.told_values.specs.Heard.{untouched_kind}
-use Rattle.told_values.proofs.ByPlace.{value_there}
 use Rattle.told_values.proofs.Expected.{expected_in, expectation_is, comes, comes_malformed, comes_cold}
 
 -- ---- frames of which a line replaces bytes, or that come otherwise than they should

@@ -2,14 +2,14 @@
 use Rattle.std.proofs.Common.{ℕ, ◌≡◌, ◌≢◌, ◌+◌, Bool, true, false, ◌&&◌, ◌||◌, List, [], ◌∷◌, length, refl, sym, ap, ap₂, ◌∙◌, arith, eq-eqb, ne_eqb, Option, None, ℤ}
 use Rattle.std.specs.Prelude.{◌==◌, if◌then◌else◌}
 use Rattle.std.proofs.lemmas.Bool.{cond-true, cond-false}
-use Rattle.std.proofs.lemmas.Bool.Decides.{nat_tests}
 use Rattle.node_grid.specs.Kinds.{malformed, cold}
 use Rattle.slot_plan.specs.Ticks.{is_in_window}
-use Rattle.frames.specs.Content.{Content, Expectation, kind_in}
+use Rattle.frames.specs.Content.{Content, Expectation}
 use Rattle.frames.specs.Content.Content.{State, Done0, DoneRelay, Data, Report0, ReportRelay, Cold}
 use Rattle.frames.specs.Spelling.{IsInRange}
 use Rattle.frames.specs.Reading.{fits, fits_sizes, answer_if, confirmed, reading}
 use Rattle.frames.specs.ReadingLaws.{said_spelt}
+use Rattle.frames.specs.Facts.{value_kind}
 use Rattle.error_detect.specs.Finding.{Delivery, found_of, told_of, kind_of}
 use Rattle.error_detect.specs.declared.finding.Finding.TheVariants.{Timing}
 use Rattle.fault_classes.specs.Change.{Change}
@@ -45,9 +45,6 @@ expectation_is s p j due =
     ap₂ (λ (ms : List ℕ) (k : ℕ). expected_in s p j ms k)
     (cond-false (s.config.m + 2 == 0) [] [] (ne_eqb (s.config.m + 2) 0 (λ z. omega arith)))
     (cond-true (s.config.m + 2 == s.config.m + 2) due 0 (eq-eqb (s.config.m + 2) (s.config.m + 2) refl))
-
-value_kind : (m : ℕ) → kind_in m (m + 2) ≡ 4
-value_kind m = grind (arith, nat_tests)
 
 -- ---- members
 

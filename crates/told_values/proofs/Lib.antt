@@ -1,4 +1,3 @@
-mod Tests
 mod ByPlace
 mod Expected
 mod Arriving

@@ -1,17 +1,13 @@
 -- What nodes note.
-use Rattle.std.proofs.Common.{ℕ, ◌≡◌, ◌≢◌, ◌<◌, ◌≤◌, ◌==◌, ◌&&◌, ◌||◌, Bool, true, false, not, List, [], refl, sym, ap, ◌∙◌, ne_eqb, Option}
+use Rattle.std.proofs.Common.{ℕ, ◌≡◌, ◌≢◌, ◌<◌, ◌≤◌, ◌==◌, ◌&&◌, ◌||◌, Bool, true, false, not, List, [], sym, ap, ◌∙◌, ne_eqb, Option}
 use Rattle.node_grid.specs.Kinds.{deviate}
 use Rattle.node_grid.specs.NodeSet.{has_id, without_id}
 use Rattle.node_grid.specs.NodeSetLaws.{has-without_id}
 use Rattle.error_reports.specs.Notes.{Notes, also_noted, is_kind, of_each}
 use Rattle.error_reports.specs.NoteLaws.{noted_alike, noted_twice}
 use Rattle.protocol.specs.Arrival.{Arrival, is_bad, is_good}
+use Rattle.protocol.specs.Facts.{none_bad}
 use Rattle.told_values.specs.Within.{IsWithin}
-
--- what is good is no error
-pub good_is : {C : Type 0} (a : Arrival C) (k : ℕ) → is_good a ≡ true → is_bad a k ≡ false
-good_is (Arrival.Bad x) k h = cc
-good_is (Arrival.Good c) k h = refl
 
 -- where nobody else is off, nobody is noted
 pub nobody_off : (capacity : ℕ) (n : Notes) (off : List ℕ) → without_id off n.me ≡ [] → IsWithin capacity n → n ≡ also_noted capacity n (of_each off deviate)
@@ -24,7 +20,7 @@ nobody_off capacity n off none within =
 -- where all that came is good, no error is noted
 pub no_error : {C : Type 0} (capacity : ℕ) (n : Notes) (a : ℕ → Arrival C) → ((j : ℕ) → j < n.nodes → j ≢ n.me → is_good (a j) ≡ true) → IsWithin capacity n → n ≡ also_noted capacity n (λ j k. is_bad (a j) k)
 no_error capacity n a good within =
-    sym (noted_alike capacity n (λ j k. is_bad (a j) k) (λ j k. false) (λ j k low used other few. good_is (a j) k (good j used other)) ∙ within)
+    sym (noted_alike capacity n (λ j k. is_bad (a j) k) (λ j k. false) (λ j k low used other few. none_bad (a j) k (good j used other)) ∙ within)
 
 -- kinds of error that are those of what came
 pub errors_are : {C : Type 0} (capacity : ℕ) (n new : Notes) (kinds : ℕ → Option ℕ) (a : ℕ → Arrival C) → new ≡ also_noted capacity n (λ j k. is_kind (kinds j) k)

@@ -6,6 +6,7 @@ use Rattle.std.proofs.lemmas.Bool.{cases_lt}
 use Rattle.node_grid.specs.Capacity.{IsCapacity}
 use Rattle.node_grid.specs.NodeSet.{has_id, IsIdSet}
 use Rattle.node_grid.specs.NodeSetLaws.{All-ids, length-ids, hasnt-above}
+use Rattle.node_grid.specs.SetFacts.{IsIdSet-wider}
 use Rattle.frames.specs.Content.{Content, Expectation, IsValue}
 use Rattle.frames.specs.EntryLaws.{value_format}
 use Rattle.frames.specs.PieceLaws.{read_spelt, length_spelt, take-pasted}
@@ -20,7 +21,6 @@ use Rattle.agreed_state.specs.declared.config.Config.{Config}
 use Rattle.agreed_state.specs.ConfigLaws.{few_rounds}
 use Rattle.protocol.specs.Arrival.{values_in}
 use Rattle.protocol.specs.Talk.{arrives}
-use Rattle.data_slot.specs.DueSets.{wider}
 use Rattle.touched_frames.specs.Arrived.{IsCluster, IsSentAs}
 use Rattle.told_values.specs.declared.hearing.Heard.{Heard}
 use Rattle.told_values.specs.Slot.{DataView, IsDataSlot, said, expects}
@@ -32,7 +32,7 @@ module _ {n : ℕ} (d : DataView n) (slot : IsDataSlot d) (i : ℕ) (low : i < d
   due_few = let l = length-ids (length d.config.channels.items) (d.due i) (slot.due i low) in let f = slot.config.few_channels in omega arith
 
   pub due_set : IsIdSet 8 (d.due i)
-  due_set = wider (length d.config.channels.items) 8 (d.due i) slot.config.few_channels (slot.due i low)
+  due_set = IsIdSet-wider (length d.config.channels.items) 8 (d.due i) slot.config.few_channels (slot.due i low)
 
   pub channels_low : (config : Config n) (ds : List ℕ) → config ≡ d.config → ds ≡ d.due i → All (λ c. c < length config.channels.items) ds
   channels_low config ds same is =

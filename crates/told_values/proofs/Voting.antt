@@ -1,25 +1,21 @@
 -- Votes and deviations by the values that were told are those of the protocol.
-use Rattle.std.proofs.Common.{◌&&◌, ℕ, ◌≡◌, ◌≢◌, ◌<◌, ◌==◌, true, if◌then◌else◌, List, [], ◌∷◌, refl, ap, ap₂, ◌∙◌, eq-eqb, ne_eqb, Option, None, Some, ℤ}
-use Rattle.std.specs.List.{filter_map, cons_option}
-use Rattle.std.proofs.lemmas.Bool.{cond-false, or_left, or_right}
+use Rattle.std.proofs.Common.{◌&&◌, ℕ, ◌≡◌, ◌≢◌, ◌<◌, ◌==◌, if◌then◌else◌, List, ap, ◌∙◌, ne_eqb, Option, None, Some, ℤ}
+use Rattle.std.proofs.lemmas.Bool.{cond-false}
 use Rattle.node_grid.specs.NodeSet.{has_id, ids_where, IsIdSet}
 use Rattle.node_grid.specs.NodeSetLaws.{has-filter}
-use Rattle.omh_paths.specs.MemberLaws.{member-lt}
+use Rattle.node_grid.specs.SetFacts.{filter_map_members, member-lt}
 use Rattle.omh_paths.specs.declared.wrapped.Wrapped.{Wrapped}
 use Rattle.mme_vote.specs.Channel.{delta_of, is_judged}
 use Rattle.mme_vote.specs.Vote.{vote_of}
 use Rattle.agreed_state.specs.Agreed.{AgreedView}
 use Rattle.protocol.specs.Configured.{setting_of}
 use Rattle.protocol.specs.View.{Received, Setting, channel, deviates, is_far, own_in, lies_tolerated, value_at, value_from, value_in, vote_on, voters, votes_on}
+use Rattle.protocol.specs.Facts.{voter_member}
 use Rattle.data_slot.specs.Told.{value_told}
 use Rattle.data_slot.specs.Values.{by_channel}
-use Rattle.data_slot.specs.VoteLaws.{by_alike, list_any_alike, voter_member}
+use Rattle.data_slot.specs.VoteLaws.{by_alike, list_any_alike}
 use Rattle.data_slot.specs.Votes.{is_off, vote_due}
 use Rattle.told_values.specs.Slot.{DataView, own_of, IsTold}
-
-filter_map_members : (f g : ℕ → Option ℤ) (ms : List ℕ) → ((q : ℕ) → has_id ms q ≡ true → f q ≡ g q) → filter_map f ms ≡ filter_map g ms
-filter_map_members f g [] h = refl
-filter_map_members f g (q ∷ ms) h = ap₂ cons_option (h q (or_left (q == q) (has_id ms q) (eq-eqb q q refl))) (filter_map_members f g ms (λ x on. h x (or_right (q == x) (has_id ms x) on)))
 
 module _ {N : ℕ} (d : DataView N) (j : ℕ) (y : Received) (told : List (Option (List ℤ))) (is : IsTold d j y told) where
   pub votes_are : (a : AgreedView) (done : List (Wrapped ℕ)) → IsIdSet d.config.nodes a.standing.members

@@ -1,23 +1,16 @@
 -- What an answer decides.
 use Rattle.std.proofs.Common.{◌≡◌, ℕ, ◌<◌, ◌≤◌, List, length, arith, inl, inr, sym, ◌∙◌, ap, subst, Option, Some, None, refl}
 use Rattle.std.specs.Prelude.{IfSome}
+use Rattle.node_grid.specs.NumberFacts.{nothing_told}
 use Rattle.span_io.specs.Causes.{Rose}
-use Rattle.serde_json.specs.Data.{Data}
-use Rattle.scenario_reading.specs.Reading.{Reads}
 use Rattle.scenario_reading.specs.Verdict.{value_refusal, refusal_on}
+use Rattle.scenario_reading.specs.Facts.{same_value}
 use Rattle.node_alone.specs.Rules.{record_refusal}
 use Rattle.program_words.specs.declared.status.Status.{Status}
 use Rattle.program_words.specs.declared.status.Status.TheVariants.{Done, Usage, Unreadable, Refused, ReadFault, WriteFault, NoMemory, TooLong}
 use Rattle.top_call.specs.declared.form.Reading.{Reading}
 use Rattle.top_call.specs.declared.form.Reading.TheVariants.{Scenario, Log}
 use Rattle.top_call.specs.Answers.{input_limit, capacity, IsRefused, IsUnreadable, IsAcceptedInput, HasTextOf, Decides, Answers}
-
--- bytes are text of one value alone
-same_value : (bytes : List ℕ) (d e : Data) → Reads bytes d → Reads bytes e → d ≡ e
-same_value bytes d e h k = let s : ◌≡◌ {A = Option Data} (Some d) (Some e) = sym h.1 ∙ k.1 in cc
-
-nothing : (rule place : ℕ) → ◌≡◌ {A = Option (ℕ × ℕ)} None (Some (rule, place)) → ⊥
-nothing rule place e = cc
 
 -- bytes with a text are accepted
 input_of : (reading : Reading) (bytes text : List ℕ) → HasTextOf reading bytes text → IsAcceptedInput reading bytes
@@ -35,11 +28,11 @@ not_both (Scenario form) bytes rule place h r =
     let a = h.1 in
     let same : a.value ≡ r.value = same_value bytes a.value r.value a.reads r.reads in
     let unrefused : value_refusal capacity a.value ≡ None = ap (refusal_on capacity) a.accepted.reads ∙ a.accepted.unrefused in
-    nothing rule place (sym unrefused ∙ ap (value_refusal capacity) same ∙ r.refused)
+    nothing_told rule place (sym unrefused ∙ ap (value_refusal capacity) same ∙ r.refused)
 not_both (Log id) bytes rule place h r =
     let a = h.1 in
     let same : a.value ≡ r.value = same_value bytes a.value r.value a.reads r.reads in
-    nothing rule place (sym a.accepted.unrefused ∙ ap (record_refusal capacity id) same ∙ r.refused)
+    nothing_told rule place (sym a.accepted.unrefused ∙ ap (record_refusal capacity id) same ∙ r.refused)
 
 pub no_memory : (reading : Reading) (bytes : List ℕ) (before now : ℕ) → Decides reading bytes before now NoMemory
 no_memory reading bytes before now = record {

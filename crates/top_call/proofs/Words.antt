@@ -1,9 +1,7 @@
 -- The words of a call.
-use Rattle.std.proofs.Common.{◌≡◌, ℕ, ◌<◌, ◌≤◌, ◌^◌, List, [], ◌∷◌, length, get_or, ap, ap₂, arith, sym, ◌∙◌, Bool, true, false, Option, None, Some, Result, Ok, Err}
+use Rattle.std.proofs.Common.{◌≡◌, ℕ, ◌<◌, ◌≤◌, ◌^◌, List, [], ◌∷◌, length, get_or, ap, ap₂, arith, sym, ◌∙◌, Option, None, Some}
 use Rattle.std.specs.Prelude.{String, string_bytes, codes, decimal, IfSome}
-use Rattle.std.specs.Str.Parse.{ParsesUnsigned}
 use Rattle.std.specs.declared.alloc.Global.{Global}
-use Rattle.std.proofs.lemmas.Fmt.{parse-decimal}
 use Rattle.top_call.specs.declared.form.Form.{Form}
 use Rattle.top_call.specs.declared.form.Reading.TheVariants.{Scenario, Log}
 use Rattle.top_call.specs.declared.form.Command.{Command}
@@ -30,9 +28,6 @@ two_words_first (x ∷ []) v h e = absurd (omega arith)
 two_words_first (x ∷ y ∷ []) v h e = (string_bytes y ∷ [], ap (λ s. string_bytes s ∷ string_bytes y ∷ []) (sym e))
 two_words_first (x ∷ y ∷ z ∷ ws) v h e = absurd (omega arith)
 
-pub never : (b : Bool) → b ≡ false → b ≡ true → ⊥
-never b h k = let s : ◌≡◌ {A = Bool} false true = sym h ∙ k in cc
-
 pub first : {xs ys : List (List ℕ)} (x y : List ℕ) → ◌≡◌ {A = List (List ℕ)} (x ∷ xs) (y ∷ ys) → x ≡ y
 first x y e = cc
 
@@ -40,16 +35,6 @@ pub second : (v w x y : List ℕ) → ◌≡◌ {A = List (List ℕ)} (v ∷ w �
 second v w x y e = cc
 
 -- ---- numbers
-
--- a number that is read of its decimal text is that number
-pub read_back : {E : Type 0} (word : List ℕ) (n : ℕ) (r : Result ℕ E) → n < 2 ^ 64 → word ≡ decimal n → ParsesUnsigned 64 10 word r → r ≡ Ok n
-read_back word n r low e reads = parse-decimal 64 n word r low low e reads
-
-pub not_both : {E : Type 0} (r : Result ℕ E) (n : ℕ) (e : E) → r ≡ Ok n → r ≡ Err e → ⊥
-not_both {E = E} r n e h k = let s : ◌≡◌ {A = Result ℕ E} (Ok n) (Err e) = sym h ∙ k in cc
-
-pub same_number : {E : Type 0} (r : Result ℕ E) (m n : ℕ) → r ≡ Ok m → r ≡ Ok n → m ≡ n
-same_number {E = E} r m n h k = let s : ◌≡◌ {A = Result ℕ E} (Ok m) (Ok n) = sym h ∙ k in cc
 
 -- the number of the second word is that of both
 pub then_both : (ws : List (List ℕ)) (v w first word : List ℕ) (r : Option ℕ) → ws ≡ v ∷ w ∷ [] → v ≡ first → word ≡ w → IfSome r (λ n. word ≡ decimal n) → IfSome r (λ n. ws ≡ first ∷ decimal n ∷ [])

@@ -7,10 +7,10 @@ use Rattle.std.specs.Cmp.Lexicographic.{pointwise}
 use Rattle.std.proofs.lemmas.Bool.{cases_Bool, cond-true, cond-false, and_from}
 use Rattle.std.proofs.lemmas.Bool.Decides.{same_from_decides}
 use Rattle.std.proofs.lemmas.Slice.Eq.{bytes_eq-Decides}
-use Rattle.std.proofs.Math.Nat.{add-mul-div_left, div-eq_of_lt}
 use Rattle.std.proofs.lemmas.List.{drop-drop, drop_at, length-map, length-append}
 use Rattle.std.proofs.lemmas.List.Elements.{All-get_or}
 use Rattle.node_grid.specs.Kinds.{malformed, cold}
+use Rattle.node_grid.specs.NumberFacts.{times_over}
 use Rattle.omh_paths.specs.declared.wrapped.Wrapped.{Wrapped}
 use Rattle.omh_paths.specs.declared.wrapped.Wrapped.TheVariants.{Plain, Fault}
 use Rattle.frames.specs.FrameKinds.{cold_kind}
@@ -85,11 +85,6 @@ by_good : {C : Type 0} (h : Option ℕ) (due : Bool) (xs ys : C) → arrival_by 
 by_good (Some k) due xs ys e = absurd (cc)
 by_good None true xs ys e = cc
 by_good None false xs ys e = absurd (cc)
-
-times_over : (width n : ℕ) → 0 < width → (width * n) / width ≡ n
-times_over width n h =
-    let z : 0 / width ≡ 0 = div-eq_of_lt h in
-    ap (λ (x : ℕ). x / width) (omega arith) ∙ add-mul-div_left 0 n h ∙ omega arith
 
 -- what is found of a frame whose kind is told
 pub told_bad : {C : Type 0} (o : Option C) → is_some o ≡ false → bad_kind (read_as o) ≡ Some malformed

@@ -1,11 +1,12 @@
 -- Claims and rows as items.
-use Rattle.std.proofs.Common.{ℕ, zero, suc, false, true, List, [], ◌∷◌, ◌==◌, ◌≡◌, ◌<◌, ◌≤◌, ◌+◌, ◌*◌, length, take, refl, ap, ◌∙◌, inl, inr, arith, lit<, Some, None}
+use Rattle.std.proofs.Common.{ℕ, zero, suc, true, List, [], ◌∷◌, ◌==◌, ◌≡◌, ◌<◌, ◌≤◌, ◌+◌, ◌*◌, length, take, refl, ap, ◌∙◌, inl, inr, arith, lit<, Some, None}
 use Rattle.std.specs.Prelude.{◌≢◌, replicate, is_some}
 use Rattle.std.specs.Int.{w16, to_be_bytes, byte_at}
 use Rattle.std.specs.List.{flat_map}
 use Rattle.std.proofs.lemmas.Bool.{eqb-true, leb-true, and_parts}
 use Rattle.std.proofs.lemmas.List.{length-take}
 use Rattle.std.proofs.lemmas.Option.{same_Some}
+use Rattle.node_grid.specs.NumberFacts.{above_zero}
 use Rattle.omh_paths.specs.declared.wrapped.Wrapped.{Wrapped}
 use Rattle.omh_paths.specs.declared.wrapped.Wrapped.TheVariants.{Plain, Fault}
 use Rattle.frames.specs.FrameKinds.{claim_kind, claim_relay_kind, row_kind, row_relay_kind}
@@ -15,6 +16,7 @@ use Rattle.frames.specs.Reading.{content_claim, relayed_row_in}
 use Rattle.frames.specs.Checks.{is_claim_entry, is_row_entry}
 use Rattle.frames.specs.PieceLaws.{AreBytes}
 use Rattle.frames.specs.EntryLaws.{claim_format, claim_test, claim_valid, relayed_row_format, relayed_row_test, length-masks}
+use Rattle.frames.specs.Facts.{rows_kinded, claims_kinded}
 use Rattle.protocol.specs.Arrival.{claim_form, row_form, claim_in, claims_in, row_in, rows_in}
 use Rattle.protocol.specs.Run.{System, claim_sent, change_at, full_at, so_far, after_sync, after_values, goes_in}
 use Rattle.protocol.specs.ViewLaws.{IsValid, before_valid}
@@ -46,15 +48,6 @@ claim_entries = record {
   test = λ s r. is_claim_entry s.tasks r;
 }
 
-relayed_claims : (c : Content) → kind c ≡ claim_relay_kind → (es : List (Wrapped ℕ)) × (c ≡ DoneRelay es)
-relayed_claims (State bytes) h = absurd (cc)
-relayed_claims (Done0 task) h = absurd (cc)
-relayed_claims (DoneRelay entries) h = (entries, refl)
-relayed_claims (Data numbers) h = absurd (cc)
-relayed_claims (Report0 masks) h = absurd (cc)
-relayed_claims (ReportRelay entries) h = absurd (cc)
-relayed_claims Cold h = absurd (cc)
-
 claims_read : (c : Content) (es : List (Wrapped ℕ)) → claims_in c ≡ Some es → c ≡ DoneRelay es
 claims_read (State bytes) es h = absurd (cc)
 claims_read (Done0 task) es h = absurd (cc)
@@ -82,9 +75,6 @@ claims_alone (Report0 masks) a b = refl
 claims_alone (ReportRelay entries) a b = refl
 claims_alone Cold a b = refl
 
-above_zero : (k : ℕ) → (suc k == 0) ≡ false
-above_zero k = grind arith
-
 claim_spelt : (tasks r : ℕ) (b : List ℕ) → length b ≡ 2 → is_claim_entry tasks r b ≡ true → IsEntry (IsClaim tasks) r (content_claim b) × (claim_spelling (content_claim b) ≡ b)
 claim_spelt tasks r (zero ∷ y ∷ []) l h = (claim_valid tasks y h, refl)
 claim_spelt tasks r (suc k ∷ y ∷ []) l h =
@@ -99,7 +89,7 @@ pub claims_made_of : AreEntries claim_form claim_entries IsClaimIn
 claims_made_of = record {
   kind_is = λ es. refl;
   kind_of = inl refl;
-  of_kind = relayed_claims;
+  of_kind = claims_kinded;
   back = λ es. refl;
   of_entries = claims_read;
   by_kind = claims_by_kind;
@@ -132,15 +122,6 @@ row_entries = record {
   read = relayed_row_in;
   test = λ s r. is_row_entry s.version r;
 }
-
-relayed_rows : (c : Content) → kind c ≡ row_relay_kind → (es : List (Wrapped (List ℕ))) × (c ≡ ReportRelay es)
-relayed_rows (State bytes) h = absurd (cc)
-relayed_rows (Done0 task) h = absurd (cc)
-relayed_rows (DoneRelay entries) h = absurd (cc)
-relayed_rows (Data numbers) h = absurd (cc)
-relayed_rows (Report0 masks) h = absurd (cc)
-relayed_rows (ReportRelay entries) h = (entries, refl)
-relayed_rows Cold h = absurd (cc)
 
 rows_read : (c : Content) (es : List (Wrapped (List ℕ))) → rows_in c ≡ Some es → c ≡ ReportRelay es
 rows_read (State bytes) es h = absurd (cc)
@@ -198,7 +179,7 @@ pub rows_made_of : AreEntries row_form row_entries IsRowIn
 rows_made_of = record {
   kind_is = λ es. refl;
   kind_of = inr refl;
-  of_kind = relayed_rows;
+  of_kind = rows_kinded;
   back = λ es. refl;
   of_entries = rows_read;
   by_kind = rows_by_kind;

@@ -10,6 +10,7 @@ use Rattle.mme_vote.specs.Vote.{distance}
 use Rattle.clock_skew.specs.Clock.{ClockView, IsClock, number_at}
 use Rattle.frames.specs.Content.{IsValue}
 use Rattle.fault_classes.specs.Plan.{Plan}
+use Rattle.frames.specs.Facts.{zero_value}
 use Rattle.agreed_state.specs.declared.config.Config.{Config}
 use Rattle.agreed_state.specs.declared.config.Inputs.{Inputs}
 use Rattle.agreed_state.specs.Config.{IsStart, IsChannel, IsConfig}
@@ -17,7 +18,6 @@ use Rattle.protocol.specs.View.{no_channel, channel}
 use Rattle.protocol.specs.Run.{run, classes}
 use Rattle.protocol.specs.Accepted.{IsClose, IsAccepted}
 use Rattle.protocol.specs.Clocks.{AreClocks}
-use Rattle.protocol.specs.ValueLaws.{zero_value}
 use Rattle.two_capacities.specs.Wider.{wide_channel, wide_config, longer, wide_clock, setting_of, system_over}
 use Rattle.two_capacities.proofs.Lists.{get_padded, get_mapped}
 use Rattle.two_capacities.proofs.Clocks.{number_wide, row_wide}

@@ -8,6 +8,8 @@ use Rattle.std.specs.Int.{w16, to_be_bytes}
 use Rattle.std.proofs.lemmas.Bool.{cases_Bool, and_parts, cond-true, cond-false}
 use Rattle.std.proofs.lemmas.List.{map-append}
 use Rattle.node_grid.specs.NodeSet.{ids_below, has_id, mask_of}
+use Rattle.node_grid.specs.ListLaws.{all_at}
+use Rattle.node_grid.specs.NumberFacts.{above_zero}
 use Rattle.task_graph.specs.Graph.{task_at}
 use Rattle.omh_paths.specs.declared.wrapped.Wrapped.{Wrapped}
 use Rattle.omh_paths.specs.declared.wrapped.Wrapped.TheVariants.{Plain, Fault}
@@ -23,7 +25,6 @@ use Rattle.agreed_state.specs.declared.config.Config.{Config}
 use Rattle.agreed_state.specs.Agreed.{AgreedView}
 use Rattle.agreed_state.specs.Body.{copy_word, copy_words, left_room, words, body, state_len, numbers_in, words_at, copy_in, copy_of, state_in, is_copy, is_running, is_counted, is_left_told, is_state, read_body}
 use Rattle.agreed_state.specs.Adoption.{given, state_read, adopted}
-use Rattle.agreed_state.specs.Ranges.{passes_of}
 use Rattle.two_capacities.specs.Wider.{wide, wide_copies, wide_config, wide_agreed}
 use Rattle.two_capacities.proofs.Lists.{get_wide, take_wide, tab_wide}
 use Rattle.two_capacities.proofs.Copies.{copies_wide, IsNarrow, table_wide, table_narrow, AreBelow}
@@ -53,9 +54,6 @@ no_more test (x ∷ xs) j h = ap (λ n. bit (test x) + n) (no_more test xs j h)
 never : (all : List (Wrapped (List ℕ))) → has_majority same_nodes all (Fault 0) ≡ false
 never all = refl
 
-not_zero : (i : ℕ) → (suc i == 0) ≡ false
-not_zero i = grind arith
-
 still : (all : List (Wrapped (List ℕ))) (j : ℕ) (x : Wrapped (List ℕ)) → has_majority same_nodes (all ++ replicate j (Fault 0)) x ≡ has_majority same_nodes all x
 still all j (Plain v) =
     ap (λ n. nat_lt n (2 * count (same same_nodes (Plain v)) (all ++ replicate j (Fault 0)))) (no_more (λ y. not (is_error y)) all j refl)
@@ -63,7 +61,7 @@ still all j (Plain v) =
 still all j (Fault zero) = refl
 still all j (Fault (suc i)) =
     ap (λ n. not (suc i == 0) && nat_lt n (2 * count (same same_nodes (Fault (suc i))) (all ++ replicate j (Fault 0)))) (no_more (λ y. not (is_error y)) all j refl)
-    ∙ ap (λ n. not (suc i == 0) && nat_lt (count (λ y. not (is_error y)) all) (2 * n)) (no_more (same same_nodes (Fault (suc i))) all j (not_zero i))
+    ∙ ap (λ n. not (suc i == 0) && nat_lt (count (λ y. not (is_error y)) all) (2 * n)) (no_more (same same_nodes (Fault (suc i))) all j (above_zero i))
 
 past : (all : List (Wrapped (List ℕ))) (j : ℕ) → first_majority same_nodes all (replicate j (Fault 0)) ≡ Fault 1
 past all zero = refl
@@ -163,7 +161,7 @@ module _ (c k : ℕ) (g : Config c) where
         let start = (and_parts _ _ (and_parts _ _ (and_parts _ _ (and_parts _ _ h).0).0).0).0 in
         let all : list_all (λ q. nat_lt q g.nodes) a.standing.members ≡ true = (and_parts (nat_lt 0 (length a.standing.members)) (list_all (λ q. nat_lt q g.nodes) a.standing.members) start).1 in
         elim (cases_Bool (has_id a.standing.members q)) [
-          | inl on ↦ let small : q < g.nodes = ltb-true _ _ (passes_of (λ q. nat_lt q g.nodes) a.standing.members q all on) in absurd (omega arith)
+          | inl on ↦ let small : q < g.nodes = ltb-true _ _ (all_at (λ q. nat_lt q g.nodes) a.standing.members q all on) in absurd (omega arith)
           | inr off ↦ off
         ]
 

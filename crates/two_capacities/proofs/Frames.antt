@@ -1,5 +1,5 @@
 -- Frames: the same bytes, and what they say is a row with more places.
-use Rattle.std.proofs.Common.{ℕ, suc, ◌≡◌, ◌<◌, ◌≤◌, ◌+◌, ◌-◌, Bool, true, false, ◌==◌, List, [], ◌∷◌, ◌++◌, map, length, take, drop, replicate, get_or, Option, None, Some, refl, sym, ap, subst, ◌∙◌, ◌⊎◌, arith, length-append}
+use Rattle.std.proofs.Common.{ℕ, suc, ◌≡◌, ◌<◌, ◌≤◌, ◌+◌, ◌-◌, Bool, true, false, List, [], ◌∷◌, ◌++◌, map, length, take, drop, replicate, get_or, Option, None, Some, refl, sym, ap, subst, ◌∙◌, ◌⊎◌, arith, length-append}
 use Rattle.std.specs.Prelude.{if◌then◌else◌, All}
 use Rattle.std.specs.List.{flat_map}
 use Rattle.std.specs.Option.{option_map}
@@ -7,6 +7,7 @@ use Rattle.std.specs.Int.{w16, to_be_bytes}
 use Rattle.std.proofs.lemmas.List.{take_at, take-append-drop, length-take-le, drop-append-le, length-replicate, replicate-append-replicate, append_cancel_right, length-map, append_assoc}
 use Rattle.std.proofs.lemmas.List.Elements.{All-map, All-append, All-take, All-replicate}
 use Rattle.node_grid.specs.Version.{mask_bound}
+use Rattle.node_grid.specs.NumberFacts.{zero_mask}
 use Rattle.omh_paths.specs.declared.wrapped.Wrapped.{Wrapped}
 use Rattle.omh_paths.specs.declared.wrapped.Wrapped.TheVariants.{Plain, Fault}
 use Rattle.frames.specs.Content.{Expectation, Content, State, Done0, DoneRelay, Data, Report0, ReportRelay, Cold, kind, kind_in, IsRow, IsEntry, IsSized}
@@ -81,9 +82,6 @@ module _ (n k : ℕ) where
 abbrev zeros : ℕ → List ℕ
 zeros j = replicate j 0
 
-positive : (v : ℕ) → 0 < mask_bound v
-positive v = elim (v == 1) as (λ b. 0 < (if b then 256 else 65536)) [ true ↦ omega arith | false ↦ omega arith ]
-
 module _ (v cap n k : ℕ) (few : n ≤ cap) where
   zeros_longer : zeros (cap - n) ++ zeros k ≡ zeros (cap + k - n)
   zeros_longer = replicate-append-replicate (cap - n) k 0 ∙ ap zeros (let e : cap - n + k ≡ cap + k - n = omega arith in e)
@@ -94,7 +92,7 @@ module _ (v cap n k : ℕ) (few : n ≤ cap) where
       subst (IsRow v (cap + k) n) (sym (wide_long n k masks room)) (record {
         room = omega arith;
         whole = omega (arith, length-append masks (replicate k 0), length-replicate {A = ℕ} k 0, h.whole);
-        within = All-append (λ mask. mask < mask_bound v) masks (replicate k 0) h.within (All-replicate (λ mask. mask < mask_bound v) k 0 (positive v));
+        within = All-append (λ mask. mask < mask_bound v) masks (replicate k 0) h.within (All-replicate (λ mask. mask < mask_bound v) k 0 (zero_mask v));
         rest = drop-append-le n masks (replicate k 0) room ∙ ap (λ xs. xs ++ replicate k 0) h.rest ∙ zeros_longer;
       })
 

@@ -1,5 +1,6 @@
 -- What nodes of a run keep from period to period.
 use Rattle.std.proofs.Common.{ℕ, zero, suc, ◌≡◌, Bool, true, false, List, Option, None, Some, refl, sym, ap, subst, ◌∙◌}
+use Rattle.node_grid.specs.NumberFacts.{kinds-few}
 use Rattle.fault_classes.specs.Plan.{restarts_at}
 use Rattle.node_grid.specs.Version.{kind_count}
 use Rattle.error_reports.specs.Charge.{accuses}
@@ -10,10 +11,10 @@ use Rattle.agreed_state.specs.Agreed.{AgreedView}
 use Rattle.protocol.specs.Configured.{setting_of}
 use Rattle.protocol.specs.View.{Setting, Kept, first_kept, Received, adopted_by, goes_with, row_by, cold_view, View, through, joined, view_from, opened}
 use Rattle.protocol.specs.ViewLaws.{goes_through}
-use Rattle.protocol.specs.RowLaws.{kinds-few}
 use Rattle.protocol.specs.Cluster.{view}
 use Rattle.protocol.specs.Run.{System, so_far, delivered, all_kept, goes_in, run}
 use Rattle.protocol.specs.RunLaws.{view_is}
+use Rattle.protocol.specs.Facts.{goes_none}
 use Rattle.view_law.specs.Made.{Parts, Blamed, Noted, notes_begun, view_made, IsMadeOf}
 use Rattle.view_law.specs.Laws.{IsWithin}
 use Rattle.view_law.proofs.Rows.{row_told, empty_told, within_told}
@@ -90,13 +91,9 @@ through_is N config sys of p i a goes w b n is =
     ∙ goes_through (setting_of config) i p (sys.inputs i p) (goes_in sys p i) ((run sys).received i p) (goes_in sys p i).state a goes
     ∙ made_is config i p (sys.inputs i p) (goes_in sys p i) ((run sys).received i p) a w b n is
 
-stays_cold : (s : Setting) (i p : ℕ) (g : Inputs) (k : Kept) (x : Received) (o : Option AgreedView) → goes_with s i x o ≡ None → view_from s i p g k x o ≡ cold_view s i x
-stays_cold s i p g k x (Some b) e = cc
-stays_cold s i p g k x None e = ap (joined s i p g k x) e
-
 pub cold_is : (N : ℕ) (config : Config N) (sys : System) → sys.setting ≡ setting_of config
     → (p i : ℕ) → goes_with (setting_of config) i ((run sys).received i p) (goes_in sys p i).state ≡ None
     → view (run sys) i p ≡ cold_view (setting_of config) i ((run sys).received i p)
 cold_is N config sys of p i none =
     run_view config sys of p i
-    ∙ stays_cold (setting_of config) i p (sys.inputs i p) (goes_in sys p i) ((run sys).received i p) (goes_in sys p i).state none
+    ∙ goes_none (setting_of config) i p (sys.inputs i p) (goes_in sys p i) ((run sys).received i p) (goes_in sys p i).state none

@@ -7,6 +7,7 @@ use Rattle.std.proofs.lemmas.List.{get_or-replicate, length-replicate}
 use Rattle.std.proofs.lemmas.List.FromFn.{fill_by_all}
 use Rattle.node_grid.specs.NodeSet.{ids_where, mask_of}
 use Rattle.node_grid.specs.MaskLaws.{mask-has, same_masks}
+use Rattle.node_grid.specs.TruthFacts.{or_false, if_full}
 use Rattle.error_reports.specs.Charge.{accuses}
 use Rattle.error_reports.specs.Notes.{Notes, noted_row, also_noted, also_carried}
 use Rattle.error_reports.specs.NoteLaws.{noted_twice, noted_alike, carried_alike}
@@ -14,11 +15,6 @@ use Rattle.protocol.specs.RowLaws.{mask-zero}
 use Rattle.safety.proofs.Lists.{map_below, tabulated}
 use Rattle.safety.proofs.Induction.{accuses_none}
 use Rattle.view_law.specs.Laws.{IsWithin, IsCarriedWithin, SaysNothing}
-
--- a choice differs only in what is chosen
-if_same : {X : Type 0} (b : Bool) (x y z : X) → (b ≡ true → x ≡ y) → (if b then x else z) ≡ (if b then y else z)
-if_same true x y z same = same refl
-if_same false x y z same = refl
 
 module _ (capacity kinds nodes me : ℕ) where
   -- the mask of a node
@@ -34,7 +30,7 @@ module _ (capacity kinds nodes me : ℕ) where
 
   pub row_same : (f g : ℕ → ℕ → Bool) → Alike f g → noted_row capacity kinds nodes me f ≡ noted_row capacity kinds nodes me g
   row_same f g same = map_below (mask_at f) (mask_at g) capacity (λ j low.
-      if_same (nat_lt j nodes && not (j == me)) (mask_of (ids_where (f j) kinds)) (mask_of (ids_where (g j) kinds)) 0
+      if_full (nat_lt j nodes && not (j == me)) (mask_of (ids_where (f j) kinds)) (mask_of (ids_where (g j) kinds)) 0
       (λ is. let o = other j is in same_masks (f j) (g j) kinds (λ e within. same j e low o.0 o.1 within)))
 
   -- a row tells what was noted
@@ -59,20 +55,16 @@ module _ (capacity kinds nodes me : ℕ) where
 
 -- ---- notes
 
-or_none : (a : Bool) → (a || false) ≡ a
-or_none true = refl
-or_none false = refl
-
 -- a row of this form is within
 pub within_told : (capacity : ℕ) (n : Notes) → n.row ≡ noted_row capacity n.kinds n.nodes n.me (accuses n.row) → IsWithin capacity n
 within_told capacity n told =
     ap (λ (row : List ℕ). record n { row = row })
-    (row_same capacity n.kinds n.nodes n.me (λ j e. accuses n.row j e || false) (accuses n.row) (λ j e low used ne within. or_none (accuses n.row j e)) ∙ sym told)
+    (row_same capacity n.kinds n.nodes n.me (λ j e. accuses n.row j e || false) (accuses n.row) (λ j e low used ne within. or_false (accuses n.row j e)) ∙ sym told)
 
 pub noted_within : (capacity : ℕ) (n : Notes) (more : ℕ → ℕ → Bool) → n.kinds ≤ 16 → IsWithin capacity (also_noted capacity n more)
 noted_within capacity n more few =
     noted_twice capacity n more (λ j e. false) few
-    ∙ noted_alike capacity n (λ j e. more j e || false) more (λ j e low used ne within. or_none (more j e))
+    ∙ noted_alike capacity n (λ j e. more j e || false) more (λ j e low used ne within. or_false (more j e))
 
 pub nothing_noted : (capacity : ℕ) (n : Notes) (more : ℕ → ℕ → Bool) → IsWithin capacity n → SaysNothing capacity n more → also_noted capacity n more ≡ n
 nothing_noted capacity n more within none = noted_alike capacity n more (λ j e. false) none ∙ within
@@ -104,7 +96,7 @@ pub carried_more : (capacity : ℕ) (n : Notes) (more : ℕ → ℕ → Bool) �
 carried_more capacity n more few =
     ap (λ (row : List ℕ). record n { carried = row })
     (row_same capacity n.kinds n.nodes n.me (λ j e. accuses (noted_row capacity n.kinds n.nodes n.me (λ q d. accuses n.carried q d || more q d)) j e || false) (λ q d. accuses n.carried q d || more q d)
-    (λ j e low used ne within. or_none (accuses (noted_row capacity n.kinds n.nodes n.me (λ q d. accuses n.carried q d || more q d)) j e) ∙ row_tells capacity n.kinds n.nodes n.me (λ q d. accuses n.carried q d || more q d) few j e low used ne within))
+    (λ j e low used ne within. or_false (accuses (noted_row capacity n.kinds n.nodes n.me (λ q d. accuses n.carried q d || more q d)) j e) ∙ row_tells capacity n.kinds n.nodes n.me (λ q d. accuses n.carried q d || more q d) few j e low used ne within))
 
 pub nothing_carried : (capacity : ℕ) (n : Notes) (more : ℕ → ℕ → Bool) → IsCarriedWithin capacity n → SaysNothing capacity n more → also_carried capacity n more ≡ n
 nothing_carried capacity n more within none = carried_alike capacity n more (λ j e. false) none ∙ within
@@ -112,5 +104,5 @@ nothing_carried capacity n more within none = carried_alike capacity n more (λ 
 pub empty_carried : (capacity nodes me kinds : ℕ) (row : List ℕ) → IsCarriedWithin capacity (record { nodes = nodes; me = me; kinds = kinds; row = row; carried = replicate capacity 0 })
 empty_carried capacity nodes me kinds row =
     ap (λ (xs : List ℕ). record { nodes = nodes; me = me; kinds = kinds; row = row; carried = xs })
-    (row_same capacity kinds nodes me (λ j e. accuses (replicate capacity 0) j e || false) (accuses (replicate capacity 0)) (λ j e low used ne within. or_none (accuses (replicate capacity 0) j e))
+    (row_same capacity kinds nodes me (λ j e. accuses (replicate capacity 0) j e || false) (accuses (replicate capacity 0)) (λ j e low used ne within. or_false (accuses (replicate capacity 0) j e))
     ∙ sym (empty_told capacity kinds nodes me))

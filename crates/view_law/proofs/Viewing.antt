@@ -2,11 +2,11 @@
 use Rattle.std.proofs.Common.{ℕ, ◌≡◌, ◌<◌, ◌≤◌, ◌==◌, ◌||◌, ◌&&◌, Bool, true, false, List, Option, Some, ℤ, refl, sym, ap, ap₂, subst, ◌∙◌, inl, inr, eqb-true}
 use Rattle.std.specs.Prelude.{nat_eq, is_some, if◌then◌else◌}
 use Rattle.std.specs.Cmp.Lexicographic.{pointwise}
-use Rattle.std.proofs.lemmas.Bool.{cases_Bool, cases_eq, cond-true, cond-false}
-use Rattle.std.proofs.Common.{eq-eqb, ne_eqb}
+use Rattle.std.proofs.lemmas.Bool.{cases_Bool, cond-true, cond-false}
 use Rattle.node_grid.specs.Kinds.{state, claim, overrun, deviate, equivocate}
 use Rattle.node_grid.specs.NodeSet.{has_id}
 use Rattle.node_grid.specs.Version.{kind_count}
+use Rattle.node_grid.specs.NumberFacts.{kinds-few}
 use Rattle.omh_paths.specs.declared.wrapped.Wrapped.{Wrapped}
 use Rattle.list_scheduler.specs.declared.schedule.Verdict.{Verdict}
 use Rattle.list_scheduler.specs.OneNode.{verdicts}
@@ -19,31 +19,16 @@ use Rattle.agreed_state.specs.Agreed.{AgreedView, agreed_after}
 use Rattle.agreed_state.specs.Body.{body}
 use Rattle.protocol.specs.Arrival.{is_bad}
 use Rattle.protocol.specs.Heard.{rounds_bad}
-use Rattle.protocol.specs.RowLaws.{kinds-few}
 use Rattle.protocol.specs.Settled.{settled_items, ear_of}
 use Rattle.protocol.specs.FurtherKinds.{convicts_member}
 use Rattle.protocol.specs.Configured.{setting_of}
 use Rattle.protocol.specs.View.{Setting, Kept, Received, claims_settled, due_channels, own_values, votes_on, deviates, other_body, row_by, empty_row, noted, carried_by, is_further, synced_by, View, through}
 use Rattle.protocol.specs.View.Mode.{Full, Joining}
+use Rattle.protocol.specs.Facts.{further_is}
 use Rattle.safety.proofs.Lists.{tabulated}
 use Rattle.safety.proofs.Induction.{accuses_none}
 use Rattle.view_law.specs.Made.{Parts, Blamed, Noted, by_verdicts, notes_begun, view_made, IsMadeOf}
 use Rattle.view_law.proofs.Rows.{Alike, row_same, row_tells, noted_more}
-
--- as a further kind it is noted so
-further_is : (x : Bool) (e : ℕ) → ((e == equivocate && x) && is_further e) ≡ (x && e == equivocate)
-further_is x e = elim (cases_eq e equivocate) [
-  | inl is ↦ ap₂ (λ (s t : Bool). (s && x) && t) (eq-eqb e equivocate is) (ap is_further is) ∙ here x ∙ ap (λ (s : Bool). x && s) (sym (eq-eqb e equivocate is))
-  | inr ne ↦ ap (λ (s : Bool). (s && x) && is_further e) (ne_eqb e equivocate ne) ∙ away x ∙ ap (λ (s : Bool). x && s) (sym (ne_eqb e equivocate ne))
-]
-  where
-    here : (x : Bool) → ((true && x) && true) ≡ (x && true)
-    here true = refl
-    here false = refl
-
-    away : (x : Bool) → false ≡ (x && false)
-    away true = refl
-    away false = refl
 
 -- what is alike where a test passes
 where_it_is : (x y t : Bool) → (t ≡ true → x ≡ y) → (x && t) ≡ (y && t)

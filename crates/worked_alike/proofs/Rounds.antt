@@ -99,12 +99,6 @@ table_walks h members came me entries r round members_are me_is count only walk 
     walk h.members (others_in h) r (count ∙ ap (λ (ms : List ℕ). path_count (length ms - 1) r) (sym members_are))
     (λ q on. ap₂ (λ (ms : List ℕ) (i : ℕ). has_id (without_id ms i) q) members_are me_is ∙ only q on)
 
--- the terms of each relay round but the last are kept, and those of the last where there is but one
-pub kept_before : (m r : ℕ) → r < m → r < kept_nodes m
-kept_before zero r h = omega (arith, h)
-kept_before (suc zero) r h = omega (arith, h)
-kept_before (suc (suc m)) r h = h
-
 pub kept_only : (m r : ℕ) → 0 < m → m < 2 → r ≤ m → r < kept_nodes m
 kept_only zero r some few h = absurd (omega (arith, some))
 kept_only (suc zero) r some few h = omega (arith, h)

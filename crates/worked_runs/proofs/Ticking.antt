@@ -11,13 +11,14 @@ use Rattle.mme_vote.specs.Vote.{distance}
 use Rattle.clock_skew.specs.Clock.{LieView, number_at, row_in_turn, IsUpTo, AreUpTo, AreNear, IsLie}
 use Rattle.penalty.specs.Policy.{IsPolicy}
 use Rattle.frames.specs.Content.{IsValue}
+use Rattle.frames.specs.Facts.{zero_value}
 use Rattle.protocol.specs.Run.{run, classes}
 use Rattle.protocol.specs.Accepted.{IsAccepted}
 use Rattle.protocol.specs.Safe.{KeepsBound, members_at}
 use Rattle.protocol.specs.Clocks.{IsFair, AreClocks, ClocksNear}
 use Rattle.safety.specs.ClockLaws.{RunClockLaw}
 use Rattle.worked_runs.specs.Systems.{policy_2, no_state_of_3, lie_of_3, two_faced_clock}
-use Rattle.worked_runs.proofs.Witness.{IsLight, zero_fits, no_tasks, four}
+use Rattle.worked_runs.proofs.Witness.{IsLight, no_tasks, four}
 use Rattle.worked_runs.proofs.Opened.{opened}
 
 policy_fits : IsPolicy policy_2
@@ -60,7 +61,7 @@ accepted = record {
   plan = refl;
   plan_nodes = refl;
   plan_rounds = refl;
-  inputs = λ i p low. record { least = λ t none. absurd (omega arith); most = λ t none. absurd (omega arith); readings = All-replicate IsValue 8 (pos 0) zero_fits };
+  inputs = λ i p low. record { least = λ t none. absurd (omega arith); most = λ t none. absurd (omega arith); readings = All-replicate IsValue 8 (pos 0) zero_value };
   close = record { starts = λ i j c delta start step hi hj low e. absurd (omega arith); readings = λ i j p c delta task hi hj low e. absurd (omega arith) };
 }
 

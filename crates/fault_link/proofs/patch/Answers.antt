@@ -1,20 +1,10 @@
-use Rattle.std.proofs.Common.{◌≡◌, ℕ, ◌+◌, ◌-◌, ◌<◌, ◌≤◌, min, ◌&&◌, cond, length, get_or, refl, sym, ap, ◌∙◌, inl, inr, arith}
+use Rattle.std.proofs.Common.{◌≡◌, ℕ, ◌+◌, ◌-◌, ◌<◌, min, ◌&&◌, cond, length, get_or, sym, ap, ◌∙◌, arith}
 use Rattle.std.specs.Prelude.{nat_le, nat_lt}
-use Rattle.std.proofs.lemmas.Bool.{cases_lt, le-leb, lt-leb, lt-ltb, le-ltb}
 use Rattle.std.proofs.lemmas.List.{ext_get_or}
 use Rattle.std.proofs.lemmas.List.FromFn.{get_or-map-range_with_len, length-map-range_with_len}
+use Rattle.slot_plan.specs.Facts.{written_within}
 use Rattle.fault_link.specs.Arrival.{patched}
 use Rattle.fault_link.proofs.patch.Goals as goal
-
--- a place that was written lies within the frame
-written : (at place end long count k : ℕ) → end ≡ min long (at + count) → k < long → (at ≤ end → place ≤ end) → end ≤ place → (nat_le at k && nat_lt k place) ≡ (nat_le at k && nat_lt k (at + count))
-written at place end long count k is within low high = elim (cases_lt k at) [
-  | inl before ↦ rw (lt-leb at k before) refl
-  | inr after ↦ elim (cases_lt k (at + count)) [
-    | inl inside ↦ rw (le-leb at k after, lt-ltb k (at + count) inside, lt-ltb k place (omega arith)) refl
-    | inr past ↦ rw (le-leb at k after, le-ltb k (at + count) past, le-ltb k place (omega (arith, low (omega arith)))) refl
-  ]
-]
 
 pub returns : goal.returns
 returns c =
@@ -27,5 +17,5 @@ returns c =
     ext_get_or 0 c.loop-place.scratch (patched at bytes sent) (c.loop-place.invariant.long ∙ sym (length-map-range_with_len at_place 0 (length sent))) (λ k h.
     let within : k < length sent = omega (arith, h, c.loop-place.invariant.long) in
     c.loop-place.invariant.written k
-    ∙ ap (λ b. cond b (get_or bytes (k - at) 0) (get_or sent k 0)) (written at place c.min-end.result (length sent) (length bytes) k end within c.loop-place.auto.place-end c.loop-place-test.false)
+    ∙ ap (λ b. cond b (get_or bytes (k - at) 0) (get_or sent k 0)) (written_within at place c.min-end.result (length sent) (length bytes) k end within c.loop-place.auto.place-end c.loop-place-test.false)
     ∙ sym (get_or-map-range_with_len at_place 0 (length sent) k k 0 within (omega arith)))

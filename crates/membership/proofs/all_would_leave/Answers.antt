@@ -1,20 +1,9 @@
-use Rattle.std.proofs.Common.{◌≡◌, ℕ, ◌<◌, Bool, true, false, ◌&&◌, List, [], ◌∷◌, ◌++◌, length, get_or, refl, sym, ap, ◌∙◌, arith, lit<, append-nil, append_assoc}
+use Rattle.std.proofs.Common.{ℕ, Bool, List, [], ◌∷◌, ◌++◌, get_or, refl, sym, ap, ◌∙◌, arith, lit<, append-nil, append_assoc}
 use Rattle.std.specs.Prelude.{nat_le}
 use Rattle.std.specs.List.{list_all}
-use Rattle.std.proofs.Math.Bool.{and-false}
-use Rattle.std.proofs.lemmas.Bool.{and_from, and_parts, le-leb, lt-leb}
+use Rattle.std.proofs.lemmas.Bool.{le-leb, lt-leb}
+use Rattle.node_grid.specs.ListFacts.{tail_shorter, all_more, one_fails}
 use Rattle.membership.proofs.all_would_leave.Goals as goal
-
-one_fails : (p : ℕ → Bool) (ys rest : List ℕ) (x : ℕ) → p x ≡ false → list_all p (ys ++ x ∷ rest) ≡ false
-one_fails p [] rest x h = ap (λ b. b && list_all p rest) h
-one_fails p (y ∷ ys) rest x h = ap (λ b. p y && b) (one_fails p ys rest x h) ∙ and-false (p y)
-
-all_more : (p : ℕ → Bool) (ys : List ℕ) (x : ℕ) → list_all p ys ≡ true → p x ≡ true → list_all p (ys ++ x ∷ []) ≡ true
-all_more p [] x a h = and_from (p x) true h refl
-all_more p (y ∷ ys) x a h = let s = and_parts (p y) (list_all p ys) a in and_from (p y) _ s.0 (all_more p ys x s.1 h)
-
-less : {rest : List ℕ} {x : ℕ} {zs : List ℕ} → rest ≡ x ∷ zs → length zs < length rest
-less e = rw e (omega arith)
 
 pub iter-member-items-requires : goal.iter-member-items-requires
 iter-member-items-requires g c = (lit< tt, lit< tt)
@@ -38,7 +27,7 @@ returns-then-counts-member g c =
     sym (ap (list_all p) split ∙ one_fails p ys c.next.new.self c.in-Some.member (lt-leb _ _ c.if-counts-member.true))
 
 pub loop-member-smaller : goal.loop-member-smaller
-loop-member-smaller g c = less c.in-Some.ensures.steps
+loop-member-smaller g c = tail_shorter c.in-Some.ensures.steps
 
 pub loop-member-preserved : goal.loop-member-preserved
 loop-member-preserved g c =

@@ -2,7 +2,7 @@ use Rattle.std.proofs.Common.{sym, ap, ◌∙◌}
 use Rattle.std.specs.Prelude.{decimal}
 use Rattle.std.proofs.lemmas.Bool.Decides.{Decides-eqb}
 use Rattle.std.proofs.lemmas.Slice.Eq.{slice_eq-Decides}
-use Rattle.program_words.proofs.Numbers.{read_back, not_both, same_number, never}
+use Rattle.program_words.specs.Facts.{read_back, not_both, same_number, never}
 use Rattle.program_words.proofs.number_of.Goals as goal
 
 pub returns-in_default-clause-none : goal.returns-in_default-clause-none

@@ -1,7 +1,6 @@
 use Rattle.std.proofs.Common.{List, ℕ, ap, ◌∙◌, rules, arith}
 use Rattle.node_grid.specs.NodeSet.{has_id}
-use Rattle.omh_paths.specs.MemberLaws.{member-lt}
-use Rattle.odd_relays.proofs.Laying.{not_rest}
+use Rattle.node_grid.specs.SetFacts.{member-lt, not_rest}
 use Rattle.worked_chains.proofs.are_convicting.Goals as goal
 
 pub without-others-requires : goal.without-others-requires

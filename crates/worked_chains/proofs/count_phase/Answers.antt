@@ -1,6 +1,6 @@
 use Rattle.std.proofs.Common.{ℕ, List, sym, ap, ◌∙◌}
 use Rattle.node_grid.specs.NodeSet.{has_id}
-use Rattle.odd_relays.proofs.Laying.{next_on}
+use Rattle.node_grid.specs.SetFacts.{next_on}
 use Rattle.worked_chains.proofs.count_phase.Goals as goal
 
 pub item-drawn-requires : goal.item-drawn-requires

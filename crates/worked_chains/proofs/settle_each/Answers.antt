@@ -1,5 +1,5 @@
 use Rattle.std.proofs.Common.{sym, rules, arith}
-use Rattle.odd_relays.proofs.Laying.{low_of}
+use Rattle.node_grid.specs.SetFacts.{low_of}
 use Rattle.worked_chains.proofs.settle_each.Goals as goal
 
 pub settle-value-requires : goal.settle-value-requires

@@ -1,5 +1,5 @@
 use Rattle.std.proofs.Common.{refl, inl, arith, eq-eqb, eqb-true}
-use Rattle.omh_paths.specs.MemberLaws.{member-lt}
+use Rattle.node_grid.specs.SetFacts.{member-lt}
 use Rattle.worked_paths.proofs.are_alike.Goals as goal
 
 pub settle_all-requires : goal.settle_all-requires

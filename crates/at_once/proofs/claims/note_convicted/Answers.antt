@@ -2,6 +2,7 @@ use Rattle.std.proofs.Common.{ℕ, ◌≡◌, ◌<◌, ◌+◌, true, lit<, inl,
 use Rattle.std.specs.Prelude.{nat_eq}
 use Rattle.node_grid.specs.Capacity.{IsCapacity}
 use Rattle.node_grid.specs.NodeSet.{has_id}
+use Rattle.node_grid.specs.ListFacts.{same_at}
 use Rattle.error_reports.specs.Notes.{Notes, also_noted}
 use Rattle.protocol.specs.Arrival.{claim_form}
 use Rattle.view_law.specs.Laws.{IsWithin}
@@ -9,7 +10,6 @@ use Rattle.item_phase.specs.Settled.{listener}
 use Rattle.at_once.specs.Kept.{notes_at}
 use Rattle.at_once.specs.Phases.{blames}
 use Rattle.at_once.proofs.NodeNotes.{AreMore, more_none, more_put, more_skip, blamed_same, unconvicted}
-use Rattle.at_once.proofs.FilledBeliefs.{same_at}
 use Rattle.at_once.proofs.claims.note_convicted.Goals.{then-has, else-has}
 use Rattle.at_once.proofs.claims.note_convicted.Goals as goal
 

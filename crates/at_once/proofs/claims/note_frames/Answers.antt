@@ -1,12 +1,12 @@
 use Rattle.std.proofs.Common.{ℕ, ◌≡◌, ◌<◌, ◌+◌, true, lit<, inl, inr, List, [], length, sym, ap, subst, ◌∙◌, arith}
 use Rattle.node_grid.specs.Capacity.{IsCapacity}
 use Rattle.node_grid.specs.NodeSet.{has_id}
+use Rattle.node_grid.specs.ListFacts.{same_at}
 use Rattle.error_reports.specs.Notes.{Notes, also_noted}
 use Rattle.protocol.specs.Arrival.{claim_form}
 use Rattle.protocol.specs.Heard.{rounds_bad}
 use Rattle.item_phase.specs.Noted.{rounds_of, IsNoter}
 use Rattle.at_once.proofs.NodeNotes.{AreMore, more_none, more_put, more_skip, noter}
-use Rattle.at_once.proofs.FilledBeliefs.{same_at}
 use Rattle.at_once.proofs.claims.note_frames.Goals.{then-has, else-has}
 use Rattle.at_once.proofs.claims.note_frames.Goals as goal
 

@@ -1,8 +1,8 @@
 use Rattle.std.proofs.Common.{ℕ, ◌<◌, List, length, ap, ◌∙◌, arith}
 use Rattle.std.specs.Prelude.{slice_index_or}
+use Rattle.node_grid.specs.ListFacts.{same_at}
 use Rattle.shared_states.specs.declared.belief.Belief.{Belief}
 use Rattle.at_once.specs.Values.{no_belief}
-use Rattle.at_once.proofs.Voting.{same_at}
 use Rattle.at_once.proofs.dues.due_at.Goals as goal
 
 pub returns : goal.returns

@@ -1,5 +1,6 @@
 use Rattle.std.proofs.Common.{ℕ, ◌≡◌, ◌<◌, ◌+◌, ◌==◌, true, lit<, inl, inr, List, [], length, get_or, sym, ap, subst, ◌∙◌, arith}
 use Rattle.std.specs.Cmp.Lexicographic.{pointwise}
+use Rattle.node_grid.specs.ListFacts.{same_at}
 use Rattle.item_phase.specs.Settled.{listener}
 use Rattle.at_once.specs.Phases.{blames}
 use Rattle.error_reports.specs.Notes.{Notes, also_carried}
@@ -10,7 +11,6 @@ use Rattle.node_grid.specs.Capacity.{IsCapacity}
 use Rattle.node_grid.specs.NodeSet.{has_id}
 use Rattle.at_once.proofs.RowSteps.{carries_for}
 use Rattle.at_once.proofs.NodeNotes.{AreMore, more_none, more_put, more_skip}
-use Rattle.at_once.proofs.FilledBeliefs.{same_at}
 use Rattle.at_once.proofs.rows.carry.Goals.{then-has, else-has}
 use Rattle.at_once.proofs.rows.carry.Goals as goal
 

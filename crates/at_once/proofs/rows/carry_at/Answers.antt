@@ -2,6 +2,7 @@ use Rattle.std.proofs.Common.{ℕ, ◌≡◌, ◌≤◌, ◌==◌, Bool, List, s
 use Rattle.std.specs.Cmp.Lexicographic.{pointwise}
 use Rattle.std.proofs.lemmas.Bool.{cond-true}
 use Rattle.node_grid.specs.Capacity.{IsCapacity}
+use Rattle.node_grid.specs.NumberFacts.{kinds-few}
 use Rattle.error_reports.specs.Notes.{Notes, also_carried}
 use Rattle.protocol.specs.Arrival.{row_form}
 use Rattle.protocol.specs.Heard.{rounds_bad}
@@ -11,7 +12,7 @@ use Rattle.view_law.specs.Laws.{IsCarriedWithin}
 use Rattle.view_law.proofs.Rows.{carried_more}
 use Rattle.omh.specs.Omh.{Ear}
 use Rattle.at_once.specs.Phases.{blames}
-use Rattle.at_once.proofs.NodeNotes.{few_kinds, carried_same, none_late}
+use Rattle.at_once.proofs.NodeNotes.{carried_same, none_late}
 use Rattle.at_once.proofs.rows.carry_at.Goals as goal
 
 pub carry-requires : goal.carry-requires
@@ -27,7 +28,7 @@ convicted-requires g c =
 pub carry_against-requires : goal.carry_against-requires
 carry_against-requires g c =
     let bad : ℕ → ℕ → Bool = rounds_bad c.args.phase.now.config.now.m (rounds_of row_form c.args.phase.now c.args.rows.now.links c.args.i) in
-    let few : c.args.notes.now.kinds ≤ 16 = (let e = c.requires.notes.kinds in let f = few_kinds c.args.phase.now.config.now.version in omega arith) in
+    let few : c.args.notes.now.kinds ≤ 16 = (let e = c.requires.notes.kinds in let f = kinds-few c.args.phase.now.config.now.version in omega arith) in
     let cap : IsCapacity g.row.N = c.requires.settled.heard.set.capacity in
     (lit< tt, (elim cap [ inl e ↦ rw e (lit< tt) | inr e ↦ rw e (lit< tt) ], subst (IsCarriedWithin g.row.N) (sym c.carry.ensures) (carried_more g.row.N c.args.notes.now bad few)))
 
@@ -45,7 +46,7 @@ returns-else-phase-ne1 g c =
     let old : Notes = c.args.notes.now in
     let bad : ℕ → ℕ → Bool = rounds_bad config.m (rounds_of row_form c.args.phase.now c.args.rows.now.links c.args.i) in
     let ear : Ear (List ℕ) = listener row_form c.args.phase.now c.args.rows.now.links c.args.i in
-    let few : old.kinds ≤ 16 = (let e = c.requires.notes.kinds in let f = few_kinds config.version in omega arith) in
+    let few : old.kinds ≤ 16 = (let e = c.requires.notes.kinds in let f = kinds-few config.version in omega arith) in
     let one : config.version ≡ 1 = c.if-phase-ne1.false in
     c.carry.ensures
     ∙ sym (none_late g.row.N (also_carried g.row.N old bad) (pointwise ◌==◌) ear (carried_more g.row.N old bad few) (c.requires.notes.kinds ∙ cond-true (config.version == 1) 8 16 (eq-eqb config.version 1 one)))

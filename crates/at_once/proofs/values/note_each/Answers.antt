@@ -2,13 +2,14 @@ use Rattle.std.proofs.Common.{ℕ, ◌≡◌, ◌<◌, ◌≤◌, ◌+◌, ◌==
 use Rattle.node_grid.specs.Capacity.{IsCapacity}
 use Rattle.node_grid.specs.Kinds.{deviate}
 use Rattle.node_grid.specs.NodeSet.{has_id}
+use Rattle.node_grid.specs.ListFacts.{same_at}
+use Rattle.node_grid.specs.NumberFacts.{kinds-few}
 use Rattle.error_reports.specs.Notes.{Notes, also_noted}
 use Rattle.protocol.specs.Arrival.{is_bad}
-use Rattle.protocol.specs.RowLaws.{kinds-few}
 use Rattle.told_values.specs.Slot.{DataView, slot_of}
 use Rattle.told_values.specs.Within.{IsWithin}
 use Rattle.at_once.specs.Kept.{notes_at}
-use Rattle.at_once.proofs.Voting.{same_at, AreNotedBelow, noted_put, noted_skip}
+use Rattle.at_once.proofs.Voting.{AreNotedBelow, noted_put, noted_skip}
 use Rattle.at_once.proofs.values.note_each.Goals.{then-has, else-has}
 use Rattle.at_once.proofs.values.note_each.Goals as goal
 

@@ -1,5 +1,6 @@
 use Rattle.std.proofs.Common.{ℕ, ℤ, ◌≡◌, ◌<◌, ◌+◌, List, [], length, set, get_or, Option, sym, ap, subst, ◌∙◌, inl, inr, lit<, arith}
 use Rattle.node_grid.specs.Capacity.{IsCapacity}
+use Rattle.node_grid.specs.ListFacts.{same_at}
 use Rattle.omh_paths.specs.declared.wrapped.Wrapped.{Wrapped}
 use Rattle.agreed_state.specs.Agreed.{AgreedView}
 use Rattle.grouped_nodes.specs.Grouping.{first_of}
@@ -7,7 +8,7 @@ use Rattle.shared_states.specs.declared.belief.Belief.{Belief}
 use Rattle.told_values.specs.Slot.{DataView, slot_of}
 use Rattle.at_once.specs.Kept.{of_node}
 use Rattle.at_once.specs.Values.{no_belief, done_at, IsVoteOf}
-use Rattle.at_once.proofs.Voting.{same_at, AreVotes, votes_none, votes_skip, votes_put, taken_over, AreLeaders, leaders_none, leaders_put}
+use Rattle.at_once.proofs.Voting.{AreVotes, votes_none, votes_skip, votes_put, taken_over, AreLeaders, leaders_none, leaders_put}
 use Rattle.at_once.proofs.Voters.{AreVotersBelow, voters_none, voters_skip, voters_own, voters_taken}
 use Rattle.at_once.proofs.values.vote_each.Goals.{in-Some+then-leader-i+then-hears_alike, in-Some+else-leader-i, in_default}
 use Rattle.at_once.proofs.values.vote_each.Goals as goal

@@ -1,6 +1,6 @@
 use Rattle.std.proofs.Common.{ℕ, ◌<◌, ◌+◌, ◌*◌, arith}
 use Rattle.node_grid.specs.CapacityLaws.{capacity-le}
-use Rattle.omh_paths.specs.MemberLaws.{member-lt}
+use Rattle.node_grid.specs.SetFacts.{member-lt}
 use Rattle.bench_parts.proofs.Settings.{at_capacity}
 use Rattle.bench_parts.proofs.settle_times.measure_table.Goals as goal
 use prog.Memory

@@ -1,5 +1,6 @@
 use Rattle.std.proofs.Common.{◌∙◌, sym, arith}
-use Rattle.omh_paths.specs.MemberLaws.{member-lt, Distinct-ids}
+use Rattle.node_grid.specs.SetFacts.{member-lt}
+use Rattle.omh_paths.specs.MemberLaws.{Distinct-ids}
 use Rattle.counted_relays.proofs.Reaching.{untouched_law}
 use Rattle.counted_relays.proofs.untouched.settle_untouched.Goals as goal
 

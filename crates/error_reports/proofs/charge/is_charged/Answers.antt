@@ -1,15 +1,11 @@
-use Rattle.std.proofs.Common.{ℕ, ◌≡◌, ◌+◌, Bool, true, false, ◌++◌, refl, sym, ap, ◌∙◌, arith, append-nil, lit<, inl, inr, ◌≤◌, List, length, length-append, ◌∷◌}
+use Rattle.std.proofs.Common.{ℕ, ◌≡◌, ◌+◌, ◌++◌, refl, sym, ap, ◌∙◌, arith, append-nil, lit<, inl, inr, ◌≤◌, List, length, length-append, ◌∷◌}
 use Rattle.node_grid.specs.ListLaws.{bit_le}
 use Rattle.node_grid.specs.Capacity.{IsCapacity}
-use mir.Val.{bool_byte}
 use Rattle.node_grid.specs.Count.{count, bit}
+use Rattle.node_grid.specs.SetFacts.{byte_is}
 use Rattle.error_reports.specs.Charge.{is_voter, is_accuser, charged}
 use Rattle.error_reports.proofs.Voting.{tally_said, tally_none, split_more}
 use Rattle.error_reports.proofs.charge.is_charged.Goals as goal
-
-byte_is : (b : Bool) → bool_byte b ≡ bit b
-byte_is true = refl
-byte_is false = refl
 
 pub loop-member-preserved-in-Some-accusation : goal.loop-member-preserved-in-Some-accusation
 loop-member-preserved-in-Some-accusation g c = record {

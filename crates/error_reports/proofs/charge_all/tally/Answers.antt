@@ -1,7 +1,9 @@
 use Rattle.std.proofs.Common.{◌≡◌, ◌+◌, ◌≤◌, None, Some, sym, ap, ◌∙◌, arith, inl, inr, length, length-append, [], ◌∷◌, get_or, set, lit<, ℕ, List, ◌<◌, ◌++◌, append-nil, zero, suc, subst, refl}
+use Rattle.node_grid.specs.ListFacts.{middle_below}
+use Rattle.node_grid.specs.NumberFacts.{zero_there}
 use Rattle.error_reports.specs.Charge.{is_sender, is_accuser}
 use Rattle.node_grid.specs.Count.{count}
-use Rattle.std.specs.Prelude.{All, slice_index, replicate}
+use Rattle.std.specs.Prelude.{All, replicate}
 use Rattle.node_grid.specs.Capacity.{IsCapacity}
 use Rattle.std.specs.Int.{bit_at}
 use Rattle.node_grid.specs.Planes.{count_at}
@@ -11,11 +13,6 @@ use Rattle.error_reports.proofs.Voters.{accusers_more, accusers_same, senders_mo
 use Rattle.std.proofs.lemmas.Nat.Bits.{bit_at-zero}
 use Rattle.error_reports.proofs.charge_all.tally.Goals as goal
 
-zero_there : (n j : ℕ) → slice_index (replicate n 0) j ≡ 0
-zero_there zero j = refl
-zero_there (suc n) zero = refl
-zero_there (suc n) (suc j) = zero_there n j
-
 no_counts : (n planes j k : ℕ) → count_at (replicate planes (replicate n 0)) j k ≡ 0
 no_counts n zero j k = refl
 no_counts n (suc planes) j k = rw (zero_there n j, no_counts n planes j k, bit_at-zero k) refl
@@ -23,12 +20,8 @@ no_counts n (suc planes) j k = rw (zero_there n j, no_counts n planes j k, bit_a
 zero_counts : (n planes j k : ℕ) (counts : List (List ℕ)) → counts ≡ replicate planes (replicate n 0) → count_at counts j k ≡ 0
 zero_counts n planes j k counts e = ap (λ xs. count_at xs j k) e ∙ no_counts n planes j k
 
-front : (n : ℕ) (ys rest : List ℕ) (x : ℕ) → All (λ k. k < n) (ys ++ x ∷ rest) → x < n
-front n [] rest x all = all 0 0 (omega arith)
-front n (y ∷ ys) rest x all = front n ys rest x (λ k d l. all (suc k) d (omega arith))
-
 member_in : (n : ℕ) (xs ys rest : List ℕ) (x : ℕ) → All (λ k. k < n) xs → xs ≡ ys ++ x ∷ rest → x < n
-member_in n xs ys rest x all e = front n ys rest x (subst (λ zs. All (λ k. k < n) zs) e all)
+member_in n xs ys rest x all e = middle_below n ys rest x (subst (λ zs. All (λ k. k < n) zs) e all)
 
 pub add-requires : goal.add-requires
 add-requires g c =

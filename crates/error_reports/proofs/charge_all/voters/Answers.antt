@@ -1,7 +1,8 @@
 use Rattle.std.proofs.Common.{◌≡◌, true, sym, ◌∙◌, arith}
 use Rattle.node_grid.specs.NodeSet.{has_id}
+use Rattle.node_grid.specs.TruthFacts.{and_no_left, and_no_right}
 use Rattle.error_reports.specs.Charge.{is_sender}
-use Rattle.error_reports.proofs.Voters.{voters_with, voters_without, is_row_found, and_no_left, and_no_right}
+use Rattle.error_reports.proofs.Voters.{voters_with, voters_without, is_row_found}
 use Rattle.error_reports.proofs.charge_all.voters.Goals as goal
 use Rattle.error_reports.proofs.charge_all.voters.Goals.{else-has-via-then-has+else-is_some, else-has-via-else-has}
 

@@ -2,6 +2,7 @@ use Rattle.std.proofs.Common.{◌≡◌, ℕ, zero, suc, ◌+◌, ◌*◌, ◌<�
 use Rattle.std.specs.Prelude.{slice_index}
 use Rattle.std.specs.List.{list_any}
 use Rattle.std.proofs.lemmas.List.{length-map, length-take-le, length-replicate, take-append-le, take_all, drop_all}
+use Rattle.node_grid.specs.NumberFacts.{fewer_left}
 use Rattle.fault_classes.specs.Line.{Line, line_of, shares}
 use Rattle.fault_classes.specs.Rules.{is_line, first_overlap}
 use Rattle.fault_classes.specs.Cells.{IsTable, touches_block, touches_cell, place_at, mark_of, IsMarked, IsShape}
@@ -10,7 +11,7 @@ use Rattle.fault_classes.specs.Blocks.{AreBlocks}
 use Rattle.fault_classes.proofs.Placing.{numbered_of, table_small}
 use Rattle.fault_classes.proofs.Entries.{entry_none, table_push, apart_if_marked, overlaps_if_taken, all_taken, all_here, any_here}
 use Rattle.fault_classes.proofs.Places.{line_at, rest_at, front_at}
-use Rattle.fault_classes.proofs.Ranges.{few_nodes, place_fits, mark_fits, falls}
+use Rattle.fault_classes.proofs.Ranges.{few_nodes, place_fits, mark_fits}
 use Rattle.fault_classes.proofs.cells.cells_of.Goals as goal
 
 none_put : (nodes slots : ℕ) (blocks : Blocks) (cells : List ℕ) → cells ≡ replicate ((blocks.last + 1) * slots * nodes) 0 → IsTable nodes slots blocks [] cells
@@ -125,7 +126,7 @@ pub overflow_cast-result : goal.overflow_cast-result
 overflow_cast-result g c = place_fits c.loop-place.place (length c.args.lines.now) c.loop-place-test.true c.requires.few
 
 pub loop-place-smaller : goal.loop-place-smaller
-loop-place-smaller g c = falls (length c.args.lines.now) c.loop-place.place c.loop-place-test.true
+loop-place-smaller g c = fewer_left (length c.args.lines.now) c.loop-place.place c.loop-place-test.true
 
 pub returns : goal.returns
 returns g c =

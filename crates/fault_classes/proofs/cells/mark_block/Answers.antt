@@ -1,10 +1,11 @@
 use Rattle.std.proofs.Common.{◌≡◌, ℕ, ◌+◌, ◌*◌, ◌<◌, ◌≤◌, ◌^◌, true, false, length, sym, subst, arith, lit<}
 use Rattle.node_grid.specs.NodeSet.{has_id}
+use Rattle.node_grid.specs.NumberFacts.{fewer_left}
 use Rattle.fault_classes.specs.Line.{slots_in}
 use Rattle.fault_classes.specs.Cells.{in_row, in_block}
 use Rattle.fault_classes.proofs.Marking.{marked_more, marked_same, taken_later}
 use Rattle.fault_classes.proofs.Touching.{slot_on, slot_off, block_below, block_yes, block_no, block_here}
-use Rattle.fault_classes.proofs.Ranges.{row_fits, row_within, falls}
+use Rattle.fault_classes.proofs.Ranges.{row_fits, row_within}
 use Rattle.fault_classes.proofs.cells.mark_block.Goals as goal
 use Rattle.fault_classes.proofs.cells.mark_block.Goals.{then-slots-slot-eq1+else-not-mark_row, else-slots-slot-eq1}
 
@@ -66,7 +67,7 @@ mark_row-requires g c =
     )
 
 pub loop-slot-smaller : goal.loop-slot-smaller
-loop-slot-smaller g c = falls c.args.shape.now.slots c.loop-slot.slot c.loop-slot-test.true
+loop-slot-smaller g c = fewer_left c.args.shape.now.slots c.loop-slot.slot c.loop-slot-test.true
 
 pub overflow_shr-slots : goal.overflow_shr-slots
 overflow_shr-slots g c = let t = c.loop-slot-test.true in let f = c.requires.shape.few_slots in omega arith

@@ -1,9 +1,9 @@
 use Rattle.std.proofs.Common.{◌≡◌, ◌+◌, ◌*◌, ◌<◌, true, false, sym, length, ◌∙◌, arith, lit<}
 use Rattle.std.specs.Prelude.{◌==◌}
 use Rattle.node_grid.specs.NodeSet.{has_id}
+use Rattle.node_grid.specs.NumberFacts.{fewer_left}
 use Rattle.fault_classes.specs.Cells.{in_row}
 use Rattle.fault_classes.proofs.Marking.{digits_below, digits_yes, digits_no, digits_here, marked_more, marked_same, marked_cell, taken_cell, taken_later}
-use Rattle.fault_classes.proofs.Ranges.{falls}
 use Rattle.fault_classes.proofs.cells.mark_row.Goals as goal
 use Rattle.fault_classes.proofs.cells.mark_row.Goals.{then-has+else-cells-cell-ne0, else-has}
 
@@ -64,4 +64,4 @@ pub bounds-cells-cell-then-has : goal.bounds-cells-cell-then-has
 bounds-cells-cell-then-has g c = omega (arith, c.requires.within, c.loop-id-test.true, c.loop-id.auto.cells)
 
 pub loop-id-smaller : goal.loop-id-smaller
-loop-id-smaller g c = falls c.args.nodes c.loop-id.id c.loop-id-test.true
+loop-id-smaller g c = fewer_left c.args.nodes c.loop-id.id c.loop-id-test.true

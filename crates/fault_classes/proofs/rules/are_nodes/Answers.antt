@@ -1,19 +1,11 @@
-use Rattle.std.proofs.Common.{◌≡◌, ℕ, ◌<◌, ◌≤◌, Bool, true, false, not, ◌&&◌, List, [], ◌∷◌, ◌++◌, length, nat_lt, refl, sym, ap, ◌∙◌, arith, lit<, append-nil, append_assoc}
+use Rattle.std.proofs.Common.{◌≡◌, ℕ, ◌≤◌, Bool, true, false, not, ◌&&◌, List, [], ◌∷◌, ◌++◌, length, nat_lt, refl, sym, ap, ◌∙◌, arith, lit<, append-nil, append_assoc}
 use Rattle.std.specs.Prelude.{◌↔◌, IsTrue}
 use Rattle.std.specs.List.{list_all}
 use Rattle.std.proofs.Math.Bool.{and-true, and-false}
-use Rattle.std.proofs.lemmas.Bool.{and_from, and_parts, lt-ltb, le-ltb}
+use Rattle.std.proofs.lemmas.Bool.{lt-ltb, le-ltb}
+use Rattle.node_grid.specs.ListFacts.{tail_shorter, all_more, one_fails}
 use Rattle.fault_classes.specs.Rules.{are_below}
 use Rattle.fault_classes.proofs.rules.are_nodes.Goals as goal
-
--- ids pass together where each of them does
-one_fails : (p : ℕ → Bool) (ys rest : List ℕ) (x : ℕ) → p x ≡ false → list_all p (ys ++ x ∷ rest) ≡ false
-one_fails p [] rest x h = ap (λ b. b && list_all p rest) h
-one_fails p (y ∷ ys) rest x h = ap (λ b. p y && b) (one_fails p ys rest x h) ∙ and-false (p y)
-
-all_more : (p : ℕ → Bool) (ys : List ℕ) (x : ℕ) → list_all p ys ≡ true → p x ≡ true → list_all p (ys ++ x ∷ []) ≡ true
-all_more p [] x a h = and_from (p x) true h refl
-all_more p (y ∷ ys) x a h = let s = and_parts (p y) (list_all p ys) a in and_from (p y) _ s.0 (all_more p ys x s.1 h)
 
 not_below : (nodes : ℕ) (ids ys rest : List ℕ) (x : ℕ) → ids ≡ ys ++ x ∷ rest → nodes ≤ x → false ≡ are_below nodes ids
 not_below nodes ids ys rest x split high =
@@ -29,9 +21,6 @@ some_there false (x ∷ xs) h = sym (lt-ltb 0 (length (x ∷ xs)) (omega arith))
 below : (nodes : ℕ) (b : Bool) (ids ys : List ℕ) → IsTrue b ↔ (ids ≡ []) → ids ≡ ys → list_all (λ x. nat_lt x nodes) ys ≡ true → not b ≡ are_below nodes ids
 below nodes b ids ys none same all =
     some_there b ids none ∙ sym (ap (λ a. nat_lt 0 (length ids) && a) (ap (list_all (λ x. nat_lt x nodes)) same ∙ all) ∙ and-true (nat_lt 0 (length ids)))
-
-less : {rest : List ℕ} {x : ℕ} {zs : List ℕ} → rest ≡ x ∷ zs → length zs < length rest
-less e = rw e (omega arith)
 
 pub iter-id-items-requires : goal.iter-id-items-requires
 iter-id-items-requires g c = (lit< tt, lit< tt)
@@ -58,7 +47,7 @@ loop-id-preserved g c =
     }
 
 pub loop-id-smaller : goal.loop-id-smaller
-loop-id-smaller g c = less c.in-Some.ensures.steps
+loop-id-smaller g c = tail_shorter c.in-Some.ensures.steps
 
 pub returns-then-id-nodes : goal.returns-then-id-nodes
 returns-then-id-nodes g c =

@@ -1,5 +1,6 @@
 use Rattle.std.proofs.Common.{length, refl, arith}
-use Rattle.fault_classes.proofs.Ranges.{falls, place_fits}
+use Rattle.node_grid.specs.NumberFacts.{fewer_left}
+use Rattle.fault_classes.proofs.Ranges.{place_fits}
 use Rattle.fault_classes.proofs.rules.first_bad_restart.Goals as goal
 
 pub loop-place-init : goal.loop-place-init
@@ -9,7 +10,7 @@ pub overflow_cast-result : goal.overflow_cast-result
 overflow_cast-result c = place_fits c.loop-place.place (length c.args.restarts.now) c.loop-place-test.true c.requires.few
 
 pub loop-place-smaller : goal.loop-place-smaller
-loop-place-smaller c = falls (length c.args.restarts.now) c.loop-place.place c.loop-place-test.true
+loop-place-smaller c = fewer_left (length c.args.restarts.now) c.loop-place.place c.loop-place-test.true
 
 pub bounds-restarts-place : goal.bounds-restarts-place
 bounds-restarts-place c = c.loop-place-test.true

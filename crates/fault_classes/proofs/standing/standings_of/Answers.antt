@@ -2,12 +2,12 @@ use Rattle.std.proofs.Common.{ℕ, ◌≡◌, suc, ◌+◌, ◌++◌, ◌∷◌,
 use Rattle.std.proofs.lemmas.Bool.{cases_lt}
 use Rattle.std.proofs.lemmas.List.{get_or_append_left, get_or_push, length_push}
 use Rattle.node_grid.specs.NodeSet.{ids_where, ids_below}
+use Rattle.node_grid.specs.NumberFacts.{fewer_left}
 use Rattle.fault_classes.specs.Plan.{Plan, sound_before}
 use Rattle.fault_classes.specs.declared.standing.Standing.{Standing}
 use Rattle.fault_classes.specs.Standing.{IsStanding}
 use Rattle.fault_classes.proofs.Sets.{every_where}
 use Rattle.node_grid.specs.CapacityLaws.{capacity-le}
-use Rattle.fault_classes.proofs.Ranges.{falls}
 use Rattle.fault_classes.proofs.standing.standings_of.Goals as goal
 
 -- a standing under the plan of the lines and in their period
@@ -48,4 +48,4 @@ pub full-before-requires : goal.full-before-requires
 full-before-requires g c = (lit< tt, (capacity-le g.row.N c.nodes.ensures.shape.capacity, subst (λ n. n ≤ g.row.N) (sym c.nodes.ensures.nodes) c.nodes.ensures.shape.few_nodes))
 
 pub loop-period-smaller : goal.loop-period-smaller
-loop-period-smaller g c = falls c.periods-period-end.result c.loop-period.period c.loop-period-test.true
+loop-period-smaller g c = fewer_left c.periods-period-end.result c.loop-period.period c.loop-period-test.true

@@ -1,22 +1,12 @@
-use Rattle.std.proofs.Common.{◌≡◌, ◌<◌, ◌+◌, ◌-◌, ◌*◌, ◌/◌, ℕ, List, get_or, length, take, drop, sym, ap, ◌∙◌, arith, map, set, length-drop, replicate, ◌++◌, ◌≤◌, refl, lit<, inl, inr}
-use Rattle.std.proofs.lemmas.List.{length-map, length-take-le}
+use Rattle.std.proofs.Common.{◌≡◌, ◌<◌, ◌+◌, ◌-◌, ◌*◌, ◌/◌, ℕ, List, get_or, length, take, drop, sym, ap, ◌∙◌, arith, map, set, replicate, ◌++◌, refl, lit<, inl, inr}
+use Rattle.std.proofs.lemmas.List.{length-map}
 use Rattle.std.specs.Int.{w16, from_be_bytes}
+use Rattle.node_grid.specs.ListFacts.{two_long}
+use Rattle.node_grid.specs.NumberFacts.{two_within, two_more}
 use Rattle.frames.specs.Reading.{pieces_of_width, piece}
 use Rattle.frames.specs.PieceLaws.{length-cut, read_at}
 use Rattle.frames.specs.EntryLaws.{row_in_more}
 use Rattle.frames.proofs.cells.read_row.Goals as goal
-
--- the two bytes of a mask lie within all
-two_more : (j : ℕ) → 2 * j ≤ 2 * j + 2
-two_more j = omega arith
-
-two_within : (j n k : ℕ) → j < n → k ≡ 2 * n → 2 * j + 2 ≤ k
-two_within j n k h e = omega arith
-
-two_long : (j n : ℕ) (bytes : List ℕ) → j < n → length bytes ≡ 2 * n → 2 ≡ length (take (2 * j + 2 - 2 * j) (drop (2 * j) bytes))
-two_long j n bytes h e =
-    let long : 2 * j + 2 - 2 * j ≡ 2 = omega arith in
-    sym (length-take-le (2 * j + 2 - 2 * j) (drop (2 * j) bytes) (omega (arith, length-drop (2 * j) bytes, h, e)) ∙ long)
 
 pub loop-j-preserved : goal.loop-j-preserved
 loop-j-preserved g c =

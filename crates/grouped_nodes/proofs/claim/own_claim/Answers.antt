@@ -1,14 +1,9 @@
-use Rattle.std.proofs.Common.{◌≡◌, ◌<◌, ℕ, Option, None, Some, sym, subst, lit<, inl, inr}
-use Rattle.std.specs.Prelude.{IfSome}
+use Rattle.std.proofs.Common.{sym, subst, lit<, inl, inr}
 use Rattle.node_grid.specs.Capacity.{IsCapacity}
-use Rattle.list_scheduler.specs.Copies.{CopyTable, IsCopies, works}
+use Rattle.list_scheduler.specs.Copies.{IsCopies}
+use Rattle.list_scheduler.specs.Facts.{works_low}
 use Rattle.agreed_state.specs.Agreed.{AgreedView}
-use Rattle.list_scheduler.specs.CopyLaws.{works_runs}
 use Rattle.grouped_nodes.proofs.claim.own_claim.Goals as goal
-
-low : (copies : CopyTable) (q : ℕ) (o : Option (ℕ × ℕ)) → o ≡ works copies q → IfSome o (λ w. w.0 < 32)
-low copies q None e = tt
-low copies q (Some w) e = (works_runs copies q w (sym e)).1
 
 pub running_in-requires : goal.running_in-requires
 running_in-requires g c =
@@ -17,4 +12,4 @@ running_in-requires g c =
     (lit< tt, (elim cap [ inl e ↦ rw e (lit< tt) | inr e ↦ rw e (lit< tt) ], (copies, c.requires.me)))
 
 pub claim_at-requires : goal.claim_at-requires
-claim_at-requires g c = low c.state.inside.copies c.args.me c.running_in.result c.running_in.ensures
+claim_at-requires g c = works_low c.state.inside.copies c.args.me c.running_in.result c.running_in.ensures

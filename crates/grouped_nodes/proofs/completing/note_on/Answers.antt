@@ -1,8 +1,9 @@
 use Rattle.std.proofs.Common.{ℕ, ◌<◌, ◌+◌, Bool, List, length, sym, ap, subst, ◌∙◌, arith}
+use Rattle.node_grid.specs.ListFacts.{same_at}
 use Rattle.error_reports.specs.Notes.{Notes, also_noted}
 use Rattle.view_law.specs.Made.{by_verdicts}
 use Rattle.grouped_nodes.specs.Shared.{no_notes}
-use Rattle.grouped_nodes.proofs.Completion.{AreMore, more_put, more_skip, same_at}
+use Rattle.grouped_nodes.proofs.Completion.{AreMore, more_put, more_skip}
 use Rattle.grouped_nodes.proofs.completing.note_on.Goals.{then-has, else-has}
 use Rattle.grouped_nodes.proofs.completing.note_on.Goals as goal
 

@@ -1,8 +1,9 @@
 use Rattle.std.proofs.Common.{ℕ, ◌≢◌, ◌<◌, ◌≤◌, ◌+◌, ◌⊎◌, List, length, get_or, sym, ap, ◌∙◌, inl, inr, arith}
 use Rattle.std.proofs.lemmas.List.{length-set, get_or-set_other}
 use Rattle.node_grid.specs.NodeSet.{has_id}
+use Rattle.node_grid.specs.ListFacts.{split_more, split_all}
+use Rattle.node_grid.specs.SetFacts.{low_of}
 use Rattle.omh_paths.specs.declared.wrapped.Wrapped.TheVariants.{Fault}
-use Rattle.odd_relays.proofs.Laying.{low_of, split_more, split_all}
 use Rattle.odd_relays.proofs.Places.{laid_at, values_apart}
 use Rattle.item_phase.proofs.values.lay_row.Goals as goal
 

@@ -2,8 +2,9 @@ use Rattle.std.proofs.Common.{◌∷◌, [], arith, sym, ◌∙◌}
 use Rattle.std.specs.Prelude.{codes, decimal, string_bytes}
 use Rattle.std.proofs.lemmas.Bool.Decides.{Decides-eqb}
 use Rattle.std.proofs.lemmas.Slice.Eq.{slice_eq-Decides}
+use Rattle.program_words.specs.Facts.{never}
 use Rattle.judge.specs.Words.{texts}
-use Rattle.judge.proofs.Calling.{never, word_of, three_words, three_are}
+use Rattle.judge.proofs.Calling.{word_of, three_words, three_are}
 use Rattle.judge.proofs.words.draw_of.Goals as goal
 
 pub returns-then-eq-clause-found : goal.returns-then-eq-clause-found

@@ -3,8 +3,9 @@ use Rattle.std.specs.Prelude.{codes, decimal, string_bytes}
 use Rattle.std.proofs.lemmas.Fmt.{decimal_injective}
 use Rattle.std.proofs.lemmas.Bool.Decides.{Decides-eqb}
 use Rattle.std.proofs.lemmas.Slice.Eq.{slice_eq-Decides}
+use Rattle.program_words.specs.Facts.{never}
 use Rattle.judge.specs.Words.{texts}
-use Rattle.judge.proofs.Calling.{never, word_of, four_words, four_are, third_of, fourth_of}
+use Rattle.judge.proofs.Calling.{word_of, four_words, four_are, third_of, fourth_of}
 use Rattle.judge.proofs.words.draws_of.Goals as goal
 
 pub returns-in_err-count-clause-none : goal.returns-in_err-count-clause-none

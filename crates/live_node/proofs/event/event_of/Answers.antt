@@ -1,5 +1,6 @@
 use Rattle.std.proofs.Common.{Option, ℕ, List, Bor, None, Some, length, option_map, ap, sym, ◌∙◌}
-use Rattle.live_node.proofs.Splitting.{behind_is, one, two, three, more, given, is_some_map}
+use Rattle.node_grid.specs.TruthFacts.{is_some_map}
+use Rattle.live_node.proofs.Splitting.{behind_is, one, two, three, more, given}
 use Rattle.live_node.proofs.event.event_of.Goals as goal
 
 abbrev text : Option (Bor (List ℕ)) → Option (List ℕ)

@@ -1,14 +1,12 @@
-use Rattle.std.proofs.Common.{rules, ◌<◌, ◌++◌, ◌∷◌, [], ℕ, ℤ, List, length, sym, ap, subst, ◌∙◌, arith, append_assoc, append-nil, Option, lit<, ◌≡◌}
+use Rattle.std.proofs.Common.{rules, ◌<◌, ◌++◌, ◌∷◌, [], ℕ, ℤ, List, length, sym, ap, subst, ◌∙◌, arith, append_assoc, append-nil, Option, lit<}
 use mir.Syntax.{w64}
 use mir.Val.{SFits, to_z, of_z}
 use Rattle.std.specs.List.{filter_map, cons_option, All}
 use Rattle.std.proofs.lemmas.Int.{to_z-of_z}
 use Rattle.std.proofs.lemmas.List.{length_push}
 use Rattle.std.proofs.lemmas.List.Elements.{All-head, All-tail, filter_map-append}
+use Rattle.node_grid.specs.ListFacts.{tail_shorter}
 use Rattle.mme_vote.proofs.gathering.vote_of_members.Goals as goal
-
-less : {rest : List ℕ} {x : ℕ} {zs : List ℕ} → rest ≡ x ∷ zs → length zs < length rest
-less e = rw e (omega arith)
 
 pub loop-k-preserved-in-Some-value_of : goal.loop-k-preserved-in-Some-value_of
 loop-k-preserved-in-Some-value_of g c =
@@ -62,7 +60,7 @@ pub next-requires : goal.next-requires
 next-requires g c = (lit< tt, tt)
 
 pub loop-k-smaller-in-Some-value_of : goal.loop-k-smaller-in-Some-value_of
-loop-k-smaller-in-Some-value_of g c = less c.in-Some.ensures.steps
+loop-k-smaller-in-Some-value_of g c = tail_shorter c.in-Some.ensures.steps
 
 pub loop-k-smaller : goal.loop-k-smaller
-loop-k-smaller g c = less c.in-Some.ensures.steps
+loop-k-smaller g c = tail_shorter c.in-Some.ensures.steps

@@ -6,8 +6,8 @@ use Rattle.agreed_state.specs.declared.config.Inputs.{Inputs}
 use Rattle.node_steps.specs.Parts.{NodeView}
 use Rattle.node_steps.specs.Steps.{begun}
 use Rattle.scenario.specs.Scenario.{ScenarioView, inputs_of}
+use Rattle.node_steps.specs.Facts.{shut_if}
 use Rattle.node_alone.specs.Log.{RecordView}
-use Rattle.node_alone.proofs.Stepped.{woken_shut}
 use Rattle.node_alone.proofs.alone.begin.Goals as goal
 
 pub scenario-requires : goal.scenario-requires
@@ -27,7 +27,7 @@ begin-requires g c =
     let given : c.inputs.result ≡ inputs_of log.scenario log.id c.args.period = c.inputs.ensures ∙ ap₂ (λ (s : ScenarioView g.row.N) (i : ℕ). inputs_of s i c.args.period) c.scenario.ensures.scenario c.id.ensures.id in (
       elim g.bound-1.eight_or_sixteen [ inl e ↦ rw e (lit< tt) | inr e ↦ rw e (lit< tt) ],
       (
-        ap (λ (y : NodeView g.row.N). y.phase.is_open) c.wake.ensures ∙ woken_shut (restarts_at log.scenario.plan log.id c.args.period) c.args.node.now ∙ c.requires.closed,
+        ap (λ (y : NodeView g.row.N). y.phase.is_open) c.wake.ensures ∙ shut_if (restarts_at log.scenario.plan log.id c.args.period) c.args.node.now ∙ c.requires.closed,
         subst (λ (x : Inputs). All IsValue x.reading) (sym given) (c.id.ensures.log.scenario.system.inputs log.id c.args.period c.id.ensures.log.id).readings,
       ),
     )

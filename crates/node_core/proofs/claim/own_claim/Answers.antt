@@ -1,20 +1,15 @@
-use Rattle.std.proofs.Common.{◌≡◌, ◌<◌, ℕ, Option, None, Some, lit<, sym, ap, ◌∙◌}
-use Rattle.std.specs.Prelude.{IfSome}
+use Rattle.std.proofs.Common.{lit<, sym, ap, ◌∙◌}
 use Rattle.std.proofs.lemmas.Bool.{cond-true, cond-false}
 use Rattle.node_grid.specs.NodeSet.{has_id}
-use Rattle.list_scheduler.specs.Copies.{CopyTable, works}
-use Rattle.list_scheduler.specs.CopyLaws.{works_runs}
+use Rattle.list_scheduler.specs.Copies.{works}
 use Rattle.node_grid.specs.Kinds.{no_claim}
+use Rattle.list_scheduler.specs.Facts.{works_low}
 use Rattle.agreed_state.specs.Agreed.{AgreedView}
 use Rattle.protocol.specs.View.{claim_at, own_claim}
 use Rattle.node_core.proofs.claim.own_claim.Goals as goal
 
-low : (copies : CopyTable) (q : ℕ) (o : Option (ℕ × ℕ)) → o ≡ works copies q → IfSome o (λ w. w.0 < 32)
-low copies q None e = tt
-low copies q (Some w) e = (works_runs copies q w (sym e)).1
-
 pub claim_at-requires : goal.claim_at-requires
-claim_at-requires g c = low c.agreed.inside.copies c.args.me c.running.result c.running.ensures
+claim_at-requires g c = works_low c.agreed.inside.copies c.args.me c.running.result c.running.ensures
 
 pub returns-then-has : goal.returns-then-has
 returns-then-has g c =

@@ -1,7 +1,9 @@
 use Rattle.std.proofs.Common.{ℕ, length, slice_index_or, ap, ◌∙◌, arith}
 use Rattle.std.proofs.lemmas.List.{length-set}
+use Rattle.node_grid.specs.ListFacts.{split_more}
+use Rattle.node_grid.specs.SetFacts.{low_of, next_on}
 use Rattle.omh_paths.specs.declared.wrapped.Wrapped.TheVariants.{Fault}
-use Rattle.odd_relays.proofs.Laying.{low_of, next_on, split_more, laid_each, gone_through}
+use Rattle.odd_relays.proofs.Laying.{laid_each, gone_through}
 use Rattle.odd_relays.proofs.values.copy_led.Goals as goal
 
 pub bounds-leader_of-i : goal.bounds-leader_of-i

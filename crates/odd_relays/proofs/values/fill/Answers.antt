@@ -1,7 +1,9 @@
 use Rattle.std.proofs.Common.{length, refl, ap, ◌∙◌, arith}
 use Rattle.std.proofs.lemmas.List.{length-set}
+use Rattle.node_grid.specs.ListFacts.{split_more}
+use Rattle.node_grid.specs.SetFacts.{low_of}
 use Rattle.omh_paths.specs.declared.wrapped.Wrapped.TheVariants.{Fault}
-use Rattle.odd_relays.proofs.Laying.{low_of, split_more, laid_each, gone_through}
+use Rattle.odd_relays.proofs.Laying.{laid_each, gone_through}
 use Rattle.odd_relays.proofs.values.fill.Goals as goal
 
 pub set_value-requires : goal.set_value-requires

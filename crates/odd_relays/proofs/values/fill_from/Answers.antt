@@ -1,7 +1,9 @@
 use Rattle.std.proofs.Common.{ℕ, ◌+◌, ◌<◌, length, refl, ap, ◌∙◌, arith}
 use Rattle.std.proofs.lemmas.List.{length-set}
+use Rattle.node_grid.specs.ListFacts.{split_more}
+use Rattle.node_grid.specs.SetFacts.{low_of}
 use Rattle.omh_paths.specs.declared.wrapped.Wrapped.TheVariants.{Fault}
-use Rattle.odd_relays.proofs.Laying.{low_of, split_more, gone_through}
+use Rattle.odd_relays.proofs.Laying.{gone_through}
 use Rattle.odd_relays.proofs.Places.{laid_at, values_apart, kept_below}
 use Rattle.odd_relays.proofs.values.fill_from.Goals as goal
 

@@ -1,8 +1,10 @@
 use Rattle.std.proofs.Common.{ℕ, ◌+◌, ◌*◌, ◌<◌, length, refl, ap, ◌∙◌, arith, List, sym, subst}
 use Rattle.std.proofs.lemmas.List.{length-set}
+use Rattle.node_grid.specs.ListFacts.{split_more, split_all}
+use Rattle.node_grid.specs.SetFacts.{low_of}
 use Rattle.omh_paths.specs.declared.wrapped.Wrapped.TheVariants.{Fault}
 use Rattle.odd_relays.specs.Work.{KeepsOthers}
-use Rattle.odd_relays.proofs.Laying.{low_of, split_more, split_all, gone_through}
+use Rattle.odd_relays.proofs.Laying.{gone_through}
 use Rattle.odd_relays.proofs.Places.{laid_at, terms_apart, kept_at}
 use Rattle.odd_relays.proofs.values.fill_terms.Goals as goal
 

@@ -1,9 +1,11 @@
 use Rattle.std.proofs.Common.{ℕ, ◌≡◌, ◌+◌, ◌-◌, ◌*◌, ◌<◌, length, take, drop, ap, ◌∙◌, arith}
 use Rattle.std.proofs.lemmas.List.{length-set, drop-set-lt}
+use Rattle.node_grid.specs.ListFacts.{split_more}
+use Rattle.node_grid.specs.SetFacts.{low_of}
 use Rattle.omh_paths.specs.declared.wrapped.Wrapped.TheVariants.{Fault}
 use Rattle.omh_paths.specs.Wrapped.{unwrapped}
 use Rattle.omh_paths.specs.Majority.{majority}
-use Rattle.odd_relays.proofs.Laying.{low_of, split_more, gone_through}
+use Rattle.odd_relays.proofs.Laying.{gone_through}
 use Rattle.odd_relays.proofs.Places.{laid_at, values_apart, kept_below, same_row}
 use Rattle.odd_relays.proofs.values.settle_terms.Goals as goal
 

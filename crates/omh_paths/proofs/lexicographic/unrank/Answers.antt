@@ -1,10 +1,11 @@
 use Rattle.std.proofs.Common.{◌≡◌, ◌<◌, ◌-◌, ◌+◌, ◌*◌, ◌/◌, ◌%◌, ◌++◌, ◌∷◌, ℕ, List, [], length, get_or, set, take, drop, replicate, refl, sym, ap, ◌∙◌, subst, arith}
 use Rattle.std.proofs.lemmas.List.{take_more_set, length-set, drop-set-lt}
 use Rattle.node_grid.specs.NodeSet.{has_id, without_id}
+use Rattle.omh_paths.specs.Facts.{paths_is}
 use Rattle.omh_paths.specs.Paths.{path_count, path_at, paths_of_length, IsListed}
 use Rattle.omh_paths.specs.PathLists.{length-without, has-at, IsListed-at}
 use Rattle.omh_paths.specs.Layout.{zeros_after}
-use Rattle.omh_paths.proofs.Ranks.{IsUnranked, unranked_start, unranked_at, unranked_more, unranked_end, distinct_end, first_place, behind_is}
+use Rattle.omh_paths.proofs.Ranks.{IsUnranked, unranked_start, unranked_at, unranked_more, unranked_end, distinct_end, first_place}
 use Rattle.node_grid.specs.CapacityLaws.{capacity-le}
 use Rattle.omh_paths.specs.MemberLaws.{Distinct-ids}
 use Rattle.omh_paths.proofs.lexicographic.unrank.Goals as goal
@@ -26,13 +27,13 @@ overflow_sub-choices g c =
 pub split_place-node-requires : goal.split_place-node-requires
 split_place-node-requires g c =
     let now = unranked_at c.loop-k.k c.loop-k.invariant.unranked c.loop-k-test.true in
-    let behind = behind_is c.count_paths-behind.result c.loop-k.choices (length c.loop-k.left) (c.args.len - c.loop-k.k - 1) c.count_paths-behind.ensures.product c.loop-k.invariant.choices in
+    let behind = paths_is c.count_paths-behind.result c.loop-k.choices (length c.loop-k.left) (c.args.len - c.loop-k.k - 1) c.count_paths-behind.ensures.product c.loop-k.invariant.choices in
     (omega arith, subst (λ (w : ℕ). c.loop-k.rest < length c.loop-k.left * w) (sym behind) now.in_range)
 
 pub cut-requires : goal.cut-requires
 cut-requires g c =
     let now = unranked_at c.loop-k.k c.loop-k.invariant.unranked c.loop-k-test.true in
-    let behind = behind_is c.count_paths-behind.result c.loop-k.choices (length c.loop-k.left) (c.args.len - c.loop-k.k - 1) c.count_paths-behind.ensures.product c.loop-k.invariant.choices in
+    let behind = paths_is c.count_paths-behind.result c.loop-k.choices (length c.loop-k.left) (c.args.len - c.loop-k.k - 1) c.count_paths-behind.ensures.product c.loop-k.invariant.choices in
     let w : ℕ = path_count (length c.loop-k.left - 1) (c.args.len - c.loop-k.k - 1) in
     let node : c.split_place-node.result.0 ≡ get_or c.loop-k.left (c.loop-k.rest / w) 0 = c.split_place-node.ensures.node ∙ ap (λ (x : ℕ). get_or c.loop-k.left (c.loop-k.rest / x) 0) behind in
     (omega arith, now.low c.split_place-node.result.0 (ap (has_id c.loop-k.left) node ∙ has-at c.loop-k.left (c.loop-k.rest / w) 0 (first_place (c.args.len - c.loop-k.k - 1) now)))
@@ -41,7 +42,7 @@ pub loop-k-preserved : goal.loop-k-preserved
 loop-k-preserved g c =
     let r : ℕ = c.args.len - c.loop-k.k - 1 in
     let now = unranked_at c.loop-k.k c.loop-k.invariant.unranked c.loop-k-test.true in
-    let behind = behind_is c.count_paths-behind.result c.loop-k.choices (length c.loop-k.left) r c.count_paths-behind.ensures.product c.loop-k.invariant.choices in
+    let behind = paths_is c.count_paths-behind.result c.loop-k.choices (length c.loop-k.left) r c.count_paths-behind.ensures.product c.loop-k.invariant.choices in
     let w : ℕ = path_count (length c.loop-k.left - 1) r in
     let q : ℕ = c.split_place-node.result.0 in
     let node : q ≡ get_or c.loop-k.left (c.loop-k.rest / w) 0 = c.split_place-node.ensures.node ∙ ap (λ (x : ℕ). get_or c.loop-k.left (c.loop-k.rest / x) 0) behind in

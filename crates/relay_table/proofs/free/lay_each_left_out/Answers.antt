@@ -1,9 +1,10 @@
 use Rattle.std.proofs.Common.{lit<, ◌+◌, ◌∷◌, [], map, length, refl, sym, ap, ◌∙◌, arith}
 use Rattle.std.proofs.lemmas.List.{length-map, length_push}
 use Rattle.node_grid.specs.NodeSet.{without_id}
+use Rattle.node_grid.specs.ListFacts.{split_more}
 use Rattle.relay_walk.specs.Laid.{laid}
 use Rattle.relay_walk.specs.LaidLaws.{laid_none, laid_more, length-laid}
-use Rattle.relay_walk.proofs.Loops.{turn, split_more, split_all, map_more}
+use Rattle.relay_walk.proofs.Loops.{turn, split_all, map_more}
 use Rattle.relay_table.proofs.free.lay_each_left_out.Goals as goal
 
 pub loop-member-init : goal.loop-member-init

@@ -1,9 +1,9 @@
 use Rattle.std.proofs.Common.{ℕ, map, get_or, arith, sym, ap, ◌∙◌}
 use Rattle.std.proofs.lemmas.List.{get_or-map, length-map}
+use Rattle.node_grid.specs.ListFacts.{map_map}
 use Rattle.omh_paths.specs.declared.wrapped.Wrapped.TheVariants.{Plain, Fault}
 use Rattle.protocol.specs.Settled.{plain}
 use Rattle.protocol.specs.View.{as_claim}
-use Rattle.relay_rules.specs.HearingLaws.{map_map}
 use Rattle.relay_terms.specs.Terms.{said}
 use Rattle.relaying.proofs.Settled.{settled_none, settled_one, settled_not, filled_all}
 use Rattle.relaying.proofs.settling.claims_of.Goals as goal

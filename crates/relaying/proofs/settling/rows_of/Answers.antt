@@ -1,9 +1,9 @@
 use Rattle.std.proofs.Common.{ℕ, map, get_or, Some, None, arith, lit<, inl, inr, sym, ap, subst, ◌∙◌}
 use Rattle.std.proofs.lemmas.List.{get_or-map, length-map}
 use Rattle.node_grid.specs.Capacity.{IsCapacity}
+use Rattle.node_grid.specs.ListFacts.{map_map}
 use Rattle.omh_paths.specs.declared.wrapped.Wrapped.TheVariants.{Fault}
 use Rattle.protocol.specs.Settled.{plain}
-use Rattle.relay_rules.specs.HearingLaws.{map_map}
 use Rattle.relay_terms.specs.Terms.{said}
 use Rattle.relaying.proofs.Settled.{IsFilledBelow, settled_none, settled_one, settled_not, filled_all}
 use Rattle.relaying.proofs.settling.rows_of.Goals as goal

@@ -1,10 +1,10 @@
 use Rattle.std.proofs.Common.{ℕ, ◌<◌, map, sym, ap, subst, ◌∙◌, lit<, inl, inr, arith}
 use Rattle.node_grid.specs.NodeSet.{has_id, IsIdSet}
+use Rattle.node_grid.specs.ListFacts.{map_map}
 use Rattle.protocol.specs.Settled.{plain}
 use Rattle.relay_terms.specs.Terms.{said, term_in}
 use Rattle.relay_walk.specs.Walking.{IsWalk, entries_of}
 use Rattle.relay_table.specs.Tabled.{others_in, after_frames}
-use Rattle.relay_rules.specs.HearingLaws.{map_map}
 use Rattle.relay_rules.specs.Settling.{settled_in}
 use Rattle.relaying.specs.Told.{IsRoundHeard}
 use Rattle.relaying.proofs.Told.{round_by_frames, fewer_ids}

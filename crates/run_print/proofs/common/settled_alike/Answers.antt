@@ -1,6 +1,7 @@
 use mathlib.Core.List.{not-mem-nil}
 use Rattle.std.proofs.Common.{refl, sym, ◌∙◌, inl, inr, lit<}
-use Rattle.run_print.proofs.Alike.{told, numbers_same, rows_same, claims_same, votes_same}
+use Rattle.node_grid.specs.ListFacts.{votes_same}
+use Rattle.run_print.proofs.Alike.{told, numbers_same, rows_same, claims_same}
 use Rattle.run_print.proofs.common.settled_alike.Goals as goal
 
 pub returns : goal.returns

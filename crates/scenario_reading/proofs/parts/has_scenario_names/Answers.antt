@@ -4,7 +4,8 @@ use Rattle.std.specs.Ordering.{int_eq}
 use Rattle.std.proofs.lemmas.Bool.{not-true}
 use Rattle.json_parts.specs.Meaning.{view}
 use Rattle.json_parts.specs.Reading.{has_keys}
-use Rattle.scenario_reading.proofs.Keys.{not_false, newer_names, older_names}
+use Rattle.node_grid.specs.TruthFacts.{not_false}
+use Rattle.scenario_reading.proofs.Keys.{newer_names, older_names}
 use Rattle.scenario_reading.proofs.parts.has_scenario_names.Goals as goal
 
 pub returns-then-knows_more : goal.returns-then-knows_more

@@ -1,6 +1,7 @@
 use Rattle.std.proofs.Common.{ℕ, ◌≡◌, slice_index_or, arith}
+use Rattle.node_grid.specs.ListFacts.{split_more}
+use Rattle.node_grid.specs.SetFacts.{low_of, each_more}
 use Rattle.omh_paths.specs.declared.wrapped.Wrapped.TheVariants.{Fault}
-use Rattle.odd_relays.proofs.Laying.{low_of, split_more, each_more}
 use Rattle.settled_items.proofs.values.are_alike.Goals as goal
 
 pub is_same-requires-clause-first : goal.is_same-requires-clause-first

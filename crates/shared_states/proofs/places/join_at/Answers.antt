@@ -3,8 +3,8 @@ use Rattle.std.specs.Prelude.{slice_get, slice_index}
 use Rattle.std.proofs.lemmas.Bool.{cases_Bool, cond-true, cond-false, and_parts}
 use Rattle.node_grid.specs.NodeSet.{has_id, ids_where}
 use Rattle.node_grid.specs.NodeSetLaws.{passes_where}
+use Rattle.node_grid.specs.SetFacts.{member-lt}
 use Rattle.agreed_state.specs.Agreed.{AgreedView}
-use Rattle.shared_states.proofs.Free.{below}
 use Rattle.shared_states.specs.Places.{ArePlaced, LeadAlike}
 use Rattle.shared_states.proofs.places.join_at.Goals.{then-has+then-other-place+then-has_equal, else-has}
 use Rattle.shared_states.proofs.places.join_at.Goals as goal
@@ -23,7 +23,7 @@ loop-other-preserved g c =
           let moved = w.nodes_at-moved.result in
           let test : ℕ → Bool = λ k. has_id nodes k && (slice_index old k == other) in
           let put : (i : ℕ) → has_id nodes i ≡ true → slice_index new i ≡ (if has_id moved i then place else slice_index old i) =
-          λ i on. w.put_at.ensures.put i (below g.row.N nodes i c.len.ensures.ids on) in
+          λ i on. w.put_at.ensures.put i (member-lt g.row.N nodes i c.len.ensures.ids on) in
           let placed : ArePlaced g.row.N nodes new =
           λ i on. elim (cases_Bool (has_id moved i)) [
             | inl m ↦ subst (λ (k : ℕ). k < g.row.N) (sym (put i on ∙ cond-true (has_id moved i) place (slice_index old i) m)) c.requires.place

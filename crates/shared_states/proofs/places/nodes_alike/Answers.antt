@@ -1,8 +1,8 @@
 use Rattle.std.proofs.Common.{◌≡◌, ℕ, List, ◌+◌, true, false, sym, subst, ◌∙◌, inl, inr, arith}
 use Rattle.std.proofs.lemmas.Bool.{cases_lt}
 use Rattle.node_grid.specs.NodeSet.{has_id}
+use Rattle.node_grid.specs.SetFacts.{member-lt}
 use Rattle.shared_states.specs.Places.{IsAlike}
-use Rattle.shared_states.proofs.Free.{below}
 use Rattle.shared_states.proofs.Views.{Marked, marked_more, marked_same}
 use Rattle.shared_states.proofs.places.nodes_alike.Goals.{then-has+then-has_equal, else-has, else-has-via-then-has+else-has_equal, else-has-via-else-has}
 use Rattle.shared_states.proofs.places.nodes_alike.Goals as goal
@@ -33,6 +33,6 @@ returns g c = λ i. elim (cases_lt i g.row.N) [
   | inr high ↦
       let off : has_id c.loop-node.alike i ≡ false = c.loop-node.invariant.rest i (omega (arith, c.loop-node.auto.node-end)) in (
         λ t. absurd (let z : false ≡ true = sym off ∙ t in cc),
-        λ p. absurd (omega (arith, below g.row.N c.args.nodes.now i c.requires.ids p.0)),
+        λ p. absurd (omega (arith, member-lt g.row.N c.args.nodes.now i c.requires.ids p.0)),
       )
 ]

@@ -3,7 +3,8 @@ use Rattle.std.proofs.lemmas.Bool.{cases_eq, or_left, or_right}
 use Rattle.node_grid.specs.NodeSet.{has_id, with_id, ids_below, IsIdSet}
 use Rattle.node_grid.specs.NodeSetLaws.{IsIdSet-filter, count-below, has-with_id}
 use Rattle.node_grid.specs.Count.{bit, count}
-use Rattle.shared_states.proofs.Free.{below, grown, length_set}
+use Rattle.node_grid.specs.SetFacts.{member-lt}
+use Rattle.shared_states.proofs.Free.{grown, length_set}
 use Rattle.shared_states.proofs.places.places_of.Goals.{then-has, else-has}
 use Rattle.shared_states.proofs.places.places_of.Goals as goal
 
@@ -47,7 +48,7 @@ loop-node-preserved g c =
     ]
 
 pub returns-clause-places : goal.returns-clause-places
-returns-clause-places g c = λ i up. c.loop-node.invariant.there i (omega (arith, below g.row.N c.args.nodes.now i c.requires.ids up, c.loop-node-test.false)) up
+returns-clause-places g c = λ i up. c.loop-node.invariant.there i (omega (arith, member-lt g.row.N c.args.nodes.now i c.requires.ids up, c.loop-node-test.false)) up
 
 pub returns-clause-few : goal.returns-clause-few
 returns-clause-few g c =

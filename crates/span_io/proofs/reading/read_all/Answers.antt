@@ -1,7 +1,7 @@
-use Rattle.std.proofs.Common.{◌≡◌, ℕ, ◌≤◌, List, length, take, drop, ◌++◌, length-append, length-take, arith, refl, sym, ap, ◌∙◌, Option, None, Some, Result, Ok, Err, inl, inr}
-use Rattle.std.specs.Io.KnownBytes.{Consumes, Keeps}
+use Rattle.std.proofs.Common.{◌≡◌, ℕ, ◌≤◌, length, take, drop, ◌++◌, length-append, length-take, arith, refl, ◌∙◌, Result, Ok, Err, inl, inr}
 use Rattle.std.proofs.lemmas.List.{take-append-le}
 use Rattle.std.proofs.KnownBytes.{Consumes-nil, Consumes-trans}
+use Rattle.node_grid.specs.ListFacts.{consumes_kept}
 use Rattle.span_io.specs.declared.reading.ReadError.{ReadError}
 use Rattle.span_io.specs.declared.reading.ReadError.TheVariants.{Failed, TooLong, NoMemory}
 use Rattle.span_io.proofs.reading.read_all.Goals as goal
@@ -21,12 +21,6 @@ not_long is e = cc
 
 too_long_failed : {T P : Type 0} {r : Result T ReadError} → r ≡ Err TooLong → r ≡ Err Failed → P
 too_long_failed is e = cc
-
-consumes_kept : (a b c : Option (List ℕ)) (bs : List ℕ) → Consumes a b bs → Keeps b c → Consumes a c bs
-consumes_kept None b c bs p q = tt
-consumes_kept (Some x) None c bs p q = absurd p
-consumes_kept (Some x) (Some y) None bs p q = absurd q
-consumes_kept (Some x) (Some y) (Some z) bs p q = p ∙ ap (λ w. bs ++ w) (sym q)
 
 pub loop-count-init : goal.loop-count-init
 loop-count-init g c = rw (c.new-bytes.ensures.len, c.new-bytes.ensures.items) (omega arith, Consumes-nil _, omega arith, refl)

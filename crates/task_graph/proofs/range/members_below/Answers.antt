@@ -1,20 +1,9 @@
-use Rattle.std.proofs.Common.{◌≡◌, ℕ, ◌<◌, Bool, true, false, ◌&&◌, List, [], ◌∷◌, ◌++◌, length, refl, sym, ap, ◌∙◌, arith, lit<, append-nil, append_assoc}
+use Rattle.std.proofs.Common.{ℕ, Bool, List, [], ◌∷◌, ◌++◌, refl, sym, ap, ◌∙◌, arith, lit<, append-nil, append_assoc}
 use Rattle.std.specs.Prelude.{nat_lt}
 use Rattle.std.specs.List.{list_all}
-use Rattle.std.proofs.Math.Bool.{and-false}
-use Rattle.std.proofs.lemmas.Bool.{and_from, and_parts, le-ltb, lt-ltb}
+use Rattle.std.proofs.lemmas.Bool.{le-ltb, lt-ltb}
+use Rattle.node_grid.specs.ListFacts.{tail_shorter, all_more, one_fails}
 use Rattle.task_graph.proofs.range.members_below.Goals as goal
-
-one_fails : (p : ℕ → Bool) (ys rest : List ℕ) (x : ℕ) → p x ≡ false → list_all p (ys ++ x ∷ rest) ≡ false
-one_fails p [] rest x h = ap (λ b. b && list_all p rest) h
-one_fails p (y ∷ ys) rest x h = ap (λ b. p y && b) (one_fails p ys rest x h) ∙ and-false (p y)
-
-all_more : (p : ℕ → Bool) (ys : List ℕ) (x : ℕ) → list_all p ys ≡ true → p x ≡ true → list_all p (ys ++ x ∷ []) ≡ true
-all_more p [] x a h = and_from (p x) true h refl
-all_more p (y ∷ ys) x a h = let s = and_parts (p y) (list_all p ys) a in and_from (p y) _ s.0 (all_more p ys x s.1 h)
-
-less : {rest : List ℕ} {x : ℕ} {zs : List ℕ} → rest ≡ x ∷ zs → length zs < length rest
-less e = rw e (omega arith)
 
 pub iter-id-items-requires : goal.iter-id-items-requires
 iter-id-items-requires g c = (lit< tt, lit< tt)
@@ -38,7 +27,7 @@ returns-then-id-nodes g c =
     sym (ap (list_all p) split ∙ one_fails p ys c.next.new.self c.in-Some.id (le-ltb c.in-Some.id c.args.nodes c.if-id-nodes.true))
 
 pub loop-id-smaller : goal.loop-id-smaller
-loop-id-smaller g c = less c.in-Some.ensures.steps
+loop-id-smaller g c = tail_shorter c.in-Some.ensures.steps
 
 pub loop-id-preserved : goal.loop-id-preserved
 loop-id-preserved g c =

@@ -7,7 +7,8 @@ use Rattle.node_grid.specs.NodeSet.{has_id}
 use Rattle.node_grid.specs.NodeSetLaws.{All-ids}
 use Rattle.omh_paths.specs.MemberLaws.{Distinct-ids}
 use Rattle.protocol.specs.View.{own_in, value_of}
-use Rattle.told_values.proofs.ByPlace.{has_more, value_of_at}
+use Rattle.protocol.specs.Facts.{value_of_at}
+use Rattle.told_values.proofs.ByPlace.{has_more}
 use Rattle.told_values.proofs.places.own_by_place.Goals as goal
 
 pub loop-k-init : goal.loop-k-init

@@ -8,7 +8,8 @@ use Rattle.node_grid.specs.NodeSetLaws.{All-ids}
 use Rattle.omh_paths.specs.MemberLaws.{Distinct-ids}
 use Rattle.frames.specs.Reading.{content_values}
 use Rattle.protocol.specs.View.{value_of}
-use Rattle.told_values.proofs.ByPlace.{has_more, value_of_at}
+use Rattle.protocol.specs.Facts.{value_of_at}
+use Rattle.told_values.proofs.ByPlace.{has_more}
 use Rattle.told_values.proofs.places.read_by_place.Goals as goal
 
 pub loop-k-init : goal.loop-k-init

@@ -1,7 +1,8 @@
 use Rattle.std.proofs.Common.{ap₂, arith, List, ℕ, [], ◌∷◌, sym, ◌∙◌}
 use Rattle.std.proofs.lemmas.Bool.Decides.{Decides-eqb, Decides-like}
 use Rattle.std.proofs.lemmas.Slice.Eq.{slice_eq-Decides}
-use Rattle.top_call.proofs.Words.{two_words, two_words_first, first, second, never}
+use Rattle.program_words.specs.Facts.{never}
+use Rattle.top_call.proofs.Words.{two_words, two_words_first, first, second}
 use Rattle.top_call.proofs.form.are_two.Goals as goal
 
 pub returns-then-eq : goal.returns-then-eq

@@ -1,7 +1,8 @@
 use Rattle.std.proofs.Common.{arith, sym, ◌∙◌}
 use Rattle.std.proofs.lemmas.Bool.Decides.{Decides-eqb}
 use Rattle.std.proofs.lemmas.Slice.Eq.{slice_eq-Decides}
-use Rattle.top_call.proofs.Words.{two_words, two_words_first, first, never, then_both}
+use Rattle.program_words.specs.Facts.{never}
+use Rattle.top_call.proofs.Words.{two_words, two_words_first, first, then_both}
 use Rattle.top_call.proofs.form.number_after.Goals as goal
 
 pub returns-then-eq-clause-found : goal.returns-then-eq-clause-found

@@ -1,8 +1,8 @@
 use Rattle.std.proofs.Common.{ℕ, ◌≡◌, true, List, sym, subst, ◌∙◌}
 use Rattle.node_grid.specs.NodeSet.{has_id}
+use Rattle.node_grid.specs.SetFacts.{all_within}
 use Rattle.shared_states.specs.declared.belief.Belief.{Belief}
 use Rattle.at_once.specs.Values.{due_at}
-use Rattle.at_once.proofs.Alike.{all_within}
 use Rattle.at_once.proofs.dues.GroupDuesDues.are_alike.Goals as goal
 
 pub returns-then-has : goal.returns-then-has

@@ -1,6 +1,6 @@
 use Rattle.std.proofs.Common.{ℤ, List, Option, sym, ap, ◌∙◌}
+use Rattle.node_grid.specs.ListFacts.{votes_same}
 use Rattle.at_once.specs.Kept.{of_node}
-use Rattle.at_once.proofs.RowSteps.{votes_same}
 use Rattle.at_once.proofs.keeping.Keeping.vote_alike.Goals as goal
 
 pub returns-then-one-other : goal.returns-then-one-other

@@ -1,7 +1,8 @@
 use Rattle.std.proofs.Common.{length, inl, inr, lit<, refl, subst, arith}
+use Rattle.node_grid.specs.ListFacts.{holds_here}
+use Rattle.node_grid.specs.NumberFacts.{offset_fits}
 use Rattle.cluster_periods.specs.Periods.{begun_by, IsResting}
-use Rattle.cluster_periods.proofs.Handing.{holds_here, put_over, all_put}
-use Rattle.cluster_step.proofs.Slotting.{offset_fits}
+use Rattle.cluster_periods.proofs.Handing.{put_over, all_put}
 use Rattle.cluster_step.proofs.stepping.Period.begin_all.Goals as goal
 
 pub begin_node-requires : goal.begin_node-requires

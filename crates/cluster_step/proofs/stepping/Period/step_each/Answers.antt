@@ -1,11 +1,12 @@
-use Rattle.cluster_step.proofs.Slotting.{offset_fits}
 use Rattle.std.proofs.Common.{ℕ, List, [], get_or, inl, inr, lit<, ap, subst, sym, ◌∙◌, arith, ◌<◌, refl, length}
 use Rattle.std.specs.Prelude.{slice_index_or}
 use Rattle.slot_plan.specs.Slots.{slot_count}
+use Rattle.node_grid.specs.ListFacts.{holds_here}
+use Rattle.node_grid.specs.NumberFacts.{offset_fits}
 use Rattle.node_steps.specs.Parts.{NodeView}
 use Rattle.scenario.specs.Scenario.{ScenarioView}
 use Rattle.cluster_periods.specs.Slots.{through_slot, IsReady}
-use Rattle.cluster_periods.proofs.Handing.{holds_here, put_over, all_put}
+use Rattle.cluster_periods.proofs.Handing.{put_over, all_put}
 use Rattle.cluster_step.proofs.stepping.Period.step_each.Goals as goal
 
 pub frames-frames-requires : goal.frames-frames-requires

@@ -1,16 +1,15 @@
 use Rattle.std.proofs.Common.{rules, ◌<◌, if◌then◌else◌, length, sym, ap, subst, ◌∙◌, arith, None, Some}
 use Rattle.std.specs.Prelude.{option_map}
-use Rattle.omh_paths.specs.MemberLaws.{member-lt}
+use Rattle.node_grid.specs.SetFacts.{member-lt, IsIdSet-wider}
 use Rattle.frames.specs.Seen.{content}
 use Rattle.protocol.specs.Arrival.{arrived, values_in}
 use Rattle.protocol.specs.View.{value_in, own_in}
-use Rattle.data_slot.specs.DueSets.{wider}
 use Rattle.data_slot.proofs.Senders.{from_other, from_self}
 use Rattle.data_slot.proofs.vote.DataSlot.values_from.Goals as goal
 
 pub values_in_frame-requires : goal.values_in_frame-requires
 values_in_frame-requires g c =
-    (search rules, wider (length c.args.config.now.channels.items) 8 c.args.self.now.due.now c.requires.config.few_channels c.requires.due)
+    (search rules, IsIdSet-wider (length c.args.config.now.channels.items) 8 c.args.self.now.due.now c.requires.config.few_channels c.requires.due)
 
 pub returns-then-from-self : goal.returns-then-from-self
 returns-then-from-self g c x on =

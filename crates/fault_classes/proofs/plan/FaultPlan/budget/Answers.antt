@@ -1,8 +1,9 @@
-use Rattle.std.proofs.Common.{◌≡◌, ◌+◌, ◌++◌, ◌∷◌, [], sym, ap, ◌∙◌, arith, append_assoc, lit<, refl, List, ℕ, ◌<◌, ◌≤◌, lit≤, length, append-nil, suc, subst, length-append}
+use Rattle.std.proofs.Common.{◌≡◌, ◌+◌, ◌++◌, ◌∷◌, [], sym, ap, ◌∙◌, arith, append_assoc, lit<, refl, List, ℕ, ◌<◌, ◌≤◌, lit≤, length, append-nil, subst, length-append}
 use Rattle.std.proofs.lemmas.List.{length_push}
 use Rattle.node_grid.specs.declared.class.Class.{Class}
 use Rattle.node_grid.specs.Count.{bit, count}
 use Rattle.node_grid.specs.Class.{is_asymmetric, is_symmetric, is_silent}
+use Rattle.node_grid.specs.ListFacts.{tail_shorter, middle_below}
 use Rattle.fault_classes.specs.declared.budget.Budget.{Budget}
 use Rattle.fault_classes.specs.Plan.{class_of}
 use Rattle.fault_classes.specs.Budget.{counts_as, with_member}
@@ -10,13 +11,6 @@ use Rattle.node_grid.specs.declared.class.Class.TheVariants.{N, J, B, S, A}
 use Rattle.node_grid.specs.ListLaws.{count-more}
 use Rattle.std.specs.Prelude.{All}
 use Rattle.fault_classes.proofs.plan.FaultPlan.budget.Goals as goal
-
-front : (n : ℕ) (ys rest : List ℕ) (x : ℕ) → All (λ k. k < n) (ys ++ x ∷ rest) → x < n
-front n [] rest x all = all 0 0 (omega arith)
-front n (y ∷ ys) rest x all = front n ys rest x (λ k d l. all (suc k) d (omega arith))
-
-less : {rest : List ℕ} {x : ℕ} {zs : List ℕ} → rest ≡ x ∷ zs → length zs < length rest
-less e = rw e (omega arith)
 
 -- a class counts as one of them at most
 bits_le : (class : Class) → bit (is_asymmetric class) + bit (is_symmetric class) + bit (is_silent class) ≤ 1
@@ -61,7 +55,7 @@ pub next-requires : goal.next-requires
 next-requires g c = (lit< tt, tt)
 
 pub loop-node-smaller : goal.loop-node-smaller
-loop-node-smaller g c = less c.in-Some.ensures.steps
+loop-node-smaller g c = tail_shorter c.in-Some.ensures.steps
 
 pub loop-node-init : goal.loop-node-init
 loop-node-init g c = record {
@@ -93,7 +87,7 @@ pub class-requires : goal.class-requires
 class-requires g c =
     let ys : List ℕ = c.loop-node.yielded in
     let split = c.loop-node.invariant.split ∙ ap (λ (xs : List ℕ). ys ++ xs) c.in-Some.ensures.steps in
-    let low : c.in-Some.node < c.args.self.now.nodes = front c.args.self.now.nodes ys c.next.new.self c.in-Some.node (subst (λ xs. All (λ k. k < c.args.self.now.nodes) xs) split c.requires.members) in
+    let low : c.in-Some.node < c.args.self.now.nodes = middle_below c.args.self.now.nodes ys c.next.new.self c.in-Some.node (subst (λ xs. All (λ k. k < c.args.self.now.nodes) xs) split c.requires.members) in
     (lit< tt, (low, c.requires.period))
 
 pub add-requires : goal.add-requires

@@ -1,9 +1,9 @@
 use Rattle.std.proofs.Common.{sym, ◌∙◌, arith}
+use Rattle.node_grid.specs.SetFacts.{all_ids}
 use Rattle.fault_classes.specs.Change.{is_manifest}
 use Rattle.slot_plan.specs.Slots.{slot_count}
 use Rattle.fault_classes.specs.Plan.{each_in_slot}
 use Rattle.node_grid.specs.NodeSetLaws.{not_all_ids}
-use Rattle.fault_classes.proofs.Loops.{all_ids}
 use Rattle.fault_classes.proofs.standing.PeriodLines.is_benign.Goals as goal
 
 pub returns-then-not-is_benign_at : goal.returns-then-not-is_benign_at

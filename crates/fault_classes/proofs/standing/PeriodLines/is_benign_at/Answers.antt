@@ -1,9 +1,10 @@
 use Rattle.std.proofs.Common.{◌≡◌, false, sym, ap, ◌∙◌, arith, ◌||◌}
 use Rattle.std.specs.Prelude.{◌==◌}
+use Rattle.node_grid.specs.NumberFacts.{other_fails}
+use Rattle.node_grid.specs.SetFacts.{all_ids}
 use Rattle.fault_classes.specs.Change.{is_manifest}
 use Rattle.fault_classes.specs.Line.{effect_at}
 use Rattle.node_grid.specs.NodeSetLaws.{not_all_ids}
-use Rattle.fault_classes.proofs.Loops.{all_ids, other_fails}
 use Rattle.fault_classes.proofs.standing.PeriodLines.is_benign_at.Goals as goal
 
 pub returns-then-not-is_manifest : goal.returns-then-not-is_manifest

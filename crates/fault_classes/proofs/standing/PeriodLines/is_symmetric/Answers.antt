@@ -1,8 +1,8 @@
 use Rattle.std.proofs.Common.{sym, ◌∙◌, arith}
 use Rattle.slot_plan.specs.Slots.{slot_count}
+use Rattle.node_grid.specs.SetFacts.{all_ids}
 use Rattle.fault_classes.specs.Plan.{is_symmetric_at}
 use Rattle.node_grid.specs.NodeSetLaws.{not_all_ids}
-use Rattle.fault_classes.proofs.Loops.{all_ids}
 use Rattle.fault_classes.proofs.standing.PeriodLines.is_symmetric.Goals as goal
 
 pub returns-then-not-is_symmetric_at : goal.returns-then-not-is_symmetric_at

@@ -2,11 +2,12 @@ use Rattle.std.proofs.Common.{◌≡◌, ℕ, ◌+◌, Bool, not, ◌&&◌, leng
 use Rattle.std.specs.Prelude.{◌==◌, nat_lt}
 use Rattle.node_grid.specs.NodeSet.{has_id, ids_below}
 use Rattle.node_grid.specs.Count.{bit, count}
+use Rattle.node_grid.specs.SetFacts.{count_ids}
 use Rattle.fault_classes.specs.Change.{is_manifest}
 use Rattle.fault_classes.specs.Line.{effect_at}
 use Rattle.fault_classes.specs.Plan.{sound_before, steady}
 use Rattle.node_grid.specs.NodeSetLaws.{count-below}
-use Rattle.fault_classes.proofs.Sets.{has_in, length_where, count_same}
+use Rattle.fault_classes.proofs.Sets.{has_in, length_where}
 use Rattle.fault_classes.proofs.standing.PeriodLines.recovers.Goals as goal
 use Rattle.fault_classes.proofs.standing.PeriodLines.recovers.Goals.{then-is_stray, else-is_stray}
 
@@ -34,7 +35,7 @@ returns g c =
     let by : (ℕ → Bool) → ℕ → Bool = λ has j. not (j == c.args.node) && (not (has j) && not (is_manifest (effect_at plan.lines p 0 j c.args.node))) in
     let strays : c.loop-other.strays ≡ count (by good) (ids_below n) =
     c.loop-other.invariant.counted ∙ ap (λ m. count (by (has_id c.args.good.now)) (ids_below m)) end
-    ∙ count_same (by (has_id c.args.good.now)) (by good) n (λ k h. ap (λ b. not (k == c.args.node) && (not b && not (is_manifest (effect_at plan.lines p 0 k c.args.node)))) (has_in c.args.good.now good n k c.requires.good h))
+    ∙ count_ids (by (has_id c.args.good.now)) (by good) n (λ k h. ap (λ b. not (k == c.args.node) && (not b && not (is_manifest (effect_at plan.lines p 0 k c.args.node)))) (has_in c.args.good.now good n k c.requires.good h))
     in
     let many : c.len.result ≡ count good (ids_below n) = c.len.ensures.count ∙ ap length c.requires.good ∙ length_where good n in
     ap₂ nat_lt strays many

@@ -3,11 +3,11 @@ use Rattle.std.proofs.lemmas.List.{get_or_default, length-replicate}
 use Rattle.node_grid.specs.declared.class.Class.{Class}
 use Rattle.node_grid.specs.declared.class.Class.TheVariants.{A}
 use Rattle.node_grid.specs.Class.{is_nonfaulty}
+use Rattle.node_grid.specs.NumberFacts.{fewer_left}
 use Rattle.fault_classes.specs.Plan.{sound_before, steady, class_of}
 use Rattle.fault_classes.specs.ClassLaws.{nonfaulty_is}
 use Rattle.fault_classes.proofs.Sets.{first_where}
 use Rattle.std.proofs.lemmas.Bool.{cases_eq}
-use Rattle.fault_classes.proofs.Ranges.{falls}
 use Rattle.fault_classes.proofs.standing.PeriodLines.standing.Goals as goal
 
 one_more : (f : ℕ → Class) (xs : List Class) (k : ℕ) (x : Class) → k < length xs → x ≡ f k → ((j : ℕ) → j < k → slice_index_or xs j A ≡ f j) → (j : ℕ) → j < k + 1 → slice_index_or (set xs k x) j A ≡ f j
@@ -54,7 +54,7 @@ loop-node-preserved g c =
     }
 
 pub loop-node-smaller : goal.loop-node-smaller
-loop-node-smaller g c = falls c.nodes-node-end.result c.loop-node.node c.loop-node-test.true
+loop-node-smaller g c = fewer_left c.nodes-node-end.result c.loop-node.node c.loop-node-test.true
 
 pub least-requires : goal.least-requires
 least-requires g c = lit< tt

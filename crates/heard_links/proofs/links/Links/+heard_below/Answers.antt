@@ -2,15 +2,17 @@ use Rattle.std.proofs.Common.{rules, ℕ, ◌≡◌, ◌≢◌, ◌<◌, ◌+◌
 use Rattle.std.proofs.lemmas.List.{length_push}
 use Rattle.node_grid.specs.NodeSet.{has_id}
 use Rattle.node_grid.specs.Count.{Distinct}
+use Rattle.node_grid.specs.SetFacts.{split_off, front_distinct}
 use Rattle.omh_paths.specs.Wrapped.{wrapped}
 use Rattle.omh_paths.specs.PathLists.{has-without-left}
 use Rattle.omh.specs.Written.{last_node}
+use Rattle.omh.specs.Facts.{front_last}
 use Rattle.protocol.specs.Heard.{heard}
 use Rattle.protocol.specs.Talk.{rounds_upto}
 use Rattle.touched_items.specs.Items.{sizes_in}
 use Rattle.heard_links.specs.Talks.{members_at}
 use Rattle.heard_links.specs.Hearing.{talk_in, came_at, item_of, IsAsked, passed_on}
-use Rattle.heard_links.proofs.Places.{front_last, last_has, split_off, split_distinct, meant, meant_other}
+use Rattle.heard_links.proofs.Places.{last_has, meant, meant_other}
 use Rattle.heard_links.proofs.Runs.{known, heard_few}
 use Rattle.heard_links.proofs.Sets.{few_m, node_low, in_use, front_on, front_short}
 use Rattle.heard_links.proofs.Standing.{bad_front}
@@ -112,7 +114,7 @@ source-requires g t' c =
     let long : length path ≡ length front + 1 = ap length split ∙ length_push front q in
     let parts = subst Distinct split c.len-round.ensures.distinct in
     let off = split_off front q parts in
-    let apart = split_distinct front q parts in
+    let apart = front_distinct front q parts in
     let asked = subst (IsAsked t x.config.now.m x.awake a.i) split c.requires.asked in
     let within = front_on t x.config.now.m x.awake a.i q front asked off in
     let brief = front_short t x.config.now.m x.awake a.i q front asked off in
@@ -145,7 +147,7 @@ heard_below-requires g t' c κs within' =
     let long : length path ≡ length front + 1 = ap length split ∙ length_push front q in
     let parts = subst Distinct split c.len-round.ensures.distinct in
     let off = split_off front q parts in
-    let apart = split_distinct front q parts in
+    let apart = front_distinct front q parts in
     let asked = subst (IsAsked t x.config.now.m x.awake a.i) split c.requires.asked in
     let within = front_on t x.config.now.m x.awake a.i q front asked off in
     let brief = front_short t x.config.now.m x.awake a.i q front asked off in
@@ -184,7 +186,7 @@ wrap-own-requires g t' c =
     let long : length path ≡ length front + 1 = ap length split ∙ length_push front q in
     let parts = subst Distinct split c.len-round.ensures.distinct in
     let off = split_off front q parts in
-    let apart = split_distinct front q parts in
+    let apart = front_distinct front q parts in
     let asked = subst (IsAsked t x.config.now.m x.awake a.i) split c.requires.asked in
     let within = front_on t x.config.now.m x.awake a.i q front asked off in
     let brief = front_short t x.config.now.m x.awake a.i q front asked off in
@@ -225,7 +227,7 @@ heard_relay-requires g t' c =
     let long : length path ≡ length front + 1 = ap length split ∙ length_push front q in
     let parts = subst Distinct split c.len-round.ensures.distinct in
     let off = split_off front q parts in
-    let apart = split_distinct front q parts in
+    let apart = front_distinct front q parts in
     let asked = subst (IsAsked t x.config.now.m x.awake a.i) split c.requires.asked in
     let within = front_on t x.config.now.m x.awake a.i q front asked off in
     let brief = front_short t x.config.now.m x.awake a.i q front asked off in
@@ -265,7 +267,7 @@ heard_relay-requires-in-None g t' c =
     let long : length path ≡ length front + 1 = ap length split ∙ length_push front q in
     let parts = subst Distinct split c.len-round.ensures.distinct in
     let off = split_off front q parts in
-    let apart = split_distinct front q parts in
+    let apart = front_distinct front q parts in
     let asked = subst (IsAsked t x.config.now.m x.awake a.i) split c.requires.asked in
     let within = front_on t x.config.now.m x.awake a.i q front asked off in
     let brief = front_short t x.config.now.m x.awake a.i q front asked off in

@@ -3,8 +3,8 @@ use Rattle.std.proofs.Common.{ℕ, ◌≡◌, ◌==◌, true, sym, ◌∙◌, in
 use Rattle.std.proofs.lemmas.Bool.{both_ways}
 use Rattle.std.specs.Cmp.Lexicographic.{pointwise}
 use Rattle.node_grid.specs.NodeSet.{has_id}
+use Rattle.node_grid.specs.ListFacts.{same_list}
 use Rattle.heard_links.specs.Talks.{members_at}
-use Rattle.heard_links.proofs.Runs.{same_list}
 use Rattle.heard_links.proofs.Sets.{none_first, node_low}
 use Rattle.heard_links.proofs.phase.Phase.has_one_membership.Goals as goal
 use Rattle.heard_links.proofs.phase.Phase.has_one_membership.Goals.{else-has-via-then-has+else-not-has_same_members, else-has-via-else-has}

@@ -1,8 +1,8 @@
 use Rattle.std.proofs.Common.{sym, ◌∙◌}
 use Rattle.node_grid.specs.NodeSet.{has_id}
+use Rattle.node_grid.specs.ListFacts.{same_list}
 use Rattle.heard_links.specs.Talks.{members_at}
 use Rattle.heard_links.proofs.Places.{placed_in, source_same}
-use Rattle.heard_links.proofs.Runs.{same_list}
 use Rattle.heard_links.proofs.Sets.{few_nodes}
 use Rattle.heard_links.proofs.phase.Phase.source.Goals as goal
 

@@ -1,7 +1,8 @@
 use Rattle.std.proofs.Common.{ℕ, ◌≢◌, ◌<◌, ◌==◌, List, refl, sym, ap, subst, ◌∙◌, inl, inr, arith, lit<, eq-eqb, eqb-true}
 use Rattle.std.proofs.lemmas.Bool.{or_cases, or_left, or_right, both_ways}
 use Rattle.node_grid.specs.NodeSet.{has_id}
-use Rattle.omh_paths.specs.PathLists.{has-without, has-without-left}
+use Rattle.node_grid.specs.SetFacts.{has-without}
+use Rattle.omh_paths.specs.PathLists.{has-without-left}
 use Rattle.heard_links.specs.Talks.{IsEvenTo}
 use Rattle.heard_links.proofs.Puts.{more_off, more_on}
 use Rattle.heard_links.proofs.phase.Phase.uneven.Goals as goal

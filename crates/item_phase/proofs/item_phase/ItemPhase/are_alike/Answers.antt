@@ -2,11 +2,12 @@ use Rattle.std.proofs.Common.{rules, ℕ, ◌≡◌, List, true, sym, ap, ◌∙
 use Rattle.std.proofs.lemmas.Bool.{cases_Bool, not-false}
 use Rattle.std.proofs.lemmas.Slice.Eq.{bytes_eq-Decides}
 use Rattle.node_grid.specs.NodeSet.{has_id, minus_of}
+use Rattle.node_grid.specs.ListFacts.{split_more, split_all}
+use Rattle.node_grid.specs.SetFacts.{next_on, each_more}
 use Rattle.omh_paths.specs.declared.wrapped.Wrapped.TheVariants.{Plain}
 use Rattle.omh.specs.Omh.{settled_from}
 use Rattle.heard_links.specs.Hearing.{item_of}
 use Rattle.heard_links.specs.Talks.{members_at}
-use Rattle.odd_relays.proofs.Laying.{next_on, each_more, split_more, split_all}
 use Rattle.item_phase.specs.Settled.{listener}
 use Rattle.item_phase.proofs.Marking.{in_minus, taken_out}
 use Rattle.item_phase.proofs.Standing.{alike_said}

@@ -1,10 +1,12 @@
 use Rattle.std.proofs.Common.{ℕ, suc, ◌≡◌, List, true, sym, ap, subst, ◌∙◌, inl, inr, lit<, arith}
 use Rattle.node_grid.specs.NodeSet.{has_id}
+use Rattle.node_grid.specs.ListFacts.{split_more, split_all}
+use Rattle.node_grid.specs.NumberFacts.{kinds-few}
+use Rattle.node_grid.specs.SetFacts.{next_on}
 use Rattle.error_reports.specs.Notes.{Notes, also_carried}
 use Rattle.protocol.specs.Heard.{rounds_bad}
-use Rattle.odd_relays.proofs.Laying.{next_on, split_more, split_all}
 use Rattle.item_phase.specs.Noted.{of_node, rounds_of, IsCarrier}
-use Rattle.item_phase.proofs.RoundNotes.{of_nodes, few_kinds, found_none, carried_start, carried_next, carried_me, carried_whole, carrier_more}
+use Rattle.item_phase.proofs.RoundNotes.{of_nodes, found_none, carried_start, carried_next, carried_me, carried_whole, carrier_more}
 use Rattle.item_phase.proofs.item_phase.ItemPhase.carry.Goals as goal
 
 pub loop-j-init : goal.loop-j-init
@@ -43,7 +45,7 @@ loop-j-preserved-then-j-i g c =
     let inv = c.loop-j.invariant in
     let says = rounds_bad config.m (rounds_of g.V.Item.form a.phase.now a.self.now.links a.i) in
     let q : ℕ = c.in-Some.j in
-    let few = few_kinds config.version in
+    let few = kinds-few config.version in
     let kinds = c.requires.notes.kinds in
     record {
       can = tt;

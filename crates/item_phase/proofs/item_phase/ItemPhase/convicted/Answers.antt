@@ -1,11 +1,12 @@
 use Rattle.std.proofs.Common.{ℕ, ◌≡◌, ◌<◌, ◌⊎◌, ◌++◌, ◌∷◌, Bool, true, false, List, sym, ap, ◌∙◌, inl, inr, lit<}
 use Rattle.std.proofs.lemmas.Bool.{cases_Bool}
 use Rattle.node_grid.specs.NodeSet.{has_id, minus_of}
+use Rattle.node_grid.specs.ListFacts.{split_more, split_all}
+use Rattle.node_grid.specs.SetFacts.{next_on, has_in_front}
 use Rattle.protocol.specs.FurtherKinds.{convicts_member}
 use Rattle.heard_links.specs.declared.phase.Phase.{Phase}
 use Rattle.heard_links.specs.Talks.{IsSet, members_at}
 use Rattle.heard_links.proofs.Sets.{in_use, member_low}
-use Rattle.odd_relays.proofs.Laying.{next_on, has_front, split_more, split_all}
 use Rattle.item_phase.specs.Settled.{listener}
 use Rattle.item_phase.proofs.Against.{put_here, put_others, left_here, left_others}
 use Rattle.item_phase.proofs.Marking.{in_minus, taken_out}
@@ -39,7 +40,7 @@ is_against-requires g c =
 
 -- the members that were gone through, and the next one, are below N
 lows : {N : ℕ} (x : Phase N) → IsSet x → (i : ℕ) (plain ys left : List ℕ) → minus_of (members_at x i) plain ≡ ys ++ left → (k : ℕ) → has_id ys k ≡ true → k < N
-lows x set i plain ys left split k on = member_low x set i k (in_minus (members_at x i) plain k (ap (λ (s : List ℕ). has_id s k) split ∙ has_front ys left k on)).0
+lows x set i plain ys left split k on = member_low x set i k (in_minus (members_at x i) plain k (ap (λ (s : List ℕ). has_id s k) split ∙ has_in_front ys left k on)).0
 
 next_low : {N : ℕ} (x : Phase N) → IsSet x → (i : ℕ) (plain ys rest left : List ℕ) (q : ℕ) → minus_of (members_at x i) plain ≡ ys ++ left → left ≡ q ∷ rest → q < N
 next_low x set i plain ys rest left q split steps = member_low x set i q (in_minus (members_at x i) plain q (next_on (minus_of (members_at x i) plain) ys rest left q split steps)).0

@@ -1,16 +1,17 @@
 use Rattle.std.proofs.Common.{ℕ, ◌≡◌, List, true, Some, None, sym, ap, subst, ◌∙◌, inl, inr, arith}
 use Rattle.std.proofs.lemmas.Bool.{cases_lt, cond-true}
 use Rattle.node_grid.specs.NodeSet.{has_id}
+use Rattle.node_grid.specs.SetFacts.{has_below, below_of}
 use Rattle.heard_links.specs.Hearing.{item_of, is_even, talk_in}
 use Rattle.heard_links.proofs.Runs.{even_kind}
-use Rattle.item_phase.proofs.Marking.{in_minus, taken_out, has_below, low_below}
+use Rattle.item_phase.proofs.Marking.{in_minus, taken_out}
 use Rattle.item_phase.proofs.item_phase.ItemPhase.ill.Goals as goal
 
 pub returns-clause-used : goal.returns-clause-used
 returns-clause-used g c = λ j on.
     let all : List ℕ = c.full-all.result in
     let nodes : ℕ = c.args.phase.now.config.now.nodes in
-    low_below nodes j (ap (λ (s : List ℕ). has_id s j) (sym c.full-all.ensures) ∙ (in_minus all c.minus-well.result j (ap (λ (s : List ℕ). has_id s j) (sym c.minus.ensures) ∙ on)).0)
+    below_of nodes j (ap (λ (s : List ℕ). has_id s j) (sym c.full-all.ensures) ∙ (in_minus all c.minus-well.result j (ap (λ (s : List ℕ). has_id s j) (sym c.minus.ensures) ∙ on)).0)
 
 pub returns-clause-well : goal.returns-clause-well
 returns-clause-well g c = λ r j i few low off on ne.

@@ -2,8 +2,9 @@ use Rattle.std.proofs.Common.{ℕ, ◌<◌, ◌+◌, ◌*◌, List, [], length, 
 use Rattle.std.proofs.lemmas.Bool.{cases_eq}
 use Rattle.std.proofs.lemmas.List.{get_or_default}
 use Rattle.node_grid.specs.NodeSet.{has_id, with_id}
+use Rattle.node_grid.specs.SetFacts.{not_rest}
 use Rattle.omh_paths.specs.declared.wrapped.Wrapped.TheVariants.{Fault}
-use Rattle.item_phase.proofs.Marking.{marked_in, marked_out, kept_in, kept_out}
+use Rattle.item_phase.proofs.Marking.{marked_in, kept_in, kept_out}
 use Rattle.item_phase.proofs.Standing.{place_low}
 use Rattle.item_phase.proofs.item_phase.ItemPhase.lay.Goals as goal
 use Rattle.item_phase.proofs.item_phase.ItemPhase.lay.Goals.{then-convicts, else-convicts}
@@ -25,7 +26,7 @@ returns-clause-convicted g c =
       | then-convicts w ↦
           ap (λ (ids : List ℕ). has_id ids a.me) (w.others-is ∙ w.put.ensures ∙ ap (λ (ids : List ℕ). with_id g.row.N ids a.me) c.without-others.ensures)
           ∙ marked_in g.row.N s a.me c.requires.node ∙ sym w.if-convicts.true
-      | else-convicts w ↦ ap (λ (ids : List ℕ). has_id ids a.me) (w.others-is ∙ c.without-others.ensures) ∙ marked_out s a.me ∙ sym w.if-convicts.false
+      | else-convicts w ↦ ap (λ (ids : List ℕ). has_id ids a.me) (w.others-is ∙ c.without-others.ensures) ∙ not_rest s a.me ∙ sym w.if-convicts.false
     ]
 
 pub returns-clause-convicting : goal.returns-clause-convicting

@@ -1,11 +1,12 @@
 use Rattle.std.proofs.Common.{ℕ, suc, ◌≡◌, ◌<◌, ◌+◌, ◌==◌, ◌&&◌, Some, sym, ap, subst, ◌∙◌, arith}
+use Rattle.node_grid.specs.NumberFacts.{kinds-few}
 use Rattle.error_reports.specs.Notes.{Notes, also_noted}
 use Rattle.heard_links.specs.Hearing.{frame_kind, talk_in}
 use Rattle.heard_links.proofs.Sets.{node_low}
 use Rattle.item_phase.specs.Noted.{found_below, of_node, rounds_of, IsNoter}
 use Rattle.item_phase.proofs.FrameKinds.{kind_low}
 use Rattle.item_phase.proofs.Kinding.{noted_kind}
-use Rattle.item_phase.proofs.RoundNotes.{few_kinds, some_kinds, noted_none, noted_more, noted_same, noted_all, noter_more}
+use Rattle.item_phase.proofs.RoundNotes.{some_kinds, noted_none, noted_more, noted_same, noted_all, noter_more}
 use Rattle.item_phase.proofs.item_phase.ItemPhase.note_of.Goals.{in-Some, in_default}
 use Rattle.item_phase.proofs.item_phase.ItemPhase.note_of.Goals as goal
 
@@ -48,7 +49,7 @@ loop-round-preserved g c =
           let found : frame_kind rounds r j ≡ Some kind = sym w.in-Some.ensures in
           let low = kind_low (talk_in g.V.Item.form x a.self.now.links) config.m a.i j kind r (omega (arith, c.loop-round-test.true)) found in
           let some = some_kinds config.version in
-          let few = few_kinds config.version in
+          let few = kinds-few config.version in
           let kinds = is.kinds in
           let nodes = is.nodes in
           let used = c.requires.from in

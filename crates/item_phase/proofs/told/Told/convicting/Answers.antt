@@ -1,6 +1,6 @@
 use Rattle.std.proofs.Common.{ℕ, ◌≡◌, List, Option, inl, inr, lit<, ap₂}
+use Rattle.node_grid.specs.SetFacts.{member-lt}
 use Rattle.omh_paths.specs.declared.wrapped.Wrapped.{Wrapped}
-use Rattle.omh_paths.specs.MemberLaws.{member-lt}
 use Rattle.heard_links.specs.declared.links.Links.{Links}
 use Rattle.heard_links.specs.declared.phase.Phase.{Phase}
 use Rattle.heard_links.specs.Passing.{says_of}

@@ -1,7 +1,7 @@
 use Rattle.std.proofs.Common.{ℕ, ◌≡◌, ◌<◌, List, Option, inl, inr, arith, lit<, sym, ap, ap₂, ◌∙◌}
 use Rattle.node_grid.specs.NodeSet.{has_id}
+use Rattle.node_grid.specs.SetFacts.{member-lt}
 use Rattle.omh_paths.specs.declared.wrapped.Wrapped.{Wrapped}
-use Rattle.omh_paths.specs.MemberLaws.{member-lt}
 use Rattle.settled_paths.specs.declared.exchange.Exchange.{Exchange}
 use Rattle.settled_paths.specs.Rooms.{Room}
 use Rattle.heard_links.specs.declared.links.Links.{Links}

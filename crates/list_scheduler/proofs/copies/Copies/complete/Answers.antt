@@ -1,11 +1,12 @@
 use Rattle.std.proofs.Common.{ℕ, ◌<◌, ◌++◌, ◌∷◌, [], List, length, ap, subst, sym, ◌∙◌, inl, inr, lit<, arith}
 use Rattle.std.proofs.lemmas.List.{get_or_default}
+use Rattle.node_grid.specs.ListFacts.{tail_shorter}
 use Rattle.omh_paths.specs.declared.wrapped.Wrapped.TheVariants.{Fault}
 use Rattle.list_scheduler.specs.Copies.{IsTable, IsCopies}
 use Rattle.list_scheduler.specs.ScheduleLaws.{graph_ordered, completed_kept}
 use Rattle.list_scheduler.proofs.Completing.{completed_more, verdicts_more, verdicts_none}
 use Rattle.node_grid.specs.CapacityLaws.{capacity-le}
-use Rattle.list_scheduler.proofs.Members.{next_member, one_more, next_within, one_less}
+use Rattle.list_scheduler.proofs.Members.{next_member, one_more, next_within}
 use Rattle.list_scheduler.proofs.copies.Copies.complete.Goals as goal
 
 pub loop-node-init : goal.loop-node-init
@@ -55,7 +56,7 @@ pub len-requires : goal.len-requires
 len-requires g c = lit< tt
 
 pub loop-node-smaller : goal.loop-node-smaller
-loop-node-smaller g c = one_less c.in-Some.ensures.steps
+loop-node-smaller g c = tail_shorter c.in-Some.ensures.steps
 
 pub next-requires : goal.next-requires
 next-requires g c = (lit< tt, tt)

@@ -1,10 +1,10 @@
 use Rattle.std.proofs.Common.{◌≡◌, ◌<◌, ◌≤◌, ◌+◌, sym, ap, ◌∙◌, arith, lit<, inl, inr}
 use Rattle.node_grid.specs.NodeSet.{ids_below}
 use Rattle.node_grid.specs.Count.{bit, count}
+use Rattle.node_grid.specs.SetFacts.{count_few}
 use Rattle.list_scheduler.specs.Copies.{copy_at, is_passed}
 use Rattle.node_grid.specs.CapacityLaws.{capacity-le}
 use Rattle.node_grid.specs.NodeSetLaws.{count-below}
-use Rattle.list_scheduler.proofs.Picking.{count_few}
 use Rattle.task_graph.specs.GraphLaws.{few_tasks}
 use Rattle.list_scheduler.proofs.copies.Copies.finished.Goals as goal
 use Rattle.list_scheduler.proofs.copies.Copies.finished.Goals.{then-is_passed, else-is_passed}

@@ -2,6 +2,7 @@ use Rattle.std.proofs.Common.{append-nil, ◌≡◌, ℕ, ◌<◌, ◌++◌, len
 use Rattle.std.specs.Prelude.{is_some}
 use Rattle.std.proofs.lemmas.List.{get_or_default}
 use Rattle.node_grid.specs.NodeSet.{with_id, IsIdSet}
+use Rattle.node_grid.specs.ListFacts.{tail_shorter}
 use Rattle.omh_paths.specs.declared.wrapped.Wrapped.TheVariants.{Fault}
 use Rattle.task_graph.specs.Graph.{TaskView, task_at}
 use Rattle.task_graph.specs.GraphLaws.{few_tasks}
@@ -11,7 +12,7 @@ use Rattle.list_scheduler.specs.ByTask.{moved}
 use Rattle.list_scheduler.proofs.Found.{found, found_none, found_more, found_less, found_all}
 use Rattle.list_scheduler.proofs.Moving.{among, among_none, among_fresh, among_more, among_all, moved_told, runs_only}
 use Rattle.node_grid.specs.CapacityLaws.{capacity-le}
-use Rattle.list_scheduler.proofs.Members.{next_member, one_more, next_within, one_less}
+use Rattle.list_scheduler.proofs.Members.{next_member, one_more, next_within}
 use Rattle.list_scheduler.proofs.copies.Copies.move_task.Goals as goal
 
 set_of : (n : ℕ) {x y : TaskView} → IsIdSet n x.nodes → x ≡ y → IsIdSet n y.nodes
@@ -111,10 +112,10 @@ pub iter-node-items-requires : goal.iter-node-items-requires
 iter-node-items-requires g c = (lit< tt, lit< tt)
 
 pub loop-node-smaller : goal.loop-node-smaller
-loop-node-smaller g c = one_less c.in-Some.ensures.steps
+loop-node-smaller g c = tail_shorter c.in-Some.ensures.steps
 
 pub loop-node-smaller-then-move_copy : goal.loop-node-smaller-then-move_copy
-loop-node-smaller-then-move_copy g c = one_less c.in-Some.ensures.steps
+loop-node-smaller-then-move_copy g c = tail_shorter c.in-Some.ensures.steps
 
 pub move_copy-requires : goal.move_copy-requires
 move_copy-requires g c = (

@@ -1,11 +1,12 @@
 use Rattle.std.proofs.Common.{append-nil, ◌≡◌, ℕ, ◌++◌, ◌&&◌, List, Bool, true, false, ap, ap₂, sym, ◌∙◌, inl, inr, lit<, subst, arith}
 use Rattle.node_grid.specs.NodeSet.{has_id, with_id, IsIdSet}
+use Rattle.node_grid.specs.ListFacts.{tail_shorter}
 use Rattle.task_graph.specs.Graph.{TaskView, task_at}
 use Rattle.list_scheduler.specs.Copies.{copy_at, is_idle}
 use Rattle.list_scheduler.proofs.Found.{found, found_none, found_more, found_less}
 use Rattle.list_scheduler.proofs.Picking.{open_found}
 use Rattle.node_grid.specs.CapacityLaws.{capacity-le}
-use Rattle.list_scheduler.proofs.Members.{one_more, next_within, one_less}
+use Rattle.list_scheduler.proofs.Members.{one_more, next_within}
 use Rattle.task_graph.specs.GraphLaws.{few_tasks}
 use Rattle.list_scheduler.proofs.copies.Copies.open_nodes.Goals as goal
 use Rattle.list_scheduler.proofs.copies.Copies.open_nodes.Goals.{else-has-via-then-has+else-is_idle, else-has-via-else-has}
@@ -81,10 +82,10 @@ pub iter-node-items-requires : goal.iter-node-items-requires
 iter-node-items-requires g c = (lit< tt, lit< tt)
 
 pub loop-node-smaller : goal.loop-node-smaller
-loop-node-smaller g c = one_less c.in-Some.ensures.steps
+loop-node-smaller g c = tail_shorter c.in-Some.ensures.steps
 
 pub loop-node-smaller-then-is_idle : goal.loop-node-smaller-then-is_idle
-loop-node-smaller-then-is_idle g c = one_less c.in-Some.ensures.steps
+loop-node-smaller-then-is_idle g c = tail_shorter c.in-Some.ensures.steps
 
 pub next-requires : goal.next-requires
 next-requires g c = (lit< tt, tt)

@@ -3,9 +3,10 @@ use Rattle.std.specs.Prelude.{is_none}
 use Rattle.std.proofs.lemmas.Bool.{and_parts}
 use Rattle.node_grid.specs.NodeSet.{has_id}
 use Rattle.node_grid.specs.NodeSetLaws.{passes_where, has-filter}
+use Rattle.node_grid.specs.TruthFacts.{none_is}
 use Rattle.list_scheduler.specs.Copies.{IsCopies, works}
 use Rattle.list_scheduler.specs.ScheduleLaws.{graph_ordered, picked_kept}
-use Rattle.list_scheduler.proofs.Picking.{none_is, picked_resting}
+use Rattle.list_scheduler.proofs.Picking.{picked_resting}
 use Rattle.list_scheduler.proofs.copies.Copies.pick.Goals as goal
 
 pub start_on-requires : goal.start_on-requires

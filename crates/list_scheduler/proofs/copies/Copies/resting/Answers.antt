@@ -1,10 +1,11 @@
 use Rattle.std.proofs.Common.{append-nil, true, false, not, Option, None, Some, ◌≡◌, ℕ, ◌++◌, List, Bool, refl, ap, sym, ◌∙◌, inl, inr, lit<}
 use Rattle.std.specs.Prelude.{is_none, is_some}
 use Rattle.node_grid.specs.NodeSet.{with_id}
+use Rattle.node_grid.specs.ListFacts.{tail_shorter}
 use Rattle.list_scheduler.specs.Copies.{works}
 use Rattle.list_scheduler.proofs.Found.{found, found_none, found_more, found_less}
 use Rattle.node_grid.specs.CapacityLaws.{capacity-le}
-use Rattle.list_scheduler.proofs.Members.{one_more, next_within, one_less}
+use Rattle.list_scheduler.proofs.Members.{one_more, next_within}
 use Rattle.list_scheduler.proofs.copies.Copies.resting.Goals as goal
 
 told : (o : Option (ℕ × ℕ)) (r : Bool) → is_some o ≡ not r → is_none o ≡ r
@@ -59,10 +60,10 @@ pub iter-node-items-requires : goal.iter-node-items-requires
 iter-node-items-requires g c = (lit< tt, lit< tt)
 
 pub loop-node-smaller : goal.loop-node-smaller
-loop-node-smaller g c = one_less c.in-Some.ensures.steps
+loop-node-smaller g c = tail_shorter c.in-Some.ensures.steps
 
 pub loop-node-smaller-then-is_none : goal.loop-node-smaller-then-is_none
-loop-node-smaller-then-is_none g c = one_less c.in-Some.ensures.steps
+loop-node-smaller-then-is_none g c = tail_shorter c.in-Some.ensures.steps
 
 pub next-requires : goal.next-requires
 next-requires g c = (lit< tt, tt)

@@ -1,8 +1,9 @@
 use Rattle.std.proofs.Common.{ℕ, ◌++◌, List, refl, ap, subst, sym, ◌∙◌, inl, inr, lit<}
+use Rattle.node_grid.specs.ListFacts.{tail_shorter}
 use Rattle.list_scheduler.specs.Copies.{IsTable}
 use Rattle.list_scheduler.specs.declared.copies.CopyState.TheVariants.{Running}
 use Rattle.list_scheduler.proofs.Moving.{among_none, among_more}
-use Rattle.list_scheduler.proofs.Members.{one_more, next_within, one_less}
+use Rattle.list_scheduler.proofs.Members.{one_more, next_within}
 use Rattle.list_scheduler.proofs.copies.Copies.start.Goals as goal
 
 pub loop-node-init : goal.loop-node-init
@@ -25,7 +26,7 @@ pub iter-node-items-requires : goal.iter-node-items-requires
 iter-node-items-requires g c = (lit< tt, lit< tt)
 
 pub loop-node-smaller : goal.loop-node-smaller
-loop-node-smaller g c = one_less c.in-Some.ensures.steps
+loop-node-smaller g c = tail_shorter c.in-Some.ensures.steps
 
 pub next-requires : goal.next-requires
 next-requires g c = (lit< tt, tt)

@@ -1,9 +1,9 @@
 use Rattle.std.proofs.Common.{nat_lt, length, sym, ap, ◌∙◌, inl, inr, lit<}
 use Rattle.std.specs.Prelude.{is_some}
+use Rattle.node_grid.specs.TruthFacts.{is_some_map}
 use Rattle.agreed_state.specs.declared.config.Config.{Config}
 use Rattle.live_node.specs.Live.{LiveView, is_other, is_of_cluster}
 use Rattle.live_node.specs.Seen.{event_in}
-use Rattle.live_node.proofs.Splitting.{is_some_map}
 use Rattle.live_node.proofs.Held.{and_true, and_false}
 use Rattle.live_node.proofs.event_node.EventNode.is_of_cluster.Goals as goal
 

@@ -1,5 +1,6 @@
 use Rattle.std.proofs.Common.{◌≡◌, ◌≤◌, ℤ, true, not, length, take, sym, ap, subst, ◌∙◌, arith, inl, inr, lit<, w64, to_z, of_z}
 use Rattle.std.specs.Prelude.{Some, is_some, vec_capacity, set}
+use Rattle.node_grid.specs.TruthFacts.{and_both, not_so}
 use Rattle.agreed_state.specs.declared.config.Config.{Config}
 use Rattle.frames.specs.Content.{IsValue}
 use Rattle.node_steps.specs.Parts.{NodeView}
@@ -7,18 +8,18 @@ use Rattle.node_steps.specs.Steps.{given_frame, restarted}
 use Rattle.live_node.specs.Live.{LiveView, is_open, is_other, is_of_cluster, may_begin, allowed, period_begun, told}
 use Rattle.live_node.specs.Seen.{event_in, FitsIn}
 use Rattle.live_node.specs.Standing.{IsHeld}
-use Rattle.live_node.proofs.Held.{both, not_so, other_is, held_given, held_restarted, held_reading, held_ahead, stored}
+use Rattle.live_node.proofs.Held.{other_is, held_given, held_restarted, held_reading, held_ahead, stored}
 use Rattle.std.proofs.Common.{length-take-le}
 use Rattle.live_node.proofs.event_node.EventNode.tell.Goals as goal
 
 pub period_of-period-requires : goal.period_of-period-requires
 period_of-period-requires g c =
-    let may = both (not (is_open c.args.self.now)) (may_begin c.args.self.now c.in-Begin.named) (sym (ap (λ e. allowed c.args.self.now (event_in c.args.room.now e)) c.in-Begin.is) ∙ c.requires.allowed) in
+    let may = and_both (not (is_open c.args.self.now)) (may_begin c.args.self.now c.in-Begin.named) (sym (ap (λ e. allowed c.args.self.now (event_in c.args.room.now e)) c.in-Begin.is) ∙ c.requires.allowed) in
     (elim g.bound-1.eight_or_sixteen [ inl e ↦ rw e (lit< tt) | inr e ↦ rw e (lit< tt) ], may.1)
 
 pub begin-requires : goal.begin-requires
 begin-requires g c =
-    let may = both (not (is_open c.args.self.now)) (may_begin c.args.self.now c.in-Begin.named) (sym (ap (λ e. allowed c.args.self.now (event_in c.args.room.now e)) c.in-Begin.is) ∙ c.requires.allowed) in
+    let may = and_both (not (is_open c.args.self.now)) (may_begin c.args.self.now c.in-Begin.named) (sym (ap (λ e. allowed c.args.self.now (event_in c.args.room.now e)) c.in-Begin.is) ∙ c.requires.allowed) in
     (elim g.bound-1.eight_or_sixteen [ inl e ↦ rw e (lit< tt) | inr e ↦ rw e (lit< tt) ], (not_so (is_open c.args.self.now) may.0, c.period_of-period.ensures.later))
 
 pub slice_bounds-deliver-end : goal.slice_bounds-deliver-end
@@ -94,7 +95,7 @@ bounds-self-inside-node g c =
     let v : LiveView g.row.N = record { scenario = c.self-in-Ahead.inside.scenario.now; id = c.self-in-Ahead.inside.id; node = c.self-in-Ahead.inside.node; next = c.self-in-Ahead.inside.next; run = c.self-in-Ahead.inside.run; forgot = c.self-in-Ahead.inside.forgot; given = c.self-in-Ahead.inside.told.given; ahead = c.self-in-Ahead.inside.told.ahead; longest = c.self-in-Ahead.inside.longest } in
     let same : v ≡ c.args.self.now = c.self-in-Ahead.view_is in
     let held : IsHeld v c.self-in-Ahead.inside.slot (vec_capacity c.self-in-Ahead.inside.frame) (vec_capacity c.self-in-Ahead.inside.text) = c.self-in-Ahead.invariant in
-    let other = other_is v held.live c.in-Ahead.node (ap (λ (x : LiveView g.row.N). is_other x c.in-Ahead.node) same ∙ (both (is_other c.args.self.now c.in-Ahead.node) (is_some c.args.self.now.scenario.clock) (sym (ap (λ e. is_of_cluster c.args.self.now (event_in c.args.room.now e)) c.in-Ahead.is) ∙ c.requires.of_cluster)).0) in
+    let other = other_is v held.live c.in-Ahead.node (ap (λ (x : LiveView g.row.N). is_other x c.in-Ahead.node) same ∙ (and_both (is_other c.args.self.now c.in-Ahead.node) (is_some c.args.self.now.scenario.clock) (sym (ap (λ e. is_of_cluster c.args.self.now (event_in c.args.room.now e)) c.in-Ahead.is) ∙ c.requires.of_cluster)).0) in
     let nodes : v.node.config.nodes ≡ v.scenario.config.nodes = ap (λ (y : Config g.row.N). y.nodes) held.live.config in
     let few = held.live.scenario.system.config.few_nodes in
     omega (arith, other.0, nodes, few)
@@ -105,7 +106,7 @@ invariant_of-self-in-Ahead g c =
     let same : v ≡ c.args.self.now = c.self-in-Ahead.view_is in
     let held : IsHeld v c.self-in-Ahead.inside.slot (vec_capacity c.self-in-Ahead.inside.frame) (vec_capacity c.self-in-Ahead.inside.text) = c.self-in-Ahead.invariant in
     let fits : (c.in-Ahead.node ≤ 15) × IsValue c.in-Ahead.by = subst (FitsIn (length c.args.room.now)) c.in-Ahead.is c.requires.fits in
-    let other = other_is v held.live c.in-Ahead.node (ap (λ (x : LiveView g.row.N). is_other x c.in-Ahead.node) same ∙ (both (is_other c.args.self.now c.in-Ahead.node) (is_some c.args.self.now.scenario.clock) (sym (ap (λ e. is_of_cluster c.args.self.now (event_in c.args.room.now e)) c.in-Ahead.is) ∙ c.requires.of_cluster)).0) in
+    let other = other_is v held.live c.in-Ahead.node (ap (λ (x : LiveView g.row.N). is_other x c.in-Ahead.node) same ∙ (and_both (is_other c.args.self.now c.in-Ahead.node) (is_some c.args.self.now.scenario.clock) (sym (ap (λ e. is_of_cluster c.args.self.now (event_in c.args.room.now e)) c.in-Ahead.is) ∙ c.requires.of_cluster)).0) in
     held_ahead v c.self-in-Ahead.inside.slot (vec_capacity c.self-in-Ahead.inside.frame) (vec_capacity c.self-in-Ahead.inside.text) held c.in-Ahead.node c.in-Ahead.by (to_z w64 (of_z w64 c.in-Ahead.by)) (λ e. other.1 (e ∙ sym held.live.me)) fits.1 (stored c.in-Ahead.by fits.1)
 
 pub returns-in-Begin : goal.returns-in-Begin

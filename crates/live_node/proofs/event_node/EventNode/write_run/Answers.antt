@@ -1,11 +1,11 @@
 use Rattle.std.proofs.Common.{◌≡◌, ◌<◌, ◌≤◌, true, false, not, sym, ap, ◌∙◌, arith, inl, inr, lit<}
 use Rattle.std.specs.Prelude.{is_some, vec_capacity}
+use Rattle.node_grid.specs.TruthFacts.{is_some_map}
 use Rattle.run_print.specs.declared.WriteFault.{WriteFault}
 use Rattle.run_text.specs.PeriodText.{alone_text}
 use Rattle.live_node.specs.Live.{LiveView, is_open, correction, period_answer}
 use Rattle.live_node.specs.Standing.{IsHeld}
 use Rattle.live_node.specs.Text.{correct_text}
-use Rattle.live_node.proofs.Splitting.{is_some_map}
 use Rattle.std.proofs.Common.{◌++◌, ◌-◌}
 use Rattle.live_node.proofs.Taking.{period_lines, lines_are, with_clock, without_clock, front_failed, front_all, front_and_rest}
 use Rattle.std.proofs.Common.{if◌then◌else◌, []}

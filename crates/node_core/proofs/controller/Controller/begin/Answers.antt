@@ -2,13 +2,14 @@ use Rattle.std.proofs.Common.{◌≡◌, Bool, true, arith, inl, inr, lit<, sym,
 use mathlib.Core.List.{not-mem-nil}
 use Rattle.std.specs.Prelude.{replicate}
 use Rattle.node_grid.specs.NodeSet.{IsIdSet}
+use Rattle.node_grid.specs.CapacityLaws.{capacity-le}
+use Rattle.node_grid.specs.SetFacts.{empty_set}
 use Rattle.frames.specs.Content.{Expectation}
 use Rattle.frames.specs.Seen.{expected}
 use Rattle.error_detect.specs.Watching.{Watch, opened, HasRoom}
 use Rattle.agreed_state.specs.Expecting.{expectation}
 use Rattle.error_reports.specs.Notes.{Notes}
 use Rattle.node_steps.specs.Parts.{NodeView, Found}
-use Rattle.node_steps.specs.PremiseLaws.{no_ids, few_capacity}
 use Rattle.node_steps.specs.Steps.{begun}
 use Rattle.node_core.specs.Inside.{found_of, none_found, AreItsNotes}
 use Rattle.node_core.proofs.Rounds.{fits_room}
@@ -16,7 +17,7 @@ use Rattle.node_core.proofs.Standing.{watch_open}
 use Rattle.node_core.proofs.controller.Controller.begin.Goals as goal
 
 pub empty-requires : goal.empty-requires
-empty-requires g c = (lit< tt, few_capacity g.row.N g.bound-1.eight_or_sixteen)
+empty-requires g c = (lit< tt, capacity-le g.row.N g.bound-1.eight_or_sixteen)
 
 pub expect-expect-requires : goal.expect-expect-requires
 expect-expect-requires g c =
@@ -30,7 +31,7 @@ open_slot-requires g c =
     let e = c.expect-expect.ensures in
     let nodes : c.expect-expect.result.nodes ≡ n.config.now.nodes = ap (λ (x : Expectation). x.nodes) e in
     let m : c.expect-expect.result.m ≡ n.config.now.m = ap (λ (x : Expectation). x.m) e in
-    let none : IsIdSet n.config.now.nodes c.empty.result = subst (IsIdSet n.config.now.nodes) (sym c.empty.ensures) (no_ids n.config.now.nodes) in
+    let none : IsIdSet n.config.now.nodes c.empty.result = subst (IsIdSet n.config.now.nodes) (sym c.empty.ensures) (empty_set n.config.now.nodes) in
     let room = subst (HasRoom n.watch.frame_max) (sym e) (fits_room n.config.now c.args.period 0 n.phase.me c.empty.result 0 n.watch.frame_max none (omega arith) inv.watch.greatest) in
     let some = inv.place.config_is.some_nodes in
     let few = inv.place.few_rounds in

@@ -3,8 +3,8 @@ use Rattle.std.specs.Prelude.{IfSome, IfNone}
 use Rattle.std.proofs.lemmas.Bool.{cond-false}
 use Rattle.slot_plan.specs.declared.slot.Slot.{Slot}
 use Rattle.slot_plan.specs.Slots.{slot_number, slot_count, IsSlot}
+use Rattle.node_grid.specs.CapacityLaws.{capacity-le}
 use Rattle.node_steps.specs.Parts.{NodeView}
-use Rattle.node_steps.specs.PremiseLaws.{few_capacity}
 use Rattle.node_steps.specs.Sound.{IsTaken}
 use Rattle.node_steps.specs.SoundSteps.{slot_is_taken}
 use Rattle.node_steps.specs.FixedLaws.{Place, place, slot_place}
@@ -61,7 +61,7 @@ open_slot-requires g c =
     let rounds : w.config.m ≡ v.config.m = ap (λ (p : Place g.row.N). p.lasts.of_node.config.m) kept in
     let still : w.phase.slot ≡ v.phase.slot = ap (λ (p : Place g.row.N). p.slot) kept in
     let next-now : slot_number w.config.m c.in-Some.next ≡ w.phase.slot + 1 = ap (λ (k : ℕ). slot_number k c.in-Some.next) rounds ∙ next ∙ ap (λ (k : ℕ). k + 1) (sym still) in
-    let taken = slot_is_taken v (few_capacity g.row.N g.bound-1.eight_or_sixteen) (config_ok n v c.self.invariant is) c.requires.sound c.requires.open in
+    let taken = slot_is_taken v (capacity-le g.row.N g.bound-1.eight_or_sixteen) (config_ok n v c.self.invariant is) c.requires.sound c.requires.open in
     (elim g.bound-1.eight_or_sixteen [ inl e ↦ rw e (lit< tt) | inr e ↦ rw e (lit< tt) ], (subst (λ (k : ℕ). IsSlot k c.in-Some.next) (sym rounds) slot, (next-now, subst (IsTaken {N = g.row.N}) (sym c.take_slot.ensures) taken)))
 
 pub returns-in-Some : goal.returns-in-Some

@@ -9,6 +9,7 @@ use Rattle.error_reports.specs.Notes.{Notes, also_noted}
 use Rattle.agreed_state.specs.Agreed.{AgreedView}
 use Rattle.protocol.specs.Arrival.{claim_form}
 use Rattle.relay_table.specs.Tabled.{kept_nodes}
+use Rattle.relay_table.specs.Facts.{kept_early}
 use Rattle.relaying.specs.Hearing.{after_round}
 use Rattle.relaying.specs.Told.{IsRoundHeard}
 use Rattle.noting.specs.Findings.{found_bad}
@@ -19,7 +20,7 @@ use Rattle.node_steps.specs.Steps.{shut, taken, claims_known}
 use Rattle.node_core.specs.Inside.{seen}
 use Rattle.node_core.proofs.Behind.{some_of, none_of}
 use Rattle.node_core.proofs.Standing.{watch_shut}
-use Rattle.node_core.proofs.HeardSlots.{kept_early, claims_closed, claims_noted, claims_heard, claims_taken, last_claims, other_claims}
+use Rattle.node_core.proofs.HeardSlots.{claims_closed, claims_noted, claims_heard, claims_taken, last_claims, other_claims}
 use Rattle.node_core.proofs.controller.Controller.hear_claims.Goals as goal
 
 pub close-found-requires : goal.close-found-requires

@@ -7,13 +7,14 @@ use Rattle.error_reports.specs.Notes.{Notes, also_carried}
 use Rattle.agreed_state.specs.Agreed.{AgreedView}
 use Rattle.relay_table.specs.Tabled.{kept_nodes}
 use Rattle.noting.specs.Findings.{found_bad}
+use Rattle.relay_table.specs.Facts.{kept_early}
 use Rattle.node_steps.specs.Parts.{NodeView}
 use Rattle.node_steps.specs.Sound.{IsSound}
 use Rattle.node_steps.specs.Steps.{shut, taken}
 use Rattle.node_core.specs.Inside.{seen}
 use Rattle.node_core.proofs.Behind.{some_of, none_of}
 use Rattle.node_core.proofs.Standing.{watch_shut}
-use Rattle.node_core.proofs.HeardSlots.{kept_early, rows_closed, rows_noted, rows_heard, rows_taken}
+use Rattle.node_core.proofs.HeardSlots.{rows_closed, rows_noted, rows_heard, rows_taken}
 use Rattle.node_core.proofs.controller.Controller.hear_rows.Goals as goal
 
 pub close-found-requires : goal.close-found-requires

@@ -1,13 +1,13 @@
 use Rattle.std.proofs.Common.{ℕ, ◌≡◌, ◌≤◌, true, List, Option, inl, inr, lit<, arith, sym, ap, ap₂, subst, ◌∙◌}
 use Rattle.std.specs.Prelude.{IfSome}
 use Rattle.node_grid.specs.NodeSet.{has_id}
+use Rattle.node_grid.specs.NumberFacts.{kinds-few}
+use Rattle.node_grid.specs.SetFacts.{member-lt}
 use Rattle.omh_paths.specs.declared.wrapped.Wrapped.TheVariants.{Plain}
-use Rattle.omh_paths.specs.MemberLaws.{member-lt}
 use Rattle.omh.specs.Heard.{Hearing}
 use Rattle.error_detect.specs.Watching.{Watch, findings}
 use Rattle.error_reports.specs.Notes.{Notes}
 use Rattle.agreed_state.specs.Agreed.{AgreedView, IsAgreed}
-use Rattle.protocol.specs.RowLaws.{kinds-few}
 use Rattle.node_steps.specs.Parts.{NodeView}
 use Rattle.node_steps.specs.Sound.{IsSound}
 use Rattle.node_steps.specs.Steps.{started, after_sync, shut}

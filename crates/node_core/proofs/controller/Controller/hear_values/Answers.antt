@@ -2,14 +2,14 @@ use Rattle.std.proofs.Common.{◌≡◌, ◌+◌, ◌||◌, ◌&&◌, ◌==◌, 
 use Rattle.std.proofs.lemmas.Bool.{cond-true, cond-false}
 use Rattle.node_grid.specs.Kinds.{deviate}
 use Rattle.node_grid.specs.NodeSet.{IsIdSet, has_id, ids_where}
+use Rattle.node_grid.specs.NumberFacts.{kinds-few}
+use Rattle.node_grid.specs.SetFacts.{member-lt}
 use Rattle.omh_paths.specs.declared.wrapped.Wrapped.TheVariants.{Plain}
-use Rattle.omh_paths.specs.MemberLaws.{member-lt}
 use Rattle.error_detect.specs.declared.finding.Finding.{Finding}
 use Rattle.error_detect.specs.Watching.{Watch}
 use Rattle.error_reports.specs.Notes.{Notes, also_noted}
 use Rattle.agreed_state.specs.Agreed.{AgreedView}
 use Rattle.protocol.specs.Configured.{setting_of}
-use Rattle.protocol.specs.RowLaws.{kinds-few}
 use Rattle.protocol.specs.View.{deviates, votes_on}
 use Rattle.noting.specs.Findings.{found_bad}
 use Rattle.data_slot.specs.Values.{only_values}

@@ -1,5 +1,6 @@
 use Rattle.std.proofs.Common.{ℕ, ◌≡◌, ◌≤◌, Option, inl, inr, lit<, sym, ap, subst, ◌∙◌, arith}
 use Rattle.std.specs.Prelude.{nat_eq, IfSome}
+use Rattle.node_grid.specs.NumberFacts.{kinds-few}
 use Rattle.omh.specs.Heard.{Hearing}
 use Rattle.std.proofs.lemmas.List.{length-replicate}
 use Rattle.error_reports.specs.Notes.{Notes}
@@ -7,7 +8,6 @@ use Rattle.agreed_state.specs.Agreed.{AgreedView, IsAgreed}
 use Rattle.protocol.specs.Arrival.{claim_form}
 use Rattle.relaying.specs.Hearing.{after_round}
 use Rattle.relaying.specs.Settling.{settled_in}
-use Rattle.protocol.specs.RowLaws.{kinds-few}
 use Rattle.data_slot.specs.DueLaws.{dues_are}
 use Rattle.node_steps.specs.Parts.{NodeView}
 use Rattle.node_steps.specs.Sound.{Hears}

@@ -1,10 +1,11 @@
 use Rattle.std.proofs.Common.{◌≡◌, ◌<◌, ◌≤◌, ◌+◌, ◌*◌, ℕ, List, length, arith, inl, inr, lit<, sym, ap, subst, ◌∙◌}
 use Rattle.std.specs.Prelude.{vec_capacity}
+use Rattle.node_grid.specs.CapacityLaws.{capacity-le}
 use Rattle.frames.specs.Content.Content.{Report0}
 use Rattle.frames.specs.EntryLaws.{row_long}
 use Rattle.frames.specs.Spelling.{row_spelling}
 use Rattle.node_steps.specs.Parts.{NodeView}
-use Rattle.node_steps.specs.PremiseLaws.{few_due, few_capacity}
+use Rattle.node_steps.specs.PremiseLaws.{few_due}
 use Rattle.node_core.proofs.Behind.{config_ok}
 use Rattle.node_core.proofs.RelaySaid.{rows_asked_now, rows_frame}
 use Rattle.node_core.proofs.Spelt.{inside_fits, says_row}
@@ -77,7 +78,7 @@ head-requires g c = elim c.self.invariant.place.capacity [ inl e ↦ rw e (lit< 
 pub overflow_mul-self-inside : goal.overflow_mul-self-inside
 overflow_mul-self-inside g c =
     let few = c.self.invariant.place.few in
-    let cap = few_capacity g.row.N c.self.invariant.place.capacity in
+    let cap = capacity-le g.row.N c.self.invariant.place.capacity in
     omega (arith, few, cap)
 
 pub say_round-requires-room-V-Exact : goal.say_round-requires-room-V-Exact

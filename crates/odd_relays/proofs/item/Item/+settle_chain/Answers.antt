@@ -1,34 +1,26 @@
 use Rattle.std.proofs.Common.{rules, ◌≡◌, ◌≢◌, ◌<◌, ◌≤◌, ◌+◌, ◌-◌, ◌*◌, suc, ◌==◌, ◌&&◌, Bool, true, false, not, length, take, drop, map, List, [], ◌∷◌, ◌++◌, ℕ, slice_index_or, sym, ap, ◌∙◌, inl, inr, arith, lit<, eq-eqb, ne_eqb}
 use Rattle.std.proofs.lemmas.Bool.{or_from, cases_eq}
 use Rattle.std.proofs.lemmas.List.{length_push}
-use Rattle.node_grid.specs.NodeSet.{has_id, without_id, IsIdSet}
+use Rattle.node_grid.specs.NodeSet.{has_id, without_id}
 use Rattle.node_grid.specs.ListLaws.{has_push}
+use Rattle.node_grid.specs.ListFacts.{split_more, split_all}
+use Rattle.node_grid.specs.SetFacts.{on_rest, member-lt}
 use Rattle.omh_paths.specs.declared.wrapped.Wrapped.TheVariants.{Fault}
 use Rattle.omh_paths.specs.Paths.{outside}
-use Rattle.omh_paths.specs.PathLists.{has-without, has-without-left}
+use Rattle.omh_paths.specs.PathLists.{has-without-left}
 use Rattle.omh_paths.specs.Majority.{majority as majority_of}
 use Rattle.omh_paths.specs.Wrapped.{unwrapped}
-use Rattle.omh_paths.specs.MemberLaws.{member-lt}
+use Rattle.omh_paths.specs.Facts.{next_few, next_low, next_outside}
 use Rattle.omh.specs.Omh.{ear, own_term}
 use Rattle.odd_relays.specs.Chains.{chain_within}
 use Rattle.odd_relays.specs.Telling.{telling}
 use Rattle.odd_relays.specs.Direct.{direct_world}
 use Rattle.odd_relays.proofs.ChainLaws.{chain_term, chain_now, chain_later, chain_base, chain_odd}
-use Rattle.odd_relays.proofs.Laying.{next_on, next_outside, next_short, split_more, split_all}
 use Rattle.odd_relays.proofs.Places.{row_is, row_more}
 use Rattle.odd_relays.proofs.Cutting.{alike_settles, chain_push, chain_low}
 use Rattle.odd_relays.proofs.Columns.{filled_row, filled_here, filled_below, final_row, final_copied, final_own, final_below}
 use Rattle.odd_relays.proofs.item.Item.+settle_chain.Goals as goal
 use Rattle.odd_relays.proofs.item.Item.+settle_chain.Goals.{then-has, else-has}
-
--- the next member is below N, and there are terms left for it
-next_low : (n : ℕ) (all s path ys rest left : List ℕ) (q : ℕ) → IsIdSet n all → all ≡ outside s path → outside s path ≡ ys ++ left → left ≡ q ∷ rest → q < n
-next_low n all s path ys rest left q ids is split steps = member-lt n all q ids (ap (λ (xs : List ℕ). has_id xs q) is ∙ next_on (outside s path) ys rest left q split steps)
-
-next_few : (n : ℕ) (all s path ys rest left : List ℕ) (q : ℕ) → n ≤ 16 → length all ≤ n → all ≡ outside s path → outside s path ≡ ys ++ left → left ≡ q ∷ rest → length ys < 16
-next_few n all s path ys rest left q capacity few is split steps =
-    let l = next_short (outside s path) ys rest left q n split steps (omega (arith, ap length is)) in
-    omega arith
 
 not_self : (o : Bool) (q i : ℕ) → o ≡ true → q ≢ i → (o && not (q == i)) ≡ true
 not_self o q i h ne = ap (λ (b : Bool). b && not (q == i)) h ∙ ap not (ne_eqb q i ne)
@@ -38,9 +30,6 @@ self o q i h e = ap (λ (b : Bool). b && not (q == i)) h ∙ ap not (eq-eqb q i 
 
 regular : (o : Bool) (q i : ℕ) → o ≡ false → (o && not (q == i)) ≡ false
 regular o q i h = ap (λ (b : Bool). b && not (q == i)) h
-
-on_others : (all others : List ℕ) (q i : ℕ) → others ≡ without_id all q → has_id all i ≡ true → q ≢ i → has_id others i ≡ true
-on_others all others q i is on ne = ap (λ (s : List ℕ). has_id s i) is ∙ has-without all q i (λ e. ne (sym e)) on
 
 off_others : (all others : List ℕ) (q i : ℕ) → others ≡ without_id all q → has_id others i ≡ true → i ≢ q
 off_others all others q i is on = (has-without-left all q i (ap (λ (s : List ℕ). has_id s i) (sym is) ∙ on)).0
@@ -162,7 +151,7 @@ loop-q-preserved g k c =
                       i (low i on) on (λ x at e'. off_others nodes b.without-others.result q x b.without-others.ensures at (sym e' ∙ sym same))
                       ∙ is_own ∙ sym (chain_base eq w t.odd r i p q (self (has_id t.odd q) q i odd same))
                   | inr other ↦
-                      let on' = on_others nodes b.without-others.result q i b.without-others.ensures on other in
+                      let on' = on_rest nodes b.without-others.result q i b.without-others.ensures on other in
                       final_copied (Fault 0) from n few nodes c.loop-q.work c.fill_terms.new.work own fill.kept fill.laid b.without-others.result b.settle_chain.new.work b.copy_terms.new.work b.settle_chain.ensures.kept b.copy_terms.ensures.kept b.copy_terms.ensures.laid i on'
                       ∙ b.settle_chain.ensures.settled i on'
                       ∙ ap (λ (m : ℕ). chain_within eq w t.odd i m b.then.result) e

@@ -1,7 +1,8 @@
 use Rattle.std.proofs.Common.{rules, ℕ, List, sym, ◌∙◌, arith}
-use Rattle.omh_paths.specs.MemberLaws.{member-lt}
+use Rattle.node_grid.specs.ListFacts.{split_more}
+use Rattle.node_grid.specs.SetFacts.{member-lt, off_apart, low_of, next_on}
 use Rattle.odd_relays.specs.Telling.{telling, convicts_commander}
-use Rattle.odd_relays.proofs.Laying.{apart, low_of, next_on, split_more, gone_through}
+use Rattle.odd_relays.proofs.Laying.{gone_through}
 use Rattle.odd_relays.proofs.Finding.{found_none, found_yes, found_no}
 use Rattle.odd_relays.proofs.item.Item.convicting_among.Goals as goal
 
@@ -64,7 +65,7 @@ convicts_beside-requires g c =
       omega arith,
       (
         low_of g.row.N nodes c.loop-i.yielded c.next.new.self c.loop-i.i-iterator c.in-Some.i c.iter-i-items.ensures.ids i.split c.in-Some.ensures.steps,
-        (apart nodes c.args.self.now.commander c.in-Some.i c.requires.others on, c.voices_for-voices.ensures),
+        (off_apart nodes c.args.self.now.commander c.in-Some.i c.requires.others on, c.voices_for-voices.ensures),
       ),
     )
 

@@ -4,13 +4,15 @@ use Rattle.node_grid.specs.NodeSet.{has_id, without_id}
 use Rattle.node_grid.specs.NodeSetLaws.{length-ids}
 use Rattle.node_grid.specs.Count.{bit, count}
 use Rattle.node_grid.specs.ListLaws.{count-more}
+use Rattle.node_grid.specs.ListFacts.{split_more, split_all}
+use Rattle.node_grid.specs.SetFacts.{member-lt, next_on}
 use Rattle.omh_paths.specs.declared.wrapped.Wrapped.TheVariants.{Fault}
 use Rattle.omh_paths.specs.Wrapped.{wrapped, same}
-use Rattle.omh_paths.specs.MemberLaws.{Distinct-ids, member-lt}
+use Rattle.omh_paths.specs.MemberLaws.{Distinct-ids}
+use Rattle.omh_paths.specs.Facts.{next_short}
 use Rattle.equivocation.specs.Conviction.{is_present, disagrees}
 use Rattle.odd_relays.specs.Telling.{telling}
 use Rattle.odd_relays.specs.Voices.{regular_relay, regular_members, odd_members}
-use Rattle.odd_relays.proofs.Laying.{next_on, next_short, split_more, split_all}
 use Rattle.odd_relays.proofs.Voices.{count_few, few_regular, few_odd, odd_off, odd_relay, counted_convicts}
 use Rattle.odd_relays.proofs.item.Item.convicts_beside.Goals as goal
 

@@ -1,5 +1,5 @@
 use Rattle.std.proofs.Common.{sym, ◌∙◌}
-use Rattle.odd_relays.proofs.Laying.{next_on}
+use Rattle.node_grid.specs.SetFacts.{next_on}
 use Rattle.odd_relays.proofs.item.Item.find_alike.Goals as goal
 
 pub returns-then-is_alike-clause-node : goal.returns-then-is_alike-clause-node

@@ -1,8 +1,10 @@
 use Rattle.std.proofs.Common.{ℕ, ◌≡◌, ◌<◌, ◌++◌, ◌∷◌, [], true, length, set, refl, ◌∙◌, arith, List, ap}
 use Rattle.std.proofs.lemmas.List.{length-set}
 use Rattle.node_grid.specs.NodeSet.{has_id}
+use Rattle.node_grid.specs.ListFacts.{split_more, split_all}
+use Rattle.node_grid.specs.SetFacts.{low_of}
 use Rattle.odd_relays.specs.Telling.{telling}
-use Rattle.odd_relays.proofs.Laying.{low_of, split_more, through, split_all, gone_through}
+use Rattle.odd_relays.proofs.Laying.{through, gone_through}
 use Rattle.odd_relays.proofs.Leading.{leader_within, leaders_within, led_more}
 use Rattle.odd_relays.proofs.item.Item.find_leaders.Goals as goal
 

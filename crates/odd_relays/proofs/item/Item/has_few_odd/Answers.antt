@@ -1,15 +1,10 @@
-use Rattle.std.proofs.Common.{◌≡◌, ◌≤◌, ◌+◌, ◌-◌, ◌*◌, ◌&&◌, not, refl, ℕ, List, length, ap, arith, lt-ltb, ltb-true}
-use Rattle.node_grid.specs.NodeSet.{has_id, minus_of}
+use Rattle.std.proofs.Common.{◌&&◌, not, refl, ℕ, arith, lt-ltb, ltb-true}
+use Rattle.node_grid.specs.NodeSet.{has_id}
 use Rattle.node_grid.specs.Count.{count}
 use Rattle.node_grid.specs.NodeSetLaws.{length-ids}
-use Rattle.odd_relays.proofs.Direct.{count_odd, count_idle}
+use Rattle.node_grid.specs.ListFacts.{few_nodes}
+use Rattle.node_grid.specs.SetFacts.{sides, regular_fewer}
 use Rattle.odd_relays.proofs.item.Item.has_few_odd.Goals as goal
-
-few_nodes : (n k : ℕ) (members : List ℕ) → n ≤ 16 → k ≡ length members → length members ≤ n → k ≤ 16
-few_nodes n k members few is short = omega arith
-
-regular_fewer : (members odd regular : List ℕ) (n k : ℕ) → n ≡ length members → k ≡ length regular → regular ≡ minus_of members odd → k ≤ n
-regular_fewer members odd regular n k a b e = omega (arith, count_odd members odd, ap length e)
 
 pub overflow_sub-odd : goal.overflow_sub-odd
 overflow_sub-odd g c = regular_fewer c.args.self.now.phase.members c.args.self.now.odd c.minus-regular.result c.len.result c.len-2.result c.len.ensures.count c.len-2.ensures.count c.minus-regular.ensures
@@ -28,17 +23,6 @@ overflow_add-result-2 g c =
     let f = few_nodes g.row.N c.len.result c.args.self.now.phase.members c.args.self.now.fits c.len.ensures.count (length-ids g.row.N c.args.self.now.phase.members c.len.ensures.ids) in
     let h = few_nodes g.row.N c.len-idle.result c.minus.result c.args.self.now.fits c.len-idle.ensures.count (length-ids g.row.N c.minus.result c.len-idle.ensures.ids) in
     let m = c.args.self.now.short in omega arith
-
-sides : (members full odd regular left : List ℕ) (n k j m o z : ℕ) → o ≡ count (λ q. has_id odd q) members → z ≡ count (λ q. not (has_id odd q) && not (has_id full q)) members
-    → n ≡ length members → k ≡ length regular → j ≡ length left → regular ≡ minus_of members odd → left ≡ minus_of regular full
-    → 2 * (n - k) + j + m ≡ 2 * o + z + m
-sides members full odd regular left n k j m o z eo ez en ek ej ee el =
-    let a = count_odd members odd in
-    let b = count_idle members full odd in
-    let e = ap length ee in
-    let l = ap length el in
-    let f = ap (λ (ys : List ℕ). length (minus_of ys full)) ee in
-    omega arith
 
 pub returns : goal.returns
 returns g c =

@@ -1,5 +1,5 @@
 use Rattle.std.proofs.Common.{sym, ◌∙◌, arith}
-use Rattle.omh_paths.specs.MemberLaws.{member-lt}
+use Rattle.node_grid.specs.SetFacts.{member-lt}
 use Rattle.odd_relays.proofs.Laying.{only_one}
 use Rattle.odd_relays.proofs.item.Item.has_no_other_odd.Goals as goal
 

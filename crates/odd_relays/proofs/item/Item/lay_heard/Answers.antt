@@ -1,9 +1,11 @@
 use Rattle.std.proofs.Common.{ℕ, ◌+◌, ◌<◌, length, ap, ◌∙◌, arith}
 use Rattle.std.proofs.lemmas.List.{length-set}
+use Rattle.node_grid.specs.ListFacts.{split_more}
+use Rattle.node_grid.specs.SetFacts.{low_of}
 use Rattle.omh_paths.specs.declared.wrapped.Wrapped.TheVariants.{Fault}
 use Rattle.odd_relays.specs.Telling.{telling}
 use Rattle.odd_relays.specs.Direct.{direct_heard}
-use Rattle.odd_relays.proofs.Laying.{low_of, split_more, gone_through}
+use Rattle.odd_relays.proofs.Laying.{gone_through}
 use Rattle.odd_relays.proofs.Places.{laid_at, values_apart, kept_below}
 use Rattle.odd_relays.proofs.item.Item.lay_heard.Goals as goal
 

@@ -4,15 +4,16 @@ use Rattle.node_grid.specs.NodeSet.{without_id}
 use Rattle.node_grid.specs.NodeSetLaws.{length-ids}
 use Rattle.node_grid.specs.Count.{bit, count}
 use Rattle.node_grid.specs.ListLaws.{count-more}
+use Rattle.node_grid.specs.ListFacts.{split_more, split_all}
+use Rattle.node_grid.specs.SetFacts.{member-lt}
 use Rattle.omh_paths.specs.declared.wrapped.Wrapped.TheVariants.{Fault}
 use Rattle.omh_paths.specs.Wrapped.{wrapped, same}
-use Rattle.omh_paths.specs.MemberLaws.{member-lt}
+use Rattle.omh_paths.specs.Facts.{next_short}
 use Rattle.omh.specs.Omh.{ear, own_term}
 use Rattle.equivocation.specs.Conviction.{is_present, disagrees}
 use Rattle.odd_relays.specs.Telling.{telling}
 use Rattle.odd_relays.specs.Direct.{direct_world}
 use Rattle.odd_relays.specs.Voices.{regular_relay, regular_members}
-use Rattle.odd_relays.proofs.Laying.{next_short, split_more, split_all}
 use Rattle.odd_relays.proofs.Voices.{count_few, few_regular}
 use Rattle.odd_relays.proofs.item.Item.regular_voices.Goals as goal
 

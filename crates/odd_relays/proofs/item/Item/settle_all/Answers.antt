@@ -1,16 +1,8 @@
-use Rattle.std.proofs.Common.{ℕ, ◌≡◌, ◌≢◌, true, false, List, ap, ◌∙◌, arith}
+use Rattle.std.proofs.Common.{ℕ, ◌≡◌, ◌≢◌, true, List, ap, ◌∙◌, arith}
 use Rattle.std.proofs.lemmas.Bool.{both_ways}
-use Rattle.node_grid.specs.NodeSet.{has_id, without_id}
-use Rattle.omh_paths.specs.MemberLaws.{member-lt}
-use Rattle.odd_relays.proofs.Laying.{has_rest, not_rest}
+use Rattle.node_grid.specs.NodeSet.{has_id}
+use Rattle.node_grid.specs.SetFacts.{off_rest, on_rest, member-lt}
 use Rattle.odd_relays.proofs.item.Item.settle_all.Goals as goal
-
--- the nodes that are awake but one
-on_rest : (awake nodes : List ℕ) (c q : ℕ) → nodes ≡ without_id awake c → has_id awake q ≡ true → c ≢ q → has_id nodes q ≡ true
-on_rest awake nodes c q is on ne = ap (λ (s : List ℕ). has_id s q) is ∙ has_rest awake c q on ne
-
-off_rest : (awake nodes : List ℕ) (c : ℕ) → nodes ≡ without_id awake c → has_id nodes c ≡ false
-off_rest awake nodes c is = ap (λ (s : List ℕ). has_id s c) is ∙ not_rest awake c
 
 pub without-nodes-requires : goal.without-nodes-requires
 without-nodes-requires g c = (omega arith, member-lt g.row.N c.args.self.now.phase.members c.args.self.now.commander c.len.ensures.ids c.args.self.now.member)

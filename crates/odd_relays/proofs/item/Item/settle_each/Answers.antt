@@ -1,9 +1,9 @@
 use Rattle.std.proofs.Common.{ℕ, ◌≡◌, ◌<◌, true, false, List, length, slice_index_or, sym, ap, ◌∙◌, inl, inr, arith}
 use Rattle.std.proofs.lemmas.Bool.{cases_Bool, both_ways}
 use Rattle.node_grid.specs.NodeSet.{has_id}
-use Rattle.omh_paths.specs.MemberLaws.{Distinct-ids, member-lt}
+use Rattle.node_grid.specs.SetFacts.{member-lt, off_apart}
+use Rattle.omh_paths.specs.MemberLaws.{Distinct-ids}
 use Rattle.odd_relays.specs.Telling.{telling, settled_item}
-use Rattle.odd_relays.proofs.Laying.{apart}
 use Rattle.odd_relays.proofs.ItemLaws.{direct_views}
 use Rattle.odd_relays.proofs.item.Item.settle_each.Goals as goal
 
@@ -41,5 +41,5 @@ returns-clause-settled g c =
       | inl same ↦ ap (settled_item eq t) (sym same)
       | inr alike ↦
           direct_views t eq g.met.V.Exact.exact (Distinct-ids g.row.N t.members c.len.ensures.ids) c.requires.few c.args.self.now.member alike.relayed i j
-          (apart c.args.nodes.now t.commander i c.requires.others on) (apart c.args.nodes.now t.commander j c.requires.others (leaders.within j led.among)) alike.first alike.second alike.says
+          (off_apart c.args.nodes.now t.commander i c.requires.others on) (off_apart c.args.nodes.now t.commander j c.requires.others (leaders.within j led.among)) alike.first alike.second alike.says
     ]

@@ -1,10 +1,11 @@
-use Rattle.std.proofs.Common.{ℕ, ◌≡◌, sym, ap, ◌∙◌, ◌+◌, ◌*◌, ◌^◌, ◌<◌, ◌≤◌, true, length, arith, lit<}
-use Rattle.std.proofs.lemmas.Nat.{mul-le}
+use Rattle.std.proofs.Common.{◌≡◌, sym, ap, ◌∙◌, ◌+◌, ◌<◌, true, length, arith, lit<}
 use Rattle.node_grid.specs.NodeSet.{has_id}
 use Rattle.node_grid.specs.Count.{Distinct}
+use Rattle.node_grid.specs.NumberFacts.{offset_fits}
+use Rattle.node_grid.specs.SetFacts.{member-lt}
 use Rattle.omh_paths.specs.Paths.{outside}
 use Rattle.omh_paths.specs.PathLists.{Distinct-filter}
-use Rattle.omh_paths.specs.MemberLaws.{Distinct-ids, member-lt}
+use Rattle.omh_paths.specs.MemberLaws.{Distinct-ids}
 use Rattle.omh.proofs.Flats.{laid_at, laid_low, unlaid, only_me}
 use Rattle.omh.proofs.station.Station.lay_own.Goals as goal
 use Rattle.omh.proofs.station.Station.lay_own.Given as given
@@ -15,9 +16,6 @@ low g c =
     let on : has_id others c.args.self.now.me ≡ true = ap (λ s. has_id s c.args.self.now.me) (sym c.outside-others.ensures) ∙ sym c.has.ensures ∙ c.if-has.true in
     let d : Distinct others = Distinct-filter _ c.args.self.now.members (Distinct-ids g.row.N c.args.self.now.members c.requires.station.members_ok) in
     laid_low others c.outside-others.result c.args.self.now.me c.args.from c.rank.result (length c.args.work.now) c.root.result d on c.outside-others.ensures c.root.ensures c.rank.ensures.place c.requires.room
-
-offset_fits : (i many size : ℕ) → i < many → many * size < 2 ^ 63 → i * size < 2 ^ 64
-offset_fits i many size low fits = let m : i * size ≤ many * size = mul-le i size many size (omega (arith, low)) (omega arith) in omega (arith, m, fits)
 
 pub offset_bounds-work-from : goal.offset_bounds-work-from
 offset_bounds-work-from g c = record { fits = offset_fits (c.args.from + c.rank.result) (length c.args.work.now) _ (low g c) c.well_formed.1.1.1.1.0.1 }

@@ -2,8 +2,9 @@ use Rattle.std.proofs.Common.{ℕ, ◌≡◌, ◌<◌, ◌==◌, ◌&&◌, ◌||
 use Rattle.node_grid.specs.NodeSet.{has_id, ids_where, IsIdSet}
 use Rattle.node_grid.specs.NodeSetLaws.{filter_none, has-filter, has-with_id, has-without_id, IsIdSet-filter, same_ids}
 use Rattle.node_grid.specs.ListLaws.{has_push, eqb_sym}
+use Rattle.node_grid.specs.ListFacts.{split_more}
 use Rattle.equivocation.specs.Conviction.{convicts}
-use Rattle.relay_walk.proofs.Loops.{turn, split_more, split_all}
+use Rattle.relay_walk.proofs.Loops.{turn, split_all}
 use Rattle.relay_table.proofs.Convicted.{no_rounds}
 use Rattle.relay_table.proofs.station.Station.convicted.Goals as goal
 

@@ -1,9 +1,10 @@
 use Rattle.std.proofs.Common.{ℕ, ◌≡◌, ◌<◌, ◌≤◌, ◌+◌, ◌-◌, ◌*◌, ◌&&◌, map, length, take, drop, get_or, sym, ap, ap₂, ◌∙◌, lit<, arith}
 use Rattle.std.proofs.lemmas.List.{length-map, length-take, take-map, drop-map}
+use Rattle.node_grid.specs.SetFacts.{member-lt}
 use Rattle.equivocation.specs.Conviction.{is_convicted}
 use Rattle.node_grid.specs.NodeSet.{has_id}
 use Rattle.omh_paths.specs.declared.wrapped.Wrapped.TheVariants.{Fault}
-use Rattle.omh_paths.specs.MemberLaws.{place-index, member-lt}
+use Rattle.omh_paths.specs.MemberLaws.{place-index}
 use Rattle.omh_paths.specs.Paths.{index_in}
 use Rattle.omh_paths.specs.PathLists.{index_in-lt}
 use Rattle.omh.specs.Flat.{section_at}

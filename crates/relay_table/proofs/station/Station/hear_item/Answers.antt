@@ -1,7 +1,8 @@
 use Rattle.std.proofs.Common.{◌≡◌, true, ◌∷◌, [], map, sym, ap, subst, ◌∙◌, lit<, arith}
 use Rattle.std.proofs.lemmas.List.{length-map}
 use Rattle.node_grid.specs.NodeSet.{has_id}
-use Rattle.omh_paths.specs.MemberLaws.{place-index, member-lt}
+use Rattle.node_grid.specs.SetFacts.{member-lt}
+use Rattle.omh_paths.specs.MemberLaws.{place-index}
 use Rattle.omh_paths.specs.Paths.{index_in}
 use Rattle.omh_paths.specs.PathLists.{index_in-lt, has-of-without}
 use Rattle.relay_terms.specs.Terms.{said}

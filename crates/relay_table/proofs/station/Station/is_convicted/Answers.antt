@@ -1,18 +1,15 @@
 use mir.Val.{bool_byte}
-use Rattle.std.proofs.Common.{ℕ, ◌≡◌, ◌<◌, ◌+◌, ◌&&◌, Bool, true, false, not, List, [], ◌∷◌, map, length, take, get_or, refl, sym, ap, ◌∙◌, arith}
+use Rattle.std.proofs.Common.{ℕ, ◌≡◌, ◌<◌, ◌+◌, ◌&&◌, Bool, not, List, [], ◌∷◌, map, length, take, get_or, sym, ap, ◌∙◌, arith}
 use Rattle.std.proofs.lemmas.List.{take_more, map-append}
 use Rattle.node_grid.specs.Count.{bit, count}
 use Rattle.node_grid.specs.ListLaws.{bit_le, count-more}
+use Rattle.node_grid.specs.SetFacts.{byte_is}
 use Rattle.equivocation.specs.Conviction.{is_present, disagrees}
 use Rattle.omh_paths.specs.declared.wrapped.Wrapped.{Wrapped}
 use Rattle.omh_paths.specs.Wrapped.{is_error, same}
 use Rattle.relay_terms.specs.declared.term.Term.{Term}
 use Rattle.relay_terms.specs.Terms.{said}
 use Rattle.relay_table.proofs.station.Station.is_convicted.Goals as goal
-
-byte_is : (b : Bool) → bool_byte b ≡ bit b
-byte_is true = refl
-byte_is false = refl
 
 -- one relay more
 counts_more : {V : Type 0} (test : Wrapped V → Bool) (relays : List (Term V)) (i : ℕ) (t : Term V) → i < length relays → t ≡ get_or relays i t

@@ -2,10 +2,11 @@ use Rattle.std.proofs.Common.{ℕ, ◌≡◌, ◌≢◌, ◌<◌, ◌==◌, true
 use Rattle.std.specs.Prelude.{if◌then◌else◌}
 use Rattle.std.proofs.lemmas.Bool.{cond-true, cond-false}
 use Rattle.node_grid.specs.NodeSet.{has_id, without_id, place_of, IsIdSet}
+use Rattle.node_grid.specs.SetFacts.{has-without}
 use Rattle.omh_paths.specs.declared.wrapped.Wrapped.TheVariants.{Fault}
 use Rattle.omh_paths.specs.MemberLaws.{place-index}
 use Rattle.omh_paths.specs.Paths.{index_in}
-use Rattle.omh_paths.specs.PathLists.{has-without, index_in-lt}
+use Rattle.omh_paths.specs.PathLists.{index_in-lt}
 use Rattle.relay_terms.specs.Terms.{said}
 use Rattle.relay_table.proofs.Known.{said_at}
 use Rattle.relay_table.proofs.station.Station.settled_item.Goals as goal

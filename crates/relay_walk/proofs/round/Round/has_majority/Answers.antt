@@ -1,11 +1,12 @@
 use Rattle.std.proofs.Common.{lit<, inr, inl, ◌∷◌, [], map, ap, subst, ◌∙◌, arith}
 use Rattle.std.proofs.lemmas.List.{length_push}
 use Rattle.node_grid.specs.CapacityLaws.{capacity-le}
+use Rattle.node_grid.specs.ListFacts.{split_more}
 use Rattle.omh_paths.specs.Majority.{has_majority as has_most}
 use Rattle.relay_terms.specs.Terms.{said, term_in}
 use Rattle.relay_terms.specs.Tallies.{IsCount}
 use Rattle.relay_walk.specs.Walking.{last_in}
-use Rattle.relay_walk.proofs.Loops.{turn, split_more, split_all, map_more, one_last}
+use Rattle.relay_walk.proofs.Loops.{turn, split_all, map_more, one_last}
 use Rattle.relay_walk.proofs.round.Round.has_majority.Goals as goal
 
 pub loop-member-init : goal.loop-member-init

@@ -1,10 +1,11 @@
 use Rattle.std.proofs.Common.{lit<, inr, inl, ◌+◌, map, length, refl, sym, ap, subst, ◌∙◌, arith}
 use Rattle.std.proofs.lemmas.List.{length-map, length_push}
+use Rattle.node_grid.specs.ListFacts.{split_more}
 use Rattle.relay_terms.specs.Terms.{said, term_in}
 use Rattle.relay_walk.specs.Laid.{laid}
 use Rattle.relay_walk.specs.LaidLaws.{laid_none, laid_more}
 use Rattle.relay_walk.specs.Walking.{IsMoved, next_in}
-use Rattle.relay_walk.proofs.Loops.{turn, split_more, split_all, map_more, moved_none, moved_more, next_same, more_at}
+use Rattle.relay_walk.proofs.Loops.{turn, split_all, map_more, moved_none, moved_more, next_same, more_at}
 use Rattle.relay_walk.proofs.round.Round.keep.Goals as goal
 
 pub loop-member-init : goal.loop-member-init

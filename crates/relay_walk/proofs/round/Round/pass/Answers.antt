@@ -1,6 +1,7 @@
 use Rattle.std.proofs.Common.{lit<, inr, inl, subst}
+use Rattle.node_grid.specs.ListFacts.{split_more}
 use Rattle.relay_walk.specs.Walking.{IsMoved}
-use Rattle.relay_walk.proofs.Loops.{turn, split_more, split_all, moved_none, moved_more, more_at}
+use Rattle.relay_walk.proofs.Loops.{turn, split_all, moved_none, moved_more, more_at}
 use Rattle.relay_walk.proofs.round.Round.pass.Goals as goal
 
 pub loop-member-init : goal.loop-member-init

@@ -2,11 +2,12 @@ use Rattle.std.proofs.Common.{lit<, inr, inl, ℕ, true, ◌≡◌, ◌∷◌, m
 use Rattle.std.proofs.lemmas.List.{length_push}
 use Rattle.node_grid.specs.CapacityLaws.{capacity-le}
 use Rattle.node_grid.specs.NodeSet.{has_id}
-use Rattle.omh_paths.specs.MemberLaws.{member-lt}
+use Rattle.node_grid.specs.ListFacts.{split_more}
+use Rattle.node_grid.specs.SetFacts.{member-lt}
 use Rattle.relay_terms.specs.Terms.{said, term_in}
 use Rattle.relay_terms.specs.Tallies.{IsTally}
 use Rattle.relay_walk.specs.Walking.{IsMoved, next_in}
-use Rattle.relay_walk.proofs.Loops.{turn, split_more, split_all, map_more, moved_none, moved_more, next_same, more_at, have_last, lasts_are}
+use Rattle.relay_walk.proofs.Loops.{turn, split_all, map_more, moved_none, moved_more, next_same, more_at, have_last, lasts_are}
 use Rattle.relay_walk.proofs.round.Round.tally.Goals as goal
 
 pub loop-member-init : goal.loop-member-init

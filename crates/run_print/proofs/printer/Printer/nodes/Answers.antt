@@ -1,10 +1,10 @@
 use Rattle.std.proofs.Common.{◌≡◌, ◌≢◌, ◌<◌, ◌≤◌, ◌-◌, ℕ, inl, inr, ap, sym, subst, ◌∙◌, arith, lit<}
 use Rattle.std.specs.List.{flat_map}
 use Rattle.node_grid.specs.NodeSet.{ids_below}
+use Rattle.node_grid.specs.SetFacts.{flat_map_next}
 use Rattle.cluster_periods.specs.Record.{PeriodView}
 use Rattle.run_print.specs.Printing.{Prints}
 use Rattle.run_print.proofs.Joining.{then, nothing}
-use Rattle.run_print.proofs.Lists.{flat_next}
 use Rattle.std.specs.Prelude.{slice_get}
 use Rattle.run_text.specs.PeriodText.{recorded_text}
 use Rattle.run_print.proofs.printer.Printer.nodes.Goals as goal
@@ -38,7 +38,7 @@ loop-i-smaller g c = omega (arith, c.loop-i-test.true)
 
 pub loop-i-preserved : goal.loop-i-preserved
 loop-i-preserved g c =
-    rw (flat_next (λ i. recorded_text c.args.shown.now i (slice_get c.args.shown.now.records i)) c.loop-i.i) (then c.loop-i.invariant c.recorded.ensures)
+    rw (flat_map_next (λ i. recorded_text c.args.shown.now i (slice_get c.args.shown.now.records i)) c.loop-i.i) (then c.loop-i.invariant c.recorded.ensures)
 
 pub returns-then-shown-eq0 : goal.returns-then-shown-eq0
 returns-then-shown-eq0 g c =

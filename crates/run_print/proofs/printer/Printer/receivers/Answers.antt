@@ -1,13 +1,14 @@
 use Rattle.std.proofs.Common.{◌≡◌, ℕ, List, None, not, ap, sym, subst, arith, ◌∙◌, append-nil, inl, inr, lit<}
 use Rattle.std.specs.List.{flat_map}
 use Rattle.node_grid.specs.NodeSet.{ids_below}
+use Rattle.node_grid.specs.SetFacts.{flat_map_next}
 use Rattle.fault_classes.specs.Change.{change_of}
 use Rattle.fault_classes.specs.Line.{effect_at}
 use Rattle.cluster_periods.specs.Record.{PeriodView}
 use Rattle.run_text.specs.TraceText.{link_text}
 use Rattle.run_print.specs.Printing.{Prints}
 use Rattle.run_print.proofs.Joining.{then, nothing}
-use Rattle.run_print.proofs.Lists.{flat_next, link_some, link_none, link_untouched, no_effect}
+use Rattle.run_print.proofs.Lists.{link_some, link_none, link_untouched, no_effect}
 use Rattle.run_print.proofs.printer.Printer.receivers.Goals as goal
 use Rattle.run_print.proofs.printer.Printer.receivers.Goals.{then-to-from+then-is_none, then-to-from+else-is_none, else-to-from}
 
@@ -24,13 +25,13 @@ loop-to-preserved g c =
       | then-to-from+then-is_none w ↦
           let untouched : effect_at plan.lines c.shown.inside.period slot from to ≡ None =
           no_effect (λ e. change_of e.now) w.effect.result (effect_at plan.lines c.shown.inside.period slot from to) (ap not (w.is_none.ensures ∙ ap not w.if-is_none.true)) w.effect.ensures in
-          rw (w.self-is, w.sink-is, flat_next (link_text plan shown slot from) to, link_untouched plan shown slot from to w.if-to-from.true (rw period at untouched))
+          rw (w.self-is, w.sink-is, flat_map_next (link_text plan shown slot from) to, link_untouched plan shown slot from to w.if-to-from.true (rw period at untouched))
           (then {xs = before} c.loop-to.invariant (rw (c.rest_of-rest.ensures, c.sent-sent.ensures.bytes, c.as_slice-start.ensures.value, c.start_of-written.ensures, period) at w.untouched.ensures))
       | then-to-from+else-is_none w ↦
-          rw (w.self-is, w.sink-is, flat_next (link_text plan shown slot from) to, link_some plan shown slot from to w.if-to-from.true)
+          rw (w.self-is, w.sink-is, flat_map_next (link_text plan shown slot from) to, link_some plan shown slot from to w.if-to-from.true)
           (then {xs = before} c.loop-to.invariant (rw (w.deliveries-delivered.ensures, c.sent-sent.ensures.bytes, c.as_slice-start.ensures.value, c.start_of-written.ensures, period) at w.copies.ensures))
       | else-to-from w ↦
-          rw (w.self-is, w.sink-is, flat_next (link_text plan shown slot from) to, link_none plan shown slot from to w.if-to-from.false, append-nil before) c.loop-to.invariant
+          rw (w.self-is, w.sink-is, flat_map_next (link_text plan shown slot from) to, link_none plan shown slot from to w.if-to-from.false, append-nil before) c.loop-to.invariant
     ]
 
 pub untouched-requires : goal.untouched-requires

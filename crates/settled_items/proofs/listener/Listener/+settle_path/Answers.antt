@@ -1,15 +1,16 @@
 use Rattle.std.proofs.Common.{rules, ℕ, ◌≡◌, ◌<◌, ◌≤◌, ◌+◌, ◌==◌, true, List, [], ◌∷◌, ◌++◌, map, take, length, refl, sym, ap, ◌∙◌, inl, inr, arith, append-nil, eq-eqb, ne_eqb, eqb-true}
 use Rattle.std.proofs.lemmas.Bool.{cond-true, cond-false, or_cases}
 use Rattle.std.proofs.lemmas.List.{length_push, length-set}
-use Rattle.node_grid.specs.NodeSet.{has_id, IsIdSet}
+use Rattle.node_grid.specs.NodeSet.{has_id}
 use Rattle.node_grid.specs.ListLaws.{has_push}
+use Rattle.node_grid.specs.ListFacts.{split_more, split_all}
 use Rattle.omh_paths.specs.Wrapped.{unwrapped}
 use Rattle.omh_paths.specs.Majority.{majority}
-use Rattle.omh_paths.specs.MemberLaws.{member-lt}
 use Rattle.omh_paths.specs.Paths.{outside}
+use Rattle.omh_paths.specs.Facts.{next_few, next_low, next_outside}
 use Rattle.omh.specs.Omh.{own_term, settled_at, term_at}
 use Rattle.omh.specs.SettledLaws.{settled_at_end, settled_at_later}
-use Rattle.odd_relays.proofs.Laying.{laid_more, next_on, next_outside, next_short, split_more, split_all}
+use Rattle.odd_relays.proofs.Laying.{laid_more}
 use Rattle.settled_items.specs.Listening.{listener_ear}
 use Rattle.settled_items.proofs.Listening.{terms_are, fronts_same}
 use Rattle.settled_items.proofs.listener.Listener.+settle_path.Goals as goal
@@ -21,14 +22,6 @@ low_push n path longer q low at is x on = elim (or_cases (has_id path x) (q == x
   | inl before ↦ low x before
   | inr here ↦ let e : q ≡ x = eqb-true q x here in omega arith
 ]
-
-next_low : (n : ℕ) (all s path ys rest left : List ℕ) (q : ℕ) → IsIdSet n all → all ≡ outside s path → outside s path ≡ ys ++ left → left ≡ q ∷ rest → q < n
-next_low n all s path ys rest left q ids is split steps = member-lt n all q ids (ap (λ (xs : List ℕ). has_id xs q) is ∙ next_on (outside s path) ys rest left q split steps)
-
-next_few : (n : ℕ) (all s path ys rest left : List ℕ) (q : ℕ) → n ≤ 16 → length all ≤ n → all ≡ outside s path → outside s path ≡ ys ++ left → left ≡ q ∷ rest → length ys < 16
-next_few n all s path ys rest left q capacity few is split steps =
-    let l = next_short (outside s path) ys rest left q n split steps (omega (arith, ap length is)) in
-    omega arith
 
 pub returns-then-len-self-clause-settled : goal.returns-then-len-self-clause-settled
 returns-then-len-self-clause-settled g k c =

@@ -2,11 +2,11 @@ use Rattle.std.proofs.Common.{ℕ, ◌≡◌, ◌<◌, ◌≤◌, ◌==◌, true
 use Rattle.std.proofs.lemmas.Bool.{or_cases, or_parts, or_from, or_left}
 use Rattle.node_grid.specs.NodeSet.{has_id, IsIdSet}
 use Rattle.node_grid.specs.NodeSetLaws.{length-ids}
-use Rattle.node_grid.specs.Count.{count}
+use Rattle.node_grid.specs.ListFacts.{split_all}
+use Rattle.node_grid.specs.SetFacts.{count_all, member-lt}
 use Rattle.omh_paths.specs.Paths.{outside}
-use Rattle.omh_paths.specs.MemberLaws.{member-lt}
+use Rattle.omh_paths.specs.Facts.{next_outside}
 use Rattle.odd_relays.proofs.ChainLaws.{left_out}
-use Rattle.odd_relays.proofs.Laying.{next_outside, split_all}
 use Rattle.settled_items.proofs.listener.Listener.convicts.Goals as goal
 
 two : (root path : List ℕ) (c i : ℕ) → root ≡ c ∷ [] → path ≡ root ++ i ∷ [] → path ≡ c ∷ i ∷ []
@@ -21,15 +21,11 @@ low_two n c i path lc li is q on = elim (or_cases (c == q) _ (ap (λ (p : List �
   ]
 ]
 
-count_true : (s : List ℕ) → count (λ q. true) s ≡ length s
-count_true [] = refl
-count_true (x ∷ xs) = omega (arith, count_true xs)
-
 few_others : (n : ℕ) (members : List ℕ) (c i k : ℕ) → n ≤ 16 → IsIdSet n members → has_id members c ≡ true → k ≡ length (outside members (c ∷ i ∷ [])) → k ≤ 15
 few_others n members c i k capacity ids on is =
     let off : not (has_id (c ∷ i ∷ []) c) ≡ false = ap not (or_left (c == c) (has_id (i ∷ []) c) (eq-eqb c c refl)) in
     let l = left_out (λ q. true) (λ q. not (has_id (c ∷ i ∷ []) q)) members c on off in
-    omega (arith, count_true members, count_true (outside members (c ∷ i ∷ [])), capacity, length-ids n members ids)
+    omega (arith, count_all members, count_all (outside members (c ∷ i ∷ [])), capacity, length-ids n members ids)
 
 off_root : (members root : List ℕ) (c i q : ℕ) → root ≡ c ∷ [] → has_id (c ∷ i ∷ []) q ≡ false → has_id root q ≡ false
 off_root members root c i q is off = ap (λ (p : List ℕ). has_id p q) is ∙ or_from _ _ (or_parts _ _ off).0 refl

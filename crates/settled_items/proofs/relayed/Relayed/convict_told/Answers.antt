@@ -1,16 +1,10 @@
-use Rattle.std.proofs.Common.{◌≡◌, ◌≢◌, List, true, false, ℕ, sym, ap, ◌∙◌, arith}
+use Rattle.std.proofs.Common.{◌≡◌, ◌≢◌, List, true, ℕ, sym, ap, ◌∙◌, arith}
 use Rattle.node_grid.specs.NodeSet.{has_id, without_id}
-use Rattle.omh_paths.specs.MemberLaws.{Distinct-ids, member-lt}
+use Rattle.node_grid.specs.SetFacts.{off_rest, on_rest, member-lt}
+use Rattle.omh_paths.specs.MemberLaws.{Distinct-ids}
 use Rattle.omh_paths.specs.PathLists.{has-without-left}
-use Rattle.odd_relays.proofs.Laying.{has_rest, not_rest}
 use Rattle.settled_items.proofs.Relaying.{all_convict}
 use Rattle.settled_items.proofs.relayed.Relayed.convict_told.Goals as goal
-
-on_rest : (awake nodes : List ℕ) (c q : ℕ) → nodes ≡ without_id awake c → has_id awake q ≡ true → c ≢ q → has_id nodes q ≡ true
-on_rest awake nodes c q is on ne = ap (λ (s : List ℕ). has_id s q) is ∙ has_rest awake c q on ne
-
-off_rest : (awake nodes : List ℕ) (c : ℕ) → nodes ≡ without_id awake c → has_id nodes c ≡ false
-off_rest awake nodes c is = ap (λ (s : List ℕ). has_id s c) is ∙ not_rest awake c
 
 of_rest : (awake nodes : List ℕ) (c q : ℕ) → nodes ≡ without_id awake c → has_id nodes q ≡ true → (has_id awake q ≡ true) × (c ≢ q)
 of_rest awake nodes c q is on =

@@ -2,13 +2,15 @@ use Rattle.std.proofs.Common.{rules, List, ℕ, ◌≢◌, ◌∷◌, [], length
 use Rattle.std.specs.Prelude.{All}
 use Rattle.std.proofs.lemmas.List.{length-set, length-map}
 use Rattle.std.proofs.lemmas.List.Elements.{All-nil, All-cons, All-set}
+use Rattle.node_grid.specs.ListFacts.{split_more}
+use Rattle.node_grid.specs.SetFacts.{low_of}
 use Rattle.omh_paths.specs.declared.wrapped.Wrapped.{Wrapped}
 use Rattle.omh_paths.specs.declared.wrapped.Wrapped.TheVariants.{Fault}
 use Rattle.omh.specs.Written.{IsSmall}
 use Rattle.omh.specs.Flat.{forgotten}
 use Rattle.settled_paths.specs.Passing.{or_passed}
 use Rattle.settled_paths.proofs.Layers.{small_more, small_known}
-use Rattle.odd_relays.proofs.Laying.{low_of, split_more, laid_each}
+use Rattle.odd_relays.proofs.Laying.{laid_each}
 use Rattle.settled_items.proofs.relayed.Relayed.lay_told.Goals as goal
 
 pub set_value-requires : goal.set_value-requires

@@ -2,9 +2,10 @@ use Rattle.std.proofs.Common.{ℕ, ◌<◌, ◌+◌, ◌==◌, refl, sym, ap, su
 use Rattle.std.proofs.lemmas.Bool.{or_cases}
 use Rattle.node_grid.specs.NodeSet.{has_id}
 use Rattle.node_grid.specs.ListLaws.{has_push}
-use Rattle.omh_paths.specs.MemberLaws.{member-lt}
+use Rattle.node_grid.specs.ListFacts.{split_more}
+use Rattle.node_grid.specs.SetFacts.{member-lt, next_on}
 use Rattle.settled_paths.specs.Passing.{HearAlike}
-use Rattle.settled_paths.proofs.Loops.{next_on, split_more, put_has, put_on}
+use Rattle.settled_paths.proofs.Loops.{put_has, put_on}
 use Rattle.settled_paths.proofs.exchange.Exchange.alike.Goals as goal
 use Rattle.settled_paths.proofs.exchange.Exchange.alike.Goals.{then-i-first-via-then-i-first, then-i-first-via-else-i-first+then-is_alike}
 

@@ -2,13 +2,14 @@ use Rattle.std.proofs.Common.{ℕ, ◌≡◌, ◌≢◌, ◌<◌, ◌+◌, List,
 use Rattle.std.specs.Prelude.{if◌then◌else◌}
 use Rattle.std.proofs.lemmas.List.{length_push, length-set}
 use Rattle.node_grid.specs.NodeSet.{has_id}
+use Rattle.node_grid.specs.ListFacts.{split_all, split_more}
 use Rattle.omh_paths.specs.declared.wrapped.Wrapped.{Wrapped}
 use Rattle.omh_paths.specs.declared.wrapped.Wrapped.TheVariants.{Fault}
 use Rattle.omh_paths.specs.Wrapped.{wrapped}
 use Rattle.omh_paths.specs.Paths.{outside}
 use Rattle.omh.specs.Written.{IsSmall}
 use Rattle.settled_paths.specs.Passing.{or_passed}
-use Rattle.settled_paths.proofs.Loops.{next_at, next_short, split_all, split_more, laid_next, laid_kept}
+use Rattle.settled_paths.proofs.Loops.{next_at, next_short, laid_next, laid_kept}
 use Rattle.settled_paths.proofs.exchange.Exchange.lay_behind.Goals as goal
 
 pub loop-q-preserved : goal.loop-q-preserved

@@ -1,14 +1,16 @@
 use Rattle.std.proofs.Common.{ℕ, suc, ◌≡◌, ◌<◌, ◌+◌, ◌-◌, ◌*◌, length, get_or, refl, sym, ap, ap₂, subst, ◌∙◌, inl, arith}
+use Rattle.node_grid.specs.SetFacts.{member-lt}
 use Rattle.omh_paths.specs.declared.wrapped.Wrapped.{Wrapped}
 use Rattle.omh_paths.specs.declared.wrapped.Wrapped.TheVariants.{Fault}
 use Rattle.omh_paths.specs.Paths.{path_count, index_in, outside}
 use Rattle.omh_paths.specs.PathLists.{index_in-lt}
-use Rattle.omh_paths.specs.MemberLaws.{Distinct-ids, member-lt}
+use Rattle.omh_paths.specs.MemberLaws.{Distinct-ids}
+use Rattle.omh_paths.specs.Facts.{longer_count}
 use Rattle.omh.specs.Flat.{relay_path}
 use Rattle.omh.specs.Written.{IsSmall}
 use Rattle.settled_paths.specs.Passing.{passed}
 use Rattle.settled_paths.specs.Levels.{level_value}
-use Rattle.settled_paths.proofs.Places.{level_within, level_at-le, longer_count, term_place}
+use Rattle.settled_paths.proofs.Places.{level_within, level_at-le, term_place}
 use Rattle.settled_paths.proofs.Layers.{small_more, layer_more, layer_all, layer_term}
 use Rattle.settled_paths.proofs.Untouched.{passes_same}
 use Rattle.settled_paths.proofs.exchange.Exchange.lay_level.Goals as goal

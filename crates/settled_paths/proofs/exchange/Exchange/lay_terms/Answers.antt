@@ -1,10 +1,12 @@
 use Rattle.std.proofs.Common.{ℕ, ◌≡◌, ◌<◌, List, length, get_or, sym, ap, ap₂, ◌∙◌, subst, arith}
 use Rattle.std.proofs.lemmas.List.{length_push, length-set}
+use Rattle.node_grid.specs.ListFacts.{split_all, split_more}
 use Rattle.omh_paths.specs.declared.wrapped.Wrapped.{Wrapped}
 use Rattle.omh_paths.specs.declared.wrapped.Wrapped.TheVariants.{Fault}
 use Rattle.omh_paths.specs.Paths.{outside}
+use Rattle.omh_paths.specs.Facts.{next_outside}
 use Rattle.settled_paths.specs.Passing.{or_passed, instead}
-use Rattle.settled_paths.proofs.Loops.{next_at, next_short, next_outside, split_all, split_more, front_next}
+use Rattle.settled_paths.proofs.Loops.{next_at, next_short, front_next}
 use Rattle.settled_paths.proofs.exchange.Exchange.lay_terms.Goals as goal
 
 pub term-value-requires-clause-off : goal.term-value-requires-clause-off

@@ -1,7 +1,7 @@
 use Rattle.std.proofs.Common.{◌-◌, refl, arith}
 use Rattle.node_grid.specs.CapacityLaws.{capacity-le}
 use Rattle.node_grid.specs.NodeSetLaws.{length-ids}
-use Rattle.omh_paths.specs.MemberLaws.{member-lt}
+use Rattle.node_grid.specs.SetFacts.{member-lt}
 use Rattle.settled_paths.proofs.Places.{first_few, level_is}
 use Rattle.settled_paths.proofs.exchange.Exchange.level.Goals as goal
 

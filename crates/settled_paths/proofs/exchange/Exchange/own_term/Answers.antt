@@ -1,7 +1,7 @@
 use Rattle.std.proofs.Common.{ℕ, ◌+◌, get_or, sym, ap, ◌∙◌, arith}
+use Rattle.node_grid.specs.SetFacts.{member-lt}
 use Rattle.omh_paths.specs.declared.wrapped.Wrapped.TheVariants.{Fault}
 use Rattle.omh_paths.specs.Paths.{outside}
-use Rattle.omh_paths.specs.MemberLaws.{member-lt}
 use Rattle.settled_paths.proofs.Folds.{own_place}
 use Rattle.settled_paths.proofs.exchange.Exchange.own_term.Goals as goal
 

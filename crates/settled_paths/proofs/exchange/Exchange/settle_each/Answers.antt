@@ -2,13 +2,15 @@ use Rattle.std.proofs.Common.{ℕ, ◌≡◌, ◌≢◌, ◌-◌, ◌∷◌, [],
 use Rattle.std.proofs.lemmas.Bool.{both_ways}
 use Rattle.std.proofs.lemmas.List.{length-set}
 use Rattle.node_grid.specs.NodeSet.{has_id}
+use Rattle.node_grid.specs.ListFacts.{split_more, split_all}
+use Rattle.node_grid.specs.SetFacts.{next_on, low_of, off_apart}
 use Rattle.omh_paths.specs.declared.wrapped.Wrapped.{Wrapped}
 use Rattle.omh_paths.specs.declared.wrapped.Wrapped.TheVariants.{Fault}
 use Rattle.omh_paths.specs.Paths.{index_in}
 use Rattle.omh.specs.Omh.{settled_at}
 use Rattle.omh.specs.Flat.{AreSettled}
 use Rattle.settled_paths.specs.Levels.{AreOwnTerms, ear_in}
-use Rattle.settled_paths.proofs.Loops.{next_on, low_of, apart, split_more, split_all, laid_each, laid_kept}
+use Rattle.settled_paths.proofs.Loops.{laid_each, laid_kept}
 use Rattle.settled_paths.proofs.exchange.Exchange.settle_each.Goals as goal
 
 pub settle_from-settled-requires : goal.settle_from-settled-requires
@@ -20,7 +22,7 @@ settle_from-settled-requires g c =
       omega arith,
       (
         c.requires.exchange,
-        (apart nodes c.args.self.now.commander q c.requires.others on, record { relayed = c.requires.room.relayed; laid_ok = c.requires.room.laid_ok; longest_ok = c.requires.room.longest_ok; work_ok = omega (arith, c.requires.room.work_ok, i.work); terms_ok = omega (arith, c.requires.room.terms_ok, i.work) }),
+        (off_apart nodes c.args.self.now.commander q c.requires.others on, record { relayed = c.requires.room.relayed; laid_ok = c.requires.room.laid_ok; longest_ok = c.requires.room.longest_ok; work_ok = omega (arith, c.requires.room.work_ok, i.work); terms_ok = omega (arith, c.requires.room.terms_ok, i.work) }),
       ),
     )
 

@@ -2,13 +2,14 @@ use Rattle.std.proofs.Common.{ℕ, ◌≡◌, ◌≢◌, ◌∷◌, [], List, le
 use Rattle.std.proofs.lemmas.Bool.{both_ways}
 use Rattle.std.proofs.lemmas.List.{length-set}
 use Rattle.node_grid.specs.NodeSet.{has_id, without_id}
+use Rattle.node_grid.specs.ListFacts.{split_more}
+use Rattle.node_grid.specs.SetFacts.{member-lt, next_on, has_rest}
 use Rattle.omh_paths.specs.declared.wrapped.Wrapped.{Wrapped}
 use Rattle.omh_paths.specs.declared.wrapped.Wrapped.TheVariants.{Fault}
-use Rattle.omh_paths.specs.MemberLaws.{member-lt}
 use Rattle.omh.specs.Omh.{ear, settled}
 use Rattle.omh.specs.SettledLaws.{settled_at_end}
 use Rattle.settled_paths.specs.Passing.{or_passed, passing_world}
-use Rattle.settled_paths.proofs.Loops.{next_on, split_more, laid_each, laid_kept, has_rest, left_out, each_of}
+use Rattle.settled_paths.proofs.Loops.{laid_each, laid_kept, left_out, each_of}
 use Rattle.settled_paths.proofs.exchange.Exchange.settle_heard.Goals as goal
 
 pub set_value-requires : goal.set_value-requires

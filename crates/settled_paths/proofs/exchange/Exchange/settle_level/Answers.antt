@@ -1,9 +1,10 @@
 use Rattle.std.proofs.Common.{ℕ, suc, ◌≤◌, ◌+◌, ◌-◌, ◌*◌, length, ap, ◌∙◌, arith}
 use Rattle.std.proofs.lemmas.List.{length-set, length-take-le, length-drop}
 use Rattle.std.specs.Prelude.{drop}
+use Rattle.node_grid.specs.SetFacts.{member-lt}
 use Rattle.omh_paths.specs.Paths.{index_in}
 use Rattle.omh_paths.specs.PathLists.{index_in-lt}
-use Rattle.omh_paths.specs.MemberLaws.{Distinct-ids, member-lt}
+use Rattle.omh_paths.specs.MemberLaws.{Distinct-ids}
 use Rattle.settled_paths.specs.Levels.{ear_in}
 use Rattle.settled_paths.proofs.Places.{level_within, level_at-le, term_place}
 use Rattle.settled_paths.proofs.Folds.{longest_more}

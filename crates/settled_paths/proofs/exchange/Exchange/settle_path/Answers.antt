@@ -1,6 +1,6 @@
 use Rattle.std.proofs.Common.{length, sym, ap, ◌∙◌, ◌*◌, arith}
+use Rattle.node_grid.specs.SetFacts.{member-lt}
 use Rattle.omh_paths.specs.Paths.{outside}
-use Rattle.omh_paths.specs.MemberLaws.{member-lt}
 use Rattle.settled_paths.proofs.Folds.{own_place, own_laid, own_unlaid, path_done}
 use Rattle.settled_paths.proofs.exchange.Exchange.settle_path.Goals as goal
 use Rattle.settled_paths.proofs.exchange.Exchange.settle_path.Goals.{then-has, else-has}

@@ -3,14 +3,16 @@ use Rattle.std.proofs.lemmas.Bool.{both_ways, cases_Bool, or_cases}
 use Rattle.node_grid.specs.NodeSet.{has_id}
 use Rattle.node_grid.specs.CapacityLaws.{capacity-le}
 use Rattle.node_grid.specs.ListLaws.{has_push}
+use Rattle.node_grid.specs.ListFacts.{split_more}
+use Rattle.node_grid.specs.SetFacts.{member-lt, next_on, has_in_front, has_rest, not_rest}
 use Rattle.omh_paths.specs.declared.wrapped.Wrapped.TheVariants.{Fault}
 use Rattle.omh_paths.specs.Paths.{index_in}
 use Rattle.omh_paths.specs.PathLists.{index_in-lt}
-use Rattle.omh_paths.specs.MemberLaws.{Distinct-ids, member-lt}
+use Rattle.omh_paths.specs.MemberLaws.{Distinct-ids}
 use Rattle.omh.specs.Omh.{settled}
 use Rattle.settled_paths.specs.Levels.{AreRelayRooms}
 use Rattle.settled_paths.specs.Passing.{passing_world}
-use Rattle.settled_paths.proofs.Loops.{next_on, split_more, has_front, has_rest, not_rest, left_out, each_of, joined_has, joined_on}
+use Rattle.settled_paths.proofs.Loops.{left_out, each_of, joined_has, joined_on}
 use Rattle.settled_paths.proofs.Passes.{own_terms, last_terms}
 use Rattle.settled_paths.proofs.exchange.Exchange.settle_relayed.Goals as goal
 
@@ -99,7 +101,7 @@ loop-first-preserved-then-not-has g c =
       work = c.settle_each.ensures.work ∙ c.settle_longest.ensures.terms ∙ i.work;
       places = c.settle_each.ensures.places;
       reached = λ k on.
-          let here = ap (λ (xs : List ℕ). has_id xs k) split ∙ has_front (c.loop-first.yielded ++ q ∷ []) c.next.new.self k on in
+          let here = ap (λ (xs : List ℕ). has_id xs k) split ∙ has_in_front (c.loop-first.yielded ++ q ∷ []) c.next.new.self k on in
           joined_on g.row.N c.loop-first.done c.alike-alike.result c.union-done.result k c.union-done.ensures (member-lt g.row.N nodes k c.iter-first-items.ensures.ids here)
           (elim (or_cases (has_id c.loop-first.yielded k) (q == k) (sym (has_push c.loop-first.yielded q k) ∙ on)) [
             | inl was ↦ inl (i.reached k was)

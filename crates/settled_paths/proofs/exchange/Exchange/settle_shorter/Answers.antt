@@ -1,11 +1,13 @@
 use Rattle.std.proofs.Common.{ℕ, suc, ◌≡◌, ◌<◌, ◌≤◌, ◌+◌, ◌-◌, ◌*◌, length, refl, ap, ◌∙◌, arith, lit<, mul-le-mul}
+use Rattle.node_grid.specs.SetFacts.{member-lt}
 use Rattle.omh_paths.specs.Paths.{outside, path_count, index_in}
 use Rattle.omh_paths.specs.PathLists.{index_in-lt}
-use Rattle.omh_paths.specs.MemberLaws.{Distinct-ids, member-lt}
+use Rattle.omh_paths.specs.MemberLaws.{Distinct-ids}
 use Rattle.omh.proofs.Folding.{halfway_start, halfway_end}
+use Rattle.omh.specs.Facts.{length-settled}
 use Rattle.settled_paths.specs.Levels.{level_at, ear_in}
 use Rattle.settled_paths.proofs.Places.{level_within, level_at-le, term_place}
-use Rattle.settled_paths.proofs.Folds.{shorter_more, length-settled}
+use Rattle.settled_paths.proofs.Folds.{shorter_more}
 use Rattle.settled_paths.proofs.exchange.Exchange.settle_shorter.Goals as goal
 
 pub loop-k-init : goal.loop-k-init

@@ -1,5 +1,5 @@
 use Rattle.std.proofs.Common.{length, ap, arith, lit<}
-use Rattle.omh_paths.specs.MemberLaws.{member-lt}
+use Rattle.node_grid.specs.SetFacts.{member-lt}
 use Rattle.settled_paths.proofs.Rooms.{room_for}
 use Rattle.settled_paths.proofs.laid.Laid.settle_all.Goals as goal
 

@@ -1,10 +1,10 @@
 use Rattle.std.proofs.Common.{ℕ, List, [], Option, get_or, sym, subst, ◌∙◌}
 use Rattle.std.specs.Prelude.{IsTrue, ◌↔◌}
 use Rattle.node_grid.specs.NodeSet.{has_id}
+use Rattle.node_grid.specs.SetFacts.{member-lt}
 use Rattle.agreed_state.specs.Agreed.{AgreedView}
 use Rattle.shared_states.specs.Sharing.{IsShared}
 use Rattle.shared_states.specs.Places.{IsAlike}
-use Rattle.shared_states.proofs.Free.{below}
 use Rattle.shared_states.proofs.Views.{alike_none, alike_all, alike_by}
 use Rattle.shared_states.proofs.states.SharedStates.alike.Goals as goal
 
@@ -24,7 +24,7 @@ returns-then-self g c =
     (alike_all g.row.N s.awake s.places s.states.items ok.ids ok.room ok.placed c.args.i (sym c.has.ensures ∙ c.if-not-has.false) (ok.at_one c.if-self.true))
 
 pub bounds-self-inside-i : goal.bounds-self-inside-i
-bounds-self-inside-i g c = below g.row.N c.self.inside.awake c.args.i c.self.invariant.ids (sym c.has.ensures ∙ c.if-not-has.false)
+bounds-self-inside-i g c = member-lt g.row.N c.self.inside.awake c.args.i c.self.invariant.ids (sym c.has.ensures ∙ c.if-not-has.false)
 
 pub returns : goal.returns
 returns g c =

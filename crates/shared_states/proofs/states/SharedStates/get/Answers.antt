@@ -3,12 +3,12 @@ use Rattle.std.specs.Prelude.{slice_get}
 use Rattle.std.proofs.lemmas.Bool.{cond-true, cond-false}
 use Rattle.std.proofs.lemmas.Option.{slice_get_read}
 use Rattle.node_grid.specs.NodeSet.{has_id}
-use Rattle.shared_states.proofs.Free.{below}
+use Rattle.node_grid.specs.SetFacts.{member-lt}
 use Rattle.shared_states.proofs.Views.{seen}
 use Rattle.shared_states.proofs.states.SharedStates.get.Goals as goal
 
 pub bounds-self-inside-i : goal.bounds-self-inside-i
-bounds-self-inside-i g c = below g.row.N c.self.inside.awake c.args.i c.self.invariant.ids (sym c.has.ensures ∙ c.if-has.true)
+bounds-self-inside-i g c = member-lt g.row.N c.self.inside.awake c.args.i c.self.invariant.ids (sym c.has.ensures ∙ c.if-has.true)
 
 pub returns-then-has : goal.returns-then-has
 returns-then-has g c =

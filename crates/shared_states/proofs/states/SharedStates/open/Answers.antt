@@ -1,10 +1,11 @@
 use Rattle.std.proofs.Common.{◌≡◌, ◌<◌, ℕ, List, replicate, length, ◌⊎◌, inl, inr, sym, ap, ap₂, subst, ◌∙◌, arith}
 use Rattle.std.proofs.lemmas.List.{length-replicate}
 use Rattle.node_grid.specs.NodeSet.{IsIdSet}
+use Rattle.node_grid.specs.NumberFacts.{get_or-zeros}
 use Rattle.agreed_state.specs.Agreed.{AgreedView, first_agreed}
 use Rattle.shared_states.specs.Places.{states_by}
 use Rattle.shared_states.proofs.Free.{ids_ids}
-use Rattle.shared_states.proofs.Views.{begun, zero_at}
+use Rattle.shared_states.proofs.Views.{begun}
 use Rattle.shared_states.proofs.states.SharedStates.open.Goals as goal
 
 some_nodes : (n : ℕ) → (n ≡ 8) ⊎ (n ≡ 16) → 0 < n
@@ -18,8 +19,8 @@ invariant_of-result g c =
       capacity = g.bound-1.eight_or_sixteen;
       ids = subst (λ (s : List ℕ). IsIdSet n s) (sym c.full.ensures) (ids_ids c.args.config.now.nodes n c.requires.config.few_nodes);
       room = ap length c.in-Ok.ensures ∙ length-replicate n _;
-      placed = λ i up. omega (arith, zero_at n i, some_nodes n g.bound-1.eight_or_sixteen);
-      at_one = λ yes' i j on other. zero_at n j ∙ sym (zero_at n i);
+      placed = λ i up. omega (arith, get_or-zeros n i, some_nodes n g.bound-1.eight_or_sixteen);
+      at_one = λ yes' i j on other. get_or-zeros n j ∙ sym (get_or-zeros n i);
     }
 
 pub returns : goal.returns

@@ -2,11 +2,12 @@ use Rattle.std.proofs.Common.{◌≡◌, ◌<◌, ◌⊎◌, ◌||◌, ◌&&◌,
 use Rattle.std.proofs.lemmas.Bool.{cond-true, cond-false, or_cases}
 use Rattle.std.proofs.lemmas.List.{nil_from_length}
 use Rattle.node_grid.specs.NodeSet.{ids_below, has_id, minus_of, union_of, IsIdSet}
-use Rattle.node_grid.specs.NodeSetLaws.{IsIdSet-filter, has-filter}
+use Rattle.node_grid.specs.NodeSetLaws.{IsIdSet-filter, has-filter, has_filtered}
+use Rattle.node_grid.specs.SetFacts.{member-lt}
 use Rattle.agreed_state.specs.Agreed.{AgreedView}
 use Rattle.shared_states.specs.Sharing.{state_at}
 use Rattle.shared_states.specs.Places.{ArePlaces, ArePlaced, states_by}
-use Rattle.shared_states.proofs.Free.{below, fewer_others, filtered_ids, has_filtered}
+use Rattle.shared_states.proofs.Free.{fewer_others, filtered_ids}
 use Rattle.shared_states.proofs.Views.{whole, long_view, replaced}
 use Rattle.shared_states.proofs.states.SharedStates.replace.Goals as goal
 
@@ -30,7 +31,7 @@ put_places n awake nodes places places' states place one capacity ids room place
   capacity = capacity;
   ids = IsIdSet-filter both n;
   room = room;
-  placed = λ i up. at i (below n joined i (IsIdSet-filter both n) up) up (has_id nodes i) refl;
+  placed = λ i up. at i (member-lt n joined i (IsIdSet-filter both n) up) up (has_id nodes i) refl;
   at_one = λ yes' i j on other. here yes' j other ∙ sym (here yes' i on);
 }
   where
@@ -54,7 +55,7 @@ put_places n awake nodes places places' states place one capacity ids room place
 
     here : one ≡ true → (i : ℕ) → has_id joined i ≡ true → get_or places' i 0 ≡ place
     here yes' i up =
-        let within : i < n = below n joined i (IsIdSet-filter both n) up in
+        let within : i < n = member-lt n joined i (IsIdSet-filter both n) up in
         let empty : minus_of awake nodes ≡ [] = nil_from_length (minus_of awake nodes) (none yes') in
         elim (or_cases (has_id (minus_of awake nodes) i) (has_id nodes i) (in_union i within up)) [
           | inl other ↦ absurd (let z : false ≡ true = ap (λ (xs : List ℕ). has_id xs i) (sym empty) ∙ other in cc)

@@ -3,16 +3,16 @@ use Rattle.std.specs.Prelude.{is_some}
 use Rattle.std.proofs.lemmas.Bool.{cases_eq}
 use Rattle.node_grid.specs.NodeSet.{has_id, with_id, IsIdSet}
 use Rattle.node_grid.specs.NodeSetLaws.{IsIdSet-filter, has-with_id}
+use Rattle.node_grid.specs.SetFacts.{member-lt}
 use Rattle.agreed_state.specs.Agreed.{AgreedView}
 use Rattle.shared_states.specs.Sharing.{state_at}
 use Rattle.shared_states.specs.Places.{ArePlaces, states_by}
-use Rattle.shared_states.proofs.Free.{below}
 use Rattle.shared_states.proofs.Views.{has_state, shared_after}
 use Rattle.shared_states.proofs.states.SharedStates.share.Goals as goal
 
 -- who is awake after node i was woken
 woken : (n : ℕ) (s : List ℕ) (i k : ℕ) → IsIdSet n (with_id n s i) → has_id (with_id n s i) k ≡ true → k ≢ i → has_id s k ≡ true
-woken n s i k ids up other = sym (has-with_id n s i k (below n (with_id n s i) k ids up) ∙ ap (λ b. b || has_id s k) (ne_eqb k i other)) ∙ up
+woken n s i k ids up other = sym (has-with_id n s i k (member-lt n (with_id n s i) k ids up) ∙ ap (λ b. b || has_id s k) (ne_eqb k i other)) ∙ up
 
 -- the place of a node after node i took that of node j
 taken : (places : List ℕ) (i j k n : ℕ) → length places ≡ n → i < n → (k ≡ i → get_or (set places i (get_or places j 0)) k 0 ≡ get_or places j 0) × (k ≢ i → get_or (set places i (get_or places j 0)) k 0 ≡ get_or places k 0)

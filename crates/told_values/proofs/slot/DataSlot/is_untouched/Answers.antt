@@ -4,9 +4,11 @@ use Rattle.std.proofs.lemmas.Bool.{cases_Bool, cases_eq, or_left, or_right, or_c
 use Rattle.node_grid.specs.NodeSet.{has_id}
 use Rattle.node_grid.specs.ListLaws.{has_push}
 use Rattle.node_grid.specs.NodeSetLaws.{not_all_ids}
+use Rattle.node_grid.specs.NumberFacts.{other_fails}
+use Rattle.node_grid.specs.SetFacts.{all_ids}
 use Rattle.fault_classes.specs.Change.{change_of, is_untouched}
+use Rattle.fault_classes.specs.Facts.{change_touches, change_leaves}
 use Rattle.told_values.specs.Slot.{slot_of, change_to}
-use Rattle.told_values.proofs.Tests.{all_ids, other_fails, touched, untouched}
 use Rattle.told_values.proofs.Arriving.{untouched_of}
 use Rattle.told_values.proofs.slot.DataSlot.is_untouched.Goals.{else-j-i-via-then-j-i+then-j-nodes+else-is_some, else-j-i-via-then-j-i+else-j-nodes, else-j-i-via-else-j-i}
 use Rattle.told_values.proofs.slot.DataSlot.is_untouched.Goals as goal
@@ -28,7 +30,7 @@ loop-j-preserved g c =
     let inv = c.loop-j.invariant in
     let test : ℕ → Bool = λ k. k == i || is_untouched (change_to d k i) in
     let here : j < d.config.nodes → test j ≡ true = λ low. elim c.else-j-i.branch [
-      | else-j-i-via-then-j-i+then-j-nodes+else-is_some w ↦ or_right (j == i) _ (untouched (λ e. change_of e.now) w.effect.result (change_to d j i) w.effect.ensures (sym w.is_some.ensures ∙ w.if-is_some.false))
+      | else-j-i-via-then-j-i+then-j-nodes+else-is_some w ↦ or_right (j == i) _ (change_leaves (λ e. change_of e.now) w.effect.result (change_to d j i) w.effect.ensures (sym w.is_some.ensures ∙ w.if-is_some.false))
       | else-j-i-via-then-j-i+else-j-nodes w ↦ absurd (omega (arith, low, w.if-j-nodes.false, c.nodes-nodes.ensures.nodes))
       | else-j-i-via-else-j-i w ↦ or_left (j == i) _ (eq-eqb j i w.if-j-i.false)
     ] in
@@ -48,7 +50,7 @@ returns-then-is_some g c =
     let i : ℕ = c.args.i in
     let j : ℕ = c.in-Some.j in
     sym (not_all_ids (λ k. k == i || is_untouched (change_to d k i)) d.config.nodes j (let t = c.if-j-nodes.true in let n = c.nodes-nodes.ensures.nodes in omega arith)
-    (other_fails j i (is_untouched (change_to d j i)) c.if-j-i.true (touched (λ e. change_of e.now) c.effect.result (change_to d j i) c.effect.ensures (sym c.is_some.ensures ∙ c.if-is_some.true))))
+    (other_fails j i (is_untouched (change_to d j i)) c.if-j-i.true (change_touches (λ e. change_of e.now) c.effect.result (change_to d j i) c.effect.ensures (sym c.is_some.ensures ∙ c.if-is_some.true))))
 
 pub returns : goal.returns
 returns g c =

@@ -1,9 +1,11 @@
 use Rattle.std.proofs.Common.{ℕ, sym, ◌∙◌, ◌||◌, arith}
 use Rattle.std.specs.Prelude.{◌==◌}
 use Rattle.node_grid.specs.NodeSetLaws.{not_all_ids}
+use Rattle.node_grid.specs.NumberFacts.{other_fails}
+use Rattle.node_grid.specs.SetFacts.{all_ids}
 use Rattle.fault_classes.specs.Change.{change_of, is_untouched}
 use Rattle.fault_classes.specs.Line.{effect_at}
-use Rattle.told_values.proofs.Tests.{all_ids, other_fails, touched}
+use Rattle.fault_classes.specs.Facts.{change_touches}
 use Rattle.told_values.proofs.talk.Talk.spares.Goals as goal
 
 pub returns-then-is_some : goal.returns-then-is_some
@@ -13,7 +15,7 @@ returns-then-is_some g c =
     sym (not_all_ids (λ k. k == c.args.from || is_untouched (effect_at lines c.args.self.now.period c.args.self.now.slot c.args.from k)) c.args.self.now.plan.now.nodes to
     (let t = c.loop-to-test.true in let n = c.requires.nodes in omega arith)
     (other_fails to c.args.from (is_untouched (effect_at lines c.args.self.now.period c.args.self.now.slot c.args.from to)) c.if-to-from.true
-    (touched (λ e. change_of e.now) c.effect.result (effect_at lines c.args.self.now.period c.args.self.now.slot c.args.from to) c.effect.ensures (sym c.is_some.ensures ∙ c.if-is_some.true))))
+    (change_touches (λ e. change_of e.now) c.effect.result (effect_at lines c.args.self.now.period c.args.self.now.slot c.args.from to) c.effect.ensures (sym c.is_some.ensures ∙ c.if-is_some.true))))
 
 pub returns : goal.returns
 returns g c =
