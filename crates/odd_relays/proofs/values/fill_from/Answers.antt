@@ -41,3 +41,9 @@ returns-clause-kept g c = c.loop-i.invariant.kept
 
 pub returns-clause-room : goal.returns-clause-room
 returns-clause-room g c = c.loop-i.invariant.long
+
+pub overflow_add-from : goal.overflow_add-from
+overflow_add-from g c =
+    let i = c.loop-i.invariant in
+    let l = low_of g.row.N c.args.nodes.now c.loop-i.yielded c.next.new.self c.loop-i.i-iterator c.in-Some.i c.iter-i-items.ensures.ids i.split c.in-Some.ensures.steps in
+    omega (arith, l, c.requires)

@@ -44,3 +44,12 @@ returns-clause-kept g c =
 
 pub returns-clause-room : goal.returns-clause-room
 returns-clause-room g c = c.loop-i.invariant.long
+
+pub overflow_mul-i : goal.overflow_mul-i
+overflow_mul-i g c = omega arith
+
+pub overflow_add-at : goal.overflow_add-at
+overflow_add-at g c =
+    let i = c.loop-i.invariant in
+    let l = low_of g.row.N c.args.nodes.now c.loop-i.yielded c.next.new.self c.loop-i.i-iterator c.in-Some.i c.iter-i-items.ensures.ids i.split c.in-Some.ensures.steps in
+    omega (arith, l, c.requires)

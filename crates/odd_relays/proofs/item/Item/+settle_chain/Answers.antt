@@ -196,3 +196,68 @@ returns-clause-settled g k c =
 
 pub lay_heard-requires : goal.lay_heard-requires
 lay_heard-requires g k c = (lit< tt, (lit< tt, omega (arith, c.requires.room)))
+
+pub fill_terms-requires : goal.fill_terms-requires
+fill_terms-requires g k c =
+    let t = telling g.S.Relays.says c.args.self.now in
+    let inv = c.loop-q.invariant in
+    let few = next_few g.row.N c.outside.result t.members c.args.path.now c.loop-q.yielded c.next.new.self c.loop-q.q-iterator c.in-Some.q c.args.self.now.fits c.iter-q-items.ensures.few c.outside.ensures inv.split c.in-Some.ensures.steps in
+    let deep : length c.args.path.now ≤ t.rounds = omega (arith, c.if-len-self.false, c.len-3.ensures.count) in
+    (lit< tt, omega (arith, few, deep, inv.count, inv.long, c.args.self.now.fits, c.requires.room))
+
+pub copy_terms-requires : goal.copy_terms-requires
+copy_terms-requires g k c =
+    let t = telling g.S.Relays.says c.args.self.now in
+    let inv = c.loop-q.invariant in
+    let few = next_few g.row.N c.outside.result t.members c.args.path.now c.loop-q.yielded c.next.new.self c.loop-q.q-iterator c.in-Some.q c.args.self.now.fits c.iter-q-items.ensures.few c.outside.ensures inv.split c.in-Some.ensures.steps in
+    let deep : length c.args.path.now ≤ t.rounds = omega (arith, c.if-len-self.false, c.len-3.ensures.count) in (
+      lit< tt,
+      (
+        omega (arith, few, inv.count, c.args.self.now.fits),
+        omega (arith, deep, c.settle_chain.ensures.room, c.fill_terms.ensures.room, inv.long, c.args.self.now.fits, c.requires.room),
+      ),
+    )
+
+pub settle_terms-requires : goal.settle_terms-requires
+settle_terms-requires g k c =
+    let t = telling g.S.Relays.says c.args.self.now in
+    let inv = c.loop-q.invariant in
+    let all = split_all (outside t.members c.args.path.now) c.loop-q.yielded c.loop-q.q-iterator inv.split c.in-None.ensures.steps.0 in
+    let deep : length c.args.path.now ≤ t.rounds = omega (arith, c.if-len-self.false, c.len-3.ensures.count) in (
+      lit< tt,
+      (
+        c.args.self.now.fits,
+        (
+          omega (arith, inv.count, ap length all, ap length c.outside.ensures, c.iter-q-items.ensures.few, c.args.self.now.fits),
+          omega (arith, deep, inv.long, c.args.self.now.fits, c.requires.room),
+        ),
+      ),
+    )
+
+pub then-requires-clause-room : goal.then-requires-clause-room
+then-requires-clause-room g k c = omega (arith, c.if-len-self.false, c.len-3.ensures.count, c.args.self.now.short)
+
+pub overflow_add-from : goal.overflow_add-from
+overflow_add-from g k c = omega (arith, c.requires.room)
+
+pub overflow_add-from-then-has-2 : goal.overflow_add-from-then-has-2
+overflow_add-from-then-has-2 g k c = omega (arith, c.if-len-self.false, c.len-3.ensures.count, c.requires.room)
+
+pub overflow_add-count : goal.overflow_add-count
+overflow_add-count g k c =
+    let t = telling g.S.Relays.says c.args.self.now in
+    let inv = c.loop-q.invariant in
+    let few = next_few g.row.N c.outside.result t.members c.args.path.now c.loop-q.yielded c.next.new.self c.loop-q.q-iterator c.in-Some.q c.args.self.now.fits c.iter-q-items.ensures.few c.outside.ensures inv.split c.in-Some.ensures.steps in
+    omega (arith, few, inv.count)
+
+pub returns-then-len-self-clause-kept : goal.returns-then-len-self-clause-kept
+returns-then-len-self-clause-kept g k c = c.lay_heard.ensures.kept
+
+pub returns-then-len-self-clause-room : goal.returns-then-len-self-clause-room
+returns-then-len-self-clause-room g k c = c.lay_heard.ensures.room
+
+pub returns-then-lay_alike-clause-kept : goal.returns-then-lay_alike-clause-kept
+returns-then-lay_alike-clause-kept g k c = c.lay_alike.ensures.kept
+
+pub returns-then-lay_alike-clause-room : goal.returns-then-lay_alike-clause-room
+returns-then-lay_alike-clause-room g k c = c.lay_alike.ensures.room

@@ -1,4 +1,4 @@
-use Rattle.std.proofs.Common.{ℕ, ◌≡◌, ◌&&◌, Bool, true, false, not, List, sym, ap, ap₂, ◌∙◌, inl, inr}
+use Rattle.std.proofs.Common.{ℕ, ◌≡◌, ◌&&◌, Bool, true, false, not, List, sym, ap, ap₂, ◌∙◌, inl, inr, arith, lit<}
 use Rattle.std.proofs.lemmas.Bool.{cases_Bool}
 use Rattle.node_grid.specs.NodeSet.{has_id, minus_of, common_of}
 use Rattle.omh_paths.specs.Paths.{outside}
@@ -36,3 +36,9 @@ returns-clause-laid g c = λ yes i on.
     c.fill_from.ensures.laid i on
     ∙ sym (heard_by_all (λ (q : ℕ). direct_heard (telling g.S.Relays.says c.args.self.now) q c.args.path.now) c.heard-value.result c.args.receivers.now c.outside-voters.result c.minus-others.result c.minus-others.ensures
     (c.have_heard.ensures c.if-not-have_heard.false) (c.have_heard-2.ensures c.if-not-have_heard-2.false) i on)
+
+pub fill_from-requires : goal.fill_from-requires
+fill_from-requires g c = (lit< tt, omega (arith, c.args.self.now.fits, c.requires.room))
+
+pub heard-value-requires : goal.heard-value-requires
+heard-value-requires g c = (lit< tt, c.in-Some.ensures.within)
