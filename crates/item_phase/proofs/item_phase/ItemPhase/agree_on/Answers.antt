@@ -98,3 +98,42 @@ settle-requires g c = (lit< tt, (lit< tt, (c.requires.told, (c.requires.room, ap
 
 pub convicting-requires : goal.convicting-requires
 convicting-requires g c = (lit< tt, (lit< tt, (lit< tt, c.requires.told)))
+
+pub overflow_mul-commander : goal.overflow_mul-commander
+overflow_mul-commander g c =
+    let told = c.requires.told in
+    let x = c.args.phase.now in
+    let low = node_low x told.heard.set c.args.commander (member-lt x.config.now.nodes c.args.members.now c.args.commander told.all.ids told.member) in
+    let cap = capacity-le g.row.N told.heard.set.capacity in
+    let most = mul-le c.args.commander g.row.N 16 16 (omega (arith, low, cap)) cap in
+    omega (arith, most)
+
+pub invariant_of-self : goal.invariant_of-self
+invariant_of-self g c =
+    let s = c.args.self.now in
+    let row_long : s.row.len ≡ g.row.N = sym c.as_mut_slice.ensures.len ∙ ap length c.as_mut_slice.ensures.value ∙ s.row_room in
+    record {
+      row_room = ap length (with_items_is s.row c.settle.new.row (c.settle.ensures.places ∙ sym row_long)) ∙ c.settle.ensures.places;
+      each_room = ap length (with_items_is s.each c.lay_row.new.values (c.lay_row.ensures.room ∙ c.as_mut_slice-2.ensures.len)) ∙ c.lay_row.ensures.room ∙ ap length c.as_mut_slice-2.ensures.value ∙ s.each_room;
+      work_room = s.work_room;
+    }
+
+pub invariant_of-self-then-phase-ne1 : goal.invariant_of-self-then-phase-ne1
+invariant_of-self-then-phase-ne1 g c =
+    let s = c.args.self.now in
+    let row_long : s.row.len ≡ g.row.N = sym c.as_mut_slice.ensures.len ∙ ap length c.as_mut_slice.ensures.value ∙ s.row_room in
+    record {
+      row_room = ap length (with_items_is s.row c.settle.new.row (c.settle.ensures.places ∙ sym row_long)) ∙ c.settle.ensures.places;
+      each_room = ap length (with_items_is s.each c.lay_row.new.values (c.lay_row.ensures.room ∙ c.as_mut_slice-2.ensures.len)) ∙ c.lay_row.ensures.room ∙ ap length c.as_mut_slice-2.ensures.value ∙ s.each_room;
+      work_room = s.work_room;
+    }
+
+pub invariant_of-self-else-phase-ne1 : goal.invariant_of-self-else-phase-ne1
+invariant_of-self-else-phase-ne1 g c =
+    let s = c.args.self.now in
+    let row_long : s.row.len ≡ g.row.N = sym c.as_mut_slice.ensures.len ∙ ap length c.as_mut_slice.ensures.value ∙ s.row_room in
+    record {
+      row_room = ap length (with_items_is s.row c.settle.new.row (c.settle.ensures.places ∙ sym row_long)) ∙ c.settle.ensures.places;
+      each_room = ap length (with_items_is s.each c.lay_row.new.values (c.lay_row.ensures.room ∙ c.as_mut_slice-2.ensures.len)) ∙ c.lay_row.ensures.room ∙ ap length c.as_mut_slice-2.ensures.value ∙ s.each_room;
+      work_room = s.work_room;
+    }

@@ -7,6 +7,7 @@ use Rattle.node_grid.specs.SetFacts.{next_on, each_more}
 use Rattle.omh_paths.specs.declared.wrapped.Wrapped.TheVariants.{Plain}
 use Rattle.omh.specs.Omh.{settled_from}
 use Rattle.heard_links.specs.Hearing.{item_of}
+use Rattle.heard_links.proofs.Sets.{node_low}
 use Rattle.heard_links.specs.Talks.{members_at}
 use Rattle.item_phase.specs.Settled.{listener}
 use Rattle.item_phase.proofs.Marking.{in_minus, taken_out}
@@ -37,7 +38,11 @@ settled-requires-in-loop-c g c =
     let x = c.args.phase.now in
     let plain : List ℕ = c.args.self.now.seen.plain in
     let members : List ℕ = members_at x c.args.i in
-    let same : members ≡ members_at x c.args.j = search rules in
+    let same : members ≡ members_at x c.args.j =
+    sym c.members_of-members.ensures
+    ∙ (bytes_eq-Decides c.members_of-members.result c.members_of.result).0 (not-false _ (sym c.ne.ensures ∙ c.if-ne.false))
+    ∙ c.members_of.ensures
+    in
     let cap = c.requires.settled.heard.set.capacity in
     let at = in_minus members plain c.in-Some.c (next_on (minus_of members plain) c.loop-c.yielded c.next.new.self c.loop-c.c-iterator c.in-Some.c c.loop-c.invariant.split c.in-Some.ensures.steps) in (
       elim cap [ inl e ↦ rw e (lit< tt) | inr e ↦ rw e (lit< tt) ],
@@ -88,3 +93,19 @@ returns-then-self-clause-alike g c = λ _ k member.
     let all = c.if-self.true in
     alike_said g.V.PartialEq.eq g.V.Item.form g.V.Item.first_slot g.V.Item.tells x c.args.self.now c.requires.settled c.args.i c.args.j k c.requires.one c.requires.other
     (seen.same all c.args.i c.args.j c.requires.one c.requires.other) member (seen.plain all c.args.i k c.requires.one member)
+
+pub returns-clause-members : goal.returns-clause-members
+returns-clause-members g c = λ _.
+    sym c.members_of-members.ensures
+    ∙ (bytes_eq-Decides c.members_of-members.result c.members_of.result).0 (not-false _ (sym c.ne.ensures ∙ c.if-ne.false))
+    ∙ c.members_of.ensures
+
+pub members_of-members-requires : goal.members_of-members-requires
+members_of-members-requires g c =
+    let set = c.requires.settled.heard.set in
+    (elim set.capacity [ inl e ↦ rw e (lit< tt) | inr e ↦ rw e (lit< tt) ], (lit< tt, node_low c.args.phase.now set c.args.i (set.awake c.args.i c.requires.one)))
+
+pub members_of-requires : goal.members_of-requires
+members_of-requires g c =
+    let set = c.requires.settled.heard.set in
+    (elim set.capacity [ inl e ↦ rw e (lit< tt) | inr e ↦ rw e (lit< tt) ], (lit< tt, node_low c.args.phase.now set c.args.j (set.awake c.args.j c.requires.other)))

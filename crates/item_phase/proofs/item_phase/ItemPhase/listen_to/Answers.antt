@@ -1,5 +1,6 @@
 use Rattle.std.proofs.Common.{ℕ, ◌≡◌, ◌+◌, ◌*◌, List, [], ◌∷◌, length, sym, ap, ◌∙◌, inl, inr, lit<}
 use Rattle.std.specs.Prelude.{slice_index_or}
+use Rattle.std.specs.Vec.{with_items}
 use Rattle.std.proofs.lemmas.List.{with_items_is}
 use Rattle.node_grid.specs.CapacityLaws.{capacity-le}
 use Rattle.node_grid.specs.NodeSet.{has_id}
@@ -128,3 +129,15 @@ returns-clause-room g c = c.lay.ensures.room ∙ elim c.if-phase-ne1.branch [
 
 pub invariant_of-node : goal.invariant_of-node
 invariant_of-node g c = record { fits = capacity-le g.row.N c.requires.heard.set.capacity; short = few_m c.args.phase.now c.requires.heard.set }
+
+pub invariant_of-self : goal.invariant_of-self
+invariant_of-self g c =
+    let s = c.args.self.now in
+    let again = with_items_is (with_items s.work c.settle-settled.new.work) c.convicts-convicts.new.work (c.convicts-convicts.auto.work ∙ c.as_mut_slice-then-phase-ne1.ensures.len) in
+    record { row_room = s.row_room; each_room = s.each_room; work_room = ap length again ∙ c.convicts-convicts.ensures.room }
+
+pub invariant_of-self-else-phase-ne1 : goal.invariant_of-self-else-phase-ne1
+invariant_of-self-else-phase-ne1 g c =
+    let s = c.args.self.now in
+    let whole = with_items_is s.work c.settle-settled.new.work (c.settle-settled.auto.work ∙ c.as_mut_slice.ensures.len) in
+    record { row_room = s.row_room; each_room = s.each_room; work_room = ap length whole ∙ c.settle-settled.ensures.room }
