@@ -1,4 +1,4 @@
-use Rattle.std.proofs.Common.{ℕ, ◌≡◌, ◌≢◌, true, false, List, [], sym, ap, subst, ◌∙◌, inl, inr, arith}
+use Rattle.std.proofs.Common.{ℕ, ◌≡◌, ◌≢◌, true, false, List, [], sym, ap, subst, ◌∙◌, inl, inr, arith, lit<}
 use Rattle.std.specs.Prelude.{slice_index_or}
 use Rattle.std.proofs.lemmas.Bool.{cases_Bool, cases_eq, both_ways}
 use Rattle.node_grid.specs.NodeSet.{has_id}
@@ -103,3 +103,12 @@ returns-clause-heard g c =
           subst (IsCame (talk_in g.V.Item.form x l) m round j i) (sym (not_touched l round j i (inv.unjudged j (omega arith) off)))
           (judged_even g.V.Item.form x l c.args.judged.now st c.requires.judged round j i c.requires.few low off on ne)
     ])
+
+pub hear_frames-requires : goal.hear_frames-requires
+hear_frames-requires g c =
+    let x = c.args.phase.now in
+    let set = c.requires.heard.set in
+    let inv = c.loop-from.invariant in
+    let from = c.loop-from.from in
+    let low = node_low x set from c.loop-from-test.true in
+    (lit< tt, (elim set.capacity [ inl e ↦ rw e (lit< tt) | inr e ↦ rw e (lit< tt) ], (inv.heard, (c.requires.few, (c.loop-from-test.true, inv.behind from (omega arith) low)))))

@@ -1,4 +1,4 @@
-use Rattle.std.proofs.Common.{rules, inl, inr, arith, sym, ◌∙◌}
+use Rattle.std.proofs.Common.{rules, inl, inr, arith, sym, ◌∙◌, lit<}
 use Rattle.heard_links.proofs.Saying.{even_is}
 use Rattle.heard_links.proofs.Sets.{few_m, node_low}
 use Rattle.heard_links.proofs.links.Links.is_alike_from.Goals as goal
@@ -34,3 +34,17 @@ returns-then-q-j g c = λ is.
           c.args.round c.args.q c.args.i c.came-then-q-j.result c.requires.hearers.few c.requires.from c.requires.hearers.one (λ e. c.requires.hearers.two (e ∙ c.if-q-j.true)) c.came-then-q-j.ensures
           ∙ sym c.is_untouched-then-q-j.ensures ∙ is,
     ))
+
+pub effect-requires : goal.effect-requires
+effect-requires g c =
+    let set = c.requires.hearers.heard.set in (
+      elim set.capacity [ inl e ↦ rw e (lit< tt) | inr e ↦ rw e (lit< tt) ],
+      record { set = set; round = c.requires.hearers.few; from = c.requires.from; to = set.awake c.args.i c.requires.hearers.one; link = c.if-q-i.false },
+    )
+
+pub effect-requires-else-q-j : goal.effect-requires-else-q-j
+effect-requires-else-q-j g c =
+    let set = c.requires.hearers.heard.set in (
+      elim set.capacity [ inl e ↦ rw e (lit< tt) | inr e ↦ rw e (lit< tt) ],
+      record { set = set; round = c.requires.hearers.few; from = c.requires.from; to = set.awake c.args.j c.requires.hearers.other; link = c.if-q-j.false },
+    )

@@ -4,6 +4,7 @@ use Rattle.fault_classes.specs.Change.{change_of}
 use Rattle.heard_links.specs.Frames.{IsJudgeable}
 use Rattle.heard_links.specs.Hearing.{ActsAs, talk_in, is_even}
 use Rattle.heard_links.proofs.Sending.{mapped_some, uneven_read, uneven_change}
+use Rattle.heard_links.proofs.Sets.{node_low}
 use Rattle.heard_links.proofs.links.Links.judge.Goals as goal
 use Rattle.heard_links.proofs.links.Links.judge.Goals.{else-is_none-via-then-is_none+else-is_read_alike, else-is_none-via-else-is_none}
 
@@ -44,3 +45,16 @@ judge_relay-requires g c =
     ] in
     let more = c.if-round-eq0.false in
     (search rules, (elim h.set.capacity [ inl e ↦ rw e (lit< tt) | inr e ↦ rw e (lit< tt) ], (c.requires, (omega (arith, more), (acts, uneven)))))
+
+pub effect-effect-requires : goal.effect-effect-requires
+effect-effect-requires g c =
+    let set = c.requires.heard.set in (
+      elim set.capacity [ inl e ↦ rw e (lit< tt) | inr e ↦ rw e (lit< tt) ],
+      record { set = set; round = c.requires.few; from = c.requires.from; to = set.awake c.args.to c.requires.to; link = λ e. c.requires.other (sym e) },
+    )
+
+pub is_read_alike-requires : goal.is_read_alike-requires
+is_read_alike-requires g c =
+    let x = c.args.phase.now in
+    let set = c.requires.heard.set in
+    (elim set.capacity [ inl e ↦ rw e (lit< tt) | inr e ↦ rw e (lit< tt) ], (node_low x set c.args.from c.requires.from, node_low x set c.args.to (set.awake c.args.to c.requires.to)))

@@ -5,7 +5,7 @@ use Rattle.protocol.specs.Talk.{Talk}
 use Rattle.heard_links.specs.declared.came.Came.TheVariants as came
 use Rattle.heard_links.specs.Hearing.{IsCame, link_at, talk_in}
 use Rattle.heard_links.proofs.Laying.{laid_here, laid_beside, laid_apart, heard_beside}
-use Rattle.heard_links.proofs.Sets.{node_low}
+use Rattle.heard_links.proofs.Sets.{few_m, node_low}
 use Rattle.heard_links.proofs.Tables.{same_talk}
 use Rattle.heard_links.proofs.links.Links.judge_frames.Goals as goal
 
@@ -62,3 +62,18 @@ loop-to-preserved g c =
             (inv.here i (omega arith) on ne)
       ];
     }
+
+pub link_at-requires-clause-round : goal.link_at-requires-clause-round
+link_at-requires-clause-round g c = let few = few_m c.args.phase.now c.requires.heard.set in omega (arith, few, c.requires.few)
+
+pub link_at-requires-clause-from : goal.link_at-requires-clause-from
+link_at-requires-clause-from g c = node_low c.args.phase.now c.requires.heard.set c.args.from c.requires.from
+
+pub link_at-requires-clause-to : goal.link_at-requires-clause-to
+link_at-requires-clause-to g c = node_low c.args.phase.now c.requires.heard.set c.loop-to.to c.loop-to-test.true
+
+pub touch-requires : goal.touch-requires
+touch-requires g c =
+    let set = c.requires.heard.set in
+    let few = few_m c.args.phase.now set in
+    (lit< tt, (omega (arith, few, c.requires.few), node_low c.args.phase.now set c.args.from c.requires.from))
