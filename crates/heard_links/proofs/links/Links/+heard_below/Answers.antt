@@ -39,7 +39,7 @@ heard_first-requires g t' c =
     let short = c.requires.asked.short in
     let other : a.i ≢ q = λ e. c.requires.asked.other (e ∙ last) in
     let one = heard_fewer g.V.Item.form g.V.Item.first_slot g.V.Item.tells x a.self.now (length path) 1 (omega (arith, len, some)) c.requires.heard in
-    (search rules, (elim cap [ inl e ↦ rw e (lit< tt) | inr e ↦ rw e (lit< tt) ], (one, (c.requires.asked.awake_is, (low, other)))))
+    (lit< tt, (elim cap [ inl e ↦ rw e (lit< tt) | inr e ↦ rw e (lit< tt) ], (one, (c.requires.asked.awake_is, (low, other)))))
 
 pub is_bad-requires : goal.is_bad-requires
 is_bad-requires g t' c =
@@ -59,7 +59,7 @@ is_bad-requires g t' c =
     let few = few_m x s in
     let short = c.requires.asked.short in
     let other : a.i ≢ q = λ e. c.requires.asked.other (e ∙ last) in
-    (search rules, (omega (arith, len, short, few), (low_q, low_i)))
+    (lit< tt, (omega (arith, len, short, few), (low_q, low_i)))
 
 pub returns-then-is_bad : goal.returns-then-is_bad
 returns-then-is_bad g t' c =
@@ -239,7 +239,7 @@ heard_relay-requires g t' c =
     let asked_q : IsAsked t x.config.now.m x.awake q p = record { awake_is = awake_q; within = on_q; short = omega (arith, is.long, brief); other = meant_other (has_id x.full q) (members_at x q) q front p is (omega (arith, long, more)) } in
     let heard_q = heard_fewer g.V.Item.form g.V.Item.first_slot g.V.Item.tells x a.self.now (length path) (length p) (omega (arith, long, is.long)) c.requires.heard in
     let own = c.wrap-own.ensures ∙ ap wrapped c.heard_below.ensures ∙ sym (ap (passed_on (heard (rounds_upto t x.config.now.m q))) (sym c.source.ensures ∙ c.in-Some.is)) in
-    (search rules, (elim cap [ inl e ↦ rw e (lit< tt) | inr e ↦ rw e (lit< tt) ], (heard1, (asked, (off, own)))))
+    (lit< tt, (elim cap [ inl e ↦ rw e (lit< tt) | inr e ↦ rw e (lit< tt) ], (heard1, (asked, (off, own)))))
 
 pub heard_relay-requires-in-None : goal.heard_relay-requires-in-None
 heard_relay-requires-in-None g t' c =
@@ -273,4 +273,4 @@ heard_relay-requires-in-None g t' c =
     let brief = front_short t x.config.now.m x.awake a.i q front asked off in
     let heard1 = heard_fewer g.V.Item.form g.V.Item.first_slot g.V.Item.tells x a.self.now (length path) (length front + 1) (omega (arith, long)) c.requires.heard in
     let own = sym (ap (passed_on (heard (rounds_upto t x.config.now.m q))) (sym c.source.ensures ∙ c.in-None.is)) in
-    (search rules, (elim cap [ inl e ↦ rw e (lit< tt) | inr e ↦ rw e (lit< tt) ], (heard1, (asked, (off, own)))))
+    (lit< tt, (elim cap [ inl e ↦ rw e (lit< tt) | inr e ↦ rw e (lit< tt) ], (heard1, (asked, (off, own)))))

@@ -44,3 +44,6 @@ returns-else-place-count_paths g c =
     let low = c.if-place-count_paths.false in
     source_none its (members_at x c.args.i) q front c.place-place.result c.place-place.ensures.place
     (omega (arith, many, low, long_of x.config.now.nodes (few_nodes x s) its (s.members q) q on (length front)))
+
+pub place-place-requires : goal.place-place-requires
+place-place-requires g c = (elim c.requires.set.capacity [ inl e ↦ rw e (lit< tt) | inr e ↦ rw e (lit< tt) ], c.requires)
