@@ -7,3 +7,6 @@ cold-outcome-requires g c = elim g.bound-1.eight_or_sixteen [ inl e ↦ rw e (li
 
 pub invariant_of-self : goal.invariant_of-self
 invariant_of-self g c = recorded c.self.inside _ c.self.invariant
+
+pub restart-requires : goal.restart-requires
+restart-requires g c = elim g.bound-1.eight_or_sixteen [ inl e ↦ rw e (lit< tt) | inr e ↦ rw e (lit< tt) ]

@@ -84,3 +84,18 @@ row-requires g c = (elim c.self.invariant.place.capacity [ inl e ↦ rw e (lit< 
 
 pub whole_as_slice-settle : goal.whole_as_slice-settle
 whole_as_slice-settle g c = elim g.bound-1.eight_or_sixteen [ inl e ↦ rw e (lit< tt) | inr e ↦ rw e (lit< tt) ]
+
+pub nothing-items-requires-room-V-Item : goal.nothing-items-requires-room-V-Item
+nothing-items-requires-room-V-Item g c = λ κs. elim g.bound-1.eight_or_sixteen [ inl e ↦ rw e (lit< tt) | inr e ↦ rw e (lit< tt) ]
+
+pub nothing-items-requires-room-V-Exact : goal.nothing-items-requires-room-V-Exact
+nothing-items-requires-room-V-Exact g c = λ κs. elim g.bound-1.eight_or_sixteen [ inl e ↦ rw e (lit< tt) | inr e ↦ rw e (lit< tt) ]
+
+pub nothing-items-requires-room-V-Eq : goal.nothing-items-requires-room-V-Eq
+nothing-items-requires-room-V-Eq g c = λ κs. elim g.bound-1.eight_or_sixteen [ inl e ↦ rw e (lit< tt) | inr e ↦ rw e (lit< tt) ]
+
+pub nothing-items-requires-room-V-PartialEq : goal.nothing-items-requires-room-V-PartialEq
+nothing-items-requires-room-V-PartialEq g c = λ κs. elim g.bound-1.eight_or_sixteen [ inl e ↦ rw e (lit< tt) | inr e ↦ rw e (lit< tt) ]
+
+pub settle-guilty-requires-room-V-Exact : goal.settle-guilty-requires-room-V-Exact
+settle-guilty-requires-room-V-Exact g c = λ κs. elim g.bound-1.eight_or_sixteen [ inl e ↦ rw e (lit< tt) | inr e ↦ rw e (lit< tt) ]

@@ -171,3 +171,9 @@ as_slice-requires g c = lit< tt
 
 pub row-requires : goal.row-requires
 row-requires g c = (elim c.self.invariant.place.capacity [ inl e ↦ rw e (lit< tt) | inr e ↦ rw e (lit< tt) ], elim c.self.invariant.place.capacity [ inl e ↦ rw e (lit< tt) | inr e ↦ rw e (lit< tt) ])
+
+pub start-requires-room-V-Item : goal.start-requires-room-V-Item
+start-requires-room-V-Item g c = λ κs. elim g.bound-1.eight_or_sixteen [ inl e ↦ rw e (lit< tt) | inr e ↦ rw e (lit< tt) ]
+
+pub start-requires-room-V-Exact : goal.start-requires-room-V-Exact
+start-requires-room-V-Exact g c = λ κs. elim g.bound-1.eight_or_sixteen [ inl e ↦ rw e (lit< tt) | inr e ↦ rw e (lit< tt) ]

@@ -42,3 +42,6 @@ before_first-requires g c =
 
 pub returns : goal.returns
 returns g c = c.before_first.ensures ∙ ap (newly_open c.args.config.now c.args.me) (ap (λ (w : Watch). w.frame_max) c.in_ok-watch.ensures)
+
+pub open-requires-2-room-V-Item : goal.open-requires-2-room-V-Item
+open-requires-2-room-V-Item g c = λ κs. elim g.bound-1.eight_or_sixteen [ inl e ↦ rw e (lit< tt) | inr e ↦ rw e (lit< tt) ]
