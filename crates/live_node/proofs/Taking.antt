@@ -1,5 +1,5 @@
 -- What becomes of a node and a sink by a line.
-use Rattle.std.proofs.Common.{ℕ, ◌≡◌, ◌+◌, Bool, true, false, if◌then◌else◌, List, [], ◌++◌, refl, sym, ap, subst, ◌∙◌, arith, append-nil, Option, None, Some, Result, Ok, Err}
+use Rattle.std.proofs.Common.{ℕ, ◌≡◌, ◌+◌, ◌*◌, ◌/◌, ◌≤◌, Bool, true, false, if◌then◌else◌, List, [], ◌++◌, refl, sym, ap, subst, ◌∙◌, arith, append-nil, Option, None, Some, Result, Ok, Err}
 use Rattle.std.specs.Prelude.{is_some}
 use Rattle.std.proofs.KnownBytes.{Keeps-refl}
 use Rattle.span_io.specs.Causes.{Writes}
@@ -120,3 +120,7 @@ pub front_and_rest : (T E : Type 0) (old mid new : Option (List ℕ)) (a b c : �
 front_and_rest T E old mid new a b c xs ys text r s u is whole h k =
     subst (λ t. Writes {T = T} {E = E} old new a c t s) whole
     ((then) {T = T} {E = E} old mid new a b c xs ys u s (subst (λ (x : Result T E). Writes old mid a b xs x) is h) k)
+
+-- so many bytes have room for half as many letters
+pub half_holds : (most longest room : ℕ) → room ≡ most / 2 → longest ≡ most → longest ≤ 2 * room + 1
+half_holds most longest room is long = omega (arith, is, long)

@@ -14,6 +14,9 @@ use Rattle.clock_skew.specs.Correction.{IsReading}
 use Rattle.frames.specs.Content.{IsValue}
 use Rattle.node_grid.specs.NodeSet.{ids_below, ids_where, has_id, with_id, IsIdSet}
 use Rattle.node_grid.specs.NodeSetLaws.{filter_filter, filter_range, has-filter}
+use Rattle.protocol.specs.Clocks.{corrects}
+use Rattle.protocol.specs.View.{Mode}
+use Rattle.node_steps.specs.Outcome.{Outcome}
 use Rattle.live_node.specs.Live.{good_told, told_numbers}
 use Rattle.live_node.proofs.Splitting.{not_true}
 
@@ -120,3 +123,10 @@ pub not_read : (sync : List ℕ) (ahead : List (Option ℤ)) (id : ℕ) → slic
 not_read sync ahead id e =
     let p : ℕ → Bool = λ j. is_some (slice_index_or ahead j None) in
     hasnt p id (filter p sync) (ap is_some e) (filter_passes p sync)
+
+-- a correction by what was told, where a record of the period has these members, these good frames and this mode
+pub corrects_kept : (m id : ℕ) (ahead : List (Option ℤ)) (o now : Outcome) (mode : Mode) (rs : List ℤ) (good : List ℕ) → rs ≡ told_numbers ahead → good ≡ good_told o.sync ahead → o ≡ now → o.mode ≡ mode
+    → corrects m id rs o.members good mode ≡ corrects m id (told_numbers ahead) now.members (good_told now.sync ahead) now.mode
+corrects_kept m id ahead o now mode rs good read heard same goes =
+    ap (corrects m id rs o.members good) (sym goes) ∙ ap₂ (λ (xs : List ℤ) (s : List ℕ). corrects m id xs o.members s o.mode) read heard
+    ∙ ap (λ (x : Outcome). corrects m id (told_numbers ahead) x.members (good_told x.sync ahead) x.mode) same

@@ -37,3 +37,9 @@ returns g c =
     let held : IsHeld v c.self.inside.slot (vec_capacity c.self.inside.frame) (vec_capacity c.self.inside.text) = c.self.invariant in
     begun_is v c.self.inside.slot (vec_capacity c.self.inside.frame) (vec_capacity c.self.inside.text) held c.args.period (c.from.result + 1) c.inputs-inputs.result c.begin.new.self c.nothing-self-inside.result.given c.nothing-self-inside.result.ahead c.begin.ensures
     (ap (λ n. n + 1) c.from.ensures) c.nothing-self-inside.ensures.given c.nothing-self-inside.ensures.ahead c.args.self.now same c.inputs-inputs.ensures.inputs
+
+pub overflow_add-self : goal.overflow_add-self
+overflow_add-self g c =
+    let fits = c.ranges.period.fits in
+    let same = c.from.ensures in
+    omega (arith, fits, same)
