@@ -19,3 +19,18 @@ returns-in-Ok-clause-unreadable g c = λ is d reads. IfErr-at_err (Tells (record
 pub returns-in-Ok-clause-refused : goal.returns-in-Ok-clause-refused
 returns-in-Ok-clause-refused g c = λ rule place is.
     (view c.in-Ok.value, c.in-Ok.ensures.value, IfErr-at_err (Tells (record_refusal g.row.N c.args.id (view c.in-Ok.value))) is c.from_value.ensures.refused)
+
+pub returns-in-Err-Unreadable-clause-accepted : goal.returns-in-Err-Unreadable-clause-accepted
+returns-in-Err-Unreadable-clause-accepted g c = tt
+
+pub returns-in-Err-Unreadable-clause-refused : goal.returns-in-Err-Unreadable-clause-refused
+returns-in-Err-Unreadable-clause-refused g c = λ rule place is. absurd cc
+
+pub returns-clause-accepted : goal.returns-clause-accepted
+returns-clause-accepted g c = tt
+
+pub returns-clause-unreadable : goal.returns-clause-unreadable
+returns-clause-unreadable g c = λ is d reads. absurd cc
+
+pub returns-clause-refused : goal.returns-clause-refused
+returns-clause-refused g c = λ rule place is. absurd cc
