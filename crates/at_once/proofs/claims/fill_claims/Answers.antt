@@ -1,5 +1,6 @@
-use Rattle.std.proofs.Common.{ℕ, ◌+◌, List, get_or, sym, ap, subst, ◌∙◌, arith, eq-eqb}
+use Rattle.std.proofs.Common.{ℕ, ◌+◌, List, get_or, sym, ap, subst, ◌∙◌, lit<, inl, inr, arith, eq-eqb}
 use Rattle.std.proofs.lemmas.Bool.{false≢true}
+use Rattle.node_grid.specs.Capacity.{IsCapacity}
 use Rattle.omh_paths.specs.declared.wrapped.Wrapped.{Wrapped}
 use Rattle.shared_states.specs.declared.belief.Belief.{Belief}
 use Rattle.grouped_nodes.specs.Grouping.{first_of}
@@ -42,3 +43,14 @@ returns-clause-others g c f b off = c.loop-first.invariant.others f b off
 
 pub returns-clause-many : goal.returns-clause-many
 returns-clause-many g c = c.loop-first.invariant.wide
+
+pub claims_settled-requires : goal.claims_settled-requires
+claims_settled-requires g c =
+    let cap : IsCapacity g.row.N = g.bound-1.eight_or_sixteen in
+    (elim cap [ inl e ↦ rw e (lit< tt) | inr e ↦ rw e (lit< tt) ], (elim cap [ inl e ↦ rw e (lit< tt) | inr e ↦ rw e (lit< tt) ], (elim cap [ inl e ↦ rw e (lit< tt) | inr e ↦ rw e (lit< tt) ], (c.requires.settled, (sym c.has.ensures ∙ c.if-has.true, c.loop-first-test.true)))))
+
+pub is_first-requires : goal.is_first-requires
+is_first-requires g c = (elim g.bound-1.eight_or_sixteen [ inl e ↦ rw e (lit< tt) | inr e ↦ rw e (lit< tt) ], c.loop-first-test.true)
+
+pub bounds-beliefs-first : goal.bounds-beliefs-first
+bounds-beliefs-first g c = let w = c.loop-first.invariant.wide in let t = c.loop-first-test.true in omega arith

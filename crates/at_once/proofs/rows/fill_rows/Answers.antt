@@ -48,3 +48,9 @@ returns-clause-others g c f b off = c.loop-first.invariant.others f b off
 
 pub returns-clause-many : goal.returns-clause-many
 returns-clause-many g c = c.loop-first.invariant.wide
+
+pub is_first-requires : goal.is_first-requires
+is_first-requires g c = (elim g.bound-1.eight_or_sixteen [ inl e ↦ rw e (lit< tt) | inr e ↦ rw e (lit< tt) ], c.loop-first-test.true)
+
+pub bounds-beliefs-first : goal.bounds-beliefs-first
+bounds-beliefs-first g c = let w = c.loop-first.invariant.wide in let t = c.loop-first-test.true in omega arith

@@ -103,3 +103,40 @@ loop-i-preserved g c =
             (subst (AreVotersBelow g.row.N (i + 1) votes) (sym w.voters-is) (voters_skip g.row.N votes c.loop-i.voters i taken));
       }
     ]
+
+pub nodes-nodes-requires : goal.nodes-nodes-requires
+nodes-nodes-requires g c = lit< tt
+
+pub own_told-own-requires : goal.own_told-own-requires
+own_told-own-requires g c = elim c.nodes-nodes.ensures.capacity [ inl e ↦ rw e (lit< tt, lit< tt) | inr e ↦ rw e (lit< tt, lit< tt) ]
+
+pub each_alone-voters-requires : goal.each_alone-voters-requires
+each_alone-voters-requires g c = elim c.nodes-nodes.ensures.capacity [ inl e ↦ rw e (lit< tt) | inr e ↦ rw e (lit< tt) ]
+
+pub of-first-requires : goal.of-first-requires
+of-first-requires g c =
+    (elim c.nodes-nodes.ensures.capacity [ inl e ↦ rw e (lit< tt) | inr e ↦ rw e (lit< tt) ], (let t = c.loop-i-test.true in let n = c.nodes-nodes.ensures.nodes in let f = c.nodes-nodes.ensures.slot.config.few_nodes in omega arith))
+
+pub bounds-leaders-first : goal.bounds-leaders-first
+bounds-leaders-first g c =
+    let e = c.of-first.ensures.early in let t = c.loop-i-test.true in let n = c.nodes-nodes.ensures.nodes in let f = c.nodes-nodes.ensures.slot.config.few_nodes in omega arith
+
+pub hears_alike-requires : goal.hears_alike-requires
+hears_alike-requires g c =
+    let used : c.loop-i.i < c.args.slot.now.config.nodes = (let t = c.loop-i-test.true in let n = c.nodes-nodes.ensures.nodes in omega arith) in
+    (lit< tt, ((let less = c.if-leader-i.true in omega (arith, less, used)), used))
+
+pub bounds-votes-leader : goal.bounds-votes-leader
+bounds-votes-leader g c =
+    let less = c.if-leader-i.true in let t = c.loop-i-test.true in let n = c.nodes-nodes.ensures.nodes in let f = c.nodes-nodes.ensures.slot.config.few_nodes in omega arith
+
+pub leader_after-requires : goal.leader_after-requires
+leader_after-requires g c = (lit< tt, (let t = c.loop-i-test.true in let n = c.nodes-nodes.ensures.nodes in omega arith))
+
+pub index-requires : goal.index-requires
+index-requires g c =
+    let low : c.of-first.result < g.row.N = (let e = c.of-first.ensures.early in let t = c.loop-i-test.true in let n = c.nodes-nodes.ensures.nodes in let f = c.nodes-nodes.ensures.slot.config.few_nodes in omega arith) in
+    let many = c.requires.many in omega arith
+
+pub get-requires : goal.get-requires
+get-requires g c = elim c.nodes-nodes.ensures.capacity [ inl e ↦ rw e (lit< tt, lit< tt) | inr e ↦ rw e (lit< tt, lit< tt) ]

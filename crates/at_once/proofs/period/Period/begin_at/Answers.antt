@@ -24,3 +24,6 @@ forget-requires-then-restarts g c = (elim g.bound-1.eight_or_sixteen [ inl e ↦
 
 pub next_period-requires : goal.next_period-requires
 next_period-requires g c = elim g.bound-1.eight_or_sixteen [ inl e ↦ rw e (lit< tt) | inr e ↦ rw e (lit< tt) ]
+
+pub index_mut-requires : goal.index_mut-requires
+index_mut-requires g c = let low = c.requires.there in let many = c.requires.many in omega arith
