@@ -13,7 +13,7 @@ use Rattle.view_law.specs.Made.{by_verdicts}
 use Rattle.view_law.specs.Laws.{IsWithin}
 use Rattle.grouped_nodes.specs.Grouping.{first_of}
 use Rattle.grouped_nodes.specs.Shared.{notes_at}
-use Rattle.grouped_nodes.proofs.Completion.{AreDone, AreJudged, done_put, done_skip, judged_put, judged_skip, judged_kinds, all_due, all_noted, none_noted}
+use Rattle.grouped_nodes.proofs.Completion.{AreDone, AreJudged, done_none, done_put, done_skip, judged_none, judged_put, judged_skip, judged_kinds, all_due, all_noted, none_noted}
 use Rattle.grouped_nodes.proofs.completing.complete.Goals.{then-is_first+in-Some, then-is_first+in_default, else-is_first}
 use Rattle.grouped_nodes.proofs.completing.complete.Goals as goal
 
@@ -121,3 +121,30 @@ returns-clause-cold g c i low is =
 
 pub returns-clause-nothing : goal.returns-clause-nothing
 returns-clause-nothing g c j d is = c.loop-first.invariant.0.none j d is
+
+pub of-requires : goal.of-requires
+of-requires g c = elim g.bound-1.eight_or_sixteen [ inl e ↦ rw e (lit< tt, lit< tt) | inr e ↦ rw e (lit< tt, lit< tt) ]
+
+pub is_first-requires : goal.is_first-requires
+is_first-requires g c = (elim g.bound-1.eight_or_sixteen [ inl e ↦ rw e (lit< tt) | inr e ↦ rw e (lit< tt) ], c.loop-first-test.true)
+
+pub members_of-requires : goal.members_of-requires
+members_of-requires g c = (elim g.bound-1.eight_or_sixteen [ inl e ↦ rw e (lit< tt) | inr e ↦ rw e (lit< tt) ], lit< tt)
+
+pub bounds-beliefs-first : goal.bounds-beliefs-first
+bounds-beliefs-first g c = let w = c.loop-first.invariant.0.wide in let t = c.loop-first-test.true in omega arith
+
+pub loop-first-init : goal.loop-first-init
+loop-first-init g c = (
+  done_none c.args.config.now c.args.states.now c.args.groups.now c.of.ensures.all c.args.beliefs.now c.requires.grouped.many c.args.notes.now,
+  judged_none c.args.config.now c.args.states.now c.args.groups.now c.of.ensures.all c.args.beliefs.now c.requires.grouped.many c.args.notes.now c.requires.notes.many,
+)
+
+pub returns-clause-kept : goal.returns-clause-kept
+returns-clause-kept g c j d low = c.loop-first.invariant.0.kept j d low
+
+pub returns-clause-many_beliefs : goal.returns-clause-many_beliefs
+returns-clause-many_beliefs g c = c.loop-first.invariant.0.wide
+
+pub returns-clause-many_notes : goal.returns-clause-many_notes
+returns-clause-many_notes g c = c.loop-first.invariant.1.many

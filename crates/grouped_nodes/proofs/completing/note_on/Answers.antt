@@ -23,3 +23,6 @@ loop-i-preserved g c =
           (w.note_verdicts.ensures ∙ ap (λ (n : Notes). also_noted g.row.N n more) (same_at xs i w.index-notes-i.result no_notes room)))
       | else-has w ↦ subst (AreMore g.row.N nodes more old (i + 1)) (sym w.notes-is) (more_skip g.row.N nodes more old i xs (sym c.has.ensures ∙ w.if-has.false) c.loop-i.invariant)
     ]
+
+pub bounds-notes-i : goal.bounds-notes-i
+bounds-notes-i g c = let w = c.loop-i.invariant.wide in let t = c.loop-i-test.true in omega arith

@@ -76,3 +76,15 @@ returns-clause-cold g c i low is =
 
 pub returns-clause-agreed : goal.returns-clause-agreed
 returns-clause-agreed g c = subst (AreAgreed c.args.config.now) (sym c.join.ensures) c.loop-first.invariant.agreed
+
+pub of-requires : goal.of-requires
+of-requires g c = elim g.bound-1.eight_or_sixteen [ inl e ↦ rw e (lit< tt, lit< tt) | inr e ↦ rw e (lit< tt, lit< tt) ]
+
+pub is_first-requires : goal.is_first-requires
+is_first-requires g c = (elim g.bound-1.eight_or_sixteen [ inl e ↦ rw e (lit< tt) | inr e ↦ rw e (lit< tt) ], c.loop-first-test.true)
+
+pub members_of-requires : goal.members_of-requires
+members_of-requires g c = (elim g.bound-1.eight_or_sixteen [ inl e ↦ rw e (lit< tt) | inr e ↦ rw e (lit< tt) ], lit< tt)
+
+pub bounds-beliefs-first : goal.bounds-beliefs-first
+bounds-beliefs-first g c = let w = c.requires.grouped.many in let t = c.loop-first-test.true in omega arith
