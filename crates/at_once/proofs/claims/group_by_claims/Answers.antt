@@ -32,3 +32,6 @@ pub returns-clause-alike : goal.returns-clause-alike
 returns-clause-alike g c i low on =
     of_first g.row.N c.args.phase.now.awake c.by-groups.result _ (SettleAlike nat_eq claim_form c.args.phase.now c.args.claims.now) c.of.ensures.all c.by-groups.ensures (λ j. (refl, λ k among. refl))
     (λ r j low_r low_j t. t.1 refl) i low
+
+pub of-requires : goal.of-requires
+of-requires g c = elim c.requires.settled.heard.set.capacity [ inl e ↦ rw e (lit< tt, lit< tt) | inr e ↦ rw e (lit< tt, lit< tt) ]

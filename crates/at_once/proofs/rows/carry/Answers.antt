@@ -58,3 +58,6 @@ returns-clause-notes g c i low = c.loop-i.invariant.so_far i (let t = c.loop-i-t
 
 pub returns-clause-many : goal.returns-clause-many
 returns-clause-many g c = c.loop-i.invariant.wide
+
+pub bounds-notes-i : goal.bounds-notes-i
+bounds-notes-i g c = let w = c.loop-i.invariant.wide in let t = c.loop-i-test.true in omega arith

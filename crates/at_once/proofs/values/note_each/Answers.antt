@@ -75,3 +75,13 @@ returns-clause-shaped g c = record {
   me = λ i low. ap (λ (n : Notes). n.me) (c.loop-i.invariant.kept i) ∙ c.requires.shaped.me i low;
   kinds = λ i low. ap (λ (n : Notes). n.kinds) (c.loop-i.invariant.kept i) ∙ c.requires.shaped.kinds i low;
 }
+
+pub nodes-nodes-requires : goal.nodes-nodes-requires
+nodes-nodes-requires g c = lit< tt
+
+pub bounds-off-i : goal.bounds-off-i
+bounds-off-i g c = let t = c.loop-i-test.true in let n = c.nodes-nodes.ensures.nodes in let f = c.nodes-nodes.ensures.slot.config.few_nodes in omega arith
+
+pub bounds-notes-i : goal.bounds-notes-i
+bounds-notes-i g c =
+    let w = c.loop-i.invariant.wide in let t = c.loop-i-test.true in let n = c.nodes-nodes.ensures.nodes in let f = c.nodes-nodes.ensures.slot.config.few_nodes in omega arith
