@@ -57,6 +57,11 @@ module _ {S : Type 0} {room : ℕ} {written : S → Option (List ℕ)} {faults :
   pub then_both : {a b c : Printer room} {r s t : S} {xs : List ℕ} (ys zs : List ℕ) → Prints written faults a r b s xs → Prints written faults b s c t (ys ++ zs) → Prints written faults a r c t (xs ++ ys ++ zs)
   then_both {a} {b} {c} {r} {s} {t} {xs} ys zs first second = subst (λ text. Prints written faults a r c t text) (sym (append_assoc xs ys zs)) (then first second)
 
+  -- one text after the other, where the second is printed as three
+  pub then_three : {a b c : Printer room} {r s t : S} {xs : List ℕ} (p q u : List ℕ) → Prints written faults a r b s xs → Prints written faults b s c t (p ++ q ++ u) → Prints written faults a r c t (xs ++ p ++ q ++ u)
+  then_three {a} {b} {c} {r} {s} {t} {xs} p q u first second =
+      subst (λ text. Prints written faults a r c t text) (sym (ap (λ y. y ++ u) (append_assoc xs p q) ∙ append_assoc xs (p ++ q) u)) (then first second)
+
   -- one text after the other, where the second is printed as five
   pub then_five : {a b c : Printer room} {r s t : S} {xs : List ℕ} (p q u v w : List ℕ) → Prints written faults a r b s xs → Prints written faults b s c t (p ++ q ++ u ++ v ++ w) → Prints written faults a r c t (xs ++ p ++ q ++ u ++ v ++ w)
   then_five {a} {b} {c} {r} {s} {t} {xs} p q u v w first second = subst (λ text. Prints written faults a r c t text) (sym (five xs p q u v w)) (then first second)

@@ -1,7 +1,7 @@
 //! The printed lines of one node in a period.
-ghost use Rattle.std.specs.Prelude.{◌≡◌, ◌≤◌, ◌++◌, false, codes, decimal};
+ghost use Rattle.std.specs.Prelude.{◌≡◌, ◌≤◌, ◌++◌, false, codes, decimal, map};
 ghost use Rattle.run_print.specs.Printing.{Prints, WritesText};
-ghost use Rattle.run_text.specs.Text.{mode_text};
+ghost use Rattle.run_text.specs.Text.{mode_text, separated, done_item, rows_item, votes_text};
 ghost use Rattle.run_text.specs.NodeText.{left_text, standing_text, state_text, settled_text};
 ghost use Rattle.run_text.specs.NodeText.{beliefs_text};
 ghost use Rattle.run_text.specs.PeriodText.{alone_text};
@@ -12,7 +12,8 @@ use crate::printer::{Printer, SMALL};
 use agreed_state::{Agreed, Config};
 use membership::Left;
 use node_core::NodeRecord;
-use node_grid::{Capacity, Nodes};
+use node_grid::{Capacity, Matrix, NodeSet, Nodes};
+use omh_paths::Wrapped;
 use span_io::Sink;
 
 impl<const ROOM: usize> Printer<ROOM> {
@@ -41,7 +42,9 @@ impl<const ROOM: usize> Printer<ROOM> {
         nodes: u8,
         agreed: &Agreed<N>,
     )
-        requires { nodes ≤ N }
+    where
+        Nodes: Capacity<N>,
+        requires nodes { nodes ≤ N }
         ensures { Prints K.written K.faults self.old sink.old self.new sink.new
             (standing_text nodes agreed.now) }
     {
@@ -49,9 +52,9 @@ impl<const ROOM: usize> Printer<ROOM> {
         self.text(sink, b" members ");
         self.set(sink, &agreed.members);
         self.text(sink, b" counts ");
-        self.numbers(sink, &counts.counts[..nodes as usize]);
+        self.mostly_zeros(sink, nodes, &counts.counts);
         self.text(sink, b" streaks ");
-        self.numbers(sink, &counts.streaks[..nodes as usize]);
+        self.mostly_zeros(sink, nodes, &counts.streaks);
     }
 
     /// Prints them, which may be those of the node with the common lines.
@@ -61,6 +64,8 @@ impl<const ROOM: usize> Printer<ROOM> {
         agreed: &Agreed<N>,
         common: &Common<'_, N>,
     )
+    where
+        Nodes: Capacity<N>,
         ensures { Prints K.written K.faults self.old sink.old self.new sink.new
             (standing_text common.now.nodes agreed.now) }
     {
@@ -90,6 +95,39 @@ impl<const ROOM: usize> Printer<ROOM> {
         self.left(sink, common.nodes, retire, &agreed.left);
     }
 
+    /// Prints the lines of the members with their settled claims, and with their settled rows.
+    pub(crate) fn claims_and_rows<K: Sink, const N: usize>(
+        &mut self,
+        sink: &mut K,
+        nodes: u8,
+        members: &NodeSet<N>,
+        done: &[Wrapped<u8>; N],
+        rows: &Matrix<N>,
+    )
+    where
+        Nodes: Capacity<N>,
+        requires nodes { nodes ≤ N }
+        ensures { Prints K.written K.faults self.old sink.old self.new sink.new
+            (codes "\n  done " ++ separated (codes " ") (map (done_item done.now) members.now)
+            ++ codes "\n  rows " ++ separated (codes " ")
+            (map (rows_item nodes rows.now) members.now)) }
+    {
+        self.text(sink, b"\n  done ");
+        self.done(sink, done, members);
+        self.text(sink, b"\n  rows ");
+        self.rows(sink, nodes, rows, members);
+    }
+
+    /// Prints the line of the votes on the due channels.
+    pub(crate) fn votes_line<K: Sink>(&mut self, sink: &mut K, votes: &[Option<i64>; 8], due: &[u8])
+        ensures { Prints K.written K.faults self.old sink.old self.new sink.new
+            (codes "\n  votes " ++ votes_text votes.now due.now ++ codes "\n") }
+    {
+        self.text(sink, b"\n  votes ");
+        self.votes(sink, votes, due);
+        self.byte(sink, b'\n');
+    }
+
     /// Prints what a node settled and voted.
     pub(crate) fn settled<K: Sink, const N: usize>(
         &mut self,
@@ -103,13 +141,8 @@ impl<const ROOM: usize> Printer<ROOM> {
         ensures { Prints K.written K.faults self.old sink.old self.new sink.new
             (settled_text nodes shown.now) }
     {
-        self.text(sink, b"\n  done ");
-        self.done(sink, &shown.done, &shown.members);
-        self.text(sink, b"\n  rows ");
-        self.rows(sink, nodes, &shown.rows, &shown.members);
-        self.text(sink, b"\n  votes ");
-        self.votes(sink, &shown.votes, shown.due.as_slice());
-        self.byte(sink, b'\n');
+        self.claims_and_rows(sink, nodes, &shown.members, &shown.done, &shown.rows);
+        self.votes_line(sink, &shown.votes, shown.due.as_slice());
     }
 
     /// Prints it, which may be what the node with the common lines settled and voted.

@@ -1,7 +1,8 @@
 //! The printed lines of a period, of the end of a run, and of a refusal.
-ghost use Rattle.std.specs.Prelude.{◌≡◌, ◌≤◌, ◌<◌, ◌++◌, true, false, codes, slice_get};
+ghost use Rattle.std.specs.Prelude.{◌≡◌, ◌≤◌, ◌<◌, ◌++◌, true, false, codes, decimal};
+ghost use Rattle.std.specs.Prelude.{slice_get};
 ghost use Rattle.run_print.specs.Printing.{Prints, WritesText};
-ghost use Rattle.run_text.specs.Text.{yes_no};
+ghost use Rattle.run_text.specs.Text.{set_text, yes_no};
 ghost use Rattle.run_text.specs.TraceText.{IsPlanOf, period_text};
 ghost use Rattle.run_text.specs.PeriodText.{budget_text, head_text, recorded_text, nodes_text};
 ghost use Rattle.run_text.specs.PeriodText.{end_text, refused_text};
@@ -13,7 +14,7 @@ use crate::pieces::letter_of;
 use crate::printer::{LARGE, Printer, SMALL};
 use cluster_record::PeriodRecord;
 use fault_classes::{Budget, FaultPlan};
-use node_grid::{Capacity, Nodes};
+use node_grid::{Capacity, NodeSet, Nodes};
 use span_io::Sink;
 
 impl<const ROOM: usize> Printer<ROOM> {
@@ -42,15 +43,31 @@ impl<const ROOM: usize> Printer<ROOM> {
         }
     }
 
+    /// Prints the front of the period line: its number, the members, and how many there are of each
+    /// class.
+    pub(crate) fn head_front<K: Sink, const N: usize>(
+        &mut self,
+        sink: &mut K,
+        period: u32,
+        members: &NodeSet<N>,
+        budget: &Budget,
+    )
+        ensures { Prints K.written K.faults self.old sink.old self.new sink.new
+            (codes "period " ++ decimal period ++ codes " members " ++ set_text members.now
+            ++ budget_text budget.now) }
+    {
+        self.labelled(sink, b"period ", period as u64);
+        self.text(sink, b" members ");
+        self.set(sink, members);
+        self.budget(sink, budget);
+    }
+
     /// Prints the period line.
     fn head<K: Sink, const N: usize>(&mut self, sink: &mut K, shown: &PeriodRecord<N>)
         ensures { Prints K.written K.faults self.old sink.old self.new sink.new
             (head_text shown.now) }
     {
-        self.labelled(sink, b"period ", shown.period as u64);
-        self.text(sink, b" members ");
-        self.set(sink, &shown.members);
-        self.budget(sink, &shown.budget);
+        self.head_front(sink, shown.period, &shown.members, &shown.budget);
         self.verdicts(sink, shown.within, shown.claim);
     }
 
@@ -73,6 +90,24 @@ impl<const ROOM: usize> Printer<ROOM> {
         self.beliefs(sink, shown.retire, shown.node(i), common);
     }
 
+    /// Prints the lines of all nodes, of which there are as many as those with these common lines.
+    fn nodes_with<K: Sink, const N: usize>(
+        &mut self,
+        sink: &mut K,
+        shown: &PeriodRecord<N>,
+        common: &Common<'_, N>,
+    )
+    where
+        Nodes: Capacity<N>,
+        requires same { common.now.nodes ≡ shown.now.nodes }
+        ensures { Prints K.written K.faults self.old sink.old self.new sink.new
+            (nodes_text shown.now) }
+    {
+        for i in 0..common.nodes {
+            self.recorded(sink, shown, i, common);
+        }
+    }
+
     /// Prints the lines of all nodes.
     fn nodes<K: Sink, const N: usize>(&mut self, sink: &mut K, shown: &PeriodRecord<N>)
     where
@@ -83,15 +118,9 @@ impl<const ROOM: usize> Printer<ROOM> {
     {
         // naming a field tells the checker the types of all of them
         let _ = &shown.classes;
-        if shown.nodes == 0 {
-            return;
-        }
-        let common = Common::of(
-            shown.nodes,
-            shown.node(example_of(shown.reference, shown.nodes)),
-        );
-        for i in 0..shown.nodes {
-            self.recorded(sink, shown, i, &common);
+        if shown.nodes > 0 {
+            let example = shown.node(example_of(shown.reference, shown.nodes));
+            self.nodes_with(sink, shown, &Common::of(shown.nodes, example));
         }
     }
 

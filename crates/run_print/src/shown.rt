@@ -100,10 +100,7 @@ impl<const ROOM: usize> Printer<ROOM> {
             (head_text (record_of shown.now)) }
     {
         let head = &shown.head;
-        self.labelled(sink, b"period ", head.period as u64);
-        self.text(sink, b" members ");
-        self.set(sink, &head.members);
-        self.budget(sink, &head.budget);
+        self.head_front(sink, head.period, &head.members, &head.budget);
         self.verdicts(sink, head.within, head.claim);
     }
 
@@ -123,12 +120,7 @@ impl<const ROOM: usize> Printer<ROOM> {
             (state_text head.now.nodes head.now.retire agreed.now) }
     {
         let nodes = head.nodes;
-        self.text(sink, b" members ");
-        self.set(sink, &agreed.members);
-        self.text(sink, b" counts ");
-        self.mostly_zeros(sink, nodes, &agreed.counts.counts);
-        self.text(sink, b" streaks ");
-        self.mostly_zeros(sink, nodes, &agreed.counts.streaks);
+        self.standing(sink, nodes, agreed);
         self.text(sink, b" run ");
         self.runs_among(sink, nodes, head.tasks, &agreed.copies);
         self.left(sink, nodes, head.retire, &agreed.left);
@@ -145,13 +137,8 @@ impl<const ROOM: usize> Printer<ROOM> {
     {
         let belief = shown.belief(i);
         let members = shown.members(i);
-        self.text(sink, b"\n  done ");
-        self.done(sink, &belief.done, members);
-        self.text(sink, b"\n  rows ");
-        self.rows(sink, shown.head.nodes, &belief.rows, members);
-        self.text(sink, b"\n  votes ");
-        self.votes(sink, &belief.votes, belief.due.as_slice());
-        self.byte(sink, b'\n');
+        self.claims_and_rows(sink, shown.head.nodes, members, &belief.done, &belief.rows);
+        self.votes_line(sink, &belief.votes, belief.due.as_slice());
     }
 
     /// Prints what node `i` believes.

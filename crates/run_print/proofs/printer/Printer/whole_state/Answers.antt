@@ -1,8 +1,12 @@
-use Rattle.std.proofs.Common.{sym}
+use Rattle.std.proofs.Common.{sym, subst}
+use Rattle.run_text.specs.NodeText.{standing_text}
+use Rattle.run_print.specs.Printing.{Prints}
 use Rattle.run_print.proofs.Joining.{then}
 use Rattle.run_print.proofs.printer.Printer.whole_state.Goals as goal
 
 pub returns : goal.returns
 returns g c =
     rw (sym c.agreed.view_is)
-    (then (then (then (then (then (then (then (then c.text.ensures c.set.ensures) c.text-2.ensures) c.mostly_zeros.ensures) c.text-3.ensures) c.mostly_zeros-2.ensures) c.text-4.ensures) c.runs_among.ensures) c.left.ensures)
+    (then (then (then
+    (subst (λ a. Prints g.K.Sink.written g.K.Sink.faults c.args.self.now c.args.sink.now c.standing.new.self c.standing.new.sink (standing_text c.args.head.now.nodes a)) (sym c.agreed.view_is) c.standing.ensures)
+    c.text.ensures) c.runs_among.ensures) c.left.ensures)

@@ -3,7 +3,7 @@ use Rattle.std.specs.List.{flat_map}
 use Rattle.node_grid.specs.NodeSet.{ids_below}
 use Rattle.run_text.specs.PeriodText.{recorded_text}
 use Rattle.run_print.specs.Printing.{Prints}
-use Rattle.run_print.proofs.printer.Printer.nodes.Given as goal
+use Rattle.run_print.proofs.printer.Printer.nodes_with.Given as goal
 
 abbrev pub invariant-loop-i : goal.invariant-loop-i
 invariant-loop-i g l =
