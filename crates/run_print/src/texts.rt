@@ -189,19 +189,32 @@ impl<const ROOM: usize> Printer<ROOM> {
         }
     }
 
+    /// Prints the front of an item that isn't the first: its number, between a space and `=`.
+    fn next_front<K: Sink>(&mut self, sink: &mut K, n: u8)
+        ensures { Prints K.written K.faults self.old sink.old self.new sink.new
+            (codes " " ++ (decimal n ++ codes "=")) }
+    {
+        if n < 10 {
+            self.text(sink, &[b' ', b'0' + n, b'=']);
+        } else if n < 100 {
+            let [tens, ones] = two_digits(n);
+            self.text(sink, &[b' ', tens, ones, b'=']);
+        } else {
+            self.number_behind(sink, b' ', n as u64);
+            self.byte(sink, b'=');
+        }
+    }
+
     /// Prints the front of the item at place `k`, which tells something of a number: the number,
     /// behind a space where it isn't the first.
     pub(crate) fn item_front<K: Sink>(&mut self, sink: &mut K, k: usize, n: u8)
         ensures { Prints K.written K.faults self.old sink.old self.new sink.new
             (separator_at (codes " ") k ++ (decimal n ++ codes "=")) }
     {
-        if k > 0 && n < 10 {
-            self.text(sink, &[b' ', b'0' + n, b'=']);
-        } else if k > 0 && n < 100 {
-            let [tens, ones] = two_digits(n);
-            self.text(sink, &[b' ', tens, ones, b'=']);
+        if k > 0 {
+            self.next_front(sink, n);
         } else {
-            self.number_at(sink, k, b' ', n as u64);
+            self.number(sink, n as u64);
             self.byte(sink, b'=');
         }
     }

@@ -1,10 +1,15 @@
-use Rattle.std.specs.Prelude.{codes}
-use Rattle.std.proofs.lemmas.Fmt.{decimal_digit}
-use Rattle.run_print.proofs.Joining.{later, then_inside}
+use Rattle.std.proofs.Common.{ℕ, List, ◌++◌, sym, subst}
+use Rattle.std.specs.Prelude.{codes, decimal}
+use Rattle.run_print.specs.Printing.{Prints}
+use Rattle.run_print.proofs.Joining.{then, later, first}
 use Rattle.run_print.proofs.printer.Printer.item_front.Goals as goal
 
-pub returns-then-n-lt10 : goal.returns-then-n-lt10
-returns-then-n-lt10 g c = rw (later (codes " ") c.args.k c.if-k-gt0.true, decimal_digit c.args.n c.if-n-lt10.true) c.text.ensures
+pub returns-then-k-gt0 : goal.returns-then-k-gt0
+returns-then-k-gt0 g c =
+    subst (λ (xs : List ℕ). Prints g.K.Sink.written g.K.Sink.faults c.args.self.now c.args.sink.now c.next_front.new.self c.next_front.new.sink (xs ++ (decimal c.args.n ++ codes "=")))
+    (sym (later (codes " ") c.args.k c.if-k-gt0.true)) c.next_front.ensures
 
-pub returns-else-k-gt0-2 : goal.returns-else-k-gt0-2
-returns-else-k-gt0-2 g c = then_inside _ _ _ c.number_at.ensures c.byte.ensures
+pub returns-else-k-gt0 : goal.returns-else-k-gt0
+returns-else-k-gt0 g c =
+    subst (λ (xs : List ℕ). Prints g.K.Sink.written g.K.Sink.faults c.args.self.now c.args.sink.now c.byte.new.self c.byte.new.sink (xs ++ (decimal c.args.n ++ codes "=")))
+    (sym (first (codes " ") c.args.k c.if-k-gt0.false)) (then c.number.ensures c.byte.ensures)

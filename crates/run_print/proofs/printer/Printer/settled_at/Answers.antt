@@ -16,3 +16,7 @@ belief-belief-requires g c = (elim g.bound-2.eight_or_sixteen [ inl e ↦ rw e (
 
 pub members-members-requires : goal.members-members-requires
 members-members-requires g c = (elim g.bound-2.eight_or_sixteen [ inl e ↦ rw e (lit< tt) | inr e ↦ rw e (lit< tt) ], (lit< tt, c.requires.node))
+
+pub claims_and_rows-requires : goal.claims_and_rows-requires
+claims_and_rows-requires g c =
+    (assumption, (lit< tt, (elim g.bound-2.eight_or_sixteen [ inl e ↦ rw e (lit< tt) | inr e ↦ rw e (lit< tt) ], (elim g.bound-2.eight_or_sixteen [ inl e ↦ rw e (lit< tt) | inr e ↦ rw e (lit< tt) ], c.requires.printable.nodes))))
