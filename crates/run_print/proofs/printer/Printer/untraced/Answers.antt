@@ -3,3 +3,12 @@ use Rattle.run_print.proofs.printer.Printer.untraced.Goals as goal
 
 pub returns : goal.returns
 returns g c = then (then c.head.ensures c.nodes.ensures) c.clock.ensures
+
+pub head-requires : goal.head-requires
+head-requires g c = (assumption, assumption)
+
+pub nodes-requires : goal.nodes-requires
+nodes-requires g c = (assumption, (assumption, c.requires.nodes))
+
+pub clock-requires : goal.clock-requires
+clock-requires g c = (assumption, (assumption, c.requires.nodes))
