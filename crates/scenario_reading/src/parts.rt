@@ -217,11 +217,11 @@ impl<'a> Form<'a> for TaskForm {
             return Err(PartError::NoPart);
         }
         Ok(TaskPart {
-            after: required(alloc, &Numbers, value, "after")?,
-            nodes: required(alloc, &Numbers, value, "nodes")?,
             need: required(alloc, &Number, value, "need")?,
             min: required(alloc, &Number, value, "min")?,
             max: required(alloc, &Number, value, "max")?,
+            after: required(alloc, &Numbers, value, "after")?,
+            nodes: required(alloc, &Numbers, value, "nodes")?,
             run: required(alloc, &Numbers, value, "run")?,
         })
     }
