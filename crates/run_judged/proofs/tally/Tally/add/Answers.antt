@@ -56,3 +56,11 @@ spread-spread-requires g c =
     let same : c.len-channels.result ≡ length c.args.scenario.now.config.channels.items = c.len-channels.ensures.value ∙ ap (λ (k : Config g.row.N). length k.channels.items) c.config.ensures.config in
     let channels : c.len-channels.result ≤ 8 = omega arith in
     (lit< tt, channels)
+
+pub overflow_cast-channels : goal.overflow_cast-channels
+overflow_cast-channels g c =
+    let same : c.len-channels.result ≡ length c.args.scenario.now.config.channels.items = c.len-channels.ensures.value ∙ ap (λ (k : Config g.row.N). length k.channels.items) c.config.ensures.config in
+    omega (arith, same, c.requires.fits.scenario.system.config.few_channels)
+
+pub add_budget-requires : goal.add_budget-requires
+add_budget-requires g c = lit< tt
