@@ -50,57 +50,73 @@ fn per_turn(start: &Instant, rt: &HostRuntime) -> io::Result<u128> {
     Ok(start.elapsed(rt)?.as_nanos() / TURNS as u128)
 }
 
-fn copying(rt: &HostRuntime) -> io::Result<(u128, u64)> {
+/// Copies the frame in each turn, and sums bytes of the copies.
+fn copy_turns() -> u64 {
     let mut bytes = frame();
     let mut copy = [0; LENGTH];
     let mut seen = 0u64;
-    let start = Instant::now(rt)?;
     for turn in 0..TURNS {
         touch(&mut bytes, turn);
         copy.copy_from_slice(&bytes);
         seen = seen.wrapping_add(copy[(turn % 728) as usize] as u64);
     }
-    Ok((per_turn(&start, rt)?, seen))
+    seen
 }
 
-fn reading(rt: &HostRuntime) -> io::Result<(u128, u64)> {
+/// Reads the frame in each turn, and counts the frames.
+fn read_turns() -> u64 {
     let mut bytes = frame();
     let expect = expect();
     let mut seen = 0u64;
-    let start = Instant::now(rt)?;
     for turn in 0..TURNS {
         touch(&mut bytes, turn);
         if decode(&expect, &bytes).is_some() {
             seen = seen.wrapping_add(1);
         }
     }
-    Ok((per_turn(&start, rt)?, seen))
+    seen
 }
 
-fn writing(rt: &HostRuntime) -> io::Result<(u128, u64)> {
+/// Writes the frame in each turn, and sums what is written. It is read once before.
+fn write_turns() -> u64 {
     let bytes = frame();
-    let expect = expect();
+    let Some(shown) = decode(&expect(), &bytes) else {
+        return 0;
+    };
     let mut out = [0; LENGTH];
     let mut seen = 0u64;
-    let Some(shown) = decode(&expect, &bytes) else {
-        return Ok((0, 0));
-    };
-    let start = Instant::now(rt)?;
     for turn in 0..TURNS {
         touch(&mut out, turn);
         let size = encode(&shown, 8, &mut out);
         seen = seen.wrapping_add(size as u64 + out[16] as u64);
     }
-    Ok((per_turn(&start, rt)?, seen))
+    seen
+}
+
+fn measure_copying(rt: &HostRuntime) -> io::Result<()> {
+    let start = Instant::now(rt)?;
+    let copied = copy_turns();
+    let copy = per_turn(&start, rt)?;
+    println!(rt; "copy {copy} ns ({copied})")
+}
+
+fn measure_reading(rt: &HostRuntime) -> io::Result<()> {
+    let start = Instant::now(rt)?;
+    let frames = read_turns();
+    let read = per_turn(&start, rt)?;
+    println!(rt; "decode {read} ns ({frames} frames)")
+}
+
+fn measure_writing(rt: &HostRuntime) -> io::Result<()> {
+    let start = Instant::now(rt)?;
+    let bytes = write_turns();
+    let written = per_turn(&start, rt)?;
+    println!(rt; "encode {written} ns ({bytes} bytes)")
 }
 
 /// Prints what a copy, a reading and a writing of the frame take.
 pub fn measure(rt: &HostRuntime) -> io::Result<()> {
-    let (copy, copied) = copying(rt)?;
-    let (read, frames) = reading(rt)?;
-    let (written, bytes) = writing(rt)?;
-    println!(rt; "copy {copy} ns ({copied})")?;
-    println!(rt; "decode {read} ns ({frames} frames)")?;
-    println!(rt; "encode {written} ns ({bytes} bytes)")?;
-    Ok(())
+    measure_copying(rt)?;
+    measure_reading(rt)?;
+    measure_writing(rt)
 }

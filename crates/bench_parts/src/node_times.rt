@@ -39,20 +39,36 @@ fn least_of(
     Ok(least)
 }
 
+/// Steps these nodes through all periods, and prints the least time of a period, shared by them.
+fn show_least(
+    rt: &HostRuntime,
+    scenario: &Scenario<16>,
+    cluster: &mut Cluster<'_, 16>,
+) -> io::Result<()>
+    requires fresh { cluster.old ≡ record { scenario = scenario.now; run = 0 } }
+{
+    let least = least_of(rt, scenario, cluster)?;
+    let nodes = scenario.config().nodes;
+    if nodes == 0 {
+        return Ok(());
+    }
+    let each = least / nodes as u128;
+    println!(rt; "{each} us a node and period")
+}
+
+/// Steps all nodes of a scenario through all of its periods.
+fn measure_nodes(rt: &HostRuntime, scenario: &Scenario<16>) -> io::Result<()> {
+    match Cluster::open(rt.alloc(), scenario) {
+        Ok(mut cluster) => show_least(rt, scenario, &mut cluster),
+        Err(_) => println!(rt; "no memory"),
+    }
+}
+
 /// Reads a scenario from standard input, steps all of its nodes through all of its periods, and
 /// prints the least time of a period, shared by the nodes.
 pub fn measure(rt: &HostRuntime) -> io::Result<()> {
-    let Some(scenario) = scenario_in(rt) else {
-        return println!(rt; "no scenario");
-    };
-    let Ok(mut cluster) = Cluster::open(rt.alloc(), &scenario) else {
-        return println!(rt; "no memory");
-    };
-    let least = least_of(rt, &scenario, &mut cluster)?;
-    let nodes = scenario.config().nodes;
-    if nodes > 0 {
-        let each = least / nodes as u128;
-        println!(rt; "{each} us a node and period")?;
+    match scenario_in(rt) {
+        Some(scenario) => measure_nodes(rt, &scenario),
+        None => println!(rt; "no scenario"),
     }
-    Ok(())
 }

@@ -79,30 +79,47 @@ fn full_line(alloc: Global, number: u32) -> Result<FaultLine<8>, AllocError> {
 fn full_lines(alloc: Global) -> Result<Vec<FaultLine<8>>, AllocError> {
     let mut lines = Vec::with_capacity(alloc, LINES as usize)?;
     for number in 0..LINES {
-        lines.push(full_line(alloc, number)?)?;
+        let line = full_line(alloc, number)?;
+        lines.push(line)?;
     }
     Ok(lines)
+}
+
+/// The line of this number of those that touch one frame each.
+fn single_line(number: u32) -> FaultLine<8> {
+    let place = number % 448;
+    let link = place / 8;
+    let from = (link / 7) as u8;
+    let mut to = NodeSet::empty();
+    to.put((from + 1 + (link % 7) as u8) % NODES);
+    FaultLine {
+        from,
+        to,
+        first: number / 448,
+        last: number / 448,
+        slots: 1 << (place % 8),
+        effect: Effect::Drop,
+    }
 }
 
 /// Lines of one frame each, no two of them the same.
 fn single_lines(alloc: Global) -> Result<Vec<FaultLine<8>>, AllocError> {
     let mut lines = Vec::with_capacity(alloc, JUDGED as usize)?;
     for number in 0..JUDGED {
-        let place = number % 448;
-        let link = place / 8;
-        let from = (link / 7) as u8;
-        let mut to = NodeSet::empty();
-        to.put((from + 1 + (link % 7) as u8) % NODES);
-        lines.push(FaultLine {
-            from,
-            to,
-            first: number / 448,
-            last: number / 448,
-            slots: 1 << (place % 8),
-            effect: Effect::Drop,
-        })?;
+        lines.push(single_line(number))?;
     }
     Ok(lines)
+}
+
+/// The frame that a number stands for.
+fn place_of(draw: u32) -> Place {
+    let from = (draw >> 13) % 8;
+    Place {
+        period: draw % PERIODS,
+        slot: ((draw >> 10) % 8) as u8,
+        from: from as u8,
+        to: ((from + 1 + (draw >> 16) % 7) % 8) as u8,
+    }
 }
 
 /// Pseudo-random frames.
@@ -113,16 +130,25 @@ fn places(alloc: Global) -> Result<Vec<Place>, AllocError> {
         state = state
             .wrapping_mul(6_364_136_223_846_793_005)
             .wrapping_add(1_442_695_040_888_963_407);
-        let draw = (state >> 33) as u32;
-        let from = (draw >> 13) % 8;
-        found.push(Place {
-            period: draw % PERIODS,
-            slot: ((draw >> 10) % 8) as u8,
-            from: from as u8,
-            to: ((from + 1 + (draw >> 16) % 7) % 8) as u8,
-        })?;
+        found.push(place_of((state >> 33) as u32))?;
     }
     Ok(found)
+}
+
+/// Whether a line touches this frame.
+fn is_touched(plan: &FaultPlan<8>, place: &Place) -> bool
+    requires nodes { plan.now.nodes ≡ 8 }
+    requires rounds { plan.now.rounds ≡ 2 }
+    requires periods { plan.now.periods ≡ 1024 }
+{
+    place.period < PERIODS
+        && place.slot < SLOTS
+        && place.from < NODES
+        && place.to < NODES
+        && place.from != place.to
+        && plan
+            .effect(place.period, place.slot, place.from, place.to)
+            .is_some()
 }
 
 /// How many of these frames a line touches.
@@ -133,15 +159,7 @@ fn touched(plan: &FaultPlan<8>, places: &[Place]) -> u32
 {
     let mut count: u32 = 0;
     for place in places {
-        if place.period < PERIODS
-            && place.slot < SLOTS
-            && place.from < NODES
-            && place.to < NODES
-            && place.from != place.to
-            && plan
-                .effect(place.period, place.slot, place.from, place.to)
-                .is_some()
-        {
+        if is_touched(plan, place) {
             count = count.wrapping_add(1);
         }
     }
@@ -174,12 +192,37 @@ fn time_look_ups(rt: &HostRuntime, plan: &FaultPlan<8>, places: &[Place]) -> io:
     Ok((count, start.elapsed(rt)?.as_micros()))
 }
 
+/// The sum of this table's entries at these frames, and how many microseconds the loads take.
+fn time_loads_of(rt: &HostRuntime, table: &[u16], places: &[Place]) -> io::Result<(u32, u128)> {
+    let start = Instant::now(rt)?;
+    let sum = loaded(table, places);
+    Ok((sum, start.elapsed(rt)?.as_micros()))
+}
+
 /// The sum of a table's entries at these frames, and how many microseconds the loads take.
 fn time_loads(rt: &HostRuntime, places: &[Place]) -> io::Result<(u32, u128)> {
     let table = vec![in rt.alloc(); 1u16; 524_288]?;
-    let start = Instant::now(rt)?;
-    let sum = loaded(table.as_slice(), places);
-    Ok((sum, start.elapsed(rt)?.as_micros()))
+    time_loads_of(rt, table.as_slice(), places)
+}
+
+/// Prints what the look-ups gave and took, and the loads.
+fn show_look_ups(rt: &HostRuntime, looked: (u32, u128), loaded: (u32, u128)) -> io::Result<()> {
+    let (count, looking) = looked;
+    let (sum, loading) = loaded;
+    println!(rt;
+        "{LOOKUPS} look-ups of effects take {looking} us, as many loads {loading} us ({count} touched, sum {sum})"
+    )
+}
+
+/// Looks these frames up in a plan.
+fn measure_places(rt: &HostRuntime, plan: &FaultPlan<8>, places: &[Place]) -> io::Result<()>
+    requires nodes { plan.now.nodes ≡ 8 }
+    requires rounds { plan.now.rounds ≡ 2 }
+    requires periods { plan.now.periods ≡ 1024 }
+{
+    let loaded = time_loads(rt, places)?;
+    let looked = time_look_ups(rt, plan, places)?;
+    show_look_ups(rt, looked, loaded)
 }
 
 /// Looks frames up in a plan.
@@ -189,11 +232,29 @@ fn measure_look_ups(rt: &HostRuntime, plan: &FaultPlan<8>) -> io::Result<()>
     requires periods { plan.now.periods ≡ 1024 }
 {
     let places = places(rt.alloc())?;
-    let (sum, loading) = time_loads(rt, places.as_slice())?;
-    let (count, looking) = time_look_ups(rt, plan, places.as_slice())?;
-    println!(rt;
-        "{LOOKUPS} look-ups of effects take {looking} us, as many loads {loading} us ({count} touched, sum {sum})"
-    )
+    measure_places(rt, plan, places.as_slice())
+}
+
+/// Prints how long it took since then to make a plan, and looks effects up in it.
+fn show_plan(rt: &HostRuntime, plan: &FaultPlan<8>, start: &Instant) -> io::Result<()>
+    requires nodes { plan.now.nodes ≡ 8 }
+    requires rounds { plan.now.rounds ≡ 2 }
+    requires periods { plan.now.periods ≡ 1024 }
+{
+    let making = start.elapsed(rt)?.as_micros();
+    println!(rt; "a plan of {LINES} lines over {PERIODS} periods is made in {making} us")?;
+    measure_look_ups(rt, plan)
+}
+
+/// Makes a plan of these lines, and looks effects up in it.
+fn measure_making(rt: &HostRuntime, lines: Vec<FaultLine<8>>) -> io::Result<()>
+    requires { length lines.items < 2 ^ 32 }
+{
+    let start = Instant::now(rt)?;
+    match FaultPlan::new(rt.alloc(), SIZE, lines, Vec::new(rt.alloc())) {
+        Ok(plan) => show_plan(rt, &plan, &start),
+        Err(_) => println!(rt; "no plan"),
+    }
 }
 
 /// Makes the full plan and looks effects up in it.
@@ -202,15 +263,7 @@ fn measure_plan(rt: &HostRuntime) -> io::Result<()> {
     if lines.len() > 100_000 {
         return Ok(());
     }
-    let start = Instant::now(rt)?;
-    let made = FaultPlan::new(rt.alloc(), SIZE, lines, Vec::new(rt.alloc()));
-    let making = start.elapsed(rt);
-    let Ok(plan) = made else {
-        return println!(rt; "no plan");
-    };
-    let making = making?.as_micros();
-    println!(rt; "a plan of {LINES} lines over {PERIODS} periods is made in {making} us")?;
-    measure_look_ups(rt, &plan)
+    measure_making(rt, lines)
 }
 
 /// Whether lines are refused for their number.
@@ -221,16 +274,23 @@ fn are_too_many(alloc: Global, lines: Vec<FaultLine<8>>) -> bool
     matches!(made, Err(PlanError::TooMany))
 }
 
+/// Judges these lines.
+fn measure_refusal(rt: &HostRuntime, lines: Vec<FaultLine<8>>) -> io::Result<()>
+    requires { length lines.items < 2 ^ 32 }
+{
+    let start = Instant::now(rt)?;
+    let refused = are_too_many(rt.alloc(), lines);
+    let judging = start.elapsed(rt)?.as_micros();
+    println!(rt; "{JUDGED} lines are judged in {judging} us, refused for their number: {refused}")
+}
+
 /// Judges many lines without overlap.
 fn measure_judging(rt: &HostRuntime) -> io::Result<()> {
     let lines = single_lines(rt.alloc())?;
     if lines.len() > 100_000 {
         return Ok(());
     }
-    let start = Instant::now(rt)?;
-    let refused = are_too_many(rt.alloc(), lines);
-    let judging = start.elapsed(rt)?.as_micros();
-    println!(rt; "{JUDGED} lines are judged in {judging} us, refused for their number: {refused}")
+    measure_refusal(rt, lines)
 }
 
 /// Prints what plans and look-ups take.

@@ -1,4 +1,0 @@
-pub mod Settings
-pub mod Terms
-pub mod Sameness
-pub mod Known
