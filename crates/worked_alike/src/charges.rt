@@ -4,7 +4,7 @@ use crate::draws::Draws;
 use error_reports::{RowBuilder, charged, charged_all};
 use node_grid::{Matrix, NodeSet, Row};
 use std::io;
-use worked_rows::row;
+use worked_rows::rows;
 
 /// How many inputs are drawn of each kind.
 const DRAWN: u32 = 400;
@@ -61,28 +61,35 @@ fn are_noted_alike(accused: &NodeSet<16>, kind: u8) -> bool {
     are_alike && each.row() == all.row()
 }
 
-pub fn print(rt: &HostRuntime) -> io::Result<()> {
+/// Of how many drawn inputs both answer alike: where nodes are charged, and where kinds are noted.
+fn count_alike() -> (u32, u32) {
     let mut draws = Draws::new(7);
     let (mut charges, mut notes) = (0u32, 0u32);
     for _ in 0..DRAWN {
         let rows = rows_of(&mut draws);
         let members = draws.nodes();
-        if are_charged_alike(&rows, &members) {
-            charges = charges.saturating_add(1);
-        }
-        if are_noted_alike(&members, (draws.next() % 16) as u8) {
-            notes = notes.saturating_add(1);
-        }
+        let are_charged_alike = are_charged_alike(&rows, &members);
+        charges = charges.saturating_add(are_charged_alike as u32);
+        let are_noted_alike = are_noted_alike(&members, (draws.next() % 16) as u8);
+        notes = notes.saturating_add(are_noted_alike as u32);
     }
-    row(rt, "rows drawn", DRAWN)?;
-    row(
+    (charges, notes)
+}
+
+pub fn print(rt: &HostRuntime) -> io::Result<()> {
+    let (charges, notes) = count_alike();
+    rows(
         rt,
-        "  of which charge each node alike by itself and all at once",
-        charges,
-    )?;
-    row(
-        rt,
-        "  as many sets of nodes, noted alike one by one and at once",
-        notes,
+        &[
+            ("rows drawn", DRAWN),
+            (
+                "  of which charge each node alike by itself and all at once",
+                charges,
+            ),
+            (
+                "  as many sets of nodes, noted alike one by one and at once",
+                notes,
+            ),
+        ],
     )
 }

@@ -7,8 +7,9 @@ use node_grid::{NoMemory, NodeSet, Row};
 use omh::Table as PlainTable;
 use omh_paths::count_paths;
 use relay_table::Table;
+use std::alloc::Global;
 use std::io;
-use worked_rows::{row, rows};
+use worked_rows::rows;
 
 /// How many terms a table keeps where all of sixteen nodes are members.
 fn terms_kept(table: &mut Table<u8, 16>) -> usize
@@ -32,27 +33,66 @@ fn paths_of_fifteen() -> usize {
     paths
 }
 
-pub fn print(rt: &HostRuntime) -> io::Result<()> {
-    let mut claims: Result<Table<u8, 16>, NoMemory> = Table::open(rt.alloc(), 16, 3);
-    let settled: Result<Table<Row<16>, 16>, NoMemory> = Table::open(rt.alloc(), 16, 3);
-    let plain: Result<PlainTable<u8, 16>, NoMemory> = PlainTable::open(rt.alloc(), 16, 3);
-    let plain_rows: Result<PlainTable<Row<16>, 16>, NoMemory> = PlainTable::open(rt.alloc(), 16, 3);
+/// Whether a table of what sixteen nodes claim can be had.
+fn can_have_claims(alloc: Global) -> bool {
+    let table: Result<Table<u8, 16>, NoMemory> = Table::open(alloc, 16, 3);
+    table.is_ok()
+}
+
+/// Whether one of their rows can be had.
+fn can_have_rows(alloc: Global) -> bool {
+    let table: Result<Table<Row<16>, 16>, NoMemory> = Table::open(alloc, 16, 3);
+    table.is_ok()
+}
+
+/// Whether a plain table of claims can be had.
+fn can_have_plain_claims(alloc: Global) -> bool {
+    let table: Result<PlainTable<u8, 16>, NoMemory> = PlainTable::open(alloc, 16, 3);
+    table.is_ok()
+}
+
+/// Whether a plain table of rows can be had.
+fn can_have_plain_rows(alloc: Global) -> bool {
+    let table: Result<PlainTable<Row<16>, 16>, NoMemory> = PlainTable::open(alloc, 16, 3);
+    table.is_ok()
+}
+
+/// How many terms a table of claims keeps where all of sixteen nodes are members; 0 where none can
+/// be had.
+fn claims_kept(alloc: Global) -> usize {
+    let table: Result<Table<u8, 16>, NoMemory> = Table::open(alloc, 16, 3);
+    match table {
+        Ok(mut table) => terms_kept(&mut table),
+        Err(_) => 0,
+    }
+}
+
+fn of_tables(rt: &HostRuntime) -> io::Result<()> {
+    let alloc = rt.alloc();
     rows(
         rt,
         &[
             (
                 "a table of what sixteen nodes claim can be had",
-                claims.is_ok(),
+                can_have_claims(alloc),
             ),
-            ("one of their rows", settled.is_ok()),
-            ("a plain table of claims", plain.is_ok()),
-            ("one of rows", plain_rows.is_ok()),
+            ("one of their rows", can_have_rows(alloc)),
+            ("a plain table of claims", can_have_plain_claims(alloc)),
+            ("one of rows", can_have_plain_rows(alloc)),
         ],
-    )?;
-    let kept = match &mut claims {
-        Ok(table) => terms_kept(table),
-        Err(_) => 0,
-    };
-    row(rt, "terms of claims that the first of them keeps", kept)?;
-    row(rt, "paths of the fifteen other nodes", paths_of_fifteen())
+    )
+}
+
+pub fn print(rt: &HostRuntime) -> io::Result<()> {
+    of_tables(rt)?;
+    rows(
+        rt,
+        &[
+            (
+                "terms of claims that the first of them keeps",
+                claims_kept(rt.alloc()),
+            ),
+            ("paths of the fifteen other nodes", paths_of_fifteen()),
+        ],
+    )
 }

@@ -8,7 +8,7 @@ use crate::draws::Draws;
 use clock_skew::{ClockCourse, ClockPlan, Lie};
 use node_grid::NodeSet;
 use std::alloc::{AllocError, Global};
-use worked_rows::row;
+use worked_rows::rows;
 
 /// How many plans are drawn.
 const DRAWN: u32 = 200;
@@ -74,11 +74,15 @@ fn plan_of(alloc: Global, lies: Vec<Lie<16>>) -> Result<ClockPlan<16>, AllocErro
     }))
 }
 
+/// Whether this lie is told by node `j` to node `i` in a period.
+fn is_told(lie: &Lie<16>, j: u8, i: u8, period: u32) -> bool {
+    lie.from == j && lie.first <= period && period <= lie.last && lie.to.has(i)
+}
+
 /// By how much node `j` lies to node `i` in a period: by the first lie in the list that is told.
 fn first_told(lies: &[Lie<16>], j: u8, i: u8, period: u32) -> i64 {
     for lie in lies {
-        let is_now = lie.first <= period && period <= lie.last;
-        if lie.from == j && lie.to.has(i) && is_now {
+        if is_told(lie, j, i, period) {
             return lie.by;
         }
     }
@@ -112,22 +116,36 @@ fn are_told_alike(plan: &ClockPlan<16>, lies: &[Lie<16>]) -> bool
     true
 }
 
-pub fn print(rt: &HostRuntime) -> anyhow::Result<()> {
+/// Whether a drawn plan tells each node the same both ways.
+fn is_drawn_alike(alloc: Global, draws: &mut Draws) -> Result<bool, AllocError> {
+    let count = draws.below(24);
+    let lies = drawn_lies(alloc, draws, count)?;
+    let plan = plan_of(alloc, Vec::from_slice(alloc, lies.as_slice())?)?;
+    Ok(are_told_alike(&plan, lies.as_slice()))
+}
+
+/// How many drawn plans tell each node the same both ways.
+fn count_alike(alloc: Global) -> Result<u32, AllocError> {
     let mut draws = Draws::new(13);
     let mut alike = 0u32;
     for _ in 0..DRAWN {
-        let count = draws.below(24);
-        let lies = drawn_lies(rt.alloc(), &mut draws, count)?;
-        let plan = plan_of(rt.alloc(), Vec::from_slice(rt.alloc(), lies.as_slice())?)?;
-        if are_told_alike(&plan, lies.as_slice()) {
-            alike = alike.saturating_add(1);
-        }
+        let is_alike = is_drawn_alike(alloc, &mut draws)?;
+        alike = alike.saturating_add(is_alike as u32);
     }
-    row(rt, "plans of lies drawn", DRAWN)?;
-    row(
+    Ok(alike)
+}
+
+pub fn print(rt: &HostRuntime) -> anyhow::Result<()> {
+    let alike = count_alike(rt.alloc())?;
+    rows(
         rt,
-        "  of which tell each node the same at once and by a walk for each liar",
-        alike,
+        &[
+            ("plans of lies drawn", DRAWN),
+            (
+                "  of which tell each node the same at once and by a walk for each liar",
+                alike,
+            ),
+        ],
     )?;
     Ok(())
 }

@@ -20,7 +20,8 @@ use omh_paths::{Path, Wrapped, count_paths, unrank};
 use relay_table::Table;
 use relay_terms::Term;
 use std::alloc::{AllocError, Global};
-use worked_rows::row;
+use std::io;
+use worked_rows::{row, rows};
 
 /// How many nodes are drawn for each number of relay rounds.
 const DRAWN: u32 = 60;
@@ -416,6 +417,15 @@ impl Pair {
         }
         self.end(rt, draws, answers)
     }
+
+    /// What a node answers in its periods.
+    fn answers(&mut self, rt: &HostRuntime, draws: &mut Draws) -> Result<Answers, AllocError> {
+        let mut answers = Answers::none();
+        for _ in 0..PERIODS {
+            self.period(rt, draws, &mut answers)?;
+        }
+        Ok(answers)
+    }
 }
 
 /// How many drawn nodes settle, relay and convict alike, how many convict somebody, how many settle
@@ -445,44 +455,68 @@ impl Counts {
 }
 
 /// What a drawn node with so many relay rounds answers in its periods.
-fn answers_of_one(rt: &HostRuntime, draws: &mut Draws, rounds: u8) -> anyhow::Result<Answers>
+fn answers_of_one(rt: &HostRuntime, draws: &mut Draws, rounds: u8) -> Result<Answers, AllocError>
     requires some { 0 < rounds }
     requires short { rounds ≤ 3 }
 {
     let nodes = 4 + draws.below(13) as u8;
     let Ok(mut pair) = Pair::open(rt.alloc(), nodes, rounds) else {
-        return Err(AllocError.into());
+        return Err(AllocError);
     };
-    let mut answers = Answers::none();
-    for _ in 0..PERIODS {
-        pair.period(rt, draws, &mut answers)?;
-    }
-    Ok(answers)
+    pair.answers(rt, draws)
 }
 
-/// Prints what was counted.
-fn print_counts(rt: &HostRuntime, counts: &Counts) -> anyhow::Result<()> {
-    row(rt, "  nodes drawn", DRAWN)?;
-    row(rt, "  of which settle alike", counts.settle)?;
-    row(rt, "  relay alike", counts.relay)?;
-    row(rt, "  convict alike", counts.convict)?;
-    row(rt, "  answers compared", counts.compared)?;
-    row(rt, "  some convict a member", counts.convicting > 0)?;
-    row(rt, "  some convict nobody", counts.convicting < DRAWN)?;
-    row(rt, "  some settle no item of a member", counts.erring > 0)?;
-    row(rt, "  some settle one of each", counts.erring < DRAWN)?;
-    Ok(())
+/// What was counted of the drawn nodes with so many relay rounds.
+fn counts_of(rt: &HostRuntime, draws: &mut Draws, rounds: u8) -> Result<Counts, AllocError>
+    requires some { 0 < rounds }
+    requires short { rounds ≤ 3 }
+{
+    let mut counts = Counts::default();
+    for _ in 0..DRAWN {
+        counts.add(&answers_of_one(rt, draws, rounds)?);
+    }
+    Ok(counts)
+}
+
+/// Prints how many of the drawn nodes answer alike, and how much was compared.
+fn print_alike(rt: &HostRuntime, counts: &Counts) -> io::Result<()> {
+    rows(
+        rt,
+        &[
+            ("  nodes drawn", DRAWN),
+            ("  of which settle alike", counts.settle),
+            ("  relay alike", counts.relay),
+            ("  convict alike", counts.convict),
+            ("  answers compared", counts.compared),
+        ],
+    )
+}
+
+/// Prints of which kinds they are.
+fn print_kinds(rt: &HostRuntime, counts: &Counts) -> io::Result<()> {
+    rows(
+        rt,
+        &[
+            ("  some convict a member", counts.convicting > 0),
+            ("  some convict nobody", counts.convicting < DRAWN),
+            ("  some settle no item of a member", counts.erring > 0),
+            ("  some settle one of each", counts.erring < DRAWN),
+        ],
+    )
+}
+
+/// Prints what was counted of those with so many relay rounds.
+fn print_counts(rt: &HostRuntime, rounds: u8, counts: &Counts) -> io::Result<()> {
+    row(rt, "relay rounds", rounds)?;
+    print_alike(rt, counts)?;
+    print_kinds(rt, counts)
 }
 
 pub fn print(rt: &HostRuntime) -> anyhow::Result<()> {
     let mut draws = Draws::new(11);
     for rounds in 1..4 {
-        let mut counts = Counts::default();
-        for _ in 0..DRAWN {
-            counts.add(&answers_of_one(rt, &mut draws, rounds)?);
-        }
-        row(rt, "relay rounds", rounds)?;
-        print_counts(rt, &counts)?;
+        let counts = counts_of(rt, &mut draws, rounds)?;
+        print_counts(rt, rounds, &counts)?;
     }
     Ok(())
 }
