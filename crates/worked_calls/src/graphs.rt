@@ -39,14 +39,18 @@ fn refused(rt: &HostRuntime, asked: &str, error: GraphError) -> io::Result<()> {
     }
 }
 
+/// Prints how many tasks a graph has, or why there is none.
+fn tell(rt: &HostRuntime, asked: &str, size: Result<u8, GraphError>) -> io::Result<()> {
+    match size {
+        Ok(count) => row(rt, asked, count),
+        Err(error) => refused(rt, asked, error),
+    }
+}
+
 /// Prints what a graph of three nodes says of tasks that come after these.
 fn graph(rt: &HostRuntime, asked: &str, after: &[&[u8]]) -> anyhow::Result<()> {
-    let tasks = tasks(rt.alloc(), after)?;
-    match size(tasks) {
-        Ok(count) => row(rt, asked, count)?,
-        Err(error) => refused(rt, asked, error)?,
-    }
-    Ok(())
+    let size = size(tasks(rt.alloc(), after)?);
+    Ok(tell(rt, asked, size)?)
 }
 
 fn show(rt: &HostRuntime, graph: &TaskGraph<8>) -> io::Result<()> {
@@ -71,8 +75,7 @@ fn of_two(rt: &HostRuntime) -> anyhow::Result<()> {
     let Ok(graph) = TaskGraph::new(3, tasks) else {
         return Ok(());
     };
-    show(rt, &graph)?;
-    Ok(())
+    Ok(show(rt, &graph)?)
 }
 
 pub fn print(rt: &HostRuntime) -> anyhow::Result<()> {

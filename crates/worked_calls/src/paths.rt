@@ -17,6 +17,21 @@ fn members() -> NodeSet<8>
     set
 }
 
+/// The nodes of path 1 4.
+fn of_nodes(rt: &HostRuntime, path: &Path) -> io::Result<()>
+    requires { path.now ≡ 1 ∷ 4 ∷ [] }
+{
+    rows(
+        rt,
+        &[
+            ("the length of path 1 4", path.len()),
+            ("its node 0", path.at(0)),
+            ("its node 1", path.at(1)),
+        ],
+    )?;
+    rows(rt, &[("it has 4", path.has(4)), ("it has 0", path.has(0))])
+}
+
 fn of_paths(rt: &HostRuntime) -> io::Result<()> {
     let set = members();
     let path = Path::root(1).then(4);
@@ -38,12 +53,7 @@ fn of_paths(rt: &HostRuntime) -> io::Result<()> {
             ("paths of 3 of 14", count_paths(14, 3)),
         ],
     )?;
-    row(rt, "the length of path 1 4", path.len())?;
-    rows(
-        rt,
-        &[("its node 0", path.at(0)), ("its node 1", path.at(1))],
-    )?;
-    rows(rt, &[("it has 4", path.has(4)), ("it has 0", path.has(0))])
+    of_nodes(rt, &path)
 }
 
 fn of_wrapping(rt: &HostRuntime) -> io::Result<()> {

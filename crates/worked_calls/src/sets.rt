@@ -20,40 +20,58 @@ fn of_sets(rt: &HostRuntime) -> io::Result<()> {
         ],
     )?;
     row(rt, "its size", set.len())?;
-    row(rt, "its least", Maybe(set.least()))?;
+    row(rt, "its least", Maybe(set.least()))
+}
+
+fn of_nobody(rt: &HostRuntime) -> io::Result<()> {
     let none: NodeSet<16> = NodeSet::empty();
     row(rt, "the least of nobody", Maybe(none.least()))?;
-    row(rt, "nobody is empty", none.is_empty())?;
-    row(rt, "nobody is the set of 0 nodes", none == NodeSet::full(0))?;
+    rows(
+        rt,
+        &[
+            ("nobody is empty", none.is_empty()),
+            ("nobody is the set of 0 nodes", none == NodeSet::full(0)),
+        ],
+    )?;
     row(rt, "all of sixteen", Nodes(NodeSet::<16>::full(16)))
 }
 
-fn of_places(rt: &HostRuntime) -> io::Result<()> {
+/// Nodes 3 and 15, and the first two.
+fn four_nodes() -> NodeSet<16> {
     let mut set: NodeSet<16> = NodeSet::empty();
     set.put(3);
     set.put(15);
-    let both = set.union(&NodeSet::full(2));
-    row(rt, "nodes 3 and 15, and the first 2", Nodes(both))?;
+    set.union(&NodeSet::full(2))
+}
+
+fn of_places(rt: &HostRuntime, set: &NodeSet<16>) -> io::Result<()> {
     rows(
         rt,
         &[
-            ("the place of 15", both.place(15)),
-            ("the place of 2", both.place(2)),
+            ("the place of 15", set.place(15)),
+            ("the place of 2", set.place(2)),
         ],
     )?;
     rows(
         rt,
         &[
-            ("the member at place 2", Maybe(both.nth(2))),
-            ("the member at place 4", Maybe(both.nth(4))),
+            ("the member at place 2", Maybe(set.nth(2))),
+            ("the member at place 4", Maybe(set.nth(4))),
         ],
-    )?;
-    row(
+    )
+}
+
+fn of_four(rt: &HostRuntime) -> io::Result<()> {
+    let set = four_nodes();
+    row(rt, "nodes 3 and 15, and the first 2", Nodes(set))?;
+    of_places(rt, &set)?;
+    rows(
         rt,
-        "all but the first 1",
-        Nodes(both.minus(&NodeSet::full(1))),
-    )?;
-    row(rt, "all but the least", Nodes(both.rest()))
+        &[
+            ("all but the first 1", Nodes(set.minus(&NodeSet::full(1)))),
+            ("all but the least", Nodes(set.rest())),
+        ],
+    )
 }
 
 fn of_matrices(rt: &HostRuntime) -> io::Result<()> {
@@ -96,7 +114,8 @@ fn of_planes(rt: &HostRuntime) -> io::Result<()> {
 
 pub fn print(rt: &HostRuntime) -> io::Result<()> {
     of_sets(rt)?;
-    of_places(rt)?;
+    of_nobody(rt)?;
+    of_four(rt)?;
     of_matrices(rt)?;
     of_planes(rt)
 }

@@ -9,6 +9,7 @@ use node_grid::NodeSet;
 use omh::Table;
 use omh_paths::{Wrapped, count_paths, unrank};
 use std::alloc::AllocError;
+use std::io;
 use worked_rows::row;
 
 /// Puts what was heard for the path at this place among those of so many of the others, if there is
@@ -83,30 +84,52 @@ struct Hears {
     relays: [Relay; 2],
 }
 
+/// What the node passes on of node 3 before it heard anything of it.
+fn show_before(rt: &HostRuntime, table: &Table<u8, 8>, others: &NodeSet<8>) -> io::Result<()>
+    requires others { others.now ≡ without_id table.now.members table.now.me }
+{
+    match passed_on(table, others, 1, 2) {
+        Some(before) => row(
+            rt,
+            "nothing was heard of node 3: of it is passed on",
+            Said(before),
+        ),
+        None => Ok(()),
+    }
+}
+
+/// What the node settles of node 3 in this table of four nodes and one relay round.
+fn settle_in(
+    rt: &HostRuntime,
+    asked: &str,
+    table: &mut Table<u8, 8>,
+    hears: &Hears,
+) -> io::Result<()>
+    requires me { hears.now.me < 3 }
+    requires nodes { table.old.nodes ≡ 4 }
+    requires rounds { table.old.rounds ≡ 1 }
+{
+    let members: NodeSet<8> = NodeSet::full(4);
+    table.start(&members, hears.me, hears.full, Wrapped::Plain(0));
+    let others = members.without(hears.me);
+    show_before(rt, table, &others)?;
+    put(table, &others, 1, 2, Wrapped::Plain(hears.told));
+    put(table, &others, 2, 4, hears.relays[0].heard());
+    put(table, &others, 2, 5, hears.relays[1].heard());
+    if members.has(3) {
+        return row(rt, asked, Said(table.settle(3)));
+    }
+    Ok(())
+}
+
 /// What the node settles of node 3.
 fn settled(rt: &HostRuntime, asked: &str, hears: &Hears) -> anyhow::Result<()>
     requires { hears.now.me < 3 }
 {
-    let members: NodeSet<8> = NodeSet::full(4);
     let Ok(mut table) = Table::<u8, 8>::open(rt.alloc(), 4, 1) else {
         return Err(AllocError.into());
     };
-    table.start(&members, hears.me, hears.full, Wrapped::Plain(0));
-    let others = members.without(hears.me);
-    if let Some(before) = passed_on(&table, &others, 1, 2) {
-        row(
-            rt,
-            "nothing was heard of node 3: of it is passed on",
-            Said(before),
-        )?;
-    }
-    put(&mut table, &others, 1, 2, Wrapped::Plain(hears.told));
-    put(&mut table, &others, 2, 4, hears.relays[0].heard());
-    put(&mut table, &others, 2, 5, hears.relays[1].heard());
-    if members.has(3) {
-        row(rt, asked, Said(table.settle(3)))?;
-    }
-    Ok(())
+    Ok(settle_in(rt, asked, &mut table, hears)?)
 }
 
 pub fn print(rt: &HostRuntime) -> anyhow::Result<()> {
