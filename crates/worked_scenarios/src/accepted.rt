@@ -57,8 +57,9 @@ fn task(alloc: Global) -> Result<TaskPart, AllocError> {
 /// A sensor of three nodes with two rows, in the periods in which task 0 finishes.
 fn sensor(alloc: Global) -> Result<ChannelPart, AllocError> {
     let mut readings = Vec::new(alloc);
-    readings.push(Vec::from_slice(alloc, &[10, 11, 12])?)?;
-    readings.push(Vec::from_slice(alloc, &[20, 21, 22])?)?;
+    for readings_of_nodes in [[10, 11, 12], [20, 21, 22]] {
+        readings.push(Vec::from_slice(alloc, &readings_of_nodes)?)?;
+    }
     Ok(ChannelPart::Sensor {
         delta: 2,
         task: Some(0),
@@ -81,11 +82,7 @@ fn tell(rt: &HostRuntime, asked: &str, parts: Parts) -> io::Result<()> {
 }
 
 /// What nodes 2 and 1 of three are given.
-fn show(rt: &HostRuntime, scenario: &Scenario<8>) -> io::Result<()> {
-    row(rt, "its periods", scenario.periods())?;
-    row(rt, "the node that is delivered first", scenario.order())?;
-    row(rt, "its clocks are given", scenario.clock().is_some())?;
-    row(rt, "its lines", scenario.plan().line_count())?;
+fn show_inputs(rt: &HostRuntime, scenario: &Scenario<8>) -> io::Result<()> {
     if scenario.config().nodes < 3 {
         return Ok(());
     }
@@ -97,31 +94,40 @@ fn show(rt: &HostRuntime, scenario: &Scenario<8>) -> io::Result<()> {
     row(rt, "and in period 3 reads", inputs.reading[0])
 }
 
-/// The only one of a list.
-fn only<T: Drop>(alloc: Global, item: T) -> Result<Vec<T>, AllocError> {
-    let mut list = Vec::new(alloc);
-    list.push(item)?;
-    Ok(list)
+/// What a scenario says, and what nodes 2 and 1 of three are given.
+fn show(rt: &HostRuntime, scenario: &Scenario<8>) -> io::Result<()> {
+    row(rt, "its periods", scenario.periods())?;
+    row(rt, "the node that is delivered first", scenario.order())?;
+    row(rt, "its clocks are given", scenario.clock().is_some())?;
+    row(rt, "its lines", scenario.plan().line_count())?;
+    show_inputs(rt, scenario)
+}
+
+/// Adds a task and the sensor that it reads.
+fn add_a_sensor(alloc: Global, parts: &mut Parts) -> Result<(), AllocError> {
+    parts.tasks.push(task(alloc)?)?;
+    parts.channels.push(sensor(alloc)?)?;
+    Ok(())
 }
 
 /// Three nodes with a task and the sensor that it reads.
 fn with_a_sensor(alloc: Global) -> Result<Parts, AllocError> {
-    let tasks = only(alloc, task(alloc)?)?;
-    let channels = only(alloc, sensor(alloc)?)?;
     let mut parts = parts(alloc, 1, 3)?;
-    parts.channels = channels;
-    parts.tasks = tasks;
+    add_a_sensor(alloc, &mut parts)?;
     Ok(parts)
+}
+
+/// Prints what is made of parts with room for 8 nodes.
+fn show_made(rt: &HostRuntime, made: Result<Scenario<8>, ScenarioError>) -> io::Result<()> {
+    match made {
+        Ok(scenario) => show(rt, &scenario),
+        Err(error) => println!(rt; "{error}"),
+    }
 }
 
 fn of_parts(rt: &HostRuntime) -> anyhow::Result<()> {
     let parts = with_a_sensor(rt.alloc())?;
-    let made: Result<Scenario<8>, ScenarioError> = Scenario::from_parts(rt.alloc(), parts);
-    match made {
-        Ok(scenario) => show(rt, &scenario)?,
-        Err(error) => println!(rt; "{error}")?,
-    }
-    Ok(())
+    Ok(show_made(rt, Scenario::from_parts(rt.alloc(), parts))?)
 }
 
 /// How many nodes those have that are made of parts with room for 16.
@@ -130,14 +136,18 @@ fn nodes_of(alloc: Global, parts: Parts) -> Result<u8, ScenarioError> {
     Ok(scenario.config().nodes)
 }
 
+/// Prints how many nodes nine are with room for 16.
+fn tell_nine(rt: &HostRuntime, nodes: Result<u8, ScenarioError>) -> io::Result<()> {
+    match nodes {
+        Ok(nodes) => row(rt, "nine nodes with room for 16: nodes", nodes),
+        Err(error) => println!(rt; "{error}"),
+    }
+}
+
 /// What nine nodes are answered with room for 16.
 fn nine_in_sixteen(rt: &HostRuntime) -> anyhow::Result<()> {
     let parts = parts(rt.alloc(), 2, 9)?;
-    match nodes_of(rt.alloc(), parts) {
-        Ok(nodes) => row(rt, "nine nodes with room for 16: nodes", nodes)?,
-        Err(error) => println!(rt; "{error}")?,
-    }
-    Ok(())
+    Ok(tell_nine(rt, nodes_of(rt.alloc(), parts))?)
 }
 
 fn show_storm(rt: &HostRuntime, storm: &Scenario<8>) -> io::Result<()> {
@@ -159,21 +169,31 @@ fn of_storm(rt: &HostRuntime) -> anyhow::Result<()> {
     let Ok(storm) = make(rt.alloc(), 7) else {
         return Err(AllocError.into());
     };
-    show_storm(rt, &storm)?;
-    Ok(())
+    Ok(show_storm(rt, &storm)?)
+}
+
+/// Prints why so many nodes in this version are refused, if they are.
+fn tell_nodes(rt: &HostRuntime, asked: &str, version: i64, nodes: i64) -> anyhow::Result<()> {
+    let parts = parts(rt.alloc(), version, nodes)?;
+    Ok(tell(rt, asked, parts)?)
+}
+
+/// In version 1 nodes may not retire.
+fn of_retirement(rt: &HostRuntime) -> anyhow::Result<()> {
+    let mut parts = parts(rt.alloc(), 1, 3)?;
+    parts.policy.retire = 1;
+    Ok(tell(rt, "in version 1 a node retires", parts)?)
+}
+
+fn of_numbers(rt: &HostRuntime) -> anyhow::Result<()> {
+    tell_nodes(rt, "parts of three nodes: periods", 1, 3)?;
+    tell_nodes(rt, "of two nodes", 1, 2)?;
+    of_retirement(rt)?;
+    tell_nodes(rt, "of nine nodes", 2, 9)
 }
 
 pub fn print(rt: &HostRuntime) -> anyhow::Result<()> {
-    tell(
-        rt,
-        "parts of three nodes: periods",
-        parts(rt.alloc(), 1, 3)?,
-    )?;
-    tell(rt, "of two nodes", parts(rt.alloc(), 1, 2)?)?;
-    let mut retiring = parts(rt.alloc(), 1, 3)?;
-    retiring.policy.retire = 1;
-    tell(rt, "in version 1 a node retires", retiring)?;
-    tell(rt, "of nine nodes", parts(rt.alloc(), 2, 9)?)?;
+    of_numbers(rt)?;
     nine_in_sixteen(rt)?;
     of_parts(rt)?;
     of_storm(rt)

@@ -1,17 +1,17 @@
 //! What a plan of fault lines and restarts makes of each node.
 
-ghost use Rattle.std.specs.Prelude.{◌≡◌, ◌<◌, IfOk};
+ghost use Rattle.std.specs.Prelude.{◌≡◌, ◌<◌, IfOk, length};
 
 use fault_classes::{Effect, FaultLine, FaultPlan, PlanSize, Restart};
 use node_grid::{Class, NodeSet};
-use std::alloc::Global;
+use std::alloc::{AllocError, Global};
 use std::io;
-use worked_rows::{Several, row};
+use worked_rows::{Several, row, rows};
 
-/// Among four nodes, with one relay round, node 3 is silent in period 0 and restarts in period 1;
-/// in period 2 the frame of node 2 in slot 1 comes too late to node 0 alone.
-fn plan(alloc: Global) -> anyhow::Result<FaultPlan<8>>
-    ensures { IfOk result (λ plan. (plan.nodes ≡ 4) × ((plan.periods ≡ 4) × (plan.rounds ≡ 1))) }
+/// Node 3 is silent in period 0; in period 2 the frame of node 2 in slot 1 comes too late to node 0
+/// alone.
+fn lines(alloc: Global) -> Result<Vec<FaultLine<8>>, AllocError>
+    ensures { IfOk result (λ lines. length lines.items ≡ 2) }
 {
     let mut lines = Vec::new(alloc);
     lines.push(FaultLine {
@@ -30,6 +30,15 @@ fn plan(alloc: Global) -> anyhow::Result<FaultPlan<8>>
         slots: 2,
         effect: Effect::Time(25),
     })?;
+    Ok(lines)
+}
+
+/// A plan of these lines among four nodes, with one relay round, in which node 3 restarts in period
+/// 1.
+fn plan(alloc: Global) -> anyhow::Result<FaultPlan<8>>
+    ensures { IfOk result (λ plan. (plan.nodes ≡ 4) × ((plan.periods ≡ 4) × (plan.rounds ≡ 1))) }
+{
+    let lines = lines(alloc)?;
     let restarts = Vec::from_slice(alloc, &[Restart { node: 3, period: 1 }])?;
     let size = PlanSize {
         nodes: 4,
@@ -72,12 +81,17 @@ fn of_nodes(rt: &HostRuntime, plan: &FaultPlan<8>) -> io::Result<()>
     requires nodes { plan.now.nodes ≡ 4 }
     requires periods { plan.now.periods ≡ 4 }
 {
-    row(rt, "node 3 is clean in period 0", plan.clean(3, 0))?;
-    row(rt, "in period 1", plan.clean(3, 1))?;
-    row(rt, "it restarts in period 1", plan.restarts(3, 1))?;
-    row(rt, "it is sound in period 0", plan.sound(3, 0))?;
-    row(rt, "in period 1", plan.sound(3, 1))?;
-    row(rt, "node 2 is sound in period 3", plan.sound(2, 3))
+    rows(
+        rt,
+        &[
+            ("node 3 is clean in period 0", plan.clean(3, 0)),
+            ("in period 1", plan.clean(3, 1)),
+            ("it restarts in period 1", plan.restarts(3, 1)),
+            ("it is sound in period 0", plan.sound(3, 0)),
+            ("in period 1", plan.sound(3, 1)),
+            ("node 2 is sound in period 3", plan.sound(2, 3)),
+        ],
+    )
 }
 
 /// At which tick the frame of node 2 in a slot of period 2 comes to another node by its line; 0
@@ -95,24 +109,39 @@ fn tick_by_line(plan: &FaultPlan<8>, slot: u8, to: u8) -> u8
     }
 }
 
-pub fn print(rt: &HostRuntime) -> anyhow::Result<()> {
-    let plan = plan(rt.alloc())?;
+fn of_ticks(rt: &HostRuntime, plan: &FaultPlan<8>) -> io::Result<()>
+    requires nodes { plan.now.nodes ≡ 4 }
+    requires periods { plan.now.periods ≡ 4 }
+    requires rounds { plan.now.rounds ≡ 1 }
+{
+    rows(
+        rt,
+        &[
+            (
+                "the tick of node 2's frame to node 0 in slot 1 of period 2",
+                tick_by_line(plan, 1, 0),
+            ),
+            ("to node 1", tick_by_line(plan, 1, 1)),
+            ("to node 0 in slot 2, by no line", tick_by_line(plan, 2, 0)),
+        ],
+    )
+}
+
+fn of_plan(rt: &HostRuntime, plan: &FaultPlan<8>) -> io::Result<()>
+    requires nodes { plan.now.nodes ≡ 4 }
+    requires periods { plan.now.periods ≡ 4 }
+    requires rounds { plan.now.rounds ≡ 1 }
+{
     row(rt, "lines of a plan", plan.line_count())?;
     row(rt, "restarts", plan.restart_count())?;
     for period in 0..4 {
-        show(rt, &plan, period)?;
+        show(rt, plan, period)?;
     }
-    of_nodes(rt, &plan)?;
-    row(
-        rt,
-        "the tick of node 2's frame to node 0 in slot 1 of period 2",
-        tick_by_line(&plan, 1, 0),
-    )?;
-    row(rt, "to node 1", tick_by_line(&plan, 1, 1))?;
-    row(
-        rt,
-        "to node 0 in slot 2, by no line",
-        tick_by_line(&plan, 2, 0),
-    )?;
-    Ok(())
+    of_nodes(rt, plan)?;
+    of_ticks(rt, plan)
+}
+
+pub fn print(rt: &HostRuntime) -> anyhow::Result<()> {
+    let plan = plan(rt.alloc())?;
+    Ok(of_plan(rt, &plan)?)
 }

@@ -3,6 +3,7 @@
 use scenario::ScenarioError;
 use scenario_reading::read;
 use std::alloc::{AllocError, Global};
+use std::io;
 
 /// The policy of version 1.
 const POLICY: &str =
@@ -134,14 +135,24 @@ fn nodes_of(alloc: Global, bytes: &[u8]) -> Result<u8, ScenarioError> {
     Ok(scenario.config().nodes)
 }
 
+/// Prints what is answered to this text.
+fn answer(rt: &HostRuntime, asked: &str, bytes: &[u8]) -> io::Result<()> {
+    match nodes_of(rt.alloc(), bytes) {
+        Ok(nodes) => println!(rt; "{asked}: a scenario of {nodes} nodes"),
+        Err(error) => println!(rt; "{asked}: {error}"),
+    }
+}
+
+/// Prints what is answered to a text that begins so.
+fn tell_one(rt: &HostRuntime, begin: &str, rest: &Rest) -> anyhow::Result<()> {
+    let bytes = joined(rt.alloc(), begin, rest.1)?;
+    Ok(answer(rt, rest.0, bytes.as_slice())?)
+}
+
 /// Prints what is answered to each of these behind such a begin.
 fn tell(rt: &HostRuntime, begin: &str, rests: &[Rest]) -> anyhow::Result<()> {
-    for (asked, rest) in rests {
-        let bytes = joined(rt.alloc(), begin, rest)?;
-        match nodes_of(rt.alloc(), bytes.as_slice()) {
-            Ok(nodes) => println!(rt; "{asked}: a scenario of {nodes} nodes")?,
-            Err(error) => println!(rt; "{asked}: {error}")?,
-        }
+    for rest in rests {
+        tell_one(rt, begin, rest)?;
     }
     Ok(())
 }

@@ -1,8 +1,11 @@
 //! Plans that a rule refuses, the most lines, and the largest plan.
 
+ghost use Rattle.std.specs.Prelude.{◌≤◌, length};
+
 use fault_classes::{Effect, FaultLine, FaultPlan, PlanError, PlanSize, Restart};
 use node_grid::NodeSet;
 use std::alloc::{AllocError, Global};
+use std::io;
 use worked_rows::row;
 
 /// A line of node 2, whose frames to these nodes don't come in a slot of a period.
@@ -35,7 +38,45 @@ fn first_frame() -> Lost {
     }
 }
 
-/// Prints whether these make a plan for three nodes, without a relay round, in 1,024 periods.
+/// How many lines the plan has that these make for three nodes, without a relay round, in 1,024
+/// periods.
+fn line_count(
+    alloc: Global,
+    lines: Vec<FaultLine<8>>,
+    restarts: Vec<Restart>,
+) -> Result<u32, PlanError>
+    requires lines { length lines.items ≤ 10000 }
+    requires restarts { length restarts.items ≤ 10000 }
+{
+    let size = PlanSize {
+        nodes: 3,
+        rounds: 0,
+        periods: 1024,
+    };
+    let plan = FaultPlan::new(alloc, size, lines, restarts)?;
+    Ok(plan.line_count())
+}
+
+/// Prints why there is no plan, and the place that is told.
+fn refused(rt: &HostRuntime, asked: &str, error: PlanError) -> io::Result<()> {
+    println!(rt; "{asked}: {error}")?;
+    match error {
+        PlanError::Range(at) | PlanError::Overlap(at) | PlanError::Restart(at) => {
+            row(rt, "  place", at)
+        }
+        PlanError::TooMany | PlanError::NoMemory => Ok(()),
+    }
+}
+
+/// Prints how many lines a plan has, or why there is none.
+fn tell(rt: &HostRuntime, asked: &str, count: Result<u32, PlanError>) -> io::Result<()> {
+    match count {
+        Ok(count) => row(rt, asked, count),
+        Err(error) => refused(rt, asked, error),
+    }
+}
+
+/// Prints whether these make a plan.
 fn plan(
     rt: &HostRuntime,
     asked: &str,
@@ -46,24 +87,7 @@ fn plan(
     if lines.len() > 10_000 || restarts.len() > 10_000 {
         return Ok(());
     }
-    let size = PlanSize {
-        nodes: 3,
-        rounds: 0,
-        periods: 1024,
-    };
-    match FaultPlan::new(rt.alloc(), size, lines, restarts) {
-        Ok(plan) => row(rt, asked, plan.line_count())?,
-        Err(error) => {
-            println!(rt; "{asked}: {error}")?;
-            match error {
-                PlanError::Range(at) | PlanError::Overlap(at) | PlanError::Restart(at) => {
-                    row(rt, "  place", at)?;
-                }
-                PlanError::TooMany | PlanError::NoMemory => {}
-            }
-        }
-    }
-    Ok(())
+    Ok(tell(rt, asked, line_count(rt.alloc(), lines, restarts))?)
 }
 
 /// The lines of these.
@@ -152,8 +176,12 @@ fn of_restarts(rt: &HostRuntime) -> anyhow::Result<()> {
     )
 }
 
-fn of_many(rt: &HostRuntime) -> anyhow::Result<()> {
-    plan(rt, "4096 lines: lines", apart(rt.alloc(), 4096)?, &[])?;
+fn of_most(rt: &HostRuntime) -> anyhow::Result<()> {
+    let most = apart(rt.alloc(), 4096)?;
+    plan(rt, "4096 lines: lines", most, &[])
+}
+
+fn of_too_many(rt: &HostRuntime) -> anyhow::Result<()> {
     let mut many = apart(rt.alloc(), 4096)?;
     let other = Lost {
         to: NodeSet::full(2).without(0),
@@ -163,25 +191,34 @@ fn of_many(rt: &HostRuntime) -> anyhow::Result<()> {
     plan(rt, "4097 lines", many, &[])
 }
 
-fn of_sixteen(rt: &HostRuntime) -> anyhow::Result<()> {
-    let (lines, restarts) = (Vec::new(rt.alloc()), Vec::new(rt.alloc()));
+/// Whether a plan of sixteen nodes in 1,024 periods can be had.
+fn can_have_sixteen(alloc: Global) -> bool {
     let size = PlanSize {
         nodes: 16,
         rounds: 3,
         periods: 1024,
     };
-    let made: Result<FaultPlan<16>, PlanError> = FaultPlan::new(rt.alloc(), size, lines, restarts);
+    let made: Result<FaultPlan<16>, PlanError> = FaultPlan::new(
+        alloc,
+        size,
+        Vec::new(alloc),
+        Vec::new(alloc),
+    );
+    made.is_ok()
+}
+
+fn of_sixteen(rt: &HostRuntime) -> io::Result<()> {
     row(
         rt,
         "a plan of sixteen nodes in 1024 periods can be had",
-        made.is_ok(),
-    )?;
-    Ok(())
+        can_have_sixteen(rt.alloc()),
+    )
 }
 
 pub fn print(rt: &HostRuntime) -> anyhow::Result<()> {
     of_lines(rt)?;
     of_restarts(rt)?;
-    of_many(rt)?;
-    of_sixteen(rt)
+    of_most(rt)?;
+    of_too_many(rt)?;
+    Ok(of_sixteen(rt)?)
 }
