@@ -3,7 +3,7 @@
 ghost use Rattle.std.specs.Prelude.{◌≤◌};
 
 use span_io::{MemSink, MemSource};
-use std::alloc::Global;
+use std::alloc::{AllocError, Global};
 use top_call::run;
 
 /// A source in pieces of so many bytes, of which some calls fail, and a sink of so much room, which
@@ -24,28 +24,59 @@ pub struct Answer {
     pub written: Vec<u8>,
 }
 
+/// Words of the program's own.
+fn words_of(alloc: Global, words: &[&str]) -> Result<Vec<String>, AllocError> {
+    let mut owned = Vec::new(alloc);
+    for word in words {
+        owned.push(word.to_string(alloc)?)?;
+    }
+    Ok(owned)
+}
+
+/// The source of this input.
+fn source_of(alloc: Global, input: &str, devices: &Devices<'_>) -> Result<MemSource, AllocError>
+    requires { 1 ≤ devices.now.source_piece }
+{
+    let bytes = Vec::from_slice(alloc, input.as_bytes())?;
+    let fails = Vec::from_slice(alloc, devices.source_fails)?;
+    Ok(MemSource::new(bytes, devices.source_piece, fails))
+}
+
+/// The sink.
+fn sink_of(alloc: Global, devices: &Devices<'_>) -> Result<MemSink, AllocError>
+    requires { 1 ≤ devices.now.sink_piece }
+{
+    let fails = Vec::from_slice(alloc, devices.sink_fails)?;
+    match MemSink::new(alloc, devices.room, devices.sink_piece, fails) {
+        Ok(sink) => Ok(sink),
+        Err(_) => Err(AllocError),
+    }
+}
+
+/// What the program answers over these.
+fn answer_over(
+    alloc: Global,
+    words: &[String],
+    source: &mut MemSource,
+    sink: &mut MemSink,
+) -> Result<Answer, AllocError> {
+    let status = run(alloc, words, source, sink);
+    let written = Vec::from_slice(alloc, sink.written())?;
+    Ok(Answer { status, written })
+}
+
 /// Calls the program with these words and this input.
 pub fn ask(
     alloc: Global,
     words: &[&str],
     input: &str,
     devices: Devices<'_>,
-) -> anyhow::Result<Answer>
+) -> Result<Answer, AllocError>
     requires source { 1 ≤ devices.source_piece }
     requires sink { 1 ≤ devices.sink_piece }
 {
-    let mut owned = Vec::new(alloc);
-    for word in words {
-        owned.push(word.to_string(alloc)?)?;
-    }
-    let bytes = Vec::from_slice(alloc, input.as_bytes())?;
-    let fails = Vec::from_slice(alloc, devices.source_fails)?;
-    let mut source = MemSource::new(bytes, devices.source_piece, fails);
-    let fails = Vec::from_slice(alloc, devices.sink_fails)?;
-    let Ok(mut sink) = MemSink::new(alloc, devices.room, devices.sink_piece, fails) else {
-        anyhow::bail!("there is no memory for the sink");
-    };
-    let status = run(alloc, owned.as_slice(), &mut source, &mut sink);
-    let written = Vec::from_slice(alloc, sink.written())?;
-    Ok(Answer { status, written })
+    let words = words_of(alloc, words)?;
+    let mut source = source_of(alloc, input, &devices)?;
+    let mut sink = sink_of(alloc, &devices)?;
+    answer_over(alloc, words.as_slice(), &mut source, &mut sink)
 }

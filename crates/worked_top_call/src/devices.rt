@@ -1,7 +1,10 @@
 //! Sources and sinks that fail, that give and take little at a time, or that have little room.
 
+ghost use Rattle.std.specs.Prelude.{◌≤◌};
+
 use crate::asking::{Answer, Devices, ask};
-use std::alloc::Global;
+use std::alloc::{AllocError, Global};
+use std::io;
 use worked_rows::row;
 
 /// A scenario without faults: three nodes, one period. It has 125 bytes, and the text of its replay
@@ -27,37 +30,59 @@ const PIECES: Devices<'static> = Devices {
 };
 
 /// Prints the status and how many bytes were written.
-fn tell(rt: &HostRuntime, asked: &str, answer: &Answer) -> anyhow::Result<()> {
+fn tell(rt: &HostRuntime, asked: &str, answer: &Answer) -> io::Result<()> {
     let count = answer.written.len();
-    println!(rt; "{asked}: status {}, {count} bytes", answer.status)?;
-    Ok(())
+    println!(rt; "{asked}: status {}, {count} bytes", answer.status)
 }
 
-fn of_words(rt: &HostRuntime) -> anyhow::Result<()> {
+/// Prints what a replay of this input ends with over these devices.
+fn tell_replay(
+    rt: &HostRuntime,
+    asked: &str,
+    input: &str,
+    devices: Devices<'_>,
+) -> anyhow::Result<()>
+    requires source { 1 ≤ devices.source_piece }
+    requires sink { 1 ≤ devices.sink_piece }
+{
+    let answer = ask(rt.alloc(), &["replay"], input, devices)?;
+    Ok(tell(rt, asked, &answer)?)
+}
+
+fn of_no_words(rt: &HostRuntime) -> anyhow::Result<()> {
     let failing = Devices {
         source_fails: &[0],
         sink_fails: &[0],
         ..PIECES
     };
     let answer = ask(rt.alloc(), &[], SMALLEST, failing)?;
-    tell(rt, "no words, where source and sink fail at once", &answer)?;
+    let asked = "no words, where source and sink fail at once";
+    Ok(tell(rt, asked, &answer)?)
+}
+
+fn of_storm(rt: &HostRuntime, silent: Devices<'_>) -> anyhow::Result<()>
+    requires source { 1 ≤ silent.source_piece }
+    requires sink { 1 ≤ silent.sink_piece }
+{
+    let answer = ask(rt.alloc(), &["storm", "7"], SMALLEST, silent)?;
+    let asked = "a storm, where the source fails at once: status";
+    Ok(row(rt, asked, answer.status)?)
+}
+
+fn of_words(rt: &HostRuntime) -> anyhow::Result<()> {
     let silent = Devices {
         source_fails: &[0],
         ..PIECES
     };
-    let answer = ask(rt.alloc(), &["storm", "7"], SMALLEST, silent)?;
-    row(
-        rt,
-        "a storm, where the source fails at once: status",
-        answer.status,
-    )?;
-    let answer = ask(rt.alloc(), &["replay"], SMALLEST, silent)?;
-    tell(rt, "a replay, where the source fails at once", &answer)
+    of_no_words(rt)?;
+    of_storm(rt, silent)?;
+    let asked = "a replay, where the source fails at once";
+    tell_replay(rt, asked, SMALLEST, silent)
 }
 
 /// How many of the calls of the source end the program with this status and nothing written, if
 /// each fails in turn.
-fn failing_reads(alloc: Global, calls: u64, status: u8) -> anyhow::Result<u64> {
+fn failing_reads(alloc: Global, calls: u64, status: u8) -> Result<u64, AllocError> {
     let mut alike = 0;
     for call in 0..calls {
         let fails = [call];
@@ -75,7 +100,7 @@ fn failing_reads(alloc: Global, calls: u64, status: u8) -> anyhow::Result<u64> {
 
 /// In how many rooms below the text's length the program ends with this status, and as much of the
 /// text written as there is room for.
-fn small_rooms(alloc: Global, input: &str, text: &[u8], status: u8) -> anyhow::Result<usize> {
+fn small_rooms(alloc: Global, input: &str, text: &[u8], status: u8) -> Result<usize, AllocError> {
     let mut alike = 0;
     for room in 0..text.len() {
         let small = Devices { room, ..PIECES };
@@ -89,69 +114,101 @@ fn small_rooms(alloc: Global, input: &str, text: &[u8], status: u8) -> anyhow::R
     Ok(alike)
 }
 
-fn of_reads(rt: &HostRuntime) -> anyhow::Result<()> {
-    let whole = ask(rt.alloc(), &["replay"], SMALLEST, PIECES)?;
-    tell(rt, "a replay in pieces of 7 bytes", &whole)?;
+/// Prints in how many rooms that are too small the program ends so.
+fn tell_small(
+    rt: &HostRuntime,
+    asked: &str,
+    input: &str,
+    text: &[u8],
+    status: u8,
+) -> anyhow::Result<()> {
+    let alike = small_rooms(rt.alloc(), input, text, status)?;
+    Ok(row(rt, asked, alike)?)
+}
+
+fn of_failing_reads(rt: &HostRuntime) -> anyhow::Result<()> {
     let alike = failing_reads(rt.alloc(), 19, 5)?;
-    row(
+    Ok(row(
         rt,
         "of 19 calls of the source, each failing in turn, end with status 5 and nothing written",
         alike,
-    )?;
+    )?)
+}
+
+fn of_reads(rt: &HostRuntime) -> anyhow::Result<()> {
+    tell_replay(rt, "a replay in pieces of 7 bytes", SMALLEST, PIECES)?;
+    of_failing_reads(rt)?;
     let behind = Devices {
         source_fails: &[19],
         ..PIECES
     };
-    let answer = ask(rt.alloc(), &["replay"], SMALLEST, behind)?;
-    tell(rt, "where the call behind the last one would fail", &answer)
+    let asked = "where the call behind the last one would fail";
+    tell_replay(rt, asked, SMALLEST, behind)
 }
 
-fn of_rooms(rt: &HostRuntime) -> anyhow::Result<()> {
-    let text = ask(rt.alloc(), &["replay"], SMALLEST, PIECES)?;
-    let text = text.written.as_slice();
+/// What becomes of this text of a replay over little and much room.
+fn of_text(rt: &HostRuntime, text: &[u8]) -> anyhow::Result<()> {
     let just = Devices {
         room: text.len(),
         ..PIECES
     };
-    let answer = ask(rt.alloc(), &["replay"], SMALLEST, just)?;
-    tell(rt, "just room for the text", &answer)?;
-    let alike = small_rooms(rt.alloc(), SMALLEST, text, 6)?;
-    row(
+    tell_replay(rt, "just room for the text", SMALLEST, just)?;
+    tell_small(
         rt,
         "of 441 smaller rooms, end with status 6 and are full of the text",
-        alike,
+        SMALLEST,
+        text,
+        6,
     )?;
     let failing = Devices {
         sink_piece: 100,
         sink_fails: &[2],
         ..PIECES
     };
-    let answer = ask(rt.alloc(), &["replay"], SMALLEST, failing)?;
-    tell(
+    tell_replay(
         rt,
         "where call 2 of a sink that takes 100 bytes at a time fails",
-        &answer,
+        SMALLEST,
+        failing,
     )
 }
 
-fn of_refusals(rt: &HostRuntime) -> anyhow::Result<()> {
-    let refused = ask(rt.alloc(), &["replay"], CYCLE, PIECES)?;
-    tell(rt, "tasks in a circle", &refused)?;
-    let small = Devices { room: 3, ..PIECES };
-    let answer = ask(rt.alloc(), &["replay"], CYCLE, small)?;
-    tell(rt, "with room for 3 bytes", &answer)?;
+fn of_rooms(rt: &HostRuntime) -> anyhow::Result<()> {
+    let text = ask(rt.alloc(), &["replay"], SMALLEST, PIECES)?;
+    of_text(rt, text.written.as_slice())
+}
+
+/// Prints what is written of a refusal into room for three bytes.
+fn show_three(rt: &HostRuntime, answer: &Answer) -> io::Result<()> {
+    tell(rt, "with room for 3 bytes", answer)?;
     row(
         rt,
         "they are `ref`",
         answer.written.as_slice() == b"ref".as_slice(),
-    )?;
-    let alike = small_rooms(rt.alloc(), CYCLE, refused.written.as_slice(), 4)?;
-    row(
+    )
+}
+
+fn of_three_bytes(rt: &HostRuntime) -> anyhow::Result<()> {
+    let small = Devices { room: 3, ..PIECES };
+    let answer = ask(rt.alloc(), &["replay"], CYCLE, small)?;
+    Ok(show_three(rt, &answer)?)
+}
+
+fn of_small_rooms(rt: &HostRuntime) -> anyhow::Result<()> {
+    let refused = ask(rt.alloc(), &["replay"], CYCLE, PIECES)?;
+    tell_small(
         rt,
         "of 12 smaller rooms, end with status 4 and are full of the line",
-        alike,
-    )?;
-    Ok(())
+        CYCLE,
+        refused.written.as_slice(),
+        4,
+    )
+}
+
+fn of_refusals(rt: &HostRuntime) -> anyhow::Result<()> {
+    tell_replay(rt, "tasks in a circle", CYCLE, PIECES)?;
+    of_three_bytes(rt)?;
+    of_small_rooms(rt)
 }
 
 pub fn print(rt: &HostRuntime) -> anyhow::Result<()> {
