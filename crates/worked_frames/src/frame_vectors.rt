@@ -132,32 +132,42 @@ fn is_written_again(expect: &Expect<8>, bytes: &[u8]) -> bool {
     &out[..size] == bytes
 }
 
+/// The name of what the bytes are a frame of.
+fn name_read(expect: &Expect<8>, bytes: &[u8]) -> &'static str {
+    match read(expect, bytes) {
+        Some(frame) => name_of(&frame),
+        None => "no frame",
+    }
+}
+
+/// Whether the bytes are a frame where those of version 2 are expected.
+fn is_second(expect: &Expect<8>, bytes: &[u8]) -> bool {
+    let mut second = *expect;
+    second.version = 2;
+    read(&second, bytes).is_some()
+}
+
+fn of_vector(rt: &HostRuntime, vector: &Vector) -> io::Result<()> {
+    let (expect, bytes) = (&vector.expect, vector.bytes);
+    row(rt, vector.kind, name_read(expect, bytes))?;
+    rows(
+        rt,
+        &[
+            ("  written again as it was", is_written_again(expect, bytes)),
+            (
+                "  a frame with a byte more",
+                is_frame_with_one_more(expect, bytes),
+            ),
+        ],
+    )?;
+    let frames = frames_among_prefixes(expect, bytes);
+    row(rt, "  frames among its proper prefixes", frames)?;
+    row(rt, "  a frame of version 2", is_second(expect, bytes))
+}
+
 fn of_each(rt: &HostRuntime) -> io::Result<()> {
     for vector in &vectors() {
-        let read = read(&vector.expect, vector.bytes);
-        row(rt, vector.kind, read.as_ref().map_or("no frame", name_of))?;
-        rows(
-            rt,
-            &[
-                (
-                    "  written again as it was",
-                    is_written_again(&vector.expect, vector.bytes),
-                ),
-                (
-                    "  a frame with a byte more",
-                    is_frame_with_one_more(&vector.expect, vector.bytes),
-                ),
-            ],
-        )?;
-        let frames = frames_among_prefixes(&vector.expect, vector.bytes);
-        row(rt, "  frames among its proper prefixes", frames)?;
-        let mut second = vector.expect;
-        second.version = 2;
-        row(
-            rt,
-            "  a frame of version 2",
-            self::read(&second, vector.bytes).is_some(),
-        )?;
+        of_vector(rt, vector)?;
     }
     Ok(())
 }
@@ -171,7 +181,7 @@ fn with<const L: usize>(bytes: &[u8; L], at: usize, byte: u8) -> [u8; L]
     changed
 }
 
-fn of_damage(rt: &HostRuntime) -> io::Result<()> {
+fn of_claims(rt: &HostRuntime) -> io::Result<()> {
     let claims = expect(4, 0, 0, 1, 2);
     rows(
         rt,
@@ -186,7 +196,10 @@ fn of_damage(rt: &HostRuntime) -> io::Result<()> {
             ),
             ("no bytes", read(&claims, &[]).is_some()),
         ],
-    )?;
+    )
+}
+
+fn of_relays(rt: &HostRuntime) -> io::Result<()> {
     let relays = expect(4, 1, 0, 5, 1);
     let asked = "rows relayed in round 1 with an error that was wrapped twice";
     row(rt, asked, read(&relays, &with(&RELAY, 32, 2)).is_some())
@@ -194,5 +207,6 @@ fn of_damage(rt: &HostRuntime) -> io::Result<()> {
 
 pub fn print(rt: &HostRuntime) -> io::Result<()> {
     of_each(rt)?;
-    of_damage(rt)
+    of_claims(rt)?;
+    of_relays(rt)
 }

@@ -1,13 +1,14 @@
 //! What a node finds of a slot.
 
-ghost use Rattle.std.specs.Prelude.{◌≡◌};
+ghost use Rattle.std.specs.Prelude.{◌≡◌, true, IfOk, IsSome};
 ghost use Rattle.frames.specs.Bound.{HasSizes};
 ghost use Rattle.frames.specs.Seen.{expected};
 
 use error_detect::{Finding, Rooms, SlotWatch};
 use frames::{Body, Expect, frame_bound};
-use node_grid::NodeSet;
-use std::alloc::AllocError;
+use node_grid::{NoMemory, NodeSet};
+use std::alloc::{AllocError, Global};
+use std::io;
 use worked_rows::row;
 
 /// Node 2 claims nothing in slot 1 of period 0.
@@ -41,18 +42,34 @@ fn name_of(finding: Finding) -> &'static str {
     }
 }
 
-/// Prints what node 0 finds of node 2, of which these frames arrive, two at most, and whether it
-/// claims nothing then.
-fn found(rt: &HostRuntime, asked: &str, arriving: &[(u8, &[u8])]) -> anyhow::Result<()> {
+/// A watch of node 0 over four nodes, with the slot of claims open.
+fn opened(alloc: Global) -> Result<SlotWatch<8>, NoMemory>
+    ensures open { IfOk result (λ watch. watch.is_open ≡ true) }
+    ensures some_slot { IfOk result (λ watch. IsSome watch.expect) }
+    ensures nodes { IfOk result (λ watch. watch.nodes ≡ 4) }
+    ensures me { IfOk result (λ watch. watch.me ≡ 0) }
+{
     let longest = frame_bound(4, 0, 18, 0);
-    let Ok(mut rooms) = Rooms::open(rt.alloc(), 4, longest) else {
-        return Err(AllocError.into());
-    };
-    let Ok(mut watch) = SlotWatch::<8>::open(rt.alloc(), 4, 0, longest) else {
-        return Err(AllocError.into());
-    };
+    let mut rooms = Rooms::open(alloc, 4, longest)?;
+    let mut watch = SlotWatch::open(alloc, 4, 0, longest)?;
     watch.swap_rooms(&mut rooms);
     watch.open_slot(&claims());
+    Ok(watch)
+}
+
+/// Prints what is found of node 2, of which these frames arrive, two at most, and whether it claims
+/// nothing then.
+fn tell(
+    rt: &HostRuntime,
+    asked: &str,
+    watch: &mut SlotWatch<8>,
+    arriving: &[(u8, &[u8])],
+) -> io::Result<()>
+    requires open { watch.old.is_open ≡ true }
+    requires some_slot { IsSome watch.old.expect }
+    requires nodes { watch.old.nodes ≡ 4 }
+    requires me { watch.old.me ≡ 0 }
+{
     if let Some((tick, bytes)) = arriving.first() {
         watch.deliver(2, *tick, bytes);
     }
@@ -69,6 +86,14 @@ fn found(rt: &HostRuntime, asked: &str, arriving: &[(u8, &[u8])]) -> anyhow::Res
         )?;
     }
     Ok(())
+}
+
+/// Prints what node 0 finds of node 2, of which these frames arrive, two at most.
+fn found(rt: &HostRuntime, asked: &str, arriving: &[(u8, &[u8])]) -> anyhow::Result<()> {
+    let Ok(mut watch) = opened(rt.alloc()) else {
+        return Err(AllocError.into());
+    };
+    Ok(tell(rt, asked, &mut watch, arriving)?)
 }
 
 fn of_repeats(rt: &HostRuntime) -> anyhow::Result<()> {
