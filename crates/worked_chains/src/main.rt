@@ -16,6 +16,7 @@ use lies::Lies;
 use node_grid::NodeSet;
 use odd_relays::{Item, Phase, WORK};
 use omh_paths::Wrapped;
+use std::io;
 use worked_rows::rows;
 
 /// How many phases are drawn.
@@ -143,7 +144,8 @@ fn count_phase(counts: &mut Counts, draws: &mut Draws, work: &mut [Wrapped<u8>])
     }
 }
 
-fn main(rt: HostRuntime) -> anyhow::Result<()> {
+/// What is counted of all drawn phases.
+fn count_drawn() -> Counts {
     let mut draws = Draws::new(7);
     let mut counts = Counts {
         items: 0,
@@ -157,8 +159,13 @@ fn main(rt: HostRuntime) -> anyhow::Result<()> {
     for _ in 0..DRAWN {
         count_phase(&mut counts, &mut draws, &mut work);
     }
+    counts
+}
+
+/// Prints what was counted.
+fn print_counts(rt: &HostRuntime, counts: &Counts) -> io::Result<()> {
     rows(
-        &rt,
+        rt,
         &[
             ("items drawn", counts.items),
             ("  of which the bound is as it should be", counts.bounds),
@@ -173,6 +180,10 @@ fn main(rt: HostRuntime) -> anyhow::Result<()> {
                 counts.convicted,
             ),
         ],
-    )?;
+    )
+}
+
+fn main(rt: HostRuntime) -> anyhow::Result<()> {
+    print_counts(&rt, &count_drawn())?;
     Ok(())
 }
