@@ -7,9 +7,10 @@ use crate::DRAWN;
 use crate::draws::Draws;
 use crate::lies::Lies;
 use counted_relays::settle_untouched;
+use node_grid::NoMemory;
 use omh_paths::Wrapped;
 use settled_paths::{Exchange, Laid};
-use std::alloc::AllocError;
+use std::alloc::Global;
 
 /// Whether the item is settled by a count, and by each receiver as it is path by path.
 fn is_counted(laid: &mut Laid<u8>, exchange: &Exchange<8>, lies: &Lies) -> bool
@@ -34,20 +35,27 @@ fn is_counted(laid: &mut Laid<u8>, exchange: &Exchange<8>, lies: &Lies) -> bool
 }
 
 /// How many drawn items of which nobody lies are settled alike both ways.
-pub fn count_counted(rt: &HostRuntime, rounds: u8) -> anyhow::Result<u32>
-    requires { rounds ≤ 3 }
+fn count_in(laid: &mut Laid<u8>, rounds: u8) -> u32
+    requires few { rounds ≤ 3 }
+    requires nodes { laid.old.nodes ≡ 8 }
+    requires rounds { laid.old.rounds ≡ rounds }
 {
-    let Ok(mut laid) = Laid::<u8>::open(rt.alloc(), 8, rounds) else {
-        return Err(AllocError.into());
-    };
     let mut draws = Draws::new(11);
     let mut counted = 0u32;
     for _ in 0..DRAWN {
         let exchange = draws.exchange(rounds);
         let truth = Lies::draw(&mut draws, 0);
-        if is_counted(&mut laid, &exchange, &truth) {
+        if is_counted(laid, &exchange, &truth) {
             counted = counted.saturating_add(1);
         }
     }
-    Ok(counted)
+    counted
+}
+
+/// How many drawn items with so many rounds, of which nobody lies, are settled alike both ways.
+pub fn count_counted(alloc: Global, rounds: u8) -> Result<u32, NoMemory>
+    requires { rounds ≤ 3 }
+{
+    let mut laid = Laid::open(alloc, 8, rounds)?;
+    Ok(count_in(&mut laid, rounds))
 }

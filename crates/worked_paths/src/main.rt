@@ -15,10 +15,11 @@ use crate::counted::count_counted;
 use crate::draws::Draws;
 use crate::item::Item;
 use crate::lies::Lies;
+use node_grid::NoMemory;
 use omh::Table;
 use omh_paths::Wrapped;
 use settled_paths::Laid;
-use std::alloc::AllocError;
+use std::alloc::{AllocError, Global};
 use worked_rows::row;
 
 /// How many items are drawn for each number of rounds.
@@ -52,15 +53,13 @@ fn are_alike(laid: &mut Laid<u8>, table: &mut Table<u8, 8>, item: &Item<'_>) -> 
 }
 
 /// Of how many drawn items each receiver settles the same both ways.
-fn count_alike(rt: &HostRuntime, rounds: u8, longest: u8) -> anyhow::Result<u32>
-    requires { rounds ≤ 3 }
+fn count_in(laid: &mut Laid<u8>, table: &mut Table<u8, 8>, rounds: u8, longest: u8) -> u32
+    requires few { rounds ≤ 3 }
+    requires nodes { laid.old.nodes ≡ 8 }
+    requires rounds { laid.old.rounds ≡ rounds }
+    requires table_nodes { table.old.nodes ≡ 8 }
+    requires table_rounds { table.old.rounds ≡ rounds }
 {
-    let Ok(mut laid) = Laid::<u8>::open(rt.alloc(), 8, rounds) else {
-        return Err(AllocError.into());
-    };
-    let Ok(mut table) = Table::<u8, 8>::open(rt.alloc(), 8, rounds) else {
-        return Err(AllocError.into());
-    };
     let mut draws = Draws::new(11);
     let mut alike = 0u32;
     for _ in 0..DRAWN {
@@ -71,40 +70,64 @@ fn count_alike(rt: &HostRuntime, rounds: u8, longest: u8) -> anyhow::Result<u32>
             own: Wrapped::Plain(9),
             lies: &lies,
         };
-        if are_alike(&mut laid, &mut table, &item) {
+        if are_alike(laid, table, &item) {
             alike = alike.saturating_add(1);
         }
     }
-    Ok(alike)
+    alike
+}
+
+/// Of how many drawn items with so many rounds each receiver settles the same both ways.
+fn count_alike(alloc: Global, rounds: u8, longest: u8) -> Result<u32, NoMemory>
+    requires { rounds ≤ 3 }
+{
+    let mut laid = Laid::open(alloc, 8, rounds)?;
+    let mut table = Table::open(alloc, 8, rounds)?;
+    Ok(count_in(&mut laid, &mut table, rounds, longest))
+}
+
+/// Prints of how many drawn items that is so.
+fn tell_alike(rt: &HostRuntime, asked: &str, rounds: u8, longest: u8) -> anyhow::Result<()>
+    requires { rounds ≤ 3 }
+{
+    let Ok(alike) = count_alike(rt.alloc(), rounds, longest) else {
+        return Err(AllocError.into());
+    };
+    Ok(row(rt, asked, alike)?)
+}
+
+/// Prints of how many drawn items of which nobody lies a count settles the same.
+fn tell_counted(rt: &HostRuntime, asked: &str, rounds: u8) -> anyhow::Result<()>
+    requires { rounds ≤ 3 }
+{
+    let Ok(counted) = count_counted(rt.alloc(), rounds) else {
+        return Err(AllocError.into());
+    };
+    Ok(row(rt, asked, counted)?)
+}
+
+fn of_tables(rt: &HostRuntime) -> anyhow::Result<()> {
+    tell_alike(rt, "  settled alike at once and by tables, no rounds", 0, 4)?;
+    tell_alike(rt, "  one round", 1, 4)?;
+    tell_alike(rt, "  two rounds", 2, 4)?;
+    tell_alike(rt, "  two rounds, no lie in the last", 2, 2)?;
+    tell_alike(rt, "  three rounds", 3, 4)?;
+    tell_alike(rt, "  three rounds, no lie in the last", 3, 3)
+}
+
+fn of_counts(rt: &HostRuntime) -> anyhow::Result<()> {
+    tell_counted(
+        rt,
+        "  settled alike at once and by a count where nobody lies, no rounds",
+        0,
+    )?;
+    tell_counted(rt, "  one round", 1)?;
+    tell_counted(rt, "  two rounds", 2)?;
+    tell_counted(rt, "  three rounds", 3)
 }
 
 fn main(rt: HostRuntime) -> anyhow::Result<()> {
     row(&rt, "items drawn for each number of rounds", DRAWN)?;
-    row(
-        &rt,
-        "  settled alike at once and by tables, no rounds",
-        count_alike(&rt, 0, 4)?,
-    )?;
-    row(&rt, "  one round", count_alike(&rt, 1, 4)?)?;
-    row(&rt, "  two rounds", count_alike(&rt, 2, 4)?)?;
-    row(
-        &rt,
-        "  two rounds, no lie in the last",
-        count_alike(&rt, 2, 2)?,
-    )?;
-    row(&rt, "  three rounds", count_alike(&rt, 3, 4)?)?;
-    row(
-        &rt,
-        "  three rounds, no lie in the last",
-        count_alike(&rt, 3, 3)?,
-    )?;
-    row(
-        &rt,
-        "  settled alike at once and by a count where nobody lies, no rounds",
-        count_counted(&rt, 0)?,
-    )?;
-    row(&rt, "  one round", count_counted(&rt, 1)?)?;
-    row(&rt, "  two rounds", count_counted(&rt, 2)?)?;
-    row(&rt, "  three rounds", count_counted(&rt, 3)?)?;
-    Ok(())
+    of_tables(&rt)?;
+    of_counts(&rt)
 }
