@@ -5,3 +5,4 @@ pub mod Ranges
 pub mod Alike
 pub mod Zeros
 pub mod Digits
+pub mod Runs

@@ -1,5 +1,5 @@
 -- The numbers of sound nodes, a node at a time.
-use Rattle.std.proofs.Common.{◌≡◌, ℕ, zero, suc, ◌+◌, ◌<◌, Bool, true, false, List, [], ◌∷◌, ◌++◌, length, take, get_or, refl, ap, ap₂, ◌∙◌, arith, append-nil, add-one, Some, ℤ, pos}
+use Rattle.std.proofs.Common.{◌≡◌, ℕ, zero, suc, ◌+◌, ◌<◌, ◌≤◌, min, Bool, true, false, List, [], ◌∷◌, ◌++◌, length, take, get_or, refl, ap, ap₂, ◌∙◌, arith, append-nil, add-one, Some, ℤ, pos}
 use Rattle.std.specs.Prelude.{if◌then◌else◌}
 use Rattle.std.specs.Int.{int_min, int_max}
 use Rattle.std.specs.List.{fold}
@@ -47,3 +47,13 @@ module _ (cs : List Class) (xs : List ℤ) (i : ℕ) (within : i < length cs) (w
 
   pub passed : is_sound (get_or cs i N) ≡ false → range_of more ≡ range_of before
   passed e = ap range_of (more_is false e ∙ append-nil before)
+
+-- the numbers of all nodes that have one
+pub all_counted : (cs : List Class) (xs : List ℤ) (i : ℕ) → min (length xs) (length cs) ≤ i → sound_numbers (take i cs) (take i xs) ≡ sound_numbers cs xs
+all_counted [] xs zero h = refl
+all_counted [] xs (suc i) h = refl
+all_counted (c ∷ cs) [] zero h = refl
+all_counted (c ∷ cs) [] (suc i) h = refl
+all_counted (c ∷ cs) (x ∷ xs) zero h = absurd (omega (arith, h))
+all_counted (c ∷ cs) (x ∷ xs) (suc i) h =
+    ap (λ (ys : List ℤ). if is_sound c then x ∷ ys else ys) (all_counted cs xs i (omega (arith, h)))

@@ -1,5 +1,5 @@
 -- What a printer gathered of the lines of one node of a period that was worked out for all together.
-use Rattle.std.specs.Prelude.{◌≡◌, ◌<◌, ◌≤◌, false, ℕ, Some, None, List, ◌++◌}
+use Rattle.std.specs.Prelude.{◌≡◌, ◌≤◌, ℕ, Some, None, List, ◌++◌}
 use Rattle.list_scheduler.specs.Copies.{CopyTable, copy_at, running}
 use Rattle.agreed_state.specs.Agreed.{AgreedView}
 use Rattle.cluster_periods.specs.Record.{PeriodView}
@@ -9,7 +9,6 @@ use Rattle.shown_period.specs.Outcomes.{outcome_at, HasBeliefs}
 use Rattle.run_text.specs.NodeText.{beliefs_text}
 use Rattle.run_text.specs.PeriodText.{head_text, nodes_text}
 use Rattle.run_text.specs.ClockText.{clock_text}
-use Rattle.run_print.specs.declared.printer.Printer.{Printer}
 
 -- the lines of a period but those of its frames
 abbrev pub untraced_text : PeriodView → List ℕ
@@ -29,9 +28,3 @@ pub record IsPrintable {N : ℕ} (s : Shown N) : Type 0 where
 -- the text of what node i believes
 abbrev pub believed : {N : ℕ} → Shown N → ℕ → List ℕ
 believed s i = beliefs_text s.head.nodes s.head.retire (outcome_at s.made i) (outcome_at s.made i).agreed
-
--- a printer that gathered what a node believes, unless it failed
-pub record IsExample {N room : ℕ} (s : Shown N) (i : ℕ) (beliefs : Printer room) : Type 0 where
-  pub printable : IsPrintable s
-  pub node : i < N
-  pub has : beliefs.failed ≡ false → beliefs.gathered ≡ believed s i

@@ -5,6 +5,7 @@ ghost use Rattle.node_grid.specs.Class.{is_sound};
 ghost use Rattle.run_text.specs.ClockText.{sound_numbers, range_of, widened, spread_text};
 ghost use Rattle.run_text.specs.ClockText.{clock_line, clock_text};
 
+use crate::pieces::first;
 use crate::printer::Printer;
 use cluster_record::PeriodRecord;
 use node_grid::Class;
@@ -32,11 +33,10 @@ fn widened(range: Option<(i64, i64)>, x: i64) -> (i64, i64)
 
 /// The least and the greatest number of a sound node; none where no node is sound.
 fn sound_range(classes: &[Class], numbers: &[i64]) -> Option<(i64, i64)>
-    requires { length classes.now ≡ length numbers.now }
     ensures { result ≡ range_of (sound_numbers classes.now numbers.now) }
 {
     let mut range = None;
-    for i in 0..numbers.len() {
+    for i in 0..numbers.len().min(classes.len()) {
         let number = numbers[i];
         if is_sound(classes[i]) {
             range = Some(widened(range, number));
@@ -48,7 +48,6 @@ fn sound_range(classes: &[Class], numbers: &[i64]) -> Option<(i64, i64)>
 impl<const ROOM: usize> Printer<ROOM> {
     /// Prints how far the least and the greatest number of a sound node are apart.
     fn spread<K: Sink>(&mut self, sink: &mut K, classes: &[Class], numbers: &[i64])
-        requires { length classes.now ≡ length numbers.now }
         ensures { Prints K.written K.faults self.old sink.old self.new sink.new
             (spread_text (range_of (sound_numbers classes.now numbers.now))) }
     {
@@ -66,13 +65,12 @@ impl<const ROOM: usize> Printer<ROOM> {
         classes: &[Class; N],
         offset: &[i64; N],
     )
-        requires { nodes ≤ N }
         ensures { Prints K.written K.faults self.old sink.old self.new sink.new
             (clock_line nodes classes.now offset.now) }
     {
-        let offsets = &offset[..nodes as usize];
+        let offsets = first(offset, nodes);
         self.text(sink, b"clock skew ");
-        self.spread(sink, &classes[..nodes as usize], offsets);
+        self.spread(sink, first(classes, nodes), offsets);
         self.text(sink, b" offsets ");
         self.signed_numbers(sink, offsets);
         self.byte(sink, b'\n');
@@ -80,7 +78,6 @@ impl<const ROOM: usize> Printer<ROOM> {
 
     /// Prints the line of a period's clocks, where it has some.
     pub(crate) fn clock<K: Sink, const N: usize>(&mut self, sink: &mut K, shown: &PeriodRecord<N>)
-        requires { shown.now.nodes ≤ N }
         ensures { Prints K.written K.faults self.old sink.old self.new sink.new
             (clock_text shown.now shown.now.clock) }
     {

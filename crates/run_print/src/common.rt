@@ -56,7 +56,6 @@ pub(crate) struct Common<'a, const N: usize> {
     pub standing: Printer<STANDING>,
     /// What was settled and voted, unless there was no room for it.
     pub settled: Printer<SETTLED>,
-    ghost few: { nodes ≤ N },
     ghost stands: { standing.failed ≡ false → (a : AgreedView) → shown.now.agreed ≡ Some a
         → standing.gathered ≡ standing_text nodes a },
     ghost settles: { settled.failed ≡ false → settled.gathered ≡ settled_text nodes shown.now },
@@ -67,7 +66,6 @@ pub(crate) struct Common<'a, const N: usize> {
 fn standing_of<const N: usize>(nodes: u8, shown: &NodeRecord<N>) -> Printer<STANDING>
 where
     Nodes: Capacity<N>,
-    requires nodes { nodes ≤ N }
     ensures { result.failed ≡ false → (a : AgreedView) → shown.now.agreed ≡ Some a
         → result.gathered ≡ standing_text nodes a }
 {
@@ -84,7 +82,6 @@ where
 fn settled_of<const N: usize>(nodes: u8, shown: &NodeRecord<N>) -> Printer<SETTLED>
 where
     Nodes: Capacity<N>,
-    requires nodes { nodes ≤ N }
     ensures { result.failed ≡ false → result.gathered ≡ settled_text nodes shown.now }
 {
     let mut nowhere = Nowhere { faults: 0 };
@@ -98,7 +95,6 @@ impl<'a, const N: usize> Common<'a, N> {
     pub(crate) fn of(nodes: u8, shown: &'a NodeRecord<N>) -> Self
     where
         Nodes: Capacity<N>,
-        requires nodes { nodes ≤ N }
         ensures { result.nodes ≡ nodes }
     {
         Common {

@@ -8,6 +8,7 @@ ghost use Rattle.run_text.specs.PeriodText.{alone_text};
 
 use crate::WriteFault;
 use crate::common::Common;
+use crate::pieces::first;
 use crate::printer::{Printer, SMALL};
 use agreed_state::{Agreed, Config};
 use membership::Left;
@@ -25,13 +26,12 @@ impl<const ROOM: usize> Printer<ROOM> {
         retire: u16,
         left: &Left<N>,
     )
-        requires { nodes ≤ N }
         ensures { Prints K.written K.faults self.old sink.old self.new sink.new
             (left_text nodes retire left.now.times) }
     {
         if retire != 0 {
             self.text(sink, b" left ");
-            self.numbers(sink, &left.times[..nodes as usize]);
+            self.numbers(sink, first(&left.times, nodes));
         }
     }
 
@@ -44,7 +44,6 @@ impl<const ROOM: usize> Printer<ROOM> {
     )
     where
         Nodes: Capacity<N>,
-        requires nodes { nodes ≤ N }
         ensures { Prints K.written K.faults self.old sink.old self.new sink.new
             (standing_text nodes agreed.now) }
     {
@@ -106,7 +105,6 @@ impl<const ROOM: usize> Printer<ROOM> {
     )
     where
         Nodes: Capacity<N>,
-        requires nodes { nodes ≤ N }
         ensures { Prints K.written K.faults self.old sink.old self.new sink.new
             (codes "\n  done " ++ separated (codes " ") (map (done_item done.now) members.now)
             ++ codes "\n  rows " ++ separated (codes " ")
@@ -137,7 +135,6 @@ impl<const ROOM: usize> Printer<ROOM> {
     )
     where
         Nodes: Capacity<N>,
-        requires nodes { nodes ≤ N }
         ensures { Prints K.written K.faults self.old sink.old self.new sink.new
             (settled_text nodes shown.now) }
     {
@@ -191,8 +188,6 @@ impl<const ROOM: usize> Printer<ROOM> {
 /// Writes a period's number and the lines of one node of the configuration, with `-` in place of a
 /// class.
 ///
-/// The configuration must have at most `N` nodes.
-///
 /// # Errors
 /// `WriteFault` comes only where the sink's count of faults rose. A prefix of the lines was written
 /// then.
@@ -205,7 +200,6 @@ pub fn write_alone<const N: usize, K: Sink>(
 ) -> Result<(), WriteFault>
 where
     Nodes: Capacity<N>,
-    requires nodes { config.now.nodes ≤ N }
     ensures { WritesText K.written K.faults sink.old sink.new
         (alone_text period id config.now.nodes config.now.policy.retire shown.now) result }
 {

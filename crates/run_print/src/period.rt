@@ -10,7 +10,7 @@ ghost use Rattle.run_print.specs.Example.{untraced_text};
 
 use crate::WriteFault;
 use crate::common::{Common, example_of};
-use crate::pieces::letter_of;
+use crate::pieces::letter_at;
 use crate::printer::{LARGE, Printer, SMALL};
 use cluster_record::PeriodRecord;
 use fault_classes::{Budget, FaultPlan};
@@ -86,7 +86,7 @@ impl<const ROOM: usize> Printer<ROOM> {
         ensures { Prints K.written K.faults self.old sink.old self.new sink.new
             (recorded_text shown.now i (slice_get shown.now.records i)) }
     {
-        self.front(sink, i, letter_of(shown.classes[i as usize]));
+        self.front(sink, i, letter_at(&shown.classes, i));
         self.beliefs(sink, shown.retire, shown.node(i), common);
     }
 
@@ -112,7 +112,6 @@ impl<const ROOM: usize> Printer<ROOM> {
     fn nodes<K: Sink, const N: usize>(&mut self, sink: &mut K, shown: &PeriodRecord<N>)
     where
         Nodes: Capacity<N>,
-        requires nodes { shown.now.nodes ≤ N }
         ensures { Prints K.written K.faults self.old sink.old self.new sink.new
             (nodes_text shown.now) }
     {
@@ -128,7 +127,6 @@ impl<const ROOM: usize> Printer<ROOM> {
     fn untraced<K: Sink, const N: usize>(&mut self, sink: &mut K, shown: &PeriodRecord<N>)
     where
         Nodes: Capacity<N>,
-        requires nodes { shown.now.nodes ≤ N }
         ensures { Prints K.written K.faults self.old sink.old self.new sink.new
             (untraced_text shown.now) }
     {
@@ -169,7 +167,6 @@ fn write_untraced<const N: usize, K: Sink>(
 ) -> Result<(), WriteFault>
 where
     Nodes: Capacity<N>,
-    requires nodes { shown.now.nodes ≤ N }
     ensures { WritesText K.written K.faults sink.old sink.new
         (untraced_text shown.now) result }
 {
@@ -188,7 +185,6 @@ fn write_traced<const N: usize, K: Sink>(
 ) -> Result<(), WriteFault>
 where
     Nodes: Capacity<N>,
-    requires nodes { shown.now.nodes ≤ N }
     requires planned { IsPlanOf plan.now shown.now }
     ensures { WritesText K.written K.faults sink.old sink.new
         (period_text plan.now true shown.now) result }
@@ -202,8 +198,8 @@ where
 /// Writes all lines of a period, the period line first: the lines of each node, the line of the
 /// clocks where the period has clocks, and with `trace` the line of each frame that is delivered.
 ///
-/// The record must be one of at most `N` nodes, as those of a cluster are. With `trace`, the plan
-/// must be made for its nodes and relay rounds, and for more periods than its number.
+/// With `trace`, the plan must be made for the record's nodes and relay rounds, and for more periods
+/// than its number.
 ///
 /// # Errors
 /// `WriteFault` comes only where the sink's count of faults rose. A prefix of the lines was written
@@ -216,7 +212,6 @@ pub fn write_period<const N: usize, K: Sink>(
 ) -> Result<(), WriteFault>
 where
     Nodes: Capacity<N>,
-    requires nodes { shown.now.nodes ≤ N }
     requires planned { trace ≡ true → IsPlanOf plan.now shown.now }
     ensures { WritesText K.written K.faults sink.old sink.new
         (period_text plan.now trace shown.now) result }

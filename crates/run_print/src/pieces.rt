@@ -1,10 +1,11 @@
 //! Items of a node's lines that are mostly short, each handed on at once.
-ghost use Rattle.std.specs.Prelude.{◌≡◌, ◌≤◌, ◌<◌, ◌++◌, ◌∷◌, [], true, map, replicate, take};
-ghost use Rattle.std.specs.Prelude.{codes, decimal};
+ghost use Rattle.std.specs.Prelude.{◌≡◌, ◌≤◌, ◌<◌, ◌++◌, ◌∷◌, [], None, true, false, length, map, replicate, take};
+ghost use Rattle.std.specs.Prelude.{codes, decimal, slice_index_or};
 ghost use Rattle.list_scheduler.specs.Copies.{works};
 ghost use Rattle.run_print.specs.Printing.{Prints};
 ghost use Rattle.run_print.specs.Example.{IsIdleFrom};
 ghost use Rattle.node_grid.specs.Matrix.{row_at};
+ghost use Rattle.node_grid.specs.declared.class.Class.TheVariants.{N};
 ghost use Rattle.run_text.specs.Text.{separated, class_text, numbers_text, runs_text, row_text};
 ghost use Rattle.run_text.specs.Text.{rows_item};
 
@@ -16,9 +17,16 @@ use span_io::Sink;
 /// As many zeros as there can be nodes, joined by commas.
 const ZEROS: [u8; 31] = *b"0,0,0,0,0,0,0,0,0,0,0,0,0,0,0,0";
 
+/// The first of some items; all where there are fewer.
+pub(crate) fn first<T>(items: &[T], count: u8) -> &[T]
+    ensures { result.now ≡ take count items.now }
+{
+    &items[..items.len().min(count as usize)]
+}
+
 /// Whether all numbers are 0.
-fn are_zero<const N: usize>(numbers: &[u16; N]) -> bool
-    ensures { result ≡ true → numbers.now ≡ replicate N 0 }
+fn are_zero(numbers: &[u16]) -> bool
+    ensures { result ≡ true → numbers.now ≡ replicate (length numbers.now) 0 }
 {
     let mut most = 0;
     for n in numbers {
@@ -28,7 +36,7 @@ fn are_zero<const N: usize>(numbers: &[u16; N]) -> bool
 }
 
 /// The letter of a class.
-pub(crate) fn letter_of(class: Class) -> u8
+fn letter_of(class: Class) -> u8
     ensures { class_text class ≡ result ∷ [] }
 {
     match class {
@@ -40,15 +48,39 @@ pub(crate) fn letter_of(class: Class) -> u8
     }
 }
 
-/// What a node runs, of tasks below this number.
+/// The letter of the class of node `i`; that of class N for a number that is no node's.
+pub(crate) fn letter_at(classes: &[Class], i: u8) -> u8
+    ensures { class_text (slice_index_or classes.now i N) ≡ result ∷ [] }
+{
+    match classes.get(i as usize) {
+        Some(class) => letter_of(*class),
+        None => b'N',
+    }
+}
+
+/// Whether a node has copies of tasks; nothing runs on another one.
+pub(crate) fn has_copies<const N: usize>(copies: &Copies<N>, node: u8) -> bool
+where
+    Nodes: Capacity<N>,
+    ensures within { result ≡ true → node < N }
+    ensures beyond { result ≡ false → works copies.now node ≡ None }
+{
+    // a call that gives a copy tells the checker how many stand in a row
+    let _ = copies.at(0, 0);
+    (node as usize) < N
+}
+
+/// What a node runs, of tasks below this number; nothing of a node that has no copies.
 fn running_among<const N: usize>(copies: &Copies<N>, tasks: u8, node: u8) -> Option<(u8, u16)>
 where
     Nodes: Capacity<N>,
     requires tasks { tasks ≤ 32 }
-    requires node { node < N }
     requires idle { IsIdleFrom tasks copies.now }
     ensures { result ≡ works copies.now node }
 {
+    if !has_copies(copies, node) {
+        return None;
+    }
     for t in 0..tasks {
         if let CopyState::Running(periods) = copies.at(t, node) {
             return Some((t, periods));
@@ -90,14 +122,14 @@ impl<const ROOM: usize> Printer<ROOM> {
     )
     where
         Nodes: Capacity<N>,
-        requires nodes { nodes ≤ N }
         ensures { Prints K.written K.faults self.old sink.old self.new sink.new
             (numbers_text (take nodes numbers.now)) }
     {
-        if nodes > 0 && are_zero(numbers) {
-            self.text(sink, &ZEROS[..2 * nodes as usize - 1]);
+        let shown = first(numbers, nodes);
+        if !shown.is_empty() && are_zero(shown) {
+            self.text(sink, &ZEROS[..2 * shown.len() - 1]);
         } else {
-            self.numbers(sink, &numbers[..nodes as usize]);
+            self.numbers(sink, shown);
         }
     }
 
@@ -111,7 +143,6 @@ impl<const ROOM: usize> Printer<ROOM> {
     )
     where
         Nodes: Capacity<N>,
-        requires nodes { nodes ≤ N }
         requires tasks { tasks ≤ 32 }
         requires idle { IsIdleFrom tasks copies.now }
         ensures { Prints K.written K.faults self.old sink.old self.new sink.new
@@ -132,7 +163,6 @@ impl<const ROOM: usize> Printer<ROOM> {
     )
     where
         Nodes: Capacity<N>,
-        requires nodes { nodes ≤ N }
         ensures { Prints K.written K.faults self.old sink.old self.new sink.new
             (row_text nodes (row_at rows.now member)) }
     {
@@ -152,7 +182,6 @@ impl<const ROOM: usize> Printer<ROOM> {
     )
     where
         Nodes: Capacity<N>,
-        requires nodes { nodes ≤ N }
         ensures { Prints K.written K.faults self.old sink.old self.new sink.new
             (separated (codes " ") (map (rows_item nodes rows.now) members.now)) }
     {

@@ -1,6 +1,6 @@
 //! The printed lines of a period that was worked out for all nodes together. What nodes are known
 //! to have in common is spelled once.
-ghost use Rattle.std.specs.Prelude.{◌≡◌, ◌≤◌, ◌<◌, [], true, false, slice_get};
+ghost use Rattle.std.specs.Prelude.{◌≡◌, ◌≤◌, ◌<◌, true, false, slice_get};
 ghost use Rattle.shown_period.specs.Outcomes.{outcome_at};
 ghost use Rattle.shown_period.specs.Whole.{record_of};
 ghost use Rattle.run_text.specs.NodeText.{state_text, settled_text};
@@ -8,11 +8,11 @@ ghost use Rattle.run_text.specs.PeriodText.{head_text, recorded_text, nodes_text
 ghost use Rattle.run_text.specs.ClockText.{clock_text};
 ghost use Rattle.run_print.specs.Printing.{Prints, WritesText};
 ghost use Rattle.run_print.specs.Example.{untraced_text, IsIdleFrom, IsPrintable};
-ghost use Rattle.run_print.specs.Example.{believed, IsExample};
+ghost use Rattle.run_print.specs.Example.{believed};
 
 use crate::WriteFault;
 use crate::common::Nowhere;
-use crate::pieces::letter_of;
+use crate::pieces::letter_at;
 use crate::printer::{Printer, SMALL};
 use agreed_state::Agreed;
 use node_grid::{Capacity, Nodes};
@@ -30,7 +30,9 @@ struct Example<'a, const N: usize> {
     /// The node.
     pub node: u8,
     /// What it believes, unless there was no room for it.
-    pub beliefs: &'a Printer<BELIEFS>,
+    pub beliefs: Printer<BELIEFS>,
+    ghost placed: { node < N },
+    ghost believes: { beliefs.failed ≡ false → beliefs.gathered ≡ believed shown.now node },
 }
 
 /// A node of the group to which more than half of the nodes belong, where there is such a group,
@@ -55,26 +57,42 @@ fn common_node<const N: usize>(shown: &Shown<N>) -> u8
 }
 
 /// Gathers what a node believes; where there is no room for it, the printer fails.
-fn gather<const N: usize>(printer: &mut Printer<BELIEFS>, shown: &Shown<N>, i: u8)
+fn gathered<const N: usize>(shown: &Shown<N>, i: u8) -> Printer<BELIEFS>
 where
     Nodes: Capacity<N>,
     requires printable { IsPrintable shown.now }
     requires node { i < N }
-    requires empty { printer.old.gathered ≡ [] }
-    requires works { printer.old.failed ≡ false }
-    ensures { printer.new.failed ≡ false → printer.new.gathered ≡ believed shown.now i }
+    ensures { result.failed ≡ false → result.gathered ≡ believed shown.now i }
 {
     let mut nowhere = Nowhere { faults: 0 };
+    let mut printer = Printer::new();
     printer.beliefs_at(&mut nowhere, shown, i);
+    printer
 }
 
-impl<const N: usize> Example<'_, N> {
+impl<'a, const N: usize> Example<'a, N> {
+    /// What the node believes that has most in common with others.
+    fn of(shown: &'a Shown<N>) -> Self
+    where
+        Nodes: Capacity<N>,
+        requires { IsPrintable shown.now }
+        ensures { result.shown.now ≡ shown.now }
+    {
+        let node = common_node(shown);
+        Example {
+            shown,
+            node,
+            beliefs: gathered(shown, node),
+        }
+    }
+
     /// Whether node `i` is known to believe the same.
     fn is_like(&self, i: u8) -> bool
+    where
+        Nodes: Capacity<N>,
         requires node { i < N }
-        requires example { IsExample self.now.shown.now self.now.node self.now.beliefs.now }
         ensures { result ≡ true
-            → self.now.beliefs.now.gathered ≡ believed self.now.shown.now i }
+            → self.now.beliefs.gathered ≡ believed self.now.shown.now i }
     {
         let shown = self.shown;
         if self.beliefs.failed {
@@ -113,7 +131,6 @@ impl<const ROOM: usize> Printer<ROOM> {
     )
     where
         Nodes: Capacity<N>,
-        requires nodes { head.now.nodes ≤ N }
         requires tasks { head.now.tasks ≤ 32 }
         requires idle { IsIdleFrom head.now.tasks agreed.now.copies }
         ensures { Prints K.written K.faults self.old sink.old self.new sink.new
@@ -170,8 +187,7 @@ impl<const ROOM: usize> Printer<ROOM> {
     where
         Nodes: Capacity<N>,
         requires node { i < N }
-        requires example { IsExample example.now.shown.now example.now.node
-            example.now.beliefs.now }
+        requires printable { IsPrintable example.now.shown.now }
         ensures { Prints K.written K.faults self.old sink.old self.new sink.new
             (believed example.now.shown.now i) }
     {
@@ -187,14 +203,13 @@ impl<const ROOM: usize> Printer<ROOM> {
     where
         Nodes: Capacity<N>,
         requires node { i < example.now.shown.now.head.nodes }
-        requires example { IsExample example.now.shown.now example.now.node
-            example.now.beliefs.now }
+        requires printable { IsPrintable example.now.shown.now }
         ensures { let t = record_of example.now.shown.now in
             Prints K.written K.faults self.old sink.old self.new sink.new
             (recorded_text t i (slice_get t.records i)) }
     {
         let head = &example.shown.head;
-        self.front(sink, i, letter_of(head.classes[i as usize]));
+        self.front(sink, i, letter_at(&head.classes, i));
         self.beliefs_like(sink, i, example);
     }
 
@@ -206,14 +221,7 @@ impl<const ROOM: usize> Printer<ROOM> {
         ensures { Prints K.written K.faults self.old sink.old self.new sink.new
             (nodes_text (record_of shown.now)) }
     {
-        let node = common_node(shown);
-        let mut beliefs = Printer::new();
-        gather(&mut beliefs, shown, node);
-        let example = Example {
-            shown,
-            node,
-            beliefs: &beliefs,
-        };
+        let example = Example::of(shown);
         for i in 0..shown.head.nodes {
             self.shown_node(sink, i, &example);
         }
@@ -221,7 +229,6 @@ impl<const ROOM: usize> Printer<ROOM> {
 
     /// Prints the line of a period's clocks, where it has some.
     fn shown_clock<K: Sink, const N: usize>(&mut self, sink: &mut K, shown: &Shown<N>)
-        requires { shown.now.head.nodes ≤ N }
         ensures { let t = record_of shown.now in
             Prints K.written K.faults self.old sink.old self.new sink.new (clock_text t t.clock) }
     {

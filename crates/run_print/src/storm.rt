@@ -4,6 +4,7 @@ ghost use Rattle.run_print.specs.Printing.{Prints, WritesText};
 ghost use Rattle.run_text.specs.StormText.{sums_text, outcome_text, storm_text};
 
 use crate::WriteFault;
+use crate::pieces::first;
 use crate::printer::{Printer, SMALL};
 use node_grid::NodeSet;
 use penalty::Counts;
@@ -72,14 +73,13 @@ impl<const ROOM: usize> Printer<ROOM> {
 
     /// Prints the last lines of a summary: members and counts, and the end.
     fn outcome<K: Sink, const N: usize>(&mut self, sink: &mut K, sum: &StormSum<N>)
-        requires { sum.now.nodes ≤ N }
         ensures { Prints K.written K.faults self.old sink.old self.new sink.new
             (outcome_text sum.now) }
     {
         self.text(sink, b"\nmembers ");
         self.set(sink, &sum.members);
         self.text(sink, b" counts ");
-        self.numbers(sink, &sum.counts.counts[..sum.nodes as usize]);
+        self.numbers(sink, first(&sum.counts.counts, sum.nodes));
         self.labelled(sink, b"\nend ", sum.periods as u64);
         self.byte(sink, b'\n');
     }
@@ -94,7 +94,6 @@ pub fn write_storm<const N: usize, K: Sink>(
     sum: &StormSum<N>,
     sink: &mut K,
 ) -> Result<(), WriteFault>
-    requires { sum.now.nodes ≤ N }
     ensures { WritesText K.written K.faults sink.old sink.new (storm_text sum.now) result }
 {
     let mut printer = Printer::<SMALL>::new();

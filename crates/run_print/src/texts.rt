@@ -11,6 +11,7 @@ ghost use Rattle.run_text.specs.Text.{separated, numbers_text, set_text, separat
 ghost use Rattle.run_text.specs.Text.{mode_text, running_text, runs_text, vote_text, vote_item};
 ghost use Rattle.run_text.specs.Text.{votes_text, claim_text, done_item};
 
+use crate::pieces::has_copies;
 use crate::printer::{Printer, two_digits};
 use list_scheduler::Copies;
 use node_core::Mode;
@@ -40,6 +41,19 @@ fn first_nodes(count: u8) -> &'static [u8]
     let count = count as usize;
     // from node 10 on there is a digit more
     &ALL_NODES[..2 * count - 1 + count.saturating_sub(10)]
+}
+
+/// What a node runs; nothing of a node that has no copies.
+fn running_on<const N: usize>(copies: &Copies<N>, node: u8) -> Option<(u8, u16)>
+where
+    Nodes: Capacity<N>,
+    ensures { result ≡ works copies.now node }
+{
+    if has_copies(copies, node) {
+        copies.running(node)
+    } else {
+        None
+    }
 }
 
 /// The vote on a channel; none for a number that is no channel's.
@@ -170,12 +184,11 @@ impl<const ROOM: usize> Printer<ROOM> {
     )
     where
         Nodes: Capacity<N>,
-        requires nodes { nodes ≤ N }
         ensures { Prints K.written K.faults self.old sink.old self.new sink.new
             (runs_text nodes copies.now) }
     {
         for node in 0..nodes {
-            self.run_at(sink, node as usize, copies.running(node));
+            self.run_at(sink, node as usize, running_on(copies, node));
         }
     }
 

@@ -133,18 +133,18 @@ fn start_of(period: u32, slot: u8, from: u8) -> Start
     start
 }
 
-/// The length of the longest frame of a slot.
-fn longest<const N: usize>(shown: &PeriodRecord<N>, slot: u8) -> usize
-    requires slot { slot < slot_count shown.now.m }
-    ensures each { (from : ℕ) → from < shown.now.nodes
-        → length (frame_at shown.now slot from) ≤ result }
+/// The length of the longest frame of the slot.
+fn longest<const N: usize>(traced: &TracedSlot<'_, N>) -> usize
+    ensures each { (from : ℕ) → from < traced.now.shown.now.nodes
+        → length (frame_at traced.now.shown.now traced.now.slot from) ≤ result }
     ensures short { result ≤ 90104 }
 {
+    let shown = traced.shown;
     // naming a field tells the checker the types of all of them
     let _ = &shown.classes;
     let mut most = 0;
     for from in 0..shown.nodes {
-        most = most.max(shown.sent(slot, from).len());
+        most = most.max(shown.sent(traced.slot, from).len());
     }
     most
 }
@@ -321,7 +321,7 @@ impl<const ROOM: usize> Printer<ROOM> {
         ensures { Prints K.written K.faults self.old sink.old self.new sink.new
             (slot_text traced.now.plan.now traced.now.shown.now traced.now.slot) }
     {
-        if longest(traced.shown, traced.slot) <= SHORT_FRAME {
+        if longest(traced) <= SHORT_FRAME {
             self.slot_within::<K, N, SHORT_ROOM>(sink, traced);
         } else {
             self.slot_within::<K, N, LONG_ROOM>(sink, traced);

@@ -7,4 +7,4 @@ pub returns : goal.returns
 returns g c fits = all_gathered _ _ _ _ _ _ (settled_text c.args.nodes c.args.shown.now) refl refl c.new-printer.ensures.gathered c.new-printer.ensures.failed fits c.settled.ensures
 
 pub settled-requires : goal.settled-requires
-settled-requires g c = (lit< tt, (elim g.bound-1.eight_or_sixteen [ inl e ↦ rw e (lit< tt) | inr e ↦ rw e (lit< tt) ], c.requires.nodes))
+settled-requires g c = (lit< tt, elim g.bound-1.eight_or_sixteen [ inl e ↦ rw e (lit< tt) | inr e ↦ rw e (lit< tt) ])

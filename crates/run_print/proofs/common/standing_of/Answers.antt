@@ -15,7 +15,7 @@ pub new-printer-requires : goal.new-printer-requires
 new-printer-requires g c = lit< tt
 
 pub standing-requires : goal.standing-requires
-standing-requires g c = (lit< tt, (elim g.bound-1.eight_or_sixteen [ inl e ↦ rw e (lit< tt) | inr e ↦ rw e (lit< tt) ], c.requires.nodes))
+standing-requires g c = (lit< tt, elim g.bound-1.eight_or_sixteen [ inl e ↦ rw e (lit< tt) | inr e ↦ rw e (lit< tt) ])
 
 pub returns-in-None : goal.returns-in-None
 returns-in-None g c e a h = absurd (true≢false e)

@@ -11,7 +11,7 @@ returns g c =
     (then (then c.labelled.ensures c.byte.ensures) (then c.front.ensures beliefs)) c.finish.ensures
 
 pub of-common-requires : goal.of-common-requires
-of-common-requires g c = (elim g.bound-2.eight_or_sixteen [ inl e ↦ rw e (lit< tt) | inr e ↦ rw e (lit< tt) ], (lit< tt, c.requires.nodes))
+of-common-requires g c = (elim g.bound-2.eight_or_sixteen [ inl e ↦ rw e (lit< tt) | inr e ↦ rw e (lit< tt) ], lit< tt)
 
 pub beliefs-requires : goal.beliefs-requires
 beliefs-requires g c = (lit< tt, (elim g.bound-2.eight_or_sixteen [ inl e ↦ rw e (lit< tt) | inr e ↦ rw e (lit< tt) ], lit< tt))

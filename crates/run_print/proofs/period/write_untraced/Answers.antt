@@ -9,7 +9,7 @@ pub new-printer-requires : goal.new-printer-requires
 new-printer-requires g c = lit< tt
 
 pub untraced-requires : goal.untraced-requires
-untraced-requires g c = (lit< tt, (assumption, c.requires.nodes))
+untraced-requires g c = (lit< tt, assumption)
 
 pub finish-requires : goal.finish-requires
 finish-requires g c = lit< tt

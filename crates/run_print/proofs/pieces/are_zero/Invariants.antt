@@ -2,4 +2,4 @@ use Rattle.std.proofs.Common.{ℕ, ◌<◌, ◌≤◌, get_or}
 use Rattle.run_print.proofs.pieces.are_zero.Given as goal
 
 abbrev pub invariant-loop-n : goal.invariant-loop-n
-invariant-loop-n g l = (k : ℕ) → k < l.n-index → get_or l.numbers k 0 ≤ l.most
+invariant-loop-n l = (k : ℕ) → k < l.n-index → get_or l.numbers k 0 ≤ l.most

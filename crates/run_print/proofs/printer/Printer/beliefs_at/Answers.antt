@@ -15,7 +15,7 @@ pub mode-requires : goal.mode-requires
 mode-requires g c = (elim g.bound-2.eight_or_sixteen [ inl e ↦ rw e (lit< tt) | inr e ↦ rw e (lit< tt) ], c.requires.node)
 
 pub whole_state-requires : goal.whole_state-requires
-whole_state-requires g c = (assumption, (elim g.bound-2.eight_or_sixteen [ inl e ↦ rw e (lit< tt) | inr e ↦ rw e (lit< tt) ], (elim g.bound-2.eight_or_sixteen [ inl e ↦ rw e (lit< tt) | inr e ↦ rw e (lit< tt) ], (c.requires.printable.nodes, (c.requires.printable.tasks, c.requires.printable.idle c.args.i _ (sym c.in-Some.ensures))))))
+whole_state-requires g c = (assumption, (elim g.bound-2.eight_or_sixteen [ inl e ↦ rw e (lit< tt) | inr e ↦ rw e (lit< tt) ], (elim g.bound-2.eight_or_sixteen [ inl e ↦ rw e (lit< tt) | inr e ↦ rw e (lit< tt) ], (c.requires.printable.tasks, c.requires.printable.idle c.args.i _ (sym c.in-Some.ensures)))))
 
 pub settled_at-requires : goal.settled_at-requires
 settled_at-requires g c = (assumption, (elim g.bound-2.eight_or_sixteen [ inl e ↦ rw e (lit< tt) | inr e ↦ rw e (lit< tt) ], (c.requires.printable, c.requires.node)))

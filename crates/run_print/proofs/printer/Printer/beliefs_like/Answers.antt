@@ -10,7 +10,7 @@ pub returns-else-is_like : goal.returns-else-is_like
 returns-else-is_like g c = c.beliefs_at.ensures
 
 pub is_like-requires : goal.is_like-requires
-is_like-requires g c = (lit< tt, (c.requires.node, c.requires.example))
+is_like-requires g c = (lit< tt, c.requires.node)
 
 pub beliefs_at-requires : goal.beliefs_at-requires
-beliefs_at-requires g c = (assumption, (elim g.bound-2.eight_or_sixteen [ inl e ↦ rw e (lit< tt) | inr e ↦ rw e (lit< tt) ], (c.requires.example.printable, c.requires.node)))
+beliefs_at-requires g c = (assumption, (elim g.bound-2.eight_or_sixteen [ inl e ↦ rw e (lit< tt) | inr e ↦ rw e (lit< tt) ], (c.requires.printable, c.requires.node)))

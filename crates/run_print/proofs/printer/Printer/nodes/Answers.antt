@@ -11,9 +11,6 @@ use Rattle.run_print.proofs.printer.Printer.nodes.Goals as goal
 among : (a b i : ℕ) → a ≡ b → 0 < a → i ≤ a - 1 → i < b
 among a b i e h least = omega (arith, e, h, least)
 
-at_most : (a b n : ℕ) → a ≡ b → b ≤ n → a ≤ n
-at_most a b n e h = omega (arith, e, h)
-
 none : (a b : ℕ) → a ≤ 0 → a ≡ b → 0 ≡ b
 none a b h e = omega (arith, h, e)
 
@@ -22,7 +19,7 @@ node-example-requires g c = (assumption, (elim g.bound-2.eight_or_sixteen [ inl 
 
 pub of-requires : goal.of-requires
 of-requires g c =
-    (elim g.bound-2.eight_or_sixteen [ inl e ↦ rw e (lit< tt) | inr e ↦ rw e (lit< tt) ], (lit< tt, at_most _ _ _ (ap (λ (t : PeriodView). t.nodes) c.shown.view_is) c.requires.nodes))
+    (elim g.bound-2.eight_or_sixteen [ inl e ↦ rw e (lit< tt) | inr e ↦ rw e (lit< tt) ], lit< tt)
 
 pub nodes_with-requires : goal.nodes_with-requires
 nodes_with-requires g c = (assumption, (assumption, (lit< tt, c.of.ensures ∙ ap (λ (t : PeriodView). t.nodes) c.shown.view_is)))

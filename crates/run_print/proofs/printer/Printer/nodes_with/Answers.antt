@@ -1,4 +1,4 @@
-use Rattle.std.proofs.Common.{◌≡◌, ℕ, subst, ◌∙◌, arith}
+use Rattle.std.proofs.Common.{◌≡◌, ℕ, subst, arith}
 use Rattle.std.specs.List.{flat_map}
 use Rattle.node_grid.specs.NodeSet.{ids_below}
 use Rattle.node_grid.specs.SetFacts.{flat_map_next}

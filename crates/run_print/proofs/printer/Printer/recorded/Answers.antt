@@ -1,4 +1,4 @@
-use Rattle.std.proofs.Common.{ℕ, subst, ◌≡◌, arith, inl, inr, sym, ap, ◌∙◌, lit<}
+use Rattle.std.proofs.Common.{ℕ, subst, ◌≡◌, inl, inr, sym, ap, ◌∙◌, lit<}
 use Rattle.cluster_periods.specs.Record.{PeriodView}
 use Rattle.run_text.specs.NodeText.{beliefs_text}
 use Rattle.run_print.specs.Printing.{Prints}
@@ -9,10 +9,7 @@ pub returns : goal.returns
 returns g c =
     let same : c.args.common.now.nodes ≡ c.shown.inside.nodes = c.requires.same ∙ sym (ap (λ (t : PeriodView). t.nodes) c.shown.view_is) in
     let beliefs = subst (λ (k : ℕ). Prints g.K.Sink.written g.K.Sink.faults c.front.new.self c.front.new.sink c.beliefs.new.self c.beliefs.new.sink (beliefs_text k c.shown.inside.retire c.node.result.now c.node.result.now.agreed)) same c.beliefs.ensures in
-    rw (c.node.ensures, sym c.shown.view_is) (then (rw (sym c.letter_of.ensures) at c.front.ensures) beliefs)
-
-pub bounds-shown-inside-i : goal.bounds-shown-inside-i
-bounds-shown-inside-i g c = omega (arith, c.requires.node, c.requires.same, c.args.common.now.few)
+    rw (c.node.ensures, sym c.shown.view_is) (then (rw (sym c.letter_at.ensures) at c.front.ensures) beliefs)
 
 pub front-requires : goal.front-requires
 front-requires g c = assumption

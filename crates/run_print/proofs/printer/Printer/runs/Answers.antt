@@ -11,14 +11,14 @@ use Rattle.run_print.proofs.printer.Printer.runs.Goals as goal
 pub loop-node-preserved : goal.loop-node-preserved
 loop-node-preserved g c =
     rw (joined_next (codes ",") (λ q. running_text (works c.args.copies.now q)) c.loop-node.node)
-    (then c.loop-node.invariant (rw (sym c.running.ensures) c.run_at.ensures))
+    (then c.loop-node.invariant (rw (sym c.running_on.ensures) c.run_at.ensures))
 
 pub run_at-requires : goal.run_at-requires
 run_at-requires g c = assumption
 
-pub running-requires : goal.running-requires
-running-requires g c =
-    (elim g.bound-2.eight_or_sixteen [ inl e ↦ rw e (lit< tt) | inr e ↦ rw e (lit< tt) ], omega (arith, c.loop-node-test.true, c.requires.nodes))
+pub running_on-requires : goal.running_on-requires
+running_on-requires g c =
+    elim g.bound-2.eight_or_sixteen [ inl e ↦ rw e (lit< tt) | inr e ↦ rw e (lit< tt) ]
 
 pub loop-node-init : goal.loop-node-init
 loop-node-init g c = nothing g.K.Sink.written g.K.Sink.faults c.args.self.now c.args.sink.now

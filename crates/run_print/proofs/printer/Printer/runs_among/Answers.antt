@@ -18,7 +18,7 @@ run_at-requires g c = assumption
 
 pub running_among-requires : goal.running_among-requires
 running_among-requires g c =
-    (elim g.bound-2.eight_or_sixteen [ inl e ↦ rw e (lit< tt) | inr e ↦ rw e (lit< tt) ], (c.requires.tasks, (omega (arith, c.loop-node-test.true, c.requires.nodes), c.requires.idle)))
+    (elim g.bound-2.eight_or_sixteen [ inl e ↦ rw e (lit< tt) | inr e ↦ rw e (lit< tt) ], (c.requires.tasks, c.requires.idle))
 
 pub loop-node-init : goal.loop-node-init
 loop-node-init g c = nothing g.K.Sink.written g.K.Sink.faults c.args.self.now c.args.sink.now

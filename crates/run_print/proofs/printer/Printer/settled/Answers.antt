@@ -14,4 +14,4 @@ as_slice-requires g c = lit< tt
 
 pub claims_and_rows-requires : goal.claims_and_rows-requires
 claims_and_rows-requires g c =
-    (assumption, (lit< tt, (elim g.bound-2.eight_or_sixteen [ inl e ↦ rw e (lit< tt) | inr e ↦ rw e (lit< tt) ], (elim g.bound-2.eight_or_sixteen [ inl e ↦ rw e (lit< tt) | inr e ↦ rw e (lit< tt) ], c.requires.nodes))))
+    (assumption, (lit< tt, (elim g.bound-2.eight_or_sixteen [ inl e ↦ rw e (lit< tt) | inr e ↦ rw e (lit< tt) ], elim g.bound-2.eight_or_sixteen [ inl e ↦ rw e (lit< tt) | inr e ↦ rw e (lit< tt) ])))

@@ -19,4 +19,4 @@ members-members-requires g c = (elim g.bound-2.eight_or_sixteen [ inl e ↦ rw e
 
 pub claims_and_rows-requires : goal.claims_and_rows-requires
 claims_and_rows-requires g c =
-    (assumption, (lit< tt, (elim g.bound-2.eight_or_sixteen [ inl e ↦ rw e (lit< tt) | inr e ↦ rw e (lit< tt) ], (elim g.bound-2.eight_or_sixteen [ inl e ↦ rw e (lit< tt) | inr e ↦ rw e (lit< tt) ], c.requires.printable.nodes))))
+    (assumption, (lit< tt, (elim g.bound-2.eight_or_sixteen [ inl e ↦ rw e (lit< tt) | inr e ↦ rw e (lit< tt) ], elim g.bound-2.eight_or_sixteen [ inl e ↦ rw e (lit< tt) | inr e ↦ rw e (lit< tt) ])))

@@ -6,7 +6,7 @@ pub as_slice-requires : goal.as_slice-requires
 as_slice-requires g c = lit< tt
 
 pub settled-requires : goal.settled-requires
-settled-requires g c = (assumption, (assumption, c.args.common.now.few))
+settled-requires g c = (assumption, assumption)
 
 pub settles-requires : goal.settles-requires
 settles-requires g c = (lit< tt, assumption)

@@ -10,4 +10,4 @@ loop-i-init g c = nothing g.K.Sink.written g.K.Sink.faults c.args.self.now c.arg
 
 pub loop-i-preserved : goal.loop-i-preserved
 loop-i-preserved g c =
-    rw (flat_map_next (λ i. recorded_text (record_of c.args.shown.now) i (slice_get (record_of c.args.shown.now).records i)) c.loop-i.i) (then c.loop-i.invariant c.shown_node.ensures)
+    rw (flat_map_next (λ i. recorded_text (record_of c.args.shown.now) i (slice_get (record_of c.args.shown.now).records i)) c.loop-i.i) (then c.loop-i.invariant (rw c.of-example.ensures at c.shown_node.ensures))

@@ -20,7 +20,7 @@ pub set-requires : goal.set-requires
 set-requires g c = (assumption, lit< tt)
 
 pub mostly_zeros-requires : goal.mostly_zeros-requires
-mostly_zeros-requires g c = (assumption, (elim g.bound-2.eight_or_sixteen [ inl e ↦ rw e (lit< tt) | inr e ↦ rw e (lit< tt) ], c.requires.nodes))
+mostly_zeros-requires g c = (assumption, elim g.bound-2.eight_or_sixteen [ inl e ↦ rw e (lit< tt) | inr e ↦ rw e (lit< tt) ])
 
 pub mostly_zeros-requires-2 : goal.mostly_zeros-requires-2
-mostly_zeros-requires-2 g c = (assumption, (elim g.bound-2.eight_or_sixteen [ inl e ↦ rw e (lit< tt) | inr e ↦ rw e (lit< tt) ], c.requires.nodes))
+mostly_zeros-requires-2 g c = (assumption, elim g.bound-2.eight_or_sixteen [ inl e ↦ rw e (lit< tt) | inr e ↦ rw e (lit< tt) ])

@@ -8,7 +8,7 @@ pub head-requires : goal.head-requires
 head-requires g c = (assumption, assumption)
 
 pub nodes-requires : goal.nodes-requires
-nodes-requires g c = (assumption, (assumption, c.requires.nodes))
+nodes-requires g c = (assumption, assumption)
 
 pub clock-requires : goal.clock-requires
-clock-requires g c = (assumption, (assumption, c.requires.nodes))
+clock-requires g c = (assumption, assumption)

@@ -12,4 +12,4 @@ returns g c =
     c.text.ensures) c.runs_among.ensures) c.left.ensures)
 
 pub standing-requires : goal.standing-requires
-standing-requires g c = (assumption, (elim g.bound-2.eight_or_sixteen [ inl e ↦ rw e (lit< tt) | inr e ↦ rw e (lit< tt) ], c.requires.nodes))
+standing-requires g c = (assumption, elim g.bound-2.eight_or_sixteen [ inl e ↦ rw e (lit< tt) | inr e ↦ rw e (lit< tt) ])
