@@ -36,7 +36,7 @@ traced_is {N} sc run plan t p same lent is =
     ap (period_text plan true) (is ∙ ap (λ (s : ScenarioView N). period_record (system_of s) s.clock p) same)
     ∙ ap (λ (q : Plan). period_text q true (period_record (system_of sc) sc.clock p)) lent
 
--- what a record keeps of its period: the nodes, for which there is room, and that the scenario's plan is made for it
+-- what a record keeps of its period: its nodes, rounds and number, and that the scenario's plan is made for it
 module _ {N : ℕ} (sc run : ScenarioView N) (t : PeriodView) (p : ℕ) (same : run ≡ sc) (is : IsScenario sc) (h : t ≡ period_record (system_of run) run.clock p) where
   kept : (t.nodes ≡ sc.config.nodes) × (t.m ≡ sc.config.m) × (t.period ≡ p)
   kept = (
@@ -44,9 +44,6 @@ module _ {N : ℕ} (sc run : ScenarioView N) (t : PeriodView) (p : ℕ) (same : 
     ap (λ (v : PeriodView). v.m) h ∙ ap (λ (s : ScenarioView N). s.config.m) same,
     ap (λ (v : PeriodView). v.period) h,
   )
-
-  pub shown_few : t.nodes ≤ N
-  shown_few = subst (λ (n : ℕ). n ≤ N) (sym kept.0) is.system.config.few_nodes
 
   pub shown_planned : (plan : Plan) → plan ≡ sc.plan → p < run.periods → IsPlanOf plan t
   shown_planned plan lent more = record {

@@ -1,7 +1,7 @@
 use Rattle.std.proofs.Common.{◌<◌, ◌≤◌, subst, List, ℕ, inl, inr, lit<}
 use Rattle.span_io.specs.Causes.{Writes}
 use Rattle.run_print.specs.declared.WriteFault.{WriteFault}
-use Rattle.top_call.proofs.Printed.{traced_is, shown_few, shown_planned}
+use Rattle.top_call.proofs.Printed.{traced_is, shown_planned}
 use Rattle.top_call.proofs.replay.trace_next.Goals as goal
 
 pub returns-clause-wrote : goal.returns-clause-wrote
@@ -22,11 +22,10 @@ period-shown-requires g c =
     (elim g.bound-2.eight_or_sixteen [ inl e ↦ rw e (lit< tt) | inr e ↦ rw e (lit< tt) ], (elim g.bound-2.eight_or_sixteen [ inl e ↦ rw e (lit< tt) | inr e ↦ rw e (lit< tt) ], more))
 
 pub write_period-requires : goal.write_period-requires
-write_period-requires g c =
-    let few : c.period-shown.result.now.nodes ≤ g.row.N = shown_few c.args.scenario.now c.args.cluster.now.scenario c.period-shown.result.now c.args.cluster.now.run c.requires.same c.plan-plan.ensures.scenario c.period-shown.ensures.shown in (
-      elim g.bound-2.eight_or_sixteen [ inl e ↦ rw e (lit< tt) | inr e ↦ rw e (lit< tt) ],
-      (
-        lit< tt,
-        (few, λ e. shown_planned c.args.scenario.now c.args.cluster.now.scenario c.period-shown.result.now c.args.cluster.now.run c.requires.same c.plan-plan.ensures.scenario c.period-shown.ensures.shown c.plan-plan.result.now c.plan-plan.ensures.plan (rw c.requires.same c.requires.more)),
-      ),
-    )
+write_period-requires g c = (
+  elim g.bound-2.eight_or_sixteen [ inl e ↦ rw e (lit< tt) | inr e ↦ rw e (lit< tt) ],
+  (
+    lit< tt,
+    λ e. shown_planned c.args.scenario.now c.args.cluster.now.scenario c.period-shown.result.now c.args.cluster.now.run c.requires.same c.plan-plan.ensures.scenario c.period-shown.ensures.shown c.plan-plan.result.now c.plan-plan.ensures.plan (rw c.requires.same c.requires.more),
+  ),
+)

@@ -32,9 +32,7 @@ overflow_cast-period g c =
     let next = held.live.next in omega (arith, next)
 
 pub write_alone-requires : goal.write_alone-requires
-write_alone-requires g c =
-    let few : c.config-config.result.now.nodes ≤ g.row.N = rw c.config-config.ensures.config c.config-config.ensures.scenario.system.config.few_nodes in
-    (elim g.bound-2.eight_or_sixteen [ inl e ↦ rw e (lit< tt) | inr e ↦ rw e (lit< tt) ], (elim g.bound-2.eight_or_sixteen [ inl e ↦ rw e (lit< tt) | inr e ↦ rw e (lit< tt) ], few))
+write_alone-requires g c = (elim g.bound-2.eight_or_sixteen [ inl e ↦ rw e (lit< tt) | inr e ↦ rw e (lit< tt) ], elim g.bound-2.eight_or_sixteen [ inl e ↦ rw e (lit< tt) | inr e ↦ rw e (lit< tt) ])
 
 pub clock-requires : goal.clock-requires
 clock-requires g c =
