@@ -17,10 +17,16 @@ fn members() -> NodeSet<8>
     set
 }
 
-/// The nodes of path 1 4.
-fn of_nodes(rt: &HostRuntime, path: &Path) -> io::Result<()>
-    requires { path.now ≡ 1 ∷ 4 ∷ [] }
+/// Path 1 4.
+fn path() -> Path
+    ensures { result ≡ 1 ∷ 4 ∷ [] }
 {
+    Path::root(1).then(4)
+}
+
+/// The nodes of path 1 4.
+fn of_nodes(rt: &HostRuntime) -> io::Result<()> {
+    let path = path();
     rows(
         rt,
         &[
@@ -34,11 +40,10 @@ fn of_nodes(rt: &HostRuntime, path: &Path) -> io::Result<()>
 
 fn of_paths(rt: &HostRuntime) -> io::Result<()> {
     let set = members();
-    let path = Path::root(1).then(4);
     row(
         rt,
         "over nodes 0, 1, 2, 4 the rank of path 1 4",
-        rank(&set, &path),
+        rank(&set, &path()),
     )?;
     let other = unrank(&set, 2, 11);
     row(
@@ -53,7 +58,7 @@ fn of_paths(rt: &HostRuntime) -> io::Result<()> {
             ("paths of 3 of 14", count_paths(14, 3)),
         ],
     )?;
-    of_nodes(rt, &path)
+    of_nodes(rt)
 }
 
 fn of_wrapping(rt: &HostRuntime) -> io::Result<()> {

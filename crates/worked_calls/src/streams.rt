@@ -1,7 +1,5 @@
 //! Sources and sinks in memory and over readers and writers.
 
-ghost use Rattle.std.specs.Prelude.{◌≤◌};
-
 use span_io::{
     Failed, MemSink, MemSource, ReadError, Sink, Source, StdSink, StdSource, read_all, write_all,
 };
@@ -22,10 +20,8 @@ fn numbers(alloc: Global, list: &[u64]) -> Result<Vec<u64>, AllocError> {
 }
 
 /// Prints how many bytes a source gives, or why it doesn't.
-fn read<S: Source>(rt: &HostRuntime, asked: &str, source: &mut S, most: usize) -> anyhow::Result<()>
-    requires { most ≤ 10000 }
-{
-    match read_all(rt.alloc(), source, most) {
+fn read<S: Source>(rt: &HostRuntime, asked: &str, source: &mut S, most: u16) -> anyhow::Result<()> {
+    match read_all(rt.alloc(), source, most as usize) {
         Ok(bytes) => row(rt, asked, bytes.len())?,
         Err(error) => println!(rt; "{asked}: {error}")?,
     }
@@ -34,18 +30,14 @@ fn read<S: Source>(rt: &HostRuntime, asked: &str, source: &mut S, most: usize) -
 
 /// Prints how many of five bytes a source gives in pieces of 2, some calls of which fail, or why it
 /// doesn't.
-fn read_memory(rt: &HostRuntime, asked: &str, fails: &[u64], most: usize) -> anyhow::Result<()>
-    requires { most ≤ 10000 }
-{
+fn read_memory(rt: &HostRuntime, asked: &str, fails: &[u64], most: u16) -> anyhow::Result<()> {
     let text = bytes(rt.alloc(), b"maft\n")?;
     let mut source = MemSource::new(text, 2, numbers(rt.alloc(), fails)?);
     read(rt, asked, &mut source, most)
 }
 
 /// Prints how many bytes a reader of these gives, or why it doesn't.
-fn read_slice(rt: &HostRuntime, asked: &str, bytes: &[u8], most: usize) -> anyhow::Result<()>
-    requires { most ≤ 10000 }
-{
+fn read_slice(rt: &HostRuntime, asked: &str, bytes: &[u8], most: u16) -> anyhow::Result<()> {
     let mut reader = StdSource::new(bytes);
     read(rt, asked, &mut reader, most)
 }

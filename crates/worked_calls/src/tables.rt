@@ -1,54 +1,16 @@
 //! What one node heard of an item and settles, in the plain table.
 
-ghost use Rattle.std.specs.Prelude.{◌≡◌, ◌≢◌, ◌<◌, ◌≤◌, ◌+◌};
-ghost use Rattle.node_grid.specs.NodeSet.{without_id};
+ghost use Rattle.std.specs.Prelude.{ℕ, ◌≡◌, ◌≢◌, ◌<◌, ◌≤◌, true, length, IfSome};
+ghost use Rattle.node_grid.specs.NodeSet.{has_id, without_id};
 ghost use Rattle.omh_paths.specs.declared.wrapped.Wrapped.TheVariants.{Fault};
 
 use crate::answers::Said;
-use node_grid::NodeSet;
+use node_grid::{NoMemory, NodeSet};
 use omh::Table;
-use omh_paths::{Wrapped, count_paths, unrank};
-use std::alloc::AllocError;
+use omh_paths::{Path, Wrapped, count_paths, unrank};
+use std::alloc::{AllocError, Global};
 use std::io;
 use worked_rows::row;
-
-/// Puts what was heard for the path at this place among those of so many of the others, if there is
-/// one.
-fn put(table: &mut Table<u8, 8>, others: &NodeSet<8>, len: u8, place: usize, value: Wrapped<u8>)
-    requires some { 0 < len }
-    requires few { len ≤ 4 }
-    requires short { len ≤ table.old.rounds + 1 }
-    requires others { others.now ≡ without_id table.old.members table.old.me }
-    requires known { value ≢ Fault 255 }
-    ensures { table.new ≡ record table.old { heard = table.new.heard } }
-{
-    let count = others.len();
-    if place < count_paths(count, len) {
-        let path = unrank(others, len, place);
-        table.put(&path, value);
-    }
-}
-
-/// What the node passes on of the path at this place among those of so many of the others, if there
-/// is one.
-fn passed_on(
-    table: &Table<u8, 8>,
-    others: &NodeSet<8>,
-    len: u8,
-    place: usize,
-) -> Option<Wrapped<u8>>
-    requires some { 0 < len }
-    requires few { len ≤ 4 }
-    requires short { len ≤ table.now.rounds + 1 }
-    requires others { others.now ≡ without_id table.now.members table.now.me }
-{
-    let count = others.len();
-    if place < count_paths(count, len) {
-        let path = unrank(others, len, place);
-        return Some(table.relay(&path));
-    }
-    None
-}
 
 /// What comes from a node that relays what it heard.
 #[derive(Clone, Copy)]
@@ -82,13 +44,76 @@ struct Hears {
     full: bool,
     told: u8,
     relays: [Relay; 2],
+    ghost other: { me < 3 },
+}
+
+/// A node of four with one relay round, and the other members.
+#[derive(Drop)]
+struct Node {
+    table: Table<u8, 8>,
+    others: NodeSet<8>,
+    ghost nodes: { table.nodes ≡ 4 },
+    ghost rounds: { table.rounds ≡ 1 },
+    ghost left: { others ≡ without_id table.members table.me },
+}
+
+impl Node {
+    /// One that has no members yet.
+    fn open(alloc: Global) -> Result<Node, NoMemory> {
+        Ok(Node {
+            table: Table::open(alloc, 4, 1)?,
+            others: NodeSet::empty(),
+        })
+    }
+
+    /// Begins with all four nodes as members.
+    fn start(&mut self, hears: &Hears) {
+        let members: NodeSet<8> = NodeSet::full(4);
+        self.table
+            .start(&members, hears.me, hears.full, Wrapped::Plain(0));
+        self.others = members.without(hears.me);
+    }
+
+    /// The path at this place among those of so many of the others, if there is one.
+    fn path_at(&self, len: u8, place: usize) -> Option<Path>
+        ensures { IfSome result (λ path. (length path ≤ 2) × ((q : ℕ) → has_id path q ≡ true
+            → has_id self.now.others q ≡ true)) }
+    {
+        let count = self.others.len();
+        if len == 0 || len > 2 || place >= count_paths(count, len) {
+            return None;
+        }
+        Some(unrank(&self.others, len, place))
+    }
+
+    /// Puts what was heard for the path at this place among those of so many of the others, if
+    /// there is one.
+    fn put(&mut self, len: u8, place: usize, heard: Relay) {
+        if let Some(path) = self.path_at(len, place) {
+            self.table.put(&path, heard.heard());
+        }
+    }
+
+    /// What the node passes on of the path at this place among those of so many of the others, if
+    /// there is one.
+    fn passed_on(&self, len: u8, place: usize) -> Option<Wrapped<u8>> {
+        let path = self.path_at(len, place)?;
+        Some(self.table.relay(&path))
+    }
+
+    /// What the node settles of another member.
+    fn settle(&mut self, member: u8) -> Option<Wrapped<u8>> {
+        if self.others.has(member) {
+            Some(self.table.settle(member))
+        } else {
+            None
+        }
+    }
 }
 
 /// What the node passes on of node 3 before it heard anything of it.
-fn show_before(rt: &HostRuntime, table: &Table<u8, 8>, others: &NodeSet<8>) -> io::Result<()>
-    requires others { others.now ≡ without_id table.now.members table.now.me }
-{
-    match passed_on(table, others, 1, 2) {
+fn show_before(rt: &HostRuntime, node: &Node) -> io::Result<()> {
+    match node.passed_on(1, 2) {
         Some(before) => row(
             rt,
             "nothing was heard of node 3: of it is passed on",
@@ -98,38 +123,25 @@ fn show_before(rt: &HostRuntime, table: &Table<u8, 8>, others: &NodeSet<8>) -> i
     }
 }
 
-/// What the node settles of node 3 in this table of four nodes and one relay round.
-fn settle_in(
-    rt: &HostRuntime,
-    asked: &str,
-    table: &mut Table<u8, 8>,
-    hears: &Hears,
-) -> io::Result<()>
-    requires me { hears.now.me < 3 }
-    requires nodes { table.old.nodes ≡ 4 }
-    requires rounds { table.old.rounds ≡ 1 }
-{
-    let members: NodeSet<8> = NodeSet::full(4);
-    table.start(&members, hears.me, hears.full, Wrapped::Plain(0));
-    let others = members.without(hears.me);
-    show_before(rt, table, &others)?;
-    put(table, &others, 1, 2, Wrapped::Plain(hears.told));
-    put(table, &others, 2, 4, hears.relays[0].heard());
-    put(table, &others, 2, 5, hears.relays[1].heard());
-    if members.has(3) {
-        return row(rt, asked, Said(table.settle(3)));
+/// What this node settles of node 3.
+fn settle_in(rt: &HostRuntime, asked: &str, node: &mut Node, hears: &Hears) -> io::Result<()> {
+    node.start(hears);
+    show_before(rt, node)?;
+    node.put(1, 2, Relay::Value(hears.told));
+    node.put(2, 4, hears.relays[0]);
+    node.put(2, 5, hears.relays[1]);
+    match node.settle(3) {
+        Some(settled) => row(rt, asked, Said(settled)),
+        None => Ok(()),
     }
-    Ok(())
 }
 
 /// What the node settles of node 3.
-fn settled(rt: &HostRuntime, asked: &str, hears: &Hears) -> anyhow::Result<()>
-    requires { hears.now.me < 3 }
-{
-    let Ok(mut table) = Table::<u8, 8>::open(rt.alloc(), 4, 1) else {
+fn settled(rt: &HostRuntime, asked: &str, hears: &Hears) -> anyhow::Result<()> {
+    let Ok(mut node) = Node::open(rt.alloc()) else {
         return Err(AllocError.into());
     };
-    Ok(settle_in(rt, asked, &mut table, hears)?)
+    Ok(settle_in(rt, asked, &mut node, hears)?)
 }
 
 pub fn print(rt: &HostRuntime) -> anyhow::Result<()> {
