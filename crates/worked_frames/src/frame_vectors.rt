@@ -1,7 +1,5 @@
 //! A frame of each kind, read and written again, cut, with a byte more, and damaged.
 
-ghost use Rattle.std.specs.Prelude.{◌<◌, ◌≤◌};
-
 use frames::{Body, Expect, Frame, decode, encode};
 use node_grid::NodeSet;
 use std::io;
@@ -15,11 +13,9 @@ struct Vector {
     bytes: &'static [u8],
 }
 
-/// What is expected in this slot of this period from this sender, of so many nodes, all members,
-/// with so many relay rounds.
-fn expect(nodes: u8, m: u8, period: u32, slot: u8, sender: u8) -> Expect<8>
-    requires { nodes ≤ 8 }
-{
+/// What is expected in this slot of this period from this sender, of so many nodes, of which all are
+/// members for which there is room, with so many relay rounds.
+fn expect(nodes: u8, m: u8, period: u32, slot: u8, sender: u8) -> Expect<8> {
     Expect {
         version: 1,
         nodes,
@@ -27,7 +23,7 @@ fn expect(nodes: u8, m: u8, period: u32, slot: u8, sender: u8) -> Expect<8>
         period,
         slot,
         sender,
-        members: NodeSet::full(nodes),
+        members: NodeSet::full(nodes.min(8)),
         state_len: 2 + 4 * nodes as u16,
         tasks: 0,
         due: 1,
@@ -172,12 +168,12 @@ fn of_each(rt: &HostRuntime) -> io::Result<()> {
     Ok(())
 }
 
-/// The bytes with another one at this place.
-fn with<const L: usize>(bytes: &[u8; L], at: usize, byte: u8) -> [u8; L]
-    requires { at < L }
-{
+/// The bytes with another one at this place, if there is such a place.
+fn with<const L: usize>(bytes: &[u8; L], at: usize, byte: u8) -> [u8; L] {
     let mut changed = *bytes;
-    changed[at] = byte;
+    if at < L {
+        changed[at] = byte;
+    }
     changed
 }
 

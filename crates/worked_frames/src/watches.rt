@@ -57,19 +57,16 @@ fn opened(alloc: Global) -> Result<SlotWatch<8>, NoMemory>
     Ok(watch)
 }
 
-/// Prints what is found of node 2, of which these frames arrive, two at most, and whether it claims
-/// nothing then.
-fn tell(
-    rt: &HostRuntime,
-    asked: &str,
-    watch: &mut SlotWatch<8>,
-    arriving: &[(u8, &[u8])],
-) -> io::Result<()>
-    requires open { watch.old.is_open ≡ true }
-    requires some_slot { IsSome watch.old.expect }
-    requires nodes { watch.old.nodes ≡ 4 }
-    requires me { watch.old.me ≡ 0 }
-{
+/// What is found of a node in a slot, and whether it claims nothing, where a frame of it is kept.
+#[derive(Clone, Copy)]
+struct Found {
+    finding: Finding,
+    claims_nothing: Option<bool>,
+}
+
+/// What node 0 finds of node 2, of which these frames arrive, two at most.
+fn find(alloc: Global, arriving: &[(u8, &[u8])]) -> Result<Found, NoMemory> {
+    let mut watch = opened(alloc)?;
     if let Some((tick, bytes)) = arriving.first() {
         watch.deliver(2, *tick, bytes);
     }
@@ -77,40 +74,48 @@ fn tell(
         watch.deliver(2, *tick, bytes);
     }
     let found = watch.close();
-    row(rt, asked, name_of(found[2]))?;
-    if let Some(frame) = watch.frame(2) {
-        row(
-            rt,
-            "  it claims nothing",
-            matches!(frame.body, Body::Done0(255)),
-        )?;
+    let claims_nothing = match watch.frame(2) {
+        Some(frame) => Some(matches!(frame.body, Body::Done0(255))),
+        None => None,
+    };
+    Ok(Found {
+        finding: found[2],
+        claims_nothing,
+    })
+}
+
+/// Prints what was found.
+fn tell(rt: &HostRuntime, asked: &str, found: Found) -> io::Result<()> {
+    row(rt, asked, name_of(found.finding))?;
+    match found.claims_nothing {
+        Some(claims_nothing) => row(rt, "  it claims nothing", claims_nothing),
+        None => Ok(()),
     }
-    Ok(())
 }
 
 /// Prints what node 0 finds of node 2, of which these frames arrive, two at most.
-fn found(rt: &HostRuntime, asked: &str, arriving: &[(u8, &[u8])]) -> anyhow::Result<()> {
-    let Ok(mut watch) = opened(rt.alloc()) else {
+fn show(rt: &HostRuntime, asked: &str, arriving: &[(u8, &[u8])]) -> anyhow::Result<()> {
+    let Ok(found) = find(rt.alloc(), arriving) else {
         return Err(AllocError.into());
     };
-    Ok(tell(rt, asked, &mut watch, arriving)?)
+    Ok(tell(rt, asked, found)?)
 }
 
 fn of_repeats(rt: &HostRuntime) -> anyhow::Result<()> {
-    found(rt, "nothing", &[])?;
-    found(rt, "the right frame", &[(15, &CLAIM)])?;
-    found(
+    show(rt, "nothing", &[])?;
+    show(rt, "the right frame", &[(15, &CLAIM)])?;
+    show(
         rt,
         "the right frame, and then the byte 00",
         &[(15, &CLAIM), (15, &[0])],
     )?;
-    found(
+    show(
         rt,
         "the byte 00, and then the right frame",
         &[(15, &[0]), (15, &CLAIM)],
     )?;
-    found(rt, "the right frame twice", &[(15, &CLAIM), (15, &CLAIM)])?;
-    found(
+    show(rt, "the right frame twice", &[(15, &CLAIM), (15, &CLAIM)])?;
+    show(
         rt,
         "the right frame but for its last byte",
         &[(15, &CLAIM[..14])],
@@ -118,11 +123,11 @@ fn of_repeats(rt: &HostRuntime) -> anyhow::Result<()> {
 }
 
 fn of_ticks(rt: &HostRuntime) -> anyhow::Result<()> {
-    found(rt, "the right frame at tick 9", &[(9, &CLAIM)])?;
-    found(rt, "at tick 10", &[(10, &CLAIM)])?;
-    found(rt, "at tick 20", &[(20, &CLAIM)])?;
-    found(rt, "at tick 21", &[(21, &CLAIM)])?;
-    found(rt, "at ticks 15 and 21", &[(15, &CLAIM), (21, &CLAIM)])
+    show(rt, "the right frame at tick 9", &[(9, &CLAIM)])?;
+    show(rt, "at tick 10", &[(10, &CLAIM)])?;
+    show(rt, "at tick 20", &[(20, &CLAIM)])?;
+    show(rt, "at tick 21", &[(21, &CLAIM)])?;
+    show(rt, "at ticks 15 and 21", &[(15, &CLAIM), (21, &CLAIM)])
 }
 
 pub fn print(rt: &HostRuntime) -> anyhow::Result<()> {
