@@ -12,6 +12,8 @@ use Rattle.frames.specs.Content.Content.{Data, Cold}
 use Rattle.frames.specs.Spelling.{IsInRange}
 use Rattle.fault_classes.specs.Change.{Change, is_untouched}
 use Rattle.fault_classes.specs.ChangeLaws.{untouched_is}
+use Rattle.fault_classes.specs.Line.{effect_at}
+use Rattle.fault_classes.specs.Plan.{Plan}
 use Rattle.fault_link.specs.Arrival.{delivered_of}
 use Rattle.error_reports.specs.Notes.{is_kind}
 use Rattle.protocol.specs.Arrival.{Arrival, is_bad, is_good, values_in}
@@ -30,6 +32,11 @@ use Rattle.told_values.proofs.Expected.{expected_in, expectation_is, comes, come
 
 pub of_whole : (change : Option Change) (sender receiver : Expectation) (c : Content) (a : Arrival Content) → arrives Some change sender receiver c ≡ a → arrives values_in change sender receiver c ≡ part_of values_in a
 of_whole change sender receiver c a is = parts_law values_in receiver (delivered_of change (frame_by sender c)) ∙ ap (part_of values_in) is
+
+-- the line of a link, where plan, period and slot are the same
+pub effect_by : {a b : Plan} {p q s t : ℕ} (j i : ℕ) → a ≡ b → p ≡ q → s ≡ t → effect_at a.lines p s j i ≡ effect_at b.lines q t j i
+effect_by {a} {b} {p} {q} {s} {t} j i plan period slot =
+    ap (λ (x : Plan). effect_at x.lines p s j i) plan ∙ ap (λ (n : ℕ). effect_at b.lines n s j i) period ∙ ap (λ (n : ℕ). effect_at b.lines q n j i) slot
 
 -- ---- tests of all nodes
 

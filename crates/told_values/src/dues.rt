@@ -22,7 +22,6 @@ pub trait Dues<const N: usize> {
 
     /// Whether each of these nodes has the same as node `i`. It may always say false.
     fn are_alike(&self, nodes: &NodeSet<N>, i: u8) -> bool
-        requires { i < N }
         ensures { result ≡ true → (j : ℕ) → has_id nodes.now j ≡ true →
             dues self.now j ≡ dues self.now i };
 }

@@ -2,7 +2,8 @@
 
 ghost use Rattle.std.specs.Prelude.{◌≡◌, ◌≢◌, ◌==◌, ℕ, ◌<◌, ◌≤◌, List, ℤ, None, Some, length};
 ghost use Rattle.std.specs.Prelude.{true, false};
-ghost use Rattle.node_grid.specs.NodeSet.{IsIdSet, has_id};
+ghost use Rattle.node_grid.specs.Capacity.{IsCapacity};
+ghost use Rattle.node_grid.specs.NodeSet.{has_id};
 ghost use Rattle.frames.specs.Content.{Expectation};
 ghost use Rattle.frames.specs.Seen.{content, expected, HasWidth};
 ghost use Rattle.frames.specs.Spelling.{body_spelling, IsInRange};
@@ -14,12 +15,12 @@ ghost use Rattle.protocol.specs.View.{Received, value_in};
 ghost use Rattle.data_slot.specs.Told.{at_channel};
 ghost use Rattle.touched_frames.specs.Arrived.{IsCluster, IsSentAs};
 ghost use Rattle.told_values.specs.Slot.{slot_of, expects, said, change_to, values_at};
-ghost use Rattle.told_values.specs.Slot.{Hears};
+ghost use Rattle.told_values.specs.Slot.{Hears, IsDataSlot};
 ghost use Rattle.told_values.specs.Heard.{IsHeard, untouched_kind};
 
 use crate::dues::Dues;
 use crate::link::Link;
-use crate::places::{own_by_place, read_by_place};
+use crate::places::Due;
 use crate::slot::DataSlot;
 use data_slot::put_values;
 use fault_classes::Effect;
@@ -62,14 +63,14 @@ impl Heard {
 }
 
 /// What a node with these due channels has of what a frame says.
-fn hear_body<const N: usize>(body: &Body<'_, N>, due: &[u8]) -> Heard
+fn hear_body<const N: usize>(body: &Body<'_, N>, due: &Due<'_>) -> Heard
 where
     Nodes: Capacity<N>,
-    requires due { IsIdSet 8 due.now }
-    ensures { (nodes : ℕ) → IsHeard due.now result (read_as (values_in (content nodes body.now))) }
+    ensures { (nodes : ℕ) →
+        IsHeard due.now.channels.now result (read_as (values_in (content nodes body.now))) }
 {
     match body {
-        Body::Data(values) => Heard::Good(read_by_place(values, due)),
+        Body::Data(values) => Heard::Good(due.read_by_place(values)),
         Body::State(_) | Body::Done0(_) | Body::DoneRelay(_) => Heard::Bad(MALFORMED),
         Body::Report0(_) | Body::ReportRelay(_) | Body::Cold => Heard::Bad(MALFORMED),
     }
@@ -80,7 +81,7 @@ fn hear_frame<const N: usize>(
     effect: &Effect,
     frame: &Frame<'_, N>,
     receiver: &Expect<N>,
-    due: &[u8],
+    due: &Due<'_>,
 ) -> Heard
 where
     Nodes: Capacity<N>,
@@ -88,11 +89,10 @@ where
     requires widths { HasWidth receiver.now.nodes frame.now.body }
     requires short { length (body_spelling receiver.now.nodes
         (content receiver.now.nodes frame.now.body)) ≤ 64 }
-    requires due { IsIdSet 8 due.now }
     ensures { (sender : Expectation) →
         IsSentAs sender receiver.now.nodes frame.now.head
         (content receiver.now.nodes frame.now.body) →
-        IsHeard due.now result (arrives values_in (Some (change_of effect.now)) sender
+        IsHeard due.now.channels.now result (arrives values_in (Some (change_of effect.now)) sender
         (expected receiver.now) (content receiver.now.nodes frame.now.body)) }
 {
     let mut room = [0; 96];
@@ -103,6 +103,17 @@ where
 }
 
 impl<'s, 'a, D: Dues<N>, const N: usize> Link<'s, 'a, D, N> {
+    /// The channels that are due to the receiver.
+    fn due(&self) -> Due<'_>
+        ensures due { result.channels.now ≡ D.dues self.now.slot.now.dues self.now.to }
+        ensures capacity { IsCapacity N }
+        ensures slot { IsDataSlot (slot_of D.dues self.now.slot.now) }
+    {
+        Due {
+            channels: self.slot.due(self.to),
+        }
+    }
+
     /// What the receiver expects of the frame.
     fn expect(&self) -> Expect<N>
     where
@@ -114,49 +125,24 @@ impl<'s, 'a, D: Dues<N>, const N: usize> Link<'s, 'a, D, N> {
         self.slot.expect(self.from, due.len() as u8)
     }
 
-    /// What the receiver has of the values of a Full node, by the effect of the line that touches
-    /// the frame.
-    fn hear_values(&self, effect: &Effect) -> Heard
-    where
-        Nodes: Capacity<N>,
-        requires { has_id self.now.slot.now.full self.now.from ≡ true }
-        ensures { let d = slot_of D.dues self.now.slot.now in
+    /// What the sender says, with its values spelt on these bytes.
+    fn body<'b>(&self, bytes: &'b mut [u8; 64]) -> Body<'b, N>
+        ensures said { let d = slot_of D.dues self.now.slot.now in (nodes : ℕ) →
             IsInRange (expects d self.now.from self.now.from) (said d self.now.from) →
-            IsHeard (d.due self.now.to) result (arrives values_in (Some (change_of effect.now))
-            (expects d self.now.from self.now.from) (expects d self.now.from self.now.to)
-            (said d self.now.from)) }
+            content nodes result ≡ said d self.now.from }
+        ensures widths { (nodes : ℕ) → HasWidth nodes result }
+        ensures short { (nodes : ℕ) → length (body_spelling nodes (content nodes result)) ≤ 64 }
+        ensures capacity { IsCapacity N }
+        ensures slot { IsDataSlot (slot_of D.dues self.now.slot.now) }
     {
         let due = self.slot.due(self.from);
-        let mut bytes = [0; 64];
-        put_values(self.slot.own(self.from), due, &mut bytes);
-        let expect = self.expect();
+        if !self.slot.is_full(self.from) {
+            return Body::Cold;
+        }
+        put_values(self.slot.own(self.from), due, bytes);
         let size = 8 * due.len();
         let values = Values::over(&bytes[..size]);
-        let frame = Frame {
-            head: expect.head(),
-            body: Body::Data(values),
-        };
-        hear_frame(effect, &frame, &expect, self.slot.due(self.to))
-    }
-
-    /// What the receiver has of the frame of a node that isn't Full, by the effect of the line that
-    /// touches it.
-    fn hear_cold(&self, effect: &Effect) -> Heard
-    where
-        Nodes: Capacity<N>,
-        requires { has_id self.now.slot.now.full self.now.from ≡ false }
-        ensures { let d = slot_of D.dues self.now.slot.now in
-            IsInRange (expects d self.now.from self.now.from) (said d self.now.from) →
-            IsHeard (d.due self.now.to) result (arrives values_in (Some (change_of effect.now))
-            (expects d self.now.from self.now.from) (expects d self.now.from self.now.to)
-            (said d self.now.from)) }
-    {
-        let expect = self.expect();
-        let frame = Frame {
-            head: expect.head(),
-            body: Body::Cold,
-        };
-        hear_frame(effect, &frame, &expect, self.slot.due(self.to))
+        Body::Data(values)
     }
 
     /// What the receiver has of the frame, by the effect of the line that touches it.
@@ -172,11 +158,13 @@ impl<'s, 'a, D: Dues<N>, const N: usize> Link<'s, 'a, D, N> {
         if let Some(kind) = unread_kind(effect) {
             return Heard::Bad(kind);
         }
-        if self.slot.is_full(self.from) {
-            self.hear_values(effect)
-        } else {
-            self.hear_cold(effect)
-        }
+        let mut bytes = [0; 64];
+        let expect = self.expect();
+        let frame = Frame {
+            head: expect.head(),
+            body: self.body(&mut bytes),
+        };
+        hear_frame(effect, &frame, &expect, &self.due())
     }
 
     /// Whether as many channels are due to the one node as to the other.
@@ -216,8 +204,8 @@ impl<'s, 'a, D: Dues<N>, const N: usize> Link<'s, 'a, D, N> {
             Some(kind) => Heard::Bad(kind),
             None => {
                 let said = self.slot.due(self.from);
-                let due = self.slot.due(self.to);
-                Heard::Good(own_by_place(self.slot.own(self.from), said, due))
+                let due = self.due();
+                Heard::Good(due.own_by_place(self.slot.own(self.from), said))
             }
         }
     }
@@ -230,33 +218,46 @@ impl<'s, 'a, D: Dues<N>, const N: usize> Link<'s, 'a, D, N> {
             IsInRange (expects d self.now.from self.now.from) (said d self.now.from) →
             IsHeard (d.due self.now.to) result (values_at d self.now.from self.now.to) }
     {
-        match self.slot.effect(self.from, self.to) {
+        match self.effect() {
             Some(effect) => self.hear_touched(effect),
             None => self.hear_untouched(),
+        }
+    }
+
+    /// The kind of error that the receiver finds of the frame; None exactly where the frame is
+    /// good.
+    pub(crate) fn kind(&self) -> Option<u8>
+    where
+        Nodes: Capacity<N>,
+        ensures { (x : Received) → Hears (slot_of D.dues self.now.slot.now) self.now.to x →
+            (k : ℕ) → is_kind result k ≡ is_bad (x.values self.now.from) k }
+    {
+        match self.effect() {
+            Some(effect) => self.hear_touched(effect).kind(),
+            None => self.untouched_kind(),
         }
     }
 }
 
 impl<'a, D: Dues<N>, const N: usize> DataSlot<'a, D, N> {
     /// The kind of error that a node finds of another one's frame; None exactly where the frame is
-    /// good.
+    /// good, or they aren't two nodes in use.
     pub fn kind(&self, from: u8, to: u8) -> Option<u8>
     where
         Nodes: Capacity<N>,
-        requires from { from < self.now.config.nodes }
-        requires to { to < self.now.config.nodes }
-        requires link { from ≢ to }
-        ensures { (x : Received) → Hears (slot_of D.dues self.now) to x →
+        ensures { from < self.now.config.nodes → to < self.now.config.nodes → from ≢ to →
+            (x : Received) → Hears (slot_of D.dues self.now) to x →
             (k : ℕ) → is_kind result k ≡ is_bad (x.values from) k }
     {
+        let nodes = self.nodes();
+        if from == to || from >= nodes || to >= nodes {
+            return None;
+        }
         let link = Link {
             slot: self,
             from,
             to,
         };
-        match self.effect(from, to) {
-            Some(effect) => link.hear_touched(effect).kind(),
-            None => link.untouched_kind(),
-        }
+        link.kind()
     }
 }

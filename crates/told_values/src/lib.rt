@@ -8,6 +8,7 @@ mod dues;
 mod hearing;
 pub mod laws;
 mod link;
+mod listener;
 mod notes;
 mod places;
 mod slot;

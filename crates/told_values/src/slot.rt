@@ -1,21 +1,21 @@
 //! The data slot of a period, as all nodes go into it.
 
 ghost use Rattle.std.specs.Prelude.{◌≡◌, ◌≢◌, ◌+◌, ◌<◌, ◌==◌, ◌||◌, ℕ, List, [], not, true};
-ghost use Rattle.std.specs.Prelude.{option_map, slice_index_or};
+ghost use Rattle.std.specs.Prelude.{slice_index_or};
 ghost use Rattle.std.specs.List.{list_all};
 ghost use Rattle.node_grid.specs.Capacity.{IsCapacity};
-ghost use Rattle.node_grid.specs.NodeSet.{has_id, ids_below, ids_where};
-ghost use Rattle.fault_classes.specs.Change.{change_of, is_untouched};
+ghost use Rattle.node_grid.specs.NodeSet.{IsIdSet, has_id, ids_below, ids_where};
+ghost use Rattle.fault_classes.specs.Change.{is_untouched};
 ghost use Rattle.fault_classes.specs.Plan.{each_in_slot};
 ghost use Rattle.frames.specs.Seen.{expected};
-ghost use Rattle.agreed_state.specs.Config.{IsConfig};
 ghost use Rattle.agreed_state.specs.Expecting.{expectation};
 ghost use Rattle.told_values.specs.Slot.{slot_of, own_of, change_to, IsDataSlot};
 
 use crate::dues::Dues;
+use crate::link::Link;
 use crate::talk::Talk;
 use agreed_state::Config;
-use fault_classes::{Effect, FaultPlan};
+use fault_classes::FaultPlan;
 use frames::Expect;
 use node_grid::{Capacity, NodeSet, Nodes};
 use std::marker::Model;
@@ -76,7 +76,6 @@ pub fn touched_senders<const N: usize>(
 ) -> NodeSet<N>
 where
     Nodes: Capacity<N>,
-    requires config { IsConfig N config.now }
     requires nodes { plan.now.nodes ≡ config.now.nodes }
     requires rounds { plan.now.rounds ≡ config.now.m }
     requires period { period < plan.now.periods }
@@ -84,14 +83,17 @@ where
         (λ j. not (each_in_slot plan.now is_untouched period j (config.now.m + 2)))
         config.now.nodes }
 {
+    // Proofs need here that the plan is one.
+    let _ = plan.line_count();
     let talk = Talk {
         plan,
         period,
         slot: config.m + 2,
+        nodes: config.nodes,
     };
     let mut touched = NodeSet::empty();
     for from in 0..config.nodes {
-        if talk.touches(from, config.nodes) {
+        if talk.touches(from) {
             touched.put(from);
         }
     }
@@ -151,24 +153,25 @@ impl<'a, D: Dues<N>, const N: usize> DataSlot<'a, D, N> {
     pub(crate) fn due(&self, i: u8) -> &[u8]
         requires { i < self.now.config.nodes }
         ensures due { result.now ≡ D.dues self.now.dues i }
+        ensures set { IsIdSet 8 result.now }
         ensures capacity { IsCapacity N }
         ensures slot { IsDataSlot (slot_of D.dues self.now) }
     {
         self.dues.due(i)
     }
 
-    /// Whether the same channels are due at two nodes. It may say false of any two.
+    /// Whether the same channels are due at two nodes in use. It may say false of any two.
     pub(crate) fn is_due_alike(&self, i: u8, j: u8) -> bool
-        requires first { i < self.now.config.nodes }
-        requires second { j < self.now.config.nodes }
-        ensures { result ≡ true → D.dues self.now.dues i ≡ D.dues self.now.dues j }
+        ensures first { result ≡ true → i < self.now.config.nodes }
+        ensures second { result ≡ true → j < self.now.config.nodes }
+        ensures alike { result ≡ true → D.dues self.now.dues i ≡ D.dues self.now.dues j }
     {
-        self.dues.is_alike(i, j)
+        let nodes = self.nodes();
+        i < nodes && j < nodes && self.dues.is_alike(i, j)
     }
 
     /// Whether the same channels are due at each Full node as at node `i`. It may always say false.
     pub(crate) fn are_due_alike(&self, i: u8) -> bool
-        requires { i < self.now.config.nodes }
         ensures { result ≡ true → (j : ℕ) → has_id self.now.full j ≡ true →
             D.dues self.now.dues j ≡ D.dues self.now.dues i }
     {
@@ -196,18 +199,18 @@ impl<'a, D: Dues<N>, const N: usize> DataSlot<'a, D, N> {
             .expect(self.period, slot, from, &NodeSet::empty(), due)
     }
 
-    /// The effect of the line that touches the frame from one node to another.
-    pub(crate) fn effect(&self, from: u8, to: u8) -> Option<&Effect>
-        requires from { from < self.now.config.nodes }
-        requires to { to < self.now.config.nodes }
-        requires link { from ≢ to }
-        ensures { option_map (λ e. change_of e.now) result ≡
-            change_to (slot_of D.dues self.now) from to }
+    /// What the fault plan does to the frames of the slot.
+    pub(crate) fn talk(&self) -> Talk<'_, N>
+        ensures plan { result.plan.now ≡ self.now.plan }
+        ensures period { result.period ≡ self.now.period }
+        ensures slot { result.slot ≡ self.now.config.m + 2 }
+        ensures nodes { result.nodes ≡ self.now.config.nodes }
     {
-        if self.touched.has(from) {
-            self.plan.effect(self.period, self.config.m + 2, from, to)
-        } else {
-            None
+        Talk {
+            plan: self.plan,
+            period: self.period,
+            slot: self.config.m + 2,
+            nodes: self.config.nodes,
         }
     }
 
@@ -221,8 +224,15 @@ impl<'a, D: Dues<N>, const N: usize> DataSlot<'a, D, N> {
         let nodes = self.nodes();
         let touched = self.touched();
         for j in touched.iter() {
-            if j != i && j < nodes && self.effect(j, i).is_some() {
-                return false;
+            if j != i && j < nodes {
+                let link = Link {
+                    slot: self,
+                    from: j,
+                    to: i,
+                };
+                if link.effect().is_some() {
+                    return false;
+                }
             }
         }
         true

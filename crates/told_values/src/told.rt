@@ -9,6 +9,7 @@ ghost use Rattle.told_values.specs.Slot.{Hears, IsTold, HearAlike};
 
 use crate::dues::Dues;
 use crate::link::Link;
+use crate::listener::Listener;
 use crate::slot::DataSlot;
 use data_slot::own_by_channel;
 use node_grid::{Capacity, Nodes};
@@ -42,82 +43,83 @@ impl<'a, D: Dues<N>, const N: usize> DataSlot<'a, D, N> {
         }
         told
     }
+}
 
+impl<'s, 'a, D: Dues<N>, const N: usize> Listener<'s, 'a, D, N> {
     /// The values of its due channels that a node has from one node.
-    fn values_from(&self, from: u8, i: u8) -> Option<[i64; 8]>
+    fn values_from(&self, from: u8) -> Option<[i64; 8]>
     where
         Nodes: Capacity<N>,
-        requires from { from < self.now.config.nodes }
-        requires node { i < self.now.config.nodes }
-        ensures { let d = slot_of D.dues self.now in (x : Received) → Hears d i x → (c : ℕ) →
-            has_id (d.due i) c ≡ true → at_channel result c ≡
+        requires { from < self.now.slot.now.config.nodes }
+        ensures { let d = slot_of D.dues self.now.slot.now in let i = self.now.node in
+            (x : Received) → Hears d i x → (c : ℕ) → has_id (d.due i) c ≡ true →
+            at_channel result c ≡
             value_from i (has_id d.full i) (d.due i) (own_of d i) x c from }
     {
-        if from == i {
-            return self.own_values(i);
+        if from == self.node {
+            return self.slot.own_values(self.node);
         }
         let link = Link {
-            slot: self,
+            slot: self.slot,
             from,
-            to: i,
+            to: self.node,
         };
         link.hear().values()
     }
 
     /// What a node has, asked of each sender.
-    fn told_by_each(&self, i: u8) -> [Option<[i64; 8]>; N]
+    fn told_by_each(&self) -> [Option<[i64; 8]>; N]
     where
         Nodes: Capacity<N>,
-        requires { i < self.now.config.nodes }
-        ensures { (x : Received) → Hears (slot_of D.dues self.now) i x →
-            IsTold (slot_of D.dues self.now) i x result }
+        ensures { let d = slot_of D.dues self.now.slot.now in
+            (x : Received) → Hears d self.now.node x → IsTold d self.now.node x result }
     {
-        let nodes = self.nodes();
+        let nodes = self.slot.nodes();
         let mut told = [None; N];
         for from in 0..nodes {
-            told[from as usize] = self.values_from(from, i);
+            told[from as usize] = self.values_from(from);
         }
         told
     }
 
-    /// Whether a line may touch the frame from one node to another.
-    fn may_touch(&self, from: u8, to: u8) -> bool
-        requires from { from < self.now.config.nodes }
-        requires to { to < self.now.config.nodes }
-        ensures link { result ≡ true → from ≢ to }
-        ensures untouched { result ≡ false → from ≢ to →
-            change_to (slot_of D.dues self.now) from to ≡ None }
+    /// Whether a line may touch the frame of a sender.
+    fn may_touch(&self, from: u8) -> bool
+        ensures link { result ≡ true → from ≢ self.now.node }
+        ensures untouched { result ≡ false → from < self.now.slot.now.config.nodes →
+            from ≢ self.now.node →
+            change_to (slot_of D.dues self.now.slot.now) from self.now.node ≡ None }
     {
-        from != to && self.is_touched(from)
+        from != self.node && self.slot.is_touched(from)
     }
 
     /// What a node has to which the same channels are due as to all Full nodes: their own values,
     /// but where a line touches the frame.
-    fn told_alike(&self, i: u8, own: &[Option<[i64; 8]>; N]) -> [Option<[i64; 8]>; N]
+    fn told_alike(&self, own: &[Option<[i64; 8]>; N]) -> [Option<[i64; 8]>; N]
     where
         Nodes: Capacity<N>,
-        requires node { i < self.now.config.nodes }
-        requires own { AreOwnTold (slot_of D.dues self.now) own.now }
-        requires alike { (j : ℕ) → has_id self.now.full j ≡ true →
-            D.dues self.now.dues j ≡ D.dues self.now.dues i }
-        ensures { (x : Received) → Hears (slot_of D.dues self.now) i x →
-            IsTold (slot_of D.dues self.now) i x result }
+        requires own { AreOwnTold (slot_of D.dues self.now.slot.now) own.now }
+        requires alike { let d = slot_of D.dues self.now.slot.now in
+            (j : ℕ) → has_id d.full j ≡ true → d.due j ≡ d.due self.now.node }
+        ensures { let d = slot_of D.dues self.now.slot.now in
+            (x : Received) → Hears d self.now.node x → IsTold d self.now.node x result }
     {
-        let nodes = self.nodes();
+        let nodes = self.slot.nodes();
         let mut told = *own;
         for from in 0..nodes {
-            if self.may_touch(from, i) {
+            if self.may_touch(from) {
                 let link = Link {
-                    slot: self,
+                    slot: self.slot,
                     from,
-                    to: i,
+                    to: self.node,
                 };
                 told[from as usize] = link.hear().values();
             }
         }
         told
     }
+}
 
+impl<'a, D: Dues<N>, const N: usize> DataSlot<'a, D, N> {
     /// The values of its due channels that a node has, by sender, and of each by channel. Those of
     /// its own are among them where it is Full. What stands in the places of other channels counts
     /// for nothing.
@@ -129,18 +131,20 @@ impl<'a, D: Dues<N>, const N: usize> DataSlot<'a, D, N> {
         ensures { (x : Received) → Hears (slot_of D.dues self.now) i x →
             IsTold (slot_of D.dues self.now) i x result }
     {
+        let listener = Listener {
+            slot: self,
+            node: i,
+        };
         if self.are_due_alike(i) {
-            self.told_alike(i, own)
+            listener.told_alike(own)
         } else {
-            self.told_by_each(i)
+            listener.told_by_each()
         }
     }
 
-    /// Whether what node `i` has of the values node `j` has too: no line touches a frame to either,
-    /// and the same channels are due to both. It may say false of any two.
+    /// Whether what node `i` has of the values node `j` has too: both are in use, no line touches a
+    /// frame to either, and the same channels are due to both. It may say false of any two.
     pub fn hears_alike(&self, i: u8, j: u8) -> bool
-        requires first { i < self.now.config.nodes }
-        requires second { j < self.now.config.nodes }
         ensures { result ≡ true → HearAlike (slot_of D.dues self.now) i j }
     {
         if !self.is_due_alike(i, j) {

@@ -4,7 +4,6 @@ ghost use Rattle.std.specs.Prelude.{◌≡◌, ◌≢◌, ℕ, ◌<◌, ◌≤�
 ghost use Rattle.node_grid.specs.NodeSet.{has_id, ids_where};
 ghost use Rattle.mme_vote.specs.Channel.{delta_of};
 ghost use Rattle.agreed_state.specs.Agreed.{IsAgreed};
-ghost use Rattle.agreed_state.specs.Config.{IsConfig};
 ghost use Rattle.protocol.specs.Configured.{setting_of};
 ghost use Rattle.protocol.specs.View.{Received, deviates, is_far, votes_on};
 ghost use Rattle.data_slot.specs.Told.{at_channel, value_told};
@@ -33,70 +32,64 @@ fn is_far(told: &Option<[i64; 8]>, c: u8, delta: i64, vote: Option<i64>) -> bool
     }
 }
 
-/// The nodes that told a value of a channel that is further than its delta from the vote on it.
-#[tactic(auto, using(node_grid::specs::NodeSetLaws::id_loops))]
-fn nodes_far<const N: usize>(
-    nodes: u8,
-    told: &[Option<[i64; 8]>; N],
-    c: u8,
-    channel: &Channel<N>,
-    vote: Option<i64>,
-) -> NodeSet<N>
+/// What all nodes told, and the votes against which it is held.
+#[derive(Drop)]
+struct Held<'s, const N: usize> {
+    config: &'s Config<N>,
+    told: &'s [Option<[i64; 8]>; N],
+    votes: &'s [Option<i64>; 8],
+    ghost few_nodes: { config.now.nodes ≤ N },
+    ghost few_channels: { length config.now.channels.items ≤ 8 },
+}
+
+impl<'s, const N: usize> Held<'s, N>
 where
     Nodes: Capacity<N>,
-    requires nodes { nodes ≤ N }
-    requires channel { c < 8 }
-    ensures { result ≡
-        ids_where (λ j. is_far (delta_of channel.now) (value_told told.now j c) vote) nodes }
 {
-    let mut far = NodeSet::empty();
-    for node in 0..nodes {
-        if is_far(&told[node as usize], c, channel.delta(), vote) {
-            far.put(node);
+    /// The nodes that told a value of a channel that is further than its delta from this vote on
+    /// it.
+    #[tactic(auto, using(node_grid::specs::NodeSetLaws::id_loops))]
+    fn nodes_far(&self, c: u8, channel: &Channel<N>, vote: Option<i64>) -> NodeSet<N>
+        requires { c < 8 }
+        ensures { result ≡ ids_where
+            (λ j. is_far (delta_of channel.now) (value_told self.now.told.now j c) vote)
+            self.now.config.now.nodes }
+    {
+        let mut far = NodeSet::empty();
+        for node in 0..self.config.nodes {
+            if is_far(&self.told[node as usize], c, channel.delta(), vote) {
+                far.put(node);
+            }
+        }
+        far
+    }
+
+    /// The nodes that told a value of a channel which is too far from the vote on it.
+    fn nodes_off_on(&self, c: u8) -> NodeSet<N>
+        requires { c < length self.now.config.now.channels.items }
+        ensures { let config = self.now.config.now in result ≡
+            ids_where (is_off config (c ∷ []) self.now.told.now self.now.votes.now) config.nodes }
+    {
+        let channel = &self.config.channels[c as usize];
+        if channel.is_judged() {
+            self.nodes_far(c, channel, self.votes[c as usize])
+        } else {
+            NodeSet::empty()
         }
     }
-    far
-}
 
-/// The nodes that told a value of a channel which is too far from the vote on it.
-fn nodes_off_on<const N: usize>(
-    config: &Config<N>,
-    told: &[Option<[i64; 8]>; N],
-    votes: &[Option<i64>; 8],
-    c: u8,
-) -> NodeSet<N>
-where
-    Nodes: Capacity<N>,
-    requires config { IsConfig N config.now }
-    requires channel { c < length config.now.channels.items }
-    ensures { result ≡ ids_where (is_off config.now (c ∷ []) told.now votes.now) config.now.nodes }
-{
-    let channel = &config.channels[c as usize];
-    if channel.is_judged() {
-        nodes_far(config.nodes, told, c, channel, votes[c as usize])
-    } else {
-        NodeSet::empty()
+    /// The nodes that told a value of a due channel which is too far from the vote.
+    fn nodes_off(&self, due: &[u8]) -> NodeSet<N>
+        requires { All (λ c. c < length self.now.config.now.channels.items) due.now }
+        ensures { let config = self.now.config.now in result ≡
+            ids_where (is_off config due.now self.now.told.now self.now.votes.now) config.nodes }
+    {
+        let mut off = NodeSet::empty();
+        for k in 0..due.len() {
+            off = off.union(&self.nodes_off_on(due[k]));
+        }
+        off
     }
-}
-
-/// The nodes that told a value of a due channel which is too far from the vote.
-fn nodes_off<const N: usize>(
-    config: &Config<N>,
-    due: &[u8],
-    told: &[Option<[i64; 8]>; N],
-    votes: &[Option<i64>; 8],
-) -> NodeSet<N>
-where
-    Nodes: Capacity<N>,
-    requires config { IsConfig N config.now }
-    requires channels { All (λ c. c < length config.now.channels.items) due.now }
-    ensures { result ≡ ids_where (is_off config.now due.now told.now votes.now) config.now.nodes }
-{
-    let mut off = NodeSet::empty();
-    for k in 0..due.len() {
-        off = off.union(&nodes_off_on(config, told, votes, due[k]));
-    }
-    off
 }
 
 impl<'a, D: Dues<N>, const N: usize> DataSlot<'a, D, N>
@@ -135,6 +128,11 @@ where
             (q : ℕ) → q < d.config.nodes → q ≢ j → has_id result q ≡
             deviates (setting_of d.config) (d.due j) votes.now y q }
     {
-        nodes_off(self.config(), self.due(i), told, votes)
+        let held = Held {
+            config: self.config(),
+            told,
+            votes,
+        };
+        held.nodes_off(self.due(i))
     }
 }

@@ -9,5 +9,5 @@ use Rattle.told_values.proofs.hearing.hear_body.Goals as goal
 
 pub returns-in-Data : goal.returns-in-Data
 returns-in-Data g c = λ nodes.
-    subst (λ (b : Body g.row.N). IsHeard c.args.due.now (code.Good c.read_by_place.result) (read_as (values_in (content nodes b)))) (sym c.in-Data.is)
+    subst (λ (b : Body g.row.N). IsHeard c.args.due.now.channels.now (code.Good c.read_by_place.result) (read_as (values_in (content nodes b)))) (sym c.in-Data.is)
     (content_values c.in-Data.values.bytes.now, refl, c.read_by_place.ensures)

@@ -7,10 +7,10 @@ use Rattle.node_grid.specs.NodeSetLaws.{not_all_ids}
 use Rattle.node_grid.specs.NumberFacts.{other_fails}
 use Rattle.node_grid.specs.SetFacts.{all_ids}
 use Rattle.fault_classes.specs.Change.{change_of, is_untouched}
-use Rattle.fault_classes.specs.Facts.{change_touches, change_leaves}
+use Rattle.fault_classes.specs.Facts.{change_touches}
 use Rattle.told_values.specs.Slot.{slot_of, change_to}
 use Rattle.told_values.proofs.Arriving.{untouched_of}
-use Rattle.told_values.proofs.slot.DataSlot.is_untouched.Goals.{else-j-i-via-then-j-i+then-j-nodes+else-is_some, else-j-i-via-then-j-i+else-j-nodes, else-j-i-via-else-j-i}
+use Rattle.told_values.proofs.slot.DataSlot.is_untouched.Goals.{else-j-i-via-then-j-i+else-j-nodes, else-j-i-via-else-j-i}
 use Rattle.told_values.proofs.slot.DataSlot.is_untouched.Goals as goal
 
 pub loop-j-init : goal.loop-j-init
@@ -30,7 +30,6 @@ loop-j-preserved g c =
     let inv = c.loop-j.invariant in
     let test : ℕ → Bool = λ k. k == i || is_untouched (change_to d k i) in
     let here : j < d.config.nodes → test j ≡ true = λ low. elim c.else-j-i.branch [
-      | else-j-i-via-then-j-i+then-j-nodes+else-is_some w ↦ or_right (j == i) _ (change_leaves (λ e. change_of e.now) w.effect.result (change_to d j i) w.effect.ensures (sym w.is_some.ensures ∙ w.if-is_some.false))
       | else-j-i-via-then-j-i+else-j-nodes w ↦ absurd (omega (arith, low, w.if-j-nodes.false, c.nodes-nodes.ensures.nodes))
       | else-j-i-via-else-j-i w ↦ or_left (j == i) _ (eq-eqb j i w.if-j-i.false)
     ] in

@@ -1,8 +1,6 @@
-use Rattle.std.proofs.Common.{ℕ, List, sym, ap₂, subst, ◌∙◌, lit<, inl, inr}
-use Rattle.node_grid.specs.Capacity.{IsCapacity}
+use Rattle.std.proofs.Common.{ℕ, List, sym, ap₂, ◌∙◌, lit<}
 use Rattle.node_grid.specs.NodeSet.{ids_where}
 use Rattle.agreed_state.specs.declared.config.Config.{Config}
-use Rattle.agreed_state.specs.Config.{IsConfig}
 use Rattle.data_slot.specs.Votes.{is_off}
 use Rattle.told_values.specs.Slot.{slot_of}
 use Rattle.told_values.proofs.Sending.{channels_low}
@@ -17,18 +15,4 @@ returns g c = λ j y same is.
 
 pub nodes_off-requires : goal.nodes_off-requires
 nodes_off-requires g c =
-    let d = slot_of g.D.Dues.dues c.args.self.now in
-    let slot = c.config.ensures.slot in
-    let cap : IsCapacity g.row.N = c.config.ensures.capacity in (
-      elim cap [ inl e ↦ rw e (lit< tt) | inr e ↦ rw e (lit< tt) ],
-      (
-        elim cap [ inl e ↦ rw e (lit< tt) | inr e ↦ rw e (lit< tt) ],
-        (
-          lit< tt,
-          (
-            subst (IsConfig g.row.N) (sym c.config.ensures.config) slot.config,
-            channels_low d slot c.args.i c.requires c.config.result.now c.due.result.now c.config.ensures.config c.due.ensures.due,
-          ),
-        ),
-      ),
-    )
+    (lit< tt, (lit< tt, channels_low (slot_of g.D.Dues.dues c.args.self.now) c.config.ensures.slot c.args.i c.requires c.config.result.now c.due.result.now c.config.ensures.config c.due.ensures.due))
