@@ -39,15 +39,15 @@ without_other n states i j many ne = elim (cases_lt j n) [
 ]
 
 module _ {N : ℕ} (sc : ScenarioView N) (p i : ℕ) (states : List (Option AgreedView)) (k : Keeping N) (begun : List (Option AgreedView)) (l : Keeping N) where
-  pub begun_anew : restarts_at sc.plan i p ≡ true → i < N → length states ≡ N → length k.notes.items ≡ N → length k.votes ≡ N → length k.owns ≡ N
-      → begun ≡ without_state N states i → l.notes.items ≡ set k.notes.items i (no_longer N (notes_at k.notes.items i))
+  pub begun_anew : restarts_at sc.plan i p ≡ true → i < N → length states ≡ N → length k.notes ≡ N → length k.votes ≡ N → length k.owns ≡ N
+      → begun ≡ without_state N states i → l.notes ≡ set k.notes i (no_longer N (notes_at k.notes i))
       → l.votes ≡ set k.votes i (replicate 8 None) → l.owns ≡ set k.owns i (replicate 8 None) → IsBegunAt sc p i states k begun l
   begun_anew restarts low many notes-many votes-many owns-many state-is notes-are votes-are owns-are = record {
-    many = ap length notes-are ∙ length-set k.notes.items i _ ∙ notes-many;
+    many = ap length notes-are ∙ length-set k.notes i _ ∙ notes-many;
     state = ap (λ (xs : List (Option AgreedView)). state_at xs i) state-is ∙ without_own N states i low ∙ sym (cond-true (restarts_at sc.plan i p) None (state_at states i) restarts);
     notes =
-        ap (λ (xs : List Notes). notes_at xs i) notes-are ∙ get_or-set_same k.notes.items i _ _ (let w = notes-many in omega arith)
-        ∙ sym (ap (λ (b : Bool). notes_opened N b (notes_at k.notes.items i)) restarts);
+        ap (λ (xs : List Notes). notes_at xs i) notes-are ∙ get_or-set_same k.notes i _ _ (let w = notes-many in omega arith)
+        ∙ sym (ap (λ (b : Bool). notes_opened N b (notes_at k.notes i)) restarts);
     votes =
         ap (λ (xs : List (List (Option ℤ))). of_node xs i) votes-are ∙ get_or-set_same k.votes i (replicate 8 None) [] (let w = votes-many in omega arith)
         ∙ sym (cond-true (restarts_at sc.plan i p) (replicate 8 None) (of_node k.votes i) restarts);
@@ -55,20 +55,20 @@ module _ {N : ℕ} (sc : ScenarioView N) (p i : ℕ) (states : List (Option Agre
         ap (λ (xs : List (List (Option ℤ))). of_node xs i) owns-are ∙ get_or-set_same k.owns i (replicate 8 None) [] (let w = owns-many in omega arith)
         ∙ sym (cond-true (restarts_at sc.plan i p) (replicate 8 None) (of_node k.owns i) restarts);
     other_state = λ j ne. ap (λ (xs : List (Option AgreedView)). state_at xs j) state-is ∙ without_other N states i j many ne;
-    other_notes = λ j ne. ap (λ (xs : List Notes). notes_at xs j) notes-are ∙ get_or-set_other k.notes.items i j _ _ ne;
+    other_notes = λ j ne. ap (λ (xs : List Notes). notes_at xs j) notes-are ∙ get_or-set_other k.notes i j _ _ ne;
     other_votes = λ j ne. ap (λ (xs : List (List (Option ℤ))). of_node xs j) votes-are ∙ get_or-set_other k.votes i j _ _ ne;
     other_owns = λ j ne. ap (λ (xs : List (List (Option ℤ))). of_node xs j) owns-are ∙ get_or-set_other k.owns i j _ _ ne;
   }
 
-  pub begun_on : restarts_at sc.plan i p ≡ false → i < N → length k.notes.items ≡ N
-      → begun ≡ states → l.notes.items ≡ set k.notes.items i (record (notes_at k.notes.items i) { row = (notes_at k.notes.items i).carried; carried = replicate N 0 })
+  pub begun_on : restarts_at sc.plan i p ≡ false → i < N → length k.notes ≡ N
+      → begun ≡ states → l.notes ≡ set k.notes i (record (notes_at k.notes i) { row = (notes_at k.notes i).carried; carried = replicate N 0 })
       → l.votes ≡ k.votes → l.owns ≡ k.owns → IsBegunAt sc p i states k begun l
   begun_on goes-on low notes-many state-is notes-are votes-are owns-are = record {
-    many = ap length notes-are ∙ length-set k.notes.items i _ ∙ notes-many;
+    many = ap length notes-are ∙ length-set k.notes i _ ∙ notes-many;
     state = ap (λ (xs : List (Option AgreedView)). state_at xs i) state-is ∙ sym (cond-false (restarts_at sc.plan i p) None (state_at states i) goes-on);
     notes =
-        ap (λ (xs : List Notes). notes_at xs i) notes-are ∙ get_or-set_same k.notes.items i _ _ (let w = notes-many in omega arith)
-        ∙ sym (ap (λ (b : Bool). notes_opened N b (notes_at k.notes.items i)) goes-on);
+        ap (λ (xs : List Notes). notes_at xs i) notes-are ∙ get_or-set_same k.notes i _ _ (let w = notes-many in omega arith)
+        ∙ sym (ap (λ (b : Bool). notes_opened N b (notes_at k.notes i)) goes-on);
     votes =
         ap (λ (xs : List (List (Option ℤ))). of_node xs i) votes-are
         ∙ sym (cond-false (restarts_at sc.plan i p) (replicate 8 None) (of_node k.votes i) goes-on);
@@ -76,7 +76,7 @@ module _ {N : ℕ} (sc : ScenarioView N) (p i : ℕ) (states : List (Option Agre
         ap (λ (xs : List (List (Option ℤ))). of_node xs i) owns-are
         ∙ sym (cond-false (restarts_at sc.plan i p) (replicate 8 None) (of_node k.owns i) goes-on);
     other_state = λ j ne. ap (λ (xs : List (Option AgreedView)). state_at xs j) state-is;
-    other_notes = λ j ne. ap (λ (xs : List Notes). notes_at xs j) notes-are ∙ get_or-set_other k.notes.items i j _ _ ne;
+    other_notes = λ j ne. ap (λ (xs : List Notes). notes_at xs j) notes-are ∙ get_or-set_other k.notes i j _ _ ne;
     other_votes = λ j ne. ap (λ (xs : List (List (Option ℤ))). of_node xs j) votes-are;
     other_owns = λ j ne. ap (λ (xs : List (List (Option ℤ))). of_node xs j) owns-are;
   }
@@ -86,25 +86,25 @@ module _ {N : ℕ} (sc : ScenarioView N) (p i : ℕ) (states : List (Option Agre
 -- node j has begun, and all that it keeps is what it had kept, opened
 pub record IsOpened {N : ℕ} (sc : ScenarioView N) (p j : ℕ) (old : List (Option AgreedView)) (k : Keeping N) (states : List (Option AgreedView)) (l : Keeping N) : Type 0 where
   pub state : state_at states j ≡ or_nothing (restarts_at sc.plan j p) None (state_at old j)
-  pub notes : notes_at l.notes.items j ≡ notes_opened N (restarts_at sc.plan j p) (notes_at k.notes.items j)
+  pub notes : notes_at l.notes j ≡ notes_opened N (restarts_at sc.plan j p) (notes_at k.notes j)
   pub votes : of_node l.votes j ≡ or_nothing (restarts_at sc.plan j p) (replicate 8 None) (of_node k.votes j)
   pub owns : of_node l.owns j ≡ or_nothing (restarts_at sc.plan j p) (replicate 8 None) (of_node k.owns j)
 
 -- it hasn't begun
 pub record IsAsKept {N : ℕ} (j : ℕ) (old : List (Option AgreedView)) (k : Keeping N) (states : List (Option AgreedView)) (l : Keeping N) : Type 0 where
   pub state : state_at states j ≡ state_at old j
-  pub notes : notes_at l.notes.items j ≡ notes_at k.notes.items j
+  pub notes : notes_at l.notes j ≡ notes_at k.notes j
   pub votes : of_node l.votes j ≡ of_node k.votes j
   pub owns : of_node l.owns j ≡ of_node k.owns j
 
 -- the nodes below i have begun
 pub record AreBeginning {N : ℕ} (sc : ScenarioView N) (p : ℕ) (old : List (Option AgreedView)) (k : Keeping N) (i : ℕ) (states : List (Option AgreedView)) (l : Keeping N) : Type 0 where
-  pub many : length l.notes.items ≡ N
+  pub many : length l.notes ≡ N
   pub so_far : (j : ℕ) → j < i → IsOpened sc p j old k states l
   pub rest : (j : ℕ) → i ≤ j → IsAsKept j old k states l
 
 module _ {N : ℕ} (sc : ScenarioView N) (p : ℕ) (old : List (Option AgreedView)) (k : Keeping N) where
-  pub none_begun : length k.notes.items ≡ N → AreBeginning sc p old k 0 old k
+  pub none_begun : length k.notes ≡ N → AreBeginning sc p old k 0 old k
   none_begun many = record {
     many = many;
     so_far = λ j low. absurd (omega arith);
@@ -208,10 +208,10 @@ module _ {N : ℕ} (sc : ScenarioView N) (p : ℕ) (old : List (Option AgreedVie
     used = λ j is. some_used j (state_at states j) refl is;
   }
 
-  shaped_by : (f : Notes → ℕ) → ((b : Bool) (x : Notes) → f (notes_opened N b x) ≡ f x) → (j : ℕ) → j < sc.config.nodes → f (notes_at l.notes.items j) ≡ f (notes_at k.notes.items j)
-  shaped_by f same j low = ap f (m.so_far j low).notes ∙ same (restarts_at sc.plan j p) (notes_at k.notes.items j)
+  shaped_by : (f : Notes → ℕ) → ((b : Bool) (x : Notes) → f (notes_opened N b x) ≡ f x) → (j : ℕ) → j < sc.config.nodes → f (notes_at l.notes j) ≡ f (notes_at k.notes j)
+  shaped_by f same j low = ap f (m.so_far j low).notes ∙ same (restarts_at sc.plan j p) (notes_at k.notes j)
 
-  shaped_still : AreShaped {N = N} sc.config l.notes.items
+  shaped_still : AreShaped {N = N} sc.config l.notes
   shaped_still = record {
     many = m.many;
     nodes = λ j low. shaped_by (λ (x : Notes). x.nodes) (opened_nodes N) j low ∙ kept.shaped.nodes j low;
@@ -228,7 +228,7 @@ module _ {N : ℕ} (sc : ScenarioView N) (p : ℕ) (old : List (Option AgreedVie
         ∙ opened_state (system_of sc).setting (restarts_at sc.plan i p) (kept_before sc p i) ∙ ap (λ (x : Kept). x.state) (sym (goes-as i));
     notes = λ i low.
         (m.so_far i low).notes
-        ∙ opened_notes sc.config (system_of sc).setting i (restarts_at sc.plan i p) (kept_before sc p i) (notes_at k.notes.items i) refl
+        ∙ opened_notes sc.config (system_of sc).setting i (restarts_at sc.plan i p) (kept_before sc p i) (notes_at k.notes i) refl
         (kept.shaped.nodes i low) (kept.shaped.me i low) (kept.shaped.kinds i low) (kept.carried i low)
         ∙ ap (notes_begun sc.config i) (sym (goes-as i));
     votes = λ i low.

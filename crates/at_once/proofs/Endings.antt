@@ -41,7 +41,7 @@ use Rattle.at_once.proofs.Beginnings.{none_past}
 -- ---- who stayed Cold forgets
 
 module _ {N : ℕ} (awake : List ℕ) (k : Keeping N) where
-  pub none_forgets : length k.notes.items ≡ N → AreForgetting awake k 0 k
+  pub none_forgets : length k.notes ≡ N → AreForgetting awake k 0 k
   none_forgets many = record {
     many = many;
     cold = λ j low off. absurd (omega arith);
@@ -61,32 +61,32 @@ module _ {N : ℕ} (awake : List ℕ) (k : Keeping N) where
   }
 
   module _ (i : ℕ) (l l' : Keeping N) (low : i < N) (wide : length l.votes ≡ N) (wide_owns : length l.owns ≡ N)
-      (notes-are : l'.notes.items ≡ set l.notes.items i (no_longer N (notes_at l.notes.items i)))
+      (notes-are : l'.notes ≡ set l.notes i (no_longer N (notes_at l.notes i)))
       (votes-are : l'.votes ≡ set l.votes i (replicate 8 None)) (owns-are : l'.owns ≡ set l.owns i (replicate 8 None)) where
     away : (j : ℕ) → j ≢ i → IsUnchanged j k l → IsUnchanged j k l'
     away j ne was = record {
-      notes = ap (λ (xs : List Notes). notes_at xs j) notes-are ∙ get_or-set_other l.notes.items i j _ _ ne ∙ was.notes;
+      notes = ap (λ (xs : List Notes). notes_at xs j) notes-are ∙ get_or-set_other l.notes i j _ _ ne ∙ was.notes;
       votes = ap (λ (xs : List (List (Option ℤ))). of_node xs j) votes-are ∙ get_or-set_other l.votes i j _ _ ne ∙ was.votes;
       owns = ap (λ (xs : List (List (Option ℤ))). of_node xs j) owns-are ∙ get_or-set_other l.owns i j _ _ ne ∙ was.owns;
     }
 
     before : (j : ℕ) → j ≢ i → IsForgotten j k l → IsForgotten j k l'
     before j ne was = record {
-      notes = ap (λ (xs : List Notes). notes_at xs j) notes-are ∙ get_or-set_other l.notes.items i j _ _ ne ∙ was.notes;
+      notes = ap (λ (xs : List Notes). notes_at xs j) notes-are ∙ get_or-set_other l.notes i j _ _ ne ∙ was.notes;
       votes = ap (λ (xs : List (List (Option ℤ))). of_node xs j) votes-are ∙ get_or-set_other l.votes i j _ _ ne ∙ was.votes;
       owns = ap (λ (xs : List (List (Option ℤ))). of_node xs j) owns-are ∙ get_or-set_other l.owns i j _ _ ne ∙ was.owns;
     }
 
-    here : length l.notes.items ≡ N → IsUnchanged i k l → IsForgotten i k l'
+    here : length l.notes ≡ N → IsUnchanged i k l → IsForgotten i k l'
     here many was = record {
-      notes = ap (λ (xs : List Notes). notes_at xs i) notes-are ∙ get_or-set_same l.notes.items i _ _ (omega arith) ∙ ap (no_longer N) was.notes;
+      notes = ap (λ (xs : List Notes). notes_at xs i) notes-are ∙ get_or-set_same l.notes i _ _ (omega arith) ∙ ap (no_longer N) was.notes;
       votes = ap (λ (xs : List (List (Option ℤ))). of_node xs i) votes-are ∙ get_or-set_same l.votes i (replicate 8 None) [] (omega arith);
       owns = ap (λ (xs : List (List (Option ℤ))). of_node xs i) owns-are ∙ get_or-set_same l.owns i (replicate 8 None) [] (omega arith);
     }
 
     pub cold_forgets : has_id awake i ≡ false → AreForgetting awake k i l → AreForgetting awake k (i + 1) l'
     cold_forgets off m = record {
-      many = ap length notes-are ∙ length-set l.notes.items i _ ∙ m.many;
+      many = ap length notes-are ∙ length-set l.notes i _ ∙ m.many;
       cold = λ j less no. elim (cases_eq j i) [
         | inl e ↦ subst (λ (x : ℕ). IsForgotten x k l') (sym e) (here m.many (m.rest i (omega arith)))
         | inr ne ↦ before j ne (m.cold j (omega arith) no)
@@ -188,7 +188,7 @@ module _ {N : ℕ} (sc : ScenarioView N) (p : ℕ) (full : List ℕ) (made : Mad
           (forgot : AreForgetting awake k sc.config.nodes l) where
         record KeepsAt (i : ℕ) : Type 0 where
           state_is : state_at states i ≡ (kept_before sc (suc p) i).state
-          carried : (notes_at l.notes.items i).carried ≡ (kept_before sc (suc p) i).carried
+          carried : (notes_at l.notes i).carried ≡ (kept_before sc (suc p) i).carried
           votes : of_node l.votes i ≡ (kept_before sc (suc p) i).votes
           owns : of_node l.owns i ≡ (kept_before sc (suc p) i).owns
 
@@ -210,10 +210,10 @@ module _ {N : ℕ} (sc : ScenarioView N) (p : ℕ) (full : List ℕ) (made : Mad
               owns = lost.owns ∙ ap (λ (w : View). w.kept.owns) (sym v);
             }
 
-        same_shape : (f : Notes → ℕ) → ((x : Notes) → f (no_longer N x) ≡ f x) → (j : ℕ) → j < sc.config.nodes → f (notes_at l.notes.items j) ≡ f (notes_at k.notes.items j)
+        same_shape : (f : Notes → ℕ) → ((x : Notes) → f (no_longer N x) ≡ f x) → (j : ℕ) → j < sc.config.nodes → f (notes_at l.notes j) ≡ f (notes_at k.notes j)
         same_shape f same j low = elim (cases_Bool (has_id awake j)) [
           | inl on ↦ ap f (forgot.others j on).notes
-          | inr off ↦ ap f (forgot.cold j low off).notes ∙ same (notes_at k.notes.items j)
+          | inr off ↦ ap f (forgot.cold j low off).notes ∙ same (notes_at k.notes j)
         ]
 
         pub all_kept : AreAgreed sc.config states → length states ≡ N → ((i : ℕ) → sc.config.nodes ≤ i → i < N → state_at states i ≡ None) → AreKept sc (suc p) states l

@@ -124,7 +124,7 @@ module _ {N : ℕ} (sc : ScenarioView N) (slot : SyncSlot N) (cap : IsCapacity N
   }
 
   module _ (states : List (Option AgreedView)) (k : Keeping N) (begun : AreBegun sc slot.period states k) where
-    pub are_ready : length states ≡ N → AreReady slot states k.notes.items
+    pub are_ready : length states ≡ N → AreReady slot states k.notes
     are_ready long = record {
       agreed = subst (λ (c : Config N). (i : ℕ) (a : AgreedView) → state_at states i ≡ Some a → IsAgreed N c a) (sym config-is) begun.used.agreed;
       used = λ i on. let u = begun.used.used i on in let e = nodes_are in omega arith;
@@ -135,7 +135,7 @@ module _ {N : ℕ} (sc : ScenarioView N) (slot : SyncSlot N) (cap : IsCapacity N
       kinds = λ i low. begun.shaped.kinds i (let e = nodes_are in omega arith) ∙ ap (λ (c : Config N). kind_count c.version) (sym config-is);
     }
 
-    pub of_run : IsSlotOf slot states k.notes.items (system_of sc)
+    pub of_run : IsSlotOf slot states k.notes (system_of sc)
     of_run = record {
       accepted = ok.system;
       setting_is = ap (λ (c : Config N). setting_of c) (sym config-is);
@@ -146,8 +146,8 @@ module _ {N : ℕ} (sc : ScenarioView N) (slot : SyncSlot N) (cap : IsCapacity N
 
     -- what all have of the slot
     module _ (full : List ℕ) (full-is : full ≡ awake_in N states) (now : List (Option AgreedView)) (l : Keeping N) (heard : List (List ℕ))
-        (ready : AreReady slot now l.notes.items) (h : AreHeard slot (system_of sc) k.notes.items now l.notes.items heard)
-        (many : length l.notes.items ≡ N) (made : Made N) (made' : Made N)
+        (ready : AreReady slot now l.notes) (h : AreHeard slot (system_of sc) k.notes now l.notes heard)
+        (many : length l.notes ≡ N) (made : Made N) (made' : Made N)
         (modes-are : made.modes ≡ modes_through N full now) (members-are : made.members ≡ members_through N now) (states-are : made.states ≡ now) (sync-are : made.sync ≡ heard)
         (left : AreLeft sc.config.nodes made made') where
       in_slot : (i : ℕ) → i < sc.config.nodes → i < slot.config.now.nodes
@@ -197,17 +197,17 @@ module _ {N : ℕ} (sc : ScenarioView N) (slot : SyncSlot N) (cap : IsCapacity N
         no_row = λ i low none. left.no_row i low (no_state i low none);
       }
 
-      shaped_by : (f : Notes → ℕ) → ((x : Notes) (row : List ℕ) → f (record x { row = row }) ≡ f x) → (i : ℕ) → i < sc.config.nodes → f (notes_at l.notes.items i) ≡ f (notes_at k.notes.items i)
-      shaped_by f same i low = ap f (h.kept i (in_slot i low)) ∙ same (notes_at k.notes.items i) (notes_at l.notes.items i).row
+      shaped_by : (f : Notes → ℕ) → ((x : Notes) (row : List ℕ) → f (record x { row = row }) ≡ f x) → (i : ℕ) → i < sc.config.nodes → f (notes_at l.notes i) ≡ f (notes_at k.notes i)
+      shaped_by f same i low = ap f (h.kept i (in_slot i low)) ∙ same (notes_at k.notes i) (notes_at l.notes i).row
 
-      noted_now : (i : ℕ) (a : AgreedView) → i < sc.config.nodes → through sc slot.period i ≡ Some a → notes_at l.notes.items i ≡ notes_synced sc slot.period i a
+      noted_now : (i : ℕ) (a : AgreedView) → i < sc.config.nodes → through sc slot.period i ≡ Some a → notes_at l.notes i ≡ notes_synced sc slot.period i a
       noted_now i a low goes-by =
           h.notes_are i a (in_slot i low) (goes_through i low ∙ goes-by)
-          ∙ ap (λ (c : Config N). also_noted N (notes_at k.notes.items i) (noted_states c a (has sc slot.period i).sync)) config-is
+          ∙ ap (λ (c : Config N). also_noted N (notes_at k.notes i) (noted_states c a (has sc slot.period i).sync)) config-is
           ∙ ap (λ (x : Notes). also_noted N x (noted_states sc.config a (has sc slot.period i).sync)) (begun.notes i low)
           ∙ sym (synced_is sc slot.period i a)
 
-      pub all_synced : AreSynced sc slot.period full made' l.notes.items
+      pub all_synced : AreSynced sc slot.period full made' l.notes
       all_synced = record {
         going = going;
         shaped = record {

@@ -56,7 +56,7 @@ module _ {N : ℕ} (sc : ScenarioView N) (ok : IsConfig N sc.config) where
   blank_note i = record { nodes = sc.config.nodes; me = i; kinds = kind_count sc.config.version; row = replicate N 0; carried = replicate N 0 }
 
   module _ (k : Keeping N) (blank : IsBlank sc.config k) where
-    noted_at : (i : ℕ) → i < sc.config.nodes → notes_at k.notes.items i ≡ blank_note i
+    noted_at : (i : ℕ) → i < sc.config.nodes → notes_at k.notes i ≡ blank_note i
     noted_at i low =
         ap (λ (xs : List Notes). notes_at xs i) blank.notes
         ∙ get_or-map-range_with_len blank_note 0 N i i _ (let few = ok.few_nodes in omega arith) (omega arith)
@@ -65,7 +65,7 @@ module _ {N : ℕ} (sc : ScenarioView N) (ok : IsConfig N sc.config) where
     valued_at values are i low =
         ap (λ (xs : List (List (Option ℤ))). of_node xs i) are ∙ get_or-replicate N i (replicate 8 None) [] (let few = ok.few_nodes in omega arith)
 
-    shaped_first : AreShaped {N = N} sc.config k.notes.items
+    shaped_first : AreShaped {N = N} sc.config k.notes
     shaped_first = record {
       many = ap length blank.notes ∙ length-map-range_with_len blank_note 0 N;
       nodes = λ i low. ap (λ (x : Notes). x.nodes) (noted_at i low);

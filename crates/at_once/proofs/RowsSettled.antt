@@ -54,7 +54,7 @@ module _ {N : ℕ} (sc : ScenarioView N) (p : ℕ) (full : List ℕ) (made : Mad
       phase_done sc p full made going given in_run first x at (pointwise ◌==◌) row_form (λ m. m + 3) row_told starts_in s (omega arith) (omega arith) told settled
 
   -- until then nothing is carried over that a row has no place for
-  pub votes_within : (k : Keeping N) → AreVoted sc p k → (i : ℕ) → has_id x.awake i ≡ true → IsCarriedWithin N (notes_at k.notes.items i)
+  pub votes_within : (k : Keeping N) → AreVoted sc p k → (i : ℕ) → has_id x.awake i ≡ true → IsCarriedWithin N (notes_at k.notes i)
   votes_within k voted i on =
       let awake : has_id (awake_in N made.states) i ≡ true = ap (λ (xs : List ℕ). has_id xs i) (sym at.awake) ∙ on in
       let low : i < sc.config.nodes = awake_low sc p full made going i awake in
@@ -120,8 +120,8 @@ module _ {N : ℕ} (law : OfRunLaw N (pointwise ◌==◌) row_form (λ m. m + 3)
   -- all of it, with what the nodes carry over and what they keep
   pub all_reported : (full : List ℕ) → IsGoing sc p full made → AreFound sc p made → made' ≡ record made { beliefs = made'.beliefs } → length made'.beliefs.items ≡ N → x.awake ≡ awake_in N made.states
       → ((f : ℕ) (b : Belief N) → has_id x.awake f ≡ false → get_or made'.beliefs.items f b ≡ get_or apart f b)
-      → (k l : Keeping N) → AreVoted sc p k → k.votes ≡ votes → l.votes ≡ k.votes → l.owns ≡ k.owns → length l.notes.items ≡ N
-      → ((i : ℕ) → i < N → notes_at l.notes.items i ≡ (if has_id x.awake i then also_carried N (also_carried N (notes_at k.notes.items i) (rounds_bad x.config.now.m (rounds_of row_form x s.links i))) (blames (pointwise ◌==◌) (listener row_form x s.links i)) else notes_at k.notes.items i))
+      → (k l : Keeping N) → AreVoted sc p k → k.votes ≡ votes → l.votes ≡ k.votes → l.owns ≡ k.owns → length l.notes ≡ N
+      → ((i : ℕ) → i < N → notes_at l.notes i ≡ (if has_id x.awake i then also_carried N (also_carried N (notes_at k.notes i) (rounds_bad x.config.now.m (rounds_of row_form x s.links i))) (blames (pointwise ◌==◌) (listener row_form x s.links i)) else notes_at k.notes i))
       → AreReported sc p full made' l groups
   all_reported full going found is many awake others k l done votes_is same_votes same_owns long each =
       let off : (i : ℕ) → i < sc.config.nodes → through sc p i ≡ None → has_id x.awake i ≡ false =
@@ -133,8 +133,8 @@ module _ {N : ℕ} (law : OfRunLaw N (pointwise ◌==◌) row_form (λ m. m + 3)
         claimed = rows_claimed (ap (λ (y : Made N). y.states) is) off;
         voted = rows_voted (λ i a low goes. ap (λ (vs : List (List (Option ℤ))). of_node vs i) (sym votes_is) ∙ kept_votes i a low goes);
         rows = rows_believed (λ i a low goes full_is. row_is through_is sc p i a goes);
-        shaped = shaped_late sc.config few x.awake (λ i. rounds_bad x.config.now.m (rounds_of row_form x s.links i)) (λ i. blames (pointwise ◌==◌) (listener row_form x s.links i)) k.notes.items l.notes.items done.shaped long each;
-        notes = late_notes law sc p x s d few k.notes.items l.notes.items done.shaped each done.notes;
+        shaped = shaped_late sc.config few x.awake (λ i. rounds_bad x.config.now.m (rounds_of row_form x s.links i)) (λ i. blames (pointwise ◌==◌) (listener row_form x s.links i)) k.notes l.notes done.shaped long each;
+        notes = late_notes law sc p x s d few k.notes l.notes done.shaped each done.notes;
         votes = λ i a low goes. ap (λ (vs : List (List (Option ℤ))). of_node vs i) same_votes ∙ kept_votes i a low goes;
         owns = λ i a low goes. ap (λ (vs : List (List (Option ℤ))). of_node vs i) same_owns ∙ done.owns i a low goes;
       }

@@ -15,7 +15,6 @@ use Rattle.grouped_nodes.specs.Shared.{AreShared, belief_of}
 use Rattle.at_once.specs.declared.keeping.Keeping.{Keeping}
 use Rattle.at_once.specs.Parts.{setting, goes, has, is_full, through, done_in, due_in, own_in, votes_in, notes_synced, notes_convicted, notes_voted, notes_late, found_in, rows_in}
 use Rattle.at_once.specs.Kept.{AreShaped, AreUsed, of_node, GoThrough, AreNotedAs}
-use Rattle.at_once.specs.Values.{AreVoters}
 
 -- the nodes that have a state
 abbrev pub awake_in : ℕ → List (Option AgreedView) → List ℕ
@@ -77,11 +76,10 @@ pub record AreSettled {N : ℕ} (sc : ScenarioView N) (p : ℕ) (full : List ℕ
 
 -- after the data slot
 pub record AreVoted {N : ℕ} (sc : ScenarioView N) (p : ℕ) (k : Keeping N) : Type 0 where
-  pub shaped : AreShaped {N = N} sc.config k.notes.items
-  pub notes : AreNotedAs sc p (notes_voted sc p) k.notes.items
+  pub shaped : AreShaped {N = N} sc.config k.notes
+  pub notes : AreNotedAs sc p (notes_voted sc p) k.notes
   pub votes : (i : ℕ) (a : AgreedView) → i < sc.config.nodes → through sc p i ≡ Some a → of_node k.votes i ≡ votes_in sc p i a
   pub owns : (i : ℕ) (a : AgreedView) → i < sc.config.nodes → through sc p i ≡ Some a → of_node k.owns i ≡ own_in sc p i a
-  pub voters : AreVoters N k.votes k.voters
 
 -- each node's own row
 abbrev pub AreFound : {N : ℕ} → ScenarioView N → ℕ → Made N → Type 0
@@ -101,7 +99,7 @@ pub record AreReported {N : ℕ} (sc : ScenarioView N) (p : ℕ) (full : List �
   pub claimed : AreClaimed sc p made groups
   pub voted : (i : ℕ) (a : AgreedView) (d : Belief N) → i < sc.config.nodes → through sc p i ≡ Some a → (belief_of d made.beliefs.items groups i).votes ≡ votes_in sc p i a
   pub rows : (i : ℕ) (a : AgreedView) (d : Belief N) → i < sc.config.nodes → through sc p i ≡ Some a → (belief_of d made.beliefs.items groups i).rows ≡ rows_in sc p i a
-  pub shaped : AreShaped {N = N} sc.config k.notes.items
-  pub notes : AreNotedAs sc p (notes_late sc p) k.notes.items
+  pub shaped : AreShaped {N = N} sc.config k.notes
+  pub notes : AreNotedAs sc p (notes_late sc p) k.notes
   pub votes : (i : ℕ) (a : AgreedView) → i < sc.config.nodes → through sc p i ≡ Some a → of_node k.votes i ≡ votes_in sc p i a
   pub owns : (i : ℕ) (a : AgreedView) → i < sc.config.nodes → through sc p i ≡ Some a → of_node k.owns i ≡ own_in sc p i a

@@ -43,9 +43,9 @@ of_node values i = slice_index_or values i []
 -- what the nodes in use keep before period p
 pub record AreKept {N : ℕ} (sc : ScenarioView N) (p : ℕ) (states : List (Option AgreedView)) (k : Keeping N) : Type 0 where
   pub used : AreUsed sc.config states
-  pub shaped : AreShaped sc.config k.notes.items
+  pub shaped : AreShaped sc.config k.notes
   pub states_are : (i : ℕ) → i < sc.config.nodes → state_at states i ≡ (kept_before sc p i).state
-  pub carried : (i : ℕ) → i < sc.config.nodes → (notes_at k.notes.items i).carried ≡ (kept_before sc p i).carried
+  pub carried : (i : ℕ) → i < sc.config.nodes → (notes_at k.notes i).carried ≡ (kept_before sc p i).carried
   pub votes : (i : ℕ) → i < sc.config.nodes → of_node k.votes i ≡ (kept_before sc p i).votes
   pub owns : (i : ℕ) → i < sc.config.nodes → of_node k.owns i ≡ (kept_before sc p i).owns
 
@@ -63,28 +63,28 @@ or_nothing restarts nothing x = if restarts then nothing else x
 
 -- node i has begun period p, and the others stay
 pub record IsBegunAt {N : ℕ} (sc : ScenarioView N) (p i : ℕ) (states : List (Option AgreedView)) (k : Keeping N) (begun : List (Option AgreedView)) (l : Keeping N) : Type 0 where
-  pub many : length l.notes.items ≡ N
+  pub many : length l.notes ≡ N
   pub state : state_at begun i ≡ or_nothing (restarts_at sc.plan i p) None (state_at states i)
-  pub notes : notes_at l.notes.items i ≡ notes_opened N (restarts_at sc.plan i p) (notes_at k.notes.items i)
+  pub notes : notes_at l.notes i ≡ notes_opened N (restarts_at sc.plan i p) (notes_at k.notes i)
   pub votes : of_node l.votes i ≡ or_nothing (restarts_at sc.plan i p) (replicate 8 None) (of_node k.votes i)
   pub owns : of_node l.owns i ≡ or_nothing (restarts_at sc.plan i p) (replicate 8 None) (of_node k.owns i)
   pub other_state : (j : ℕ) → j ≢ i → state_at begun j ≡ state_at states j
-  pub other_notes : (j : ℕ) → j ≢ i → notes_at l.notes.items j ≡ notes_at k.notes.items j
+  pub other_notes : (j : ℕ) → j ≢ i → notes_at l.notes j ≡ notes_at k.notes j
   pub other_votes : (j : ℕ) → j ≢ i → of_node l.votes j ≡ of_node k.votes j
   pub other_owns : (j : ℕ) → j ≢ i → of_node l.owns j ≡ of_node k.owns j
 
 -- what they go into period p with
 pub record AreBegun {N : ℕ} (sc : ScenarioView N) (p : ℕ) (states : List (Option AgreedView)) (k : Keeping N) : Type 0 where
   pub used : AreUsed sc.config states
-  pub shaped : AreShaped sc.config k.notes.items
+  pub shaped : AreShaped sc.config k.notes
   pub states_are : (i : ℕ) → i < sc.config.nodes → state_at states i ≡ (goes sc p i).state
-  pub notes : (i : ℕ) → i < sc.config.nodes → notes_at k.notes.items i ≡ notes_begun sc.config i (goes sc p i)
+  pub notes : (i : ℕ) → i < sc.config.nodes → notes_at k.notes i ≡ notes_begun sc.config i (goes sc p i)
   pub votes : (i : ℕ) → i < sc.config.nodes → of_node k.votes i ≡ (goes sc p i).votes
   pub owns : (i : ℕ) → i < sc.config.nodes → of_node k.owns i ≡ (goes sc p i).owns
 
 -- what was never kept
 pub record IsBlank {N : ℕ} (config : Config N) (k : Keeping N) : Type 0 where
-  pub notes : k.notes.items ≡ map (λ i. record { nodes = config.nodes; me = i; kinds = kind_count config.version; row = replicate N 0; carried = replicate N 0 }) (ids_below N)
+  pub notes : k.notes ≡ map (λ i. record { nodes = config.nodes; me = i; kinds = kind_count config.version; row = replicate N 0; carried = replicate N 0 }) (ids_below N)
   pub votes : k.votes ≡ replicate N (replicate 8 None)
   pub owns : k.owns ≡ replicate N (replicate 8 None)
 

@@ -2,6 +2,7 @@ pub mod Parts
 pub mod Kept
 pub mod Course
 pub mod Values
+pub mod Votes
 pub mod Ended
 pub mod Phases
 pub mod Run

@@ -1,5 +1,5 @@
 -- The data slot of a period, as the code has it: what is due at each node, and whose votes serve whom.
-use Rattle.std.specs.Prelude.{◌≡◌, ◌≢◌, ◌<◌, ◌&&◌, ◌||◌, ◌==◌, ℕ, ℤ, Bool, true, List, [], length, Option, slice_index_or}
+use Rattle.std.specs.Prelude.{◌≡◌, ◌≢◌, ◌<◌, ◌&&◌, ◌||◌, ◌==◌, ℕ, ℤ, Bool, true, List, [], length, Option}
 use Rattle.node_grid.specs.Capacity.{IsCapacity}
 use Rattle.node_grid.specs.NodeSet.{has_id}
 use Rattle.node_grid.specs.Kinds.{deviate}
@@ -12,7 +12,6 @@ use Rattle.protocol.specs.View.{Received, votes_on, deviates}
 use Rattle.shared_states.specs.declared.belief.Belief.{Belief}
 use Rattle.grouped_nodes.specs.Shared.{belief_of}
 use Rattle.told_values.specs.Slot.{DataView, own_of, Hears, IsTold}
-use Rattle.at_once.specs.Kept.{of_node}
 
 -- what stands where nothing is believed
 abbrev pub no_belief : {N : ℕ} → Belief N
@@ -30,10 +29,6 @@ pub record AreDues (N : ℕ) (groups : List ℕ) (beliefs : List (Belief N)) (al
   pub capacity : IsCapacity N
   pub many : length beliefs ≡ N
   pub alike_are : (i j : ℕ) → has_id alike i ≡ true → has_id alike j ≡ true → due_at (groups, beliefs) i ≡ due_at (groups, beliefs) j
-
--- each node has the last votes of the node from which it took them over, or is that itself
-abbrev pub AreVoters : ℕ → List (List (Option ℤ)) → List ℕ → Type 0
-AreVoters n votes voters = (i : ℕ) → i < n → of_node votes (slice_index_or voters i 0) ≡ of_node votes i
 
 module _ {n : ℕ} (d : DataView n) where
   -- the same channels are due at node j, which has y, as at node i, which has x, and what i is told j is told too

@@ -1,6 +1,6 @@
 //! How a period begins.
 
-ghost use Rattle.std.specs.Prelude.{◌≡◌, ◌<◌, length};
+ghost use Rattle.std.specs.Prelude.{◌<◌};
 ghost use Rattle.at_once.specs.Kept.{AreKept, AreBegun, IsBegunAt};
 
 use crate::keeping::Keeping;
@@ -14,10 +14,7 @@ where
 {
     /// Begins the period for a node, which forgets all where it restarts.
     fn begin_at(&self, i: u8, states: &mut SharedStates<N>, keeping: &mut Keeping<N>)
-        requires in_run { self.now.number < self.now.scenario.now.periods }
-        requires node { i < self.now.scenario.now.config.nodes }
-        requires many { length keeping.old.notes.items ≡ N }
-        requires there { i < N }
+        requires { i < self.now.scenario.now.config.nodes }
         ensures { IsBegunAt self.now.scenario.now self.now.number i states.old keeping.old
             states.new keeping.new }
     {
@@ -33,8 +30,7 @@ where
 
     /// Begins the period for all nodes.
     pub(crate) fn begin(&self, states: &mut SharedStates<N>, keeping: &mut Keeping<N>)
-        requires in_run { self.now.number < self.now.scenario.now.periods }
-        requires kept { AreKept self.now.scenario.now self.now.number states.old keeping.old }
+        requires { AreKept self.now.scenario.now self.now.number states.old keeping.old }
         ensures { AreBegun self.now.scenario.now self.now.number states.new keeping.new }
     {
         for i in 0..self.scenario.config().nodes {

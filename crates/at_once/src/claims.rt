@@ -80,7 +80,6 @@ where
         claims: &mut ItemPhase<u8, N>,
         notes: &mut [RowBuilder<N>],
     ) -> Groups<N>
-        requires in_run { self.now.number < self.now.scenario.now.periods }
         requires synced { AreSynced self.now.scenario.now self.now.number full.now made.old
             notes.old }
         requires room { claims.old.settling ≡ record {

@@ -1,14 +1,25 @@
 //! Which channels are due at each node.
 
-ghost use Rattle.std.specs.Prelude.{◌≡◌, ℕ, ◌<◌, length, true};
+ghost use Rattle.std.specs.Prelude.{◌≡◌, ℕ, ◌<◌, ◌≤◌, length, true};
 ghost use Rattle.node_grid.specs.NodeSet.{has_id};
-ghost use Rattle.at_once.specs.Values.{due_at};
+ghost use Rattle.grouped_nodes.specs.Grouping.{first_of};
+ghost use Rattle.at_once.specs.Values.{due_at, done_at};
 
 use grouped_nodes::Groups;
 use node_grid::{Capacity, NodeSet, Nodes};
+use omh_paths::Wrapped;
 use shared_states::Belief;
 use std::marker::Model;
 use told_values::Dues;
+
+/// What nodes believe in groups: there is a place for each node, and what a group believes stands
+/// at its first.
+#[derive(Drop)]
+struct GroupBeliefs<'a, const N: usize> {
+    groups: &'a Groups<N>,
+    beliefs: &'a [Belief<N>],
+    ghost many: { length beliefs.now ≡ N },
+}
 
 /// Which channels are due at each node, by what its group believes.
 #[derive(Drop)]
@@ -32,47 +43,6 @@ impl<'a, const N: usize> Model for GroupDues<'a, N> {
     ghost invariant = { λ g. AreDues N g.groups.now g.beliefs.now g.alike };
 }
 
-/// The channels that are due at a node.
-fn due_at<'a, const N: usize>(groups: &Groups<N>, beliefs: &'a [Belief<N>], i: u8) -> &'a [u8]
-    requires node { i < N }
-    requires many { length beliefs.now ≡ N }
-    ensures { result.now ≡ due_at (groups.now, beliefs.now) i }
-{
-    beliefs[groups.of(i) as usize].due.as_slice()
-}
-
-/// Whether the same channels are due at two nodes.
-fn is_due_alike<const N: usize>(groups: &Groups<N>, beliefs: &[Belief<N>], i: u8, j: u8) -> bool
-    requires first { i < N }
-    requires second { j < N }
-    requires many { length beliefs.now ≡ N }
-    ensures { result ≡ true →
-        due_at (groups.now, beliefs.now) i ≡ due_at (groups.now, beliefs.now) j }
-{
-    if groups.of(i) == groups.of(j) {
-        return true;
-    }
-    due_at(groups, beliefs, i) == due_at(groups, beliefs, j)
-}
-
-/// The nodes at which the same channels are due as at this one.
-fn alike_to<const N: usize>(groups: &Groups<N>, beliefs: &[Belief<N>], node: u8) -> NodeSet<N>
-where
-    Nodes: Capacity<N>,
-    requires node { node < N }
-    requires many { length beliefs.now ≡ N }
-    ensures { (i : ℕ) → has_id result i ≡ true →
-        due_at (groups.now, beliefs.now) i ≡ due_at (groups.now, beliefs.now) node }
-{
-    let mut alike = NodeSet::empty();
-    for i in 0..N as u8 {
-        if is_due_alike(groups, beliefs, i, node) {
-            alike.put(i);
-        }
-    }
-    alike
-}
-
 /// The least of these nodes, and node 0 where there is none.
 fn least_or_first<const N: usize>(nodes: &NodeSet<N>) -> u8
 where
@@ -85,25 +55,86 @@ where
     }
 }
 
-impl<'a, const N: usize> GroupDues<'a, N>
-where
-    Nodes: Capacity<N>,
-{
+impl<'a, const N: usize> GroupBeliefs<'a, N> {
+    /// The channels that are due at a node.
+    fn due(&self, i: u8) -> &[u8]
+        requires { i < N }
+        ensures { result.now ≡ due_at (self.now.groups.now, self.now.beliefs.now) i }
+    {
+        self.beliefs[self.groups.of(i) as usize].due.as_slice()
+    }
+
+    /// Whether the same channels are due at two nodes.
+    fn is_alike(&self, i: u8, j: u8) -> bool
+    where
+        Nodes: Capacity<N>,
+        requires first { i < N }
+        requires second { j < N }
+        ensures { result ≡ true → due_at (self.now.groups.now, self.now.beliefs.now) i
+            ≡ due_at (self.now.groups.now, self.now.beliefs.now) j }
+    {
+        if self.groups.of(i) == self.groups.of(j) {
+            return true;
+        }
+        self.due(i) == self.due(j)
+    }
+
+    /// Nodes at which the same channels are due: those at which the same are as at the least of
+    /// these.
+    fn alike(&self, full: &NodeSet<N>) -> NodeSet<N>
+    where
+        Nodes: Capacity<N>,
+        ensures { (i j : ℕ) → has_id result i ≡ true → has_id result j ≡ true →
+            due_at (self.now.groups.now, self.now.beliefs.now) i
+            ≡ due_at (self.now.groups.now, self.now.beliefs.now) j }
+    {
+        let node = least_or_first(full);
+        let mut alike = NodeSet::empty();
+        for i in 0..N as u8 {
+            if self.is_alike(i, node) {
+                alike.put(i);
+            }
+        }
+        alike
+    }
+}
+
+impl<'a, const N: usize> GroupDues<'a, N> {
     /// Those of all nodes. It tells at once of nodes that have the same as the least of these.
     pub(crate) fn of(
         groups: &'a Groups<N>,
         beliefs: &'a [Belief<N>],
         full: &NodeSet<N>,
     ) -> GroupDues<'a, N>
-        requires many { length beliefs.now ≡ N }
+    where
+        Nodes: Capacity<N>,
+        requires { length beliefs.now ≡ N }
         ensures groups { result.0 ≡ groups.now }
         ensures beliefs { result.1 ≡ beliefs.now }
     {
+        let shared = GroupBeliefs { groups, beliefs };
         GroupDues {
             groups,
             beliefs,
-            alike: alike_to(groups, beliefs, least_or_first(full)),
+            alike: shared.alike(full),
         }
+    }
+
+    /// The first of a node's group.
+    pub(crate) fn first(&self, i: u8) -> u8
+        requires { i < N }
+        ensures first { result ≡ first_of self.now.0 i }
+        ensures early { result ≤ i }
+    {
+        self.groups.of(i)
+    }
+
+    /// The claims that a node settles.
+    pub(crate) fn done(&self, i: u8) -> &'a [Wrapped<u8>; N]
+        requires { i < N }
+        ensures { result.now ≡ done_at self.now.0 self.now.1 i }
+    {
+        &self.beliefs[self.groups.of(i) as usize].done
     }
 }
 
@@ -113,7 +144,7 @@ impl<'a, const N: usize> Dues<N> for GroupDues<'a, N> {
     ghost dues = { due_at };
 
     fn due(&self, i: u8) -> &[u8] {
-        due_at(self.groups, self.beliefs, i)
+        self.beliefs[self.groups.of(i) as usize].due.as_slice()
     }
 
     fn is_alike(&self, i: u8, j: u8) -> bool {

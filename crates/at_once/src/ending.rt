@@ -1,7 +1,6 @@
 //! How a period ends.
 
-ghost use Rattle.std.specs.Prelude.{◌≡◌, ◌+◌, ◌<◌, ◌≤◌, ℕ, List, length};
-ghost use Rattle.grouped_nodes.specs.Grouping.{AreFirsts};
+ghost use Rattle.std.specs.Prelude.{◌+◌, ℕ, List};
 ghost use Rattle.shown_period.specs.Outcomes.{HasBeliefs};
 ghost use Rattle.shown_period.specs.Whole.{AreMade};
 ghost use Rattle.at_once.specs.Kept.{AreKept};
@@ -14,48 +13,42 @@ use grouped_nodes::{Groups, step};
 use node_grid::{Capacity, NodeSet, Nodes};
 use shown_period::Made;
 
-/// Forgets what the nodes in use kept that aren't awake.
-fn forget_cold<const N: usize>(nodes: u8, awake: &NodeSet<N>, keeping: &mut Keeping<N>)
-where
-    Nodes: Capacity<N>,
-    requires nodes { nodes ≤ N }
-    requires many { length keeping.old.notes.items ≡ N }
-    ensures { AreForgetting awake.now keeping.old nodes keeping.new }
-{
-    for i in 0..nodes {
-        if !awake.has(i) {
-            keeping.forget(i);
-        }
-    }
-}
-
 impl<const N: usize> Period<'_, N>
 where
     Nodes: Capacity<N>,
 {
+    /// Forgets what the nodes in use kept that aren't awake.
+    fn forget_cold(&self, awake: &NodeSet<N>, keeping: &mut Keeping<N>)
+        ensures { AreForgetting awake.now keeping.old self.now.scenario.now.config.nodes
+            keeping.new }
+    {
+        for i in 0..self.scenario.config().nodes {
+            if !awake.has(i) {
+                keeping.forget(i);
+            }
+        }
+    }
+
     /// Ends the period: each node keeps its state as it is afterwards, and one that stayed Cold
     /// keeps nothing. What was made of the period is whole then.
     pub(crate) fn end(&self, groups: &Groups<N>, made: &mut Made<N>, keeping: &mut Keeping<N>)
-        requires in_run { self.now.number < self.now.scenario.now.periods }
-        requires reported { (full : List ℕ) × AreReported self.now.scenario.now self.now.number
-            full made.old keeping.old groups.now }
-        requires grouped { made.old.group ≡ groups.now }
-        requires firsts { AreFirsts N groups.now }
+        requires { (full : List ℕ) × AreReported self.now.scenario.now self.now.number full made.old
+            keeping.old groups.now }
         ensures made { AreMade self.now.scenario.now self.now.number made.new }
         ensures beliefs { HasBeliefs made.new }
         ensures kept { AreKept self.now.scenario.now (self.now.number + 1) made.new.states
             keeping.new }
     {
-        let config = self.scenario.config();
+        made.group = groups.by_node();
         let awake = made.states.awake();
         step(
-            config,
+            self.scenario.config(),
             self.number,
             &mut made.states,
             groups,
             made.beliefs.as_slice(),
         );
-        forget_cold(config.nodes, &awake, keeping);
+        self.forget_cold(&awake, keeping);
         // Proofs need here how many states there are.
         let _ = made.states.awake();
     }

@@ -1,29 +1,24 @@
 //! What nodes keep from one period to the next beside their agreed states.
 
-ghost use Rattle.std.specs.Prelude.{◌≡◌, ◌<◌, ◌≤◌, ℕ, None, true, IfOk, length, replicate};
+ghost use Rattle.std.specs.Prelude.{◌≡◌, ◌<◌, None, length, replicate};
 ghost use Rattle.std.specs.Prelude.{slice_set};
-ghost use Rattle.agreed_state.specs.Config.{IsConfig};
-ghost use Rattle.at_once.specs.Kept.{notes_at, of_node};
-ghost use Rattle.at_once.specs.Values.{AreVoters};
+ghost use Rattle.at_once.specs.Kept.{IsBlank, notes_at, no_longer};
 ghost use Rattle.node_grid.specs.Version.{kind_count};
-ghost use Rattle.at_once.specs.Kept.{IsBlank, no_longer};
 
-use agreed_state::Config;
+use crate::votes::Votes;
 use error_reports::RowBuilder;
-use node_grid::{Capacity, NoMemory, Nodes};
-use std::alloc::Global;
+use node_grid::{Capacity, Nodes};
+use scenario::Scenario;
 
 /// What all nodes keep beside their agreed states, by node.
 #[derive(Drop)]
 pub(crate) struct Keeping<const N: usize> {
     /// What each notes against the others.
-    pub(crate) notes: Vec<RowBuilder<N>>,
-    /// Its last votes, by channel.
-    pub(crate) votes: [[Option<i64>; 8]; N],
+    pub(crate) notes: [RowBuilder<N>; N],
+    /// Its last votes.
+    pub(crate) votes: Votes<N>,
     /// Its last own values, by channel.
     pub(crate) owns: [[Option<i64>; 8]; N],
-    /// By node, one that it took its last votes over from, or else itself.
-    pub(crate) voters: [u8; N],
 }
 
 /// How many kinds of errors a row of the version has room for.
@@ -33,59 +28,39 @@ fn kinds_of(version: u8) -> u8
     if version == 1 { 8 } else { 16 }
 }
 
-impl<const N: usize> Keeping<N> {
+impl<const N: usize> Keeping<N>
+where
+    Nodes: Capacity<N>,
+{
     /// What all nodes keep before the first period: nothing.
-    pub(crate) fn open(alloc: Global, config: &Config<N>) -> Result<Keeping<N>, NoMemory>
-    where
-        Nodes: Capacity<N>,
-        requires config { IsConfig N config.now }
-        ensures { IfOk result (IsBlank config.now) }
+    pub(crate) fn open(scenario: &Scenario<N>) -> Keeping<N>
+        ensures { IsBlank scenario.now.config result }
     {
-        let Ok(mut notes) = Vec::with_capacity(alloc, N) else {
-            return Err(NoMemory);
-        };
+        let config = scenario.config();
+        let nodes = config.nodes;
+        let kinds = kinds_of(config.version);
+        let mut notes = [RowBuilder::new(nodes, 0, kinds); N];
         for me in 0..N as u8 {
-            let Ok(()) = notes.push(RowBuilder::new(config.nodes, me, kinds_of(config.version)))
-            else {
-                return Err(NoMemory);
-            };
+            notes[me as usize] = RowBuilder::new(nodes, me, kinds);
         }
-        Ok(Keeping {
+        Keeping {
             notes,
-            votes: [[None; 8]; N],
+            votes: Votes::none(),
             owns: [[None; 8]; N],
-            voters: [0; N],
-        })
-    }
-
-    /// Whether two nodes have the same last votes.
-    pub(crate) fn vote_alike(&self, i: u8, j: u8) -> bool
-        requires first { i < N }
-        requires second { j < N }
-        requires voters { AreVoters N self.now.votes self.now.voters }
-        ensures { result ≡ true → of_node self.now.votes i ≡ of_node self.now.votes j }
-    {
-        let one = self.voters[i as usize];
-        let other = self.voters[j as usize];
-        if one == other {
-            return true;
         }
-        self.votes[i as usize] == self.votes[j as usize]
     }
 
     /// Forgets all that a node kept.
     pub(crate) fn forget(&mut self, i: u8)
-    where
-        Nodes: Capacity<N>,
-        requires node { i < N }
-        requires many { length self.old.notes.items ≡ N }
-        ensures notes { self.new.notes.items ≡
-            slice_set self.old.notes.items i (no_longer N (notes_at self.old.notes.items i)) }
+        requires { i < N }
+        ensures notes { self.new.notes ≡
+            slice_set self.old.notes i (no_longer N (notes_at self.old.notes i)) }
         ensures votes { self.new.votes ≡ slice_set self.old.votes i (replicate 8 None) }
         ensures owns { self.new.owns ≡ slice_set self.old.owns i (replicate 8 None) }
+        ensures many { length self.new.votes ≡ N }
     {
         self.notes[i as usize].forget();
-        self.votes[i as usize] = [None; 8];
+        self.votes.forget(i);
         self.owns[i as usize] = [None; 8];
     }
 }

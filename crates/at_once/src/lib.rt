@@ -14,5 +14,6 @@ mod period;
 mod rows;
 mod run;
 mod values;
+mod votes;
 
 pub use run::Run;

@@ -18,12 +18,12 @@ ghost use Rattle.grouped_nodes.specs.Grouping.{first_of, AreFirsts};
 ghost use Rattle.view_law.specs.Laws.{IsCarriedWithin};
 ghost use Rattle.at_once.specs.Kept.{AreShaped, notes_at, of_node};
 ghost use Rattle.at_once.specs.Course.{IsGoing, AreFound, AreReporting, AreReported};
-ghost use Rattle.at_once.specs.Values.{AreVoters};
 ghost use Rattle.at_once.specs.Phases.{AreTold, AreRowsSettled, SettleAlike, node_rows, blames};
 
 use crate::claims::members_at;
 use crate::keeping::Keeping;
 use crate::period::Period;
+use crate::votes::Votes;
 use error_reports::RowBuilder;
 use grouped_nodes::{Groups, part};
 use heard_links::Phase;
@@ -126,12 +126,11 @@ fn group_by_rows<const N: usize>(
     groups: &Groups<N>,
     rows: &ItemPhase<Row<N>, N>,
     phase: &Phase<'_, N>,
-    keeping: &Keeping<N>,
+    votes: &Votes<N>,
 ) -> Groups<N>
 where
     Nodes: Capacity<N>,
     requires settled { AreRowsSettled phase.now rows.now }
-    requires voters { AreVoters N keeping.now.votes keeping.now.voters }
     ensures firsts { AreFirsts N result }
     ensures parted { (i : ℕ) → i < N →
         first_of groups.now (first_of result i) ≡ first_of groups.now i }
@@ -141,21 +140,20 @@ where
     ensures alike { (i : ℕ) → i < N → has_id phase.now.awake i ≡ true →
         SettleAlike (pointwise ◌==◌) row_form phase.now rows.now (first_of result i) i }
     ensures votes { (i : ℕ) → i < N →
-        of_node keeping.now.votes (first_of result i) ≡ of_node keeping.now.votes i }
+        of_node votes.now (first_of result i) ≡ of_node votes.now i }
 {
     let finer = groups.refine(
         &phase.awake,
         |r, i| -> bool
-            requires settled { AreRowsSettled phase.now rows.now }
-            requires voters { AreVoters N keeping.now.votes keeping.now.voters }
+            requires { AreRowsSettled phase.now rows.now }
             ensures votes { result ≡ true →
-                of_node keeping.entry.now.votes r ≡ of_node keeping.entry.now.votes i }
+                of_node votes.entry.now r ≡ of_node votes.entry.now i }
             ensures alike { result ≡ true →
                 SettleAlike (pointwise ◌==◌) row_form phase.entry.now rows.entry.now r i }
         {
             phase.awake.has(r)
                 && phase.awake.has(i)
-                && keeping.vote_alike(r, i)
+                && votes.are_alike(r, i)
                 && rows.are_alike(phase, r, i)
         },
     );
@@ -235,7 +233,6 @@ where
         rows: &mut ItemPhase<Row<N>, N>,
         keeping: &mut Keeping<N>,
     ) -> Groups<N>
-        requires in_run { self.now.number < self.now.scenario.now.periods }
         requires reporting { AreReporting self.now.scenario.now self.now.number full.now made.old
             keeping.old groups.now }
         requires room { rows.old.settling ≡ record {
@@ -250,14 +247,14 @@ where
         self.tell_rows(full, made, rows);
         let phase = self.phase(self.scenario.config().m + 3, full, made);
         rows.agree(&phase);
-        carry(rows, &phase, keeping.notes.as_mut_slice());
-        let finer = group_by_rows(groups, rows, &phase, keeping);
+        carry(rows, &phase, &mut keeping.notes);
+        let finer = group_by_rows(groups, rows, &phase, &keeping.votes);
         part(made.beliefs.as_mut_slice(), groups, &finer);
         fill_rows(
             rows,
             &phase,
             &finer,
-            &keeping.votes,
+            keeping.votes.by_node(),
             made.beliefs.as_mut_slice(),
         );
         finer

@@ -2,7 +2,6 @@
 
 ghost use Rattle.std.specs.Prelude.{◌≡◌, ◌+◌, ◌<◌, IfOk};
 ghost use Rattle.std.specs.Borrow.{sem};
-ghost use Rattle.agreed_state.specs.Config.{IsConfig};
 ghost use Rattle.shown_period.specs.Outcomes.{HasBeliefs};
 ghost use Rattle.shown_period.specs.Whole.{AreMade};
 ghost use Rattle.at_once.specs.Kept.{AreBegun, AreKept};
@@ -12,7 +11,6 @@ ghost use Rattle.at_once.specs.Run.{ShowsPeriod, FitsScenario};
 use crate::keeping::Keeping;
 use crate::period::Period;
 use crate::values::find_rows;
-use agreed_state::Config;
 use item_phase::ItemPhase;
 use node_grid::{Capacity, NO_CLAIM, NoMemory, Nodes, Row};
 use scenario::Scenario;
@@ -48,19 +46,19 @@ impl<'s, const N: usize> Model for Run<'s, N> {
 /// Room for the phases of claims, and for those of rows.
 fn phases<const N: usize>(
     alloc: Global,
-    config: &Config<N>,
+    scenario: &Scenario<N>,
 ) -> Result<(ItemPhase<u8, N>, ItemPhase<Row<N>, N>), NoMemory>
 where
     Nodes: Capacity<N>,
-    requires config { IsConfig N config.now }
     ensures { IfOk result (λ p. (p.0.settling ≡ record {
-      nodes = config.now.nodes;
-      rounds = config.now.m;
+      nodes = scenario.now.config.nodes;
+      rounds = scenario.now.config.m;
     }) × (p.1.settling ≡ record {
-      nodes = config.now.nodes;
-      rounds = config.now.m;
+      nodes = scenario.now.config.nodes;
+      rounds = scenario.now.config.m;
     })) }
 {
+    let config = scenario.config();
     let claims = ItemPhase::open(alloc, config.nodes, config.m, NO_CLAIM)?;
     let rows = ItemPhase::open(alloc, config.nodes, config.m, Row::zero())?;
     Ok((claims, rows))
@@ -80,10 +78,11 @@ where
     pub fn open(alloc: Global, scenario: &'s Scenario<N>) -> Result<Run<'s, N>, NoMemory>
         ensures { IfOk result (λ r. r ≡ record { scenario = scenario.now; run = 0 }) }
     {
-        let config = scenario.config();
-        let keeping = Keeping::open(alloc, config)?;
+        // Proofs need here that the scenario is an accepted one.
+        let _ = scenario.config();
         let shown = Shown::open(alloc, scenario)?;
-        let (claims, rows) = phases(alloc, config)?;
+        let (claims, rows) = phases(alloc, scenario)?;
+        let keeping = Keeping::open(scenario);
         Ok(Run {
             scenario,
             run: 0,
@@ -140,7 +139,6 @@ impl<const N: usize> Period<'_, N> {
     )
     where
         Nodes: Capacity<N>,
-        requires in_run { self.now.number < self.now.scenario.now.periods }
         requires begun { AreBegun self.now.scenario.now self.now.number made.old.states
             keeping.old }
         requires beliefs { HasBeliefs made.old }
@@ -159,13 +157,11 @@ impl<const N: usize> Period<'_, N> {
         ensures claims_room { claims.new.settling ≡ claims.old.settling }
         ensures rows_room { rows.new.settling ≡ rows.old.settling }
     {
-        let full = made.states.awake();
-        self.hear(&full, made, keeping);
-        let groups = self.settle_claims(&full, made, claims, keeping.notes.as_mut_slice());
+        let full = self.hear(made, keeping);
+        let groups = self.settle_claims(&full, made, claims, &mut keeping.notes);
         self.vote(&full, &groups, made, keeping);
-        find_rows(&full, keeping, &mut made.found);
+        find_rows(&full, &keeping.notes, &mut made.found);
         let finer = self.settle_rows(&full, &groups, made, rows, keeping);
-        made.group = finer.by_node();
         self.end(&finer, made, keeping);
     }
 }

@@ -1,6 +1,6 @@
 //! The data slot of a period.
 
-ghost use Rattle.std.specs.Prelude.{◌≡◌, ◌<◌, ◌≤◌, ℕ, List, Option, true, Some, [], length};
+ghost use Rattle.std.specs.Prelude.{◌≡◌, ◌<◌, ℕ, List, Option, true, Some, []};
 ghost use Rattle.std.specs.Prelude.{replicate};
 ghost use Rattle.std.specs.Prelude.{slice_index_or, if◌then◌else◌, ◌⊎◌};
 ghost use Rattle.node_grid.specs.NodeSet.{has_id};
@@ -14,17 +14,19 @@ ghost use Rattle.told_values.specs.Slot.{slot_of, AreOwnTold, Hears};
 ghost use Rattle.told_values.specs.Within.{IsWithin};
 ghost use Rattle.at_once.specs.Kept.{notes_at, of_node, AreShaped};
 ghost use Rattle.at_once.specs.Course.{IsUnvoted, AreSettled, AreVoted};
-ghost use Rattle.at_once.specs.Values.{done_at, AreVoters, HearEach, IsVoteOf, IsNotedOf};
+ghost use Rattle.at_once.specs.Values.{done_at, HearEach, IsVoteOf, IsNotedOf};
 
 use crate::dues::GroupDues;
 use crate::keeping::Keeping;
 use crate::period::Period;
+use crate::votes::{Votes, each_alone};
 use agreed_state::Agreed;
 use data_slot::{KeptValues, own_values};
 use error_reports::RowBuilder;
 use grouped_nodes::Groups;
 use node_grid::{Capacity, NodeSet, Nodes, Row};
 use omh_paths::Wrapped;
+use shared_states::SharedStates;
 use shown_period::Made;
 use told_values::laws::hears;
 use told_values::{DataSlot, Dues, touched_senders};
@@ -72,51 +74,36 @@ fn leader_after<D: Dues<N>, const N: usize>(slot: &DataSlot<'_, D, N>, before: u
     }
 }
 
-/// Each node as one of its own.
-fn each_alone<const N: usize>() -> [u8; N]
-where
-    Nodes: Capacity<N>,
-    ensures many { length result ≡ N }
-    ensures each { (i : ℕ) → i < N → slice_index_or result i 0 ≡ i }
-{
-    let mut alone = [0; N];
-    for i in 0..N as u8 {
-        alone[i as usize] = i;
-    }
-    alone
-}
-
-/// What each node votes that has a state, and the nodes that are off at it. What the first node of
-/// a group votes to which no line touches a frame serves each later one that hears as it does. The
-/// answer is by node the one from which it took its votes over, or else itself.
+/// What each node votes that has a state, and the nodes that are off at it; others have the votes
+/// of before. What the first node of a group votes to which no line touches a frame serves each
+/// later one that hears as it does.
 fn vote_each<D: Dues<N>, const N: usize>(
     slot: &DataSlot<'_, D, N>,
-    groups: &Groups<N>,
-    made: &Made<N>,
-    votes: &mut [[Option<i64>; 8]; N],
+    dues: &GroupDues<'_, N>,
+    states: &SharedStates<N>,
+    before: &Votes<N>,
     off: &mut [NodeSet<N>; N],
-) -> [u8; N]
+) -> Votes<N>
 where
     Nodes: Capacity<N>,
-    requires agreed { AreAgreed slot.now.config made.now.states }
-    requires shared { AreShared N groups.now made.now.states }
-    requires many { length made.now.beliefs.items ≡ N }
-    ensures votes { (x : ℕ → Received) → HearEach (slot_of D.dues slot.now) x →
-        (i : ℕ) (a : AgreedView) → i < slot.now.config.nodes →
-        state_at made.now.states i ≡ Some a →
-        IsVoteOf (slot_of D.dues slot.now) a (done_at groups.now made.now.beliefs.items i) i (x i)
-        (of_node votes.new i) (slice_index_or off.new i []) }
-    ensures voters { AreVoters N votes.new result }
+    requires agreed { AreAgreed slot.now.config states.now }
+    requires shared { AreShared N dues.now.0 states.now }
+    ensures { (x : ℕ → Received) → HearEach (slot_of D.dues slot.now) x →
+        (i : ℕ) (a : AgreedView) → i < slot.now.config.nodes → state_at states.now i ≡ Some a →
+        IsVoteOf (slot_of D.dues slot.now) a
+        (done_at dues.now.0 dues.now.1 i) i (x i)
+        (of_node result i) (slice_index_or off.new i []) }
 {
     let nodes = slot.nodes();
     let own = slot.own_told();
+    let mut votes = *before.by_node();
     let mut voters = each_alone();
     // By the first of a group the node of it whose votes serve others, and N where there is none
     // yet.
     let mut leaders = [N as u8; N];
     for i in 0..nodes {
-        if let Some(state) = made.states.get(i) {
-            let first = groups.of(i);
+        if let Some(state) = states.get(i) {
+            let first = dues.first(i);
             let leader = leaders[first as usize];
             if leader < i && slot.hears_alike(leader, i) {
                 let same = votes[leader as usize];
@@ -124,7 +111,7 @@ where
                 off[i as usize] = off[leader as usize];
                 voters[i as usize] = leader;
             } else {
-                let voted = vote_at(slot, i, state, &made.beliefs[first as usize].done, &own);
+                let voted = vote_at(slot, i, state, dues.done(i), &own);
                 let own_votes = voted.votes;
                 votes[i as usize] = own_votes;
                 off[i as usize] = voted.off;
@@ -132,7 +119,7 @@ where
             }
         }
     }
-    voters
+    Votes { votes, voters }
 }
 
 /// Notes what each of these nodes finds of the values, and who is off at it.
@@ -196,9 +183,8 @@ where
         made: &Made<N>,
         keeping: &mut Keeping<N>,
     )
-        requires in_run { self.now.number < self.now.scenario.now.periods }
         requires settled { AreSettled self.now.scenario.now self.now.number full.now made.now
-            keeping.old.notes.items groups.now }
+            keeping.old.notes groups.now }
         requires unvoted { IsUnvoted self.now.scenario.now self.now.number keeping.old }
         ensures { AreVoted self.now.scenario.now self.now.number keeping.new }
     {
@@ -208,7 +194,7 @@ where
         cold();
         let config = self.scenario.config();
         let plan = self.scenario.plan();
-        self.value_all(&keeping.votes, &mut keeping.owns);
+        self.value_all(keeping.votes.by_node(), &mut keeping.owns);
         let dues = GroupDues::of(groups, made.beliefs.as_slice(), full);
         let slot = DataSlot {
             config,
@@ -220,31 +206,25 @@ where
             owns: &keeping.owns,
         };
         let mut off = [NodeSet::empty(); N];
-        keeping.voters = vote_each(&slot, groups, made, &mut keeping.votes, &mut off);
-        note_each(
-            &slot,
-            &made.states.awake(),
-            &off,
-            keeping.notes.as_mut_slice(),
-        );
+        keeping.votes = vote_each(&slot, &dues, &made.states, &keeping.votes, &mut off);
+        note_each(&slot, &made.states.awake(), &off, &mut keeping.notes);
     }
 }
 
 /// The rows of all nodes; a node that joins accuses nobody.
 pub(crate) fn find_rows<const N: usize>(
     full: &NodeSet<N>,
-    keeping: &Keeping<N>,
+    notes: &[RowBuilder<N>; N],
     found: &mut [Row<N>; N],
 )
 where
     Nodes: Capacity<N>,
-    requires many { length keeping.now.notes.items ≡ N }
     ensures { (i : ℕ) → i < N → slice_index_or found.new i [] ≡ (if has_id full.now i
-        then (notes_at keeping.now.notes.items i).row else replicate N 0) }
+        then (notes_at notes.now i).row else replicate N 0) }
 {
     for i in 0..N as u8 {
         found[i as usize] = if full.has(i) {
-            keeping.notes[i as usize].row()
+            notes[i as usize].row()
         } else {
             Row::zero()
         };

@@ -1,4 +1,4 @@
-use Rattle.std.proofs.Common.{ℕ, ◌≡◌, ◌<◌, List, Option, refl, sym, lit<, inl, inr}
+use Rattle.std.proofs.Common.{ℕ, ◌≡◌, List, Option, refl, sym, lit<, inl, inr}
 use Rattle.std.specs.Prelude.{nat_eq}
 use Rattle.node_grid.specs.Capacity.{IsCapacity}
 use Rattle.agreed_state.specs.Agreed.{AgreedView}

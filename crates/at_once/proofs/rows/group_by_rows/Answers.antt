@@ -23,7 +23,7 @@ returns-clause-parted g c i low =
 
 pub returns-clause-votes : goal.returns-clause-votes
 returns-clause-votes g c i low =
-    of_first g.row.N c.args.phase.now.awake c.refine-finer.result _ (λ (r j : ℕ). of_node c.args.keeping.now.votes r ≡ of_node c.args.keeping.now.votes j) c.of.ensures.all c.refine-finer.ensures (λ j. refl)
+    of_first g.row.N c.args.phase.now.awake c.refine-finer.result _ (λ (r j : ℕ). of_node c.args.votes.now r ≡ of_node c.args.votes.now j) c.of.ensures.all c.refine-finer.ensures (λ j. refl)
     (λ r j low_r low_j t. t.1.0 refl) i low
 
 pub returns-clause-alike : goal.returns-clause-alike

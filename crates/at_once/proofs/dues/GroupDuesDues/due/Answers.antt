@@ -1,7 +1,17 @@
-use Rattle.std.proofs.Common.{List, ℕ, ap, ◌∙◌}
+use Rattle.std.proofs.Common.{ℕ, ◌<◌, List, length, ap, ◌∙◌, arith, inl, inr, lit<}
+use Rattle.std.specs.Prelude.{slice_index_or}
+use Rattle.node_grid.specs.ListFacts.{same_at}
 use Rattle.shared_states.specs.declared.belief.Belief.{Belief}
-use Rattle.at_once.specs.Values.{due_at}
+use Rattle.at_once.specs.Values.{no_belief, due_at}
 use Rattle.at_once.proofs.dues.GroupDuesDues.due.Goals as goal
 
+pub of-requires : goal.of-requires
+of-requires g c = (elim c.self.invariant.capacity [ inl e ↦ rw e (lit< tt) | inr e ↦ rw e (lit< tt) ], c.requires)
+
 pub returns : goal.returns
-returns g c = c.due_at.ensures ∙ ap (λ (s : List ℕ × List (Belief g.row.N)). due_at s c.args.i) c.self.view_is
+returns g c =
+    let beliefs : List (Belief g.row.N) = c.self.inside.beliefs.now in
+    let room : c.of.result < length beliefs = omega (arith, c.of.ensures.early, c.requires, c.self.invariant.many) in
+    c.as_slice.ensures.value ∙ ap (λ (b : Belief g.row.N). b.due.items) (same_at beliefs c.of.result c.index-self-of.result no_belief room)
+    ∙ ap (λ (f : ℕ). (slice_index_or beliefs f no_belief).due.items) c.of.ensures.first
+    ∙ ap (λ (s : List ℕ × List (Belief g.row.N)). due_at s c.args.i) c.self.view_is

@@ -40,7 +40,7 @@ tell_claims-requires g c =
 pub agree-requires : goal.agree-requires
 agree-requires g c =
     let cap : IsCapacity g.row.N = g.bound-1.eight_or_sixteen in
-    let told = claims_heard c.args.self.now.scenario.now c.args.self.now.number c.args.full.now c.args.made.now c.requires.synced.going c.config-config.ensures.scenario c.requires.in_run c.phase-phase.result c.phase-phase.ensures
+    let told = claims_heard c.args.self.now.scenario.now c.args.self.now.number c.args.full.now c.args.made.now c.requires.synced.going c.config-config.ensures.scenario c.args.self.now.in_run c.phase-phase.result c.phase-phase.ensures
     c.tell_claims.new.claims.links c.tell_claims.ensures.told in
     let room = c.tell_claims.ensures.room ∙ c.requires.room ∙ ap (λ (y : Config g.row.N). record { nodes = y.nodes; rounds = y.m }) (sym c.phase-phase.ensures.config) in
     (elim cap [ inl e ↦ rw e (lit< tt) | inr e ↦ rw e (lit< tt) ], (elim cap [ inl e ↦ rw e (lit< tt) | inr e ↦ rw e (lit< tt) ], (told, room)))
@@ -49,7 +49,7 @@ pub note_frames-requires : goal.note_frames-requires
 note_frames-requires g c =
     let cap : IsCapacity g.row.N = g.bound-1.eight_or_sixteen in
     let shaped = subst (λ (y : Config g.row.N). AreShaped {N = g.row.N} y c.args.notes.now) (sym c.phase-phase.ensures.config) c.requires.synced.shaped in
-    let within = synced_within c.args.self.now.scenario.now c.args.self.now.number c.args.full.now c.args.made.now c.requires.synced.going c.config-config.ensures.scenario c.requires.in_run c.phase-phase.result c.phase-phase.ensures
+    let within = synced_within c.args.self.now.scenario.now c.args.self.now.number c.args.full.now c.args.made.now c.requires.synced.going c.config-config.ensures.scenario c.args.self.now.in_run c.phase-phase.result c.phase-phase.ensures
     c.args.notes.now c.requires.synced.shaped c.requires.synced.notes_are in
     (elim cap [ inl e ↦ rw e (lit< tt) | inr e ↦ rw e (lit< tt) ], (elim cap [ inl e ↦ rw e (lit< tt) | inr e ↦ rw e (lit< tt) ], (elim cap [ inl e ↦ rw e (lit< tt) | inr e ↦ rw e (lit< tt) ], (c.agree.ensures.settled, (shaped, within)))))
 
@@ -80,11 +80,11 @@ complete-requires g c =
     let config = subst (λ (y : Config g.row.N). IsConfig g.row.N y) (sym c.config-config.ensures.config) given.system.config in
     let agreed = subst (λ (y : Config g.row.N). AreAgreed y made.states) (sym c.config-config.ensures.config) c.requires.synced.going.used.agreed in
     let many = ap length (c.as_mut_slice-2.ensures.value ∙ with_items_is made.beliefs filled long) ∙ c.fill_claims.ensures.many in
-    let awake = state_awake sc p c.args.full.now c.args.made.now c.requires.synced.going given c.requires.in_run x c.phase-phase.ensures in
+    let awake = state_awake sc p c.args.full.now c.args.made.now c.requires.synced.going given c.args.self.now.in_run x c.phase-phase.ensures in
     let kinds = λ (i : ℕ) (a : AgreedView) (low : i < g.row.N) (is : state_at made.states i ≡ Some a).
-    few_noted sc p c.args.full.now c.args.made.now c.requires.synced.going given c.requires.in_run x c.phase-phase.ensures c.note_frames.new.notes framed i (awake i a low is) in
+    few_noted sc p c.args.full.now c.args.made.now c.requires.synced.going given c.args.self.now.in_run x c.phase-phase.ensures c.note_frames.new.notes framed i (awake i a low is) in
     let within = λ (i : ℕ) (a : AgreedView) (low : i < g.row.N) (is : state_at made.states i ≡ Some a).
-    more_within sc p c.args.full.now c.args.made.now c.requires.synced.going given c.requires.in_run x c.phase-phase.ensures c.args.notes.now c.note_frames.new.notes bad framed c.note_frames.ensures.notes i low (awake i a low is) in
+    more_within sc p c.args.full.now c.args.made.now c.requires.synced.going given c.args.self.now.in_run x c.phase-phase.ensures c.args.notes.now c.note_frames.new.notes bad framed c.note_frames.ensures.notes i low (awake i a low is) in
     (elim cap [ inl e ↦ rw e (lit< tt) | inr e ↦ rw e (lit< tt) ], (elim cap [ inl e ↦ rw e (lit< tt) | inr e ↦ rw e (lit< tt) ], (elim cap [ inl e ↦ rw e (lit< tt) | inr e ↦ rw e (lit< tt) ], (elim cap [ inl e ↦ rw e (lit< tt) | inr e ↦ rw e (lit< tt) ], (elim cap [ inl e ↦ rw e (lit< tt) | inr e ↦ rw e (lit< tt) ], (config, (record { agreed = agreed; shared = c.group_by_claims-groups.ensures.shared; many = many }, record { many = c.note_frames.ensures.many; kinds = kinds; within = within })))))))
 
 pub note_convicted-requires : goal.note_convicted-requires
@@ -102,8 +102,8 @@ note_convicted-requires g c =
     let noted = λ (j : ℕ) (a : AgreedView) (low : j < g.row.N) (is : state_at c.args.made.now.states j ≡ Some a). c.complete.ensures.noted j a no_belief low is in
     let shaped =
     subst (λ (y : Config g.row.N). AreShaped {N = g.row.N} y c.complete.new.notes) (sym c.phase-phase.ensures.config)
-    (judged_shaped sc p c.args.full.now c.args.made.now c.requires.synced.going given c.requires.in_run x c.phase-phase.ensures c.note_frames.new.notes c.complete.new.notes more framed c.complete.ensures.many_notes noted c.complete.ensures.cold) in
-    let within = judged_within sc p c.args.full.now c.args.made.now c.requires.synced.going given c.requires.in_run x c.phase-phase.ensures c.note_frames.new.notes c.complete.new.notes more framed c.complete.ensures.many_notes noted c.complete.ensures.cold in
+    (judged_shaped sc p c.args.full.now c.args.made.now c.requires.synced.going given c.args.self.now.in_run x c.phase-phase.ensures c.note_frames.new.notes c.complete.new.notes more framed c.complete.ensures.many_notes noted c.complete.ensures.cold) in
+    let within = judged_within sc p c.args.full.now c.args.made.now c.requires.synced.going given c.args.self.now.in_run x c.phase-phase.ensures c.note_frames.new.notes c.complete.new.notes more framed c.complete.ensures.many_notes noted c.complete.ensures.cold in
     (elim cap [ inl e ↦ rw e (lit< tt) | inr e ↦ rw e (lit< tt) ], (elim cap [ inl e ↦ rw e (lit< tt) | inr e ↦ rw e (lit< tt) ], (elim cap [ inl e ↦ rw e (lit< tt) | inr e ↦ rw e (lit< tt) ], (c.agree.ensures.settled, (shaped, within)))))
 
 pub returns-clause-settled : goal.returns-clause-settled
@@ -121,7 +121,7 @@ returns-clause-settled g c =
     let framed : List Notes = c.note_frames.new.notes in
     let long : g.row.N ≡ made.beliefs.len = sym c.requires.synced.going.many ∙ ap length (sym c.as_mut_slice.ensures.value) ∙ c.as_mut_slice.ensures.len in
     let lent = c.as_mut_slice-2.ensures.value ∙ with_items_is made.beliefs filled (c.fill_claims.ensures.many ∙ long) in
-    all_settled c.of_run.ensures sc p full made c.requires.synced.going c.config-config.ensures.scenario c.requires.in_run x c.phase-phase.ensures s (λ i on. c.tell_claims.ensures.told i on ∙ sym (c.agree.ensures.told i))
+    all_settled c.of_run.ensures sc p full made c.requires.synced.going c.config-config.ensures.scenario c.args.self.now.in_run x c.phase-phase.ensures s (λ i on. c.tell_claims.ensures.told i on ∙ sym (c.agree.ensures.told i))
     c.agree.ensures.settled config c.config-config.ensures.config groups filled completed c.args.notes.now framed c.complete.new.notes c.note_convicted.new.notes
     (record {
       firsts = c.group_by_claims-groups.ensures.firsts;

@@ -1,18 +1,21 @@
-use Rattle.std.proofs.Common.{ℕ, ℤ, ◌≡◌, ◌<◌, List, [], length, drop, take_at, Option, Some, refl, sym, ap, ap₂, subst, ◌∙◌, inl, inr, lit<, arith}
+use Rattle.std.proofs.Common.{ℕ, ℤ, ◌≡◌, ◌<◌, List, [], length, Option, Some, refl, sym, ap, ap₂, subst, ◌∙◌, inl, inr, lit<, arith}
 use Rattle.std.specs.Prelude.{slice_index_or}
 use Rattle.node_grid.specs.Capacity.{IsCapacity}
 use Rattle.node_grid.specs.NodeSet.{has_id}
+use Rattle.omh_paths.specs.declared.wrapped.Wrapped.{Wrapped}
 use Rattle.fault_classes.specs.Plan.{Plan}
 use Rattle.error_reports.specs.Notes.{Notes}
 use Rattle.agreed_state.specs.declared.config.Config.{Config}
 use Rattle.agreed_state.specs.Agreed.{AgreedView}
 use Rattle.agreed_state.specs.Config.{IsConfig}
-use Rattle.scenario.specs.Scenario.{ScenarioView, IsScenario}
+use Rattle.protocol.specs.Configured.{setting_of}
+use Rattle.protocol.specs.View.{own_values}
+use Rattle.scenario.specs.Scenario.{ScenarioView, IsScenario, inputs_of}
 use Rattle.shared_states.specs.declared.belief.Belief.{Belief}
 use Rattle.shared_states.specs.Sharing.{AreAgreed}
+use Rattle.grouped_nodes.specs.Shared.{AreShared}
 use Rattle.shown_period.specs.declared.made.Made.{Made}
 use Rattle.told_values.specs.Slot.{DataView}
-use Rattle.told_values.specs.Within.{IsWithin}
 use Rattle.at_once.specs.Parts.{through, has}
 use Rattle.at_once.specs.Kept.{notes_at, of_node, AreShaped}
 use Rattle.at_once.specs.Values.{done_at, HearEach, IsVoteOf, IsNotedOf}
@@ -21,13 +24,8 @@ use Rattle.at_once.proofs.period.Period.vote.Goals as goal
 
 pub of-dues-requires : goal.of-dues-requires
 of-dues-requires g c =
-    let cap : IsCapacity g.row.N = g.bound-1.eight_or_sixteen in (
-      elim cap [ inl e ↦ rw e (lit< tt) | inr e ↦ rw e (lit< tt) ],
-      (
-        elim cap [ inl e ↦ rw e (lit< tt) | inr e ↦ rw e (lit< tt) ],
-        (lit< tt, (lit< tt, ap length c.as_slice.ensures.value ∙ c.requires.settled.going.many)),
-      ),
-    )
+    let cap : IsCapacity g.row.N = g.bound-1.eight_or_sixteen in
+    (elim cap [ inl e ↦ rw e (lit< tt) | inr e ↦ rw e (lit< tt) ], (elim cap [ inl e ↦ rw e (lit< tt) | inr e ↦ rw e (lit< tt) ], (lit< tt, (lit< tt, ap length c.as_slice.ensures.value ∙ c.requires.settled.going.many))))
 
 pub touched_senders-requires : goal.touched_senders-requires
 touched_senders-requires g c =
@@ -42,7 +40,7 @@ touched_senders-requires g c =
     let nodes : plan.nodes ≡ cf.nodes = ap (λ (x : Plan). x.nodes) plan_is ∙ scenario.system.plan_nodes ∙ sym (ap (λ (x : Config g.row.N). x.nodes) config_is) in
     let rounds : plan.rounds ≡ cf.m = ap (λ (x : Plan). x.rounds) plan_is ∙ scenario.system.plan_rounds ∙ sym (ap (λ (x : Config g.row.N). x.m) config_is) in
     let periods : plan.periods ≡ sc.periods = ap (λ (x : Plan). x.periods) plan_is ∙ scenario.plan_periods in
-    let in_run : c.args.self.now.number < sc.periods = c.requires.in_run in (
+    let in_run : c.args.self.now.number < sc.periods = c.args.self.now.in_run in (
       elim cap [ inl e ↦ rw e (lit< tt) | inr e ↦ rw e (lit< tt) ],
       (lit< tt, (lit< tt, (config, (nodes, (rounds, omega (arith, periods, in_run)))))),
     )
@@ -54,8 +52,8 @@ invariant_of-slot g c =
     let dues_are : c.of-dues.result ≡ (groups, made.beliefs.items) =
     ap₂ (λ (a : List ℕ) (b : List (Belief g.row.N)). (a, b)) c.of-dues.ensures.groups (c.of-dues.ensures.beliefs ∙ c.as_slice.ensures.value) in (
       g.bound-1.eight_or_sixteen,
-      slot_by_is c.hears.ensures c.through.ensures c.cold.ensures c.args.self.now.scenario.now c.args.self.now.number c.args.full.now made c.args.keeping.now.notes.items groups c.config-config.ensures.scenario c.requires.settled
-          c.requires.in_run c.config-config.result.now c.plan-plan.result.now c.of-dues.result c.touched_senders.result c.value_all.new.owns c.config-config.ensures.config c.plan-plan.ensures.plan dues_are c.touched_senders.ensures,
+      slot_by_is c.hears.ensures c.through.ensures c.cold.ensures c.args.self.now.scenario.now c.args.self.now.number c.args.full.now made c.args.keeping.now.notes groups c.config-config.ensures.scenario c.requires.settled
+          c.args.self.now.in_run c.config-config.result.now c.plan-plan.result.now c.of-dues.result c.touched_senders.result c.value_all.new.owns c.config-config.ensures.config c.plan-plan.ensures.plan dues_are c.touched_senders.ensures,
     )
 
 pub vote_each-keeping-requires : goal.vote_each-keeping-requires
@@ -65,7 +63,7 @@ vote_each-keeping-requires g c =
     let settled = c.requires.settled in (
       lit< tt,
       (
-        elim cap [ inl e ↦ rw e (lit< tt) | inr e ↦ rw e (lit< tt) ],
+        lit< tt,
         (
           elim cap [ inl e ↦ rw e (lit< tt) | inr e ↦ rw e (lit< tt) ],
           (
@@ -75,11 +73,8 @@ vote_each-keeping-requires g c =
               (
                 lit< tt,
                 (
-                  elim cap [ inl e ↦ rw e (lit< tt) | inr e ↦ rw e (lit< tt) ],
-                  (
-                    subst (λ (x : Config g.row.N). AreAgreed x made.states) (sym c.config-config.ensures.config) settled.going.used.agreed,
-                    (settled.claimed.shared, settled.going.many),
-                  ),
+                  subst (λ (x : Config g.row.N). AreAgreed x made.states) (sym c.config-config.ensures.config) settled.going.used.agreed,
+                  subst (λ (gs : List ℕ). AreShared g.row.N gs made.states) (sym c.of-dues.ensures.groups) settled.claimed.shared,
                 ),
               ),
             ),
@@ -95,7 +90,7 @@ note_each-requires g c =
     let p : ℕ = c.args.self.now.number in
     let full : List ℕ = c.args.full.now in
     let made : Made g.row.N = c.args.made.now in
-    let notes : List Notes = c.args.keeping.now.notes.items in
+    let notes : List Notes = c.args.keeping.now.notes in
     let groups : List ℕ = c.args.groups.now in
     let scenario : IsScenario sc = c.config-config.ensures.scenario in
     let settled = c.requires.settled in
@@ -109,8 +104,8 @@ note_each-requires g c =
           (
             elim cap [ inl e ↦ rw e (lit< tt) | inr e ↦ rw e (lit< tt) ],
             (
-              subst (λ (xs : List Notes). AreShaped c.config-config.result.now xs) (sym c.as_mut_slice.ensures.value) (subst (λ (x : Config g.row.N). AreShaped x notes) (sym config_is) settled.shaped),
-              λ i low on. subst (λ (xs : List Notes). IsWithin g.row.N (notes_at xs i)) (sym c.as_mut_slice.ensures.value) (within_now c.hears.ensures c.through.ensures c.cold.ensures sc p full made notes groups scenario settled i (omega (arith, n_is, low)) (ap (λ (m : List ℕ). has_id m i) (sym c.awake.ensures.nodes) ∙ on)),
+              subst (λ (x : Config g.row.N). AreShaped x notes) (sym config_is) settled.shaped,
+              λ i low on. within_now c.hears.ensures c.through.ensures c.cold.ensures sc p full made notes groups scenario settled i (omega (arith, n_is, low)) (ap (λ (m : List ℕ). has_id m i) (sym c.awake.ensures.nodes) ∙ on),
             ),
           ),
         ),
@@ -123,7 +118,7 @@ returns g c =
     let p : ℕ = c.args.self.now.number in
     let full : List ℕ = c.args.full.now in
     let made : Made g.row.N = c.args.made.now in
-    let notes : List Notes = c.args.keeping.now.notes.items in
+    let notes : List Notes = c.args.keeping.now.notes in
     let groups : List ℕ = c.args.groups.now in
     let scenario : IsScenario sc = c.config-config.ensures.scenario in
     let settled = c.requires.settled in
@@ -132,7 +127,7 @@ returns g c =
     let cold_law = c.cold.ensures in
     let touched : List ℕ = c.touched_senders.result in
     let owns : List (List (Option ℤ)) = c.value_all.new.owns in
-    let votes : List (List (Option ℤ)) = c.vote_each-keeping.new.votes in
+    let votes : List (List (Option ℤ)) = c.vote_each-keeping.result in
     let off : List (List ℕ) = c.vote_each-keeping.new.off in
     let d : DataView g.row.N = slot_by hears_law view_law cold_law sc p full made notes groups scenario settled c.config-config.result.now c.plan-plan.result.now c.of-dues.result touched owns in
     let s : DataView g.row.N = slot_with hears_law view_law cold_law sc p full made notes groups scenario settled touched owns in
@@ -142,27 +137,24 @@ returns g c =
     let n_is : c.config-config.result.now.nodes ≡ sc.config.nodes = ap (λ (cf : Config g.row.N). cf.nodes) c.config-config.ensures.config in
     let are : AreOwns hears_law view_law cold_law sc p full made notes groups scenario settled owns =
     owns_now hears_law view_law cold_law sc p full made notes groups scenario settled c.args.keeping.now c.args.keeping.now.votes c.args.keeping.now.owns owns refl refl c.requires.unvoted
-    (λ i low state carried. c.value_all.ensures i state carried low) in
+    (λ i low state carried. c.value_all.ensures i state carried low
+    ∙ ap (λ (vs : List (List (Option ℤ))). own_values (setting_of sc.config) i p (inputs_of sc i p) (record { state = state; carried = carried; votes = of_node vs i; owns = of_node c.args.keeping.now.owns i })) c.by_node.ensures.votes) in
     let voted : (i : ℕ) (a : AgreedView) → i < sc.config.nodes → through sc p i ≡ Some a → IsVoteOf s a (done_at groups made.beliefs.items i) i (has sc p i) (of_node votes i) (slice_index_or off i []) =
     λ i a low is. subst (λ (v : DataView g.row.N). IsVoteOf v a (done_at groups made.beliefs.items i) i (has sc p i) (of_node votes i) (slice_index_or off i [])) d_is
-    (c.vote_each-keeping.ensures.votes (λ j. has sc p j)
+    (subst (λ (done : List (Wrapped ℕ)). IsVoteOf d a done i (has sc p i) (of_node votes i) (slice_index_or off i []))
+    (ap₂ (λ (gs : List ℕ) (bs : List (Belief g.row.N)). done_at gs bs i) c.of-dues.ensures.groups (c.of-dues.ensures.beliefs ∙ c.as_slice.ensures.value))
+    (c.vote_each-keeping.ensures (λ j. has sc p j)
     (subst (λ (v : DataView g.row.N). HearEach v (λ j. has sc p j)) (sym d_is) (each_hears hears_law view_law cold_law sc p full made notes groups scenario settled touched owns are))
-    i a (omega (arith, n_is, low)) (settled.going.states i low ∙ is)) in
-    let value : c.as_mut_slice.result.now ≡ notes = c.as_mut_slice.ensures.value in
-    let long : length c.note_each.new.notes ≡ c.args.keeping.now.notes.len = c.note_each.ensures.shaped.many ∙ sym settled.shaped.many ∙ ap length (sym value) ∙ c.as_mut_slice.ensures.len in
-    let back = take_at c.note_each.new.notes (drop (length c.note_each.new.notes) notes) c.args.keeping.now.notes.len long in
+    i a (omega (arith, n_is, low)) (settled.going.states i low ∙ is))) in
     record {
-      shaped = subst (λ (xs : List Notes). AreShaped sc.config xs) (sym back) (subst (λ (cf : Config g.row.N). AreShaped cf c.note_each.new.notes) c.config-config.ensures.config c.note_each.ensures.shaped);
+      shaped = subst (λ (cf : Config g.row.N). AreShaped cf c.note_each.new.notes) c.config-config.ensures.config c.note_each.ensures.shaped;
       notes = λ i a low is.
-          ap (λ (xs : List Notes). notes_at xs i) back
-          ∙ notes_now hears_law view_law cold_law sc p full made notes groups scenario settled touched owns are i a low is (of_node votes i) (slice_index_or off i []) (notes_at c.note_each.new.notes i) (voted i a low is)
+          notes_now hears_law view_law cold_law sc p full made notes groups scenario settled touched owns are i a low is (of_node votes i) (slice_index_or off i []) (notes_at c.note_each.new.notes i) (voted i a low is)
           (subst (λ (v : DataView g.row.N). IsNotedOf v i (slice_index_or off i []) (notes_at notes i) (notes_at c.note_each.new.notes i)) d_is
-          (subst (λ (xs : List Notes). IsNotedOf d i (slice_index_or off i []) (notes_at xs i) (notes_at c.note_each.new.notes i)) value
           (c.note_each.ensures.noted i (omega (arith, n_is, low))
-          (ap (λ (m : List ℕ). has_id m i) c.awake.ensures.nodes ∙ awake_now hears_law view_law cold_law sc p full made notes groups scenario settled i a low is))));
+          (ap (λ (m : List ℕ). has_id m i) c.awake.ensures.nodes ∙ awake_now hears_law view_law cold_law sc p full made notes groups scenario settled i a low is)));
       votes = λ i a low is. votes_now hears_law view_law cold_law sc p full made notes groups scenario settled touched owns are i a low is (of_node votes i) (slice_index_or off i []) (voted i a low is);
       owns = λ i a low is. own_now hears_law view_law cold_law sc p full made notes groups scenario settled touched owns are i a low is;
-      voters = c.vote_each-keeping.ensures.voters;
     }
 
 pub config-config-requires : goal.config-config-requires

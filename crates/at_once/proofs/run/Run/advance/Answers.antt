@@ -17,7 +17,7 @@ begin-requires g c =
         elim cap [ inl e ↦ rw e (lit< tt) | inr e ↦ rw e (lit< tt) ],
         (
           elim cap [ inl e ↦ rw e (lit< tt) | inr e ↦ rw e (lit< tt) ],
-          (more, c.self.invariant.kept),
+          c.self.invariant.kept,
         ),
       ),
     )
@@ -33,6 +33,9 @@ begin-requires-2 g c =
         (more, (c.self.invariant.before, begun_in_run sc c.self.inside.run c.begin.new.states c.begin.new.keeping c.begin.ensures)),
       ),
     )
+
+pub invariant_of-period : goal.invariant_of-period
+invariant_of-period g c = record { in_run = subst (λ (v : RunView g.row.N). v.run < v.scenario.periods) (sym c.self.view_is) c.requires.more }
 
 pub go-requires : goal.go-requires
 go-requires g c =
@@ -52,13 +55,10 @@ go-requires g c =
               (
                 elim cap [ inl e ↦ rw e (lit< tt) | inr e ↦ rw e (lit< tt) ],
                 (
-                  more,
+                  subst (λ (m : Made g.row.N). AreBegun sc c.self.inside.run m.states c.begin.new.keeping) (sym made) c.begin.ensures,
                   (
-                    subst (λ (m : Made g.row.N). AreBegun sc c.self.inside.run m.states c.begin.new.keeping) (sym made) c.begin.ensures,
-                    (
-                      subst (λ (m : Made g.row.N). HasBeliefs m) (sym made) (beliefs_stay c.self.inside.shown.made c.begin.new.states c.self.invariant.beliefs),
-                      (c.self.invariant.claims_room, c.self.invariant.rows_room),
-                    ),
+                    subst (λ (m : Made g.row.N). HasBeliefs m) (sym made) (beliefs_stay c.self.inside.shown.made c.begin.new.states c.self.invariant.beliefs),
+                    (c.self.invariant.claims_room, c.self.invariant.rows_room),
                   ),
                 ),
               ),

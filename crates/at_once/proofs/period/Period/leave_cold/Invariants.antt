@@ -1,6 +1,6 @@
 use Rattle.std.proofs.Common.{◌≡◌, length}
 use Rattle.at_once.specs.Course.{AreLeft}
-use Rattle.at_once.proofs.hearing.leave_cold.Given as goal
+use Rattle.at_once.proofs.period.Period.leave_cold.Given as goal
 
 abbrev pub invariant-loop-i : goal.invariant-loop-i
 invariant-loop-i g l = record {
