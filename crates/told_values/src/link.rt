@@ -29,7 +29,6 @@ impl<'s, 'a, D: Dues<N>, const N: usize> Link<'s, 'a, D, N> {
             return None;
         }
         let talk = self.slot.talk();
-        talk.plan
-            .effect(talk.period, talk.slot, self.from, self.to)
+        talk.plan.effect(talk.period, talk.slot, self.from, self.to)
     }
 }

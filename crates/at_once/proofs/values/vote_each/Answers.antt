@@ -117,9 +117,7 @@ bounds-leaders-first g c =
     let e = c.first-first.ensures.early in let t = c.loop-i-test.true in let n = c.nodes-nodes.ensures.nodes in let f = c.nodes-nodes.ensures.slot.config.few_nodes in omega arith
 
 pub hears_alike-requires : goal.hears_alike-requires
-hears_alike-requires g c =
-    let used : c.loop-i.i < c.args.slot.now.config.nodes = (let t = c.loop-i-test.true in let n = c.nodes-nodes.ensures.nodes in omega arith) in
-    (lit< tt, ((let less = c.if-leader-i.true in omega (arith, less, used)), used))
+hears_alike-requires g c = lit< tt
 
 pub bounds-votes-leader : goal.bounds-votes-leader
 bounds-votes-leader g c =

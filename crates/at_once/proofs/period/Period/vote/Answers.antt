@@ -7,7 +7,6 @@ use Rattle.fault_classes.specs.Plan.{Plan}
 use Rattle.error_reports.specs.Notes.{Notes}
 use Rattle.agreed_state.specs.declared.config.Config.{Config}
 use Rattle.agreed_state.specs.Agreed.{AgreedView}
-use Rattle.agreed_state.specs.Config.{IsConfig}
 use Rattle.protocol.specs.Configured.{setting_of}
 use Rattle.protocol.specs.View.{own_values}
 use Rattle.scenario.specs.Scenario.{ScenarioView, IsScenario, inputs_of}
@@ -36,13 +35,12 @@ touched_senders-requires g c =
     let scenario : IsScenario sc = c.config-config.ensures.scenario in
     let config_is : cf ≡ sc.config = c.config-config.ensures.config in
     let plan_is : plan ≡ sc.plan = c.plan-plan.ensures.plan in
-    let config : IsConfig g.row.N cf = subst (λ (x : Config g.row.N). IsConfig g.row.N x) (sym config_is) scenario.system.config in
     let nodes : plan.nodes ≡ cf.nodes = ap (λ (x : Plan). x.nodes) plan_is ∙ scenario.system.plan_nodes ∙ sym (ap (λ (x : Config g.row.N). x.nodes) config_is) in
     let rounds : plan.rounds ≡ cf.m = ap (λ (x : Plan). x.rounds) plan_is ∙ scenario.system.plan_rounds ∙ sym (ap (λ (x : Config g.row.N). x.m) config_is) in
     let periods : plan.periods ≡ sc.periods = ap (λ (x : Plan). x.periods) plan_is ∙ scenario.plan_periods in
     let in_run : c.args.self.now.number < sc.periods = c.args.self.now.in_run in (
       elim cap [ inl e ↦ rw e (lit< tt) | inr e ↦ rw e (lit< tt) ],
-      (lit< tt, (lit< tt, (config, (nodes, (rounds, omega (arith, periods, in_run)))))),
+      (lit< tt, (lit< tt, (nodes, (rounds, omega (arith, periods, in_run))))),
     )
 
 pub invariant_of-slot : goal.invariant_of-slot
