@@ -8,6 +8,15 @@ use std::alloc::{AllocError, Global};
 use std::io;
 use worked_rows::{Several, row, rows};
 
+/// A plan of four nodes with one relay round in four periods.
+#[derive(Drop)]
+struct SmallPlan {
+    plan: FaultPlan<8>,
+    ghost nodes: { plan.nodes ≡ 4 },
+    ghost rounds: { plan.rounds ≡ 1 },
+    ghost periods: { plan.periods ≡ 4 },
+}
+
 /// Node 3 is silent in period 0; in period 2 the frame of node 2 in slot 1 comes too late to node 0
 /// alone.
 fn lines(alloc: Global) -> Result<Vec<FaultLine<8>>, AllocError>
@@ -33,11 +42,8 @@ fn lines(alloc: Global) -> Result<Vec<FaultLine<8>>, AllocError>
     Ok(lines)
 }
 
-/// A plan of these lines among four nodes, with one relay round, in which node 3 restarts in period
-/// 1.
-fn plan(alloc: Global) -> anyhow::Result<FaultPlan<8>>
-    ensures { IfOk result (λ plan. (plan.nodes ≡ 4) × ((plan.periods ≡ 4) × (plan.rounds ≡ 1))) }
-{
+/// A plan of these lines, in which node 3 restarts in period 1.
+fn small_plan(alloc: Global) -> anyhow::Result<SmallPlan> {
     let lines = lines(alloc)?;
     let restarts = Vec::from_slice(alloc, &[Restart { node: 3, period: 1 }])?;
     let size = PlanSize {
@@ -46,7 +52,7 @@ fn plan(alloc: Global) -> anyhow::Result<FaultPlan<8>>
         periods: 4,
     };
     match FaultPlan::new(alloc, size, lines, restarts) {
-        Ok(plan) => Ok(plan),
+        Ok(plan) => Ok(SmallPlan { plan }),
         Err(error) => Err(error.into()),
     }
 }
@@ -62,10 +68,10 @@ fn name_of(class: Class) -> &'static str {
 }
 
 /// Prints the classes of a period, the reference node, and the budget of all four nodes.
-fn show(rt: &HostRuntime, plan: &FaultPlan<8>, period: u32) -> io::Result<()>
-    requires nodes { plan.now.nodes ≡ 4 }
-    requires period { period < plan.now.periods }
+fn show(rt: &HostRuntime, small: &SmallPlan, period: u32) -> io::Result<()>
+    requires { period < 4 }
 {
+    let plan = &small.plan;
     let mut names = [""; 4];
     for node in 0..4u8 {
         names[node as usize] = name_of(plan.class(node, period));
@@ -77,10 +83,8 @@ fn show(rt: &HostRuntime, plan: &FaultPlan<8>, period: u32) -> io::Result<()>
     row(rt, "  tolerated by one relay round", budget.holds(1))
 }
 
-fn of_nodes(rt: &HostRuntime, plan: &FaultPlan<8>) -> io::Result<()>
-    requires nodes { plan.now.nodes ≡ 4 }
-    requires periods { plan.now.periods ≡ 4 }
-{
+fn of_nodes(rt: &HostRuntime, small: &SmallPlan) -> io::Result<()> {
+    let plan = &small.plan;
     rows(
         rt,
         &[
@@ -95,53 +99,42 @@ fn of_nodes(rt: &HostRuntime, plan: &FaultPlan<8>) -> io::Result<()>
 }
 
 /// At which tick the frame of node 2 in a slot of period 2 comes to another node by its line; 0
-/// where no such line touches it.
-fn tick_by_line(plan: &FaultPlan<8>, slot: u8, to: u8) -> u8
-    requires nodes { plan.now.nodes ≡ 4 }
-    requires periods { plan.now.periods ≡ 4 }
-    requires rounds { plan.now.rounds ≡ 1 }
-    requires slot { slot < 6 }
-    requires to { to < 2 }
-{
-    match plan.effect(2, slot, 2, to) {
+/// where no such line touches it, or there is no such frame.
+fn tick_by_line(small: &SmallPlan, slot: u8, to: u8) -> u8 {
+    if slot >= 6 || to >= 4 || to == 2 {
+        return 0;
+    }
+    match small.plan.effect(2, slot, 2, to) {
         Some(Effect::Time(tick)) => *tick,
         _ => 0,
     }
 }
 
-fn of_ticks(rt: &HostRuntime, plan: &FaultPlan<8>) -> io::Result<()>
-    requires nodes { plan.now.nodes ≡ 4 }
-    requires periods { plan.now.periods ≡ 4 }
-    requires rounds { plan.now.rounds ≡ 1 }
-{
+fn of_ticks(rt: &HostRuntime, small: &SmallPlan) -> io::Result<()> {
     rows(
         rt,
         &[
             (
                 "the tick of node 2's frame to node 0 in slot 1 of period 2",
-                tick_by_line(plan, 1, 0),
+                tick_by_line(small, 1, 0),
             ),
-            ("to node 1", tick_by_line(plan, 1, 1)),
-            ("to node 0 in slot 2, by no line", tick_by_line(plan, 2, 0)),
+            ("to node 1", tick_by_line(small, 1, 1)),
+            ("to node 0 in slot 2, by no line", tick_by_line(small, 2, 0)),
         ],
     )
 }
 
-fn of_plan(rt: &HostRuntime, plan: &FaultPlan<8>) -> io::Result<()>
-    requires nodes { plan.now.nodes ≡ 4 }
-    requires periods { plan.now.periods ≡ 4 }
-    requires rounds { plan.now.rounds ≡ 1 }
-{
-    row(rt, "lines of a plan", plan.line_count())?;
-    row(rt, "restarts", plan.restart_count())?;
+fn of_plan(rt: &HostRuntime, small: &SmallPlan) -> io::Result<()> {
+    row(rt, "lines of a plan", small.plan.line_count())?;
+    row(rt, "restarts", small.plan.restart_count())?;
     for period in 0..4 {
-        show(rt, plan, period)?;
+        show(rt, small, period)?;
     }
-    of_nodes(rt, plan)?;
-    of_ticks(rt, plan)
+    of_nodes(rt, small)?;
+    of_ticks(rt, small)
 }
 
 pub fn print(rt: &HostRuntime) -> anyhow::Result<()> {
-    let plan = plan(rt.alloc())?;
-    Ok(of_plan(rt, &plan)?)
+    let small = small_plan(rt.alloc())?;
+    Ok(of_plan(rt, &small)?)
 }

@@ -1,7 +1,5 @@
 //! Plans that a rule refuses, the most lines, and the largest plan.
 
-ghost use Rattle.std.specs.Prelude.{◌≤◌, length};
-
 use fault_classes::{Effect, FaultLine, FaultPlan, PlanError, PlanSize, Restart};
 use node_grid::NodeSet;
 use std::alloc::{AllocError, Global};
@@ -39,15 +37,15 @@ fn first_frame() -> Lost {
 }
 
 /// How many lines the plan has that these make for three nodes, without a relay round, in 1,024
-/// periods.
+/// periods. More than 10,000 of either are too many.
 fn line_count(
     alloc: Global,
     lines: Vec<FaultLine<8>>,
     restarts: Vec<Restart>,
-) -> Result<u32, PlanError>
-    requires lines { length lines.items ≤ 10000 }
-    requires restarts { length restarts.items ≤ 10000 }
-{
+) -> Result<u32, PlanError> {
+    if lines.len() > 10_000 || restarts.len() > 10_000 {
+        return Err(PlanError::TooMany);
+    }
     let size = PlanSize {
         nodes: 3,
         rounds: 0,
@@ -84,9 +82,6 @@ fn plan(
     restarts: &[Restart],
 ) -> anyhow::Result<()> {
     let restarts = Vec::from_slice(rt.alloc(), restarts)?;
-    if lines.len() > 10_000 || restarts.len() > 10_000 {
-        return Ok(());
-    }
     Ok(tell(rt, asked, line_count(rt.alloc(), lines, restarts))?)
 }
 
