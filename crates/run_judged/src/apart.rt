@@ -1,6 +1,6 @@
 //! How far sound nodes' votes and clocks are apart.
 
-ghost use Rattle.std.specs.Prelude.{◌≡◌, ◌<◌, ◌≤◌};
+ghost use Rattle.std.specs.Prelude.{◌≡◌, ◌<◌, None, slice_index_or};
 ghost use Rattle.shown_period.specs.Whole.{record_of};
 ghost use Rattle.run_judged.specs.Numbers.{greatest};
 ghost use Rattle.run_judged.specs.Apart.{widened, with_number, width};
@@ -42,26 +42,34 @@ fn width(range: Option<(i64, i64)>) -> Option<u64>
     }
 }
 
+/// The vote on a channel; none for a number that is no channel's.
+fn vote_on(votes: &[Option<i64>; 8], channel: u8) -> Option<i64>
+    ensures { result ≡ slice_index_or votes.now channel None }
+{
+    match votes.get(channel as usize) {
+        Some(vote) => *vote,
+        None => None,
+    }
+}
+
 /// The vote of a sound node on a channel; none of another node, and of a channel that isn't due.
 fn vote<const N: usize>(seen: &Seen<'_, N>, channel: u8, node: u8) -> Option<i64>
 where
     Nodes: Capacity<N>,
-    requires in_use { node < seen.now.shown.now.head.nodes }
-    requires channel { channel < 8 }
+    requires { node < seen.now.shown.now.head.nodes }
     ensures { result ≡ vote_in (record_of seen.now.shown.now) channel node }
 {
     let shown = seen.shown;
     if !is_sound(shown.head.classes[node as usize]) {
         return None;
     }
-    shown.belief(node).votes[channel as usize]
+    vote_on(&shown.belief(node).votes, channel)
 }
 
 /// How far the votes of sound nodes on a channel are apart.
 fn votes_apart<const N: usize>(seen: &Seen<'_, N>, channel: u8) -> Option<u64>
 where
     Nodes: Capacity<N>,
-    requires { channel < 8 }
     ensures { result ≡ votes_apart (record_of seen.now.shown.now) channel }
 {
     let mut range = None;
@@ -76,7 +84,6 @@ where
 fn votes_apart_on<const N: usize>(seen: &Seen<'_, N>, channels: u8) -> Option<u64>
 where
     Nodes: Capacity<N>,
-    requires { channels ≤ 8 }
     ensures { result ≡ greatest (votes_apart (record_of seen.now.shown.now)) channels }
 {
     let mut most = None;
@@ -92,7 +99,6 @@ where
 pub(crate) fn spread<const N: usize>(seen: &Seen<'_, N>, channels: u8) -> Option<u64>
 where
     Nodes: Capacity<N>,
-    requires { channels ≤ 8 }
     ensures { result ≡ spread_in (record_of seen.now.shown.now) channels }
 {
     if seen.shown.head.claim {

@@ -19,17 +19,18 @@ use fault_classes::FaultPlan;
 use node_grid::{Capacity, Class, NodeSet, Nodes};
 use scenario::Scenario;
 
-/// The nodes whose class is sound.
+/// The nodes of the period whose class is sound.
 #[tactic(auto, using(node_grid::specs::NodeSetLaws::id_loops, crate::proofs::Sets::of_nodes))]
-fn sound_nodes<const N: usize>(classes: &[Class; N], nodes: u8) -> NodeSet<N>
+fn sound_nodes<const N: usize>(seen: &Seen<'_, N>) -> NodeSet<N>
 where
     Nodes: Capacity<N>,
-    requires nodes { nodes ≤ N }
-    ensures { result ≡ ids_where (λ j. is_sound (class_at classes.now j)) nodes }
+    ensures { let head = seen.now.shown.now.head in
+        result ≡ ids_where (λ j. is_sound (class_at head.classes j)) head.nodes }
 {
+    let head = &seen.shown.head;
     let mut sound = NodeSet::empty();
-    for node in 0..nodes {
-        if is_sound(classes[node as usize]) {
+    for node in 0..head.nodes {
+        if is_sound(head.classes[node as usize]) {
             sound.put(node);
         }
     }
@@ -46,17 +47,18 @@ fn is_faulty(class: Class) -> bool
     }
 }
 
-/// The nodes whose class isn't nonfaulty.
+/// The nodes of the period whose class isn't nonfaulty.
 #[tactic(auto, using(node_grid::specs::NodeSetLaws::id_loops, crate::proofs::Sets::of_nodes))]
-fn faulty_nodes<const N: usize>(classes: &[Class; N], nodes: u8) -> NodeSet<N>
+fn faulty_nodes<const N: usize>(seen: &Seen<'_, N>) -> NodeSet<N>
 where
     Nodes: Capacity<N>,
-    requires nodes { nodes ≤ N }
-    ensures { result ≡ ids_where (λ j. not (is_nonfaulty (class_at classes.now j))) nodes }
+    ensures { let head = seen.now.shown.now.head in
+        result ≡ ids_where (λ j. not (is_nonfaulty (class_at head.classes j))) head.nodes }
 {
+    let head = &seen.shown.head;
     let mut faulty = NodeSet::empty();
-    for node in 0..nodes {
-        if is_faulty(classes[node as usize]) {
+    for node in 0..head.nodes {
+        if is_faulty(head.classes[node as usize]) {
             faulty.put(node);
         }
     }
@@ -149,7 +151,8 @@ where
 
 /// The members that aren't members any more.
 fn left_nodes<const N: usize>(before: &NodeSet<N>, after: &Option<NodeSet<N>>) -> NodeSet<N>
-    requires { N ≤ 16 }
+where
+    Nodes: Capacity<N>,
     ensures { (j : ℕ) → has_id result j ≡ is_left before.now after.now j }
 {
     match after {
@@ -160,7 +163,8 @@ fn left_nodes<const N: usize>(before: &NodeSet<N>, after: &Option<NodeSet<N>>) -
 
 /// The members that weren't members, where there were members.
 fn joined_nodes<const N: usize>(before: &NodeSet<N>, after: &Option<NodeSet<N>>) -> NodeSet<N>
-    requires { N ≤ 16 }
+where
+    Nodes: Capacity<N>,
     ensures { (j : ℕ) → has_id result j ≡ is_joined before.now after.now j }
 {
     if before.is_empty() {
@@ -188,8 +192,8 @@ impl<const N: usize> Findings<N> {
             period,
             nodes: head.nodes,
             classes: head.classes,
-            sound: sound_nodes(&head.classes, head.nodes),
-            faulty: faulty_nodes(&head.classes, head.nodes),
+            sound: sound_nodes(seen),
+            faulty: faulty_nodes(seen),
             touched: touched_nodes(scenario.plan(), head.nodes, period),
             members: head.members,
             charged: charged_nodes(seen),

@@ -111,7 +111,8 @@ fn besides<const N: usize>(nodes: u8, one: &NodeSet<N>, other: &NodeSet<N>) -> u
 impl<const N: usize> Tally<N> {
     /// Nothing yet.
     pub(crate) fn none() -> Self
-        requires { N ≤ 16 }
+    where
+        Nodes: Capacity<N>,
         ensures { result ≡ record {
           claimed = 0;
           lost = None;

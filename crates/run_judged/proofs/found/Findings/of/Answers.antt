@@ -5,16 +5,6 @@ use Rattle.run_judged.specs.Signs.{is_left, is_joined}
 use Rattle.run_judged.proofs.Founds.{found_all}
 use Rattle.run_judged.proofs.found.Findings.of.Goals as goal
 
-pub sound_nodes-requires : goal.sound_nodes-requires
-sound_nodes-requires g c =
-    let few : c.args.seen.now.shown.now.head.nodes ≤ g.row.N = rw c.requires.fits.shape.nodes c.requires.fits.scenario.system.config.few_nodes in
-    (elim g.bound-1.eight_or_sixteen [ inl e ↦ rw e (lit< tt) | inr e ↦ rw e (lit< tt) ], (lit< tt, few))
-
-pub faulty_nodes-requires : goal.faulty_nodes-requires
-faulty_nodes-requires g c =
-    let few : c.args.seen.now.shown.now.head.nodes ≤ g.row.N = rw c.requires.fits.shape.nodes c.requires.fits.scenario.system.config.few_nodes in
-    (elim g.bound-1.eight_or_sixteen [ inl e ↦ rw e (lit< tt) | inr e ↦ rw e (lit< tt) ], (lit< tt, few))
-
 pub touched_nodes-requires : goal.touched_nodes-requires
 touched_nodes-requires g c =
     let sc = c.args.scenario.now in
@@ -51,12 +41,6 @@ returns g c =
 
 pub plan-requires : goal.plan-requires
 plan-requires g c = (elim g.bound-1.eight_or_sixteen [ inl e ↦ rw e (lit< tt) | inr e ↦ rw e (lit< tt) ], lit< tt)
-
-pub left_nodes-requires : goal.left_nodes-requires
-left_nodes-requires g c = (lit< tt, elim g.bound-1.eight_or_sixteen [ inl e ↦ rw e (lit≤ tt) | inr e ↦ rw e (lit≤ tt) ])
-
-pub joined_nodes-requires : goal.joined_nodes-requires
-joined_nodes-requires g c = (lit< tt, elim g.bound-1.eight_or_sixteen [ inl e ↦ rw e (lit≤ tt) | inr e ↦ rw e (lit≤ tt) ])
 
 pub invariant_of-result : goal.invariant_of-result
 invariant_of-result g c = record {

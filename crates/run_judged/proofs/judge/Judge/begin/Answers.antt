@@ -1,5 +1,4 @@
 use Rattle.std.proofs.Common.{sym, ◌∙◌, inl, inr, arith, lit<}
-use Rattle.node_grid.specs.CapacityLaws.{capacity-le}
 use Rattle.run_judged.specs.Rows.{seen_of}
 use Rattle.run_judged.proofs.Listed.{no_illnesses}
 use Rattle.run_judged.proofs.Judged.{sums_none, all_sound}
@@ -21,4 +20,4 @@ pub config-requires : goal.config-requires
 config-requires g c = (elim g.bound-1.eight_or_sixteen [ inl e ↦ rw e (lit< tt) | inr e ↦ rw e (lit< tt) ], elim g.bound-1.eight_or_sixteen [ inl e ↦ rw e (lit< tt) | inr e ↦ rw e (lit< tt) ])
 
 pub none-self-requires : goal.none-self-requires
-none-self-requires g c = (lit< tt, capacity-le g.row.N g.bound-1.eight_or_sixteen)
+none-self-requires g c = lit< tt

@@ -49,14 +49,6 @@ returns g c =
 pub config-requires : goal.config-requires
 config-requires g c = (elim g.bound-1.eight_or_sixteen [ inl e ↦ rw e (lit< tt) | inr e ↦ rw e (lit< tt) ], elim g.bound-1.eight_or_sixteen [ inl e ↦ rw e (lit< tt) | inr e ↦ rw e (lit< tt) ])
 
-pub spread-spread-requires : goal.spread-spread-requires
-spread-spread-requires g c =
-    let config = c.requires.fits.scenario.system.config in
-    let most = config.few_channels in
-    let same : c.len-channels.result ≡ length c.args.scenario.now.config.channels.items = c.len-channels.ensures.value ∙ ap (λ (k : Config g.row.N). length k.channels.items) c.config.ensures.config in
-    let channels : c.len-channels.result ≤ 8 = omega arith in
-    (lit< tt, channels)
-
 pub overflow_cast-channels : goal.overflow_cast-channels
 overflow_cast-channels g c =
     let same : c.len-channels.result ≡ length c.args.scenario.now.config.channels.items = c.len-channels.ensures.value ∙ ap (λ (k : Config g.row.N). length k.channels.items) c.config.ensures.config in
