@@ -6,6 +6,7 @@ ghost use Rattle.omh_paths.specs.declared.wrapped.Wrapped.TheVariants.{Fault};
 
 use crate::lies::{Lies, drawn_value};
 use node_grid::NodeSet;
+use odd_relays::{Item, Phase};
 use omh_paths::Wrapped;
 
 /// A sequence of numbers, the same each time.
@@ -38,6 +39,8 @@ pub struct Drawn {
     pub members: NodeSet<16>,
     /// The members that are Full.
     pub full: NodeSet<16>,
+    /// The nodes that are awake, among them all Full members.
+    pub awake: NodeSet<16>,
     /// The member whose item it is.
     pub commander: u8,
     /// The members whose relays of it are odd.
@@ -47,8 +50,28 @@ pub struct Drawn {
     /// What odd members pass on.
     pub lies: Lies,
     ghost few_rounds: { rounds ≤ 3 },
+    ghost all_awake: { (q : ℕ) → has_id full q ≡ true → has_id awake q ≡ true },
     ghost member: { has_id members commander ≡ true },
     ghost known: { All (λ v. v ≢ Fault 255) told },
+}
+
+impl Drawn {
+    /// The item as it is settled by paths of odd members.
+    pub fn item(&self) -> Item<'_, u8, Lies, 16>
+        ensures { result.phase.full ≡ self.now.full }
+    {
+        Item {
+            phase: Phase {
+                rounds: self.rounds,
+                members: self.members,
+                full: self.full,
+            },
+            commander: self.commander,
+            odd: self.odd,
+            told: &self.told,
+            relays: &self.lies,
+        }
+    }
 }
 
 impl Draws {
@@ -124,6 +147,7 @@ impl Draws {
             rounds: nodes.rounds,
             members: nodes.members,
             full: nodes.full,
+            awake: nodes.awake,
             commander,
             odd: self.some_of(&nodes.members, 4),
             told: self.told(),

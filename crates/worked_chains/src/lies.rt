@@ -1,7 +1,6 @@
 //! What drawn odd members pass on.
 
-ghost use Rattle.std.specs.Prelude.{ℕ, ◌≡◌, ◌≢◌, ◌+◌, ◌*◌, ◌<◌, ◌≤◌, ◌%◌, length, true, List, drop};
-ghost use Rattle.std.specs.Prelude.{take};
+ghost use Rattle.std.specs.Prelude.{◌≡◌, ◌≢◌, ◌+◌, ◌*◌, ◌≤◌, ◌%◌, length, take};
 ghost use Rattle.omh_paths.specs.declared.wrapped.Wrapped.TheVariants.{Fault};
 ghost use Rattle.worked_chains.specs.Lies.{mixed, drawn_value, account_of, drawn_lie};
 
@@ -23,11 +22,10 @@ pub struct Lies {
 
 /// A number made of another one and of a node.
 fn mix(k: u32, q: u8) -> u32
-    requires { k ≤ 8216 }
     ensures mixed { result ≡ (7 * k + q) % 251 }
     ensures small { result ≤ 250 }
 {
-    (7 * k + q as u32) % 251
+    ((7 * k as u64 + q as u64) % 251) as u32
 }
 
 /// The value of a number.
@@ -45,10 +43,10 @@ pub fn drawn_value(k: u32) -> Wrapped<u8>
 
 impl Lies {
     /// Which of its accounts a receiver is given of a path of so many nodes.
-    fn account(&self, to: u8, len: u8) -> u8
+    fn account(&self, to: u8, len: usize) -> u8
         ensures { result ≡ account_of self.now to len }
     {
-        if self.by_thirds && len == self.last {
+        if self.by_thirds && len == self.last as usize {
             to % 3
         } else {
             to
@@ -57,11 +55,10 @@ impl Lies {
 
     /// What a receiver is told for these nodes of a path.
     pub fn told(&self, to: u8, nodes: &[u8]) -> Wrapped<u8>
-        requires { length nodes.now ≤ 4 }
         ensures told { result ≡ drawn_lie self.now to nodes.now }
         ensures known { result ≢ Fault 255 }
     {
-        let account = self.account(to, nodes.len() as u8);
+        let account = self.account(to, nodes.len());
         let mut k = (self.seed as u32 + 31 * account as u32) % 251;
         for q in nodes {
             k = mix(k, *q);

@@ -6,15 +6,13 @@ mod draws;
 mod lies;
 mod plain;
 
-ghost use Rattle.std.specs.Prelude.{◌≡◌, ℕ, length, true};
-ghost use Rattle.node_grid.specs.NodeSet.{has_id};
 ghost use Rattle.odd_relays.specs.Telling.{telling, HasFewOdd};
 ghost use Rattle.worked_chains.specs.Lies.{drawn_lie};
 
 use draws::{Drawn, Draws};
 use lies::Lies;
 use node_grid::NodeSet;
-use odd_relays::{Item, Phase, WORK};
+use odd_relays::{Item, WORK};
 use omh_paths::Wrapped;
 use std::io;
 use worked_rows::rows;
@@ -38,11 +36,9 @@ fn count_if(count: u32, is_so: bool) -> u32 {
     count.saturating_add(is_so as u32)
 }
 
-/// Whether each of these nodes but the commander has the value that it should.
-fn are_settled(drawn: &Drawn, awake: &NodeSet<16>, all: &[Wrapped<u8>]) -> bool
-    requires { length all.now ≡ 16 }
-{
-    for i in awake.iter() {
+/// Whether each node that is awake, but the commander, has the value that it should.
+fn are_settled(drawn: &Drawn, all: &[Wrapped<u8>; 16]) -> bool {
+    for i in drawn.awake.iter() {
         if i != drawn.commander && all[i as usize] != plain::settled(drawn, i) {
             return false;
         }
@@ -54,14 +50,10 @@ fn are_settled(drawn: &Drawn, awake: &NodeSet<16>, all: &[Wrapped<u8>]) -> bool
 fn settle_each(
     item: &Item<u8, Lies, 16>,
     awake: &NodeSet<16>,
-    work: &mut [Wrapped<u8>],
-    all: &mut [Wrapped<u8>],
+    work: &mut [Wrapped<u8>; WORK],
+    all: &mut [Wrapped<u8>; 16],
 )
-    requires few { HasFewOdd (telling drawn_lie item.now) }
-    requires room { length work.old ≡ WORK }
-    requires places { length all.old ≡ 16 }
-    ensures room { length work.new ≡ WORK }
-    ensures places { length all.new ≡ 16 }
+    requires { HasFewOdd (telling drawn_lie item.now) }
 {
     for i in awake.iter() {
         if i != item.commander {
@@ -71,10 +63,10 @@ fn settle_each(
     }
 }
 
-/// Whether those of these nodes convict the commander that should.
-fn are_convicting(item: &Item<u8, Lies, 16>, drawn: &Drawn, awake: &NodeSet<16>) -> bool {
+/// Whether those nodes convict the commander that should.
+fn are_convicting(item: &Item<u8, Lies, 16>, drawn: &Drawn) -> bool {
     let _ = item.phase.members.len();
-    let others = awake.without(item.commander);
+    let others = drawn.awake.without(item.commander);
     let convicting = item.convicting(&others);
     for i in others.iter() {
         if convicting.has(i) != plain::convicts(drawn, i) {
@@ -84,63 +76,37 @@ fn are_convicting(item: &Item<u8, Lies, 16>, drawn: &Drawn, awake: &NodeSet<16>)
     true
 }
 
-/// Settles an item by both programs, at once and one by one, where few members are odd.
-fn count_settled(
-    counts: &mut Counts,
-    item: &Item<u8, Lies, 16>,
-    drawn: &Drawn,
-    awake: &NodeSet<16>,
-    work: &mut [Wrapped<u8>],
-)
-    requires few { HasFewOdd (telling drawn_lie item.now) }
-    requires full { (q : ℕ) → has_id item.now.phase.full q ≡ true → has_id awake.now q ≡ true }
-    requires room { length work.old ≡ WORK }
-    ensures room { length work.new ≡ WORK }
-{
+/// Settles an item by both programs, at once and one by one, if few members are odd.
+fn count_settled(counts: &mut Counts, drawn: &Drawn, work: &mut [Wrapped<u8>; WORK]) {
+    let item = drawn.item();
+    if !item.has_few_odd() {
+        return;
+    }
+    counts.few = count_if(counts.few, true);
     let mut all = [Wrapped::Fault(0); 16];
-    item.settle_all(awake, work, &mut all);
-    counts.at_once = count_if(counts.at_once, are_settled(drawn, awake, &all));
-    settle_each(item, awake, work, &mut all);
-    counts.one_by_one = count_if(counts.one_by_one, are_settled(drawn, awake, &all));
+    item.settle_all(&drawn.awake, work, &mut all);
+    counts.at_once = count_if(counts.at_once, are_settled(drawn, &all));
+    settle_each(&item, &drawn.awake, work, &mut all);
+    counts.one_by_one = count_if(counts.one_by_one, are_settled(drawn, &all));
 }
 
 /// Settles an item by both programs where few members are odd, and convicts by both.
-fn count_item(counts: &mut Counts, drawn: &Drawn, awake: &NodeSet<16>, work: &mut [Wrapped<u8>])
-    requires full { (q : ℕ) → has_id drawn.now.full q ≡ true → has_id awake.now q ≡ true }
-    requires room { length work.old ≡ WORK }
-    ensures room { length work.new ≡ WORK }
-{
-    let item = Item {
-        phase: Phase {
-            rounds: drawn.rounds,
-            members: drawn.members,
-            full: drawn.full,
-        },
-        commander: drawn.commander,
-        odd: drawn.odd,
-        told: &drawn.told,
-        relays: &drawn.lies,
-    };
+fn count_item(counts: &mut Counts, drawn: &Drawn, work: &mut [Wrapped<u8>; WORK]) {
+    let item = drawn.item();
     let has_few = item.has_few_odd();
     counts.items = count_if(counts.items, true);
     counts.bounds = count_if(counts.bounds, has_few == plain::has_few_odd(drawn));
-    counts.few = count_if(counts.few, has_few);
-    if has_few {
-        count_settled(counts, &item, drawn, awake, work);
-    }
-    let convicting = are_convicting(&item, drawn, awake);
+    count_settled(counts, drawn, work);
+    let convicting = are_convicting(&item, drawn);
     counts.convicted = count_if(counts.convicted, convicting);
 }
 
 /// Draws a phase, and counts the item of each of its members.
-fn count_phase(counts: &mut Counts, draws: &mut Draws, work: &mut [Wrapped<u8>])
-    requires room { length work.old ≡ WORK }
-    ensures room { length work.new ≡ WORK }
-{
+fn count_phase(counts: &mut Counts, draws: &mut Draws, work: &mut [Wrapped<u8>; WORK]) {
     let nodes = draws.nodes();
     for commander in nodes.members.iter() {
         let drawn = draws.item(&nodes, commander);
-        count_item(counts, &drawn, &nodes.awake, work);
+        count_item(counts, &drawn, work);
     }
 }
 

@@ -1,7 +1,5 @@
 //! What a node settles of an item, and whether it convicts its commander, by all paths of relaying.
 
-ghost use Rattle.std.specs.Prelude.{◌≡◌, ◌≤◌, ◌<◌, length};
-
 use crate::draws::Drawn;
 use omh_paths::{Wrapped, majority};
 
@@ -22,9 +20,7 @@ fn taken(value: Wrapped<u8>) -> Wrapped<u8> {
 }
 
 /// What node `i` heard for a path: what was told, as it went from node to node.
-fn heard(drawn: &Drawn, i: u8, path: &[u8]) -> Wrapped<u8>
-    requires { length path.now ≤ 4 }
-{
+fn heard(drawn: &Drawn, i: u8, path: &[u8]) -> Wrapped<u8> {
     let mut value = Wrapped::Fault(0);
     for k in 0..path.len() {
         let to = if k + 1 < path.len() { path[k + 1] } else { i };
@@ -42,9 +38,7 @@ fn heard(drawn: &Drawn, i: u8, path: &[u8]) -> Wrapped<u8>
 }
 
 /// What node `i` itself puts into the majority of a path.
-fn own_term(drawn: &Drawn, i: u8, path: &[u8]) -> Wrapped<u8>
-    requires { length path.now ≤ 4 }
-{
+fn own_term(drawn: &Drawn, i: u8, path: &[u8]) -> Wrapped<u8> {
     if drawn.full.has(i) {
         passed(heard(drawn, i, path))
     } else {
@@ -52,21 +46,19 @@ fn own_term(drawn: &Drawn, i: u8, path: &[u8]) -> Wrapped<u8>
     }
 }
 
-/// These nodes with one more behind the first `len`.
-fn with_node(nodes: &[u8; 4], len: u8, q: u8) -> [u8; 4]
-    requires { len < 4 }
-{
+/// These nodes with one more behind the first `len`, if there is room for it.
+fn with_node(nodes: &[u8; 4], len: u8, q: u8) -> [u8; 4] {
     let mut longer = *nodes;
-    longer[len as usize] = q;
+    if len < 4 {
+        longer[len as usize] = q;
+    }
     longer
 }
 
-/// What node `i` settles for the path of the first `len` of these nodes.
-fn settled_for(drawn: &Drawn, i: u8, nodes: &[u8; 4], len: u8) -> Wrapped<u8>
-    requires { len ≤ 4 }
-{
-    let path = &nodes[..len as usize];
-    if len > drawn.rounds || len == 4 {
+/// What node `i` settles for the path of the first `len` of these nodes, at most all four.
+fn settled_for(drawn: &Drawn, i: u8, nodes: &[u8; 4], len: u8) -> Wrapped<u8> {
+    let path = &nodes[..len.min(4) as usize];
+    if len > drawn.rounds || len >= 4 {
         return heard(drawn, i, path);
     }
     let mut terms = [Wrapped::Fault(0); 16];

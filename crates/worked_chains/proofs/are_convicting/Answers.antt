@@ -1,4 +1,4 @@
-use Rattle.std.proofs.Common.{List, ℕ, ap, ◌∙◌, rules, arith}
+use Rattle.std.proofs.Common.{List, ℕ, ap, ◌∙◌, arith}
 use Rattle.node_grid.specs.NodeSet.{has_id}
 use Rattle.node_grid.specs.SetFacts.{member-lt, not_rest}
 use Rattle.worked_chains.proofs.are_convicting.Goals as goal
@@ -11,7 +11,7 @@ convicting-convicting-requires c = (
   omega arith,
   (
     omega arith,
-    ap (λ (s : List ℕ). has_id s c.args.item.now.commander) c.without-others.ensures ∙ not_rest c.args.awake.now c.args.item.now.commander,
+    ap (λ (s : List ℕ). has_id s c.args.item.now.commander) c.without-others.ensures ∙ not_rest c.args.drawn.now.awake c.args.item.now.commander,
   ),
 )
 

@@ -1,11 +1,6 @@
-use Rattle.std.proofs.Common.{ℕ, List, sym, ap, ◌∙◌}
-use Rattle.node_grid.specs.NodeSet.{has_id}
 use Rattle.node_grid.specs.SetFacts.{next_on}
 use Rattle.worked_chains.proofs.count_phase.Goals as goal
 
 pub item-drawn-requires : goal.item-drawn-requires
 item-drawn-requires c =
     next_on c.nodes-nodes.result.members c.loop-commander.yielded c.next.new.self c.loop-commander.commander-iterator c.in-Some.commander c.loop-commander.invariant.split c.in-Some.ensures.steps
-
-pub count_item-requires-clause-full : goal.count_item-requires-clause-full
-count_item-requires-clause-full c = λ q on. c.nodes-nodes.result.all_awake q (ap (λ (s : List ℕ). has_id s q) (sym c.item-drawn.ensures) ∙ on)
