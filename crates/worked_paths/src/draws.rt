@@ -1,8 +1,4 @@
-ghost use Rattle.std.specs.Prelude.{◌≡◌, true};
-ghost use Rattle.node_grid.specs.NodeSet.{has_id};
-
 use node_grid::NodeSet;
-use settled_paths::Exchange;
 
 /// A sequence of numbers, the same each time.
 #[derive(Drop)]
@@ -35,22 +31,5 @@ impl Draws {
             }
         }
         set
-    }
-
-    /// Who tells, passes on and hears an item of eight nodes in so many rounds.
-    pub fn exchange(&mut self, rounds: u8) -> Exchange<8>
-        ensures rounds { result.rounds ≡ rounds }
-        ensures member { has_id result.members result.commander ≡ true }
-    {
-        let commander = (self.next() % 8) as u8;
-        let mut members = self.nodes();
-        members.put(commander);
-        Exchange {
-            rounds,
-            members,
-            full: self.nodes(),
-            awake: self.nodes(),
-            commander,
-        }
     }
 }

@@ -1,14 +1,17 @@
 //! What one receiver settles, in a table of its own.
 
-ghost use Rattle.std.specs.Prelude.{◌≡◌, ◌≢◌, ◌<◌, ◌≤◌, ◌+◌, true};
+ghost use Rattle.std.specs.Prelude.{◌≡◌, ◌≢◌, ◌<◌, ◌≤◌};
+ghost use Rattle.node_grid.specs.NodeSet.{without_id};
 ghost use Rattle.omh_paths.specs.declared.wrapped.Wrapped.TheVariants.{Fault};
 
 use crate::item::Item;
 use crate::lies::Lies;
-use node_grid::NodeSet;
+use crate::rounds::Rounds;
+use node_grid::{NoMemory, NodeSet};
 use omh::Table;
 use omh_paths::{Path, Wrapped, count_paths, unrank};
 use settled_paths::Touched;
+use std::alloc::Global;
 
 /// The value as a relay passes it on. No error here was wrapped often.
 fn wrapped(value: Wrapped<u8>) -> Wrapped<u8> {
@@ -63,43 +66,51 @@ pub fn heard_along(
     heard(lies, to, path, passed)
 }
 
-/// Puts what a receiver hears for all paths of one node more than this.
-fn put_length(table: &mut Table<u8, 8>, item: &Item<'_>, me: u8, relays: u8)
+/// Puts what a receiver hears for all paths of one node more than this, each of other members.
+fn put_length(table: &mut Table<u8, 8>, item: &Item, others: &NodeSet<8>, me: u8, relays: u8)
     requires few { relays ≤ 3 }
     requires short { relays ≤ table.old.rounds }
-    requires me { me < 8 }
-    requires who { me ≡ table.old.me }
-    requires members { item.now.exchange.now.members ≡ table.old.members }
+    requires others { others.now ≡ without_id table.old.members table.old.me }
     ensures { table.new ≡ record table.old { heard = table.new.heard } }
 {
-    let exchange = item.exchange;
+    let own = Wrapped::Plain(item.own);
     let len = relays + 1;
-    let others = exchange.members.without(me);
     for place in 0..count_paths(others.len(), len) {
-        let path = unrank(&others, len, place);
-        let value = heard_along(item.lies, &exchange.full, item.own, &path, me);
+        let path = unrank(others, len, place);
+        let value = heard_along(&item.lies, &item.full, own, &path, me);
         table.put(&path, known(value));
     }
 }
 
-/// What a receiver settles in a table of its own.
-pub fn settled(table: &mut Table<u8, 8>, item: &Item<'_>, me: u8) -> Wrapped<u8>
-    requires me { me < 8 }
-    requires nodes { table.old.nodes ≡ 8 }
-    requires rounds { item.now.exchange.now.rounds ≡ table.old.rounds }
-    ensures nodes { table.new.nodes ≡ table.old.nodes }
-    ensures rounds { table.new.rounds ≡ table.old.rounds }
-{
-    let exchange = item.exchange;
-    let _ = exchange.members.len();
-    table.start(
-        &exchange.members,
-        me,
-        exchange.full.has(me),
-        Wrapped::Fault(0),
-    );
-    for relays in 0..exchange.rounds + 1 {
-        put_length(table, item, me, relays);
+/// A table for what one receiver hears, of items that are relayed among eight nodes in so many
+/// rounds.
+#[derive(Drop)]
+pub struct Receiver {
+    rounds: Rounds,
+    table: Table<u8, 8>,
+    ghost nodes: { table.nodes ≡ 8 },
+    ghost rounds_are: { table.rounds ≡ rounds.count },
+}
+
+impl Receiver {
+    /// A table for so many rounds.
+    pub fn open(alloc: Global, rounds: Rounds) -> Result<Receiver, NoMemory> {
+        let table = Table::open(alloc, 8, rounds.count)?;
+        Ok(Receiver { rounds, table })
     }
-    table.settle(exchange.commander)
+
+    /// What receiver `me` settles of an item.
+    pub fn settle(&mut self, item: &Item, me: u8) -> Wrapped<u8>
+        requires { me < 8 }
+    {
+        let _ = item.members.len();
+        let is_full = item.full.has(me);
+        let others = item.members.without(me);
+        self.table
+            .start(&item.members, me, is_full, Wrapped::Fault(0));
+        for relays in 0..self.rounds.count + 1 {
+            put_length(&mut self.table, item, &others, me, relays);
+        }
+        self.table.settle(item.commander)
+    }
 }
