@@ -39,15 +39,8 @@ fn least_of(
     Ok(least)
 }
 
-/// Steps these nodes through all periods, and prints the least time of a period, shared by them.
-fn show_least(
-    rt: &HostRuntime,
-    scenario: &Scenario<16>,
-    cluster: &mut Cluster<'_, 16>,
-) -> io::Result<()>
-    requires fresh { cluster.old ≡ record { scenario = scenario.now; run = 0 } }
-{
-    let least = least_of(rt, scenario, cluster)?;
+/// Prints the least time of a period, shared by the nodes.
+fn show_least(rt: &HostRuntime, scenario: &Scenario<16>, least: u128) -> io::Result<()> {
     let nodes = scenario.config().nodes;
     if nodes == 0 {
         return Ok(());
@@ -59,7 +52,10 @@ fn show_least(
 /// Steps all nodes of a scenario through all of its periods.
 fn measure_nodes(rt: &HostRuntime, scenario: &Scenario<16>) -> io::Result<()> {
     match Cluster::open(rt.alloc(), scenario) {
-        Ok(mut cluster) => show_least(rt, scenario, &mut cluster),
+        Ok(mut cluster) => {
+            let least = least_of(rt, scenario, &mut cluster)?;
+            show_least(rt, scenario, least)
+        }
         Err(_) => println!(rt; "no memory"),
     }
 }

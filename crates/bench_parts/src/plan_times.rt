@@ -1,7 +1,7 @@
 //! The making of a full fault plan, a million look-ups of effects beside as many loads, and the
 //! judging of 60,000 lines.
 
-ghost use Rattle.std.specs.Prelude.{◌≡◌, ◌≢◌, ◌<◌, ◌≤◌, ◌+◌, ◌*◌, ◌^◌, length};
+ghost use Rattle.std.specs.Prelude.{◌≡◌};
 
 use fault_classes::{Effect, FaultLine, FaultPlan, PlanError, PlanSize};
 use node_grid::NodeSet;
@@ -39,11 +39,22 @@ struct Place {
     to: u8,
 }
 
-/// All other nodes.
-fn others(node: u8) -> NodeSet<8>
-    requires { node < 8 }
-{
-    NodeSet::full(NODES).without(node)
+/// A plan of eight nodes with two relay rounds in 1,024 periods.
+#[derive(Drop)]
+struct SizedPlan {
+    plan: FaultPlan<8>,
+    ghost nodes: { plan.nodes ≡ 8 },
+    ghost rounds: { plan.rounds ≡ 2 },
+    ghost periods: { plan.periods ≡ 1024 },
+}
+
+/// The plan of these lines. More than 100,000 are too many, whatever they are.
+fn plan_of(alloc: Global, lines: Vec<FaultLine<8>>) -> Result<SizedPlan, PlanError> {
+    if lines.len() > 100_000 {
+        return Err(PlanError::TooMany);
+    }
+    let plan = FaultPlan::new(alloc, SIZE, lines, Vec::new(alloc))?;
+    Ok(SizedPlan { plan })
 }
 
 /// One of several effects.
@@ -67,7 +78,7 @@ fn full_line(alloc: Global, number: u32) -> Result<FaultLine<8>, AllocError> {
     let from = (number % 4 * 2 + period % 2) as u8;
     Ok(FaultLine {
         from,
-        to: others(from),
+        to: NodeSet::full(NODES).without(from),
         first: period,
         last: period,
         slots: 0xff,
@@ -136,30 +147,23 @@ fn places(alloc: Global) -> Result<Vec<Place>, AllocError> {
 }
 
 /// Whether a line touches this frame.
-fn is_touched(plan: &FaultPlan<8>, place: &Place) -> bool
-    requires nodes { plan.now.nodes ≡ 8 }
-    requires rounds { plan.now.rounds ≡ 2 }
-    requires periods { plan.now.periods ≡ 1024 }
-{
+fn is_touched(sized: &SizedPlan, place: &Place) -> bool {
     place.period < PERIODS
         && place.slot < SLOTS
         && place.from < NODES
         && place.to < NODES
         && place.from != place.to
-        && plan
+        && sized
+            .plan
             .effect(place.period, place.slot, place.from, place.to)
             .is_some()
 }
 
 /// How many of these frames a line touches.
-fn touched(plan: &FaultPlan<8>, places: &[Place]) -> u32
-    requires nodes { plan.now.nodes ≡ 8 }
-    requires rounds { plan.now.rounds ≡ 2 }
-    requires periods { plan.now.periods ≡ 1024 }
-{
+fn touched(sized: &SizedPlan, places: &[Place]) -> u32 {
     let mut count: u32 = 0;
     for place in places {
-        if is_touched(plan, place) {
+        if is_touched(sized, place) {
             count = count.wrapping_add(1);
         }
     }
@@ -182,13 +186,9 @@ fn loaded(table: &[u16], places: &[Place]) -> u32 {
 
 /// How many of these frames a line of the plan touches, and how many microseconds the look-ups
 /// take.
-fn time_look_ups(rt: &HostRuntime, plan: &FaultPlan<8>, places: &[Place]) -> io::Result<(u32, u128)>
-    requires nodes { plan.now.nodes ≡ 8 }
-    requires rounds { plan.now.rounds ≡ 2 }
-    requires periods { plan.now.periods ≡ 1024 }
-{
+fn time_look_ups(rt: &HostRuntime, sized: &SizedPlan, places: &[Place]) -> io::Result<(u32, u128)> {
     let start = Instant::now(rt)?;
-    let count = touched(plan, places);
+    let count = touched(sized, places);
     Ok((count, start.elapsed(rt)?.as_micros()))
 }
 
@@ -215,44 +215,30 @@ fn show_look_ups(rt: &HostRuntime, looked: (u32, u128), loaded: (u32, u128)) -> 
 }
 
 /// Looks these frames up in a plan.
-fn measure_places(rt: &HostRuntime, plan: &FaultPlan<8>, places: &[Place]) -> io::Result<()>
-    requires nodes { plan.now.nodes ≡ 8 }
-    requires rounds { plan.now.rounds ≡ 2 }
-    requires periods { plan.now.periods ≡ 1024 }
-{
+fn measure_places(rt: &HostRuntime, sized: &SizedPlan, places: &[Place]) -> io::Result<()> {
     let loaded = time_loads(rt, places)?;
-    let looked = time_look_ups(rt, plan, places)?;
+    let looked = time_look_ups(rt, sized, places)?;
     show_look_ups(rt, looked, loaded)
 }
 
 /// Looks frames up in a plan.
-fn measure_look_ups(rt: &HostRuntime, plan: &FaultPlan<8>) -> io::Result<()>
-    requires nodes { plan.now.nodes ≡ 8 }
-    requires rounds { plan.now.rounds ≡ 2 }
-    requires periods { plan.now.periods ≡ 1024 }
-{
+fn measure_look_ups(rt: &HostRuntime, sized: &SizedPlan) -> io::Result<()> {
     let places = places(rt.alloc())?;
-    measure_places(rt, plan, places.as_slice())
+    measure_places(rt, sized, places.as_slice())
 }
 
 /// Prints how long it took since then to make a plan, and looks effects up in it.
-fn show_plan(rt: &HostRuntime, plan: &FaultPlan<8>, start: &Instant) -> io::Result<()>
-    requires nodes { plan.now.nodes ≡ 8 }
-    requires rounds { plan.now.rounds ≡ 2 }
-    requires periods { plan.now.periods ≡ 1024 }
-{
+fn show_plan(rt: &HostRuntime, sized: &SizedPlan, start: &Instant) -> io::Result<()> {
     let making = start.elapsed(rt)?.as_micros();
     println!(rt; "a plan of {LINES} lines over {PERIODS} periods is made in {making} us")?;
-    measure_look_ups(rt, plan)
+    measure_look_ups(rt, sized)
 }
 
 /// Makes a plan of these lines, and looks effects up in it.
-fn measure_making(rt: &HostRuntime, lines: Vec<FaultLine<8>>) -> io::Result<()>
-    requires { length lines.items < 2 ^ 32 }
-{
+fn measure_making(rt: &HostRuntime, lines: Vec<FaultLine<8>>) -> io::Result<()> {
     let start = Instant::now(rt)?;
-    match FaultPlan::new(rt.alloc(), SIZE, lines, Vec::new(rt.alloc())) {
-        Ok(plan) => show_plan(rt, &plan, &start),
+    match plan_of(rt.alloc(), lines) {
+        Ok(sized) => show_plan(rt, &sized, &start),
         Err(_) => println!(rt; "no plan"),
     }
 }
@@ -260,24 +246,16 @@ fn measure_making(rt: &HostRuntime, lines: Vec<FaultLine<8>>) -> io::Result<()>
 /// Makes the full plan and looks effects up in it.
 fn measure_plan(rt: &HostRuntime) -> io::Result<()> {
     let lines = full_lines(rt.alloc())?;
-    if lines.len() > 100_000 {
-        return Ok(());
-    }
     measure_making(rt, lines)
 }
 
 /// Whether lines are refused for their number.
-fn are_too_many(alloc: Global, lines: Vec<FaultLine<8>>) -> bool
-    requires { length lines.items < 2 ^ 32 }
-{
-    let made = FaultPlan::new(alloc, SIZE, lines, Vec::new(alloc));
-    matches!(made, Err(PlanError::TooMany))
+fn are_too_many(alloc: Global, lines: Vec<FaultLine<8>>) -> bool {
+    matches!(plan_of(alloc, lines), Err(PlanError::TooMany))
 }
 
 /// Judges these lines.
-fn measure_refusal(rt: &HostRuntime, lines: Vec<FaultLine<8>>) -> io::Result<()>
-    requires { length lines.items < 2 ^ 32 }
-{
+fn measure_refusal(rt: &HostRuntime, lines: Vec<FaultLine<8>>) -> io::Result<()> {
     let start = Instant::now(rt)?;
     let refused = are_too_many(rt.alloc(), lines);
     let judging = start.elapsed(rt)?.as_micros();
@@ -287,9 +265,6 @@ fn measure_refusal(rt: &HostRuntime, lines: Vec<FaultLine<8>>) -> io::Result<()>
 /// Judges many lines without overlap.
 fn measure_judging(rt: &HostRuntime) -> io::Result<()> {
     let lines = single_lines(rt.alloc())?;
-    if lines.len() > 100_000 {
-        return Ok(());
-    }
     measure_refusal(rt, lines)
 }
 
