@@ -6,14 +6,21 @@ use span_io::{MemSink, MemSource};
 use std::alloc::{AllocError, Global};
 use top_call::run;
 
+/// How many bytes are given or taken at a time: one or more.
+#[derive(Clone, Copy)]
+pub struct Piece {
+    pub bytes: usize,
+    pub ghost some: { 1 ≤ bytes },
+}
+
 /// A source in pieces of so many bytes, of which some calls fail, and a sink of so much room, which
 /// takes so many bytes at a time, and of which some calls fail.
 #[derive(Clone, Copy)]
 pub struct Devices<'d> {
-    pub source_piece: usize,
+    pub source_piece: Piece,
     pub source_fails: &'d [u64],
     pub room: usize,
-    pub sink_piece: usize,
+    pub sink_piece: Piece,
     pub sink_fails: &'d [u64],
 }
 
@@ -34,20 +41,16 @@ fn words_of(alloc: Global, words: &[&str]) -> Result<Vec<String>, AllocError> {
 }
 
 /// The source of this input.
-fn source_of(alloc: Global, input: &str, devices: &Devices<'_>) -> Result<MemSource, AllocError>
-    requires { 1 ≤ devices.now.source_piece }
-{
+fn source_of(alloc: Global, input: &str, devices: &Devices<'_>) -> Result<MemSource, AllocError> {
     let bytes = Vec::from_slice(alloc, input.as_bytes())?;
     let fails = Vec::from_slice(alloc, devices.source_fails)?;
-    Ok(MemSource::new(bytes, devices.source_piece, fails))
+    Ok(MemSource::new(bytes, devices.source_piece.bytes, fails))
 }
 
 /// The sink.
-fn sink_of(alloc: Global, devices: &Devices<'_>) -> Result<MemSink, AllocError>
-    requires { 1 ≤ devices.now.sink_piece }
-{
+fn sink_of(alloc: Global, devices: &Devices<'_>) -> Result<MemSink, AllocError> {
     let fails = Vec::from_slice(alloc, devices.sink_fails)?;
-    match MemSink::new(alloc, devices.room, devices.sink_piece, fails) {
+    match MemSink::new(alloc, devices.room, devices.sink_piece.bytes, fails) {
         Ok(sink) => Ok(sink),
         Err(_) => Err(AllocError),
     }
@@ -71,10 +74,7 @@ pub fn ask(
     words: &[&str],
     input: &str,
     devices: Devices<'_>,
-) -> Result<Answer, AllocError>
-    requires source { 1 ≤ devices.source_piece }
-    requires sink { 1 ≤ devices.sink_piece }
-{
+) -> Result<Answer, AllocError> {
     let words = words_of(alloc, words)?;
     let mut source = source_of(alloc, input, &devices)?;
     let mut sink = sink_of(alloc, &devices)?;

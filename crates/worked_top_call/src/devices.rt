@@ -1,8 +1,6 @@
 //! Sources and sinks that fail, that give and take little at a time, or that have little room.
 
-ghost use Rattle.std.specs.Prelude.{◌≤◌};
-
-use crate::asking::{Answer, Devices, ask};
+use crate::asking::{Answer, Devices, Piece, ask};
 use std::alloc::{AllocError, Global};
 use std::io;
 use worked_rows::row;
@@ -22,10 +20,10 @@ const CYCLE: &str = r#"{"nodes":3,"m":0,"periods":1,
 
 /// Pieces of seven bytes in, of ten out, and room for all.
 const PIECES: Devices<'static> = Devices {
-    source_piece: 7,
+    source_piece: Piece { bytes: 7 },
     source_fails: &[],
     room: 1000,
-    sink_piece: 10,
+    sink_piece: Piece { bytes: 10 },
     sink_fails: &[],
 };
 
@@ -41,10 +39,7 @@ fn tell_replay(
     asked: &str,
     input: &str,
     devices: Devices<'_>,
-) -> anyhow::Result<()>
-    requires source { 1 ≤ devices.source_piece }
-    requires sink { 1 ≤ devices.sink_piece }
-{
+) -> anyhow::Result<()> {
     let answer = ask(rt.alloc(), &["replay"], input, devices)?;
     Ok(tell(rt, asked, &answer)?)
 }
@@ -60,10 +55,7 @@ fn of_no_words(rt: &HostRuntime) -> anyhow::Result<()> {
     Ok(tell(rt, asked, &answer)?)
 }
 
-fn of_storm(rt: &HostRuntime, silent: Devices<'_>) -> anyhow::Result<()>
-    requires source { 1 ≤ silent.source_piece }
-    requires sink { 1 ≤ silent.sink_piece }
-{
+fn of_storm(rt: &HostRuntime, silent: Devices<'_>) -> anyhow::Result<()> {
     let answer = ask(rt.alloc(), &["storm", "7"], SMALLEST, silent)?;
     let asked = "a storm, where the source fails at once: status";
     Ok(row(rt, asked, answer.status)?)
@@ -161,7 +153,7 @@ fn of_text(rt: &HostRuntime, text: &[u8]) -> anyhow::Result<()> {
         6,
     )?;
     let failing = Devices {
-        sink_piece: 100,
+        sink_piece: Piece { bytes: 100 },
         sink_fails: &[2],
         ..PIECES
     };
@@ -194,8 +186,10 @@ fn of_three_bytes(rt: &HostRuntime) -> anyhow::Result<()> {
     Ok(show_three(rt, &answer)?)
 }
 
-fn of_small_rooms(rt: &HostRuntime) -> anyhow::Result<()> {
-    let refused = ask(rt.alloc(), &["replay"], CYCLE, PIECES)?;
+/// What becomes of the line of this refusal over little and much room.
+fn of_line(rt: &HostRuntime, refused: &Answer) -> anyhow::Result<()> {
+    tell(rt, "tasks in a circle", refused)?;
+    of_three_bytes(rt)?;
     tell_small(
         rt,
         "of 12 smaller rooms, end with status 4 and are full of the line",
@@ -206,9 +200,8 @@ fn of_small_rooms(rt: &HostRuntime) -> anyhow::Result<()> {
 }
 
 fn of_refusals(rt: &HostRuntime) -> anyhow::Result<()> {
-    tell_replay(rt, "tasks in a circle", CYCLE, PIECES)?;
-    of_three_bytes(rt)?;
-    of_small_rooms(rt)
+    let refused = ask(rt.alloc(), &["replay"], CYCLE, PIECES)?;
+    of_line(rt, &refused)
 }
 
 pub fn print(rt: &HostRuntime) -> anyhow::Result<()> {
