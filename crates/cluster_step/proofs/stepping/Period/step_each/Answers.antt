@@ -9,8 +9,8 @@ use Rattle.cluster_periods.specs.Slots.{through_slot, IsReady}
 use Rattle.cluster_periods.proofs.Handing.{put_over, all_put}
 use Rattle.cluster_step.proofs.stepping.Period.step_each.Goals as goal
 
-pub frames-frames-requires : goal.frames-frames-requires
-frames-frames-requires g c = (elim g.bound-1.eight_or_sixteen [ inl e ↦ rw e (lit< tt) | inr e ↦ rw e (lit< tt) ], subst (λ (m : ℕ). c.args.slot < slot_count m) (sym c.requires.shape.m) c.requires.slot)
+pub frames-requires : goal.frames-requires
+frames-requires g c = (elim g.bound-1.eight_or_sixteen [ inl e ↦ rw e (lit< tt) | inr e ↦ rw e (lit< tt) ], subst (λ (m : ℕ). c.args.slot < slot_count m) (sym c.requires.shape.m) c.requires.slot)
 
 pub loop-node-init : goal.loop-node-init
 loop-node-init g c = refl
@@ -24,7 +24,7 @@ step_node-requires g c =
       lit< tt,
       (
         elim g.bound-1.eight_or_sixteen [ inl e ↦ rw e (lit< tt) | inr e ↦ rw e (lit< tt) ],
-        (ready, (c.requires.slot, record { each = c.frames-frames.ensures.each ∙ c.requires.shape.nodes; short = c.frames-frames.ensures.short })),
+        ready,
       ),
     )
 
@@ -34,7 +34,7 @@ loop-node-preserved g c =
     let frames : List (List ℕ) = slice_index_or c.args.shown.now.sent c.args.slot [] in
     let node : NodeView g.row.N = get_or c.loop-node.nodes c.loop-node.node-index c.node-item.result in
     put_over (through_slot sc.plan sc.order sc.config.nodes c.args.self.now.number c.args.slot frames) c.args.nodes.now c.loop-node.nodes c.loop-node.node-index c.node-item.result c.step_node.new.node c.loop-node-test.true c.loop-node.invariant c.node-item.is
-    (c.step_node.ensures ∙ ap (λ (fs : List (List ℕ)). through_slot sc.plan sc.order sc.config.nodes c.args.self.now.number c.args.slot fs node) c.frames-frames.ensures.bytes)
+    (c.step_node.ensures ∙ ap (λ (fs : List (List ℕ)). through_slot sc.plan sc.order sc.config.nodes c.args.self.now.number c.args.slot fs node) c.frames.ensures.bytes)
 
 pub returns : goal.returns
 returns g c =
@@ -49,3 +49,6 @@ loop-node-smaller g c = omega (arith, c.loop-node-test.true)
 
 pub offset_bounds-nodes-node-index : goal.offset_bounds-nodes-node-index
 offset_bounds-nodes-node-index g c = record { fits = offset_fits c.loop-node.node-index (length c.args.nodes.now) _ c.loop-node-test.true c.well_formed.1.1.1.0.1 }
+
+pub invariant_of-sent : goal.invariant_of-sent
+invariant_of-sent g c = record { in_period = c.requires.slot; each = c.frames.ensures.each ∙ c.requires.shape.nodes; short = c.frames.ensures.short }
