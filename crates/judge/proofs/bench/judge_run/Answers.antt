@@ -3,6 +3,20 @@ use Rattle.scenario.specs.Scenario.{ScenarioView}
 use Rattle.at_once.specs.Run.{RunView}
 use Rattle.judge.proofs.bench.judge_run.Goals as goal
 
+pub open-requires : goal.open-requires
+open-requires g c = (
+  elim g.bound-1.eight_or_sixteen [ inl e ↦ rw e (lit< tt) | inr e ↦ rw e (lit< tt) ],
+  elim g.bound-1.eight_or_sixteen [ inl e ↦ rw e (lit< tt) | inr e ↦ rw e (lit< tt) ],
+)
+
+pub periods-init : goal.periods-init
+periods-init g c = record {
+  same = ap (λ (r : RunView g.row.N). r.scenario) c.in_ok-run.ensures;
+  run = ap (λ (r : RunView g.row.N). r.run) c.in_ok-run.ensures;
+  judges = c.begin.ensures.judges;
+  periods = c.begin.ensures.none;
+}
+
 pub judge_next-requires : goal.judge_next-requires
 judge_next-requires g c =
     let i = c.periods.invariant in
