@@ -1,5 +1,5 @@
 -- The frames of a round that were taken up, one after another in one room.
-use Rattle.std.proofs.Common.{ℕ, ◌≡◌, ◌≢◌, ◌<◌, ◌≤◌, ◌+◌, ◌*◌, ◌==◌, ◌||◌, true, false, List, [], length, length-set, get_or-set_other, get_or-set_same, sym, ap, ap₂, ◌∙◌, inl, inr, refl, arith, eqb-true, eq-eqb, ◌⊎◌, zero, suc}
+use Rattle.std.proofs.Common.{ℕ, ◌≡◌, ◌≢◌, ◌<◌, ◌≤◌, ◌+◌, ◌*◌, max, ◌==◌, ◌||◌, true, false, List, [], length, length-set, get_or-set_other, get_or-set_same, sym, ap, ap₂, ◌∙◌, inl, inr, arith, eqb-true, ◌⊎◌, zero, suc}
 use Rattle.std.specs.Prelude.{◌-◌, slice_index, slice_set, replicate}
 use Rattle.std.proofs.Math.Nat.{mul-le-mul}
 use Rattle.std.proofs.lemmas.List.{length-replicate}
@@ -99,7 +99,8 @@ table_walks h members came me entries r round members_are me_is count only walk 
     walk h.members (others_in h) r (count ∙ ap (λ (ms : List ℕ). path_count (length ms - 1) r) (sym members_are))
     (λ q on. ap₂ (λ (ms : List ℕ) (i : ℕ). has_id (without_id ms i) q) members_are me_is ∙ only q on)
 
-pub kept_only : (m r : ℕ) → 0 < m → m < 2 → r ≤ m → r < kept_nodes m
-kept_only zero r some few h = absurd (omega (arith, some))
-kept_only (suc zero) r some few h = omega (arith, h)
-kept_only (suc (suc m)) r some few h = absurd (omega (arith, few))
+-- a table of some rounds keeps what is heard in each but the last, and in the only one
+pub kept_round : (m r : ℕ) → 0 < m → r < max m 2 → r < kept_nodes m
+kept_round zero r some low = absurd (omega (arith, some))
+kept_round (suc zero) r some low = omega (arith, low)
+kept_round (suc (suc m)) r some low = omega (arith, low)

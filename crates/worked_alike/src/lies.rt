@@ -40,10 +40,17 @@ fn drawn_lie(draws: &mut Draws) -> Option<Lie<16>>
     })
 }
 
+/// Lies of some of a plan's nodes to others, as many as a plan can have.
+#[derive(Drop)]
+struct Lies {
+    lies: Vec<Lie<16>>,
+    ghost few: { length lies.items ≤ 4096 },
+    ghost are: { All (λ lie. IsLie 12 (lie_of lie)) lies.items },
+}
+
 /// Up to so many drawn lies.
-fn drawn_lies(alloc: Global, draws: &mut Draws, most: u16) -> Result<Vec<Lie<16>>, AllocError>
-    ensures { IfOk result (λ lies. (length lies.items ≤ most)
-        × (All (λ lie. IsLie 12 (lie_of lie)) lies.items)) }
+fn drawn_lies(alloc: Global, draws: &mut Draws, most: u8) -> Result<Lies, AllocError>
+    ensures { IfOk result (λ drawn. length drawn.lies.items ≤ most) }
 {
     let mut lies = Vec::new(alloc);
     for _ in 0..most {
@@ -52,18 +59,22 @@ fn drawn_lies(alloc: Global, draws: &mut Draws, most: u16) -> Result<Vec<Lie<16>
         };
         lies.push(lie)?;
     }
-    Ok(lies)
+    Ok(Lies { lies })
+}
+
+/// A plan of twelve nodes.
+#[derive(Drop)]
+struct Plan {
+    plan: ClockPlan<16>,
+    ghost nodes: { plan.nodes ≡ 12 },
 }
 
 /// A plan in which all clocks stand still, are read without an error, and nodes lie so.
-fn plan_of(alloc: Global, lies: Vec<Lie<16>>) -> Result<ClockPlan<16>, AllocError>
-    requires few { length lies.items ≤ 4096 }
-    requires lies { All (λ lie. IsLie 12 (lie_of lie)) lies.items }
-    ensures { IfOk result (λ plan. plan.nodes ≡ 12) }
-{
+fn plan_of(alloc: Global, told: &Lies) -> Result<Plan, AllocError> {
     let drifts = Vec::from_slice(alloc, &[[0; 16]])?;
     let errors = Vec::from_slice(alloc, &[[0; 16]])?;
-    Ok(ClockPlan::new(ClockCourse {
+    let lies = Vec::from_slice(alloc, told.lies.as_slice())?;
+    let plan = ClockPlan::new(ClockCourse {
         nodes: NODES,
         epsilon: 0,
         drift: 0,
@@ -71,7 +82,8 @@ fn plan_of(alloc: Global, lies: Vec<Lie<16>>) -> Result<ClockPlan<16>, AllocErro
         drifts,
         errors,
         lies,
-    }))
+    });
+    Ok(Plan { plan })
 }
 
 /// Whether this lie is told by node `j` to node `i` in a period.
@@ -89,11 +101,8 @@ fn first_told(lies: &[Lie<16>], j: u8, i: u8, period: u32) -> i64 {
     0
 }
 
-/// Whether a node is told the same by both in a period.
-fn is_told_alike(plan: &ClockPlan<16>, lies: &[Lie<16>], i: u8, period: u32) -> bool
-    requires { i < plan.now.nodes }
-{
-    let told = plan.lies_to(i, period);
+/// Whether node `i` is told by each other one in a period as a walk through the lies finds it.
+fn is_told_alike(told: &[i64; 16], lies: &[Lie<16>], i: u8, period: u32) -> bool {
     for j in 0..16u8 {
         if told[j as usize] != first_told(lies, j, i, period) {
             return false;
@@ -103,12 +112,11 @@ fn is_told_alike(plan: &ClockPlan<16>, lies: &[Lie<16>], i: u8, period: u32) -> 
 }
 
 /// Whether each node is told the same by both in each period.
-fn are_told_alike(plan: &ClockPlan<16>, lies: &[Lie<16>]) -> bool
-    requires { plan.now.nodes ≡ 12 }
-{
+fn are_told_alike(plan: &Plan, lies: &[Lie<16>]) -> bool {
     for period in 0..2 * PERIODS as u32 {
         for i in 0..NODES {
-            if !is_told_alike(plan, lies, i, period) {
+            let told = plan.plan.lies_to(i, period);
+            if !is_told_alike(&told, lies, i, period) {
                 return false;
             }
         }
@@ -118,10 +126,10 @@ fn are_told_alike(plan: &ClockPlan<16>, lies: &[Lie<16>]) -> bool
 
 /// Whether a drawn plan tells each node the same both ways.
 fn is_drawn_alike(alloc: Global, draws: &mut Draws) -> Result<bool, AllocError> {
-    let count = draws.below(24);
-    let lies = drawn_lies(alloc, draws, count)?;
-    let plan = plan_of(alloc, Vec::from_slice(alloc, lies.as_slice())?)?;
-    Ok(are_told_alike(&plan, lies.as_slice()))
+    let count = draws.below(24) as u8;
+    let told = drawn_lies(alloc, draws, count)?;
+    let plan = plan_of(alloc, &told)?;
+    Ok(are_told_alike(&plan, told.lies.as_slice()))
 }
 
 /// How many drawn plans tell each node the same both ways.

@@ -1,6 +1,6 @@
 //! What drawn frames say.
 
-ghost use Rattle.std.specs.Prelude.{◌≡◌, ◌≢◌, ◌<◌};
+ghost use Rattle.std.specs.Prelude.{◌≡◌, ◌≢◌};
 ghost use Rattle.omh_paths.specs.declared.wrapped.Wrapped.TheVariants.{Fault};
 ghost use Rattle.omh.specs.Written.{IsSmall};
 
@@ -46,12 +46,10 @@ pub fn any_told(draws: &mut Draws) -> Option<u8> {
     }
 }
 
-/// Any value as it stands in the frames of a round of so many relays.
-pub fn any_relay(draws: &mut Draws, relays: u8) -> Wrapped<u8>
-    requires { 0 < relays }
-{
+/// Any value as it stands in the frames of a round of so many relays, or of one where it's none.
+pub fn any_relay(draws: &mut Draws, relays: u8) -> Wrapped<u8> {
     if draws.is_one_of_sixteen(4) {
-        Wrapped::Fault(1 + (draws.next() % relays as u16) as u8)
+        Wrapped::Fault(1 + (draws.next() % relays.max(1) as u16) as u8)
     } else {
         Wrapped::Plain(any_item(draws))
     }

@@ -1,20 +1,16 @@
 //! What a node passes on, settles, and whom it convicts, of what it heard: by the plain table, and
 //! by the one that a run keeps.
 
-ghost use Rattle.std.specs.Prelude.{ℕ, ◌≡◌, ◌≢◌, ◌+◌, ◌-◌, ◌<◌, ◌≤◌, map, true, false, length};
-ghost use Rattle.std.specs.Prelude.{IfOk};
-ghost use Rattle.node_grid.specs.NodeSet.{has_id, without_id, IsIdSet};
+ghost use Rattle.std.specs.Prelude.{◌≡◌, ◌≢◌, true, IfOk};
+ghost use Rattle.node_grid.specs.NodeSet.{has_id, without_id};
 ghost use Rattle.omh_paths.specs.declared.wrapped.Wrapped.TheVariants.{Fault};
-ghost use Rattle.omh_paths.specs.Paths.{path_count};
-ghost use Rattle.relay_terms.specs.Terms.{said};
-ghost use Rattle.relay_table.specs.Tabled.{AreKnown, kept_nodes};
 
 use crate::draws::Draws;
 use crate::relays::Relays;
 use crate::sayings::{Saying, any_relay, any_told, as_relayed, heard, passed_on, taken_back};
-use crate::seats::Seat;
+use crate::seats::{Rounds, Seat, size_of};
 use equivocation::convict;
-use node_grid::{NoMemory, NodeSet};
+use node_grid::NoMemory;
 use omh::Table as PlainTable;
 use omh_paths::{Path, Wrapped, count_paths, unrank};
 use relay_table::Table;
@@ -31,26 +27,6 @@ const PERIODS: u32 = 2;
 
 /// The item of the node itself.
 const OWN: u8 = 2;
-
-/// How many of the sixteen nodes are in a set.
-fn size_of(set: &NodeSet<16>) -> u8
-    ensures count { result ≡ length set.now }
-    ensures few { result ≤ 16 }
-    ensures ids { IsIdSet 16 set.now }
-{
-    set.len()
-}
-
-/// What is passed on of the path at a place, if there is such a path.
-fn passed_on_at(terms: &[Term<u8>], place: usize) -> Option<Wrapped<u8>>
-    requires { AreKnown (map said terms.now) }
-{
-    if place < terms.len() {
-        Some(terms[place].wrap().value())
-    } else {
-        None
-    }
-}
 
 /// How many answers were compared, and whether all of them are alike.
 #[derive(Clone, Copy)]
@@ -98,11 +74,10 @@ impl Answers {
     }
 }
 
-/// A member's turn to relay in a round, and what its frame says.
+/// A member's turn to relay, and what its frame says.
 #[derive(Clone, Copy)]
 struct Turn {
     sender: u8,
-    round: u8,
     saying: Saying,
 }
 
@@ -120,18 +95,14 @@ struct Pair {
 }
 
 impl Pair {
-    /// Both tables of a node, before there are members.
-    fn open(alloc: Global, nodes: u8, rounds: u8) -> Result<Pair, NoMemory>
-        requires some_nodes { 0 < nodes }
-        requires few { nodes ≤ 16 }
-        requires some { 0 < rounds }
-        requires short { rounds ≤ 3 }
-    {
+    /// Both tables of a drawn node, before there are members.
+    fn open(alloc: Global, draws: &mut Draws, rounds: Rounds) -> Result<Pair, NoMemory> {
+        let seat = Seat::first(draws, rounds);
         Ok(Pair {
-            seat: Seat::first(nodes, rounds),
+            seat,
             roots: [Wrapped::Fault(0); 16],
-            plain: PlainTable::open(alloc, nodes, rounds)?,
-            live: Table::open(alloc, nodes, rounds)?,
+            plain: PlainTable::open(alloc, seat.nodes, seat.rounds)?,
+            live: Table::open(alloc, seat.nodes, seat.rounds)?,
         })
     }
 
@@ -145,22 +116,26 @@ impl Pair {
         self.seat = seat;
     }
 
-    /// Whether this is another member.
-    fn is_other(&self, q: u8) -> bool
-        ensures { result ≡ true
-            → has_id (without_id self.now.seat.members self.now.seat.me) q ≡ true }
+    /// Goes into a relay round: the last one where there are fewer.
+    fn enter(&mut self, round: u8) {
+        self.seat.round = round.max(1).min(self.seat.rounds);
+    }
+
+    /// Goes into the last relay round.
+    fn enter_last(&mut self)
+        ensures { self.new.seat.round ≡ self.new.seat.rounds }
     {
-        self.seat.members.without(self.seat.me).has(q)
+        self.seat.round = self.seat.rounds;
     }
 
     /// Hears what another member tells of itself, if it tells an item.
-    fn hear_item(&mut self, member: u8, told: Option<u8>)
-        requires { has_id (without_id self.old.seat.members self.old.seat.me) member ≡ true }
+    fn hear_item(&mut self, draws: &mut Draws, member: u8)
         ensures { self.new.seat ≡ self.old.seat }
     {
-        self.plain.put(&Path::root(member), heard(told));
-        self.live.hear_item(member, told);
-        if member < 16 {
+        if self.seat.is_other(member) {
+            let told = any_told(draws);
+            self.plain.put(&Path::root(member), heard(told));
+            self.live.hear_item(member, told);
             self.roots[member as usize] = heard(told);
         }
     }
@@ -168,9 +143,7 @@ impl Pair {
     /// Hears what each other member tells of itself.
     fn hear_items(&mut self, draws: &mut Draws) {
         for member in 0..self.seat.nodes {
-            if self.is_other(member) {
-                self.hear_item(member, any_told(draws));
-            }
+            self.hear_item(draws, member);
         }
     }
 
@@ -186,20 +159,19 @@ impl Pair {
         value
     }
 
-    /// What a member's frame says of a path of other members.
-    fn said(&self, draws: &mut Draws, saying: Saying, path: &Path) -> Wrapped<u8>
-        requires members { (q : ℕ) → has_id path.now q ≡ true
-            → has_id self.now.seat.members q ≡ true }
-        requires some { 0 < length path.now }
-        requires short { length path.now ≤ self.now.seat.rounds }
-    {
+    /// What a member's frame says of a path of other members, of which the node itself passes on
+    /// this.
+    fn said(
+        &self,
+        draws: &mut Draws,
+        saying: Saying,
+        path: &Path,
+        echo: Wrapped<u8>,
+    ) -> Wrapped<u8> {
         let relays = path.len();
-        if path.has(self.seat.me) {
-            return any_relay(draws, relays);
-        }
         match saying {
             Saying::Nothing => Wrapped::Fault(0),
-            Saying::Echo => self.plain.relay(path),
+            Saying::Echo => echo,
             Saying::Expected => self.expected(path.at(0), relays),
             Saying::Odd => {
                 if draws.is_one_of_sixteen(self.seat.odd) {
@@ -211,122 +183,102 @@ impl Pair {
         }
     }
 
-    /// Puts what a member says of a path of others into the plain table, where the node itself
-    /// isn't on it.
-    fn put_relay(&mut self, path: &Path, sender: u8, value: Wrapped<u8>)
-        requires path { (q : ℕ) → has_id path.now q ≡ true
-            → has_id (without_id self.old.seat.members sender) q ≡ true }
-        requires short { length path.now ≤ self.old.seat.rounds }
-        requires sender { has_id (without_id self.old.seat.members self.old.seat.me) sender ≡ true }
-        requires known { value ≢ Fault 255 }
-        ensures { self.new.seat ≡ self.old.seat }
+    /// Takes an entry of a member's frame: what it says of a path of others is written, and put
+    /// into the plain table where the node itself isn't on the path.
+    fn take_entry(&mut self, draws: &mut Draws, turn: Turn, place: usize, relays: &mut Relays)
+        requires { has_id (without_id self.old.seat.members self.old.seat.me) turn.sender ≡ true }
+        ensures seat { self.new.seat ≡ self.old.seat }
+        ensures relays { relays.new.seat ≡ relays.old.seat }
     {
-        if !path.has(self.seat.me) {
-            self.plain.put(&path.then(sender), value);
+        let sender = turn.sender;
+        let Some(path) = self.seat.path_at(sender, self.seat.round, place) else {
+            return;
+        };
+        if path.has(self.seat.me) {
+            let value = any_relay(draws, path.len());
+            relays.write(sender, place, as_relayed(value));
+        } else {
+            let echo = self.plain.relay(&path);
+            let said = as_relayed(self.said(draws, turn.saying, &path, echo));
+            relays.write(sender, place, said);
+            self.plain.put(&path.then(sender), said);
         }
     }
 
-    /// Takes a member's frame: each entry is put into the plain table, and written.
+    /// Takes the frame of another member, entry by entry.
     fn take_frame(&mut self, draws: &mut Draws, turn: Turn, relays: &mut Relays)
-        requires sender { has_id (without_id self.old.seat.members self.old.seat.me) turn.sender
-            ≡ true }
-        requires low { turn.sender < 16 }
-        requires some { 0 < turn.round }
-        requires short { turn.round ≤ self.old.seat.rounds }
-        requires entries { relays.old.entries
-            ≡ path_count (length self.old.seat.members - 1) turn.round }
         ensures seat { self.new.seat ≡ self.old.seat }
-        ensures entries { relays.new.entries ≡ relays.old.entries }
-        ensures came { relays.new.came ≡ relays.old.came }
+        ensures relays { relays.new.seat ≡ relays.old.seat }
     {
-        let Turn {
-            sender,
-            round,
-            saying,
-        } = turn;
-        let others = self.seat.members.without(sender);
-        let count = size_of(&self.seat.members).saturating_sub(1);
-        for place in 0..count_paths(count, round) {
-            let path = unrank(&others, round, place);
-            let value = as_relayed(self.said(draws, saying, &path));
-            relays.write(sender, place, value);
-            self.put_relay(&path, sender, value);
+        if !self.seat.is_other(turn.sender) {
+            return;
         }
+        for place in 0..relays.entries() {
+            self.take_entry(draws, turn, place, relays);
+        }
+        relays.take(turn.sender);
     }
 
-    /// The frames of a relay round that come, as the plain table heard them.
-    fn relays(
-        &mut self,
-        rt: &HostRuntime,
-        draws: &mut Draws,
-        round: u8,
-    ) -> Result<Relays, AllocError>
-        requires some { 0 < round }
-        requires short { round ≤ self.old.seat.rounds }
+    /// The frames of the relay round that come, as the plain table heard them.
+    fn relays(&mut self, rt: &HostRuntime, draws: &mut Draws) -> Result<Relays, AllocError>
         ensures seat { self.new.seat ≡ self.old.seat }
-        ensures entries { IfOk result (λ relays. relays.entries
-            ≡ path_count (length self.old.seat.members - 1) round) }
-        ensures came { IfOk result (λ relays. (q : ℕ) → has_id relays.came q ≡ true
-            → has_id (without_id self.old.seat.members self.old.seat.me) q ≡ true) }
+        ensures relays { IfOk result (λ relays. relays.seat ≡ self.old.seat) }
     {
-        let entries = count_paths(size_of(&self.seat.members).saturating_sub(1), round);
-        let mut relays = Relays::open(rt.alloc(), entries)?;
+        let mut relays = Relays::open(rt.alloc(), self.seat)?;
         for sender in 0..16u8 {
             let saying = Saying::drawn(draws);
-            if self.is_other(sender) && saying != Saying::Nothing {
-                let turn = Turn {
-                    sender,
-                    round,
-                    saying,
-                };
-                self.take_frame(draws, turn, &mut relays);
-                relays.take(sender);
+            if saying != Saying::Nothing {
+                self.take_frame(draws, Turn { sender, saying }, &mut relays);
             }
         }
         Ok(relays)
     }
 
-    /// Lets the table hear the frames of a relay round.
-    fn hear_round(&mut self, relays: &Relays, round: u8)
-        requires some { 0 < round }
-        requires short { round ≤ self.old.seat.rounds }
-        requires kept { round < kept_nodes self.old.seat.rounds }
-        requires entries { relays.now.entries
-            ≡ path_count (length self.old.seat.members - 1) round }
-        requires came { (q : ℕ) → has_id relays.now.came q ≡ true
-            → has_id (without_id self.old.seat.members self.old.seat.me) q ≡ true }
+    /// Lets the table hear the frames of the relay round, where it keeps their terms.
+    fn hear_round(&mut self, relays: &Relays)
+        requires { relays.now.seat ≡ self.old.seat }
         ensures { self.new.seat ≡ self.old.seat }
     {
-        let mut frames = relays.round();
-        self.live.hear_round(&mut frames, round);
-    }
-
-    /// Compares what both pass on in a relay round.
-    fn relay_alike(&self, round: u8, alike: &mut Alike)
-        requires some { 0 < round }
-        requires short { round ≤ self.now.seat.rounds }
-    {
-        let others = self.seat.members.without(self.seat.me);
-        let terms = self.live.heard(round);
-        for place in 0..count_paths(size_of(&others), round) {
-            let path = unrank(&others, round, place);
-            let plain = self.plain.relay(&path);
-            alike.add(passed_on_at(terms, place) == Some(plain));
+        if self.seat.is_kept() {
+            let mut frames = relays.round();
+            self.live.hear_round(&mut frames, self.seat.round);
         }
     }
 
-    /// What the plain table has of another member itself.
+    /// What the table passes on of the path at a place in the relay round, if there is such a path.
+    fn passed_on_at(&self, place: usize) -> Option<Wrapped<u8>> {
+        let terms = self.live.heard(self.seat.round);
+        if place < terms.len() {
+            Some(terms[place].wrap().value())
+        } else {
+            None
+        }
+    }
+
+    /// Compares what both pass on in the relay round.
+    fn relay_alike(&self, alike: &mut Alike) {
+        let round = self.seat.round;
+        let others = self.seat.members.without(self.seat.me);
+        for place in 0..count_paths(size_of(&others), round) {
+            let path = unrank(&others, round, place);
+            let plain = self.plain.relay(&path);
+            alike.add(self.passed_on_at(place) == Some(plain));
+        }
+    }
+
+    /// What the plain table has of another member itself: nothing where it is none.
     fn heard_of(&self, c: u8) -> Wrapped<u8>
-        requires { has_id (without_id self.now.seat.members self.now.seat.me) c ≡ true }
         ensures { result ≢ Fault 255 }
     {
-        taken_back(self.plain.relay(&Path::root(c)))
+        if self.seat.is_other(c) {
+            taken_back(self.plain.relay(&Path::root(c)))
+        } else {
+            Wrapped::Fault(0)
+        }
     }
 
     /// Whether the node convicts another member, by the plain test over what the plain table has.
-    fn convicts_plainly(&self, c: u8) -> bool
-        requires { has_id (without_id self.now.seat.members self.now.seat.me) c ≡ true }
-    {
+    fn convicts_plainly(&self, c: u8) -> bool {
         let seat = &self.seat;
         let others = seat.members.without(seat.me);
         let mut relays = [Wrapped::Fault(0); 15];
@@ -346,7 +298,7 @@ impl Pair {
     fn convict_alike(&self, answers: &mut Answers) {
         let convicted = self.live.convicted();
         for c in 0..16 {
-            let is_convicted = self.is_other(c) && self.convicts_plainly(c);
+            let is_convicted = self.seat.is_other(c) && self.convicts_plainly(c);
             answers.convict.add(convicted.has(c) == is_convicted);
         }
         answers.convicts = answers.convicts || !convicted.is_empty();
@@ -365,10 +317,8 @@ impl Pair {
 
     /// Compares what both settle once the frames of the last relay round came.
     fn settle_alike(&mut self, relays: &Relays, answers: &mut Answers)
-        requires entries { relays.now.entries
-            ≡ path_count (length self.old.seat.members - 1) self.old.seat.rounds }
-        requires came { (q : ℕ) → has_id relays.now.came q ≡ true
-            → has_id (without_id self.old.seat.members self.old.seat.me) q ≡ true }
+        requires last { self.old.seat.round ≡ self.old.seat.rounds }
+        requires relays { relays.now.seat ≡ self.old.seat }
     {
         let mut items = [Term::nothing(); 16];
         let mut frames = relays.round();
@@ -377,7 +327,7 @@ impl Pair {
             let item = &items[c as usize];
             let plain = self.settled_plainly(c);
             answers.settle.add(item.value() == plain);
-            answers.errs = answers.errs || self.is_other(c) && item.is_nothing();
+            answers.errs = answers.errs || self.seat.is_other(c) && item.is_nothing();
         }
     }
 
@@ -389,12 +339,10 @@ impl Pair {
         draws: &mut Draws,
         answers: &mut Answers,
     ) -> Result<(), AllocError> {
-        let rounds = self.seat.rounds;
-        self.relay_alike(rounds, &mut answers.relay);
-        let relays = self.relays(rt, draws, rounds)?;
-        if rounds < 2 {
-            self.hear_round(&relays, rounds);
-        }
+        self.enter_last();
+        self.relay_alike(&mut answers.relay);
+        let relays = self.relays(rt, draws)?;
+        self.hear_round(&relays);
         self.convict_alike(answers);
         self.settle_alike(&relays, answers);
         self.live.forget();
@@ -411,9 +359,10 @@ impl Pair {
         self.start(draws);
         self.hear_items(draws);
         for round in 1..self.seat.rounds {
-            self.relay_alike(round, &mut answers.relay);
-            let relays = self.relays(rt, draws, round)?;
-            self.hear_round(&relays, round);
+            self.enter(round);
+            self.relay_alike(&mut answers.relay);
+            let relays = self.relays(rt, draws)?;
+            self.hear_round(&relays);
         }
         self.end(rt, draws, answers)
     }
@@ -455,22 +404,19 @@ impl Counts {
 }
 
 /// What a drawn node with so many relay rounds answers in its periods.
-fn answers_of_one(rt: &HostRuntime, draws: &mut Draws, rounds: u8) -> Result<Answers, AllocError>
-    requires some { 0 < rounds }
-    requires short { rounds ≤ 3 }
-{
-    let nodes = 4 + draws.below(13) as u8;
-    let Ok(mut pair) = Pair::open(rt.alloc(), nodes, rounds) else {
+fn answers_of_one(
+    rt: &HostRuntime,
+    draws: &mut Draws,
+    rounds: Rounds,
+) -> Result<Answers, AllocError> {
+    let Ok(mut pair) = Pair::open(rt.alloc(), draws, rounds) else {
         return Err(AllocError);
     };
     pair.answers(rt, draws)
 }
 
 /// What was counted of the drawn nodes with so many relay rounds.
-fn counts_of(rt: &HostRuntime, draws: &mut Draws, rounds: u8) -> Result<Counts, AllocError>
-    requires some { 0 < rounds }
-    requires short { rounds ≤ 3 }
-{
+fn counts_of(rt: &HostRuntime, draws: &mut Draws, rounds: Rounds) -> Result<Counts, AllocError> {
     let mut counts = Counts::default();
     for _ in 0..DRAWN {
         counts.add(&answers_of_one(rt, draws, rounds)?);
@@ -514,9 +460,9 @@ fn print_counts(rt: &HostRuntime, rounds: u8, counts: &Counts) -> io::Result<()>
 
 pub fn print(rt: &HostRuntime) -> anyhow::Result<()> {
     let mut draws = Draws::new(11);
-    for rounds in 1..4 {
+    for rounds in [Rounds::One, Rounds::Two, Rounds::Three] {
         let counts = counts_of(rt, &mut draws, rounds)?;
-        print_counts(rt, rounds, &counts)?;
+        print_counts(rt, rounds.count(), &counts)?;
     }
     Ok(())
 }

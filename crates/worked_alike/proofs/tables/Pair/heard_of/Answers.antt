@@ -8,10 +8,11 @@ pub relay-requires : goal.relay-requires
 relay-requires c =
     let self = c.args.self.now in
     let q = c.args.c in
-    let member = has-of-without self.seat.members self.seat.me q c.requires in (
+    let other = sym c.is_other.ensures.is ∙ c.if-is_other.true in
+    let member = has-of-without self.seat.members self.seat.me q other in (
       lit< tt,
       (
         (λ x on. ap (λ (s : List ℕ). has_id s x) self.members.0 ∙ root_among self.seat.members q member x (ap (λ (p : List ℕ). has_id p x) (sym c.root.ensures) ∙ on)),
-        (rw (c.root.ensures, self.me.0) (root_avoids self.seat.members self.seat.me q c.requires), omega (arith, ap length c.root.ensures)),
+        (rw (c.root.ensures, self.me.0) (root_avoids self.seat.members self.seat.me q other), omega (arith, ap length c.root.ensures)),
       ),
     )

@@ -12,6 +12,6 @@ relay-plain-requires c =
       lit< tt,
       (
         (λ x on. ap (λ (s : List ℕ). has_id s x) self.members.0 ∙ among_members self.seat.members others path self.seat.me c.without-others.ensures within x on),
-        (rw self.me.0 (avoids self.seat.members others path self.seat.me c.without-others.ensures within), omega (arith, c.unrank-path.ensures.long, c.requires.short, self.rounds.0)),
+        (rw self.me.0 (avoids self.seat.members others path self.seat.me c.without-others.ensures within), omega (arith, c.unrank-path.ensures.long, self.seat.within, self.rounds.0)),
       ),
     )

@@ -4,6 +4,5 @@ use Rattle.worked_alike.proofs.tables.Pair.take_frame.Given as goal
 abbrev pub invariant-loop-place : goal.invariant-loop-place
 invariant-loop-place l = record {
   seat : l.self.seat ≡ l.initial.self.seat;
-  entries : l.relays.entries ≡ l.initial.relays.entries;
-  came : l.relays.came ≡ l.initial.relays.came;
+  relays : l.relays.seat ≡ l.initial.relays.seat;
 }
